@@ -1,6 +1,5 @@
 //! The places of a small layout, the first fault of one that can't be, and each printed text of that; keys and buckets.
 
-use crate::cases::all_hold;
 use lockword::Tid;
 use memorymap::{Key, Layout, LayoutFault, NoMem, bucket_of, key_of, places_differ};
 use std::alloc::Global;
@@ -47,15 +46,6 @@ fn place_of(layout: &Layout, placed: Placed) -> Option<u64> {
     }
 }
 
-fn first_wrong_place(layout: &Layout) -> Option<usize> {
-    for (place, (placed, at)) in PLACES.iter().enumerate() {
-        if place_of(layout, *placed) != Some(*at) {
-            return Some(place);
-        }
-    }
-    None
-}
-
 /// A place of that layout, and the mutex whose cell stands there.
 static CELLS: [(u64, Option<u16>); 5] = [
     (7, Some(0)),
@@ -65,13 +55,8 @@ static CELLS: [(u64, Option<u16>); 5] = [
     (13, None),
 ];
 
-fn first_wrong_cell(layout: &Layout) -> Option<usize> {
-    for (place, (at, mutex)) in CELLS.iter().enumerate() {
-        if layout.mutex_of(*at) != *mutex {
-            return Some(place);
-        }
-    }
-    None
+fn is_cell_of(layout: &Layout, place: u64, mutex: Option<u16>) -> bool {
+    layout.mutex_of(place) == mutex
 }
 
 /// Whether there are so many threads, mutexes, condition variables and words, and the first condition variable keeps
@@ -90,8 +75,12 @@ fn has_counts(layout: &Layout, counts: [usize; 4], mutex: u16) -> bool {
 fn a_small_layout_has_its_places(rt: HostRuntime) -> Result<(), Fail> {
     let layout = Layout::new(2, 2, &[1])?;
     assert!(rt; has_counts(&layout, [2, 2, 1, 14], 1));
-    all_hold(&rt, first_wrong_place(&layout));
-    all_hold(&rt, first_wrong_cell(&layout));
+    for (placed, at) in &PLACES {
+        assert!(rt; place_of(&layout, *placed) == Some(*at), "at {at}");
+    }
+    for (at, mutex) in &CELLS {
+        assert!(rt; is_cell_of(&layout, *at, *mutex), "at {at}");
+    }
     places_differ();
     trims_are_right();
     Ok(())
@@ -113,18 +102,12 @@ fn fault(threads: u8, mutexes: u16, conditions: &[u16]) -> Option<LayoutFault> {
     Layout::new(threads, mutexes, conditions).err()
 }
 
-fn first_wrong_fault() -> Option<usize> {
-    for (place, (threads, mutexes, conditions, want)) in FAULTS.iter().enumerate() {
-        if fault(*threads, *mutexes, *conditions) != *want {
-            return Some(place);
-        }
-    }
-    None
-}
-
 #[test]
 fn the_first_fault_is_told(rt: HostRuntime) {
-    all_hold(&rt, first_wrong_fault());
+    for (threads, mutexes, conditions, want) in &FAULTS {
+        let fault = fault(*threads, *mutexes, *conditions);
+        assert!(rt; fault == *want, "of {threads} threads, {mutexes} mutexes");
+    }
 }
 
 static TEXTS: [(LayoutFault, &str); 6] = [
@@ -146,18 +129,11 @@ fn is_printed(alloc: Global, fault: LayoutFault, text: &str) -> bool {
     }
 }
 
-fn first_wrong_text(alloc: Global) -> Option<usize> {
-    for (place, (fault, text)) in TEXTS.iter().enumerate() {
-        if !is_printed(alloc, *fault, *text) {
-            return Some(place);
-        }
-    }
-    None
-}
-
 #[test]
 fn faults_are_printed(rt: HostRuntime) -> Result<(), Fail> {
-    all_hold(&rt, first_wrong_text(rt.alloc()));
+    for (fault, text) in &TEXTS {
+        assert!(rt; is_printed(rt.alloc(), *fault, *text), "{text}");
+    }
     let printed = NoMem.to_string(rt.alloc())?;
     assert!(rt; printed.as_str() == "out of memory");
     Ok(())

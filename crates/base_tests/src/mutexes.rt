@@ -1,39 +1,23 @@
 //! The table of the object, and the words of its operations.
 
-use crate::cases::all_hold;
+use crate::words::REPLIES;
+use Operation::{Broadcast, Consistent, Death, Lock, Reinit, Signal, TryLock, Unlock, Wait};
+use State::{Bereaved, Free, Inherited, Mine, Theirs, Unusable};
 use lockword::{Reply, Tid};
 use posixmutex::{HELD_LIMIT, Object, Operation, ParseOperationError, operations_are_read_back};
 use std::test::Fail;
 
 /// Every operation, and its word.
 static OPERATIONS: [(Operation, &str); 9] = [
-    (Operation::Lock, "lock"),
-    (Operation::TryLock, "trylock"),
-    (Operation::Unlock, "unlock"),
-    (Operation::Consistent, "consistent"),
-    (Operation::Wait, "wait"),
-    (Operation::Signal, "signal"),
-    (Operation::Broadcast, "broadcast"),
-    (Operation::Death, "death"),
-    (Operation::Reinit, "reinit"),
-];
-
-static REPLIES: [Reply; 15] = [
-    Reply::OK,
-    Reply::EPERM,
-    Reply::ESRCH,
-    Reply::EAGAIN,
-    Reply::EFAULT,
-    Reply::EBUSY,
-    Reply::EINVAL,
-    Reply::EDEADLK,
-    Reply::EOWNERDEAD,
-    Reply::ENOTRECOVERABLE,
-    Reply::XNOMEM,
-    Reply::XRACED,
-    Reply::XHELD,
-    Reply::XFULL,
-    Reply::XSTATE,
+    (Lock, "lock"),
+    (TryLock, "trylock"),
+    (Unlock, "unlock"),
+    (Consistent, "consistent"),
+    (Wait, "wait"),
+    (Signal, "signal"),
+    (Broadcast, "broadcast"),
+    (Death, "death"),
+    (Reinit, "reinit"),
 ];
 
 /// A mutex as one of its threads sees it.
@@ -47,229 +31,62 @@ enum State {
     Unusable,
 }
 
-static STATES: [State; 6] = [
-    State::Free,
-    State::Bereaved,
-    State::Mine,
-    State::Inherited,
-    State::Theirs,
-    State::Unusable,
-];
+static STATES: [State; 6] = [Free, Bereaved, Mine, Inherited, Theirs, Unusable];
 
 /// From the old state, the operation may have the reply, and leaves the new one.
 #[derive(Clone, Copy)]
 struct Row(State, Operation, Reply, State);
 
 static TABLE: [Row; 49] = [
-    Row(State::Free, Operation::Lock, Reply::OK, State::Mine),
-    Row(
-        State::Bereaved,
-        Operation::Lock,
-        Reply::EOWNERDEAD,
-        State::Inherited,
-    ),
-    Row(State::Mine, Operation::Lock, Reply::EDEADLK, State::Mine),
-    Row(
-        State::Inherited,
-        Operation::Lock,
-        Reply::EDEADLK,
-        State::Inherited,
-    ),
-    Row(
-        State::Unusable,
-        Operation::Lock,
-        Reply::ENOTRECOVERABLE,
-        State::Unusable,
-    ),
-    Row(State::Free, Operation::TryLock, Reply::OK, State::Mine),
-    Row(State::Free, Operation::TryLock, Reply::XRACED, State::Free),
-    Row(
-        State::Bereaved,
-        Operation::TryLock,
-        Reply::EOWNERDEAD,
-        State::Inherited,
-    ),
-    Row(
-        State::Bereaved,
-        Operation::TryLock,
-        Reply::XRACED,
-        State::Bereaved,
-    ),
-    Row(State::Mine, Operation::TryLock, Reply::EBUSY, State::Mine),
-    Row(
-        State::Inherited,
-        Operation::TryLock,
-        Reply::EBUSY,
-        State::Inherited,
-    ),
-    Row(
-        State::Theirs,
-        Operation::TryLock,
-        Reply::EBUSY,
-        State::Theirs,
-    ),
-    Row(
-        State::Unusable,
-        Operation::TryLock,
-        Reply::ENOTRECOVERABLE,
-        State::Unusable,
-    ),
-    Row(State::Mine, Operation::Unlock, Reply::OK, State::Free),
-    Row(
-        State::Inherited,
-        Operation::Unlock,
-        Reply::OK,
-        State::Unusable,
-    ),
-    Row(State::Free, Operation::Unlock, Reply::EPERM, State::Free),
-    Row(
-        State::Bereaved,
-        Operation::Unlock,
-        Reply::EPERM,
-        State::Bereaved,
-    ),
-    Row(
-        State::Theirs,
-        Operation::Unlock,
-        Reply::EPERM,
-        State::Theirs,
-    ),
-    Row(
-        State::Unusable,
-        Operation::Unlock,
-        Reply::EPERM,
-        State::Unusable,
-    ),
-    Row(
-        State::Inherited,
-        Operation::Consistent,
-        Reply::OK,
-        State::Mine,
-    ),
-    Row(
-        State::Mine,
-        Operation::Consistent,
-        Reply::EINVAL,
-        State::Mine,
-    ),
-    Row(
-        State::Free,
-        Operation::Consistent,
-        Reply::EPERM,
-        State::Free,
-    ),
-    Row(
-        State::Bereaved,
-        Operation::Consistent,
-        Reply::EPERM,
-        State::Bereaved,
-    ),
-    Row(
-        State::Theirs,
-        Operation::Consistent,
-        Reply::EPERM,
-        State::Theirs,
-    ),
-    Row(
-        State::Unusable,
-        Operation::Consistent,
-        Reply::EPERM,
-        State::Unusable,
-    ),
-    Row(
-        State::Inherited,
-        Operation::Wait,
-        Reply::XSTATE,
-        State::Inherited,
-    ),
-    Row(State::Free, Operation::Wait, Reply::EPERM, State::Free),
-    Row(
-        State::Bereaved,
-        Operation::Wait,
-        Reply::EPERM,
-        State::Bereaved,
-    ),
-    Row(State::Theirs, Operation::Wait, Reply::EPERM, State::Theirs),
-    Row(
-        State::Unusable,
-        Operation::Wait,
-        Reply::EPERM,
-        State::Unusable,
-    ),
-    Row(State::Mine, Operation::Signal, Reply::OK, State::Mine),
-    Row(State::Mine, Operation::Signal, Reply::XFULL, State::Mine),
-    Row(
-        State::Inherited,
-        Operation::Signal,
-        Reply::OK,
-        State::Inherited,
-    ),
-    Row(
-        State::Inherited,
-        Operation::Signal,
-        Reply::XFULL,
-        State::Inherited,
-    ),
-    Row(State::Free, Operation::Signal, Reply::EPERM, State::Free),
-    Row(
-        State::Bereaved,
-        Operation::Signal,
-        Reply::EPERM,
-        State::Bereaved,
-    ),
-    Row(
-        State::Theirs,
-        Operation::Signal,
-        Reply::EPERM,
-        State::Theirs,
-    ),
-    Row(
-        State::Unusable,
-        Operation::Signal,
-        Reply::EPERM,
-        State::Unusable,
-    ),
-    Row(State::Mine, Operation::Broadcast, Reply::OK, State::Mine),
-    Row(State::Mine, Operation::Broadcast, Reply::XFULL, State::Mine),
-    Row(
-        State::Inherited,
-        Operation::Broadcast,
-        Reply::OK,
-        State::Inherited,
-    ),
-    Row(
-        State::Inherited,
-        Operation::Broadcast,
-        Reply::XFULL,
-        State::Inherited,
-    ),
-    Row(State::Free, Operation::Broadcast, Reply::EPERM, State::Free),
-    Row(
-        State::Bereaved,
-        Operation::Broadcast,
-        Reply::EPERM,
-        State::Bereaved,
-    ),
-    Row(
-        State::Theirs,
-        Operation::Broadcast,
-        Reply::EPERM,
-        State::Theirs,
-    ),
-    Row(
-        State::Unusable,
-        Operation::Broadcast,
-        Reply::EPERM,
-        State::Unusable,
-    ),
-    Row(State::Mine, Operation::Death, Reply::OK, State::Bereaved),
-    Row(
-        State::Inherited,
-        Operation::Death,
-        Reply::OK,
-        State::Bereaved,
-    ),
-    Row(State::Unusable, Operation::Reinit, Reply::OK, State::Free),
+    Row(Free, Lock, Reply::OK, Mine),
+    Row(Bereaved, Lock, Reply::EOWNERDEAD, Inherited),
+    Row(Mine, Lock, Reply::EDEADLK, Mine),
+    Row(Inherited, Lock, Reply::EDEADLK, Inherited),
+    Row(Unusable, Lock, Reply::ENOTRECOVERABLE, Unusable),
+    Row(Free, TryLock, Reply::OK, Mine),
+    Row(Free, TryLock, Reply::XRACED, Free),
+    Row(Bereaved, TryLock, Reply::EOWNERDEAD, Inherited),
+    Row(Bereaved, TryLock, Reply::XRACED, Bereaved),
+    Row(Mine, TryLock, Reply::EBUSY, Mine),
+    Row(Inherited, TryLock, Reply::EBUSY, Inherited),
+    Row(Theirs, TryLock, Reply::EBUSY, Theirs),
+    Row(Unusable, TryLock, Reply::ENOTRECOVERABLE, Unusable),
+    Row(Mine, Unlock, Reply::OK, Free),
+    Row(Inherited, Unlock, Reply::OK, Unusable),
+    Row(Free, Unlock, Reply::EPERM, Free),
+    Row(Bereaved, Unlock, Reply::EPERM, Bereaved),
+    Row(Theirs, Unlock, Reply::EPERM, Theirs),
+    Row(Unusable, Unlock, Reply::EPERM, Unusable),
+    Row(Inherited, Consistent, Reply::OK, Mine),
+    Row(Mine, Consistent, Reply::EINVAL, Mine),
+    Row(Free, Consistent, Reply::EPERM, Free),
+    Row(Bereaved, Consistent, Reply::EPERM, Bereaved),
+    Row(Theirs, Consistent, Reply::EPERM, Theirs),
+    Row(Unusable, Consistent, Reply::EPERM, Unusable),
+    Row(Inherited, Wait, Reply::XSTATE, Inherited),
+    Row(Free, Wait, Reply::EPERM, Free),
+    Row(Bereaved, Wait, Reply::EPERM, Bereaved),
+    Row(Theirs, Wait, Reply::EPERM, Theirs),
+    Row(Unusable, Wait, Reply::EPERM, Unusable),
+    Row(Mine, Signal, Reply::OK, Mine),
+    Row(Mine, Signal, Reply::XFULL, Mine),
+    Row(Inherited, Signal, Reply::OK, Inherited),
+    Row(Inherited, Signal, Reply::XFULL, Inherited),
+    Row(Free, Signal, Reply::EPERM, Free),
+    Row(Bereaved, Signal, Reply::EPERM, Bereaved),
+    Row(Theirs, Signal, Reply::EPERM, Theirs),
+    Row(Unusable, Signal, Reply::EPERM, Unusable),
+    Row(Mine, Broadcast, Reply::OK, Mine),
+    Row(Mine, Broadcast, Reply::XFULL, Mine),
+    Row(Inherited, Broadcast, Reply::OK, Inherited),
+    Row(Inherited, Broadcast, Reply::XFULL, Inherited),
+    Row(Free, Broadcast, Reply::EPERM, Free),
+    Row(Bereaved, Broadcast, Reply::EPERM, Bereaved),
+    Row(Theirs, Broadcast, Reply::EPERM, Theirs),
+    Row(Unusable, Broadcast, Reply::EPERM, Unusable),
+    Row(Mine, Death, Reply::OK, Bereaved),
+    Row(Inherited, Death, Reply::OK, Bereaved),
+    Row(Unusable, Reinit, Reply::OK, Free),
 ];
 
 // What the table says of an operation; None where no row has it.
@@ -285,8 +102,8 @@ fn told(old: State, operation: Operation, reply: Reply) -> Option<State> {
 // What holds for a thread that owns as many mutexes as it may.
 fn told_at_limit(old: State, operation: Operation, reply: Reply) -> Option<State> {
     match (operation, reply) {
-        (Operation::Lock | Operation::TryLock, Reply::XHELD) => Some(old),
-        (Operation::Lock | Operation::TryLock, _) => None,
+        (Lock | TryLock, Reply::XHELD) => Some(old),
+        (Lock | TryLock, _) => None,
         _ => told(old, operation, reply),
     }
 }
@@ -302,12 +119,12 @@ fn held(owner: Option<Tid>, inconsistent: bool) -> Object {
 
 fn object(state: State, thread: Tid, other: Tid) -> Object {
     match state {
-        State::Free => Object::new(),
-        State::Bereaved => held(None, true),
-        State::Mine => held(Some(thread), false),
-        State::Inherited => held(Some(thread), true),
-        State::Theirs => held(Some(other), false),
-        State::Unusable => Object {
+        Free => Object::new(),
+        Bereaved => held(None, true),
+        Mine => held(Some(thread), false),
+        Inherited => held(Some(thread), true),
+        Theirs => held(Some(other), false),
+        Unusable => Object {
             owner: None,
             inconsistent: false,
             unusable: true,
@@ -368,11 +185,16 @@ fn steps(old: State, operation: Operation, reply: Reply, thread: Tid, other: Tid
         )
 }
 
-/// The place of the first reply that the operation doesn't have by the table.
-fn first_wrong_reply(old: State, operation: Operation, thread: Tid, other: Tid) -> Option<usize> {
-    for (place, reply) in REPLIES.iter().enumerate() {
+/// The name of the first reply that the operation doesn't have by the table.
+fn first_wrong_reply(
+    old: State,
+    operation: Operation,
+    thread: Tid,
+    other: Tid,
+) -> Option<&'static str> {
+    for (reply, _number, name) in &REPLIES {
         if !steps(old, operation, *reply, thread, other) {
-            return Some(place);
+            return Some(*name);
         }
     }
     None
@@ -385,11 +207,7 @@ fn an_object_steps_by_its_table(rt: HostRuntime) -> Result<(), Fail> {
     for old in &STATES {
         for (operation, word) in &OPERATIONS {
             let wrong = first_wrong_reply(*old, *operation, thread, other);
-            assert_eq!(rt;
-                wrong,
-                None,
-                "the reply at this place, of {word} of {old:?}"
-            );
+            assert_eq!(rt; wrong, None, "this reply, of {word} of {old:?}");
         }
     }
     assert!(rt; HELD_LIMIT == 2048);
@@ -401,36 +219,26 @@ fn read(text: &str) -> Option<Operation> {
     text.parse().ok()
 }
 
-fn first_wrong_word() -> Option<usize> {
-    for (place, (operation, word)) in OPERATIONS.iter().enumerate() {
-        if operation.word() != *word || read(*word) != Some(*operation) {
-            return Some(place);
-        }
-    }
-    None
+fn has_word(operation: Operation, word: &str) -> bool {
+    operation.word() == word && read(word) == Some(operation)
 }
 
 #[test]
 fn words_of_operations(rt: HostRuntime) {
-    all_hold(&rt, first_wrong_word());
+    for (operation, word) in &OPERATIONS {
+        assert!(rt; has_word(*operation, *word), "{word}");
+    }
     operations_are_read_back();
 }
 
 /// Texts that are no operation's word.
 static NO_OPERATIONS: [&str; 5] = ["", "Lock", "lock ", "try_lock", "begin"];
 
-fn first_operation() -> Option<usize> {
-    for (place, text) in NO_OPERATIONS.iter().enumerate() {
-        if read(*text).is_some() {
-            return Some(place);
-        }
-    }
-    None
-}
-
 #[test]
 fn other_texts_are_no_operations(rt: HostRuntime) -> Result<(), Fail> {
-    all_hold(&rt, first_operation());
+    for text in &NO_OPERATIONS {
+        assert!(rt; read(*text).is_none(), "of {text}");
+    }
     let printed = ParseOperationError.to_string(rt.alloc())?;
     assert!(rt; printed.as_str() == "no operation has this word");
     Ok(())

@@ -1,6 +1,5 @@
 //! Layouts of processes: addresses and places worked out by hand, each fault, and which of two faults is told.
 
-use crate::cases::all_hold;
 use lockword::Tid;
 use memorymap::{
     BASE_LIMIT, Layout, LayoutFault, PROCESS_LIMIT, address_from, addresses_are_seen, seen_at,
@@ -16,16 +15,6 @@ fn is_of(layout: &Layout, id: u8, process: u8, base: u64) -> bool {
     thread.get() <= layout.threads()
         && layout.process_of(thread) == process
         && layout.base(thread) == base
-}
-
-/// The place of the first thread that is of another process, or whose process has another base.
-fn first_wrong_thread(layout: &Layout, threads: &[(u8, u8, u64)]) -> Option<usize> {
-    for (place, (id, process, base)) in threads.iter().enumerate() {
-        if !is_of(layout, *id, *process, *base) {
-            return Some(place);
-        }
-    }
-    None
 }
 
 /// Whether there are so many threads, mutexes, condition variables, processes and words.
@@ -52,7 +41,9 @@ fn each_thread_has_its_process(rt: HostRuntime) -> Result<(), Fail> {
     assert!(rt; has_base(&layout, 0, 0));
     assert!(rt; has_base(&layout, 1, 1000));
     assert!(rt; has_base(&layout, 2, 2000));
-    all_hold(&rt, first_wrong_thread(&layout, &THREADS));
+    for (id, process, base) in &THREADS {
+        assert!(rt; is_of(&layout, *id, *process, *base), "of thread {id}");
+    }
     let copy = layout.copy();
     assert!(rt; copy.words() == 14);
     assert!(rt; is_of(&copy, 2, 2, 2000));
@@ -74,19 +65,16 @@ static FIRST_WORDS: [(u64, u64); 11] = [
     (10, 0),
 ];
 
-fn first_wrong_word(layout: &Layout, words: &[(u64, u64)]) -> Option<usize> {
-    for (place, (at, word)) in words.iter().enumerate() {
-        if layout.first_word(*at) != *word {
-            return Some(place);
-        }
-    }
-    None
+fn begins_with(layout: &Layout, place: u64, word: u64) -> bool {
+    layout.first_word(place) == word
 }
 
 #[test]
 fn heads_begin_with_their_own_addresses(rt: HostRuntime) -> Result<(), Fail> {
     let layout = Layout::with_processes(&[0, 1], &[1000, 2000], 1, &[])?;
-    all_hold(&rt, first_wrong_word(&layout, &FIRST_WORDS));
+    for (place, word) in &FIRST_WORDS {
+        assert!(rt; begins_with(&layout, *place, *word), "at {place}");
+    }
     Ok(())
 }
 
@@ -123,14 +111,12 @@ fn cell(layout: &Layout, mutex: u16) -> Option<u64> {
 /// 1, 999999995 and 1000000000.
 static CELLS: [(u8, u64); 4] = [(1, 13), (2, 14), (3, 1_000_000_008), (4, 1_000_000_013)];
 
-fn first_wrong_cell(layout: &Layout) -> Option<usize> {
-    let at = cell(layout, 0)?;
-    for (place, (id, address)) in CELLS.iter().enumerate() {
-        if address_in(layout, *id, at) != Some(*address) {
-            return Some(place);
-        }
+/// Whether mutex 0's cell has this address in the process of the thread.
+fn has_cell_at(layout: &Layout, id: u8, address: u64) -> bool {
+    match cell(layout, 0) {
+        Some(place) => address_in(layout, id, place) == Some(address),
+        None => false,
     }
-    None
 }
 
 /// An address, and the places that have it in the processes of those threads.
@@ -152,17 +138,12 @@ static ADDRESSES: [(u64, Option<u64>, Option<u64>, Option<u64>, Option<u64>); 15
     (u64::MAX, None, None, None, None),
 ];
 
-fn first_wrong_address(layout: &Layout) -> Option<usize> {
-    for (row, (address, first, second, third, fourth)) in ADDRESSES.iter().enumerate() {
-        let are_placed = is_placed(layout, 1, *address, *first)
-            && is_placed(layout, 2, *address, *second)
-            && is_placed(layout, 3, *address, *third)
-            && is_placed(layout, 4, *address, *fourth);
-        if !are_placed {
-            return Some(row);
-        }
-    }
-    None
+fn are_placed(layout: &Layout, address: u64, places: [Option<u64>; 4]) -> bool {
+    let [first, second, third, fourth] = places;
+    is_placed(layout, 1, address, first)
+        && is_placed(layout, 2, address, second)
+        && is_placed(layout, 3, address, third)
+        && is_placed(layout, 4, address, fourth)
 }
 
 #[test]
@@ -171,9 +152,13 @@ fn a_place_has_an_address_in_each_process(rt: HostRuntime) -> Result<(), Fail> {
     let bases = [0, 1, 999_999_995, 1_000_000_000];
     let layout = Layout::with_processes(&[0, 1, 2, 3], &bases, 1, &[])?;
     assert!(rt; layout.words() == 16);
-    assert!(rt; cell(&layout, 0).is_some());
-    all_hold(&rt, first_wrong_cell(&layout));
-    all_hold(&rt, first_wrong_address(&layout));
+    for (id, address) in &CELLS {
+        assert!(rt; has_cell_at(&layout, *id, *address), "of thread {id}");
+    }
+    for (address, first, second, third, fourth) in &ADDRESSES {
+        let places = [*first, *second, *third, *fourth];
+        assert!(rt; are_placed(&layout, *address, places), "of {address}");
+    }
     Ok(())
 }
 
@@ -197,18 +182,15 @@ static WRAPS: [(u64, u64, u64); 5] = [
     (u64::MAX, u64::MAX, u64::MAX - 1),
 ];
 
-fn first_wrong_wrap() -> Option<usize> {
-    for (row, (base, place, address)) in WRAPS.iter().enumerate() {
-        if address_from(*base, *place) != *address || seen_at(*base, *address) != *place {
-            return Some(row);
-        }
-    }
-    None
+fn wraps(base: u64, place: u64, address: u64) -> bool {
+    address_from(base, place) == address && seen_at(base, address) == place
 }
 
 #[test]
 fn addresses_wrap_at_64_bits(rt: HostRuntime) {
-    all_hold(&rt, first_wrong_wrap());
+    for (base, place, address) in &WRAPS {
+        assert!(rt; wraps(*base, *place, *address), "of {place} from {base}");
+    }
     addresses_are_seen();
     writes_are_seen();
 }
@@ -301,17 +283,10 @@ fn fault(case: &Case) -> Option<LayoutFault> {
     Layout::with_processes(case.threads, case.bases, case.mutexes, case.conditions).err()
 }
 
-fn first_wrong_fault() -> Option<usize> {
-    for (place, case) in FAULTS.iter().enumerate() {
-        if fault(case) != case.fault {
-            return Some(place);
-        }
-    }
-    None
-}
-
 #[test]
 fn the_first_fault_of_processes_is_told(rt: HostRuntime) {
-    all_hold(&rt, first_wrong_fault());
+    for (place, case) in FAULTS.iter().enumerate() {
+        assert!(rt; fault(case) == case.fault, "of the layout at {place}");
+    }
     assert!(rt; PROCESS_LIMIT == 8 && BASE_LIMIT == 1_000_000_000);
 }

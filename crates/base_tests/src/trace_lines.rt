@@ -21,46 +21,23 @@ const CALL: Begun = Begun {
     condition: Some(2),
 };
 
-/// What a fact is: a point, another thread's doing, a kill.
-#[derive(Clone, Copy)]
-struct Kinds {
-    point: bool,
-    passive: bool,
-    kill: bool,
+#[derive(Clone, Copy, Debug, PartialEq, Eq)]
+enum Kind {
+    Point,
+    /// Another thread's doing.
+    Passive,
+    Kill,
+    Other,
 }
 
-const OTHER: Kinds = Kinds {
-    point: false,
-    passive: false,
-    kill: false,
-};
-
-const POINT: Kinds = Kinds {
-    point: true,
-    passive: false,
-    kill: false,
-};
-
-const PASSIVE: Kinds = Kinds {
-    point: false,
-    passive: true,
-    kill: false,
-};
-
-const KILL: Kinds = Kinds {
-    point: false,
-    passive: false,
-    kill: true,
-};
-
-/// Whether a fact of the thread tells of this step, if any, and is of these kinds.
-fn tells(thread: Tid, fact: Fact, decision: Option<Decision>, kinds: Kinds) -> bool {
+/// Whether a fact of the thread tells of this step, if any, and is of this kind.
+fn tells(thread: Tid, fact: Fact, decision: Option<Decision>, kind: Kind) -> bool {
     fact.thread() == thread
         && fact.decision() == decision
         && fact.decides() == decision.is_some()
-        && fact.is_point() == kinds.point
-        && fact.is_passive() == kinds.passive
-        && fact.is_kill() == kinds.kill
+        && fact.is_point() == (kind == Kind::Point)
+        && fact.is_passive() == (kind == Kind::Passive)
+        && fact.is_kill() == (kind == Kind::Kill)
 }
 
 #[test]
@@ -70,15 +47,15 @@ fn each_fact_is_of_its_kind(rt: HostRuntime) -> Result<(), Fail> {
     let unlock = Some(decided(thread, 3, Operation::Unlock));
     let death = Some(decided(thread, 5, Operation::Death));
     let sleeps = Fact::Sleep(thread, Queue::Condition(2));
-    assert!(rt; tells(thread, Fact::Begin(thread, CALL), None, OTHER));
-    assert!(rt; tells(thread, unlocks, unlock, POINT));
-    assert!(rt; tells(thread, Fact::Death(thread, 5), death, OTHER));
-    assert!(rt; tells(thread, sleeps, None, OTHER));
-    assert!(rt; tells(thread, Fact::Wake(thread), None, PASSIVE));
-    assert!(rt; tells(thread, Fact::Move(thread, 3), None, PASSIVE));
-    assert!(rt; tells(thread, Fact::Return(thread, Reply::OK), None, OTHER));
-    assert!(rt; tells(thread, Fact::Kill(thread), None, KILL));
-    assert!(rt; tells(thread, Fact::Reap(thread), None, OTHER));
-    assert!(rt; tells(thread, Fact::Renew(thread), None, OTHER));
+    assert!(rt; tells(thread, Fact::Begin(thread, CALL), None, Kind::Other));
+    assert!(rt; tells(thread, unlocks, unlock, Kind::Point));
+    assert!(rt; tells(thread, Fact::Death(thread, 5), death, Kind::Other));
+    assert!(rt; tells(thread, sleeps, None, Kind::Other));
+    assert!(rt; tells(thread, Fact::Wake(thread), None, Kind::Passive));
+    assert!(rt; tells(thread, Fact::Move(thread, 3), None, Kind::Passive));
+    assert!(rt; tells(thread, Fact::Return(thread, Reply::OK), None, Kind::Other));
+    assert!(rt; tells(thread, Fact::Kill(thread), None, Kind::Kill));
+    assert!(rt; tells(thread, Fact::Reap(thread), None, Kind::Other));
+    assert!(rt; tells(thread, Fact::Renew(thread), None, Kind::Other));
     Ok(())
 }

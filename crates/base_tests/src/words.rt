@@ -1,6 +1,5 @@
 //! Each call once, with words written out by hand from the ABI's bits (robust-futex-ABI).
 
-use crate::cases::all_hold;
 use lockword::{Cell, ParseReplyError, Reply, Tid, replies_are_read_back};
 use std::alloc::Global;
 
@@ -21,18 +20,11 @@ fn is_id(id: u8, there: bool) -> bool {
     }
 }
 
-fn first_wrong_id() -> Option<usize> {
-    for (place, (id, there)) in IDS.iter().enumerate() {
-        if !is_id(*id, *there) {
-            return Some(place);
-        }
-    }
-    None
-}
-
 #[test]
 fn a_thread_has_an_id_from_1_to_64(rt: HostRuntime) {
-    all_hold(&rt, first_wrong_id());
+    for (id, there) in &IDS {
+        assert!(rt; is_id(*id, *there), "of {id}");
+    }
 }
 
 /// A word, its owner, and its flags: WAITERS, OWNER_DIED, unusable.
@@ -55,43 +47,33 @@ fn has_fields(word: u64, owner: u32, flags: [bool; 3]) -> bool {
         && cell.unusable() == unusable
 }
 
-fn first_wrong_cell() -> Option<usize> {
-    for (place, (word, owner, flags)) in CELLS.iter().enumerate() {
-        if !has_fields(*word, *owner, *flags) {
-            return Some(place);
-        }
-    }
-    None
-}
-
 #[test]
 fn a_cell_has_an_owner_and_three_flags(rt: HostRuntime) {
-    all_hold(&rt, first_wrong_cell());
+    for (word, owner, flags) in &CELLS {
+        assert!(rt; has_fields(*word, *owner, *flags), "of {word}");
+    }
     assert!(rt; Cell::new(UNUSABLE + WAITERS + 3).low() == 0x8000_0003);
 }
 
-/// A word, and whether it may be trimmed.
-static TRIMS: [(u64, bool); 6] = [
-    (WAITERS, true),
-    (0, false),
-    (WAITERS + 1, false),
-    (WAITERS + OWNER_DIED, false),
-    (WAITERS + UNUSABLE, false),
-    (WAITERS + (1 << 63), false),
+/// Words that may not be trimmed.
+static NOT_TRIMMED: [u64; 5] = [
+    0,
+    WAITERS + 1,
+    WAITERS + OWNER_DIED,
+    WAITERS + UNUSABLE,
+    WAITERS + (1 << 63),
 ];
 
-fn first_wrong_trim() -> Option<usize> {
-    for (place, (word, trimmable)) in TRIMS.iter().enumerate() {
-        if Cell::new(*word).trimmable() != *trimmable {
-            return Some(place);
-        }
-    }
-    None
+fn is_trimmable(word: u64) -> bool {
+    Cell::new(word).trimmable()
 }
 
 #[test]
 fn a_free_cell_with_waiters_alone_is_trimmable(rt: HostRuntime) {
-    all_hold(&rt, first_wrong_trim());
+    assert!(rt; is_trimmable(WAITERS));
+    for word in &NOT_TRIMMED {
+        assert!(rt; !is_trimmable(*word), "of {word}");
+    }
 }
 
 /// How a cell changes.
@@ -173,22 +155,15 @@ fn becomes(word: u64, change: Change, new: u64) -> bool {
     }
 }
 
-fn first_wrong_change() -> Option<usize> {
-    for (place, (word, change, new)) in CHANGES.iter().enumerate() {
-        if !becomes(*word, *change, *new) {
-            return Some(place);
-        }
-    }
-    None
-}
-
 #[test]
 fn a_cell_changes_by_its_bits(rt: HostRuntime) {
-    all_hold(&rt, first_wrong_change());
+    for (word, change, new) in &CHANGES {
+        assert!(rt; becomes(*word, *change, *new), "from {word} to {new}");
+    }
 }
 
 /// A reply, its number and its name.
-static REPLIES: [(Reply, u16, &str); 15] = [
+pub(crate) static REPLIES: [(Reply, u16, &str); 15] = [
     (Reply::OK, 0, "OK"),
     (Reply::EPERM, 1, "EPERM"),
     (Reply::ESRCH, 3, "ESRCH"),
@@ -211,32 +186,20 @@ fn read(text: &str) -> Option<Reply> {
     text.parse().ok()
 }
 
-fn first_wrong_reply() -> Option<usize> {
-    for (place, (reply, number, name)) in REPLIES.iter().enumerate() {
-        if reply.number() != *number || reply.name() != *name || read(*name) != Some(*reply) {
-            return Some(place);
-        }
-    }
-    None
+fn is_reply(reply: Reply, number: u16, name: &str) -> bool {
+    reply.number() == number && reply.name() == name && read(name) == Some(reply)
 }
 
 #[test]
 fn replies_have_numbers_and_names(rt: HostRuntime) {
-    all_hold(&rt, first_wrong_reply());
+    for (reply, number, name) in &REPLIES {
+        assert!(rt; is_reply(*reply, *number, *name), "of {name}");
+    }
     replies_are_read_back();
 }
 
 /// Texts that are no reply's name.
 static NO_REPLIES: [&str; 6] = ["", "ok", "OK ", "XHELD", "EOWNERDIED", "0"];
-
-fn first_reply() -> Option<usize> {
-    for (place, text) in NO_REPLIES.iter().enumerate() {
-        if read(*text).is_some() {
-            return Some(place);
-        }
-    }
-    None
-}
 
 /// Whether the error is printed so.
 fn is_printed(alloc: Global, error: ParseReplyError, text: &str) -> bool {
@@ -248,6 +211,8 @@ fn is_printed(alloc: Global, error: ParseReplyError, text: &str) -> bool {
 
 #[test]
 fn other_texts_are_no_replies(rt: HostRuntime) {
-    all_hold(&rt, first_reply());
+    for text in &NO_REPLIES {
+        assert!(rt; read(*text).is_none(), "of {text}");
+    }
     assert!(rt; is_printed(rt.alloc(), ParseReplyError, "no reply has this name"));
 }

@@ -4,19 +4,22 @@ ghost use Rattle.mutex.specs.Calls.{mutex_of};
 
 use crate::steps::Made::{Exchanges, Finds, Flips, Is, Loads, Sleeps, Wakes};
 use crate::steps::Then::{Decides, Ends, Goes, Returns};
-use crate::steps::{AtCell, Step, Then, Way, first_wrong, makes, past_the_list};
+use crate::steps::{
+    AtCell, Refused, Step, Then, Way, first_not_refused, first_wrong, makes, past_the_list,
+};
 use lockword::Reply::{
     self, EBUSY, EDEADLK, EINVAL, ENOTRECOVERABLE, EOWNERDEAD, EPERM, OK, XHELD, XRACED,
 };
 use lockword::Tid;
 use memorymap::Layout;
 use mutex::{
-    Call, Program, points_are_permitted, programs_are_right, raced_after_four, wakes_are_right,
-    whole_calls_are_decided, whole_calls_are_right,
+    Call, Program, gives_up_after_four, points_are_permitted, programs_are_right, raced_after_four,
+    wakes_are_right, whole_calls_are_decided, whole_calls_are_right,
 };
 use posixmutex::Operation;
 use posixmutex::Operation::{Consistent, Lock, TryLock, Unlock};
-use stepprograms::{Access, Answer, Progress};
+use stepprograms::Answer::{self, Trimmed};
+use stepprograms::{Access, Progress};
 
 /// It clears bit 30 alone.
 pub(crate) const DECLARATION: Access = Access::FetchAnd {
@@ -65,168 +68,108 @@ fn lock_decides(cell: u64, then: Then, rest: &[Step]) -> bool {
     takes(Lock, &[&loads, rest]) && takes(Lock, &[&loses, rest]) && takes(Lock, &[&waits, rest])
 }
 
-/// A cell that a lock comes to know of, where that leads, and the accesses behind.
-type Known = (u64, Then, &'static [Step]);
+static REFUSED: [Refused; 5] = [
+    (TryLock, &[1, 2, 0x4000_0001], EBUSY),
+    (TryLock, &[0x1_0000_0000], ENOTRECOVERABLE),
+    (Unlock, &[0, 1, 0x1_0000_0000], EPERM),
+    (
+        Consistent,
+        &[0x4000_0000, 0x4000_0001, 0x1_0000_0000],
+        EPERM,
+    ),
+    (Consistent, &[2, 0x8000_0002], EINVAL),
+];
 
-/// The place of the first cell by which a lock decides otherwise.
-fn first_wrong_lock(cells: &[Known]) -> Option<usize> {
-    for (place, (cell, then, rest)) in cells.iter().enumerate() {
-        if !lock_decides(*cell, *then, *rest) {
-            return Some(place);
-        }
+/// Cells at which a lock is refused so.
+static REFUSED_LOCKS: [(u64, Reply); 4] = [
+    (2, EDEADLK),
+    (0x4000_0002, EDEADLK),
+    (0x8000_0002, EDEADLK),
+    (0x1_0000_0000, ENOTRECOVERABLE),
+];
+
+#[test]
+fn a_call_is_refused_by_the_cell(rt: HostRuntime) {
+    assert_eq!(rt; first_not_refused(&REFUSED, takes), None);
+    for (cell, reply) in &REFUSED_LOCKS {
+        assert!(rt; lock_decides(*cell, Ends(Lock, *reply), &[]), "at {cell}");
     }
-    None
 }
 
-static FREE: [Known; 4] = [
-    (0, Goes, &[Step(Exchanges(0, 2), Ends(Lock, OK))]),
-    (
-        0x8000_0000,
-        Goes,
-        &[Step(Exchanges(0x8000_0000, 0x8000_0002), Ends(Lock, OK))],
-    ),
-    (
-        0x4000_0000,
-        Goes,
-        &[Step(Exchanges(0x4000_0000, 0x4000_0002), Ends(Lock, EOWNERDEAD))],
-    ),
-    (
-        0xc000_0000,
-        Goes,
-        &[Step(Exchanges(0xc000_0000, 0xc000_0002), Ends(Lock, EOWNERDEAD))],
-    ),
+/// A free cell, what whoever takes it makes of it, and the reply.
+static FREE: [(u64, u64, Reply); 4] = [
+    (0, 2, OK),
+    (0x8000_0000, 0x8000_0002, OK),
+    (0x4000_0000, 0x4000_0002, EOWNERDEAD),
+    (0xc000_0000, 0xc000_0002, EOWNERDEAD),
 ];
 
-#[test]
-fn a_lock_takes_a_free_mutex(rt: HostRuntime) {
-    assert!(rt; first_wrong_lock(&FREE).is_none());
+/// Whether a lock and a trylock take a free cell so.
+fn take(cell: u64, new: u64, reply: Reply) -> bool {
+    let locks = [Step(Exchanges(cell, new), Ends(Lock, reply))];
+    let tries = [
+        Step(Loads(10, cell), Goes),
+        Step(Exchanges(cell, new), Ends(TryLock, reply)),
+    ];
+    lock_decides(cell, Goes, &locks) && takes(TryLock, &[&tries])
 }
 
-static REFUSED: [Known; 4] = [
-    (2, Ends(Lock, EDEADLK), &[]),
-    (0x4000_0002, Ends(Lock, EDEADLK), &[]),
-    (0x8000_0002, Ends(Lock, EDEADLK), &[]),
-    (0x1_0000_0000, Ends(Lock, ENOTRECOVERABLE), &[]),
-];
-
 #[test]
-fn a_lock_is_refused_its_own_mutex_and_an_unusable_one(rt: HostRuntime) {
-    assert!(rt; first_wrong_lock(&REFUSED).is_none());
+fn a_free_mutex_is_taken(rt: HostRuntime) {
+    for (cell, new, reply) in &FREE {
+        assert!(rt; take(*cell, *new, *reply), "at {cell}");
+    }
 }
 
-static UNUSABLE: [Known; 1] = [(
-    0x1_8000_0000,
-    Decides(Lock, ENOTRECOVERABLE),
-    &[Step(Wakes(10, 64, 3), Returns(ENOTRECOVERABLE))],
-)];
-
+/// A lock of an unusable mutex on which others may sleep wakes all of them, and never trims.
 #[test]
 fn a_lock_of_an_unusable_mutex_wakes_all(rt: HostRuntime) {
-    assert!(rt; first_wrong_lock(&UNUSABLE).is_none());
+    for woken in [3, 0] {
+        let wakes = [Step(Wakes(10, 64, woken), Returns(ENOTRECOVERABLE))];
+        let then = Decides(Lock, ENOTRECOVERABLE);
+        assert!(rt;
+            lock_decides(0x1_8000_0000, then, &wakes),
+            "{woken} are woken"
+        );
+    }
 }
 
-/// WAITERS is set in a cell that another owns.
-const SETS: [Step; 2] = [
-    Step(Loads(10, 1), Goes),
-    Step(Exchanges(1, 0x8000_0001), Goes),
-];
+/// A cell that another owns, and what it is with WAITERS.
+static OWNED: [(u64, u32); 2] = [(1, 0x8000_0001), (0x4000_0001, 0xc000_0001)];
 
-const SETS_INCONSISTENT: [Step; 2] = [
-    Step(Loads(10, 0x4000_0001), Goes),
-    Step(Exchanges(0x4000_0001, 0xc000_0001), Goes),
-];
+/// A lock of an owned cell sets WAITERS in it, unless it is there; is about to sleep, and is answered so; and takes the
+/// mutex then.
+fn sleeps(owned: u64, with_waiters: u32, slept: Answer) -> bool {
+    let waited = u64::from(with_waiters);
+    let sets = [
+        Step(Loads(10, owned), Goes),
+        Step(Exchanges(owned, waited), Goes),
+    ];
+    let rest = [
+        Step(Sleeps(10, with_waiters, slept), Goes),
+        Step(Loads(10, 0x8000_0000), Goes),
+        Step(Exchanges(0x8000_0000, 0x8000_0002), Ends(Lock, OK)),
+    ];
+    takes(Lock, &[&sets, &rest]) && lock_decides(waited, Goes, &rest)
+}
 
-/// A lock that is about to sleep doesn't, and takes the mutex then.
-const IS_TOLD_AGAIN: [Step; 3] = [
-    Step(Sleeps(10, 0x8000_0001, Answer::Again), Goes),
-    Step(Loads(10, 0x8000_0000), Goes),
-    Step(Exchanges(0x8000_0000, 0x8000_0002), Ends(Lock, OK)),
-];
-
-const IS_TOLD_AGAIN_INCONSISTENT: [Step; 3] = [
-    Step(Sleeps(10, 0xc000_0001, Answer::Again), Goes),
-    Step(Loads(10, 0x8000_0000), Goes),
-    Step(Exchanges(0x8000_0000, 0x8000_0002), Ends(Lock, OK)),
-];
-
-/// It sleeps, is woken, and takes the mutex then.
-const IS_WOKEN: [Step; 3] = [
-    Step(Sleeps(10, 0x8000_0001, Answer::Woken), Goes),
-    Step(Loads(10, 0x8000_0000), Goes),
-    Step(Exchanges(0x8000_0000, 0x8000_0002), Ends(Lock, OK)),
-];
-
-const IS_WOKEN_INCONSISTENT: [Step; 3] = [
-    Step(Sleeps(10, 0xc000_0001, Answer::Woken), Goes),
-    Step(Loads(10, 0x8000_0000), Goes),
-    Step(Exchanges(0x8000_0000, 0x8000_0002), Ends(Lock, OK)),
-];
-
-static SLEEPING: [Way; 4] = [
-    (Lock, &[&SETS, &IS_TOLD_AGAIN]),
-    (Lock, &[&SETS, &IS_WOKEN]),
-    (Lock, &[&SETS_INCONSISTENT, &IS_TOLD_AGAIN_INCONSISTENT]),
-    (Lock, &[&SETS_INCONSISTENT, &IS_WOKEN_INCONSISTENT]),
-];
-
-/// Cells that another owns: first such as have WAITERS already, and then such in which a lock can't set it, since it
-/// finds another cell, which it sees.
-static OWNED: [Known; 6] = [
-    (0x8000_0001, Goes, &IS_TOLD_AGAIN),
-    (0x8000_0001, Goes, &IS_WOKEN),
-    (0xc000_0001, Goes, &IS_TOLD_AGAIN_INCONSISTENT),
-    (0xc000_0001, Goes, &IS_WOKEN_INCONSISTENT),
-    (
-        1,
-        Goes,
-        &[Step(Finds(1, 0x8000_0001, 2), Ends(Lock, EDEADLK))],
-    ),
-    (
-        0x4000_0001,
-        Goes,
-        &[Step(Finds(0x4000_0001, 0xc000_0001, 2), Ends(Lock, EDEADLK))],
-    ),
-];
+/// A lock that can't set WAITERS in an owned cell, since it finds another cell, sees that.
+fn finds(owned: u64, with_waiters: u32) -> bool {
+    let finds = Finds(owned, u64::from(with_waiters), 2);
+    lock_decides(owned, Goes, &[Step(finds, Ends(Lock, EDEADLK))])
+}
 
 #[test]
 fn a_lock_sets_waiters_before_it_sleeps(rt: HostRuntime) {
-    assert!(rt; first_wrong(&SLEEPING, takes).is_none());
-    assert!(rt; first_wrong_lock(&OWNED).is_none());
-}
-
-static TRYLOCKS: [Way; 6] = [
-    (
-        TryLock,
-        &[&[
-            Step(Loads(10, 0), Goes),
-            Step(Exchanges(0, 2), Ends(TryLock, OK)),
-        ]],
-    ),
-    (
-        TryLock,
-        &[&[
-            Step(Loads(10, 0x4000_0000), Goes),
-            Step(
-                Exchanges(0x4000_0000, 0x4000_0002),
-                Ends(TryLock, EOWNERDEAD),
-            ),
-        ]],
-    ),
-    (TryLock, &[&[Step(Loads(10, 1), Ends(TryLock, EBUSY))]]),
-    (TryLock, &[&[Step(Loads(10, 2), Ends(TryLock, EBUSY))]]),
-    (
-        TryLock,
-        &[&[Step(Loads(10, 0x4000_0001), Ends(TryLock, EBUSY))]],
-    ),
-    (
-        TryLock,
-        &[&[Step(Loads(10, 0x1_0000_0000), Ends(TryLock, ENOTRECOVERABLE))]],
-    ),
-];
-
-#[test]
-fn a_trylock_replies_by_the_cell(rt: HostRuntime) {
-    assert!(rt; first_wrong(&TRYLOCKS, takes).is_none());
+    for (owned, with_waiters) in &OWNED {
+        for slept in [Answer::Again, Answer::Woken] {
+            assert!(rt;
+                sleeps(*owned, *with_waiters, slept),
+                "at {owned}: {slept:?}"
+            );
+        }
+        assert!(rt; finds(*owned, *with_waiters), "at {owned}");
+    }
 }
 
 /// Its exchanges find changed cells, and, in the second, an owned one.
@@ -252,141 +195,64 @@ static RACES: [Way; 2] = [
 
 #[test]
 fn a_trylock_gives_up_at_the_fourth_changed_cell(rt: HostRuntime) {
-    assert!(rt; first_wrong(&RACES, takes).is_none());
+    assert_eq!(rt; first_wrong(&RACES, takes), None);
 }
 
-static UNLOCKS: [Way; 5] = [
-    (Unlock, &[&[Step(Loads(10, 0), Ends(Unlock, EPERM))]]),
-    (Unlock, &[&[Step(Loads(10, 1), Ends(Unlock, EPERM))]]),
-    (
-        Unlock,
-        &[&[Step(Loads(10, 0x1_0000_0000), Ends(Unlock, EPERM))]],
-    ),
-    (
-        Unlock,
-        &[&[
-            Step(Loads(10, 2), Goes),
-            Step(Flips(2, 2), Ends(Unlock, OK)),
-        ]],
-    ),
-    (
-        Unlock,
-        &[&[
-            Step(Loads(10, 0x4000_0002), Goes),
-            Step(Flips(0x1_4000_0002, 0x4000_0002), Ends(Unlock, OK)),
-        ]],
-    ),
-];
+const HELD: Step = Step(Loads(10, 2), Goes);
 
-#[test]
-fn an_unlock_replies_by_the_cell(rt: HostRuntime) {
-    assert!(rt; first_wrong(&UNLOCKS, takes).is_none());
-}
+const HELD_INCONSISTENT: Step = Step(Loads(10, 0x4000_0002), Goes);
 
 /// A release of an own cell that has WAITERS.
-pub(crate) const RELEASED: [Step; 2] = [
-    Step(Loads(10, 2), Goes),
-    Step(Flips(2, 0x8000_0002), Decides(Unlock, OK)),
-];
+pub(crate) const RELEASED: [Step; 2] = [HELD, Step(Flips(2, 0x8000_0002), Decides(Unlock, OK))];
 
 /// A release that makes the mutex unusable.
 const SPOILED: [Step; 2] = [
-    Step(Loads(10, 0x4000_0002), Goes),
+    HELD_INCONSISTENT,
     Step(Flips(0x1_4000_0002, 0xc000_0002), Decides(Unlock, OK)),
 ];
-
-static AWAITED: [Way; 2] = [
-    (Unlock, &[&RELEASED, &[Step(Wakes(10, 1, 1), Returns(OK))]]),
-    (Unlock, &[&SPOILED, &[Step(Wakes(10, 64, 1), Returns(OK))]]),
-];
-
-#[test]
-fn an_unlock_wakes_who_waits(rt: HostRuntime) {
-    assert!(rt; first_wrong(&AWAITED, takes).is_none());
-}
 
 pub(crate) const TRIM: Access = Access::Trim { at: 10 };
 
 /// A release that has woken nobody.
 pub(crate) const NOBODY_WOKEN: [Step; 3] = [
-    Step(Loads(10, 2), Goes),
+    HELD,
     Step(Flips(2, 0x8000_0002), Decides(Unlock, OK)),
     Step(Wakes(10, 1, 0), Goes),
 ];
 
-static TRIMS: [Way; 2] = [
+/// What an unlock has done, and its last access. Where nobody waits, that is the release. It wakes who waits, and trims
+/// where nobody slept; who wakes all never trims.
+static UNLOCKS: [(&[Step], Step); 7] = [
+    (&[HELD], Step(Flips(2, 2), Ends(Unlock, OK))),
     (
-        Unlock,
-        &[
-            &NOBODY_WOKEN,
-            &[Step(Is(TRIM, Answer::Trimmed(true)), Returns(OK))],
-        ],
+        &[HELD_INCONSISTENT],
+        Step(Flips(0x1_4000_0002, 0x4000_0002), Ends(Unlock, OK)),
     ),
-    (
-        Unlock,
-        &[
-            &NOBODY_WOKEN,
-            &[Step(Is(TRIM, Answer::Trimmed(false)), Returns(OK))],
-        ],
-    ),
+    (&RELEASED, Step(Wakes(10, 1, 1), Returns(OK))),
+    (&NOBODY_WOKEN, Step(Is(TRIM, Trimmed(true)), Returns(OK))),
+    (&NOBODY_WOKEN, Step(Is(TRIM, Trimmed(false)), Returns(OK))),
+    (&SPOILED, Step(Wakes(10, 64, 1), Returns(OK))),
+    (&SPOILED, Step(Wakes(10, 64, 0), Returns(OK))),
 ];
 
-#[test]
-fn an_unlock_trims_where_nobody_slept(rt: HostRuntime) {
-    assert!(rt; first_wrong(&TRIMS, takes).is_none());
+fn unlocks(done: &[Step], last: Step) -> bool {
+    let last = [last];
+    takes(Unlock, &[done, &last])
 }
 
-static NEVER_TRIMMED: [Way; 1] = [(Unlock, &[&SPOILED, &[Step(Wakes(10, 64, 0), Returns(OK))]])];
-
-static NOBODY_TOLD: [Known; 1] = [(
-    0x1_8000_0000,
-    Decides(Lock, ENOTRECOVERABLE),
-    &[Step(Wakes(10, 64, 0), Returns(ENOTRECOVERABLE))],
-)];
-
 #[test]
-fn who_wakes_all_never_trims(rt: HostRuntime) {
-    assert!(rt; first_wrong(&NEVER_TRIMMED, takes).is_none());
-    assert!(rt; first_wrong_lock(&NOBODY_TOLD).is_none());
+fn an_unlock_releases_and_wakes_who_waits(rt: HostRuntime) {
+    for (place, (done, last)) in UNLOCKS.iter().enumerate() {
+        assert!(rt; unlocks(*done, *last), "in row {place}");
+    }
 }
 
-/// Of the first five the cell can't be declared consistent.
-static DECLARATIONS: [Way; 6] = [
-    (
-        Consistent,
-        &[&[Step(Loads(10, 0x4000_0000), Ends(Consistent, EPERM))]],
-    ),
-    (
-        Consistent,
-        &[&[Step(Loads(10, 0x4000_0001), Ends(Consistent, EPERM))]],
-    ),
-    (
-        Consistent,
-        &[&[Step(Loads(10, 0x1_0000_0000), Ends(Consistent, EPERM))]],
-    ),
-    (
-        Consistent,
-        &[&[Step(Loads(10, 2), Ends(Consistent, EINVAL))]],
-    ),
-    (
-        Consistent,
-        &[&[Step(Loads(10, 0x8000_0002), Ends(Consistent, EINVAL))]],
-    ),
-    (
-        Consistent,
-        &[&[
-            Step(Loads(10, 0x4000_0002), Goes),
-            Step(
-                Is(DECLARATION, Answer::Value(0xc000_0002)),
-                Ends(Consistent, OK),
-            ),
-        ]],
-    ),
-];
-
+/// It declares an own cell consistent that has WAITERS, which stays.
 #[test]
-fn consistent_replies_by_the_cell(rt: HostRuntime) {
-    assert!(rt; first_wrong(&DECLARATIONS, takes).is_none());
+fn a_declaration_clears_one_bit(rt: HostRuntime) {
+    let declares = Is(DECLARATION, Answer::Value(0xc000_0002));
+    let last = [Step(declares, Ends(Consistent, OK))];
+    assert!(rt; takes(Consistent, &[&[HELD_INCONSISTENT], &last]));
 }
 
 /// An operation of a thread that holds so many mutexes, and how it is refused.
@@ -432,6 +298,7 @@ fn calls_name_their_mutex_and_operation(rt: HostRuntime) {
     programs_are_right();
     wakes_are_right();
     raced_after_four();
+    gives_up_after_four();
     points_are_permitted();
     whole_calls_are_right();
     whole_calls_are_decided();

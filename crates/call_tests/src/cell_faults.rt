@@ -3,32 +3,28 @@
 use crate::cell_calls::{DECLARATION, NOBODY_WOKEN, RELEASED, TRIM, takes};
 use crate::steps::Made::{Is, Loads};
 use crate::steps::Then::{Decides, Goes, Returns};
-use crate::steps::{ANSWERS, Step};
+use crate::steps::{ANSWERS, Step, kind_of};
 use lockword::Reply::{EFAULT, ENOTRECOVERABLE};
 use posixmutex::Operation;
 use posixmutex::Operation::{Consistent, Lock, TryLock, Unlock};
 use stepprograms::{Access, Answer};
 
-/// Such an access may be answered so. Any may be answered `Fault` too.
-fn is_answer(access: Access, answer: Answer) -> bool {
-    match access {
-        Access::Exchange { .. } => matches!(answer, Answer::Exchanged | Answer::Changed(_)),
-        Access::Wait { .. } => matches!(answer, Answer::Again | Answer::Woken),
-        Access::Wake { .. } => matches!(answer, Answer::Count(_)),
-        Access::Trim { .. } => matches!(answer, Answer::Trimmed(_)),
-        _ => matches!(answer, Answer::Value(_)),
-    }
+/// A call that makes this access after those, and is answered so, returns EFAULT.
+fn faults(operation: Operation, way: &[Step], access: Access, answer: Answer) -> bool {
+    let fault = [Step(Is(access, answer), Returns(EFAULT))];
+    takes(operation, &[way, &fault])
 }
 
-/// A call that makes this access after those, and is answered what such an access isn't, returns EFAULT.
-fn faults(operation: Operation, way: &[Step], access: Access) -> bool {
-    for answer in ANSWERS {
-        let fault = [Step(Is(access, answer), Returns(EFAULT))];
-        if !is_answer(access, answer) && !takes(operation, &[way, &fault]) {
-            return false;
+/// It does so at a fault and at whatever accesses of other kinds are answered.
+fn faults_at_others(operation: Operation, way: &[Step], access: Access) -> bool {
+    for (kind, answers) in &ANSWERS {
+        for answer in *answers {
+            if *kind != kind_of(access) && !faults(operation, way, access, *answer) {
+                return false;
+            }
         }
     }
-    true
+    faults(operation, way, access, Answer::Fault)
 }
 
 const LOAD: Access = Access::Load { at: 10 };
@@ -81,6 +77,9 @@ static NEXT_ACCESSES: [(Operation, &[Step], Access); 13] = [
 #[test]
 fn an_answer_of_another_access_is_a_fault(rt: HostRuntime) {
     for (operation, way, access) in &NEXT_ACCESSES {
-        assert!(rt; faults(*operation, *way, *access));
+        assert!(rt;
+            faults_at_others(*operation, *way, *access),
+            "{operation:?} at its {access:?}"
+        );
     }
 }

@@ -14,6 +14,8 @@ mod condition_calls;
 #[cfg(test)]
 mod condition_words;
 #[cfg(test)]
+mod lists;
+#[cfg(test)]
 mod machine_deaths;
 #[cfg(test)]
 mod machine_processes;

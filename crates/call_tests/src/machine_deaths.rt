@@ -2,24 +2,23 @@
 
 use crate::machine_rows::Does::{Begins, Calls, Dies, Steps};
 use crate::machine_rows::Noted::{Any, Goes, IsReaped, Killed, Nothing, Returns, Walks};
-use crate::machine_rows::Standing::{Asleep, Awake, Dying, Reaped, Resting};
-use crate::machine_rows::{LOCK, Row, UNLOCK, alone_after, gone_through, standing_of, thread};
+use crate::machine_rows::Standing::{Awake, Dying, Reaped, Resting};
+use crate::machine_rows::{
+    LOCK, ONE_TAKES, Row, TWO_SLEEPS, UNLOCK, alone_after, gone_through, standing_of, thread,
+};
 use lockword::Reply::OK;
 use std::test::Fail;
 
 /// Thread 2 is killed in its sleep and reaped, and then thread 1 unlocks the mutex.
-const KILLED_ASLEEP: [Row; 11] = [
-    Row(Calls(1, LOCK, 8), Any, Resting, Resting),
-    Row(Calls(2, LOCK, 4), Any, Resting, Asleep),
+const KILLED_ASLEEP: [Row; 8] = [
+    ONE_TAKES,
+    TWO_SLEEPS,
     Row(Dies(2), Killed, Resting, Dying),
-    Row(Steps(2), Walks, Resting, Dying),
-    Row(Steps(2), Walks, Resting, Dying),
-    Row(Steps(2), Walks, Resting, Dying),
-    Row(Steps(2), IsReaped, Resting, Reaped),
+    Row(Steps(2, 3), Walks, Resting, Dying),
+    Row(Steps(2, 1), IsReaped, Resting, Reaped),
     Row(Calls(1, UNLOCK, 6), Any, Awake, Reaped),
-    Row(Steps(1), Goes, Awake, Reaped),
-    Row(Steps(1), Goes, Awake, Reaped),
-    Row(Steps(1), Returns(OK), Resting, Reaped),
+    Row(Steps(1, 2), Goes, Awake, Reaped),
+    Row(Steps(1, 1), Returns(OK), Resting, Reaped),
 ];
 
 /// A sleeper that is killed leaves its queue, so that nobody is woken in its place, and the unlock trims the cell; the
@@ -42,12 +41,11 @@ const KILLED_AT_REST: [Row; 4] = [
 
 /// The walk of an empty list with no pending entry loads the head's three words. From then on no event of the thread
 /// applies.
-const WALKED: [Row; 7] = [
+const WALKED: [Row; 6] = [
     Row(Dies(1), Killed, Dying, Resting),
-    Row(Steps(1), Walks, Dying, Resting),
-    Row(Steps(1), Walks, Dying, Resting),
-    Row(Steps(1), IsReaped, Reaped, Resting),
-    Row(Steps(1), Nothing, Reaped, Resting),
+    Row(Steps(1, 2), Walks, Dying, Resting),
+    Row(Steps(1, 1), IsReaped, Reaped, Resting),
+    Row(Steps(1, 1), Nothing, Reaped, Resting),
     Row(Dies(1), Nothing, Reaped, Resting),
     Row(Begins(1, LOCK), Nothing, Reaped, Resting),
 ];

@@ -16,11 +16,20 @@ fn machine(alloc: Global) -> Result<Machine, Fail> {
     Ok(Machine::new(alloc, layout)?)
 }
 
+/// One whose thread 1 has taken the mutex.
+fn taken(alloc: Global) -> Result<Machine, Fail> {
+    let mut machine = machine(alloc)?;
+    play(&mut machine, thread(1)?, LOCK, 8);
+    Ok(machine)
+}
+
+/// Each head leads to its process's own address of it. So do the entry, and its links, once thread 1 has linked it.
 #[test]
-fn heads_lead_to_their_own_addresses(rt: HostRuntime) -> Result<(), Fail> {
-    let machine = machine(rt.alloc())?;
+fn words_lead_to_their_own_addresses(rt: HostRuntime) -> Result<(), Fail> {
     let words = [1001, u64::MAX, 0, 2004, u64::MAX, 0, 0, 0, 0];
-    assert!(rt; has_words(&machine, &words));
+    assert!(rt; has_words(&machine(rt.alloc())?, &words));
+    let words = [1008, u64::MAX, 0, 2004, u64::MAX, 0, 1, 1001, 1001];
+    assert!(rt; has_words(&taken(rt.alloc())?, &words));
     Ok(())
 }
 
@@ -29,11 +38,8 @@ fn heads_lead_to_their_own_addresses(rt: HostRuntime) -> Result<(), Fail> {
 #[test]
 fn a_mutex_goes_from_one_process_to_another(rt: HostRuntime) -> Result<(), Fail> {
     let (one, two) = (thread(1)?, thread(2)?);
-    let mut machine = machine(rt.alloc())?;
-    play(&mut machine, one, LOCK, 8);
+    let mut machine = taken(rt.alloc())?;
     assert!(rt; standing_of(&machine, one) == Resting);
-    let words = [1008, u64::MAX, 0, 2004, u64::MAX, 0, 1, 1001, 1001];
-    assert!(rt; has_words(&machine, &words));
     assert!(rt; machine.step(Event::Kill(one)) == Note::Killed { thread: one });
     for _ in 0..5 {
         let _ = machine.step(Event::Step(one));
@@ -68,8 +74,7 @@ fn a_mutex_goes_from_one_process_to_another(rt: HostRuntime) -> Result<(), Fail>
 #[test]
 fn sleepers_of_two_processes_meet(rt: HostRuntime) -> Result<(), Fail> {
     let (one, two) = (thread(1)?, thread(2)?);
-    let mut machine = machine(rt.alloc())?;
-    play(&mut machine, one, LOCK, 8);
+    let mut machine = taken(rt.alloc())?;
     play(&mut machine, two, LOCK, 4);
     assert!(rt; standing_of(&machine, two) == Asleep);
     let _ = machine.step(Event::Begin(one, Op::OnMutex(UNLOCK)));

@@ -16,7 +16,8 @@ use std::test::Fail;
 #[derive(Clone, Copy)]
 pub(crate) enum Does {
     Begins(u8, Call),
-    Steps(u8),
+    /// It makes so many steps, each of which is noted so.
+    Steps(u8, u32),
     Dies(u8),
     /// It begins a call, and makes so many accesses of it. The note is the last one's.
     Calls(u8, Call, u32),
@@ -62,6 +63,22 @@ pub(crate) enum Standing {
 #[derive(Clone, Copy)]
 pub(crate) struct Row(pub Does, pub Noted, pub Standing, pub Standing);
 
+/// Thread 1 takes the mutex.
+pub(crate) const ONE_TAKES: Row = Row(
+    Does::Calls(1, LOCK, 8),
+    Noted::Any,
+    Standing::Resting,
+    Standing::Resting,
+);
+
+/// Thread 2 falls asleep on it.
+pub(crate) const TWO_SLEEPS: Row = Row(
+    Does::Calls(2, LOCK, 4),
+    Noted::Any,
+    Standing::Resting,
+    Standing::Asleep,
+);
+
 pub(crate) const LOCK: Call = Call::Lock(0);
 
 pub(crate) const TRY_LOCK: Call = Call::TryLock(0);
@@ -85,14 +102,22 @@ pub(crate) fn machine(
 fn event_of(thread: Tid, does: Does) -> Event {
     match does {
         Does::Begins(_, call) => Event::Begin(thread, Op::OnMutex(call)),
-        Does::Steps(_) | Does::Calls(_, _, _) => Event::Step(thread),
+        Does::Steps(_, _) | Does::Calls(_, _, _) => Event::Step(thread),
         Does::Dies(_) => Event::Kill(thread),
     }
 }
 
 pub(crate) fn id_of(does: Does) -> u8 {
     match does {
-        Does::Begins(id, _) | Does::Steps(id) | Does::Dies(id) | Does::Calls(id, _, _) => id,
+        Does::Begins(id, _) | Does::Steps(id, _) | Does::Dies(id) | Does::Calls(id, _, _) => id,
+    }
+}
+
+/// How many events with a note it is.
+pub(crate) fn times(does: Does) -> u32 {
+    match does {
+        Does::Steps(_, times) => times,
+        _ => 1,
     }
 }
 
@@ -103,15 +128,12 @@ fn stepped(
     slept: Option<Queue>,
     returned: Option<Reply>,
 ) -> Note {
-    let point = match decided {
-        Some((operation, reply)) => Some(Decision {
-            thread,
-            mutex: 0,
-            operation,
-            reply,
-        }),
-        None => None,
-    };
+    let point = decided.map(|(operation, reply)| Decision {
+        thread,
+        mutex: 0,
+        operation,
+        reply,
+    });
     Note::Stepped {
         thread,
         mutex: 0,
@@ -173,7 +195,7 @@ pub(crate) fn standing_of(machine: &Machine, thread: Tid) -> Standing {
     }
 }
 
-/// Makes the event, or the events.
+/// Makes the event with its note, behind those that have none.
 pub(crate) fn happens(machine: &mut Machine, thread: Tid, does: Does) -> Note {
     if let Does::Calls(_, call, accesses) = does {
         play(machine, thread, call, accesses.saturating_sub(1));
@@ -186,10 +208,12 @@ pub(crate) fn goes_through(machine: &mut Machine, rows: &[Row]) -> Result<bool, 
     let (one, two) = (thread(1)?, thread(2)?);
     for &Row(does, noted, first, second) in rows {
         let thread = thread(id_of(does))?;
-        let note = happens(machine, thread, does);
-        let is_so = is_noted(thread, noted, &note);
-        if !is_so || standing_of(machine, one) != first || standing_of(machine, two) != second {
-            return Ok(false);
+        for _ in 0..times(does) {
+            let note = happens(machine, thread, does);
+            let is_so = is_noted(thread, noted, &note);
+            if !is_so || standing_of(machine, one) != first || standing_of(machine, two) != second {
+                return Ok(false);
+            }
         }
     }
     Ok(true)

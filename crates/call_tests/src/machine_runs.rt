@@ -5,7 +5,7 @@ use crate::machine_rows::Noted::{Any, Began, Decides, Ends, Goes, Nothing, Retur
 use crate::machine_rows::Standing::{Awake, Resting};
 use crate::machine_rows::{
     Does, LOCK, Noted, Row, TRY_LOCK, UNLOCK, first_owner, goes_through, gone_through, happens,
-    has_words, id_of, is_noted, machine, play, standing_of, thread,
+    has_words, id_of, is_noted, machine, play, standing_of, thread, times,
 };
 use condvar::Op;
 use interleave::{Machine, Trace};
@@ -78,38 +78,52 @@ fn a_run_notes_every_event(rt: HostRuntime) -> Result<(), Fail> {
     Ok(())
 }
 
-/// The machine's words after each access of a trylock.
-const TAKING: [[u64; 6]; 8] = [
-    [1, u64::MAX, 5, 0, 0, 0],
-    [1, u64::MAX, 5, 0, 0, 0],
-    [1, u64::MAX, 5, 1, 0, 0],
-    [1, u64::MAX, 5, 1, 0, 0],
-    [1, u64::MAX, 5, 1, 1, 0],
-    [1, u64::MAX, 5, 1, 1, 1],
-    [5, u64::MAX, 5, 1, 1, 1],
-    [5, u64::MAX, 0, 1, 1, 1],
+/// What an access writes, if it does: a place, and its word then.
+type Write = Option<(usize, u64)>;
+
+/// What each access of a trylock writes.
+const TAKING: [Write; 8] = [
+    Some((3, 5)),
+    None,
+    Some((4, 1)),
+    None,
+    Some((5, 1)),
+    Some((6, 1)),
+    Some((1, 5)),
+    Some((3, 0)),
 ];
 
 /// The same of an unlock.
-const RELEASING: [[u64; 6]; 7] = [
-    [5, u64::MAX, 0, 1, 1, 1],
-    [5, u64::MAX, 5, 1, 1, 1],
-    [5, u64::MAX, 5, 1, 1, 1],
-    [5, u64::MAX, 5, 1, 1, 1],
-    [1, u64::MAX, 5, 1, 1, 1],
-    [1, u64::MAX, 5, 0, 1, 1],
-    [1, u64::MAX, 0, 0, 1, 1],
+const RELEASING: [Write; 7] = [
+    None,
+    Some((3, 5)),
+    None,
+    None,
+    Some((1, 1)),
+    Some((4, 0)),
+    Some((3, 0)),
 ];
 
-/// Whether the thread's call makes so many accesses as there are rows, and leaves these words after each.
-fn leaves(machine: &mut Machine, thread: Tid, call: Call, rows: &[[u64; 6]]) -> bool {
+/// Whether the thread's call makes so many accesses, and each writes this and nothing else in these words.
+fn writes(
+    machine: &mut Machine,
+    thread: Tid,
+    call: Call,
+    writes: &[Write],
+    mut words: [u64; 6],
+) -> bool {
     let _ = machine.step(Event::Begin(thread, Op::OnMutex(call)));
-    for words in rows {
+    for write in writes {
         if !machine.busy(thread) {
             return false;
         }
         let _ = machine.step(Event::Step(thread));
-        if !has_words(machine, words) {
+        if let Some((place, word)) = *write {
+            if let Some(written) = words.get_mut(place.wrapping_sub(1)) {
+                *written = word;
+            }
+        }
+        if !has_words(machine, &words) {
             return false;
         }
     }
@@ -122,7 +136,15 @@ fn leaves(machine: &mut Machine, thread: Tid, call: Call, rows: &[[u64; 6]]) -> 
 fn a_trylock_links_the_mutex_that_it_took(rt: HostRuntime) -> Result<(), Fail> {
     let one = thread(1)?;
     let mut machine = machine(rt.alloc(), 1, 1, &[])?;
-    assert!(rt; leaves(&mut machine, one, TRY_LOCK, &TAKING));
+    assert!(rt;
+        writes(
+            &mut machine,
+            one,
+            TRY_LOCK,
+            &TAKING,
+            [1, u64::MAX, 0, 0, 0, 0]
+        )
+    );
     assert!(rt; first_owner(&machine) == Some(one));
     Ok(())
 }
@@ -134,7 +156,15 @@ fn an_unlock_unlinks_the_mutex_before_its_release(rt: HostRuntime) -> Result<(),
     let one = thread(1)?;
     let mut machine = machine(rt.alloc(), 1, 1, &[])?;
     play(&mut machine, one, TRY_LOCK, 8);
-    assert!(rt; leaves(&mut machine, one, UNLOCK, &RELEASING));
+    assert!(rt;
+        writes(
+            &mut machine,
+            one,
+            UNLOCK,
+            &RELEASING,
+            [5, u64::MAX, 0, 1, 1, 1]
+        )
+    );
     Ok(())
 }
 
@@ -167,8 +197,8 @@ fn a_thread_has_its_mutexes_on_one_list(rt: HostRuntime) -> Result<(), Fail> {
 }
 
 const NONE_APPLIES: [Row; 4] = [
-    Row(Steps(1), Nothing, Resting, Resting),
-    Row(Steps(2), Nothing, Resting, Resting),
+    Row(Steps(1, 1), Nothing, Resting, Resting),
+    Row(Steps(2, 1), Nothing, Resting, Resting),
     Row(Begins(2, TRY_LOCK), Nothing, Resting, Resting),
     Row(Begins(1, Call::TryLock(1)), Nothing, Resting, Resting),
 ];
@@ -178,10 +208,10 @@ const BEGINS: [Row; 1] = [Row(Begins(1, TRY_LOCK), Began(TRY_LOCK), Awake, Resti
 const IN_A_CALL: [Row; 6] = [
     Row(Begins(1, TRY_LOCK), Began(TRY_LOCK), Awake, Resting),
     Row(Begins(1, UNLOCK), Nothing, Awake, Resting),
-    Row(Steps(1), Goes, Awake, Resting),
+    Row(Steps(1, 1), Goes, Awake, Resting),
     Row(Begins(1, TRY_LOCK), Nothing, Awake, Resting),
-    Row(Steps(1), Goes, Awake, Resting),
-    Row(Steps(1), Decides(TryLock, OK), Awake, Resting),
+    Row(Steps(1, 1), Goes, Awake, Resting),
+    Row(Steps(1, 1), Decides(TryLock, OK), Awake, Resting),
 ];
 
 /// Whether nothing has happened to a machine of one thread and one mutex.
@@ -225,25 +255,26 @@ fn a_counter_is_preset(rt: HostRuntime) -> Result<(), Fail> {
 }
 
 const BUSY: [Row; 5] = [
-    Row(Steps(1), Any, Resting, Resting),
+    Row(Steps(1, 1), Any, Resting, Resting),
     Row(Begins(1, UNLOCK), Any, Awake, Resting),
-    Row(Steps(1), Any, Resting, Resting),
+    Row(Steps(1, 1), Any, Resting, Resting),
     Row(Begins(1, TRY_LOCK), Any, Awake, Resting),
-    Row(Steps(1), Any, Awake, Resting),
+    Row(Steps(1, 1), Any, Awake, Resting),
 ];
 
 #[test]
 fn a_thread_is_busy_in_its_call(rt: HostRuntime) -> Result<(), Fail> {
-    let unknown = thread(64)?;
     let machine = gone_through(rt.alloc(), 2, &BUSY)?;
-    assert!(rt; standing_of(&machine, unknown) == Resting);
+    assert!(rt; standing_of(&machine, thread(64)?) == Resting);
     Ok(())
 }
 
 /// Makes these events, and tells whether the cell of mutex 0 among four threads, which is at 13, has this word then.
 fn cell_becomes(machine: &mut Machine, events: &[Does], word: u64) -> Result<bool, Fail> {
     for &does in events {
-        let _ = happens(machine, thread(id_of(does))?, does);
+        for _ in 0..times(does) {
+            let _ = happens(machine, thread(id_of(does))?, does);
+        }
     }
     Ok(machine.word(13) == Some(word))
 }
@@ -253,7 +284,7 @@ fn cell_becomes(machine: &mut Machine, events: &[Does], word: u64) -> Result<boo
 #[test]
 fn each_exchange_of_an_overtaken_trylock_finds_another_word(rt: HostRuntime) -> Result<(), Fail> {
     let mut machine = machine(rt.alloc(), 4, 1, &[])?;
-    let exchange = Steps(1);
+    let exchange = Steps(1, 1);
     let begins = [
         Calls(1, TRY_LOCK, 2),
         Calls(2, LOCK, 8),
@@ -262,15 +293,15 @@ fn each_exchange_of_an_overtaken_trylock_finds_another_word(rt: HostRuntime) -> 
     ];
     assert!(rt; cell_becomes(&mut machine, &begins, 0x8000_0000)?);
     assert!(rt; cell_becomes(&mut machine, &[exchange], 0x8000_0000)?);
-    assert!(rt; cell_becomes(&mut machine, &[Steps(3); 7], 0x8000_0003)?);
+    assert!(rt; cell_becomes(&mut machine, &[Steps(3, 7)], 0x8000_0003)?);
     assert!(rt; cell_becomes(&mut machine, &[Dies(3)], 0x8000_0003)?);
-    assert!(rt; cell_becomes(&mut machine, &[Steps(3); 7], 0xc000_0000)?);
+    assert!(rt; cell_becomes(&mut machine, &[Steps(3, 7)], 0xc000_0000)?);
     assert!(rt; cell_becomes(&mut machine, &[exchange], 0xc000_0000)?);
     let recovers = [Calls(2, LOCK, 8), Calls(2, Call::Consistent(0), 2)];
     assert!(rt; cell_becomes(&mut machine, &recovers, 0x8000_0002)?);
     assert!(rt; cell_becomes(&mut machine, &[Calls(2, UNLOCK, 9)], 0)?);
     assert!(rt; cell_becomes(&mut machine, &[exchange, Calls(4, LOCK, 8), Dies(4)], 4)?);
-    assert!(rt; cell_becomes(&mut machine, &[Steps(4); 6], 0x4000_0000)?);
+    assert!(rt; cell_becomes(&mut machine, &[Steps(4, 6)], 0x4000_0000)?);
     let raced = machine.step(Event::Step(thread(1)?));
     assert!(rt; is_noted(thread(1)?, Decides(TryLock, XRACED), &raced));
     Ok(())

@@ -4,153 +4,131 @@ use crate::machine_rows::Does::{Begins, Calls, Steps};
 use crate::machine_rows::Noted::{Any, Nothing, Sleeps};
 use crate::machine_rows::Standing::{self, Asleep, Awake, Resting};
 use crate::machine_rows::{
-    LOCK, Row, UNLOCK, alone_after, goes_through, gone_through, has_words, machine, standing_of,
-    thread,
+    LOCK, ONE_TAKES, Row, TWO_SLEEPS, UNLOCK, alone_after, goes_through, gone_through, has_words,
+    machine, standing_of, thread,
 };
 use interleave::Machine;
 use lockword::Tid;
+use std::alloc::Global;
 use std::test::Fail;
 
-/// Thread 1 has taken the mutex, and thread 2 sleeps on it.
-const ONE_SLEEPS: [Row; 2] = [
-    Row(Calls(1, LOCK, 8), Any, Resting, Resting),
-    Row(Calls(2, LOCK, 4), Any, Resting, Asleep),
-];
+/// Thread 1 wakes thread 2 by its unlock.
+const WAKES: Row = Row(Calls(1, UNLOCK, 8), Any, Resting, Awake);
 
-/// The unlock wakes it.
-const ONE_IS_WOKEN: [Row; 3] = [
-    Row(Calls(1, LOCK, 8), Any, Resting, Resting),
-    Row(Calls(2, LOCK, 4), Any, Resting, Asleep),
-    Row(Calls(1, UNLOCK, 8), Any, Resting, Awake),
-];
+const ONE_IS_WOKEN: [Row; 3] = [ONE_TAKES, TWO_SLEEPS, WAKES];
 
-#[test]
-fn a_sleeper_is_woken_by_the_unlock(rt: HostRuntime) -> Result<(), Fail> {
-    assert!(rt; gone_through(rt.alloc(), 2, &ONE_SLEEPS)?.word(7) == Some(0x8000_0001));
-    assert!(rt; gone_through(rt.alloc(), 2, &ONE_IS_WOKEN)?.word(7) == Some(0x8000_0000));
-    Ok(())
-}
+/// Events of two threads, and what they leave in the mutex's cell.
+type Part = (&'static [Row], u64);
 
-/// Whether a machine that isn't fresh any more has these words, and the thread stands so.
-fn is_left(machine: &Machine, words: &[u64], thread: Tid, standing: Standing) -> bool {
-    has_words(machine, words) && standing_of(machine, thread) == standing && !machine.fresh()
-}
-
-#[test]
-fn a_thread_that_was_woken_takes_the_mutex_alone(rt: HostRuntime) -> Result<(), Fail> {
-    let two = thread(2)?;
-    let taken = alone_after(rt.alloc(), 2, &ONE_IS_WOKEN, 2, 2)?;
-    let words = [1, u64::MAX, 0, 4, u64::MAX, 8, 0x8000_0002, 1, 1];
-    assert!(rt; is_left(&taken, &words, two, Awake));
-    Ok(())
-}
-
-#[test]
-fn a_thread_that_was_woken_ends_its_call_alone(rt: HostRuntime) -> Result<(), Fail> {
-    let two = thread(2)?;
-    let linked = alone_after(rt.alloc(), 2, &ONE_IS_WOKEN, 2, 7)?;
-    let words = [1, u64::MAX, 0, 8, u64::MAX, 0, 0x8000_0002, 4, 4];
-    assert!(rt; is_left(&linked, &words, two, Resting));
-    Ok(())
-}
-
-#[test]
-fn the_machine_of_which_a_copy_runs_stays(rt: HostRuntime) -> Result<(), Fail> {
-    let two = thread(2)?;
-    let machine = gone_through(rt.alloc(), 2, &ONE_IS_WOKEN)?;
-    let _ = machine.alone(rt.alloc(), two, 7)?;
-    assert!(rt; machine.word(7) == Some(0x8000_0000));
-    Ok(())
+/// The place of the first part whose events go otherwise or leave another cell.
+fn first_wrong(alloc: Global, parts: &[Part]) -> Result<Option<usize>, Fail> {
+    let mut machine = machine(alloc, 2, 1, &[])?;
+    for (place, (rows, cell)) in parts.iter().enumerate() {
+        if !goes_through(&mut machine, *rows)? || machine.word(7) != Some(*cell) {
+            return Ok(Some(place));
+        }
+    }
+    Ok(None)
 }
 
 /// Thread 2, that was woken, takes the mutex.
-const WOKEN_TAKES: [Row; 7] = [
-    Row(Steps(2), Any, Resting, Awake),
-    Row(Steps(2), Any, Resting, Awake),
-    Row(Steps(2), Any, Resting, Awake),
-    Row(Steps(2), Any, Resting, Awake),
-    Row(Steps(2), Any, Resting, Awake),
-    Row(Steps(2), Any, Resting, Awake),
-    Row(Steps(2), Any, Resting, Resting),
+const WOKEN_TAKES: [Row; 2] = [
+    Row(Steps(2, 6), Any, Resting, Awake),
+    Row(Steps(2, 1), Any, Resting, Resting),
 ];
 
 /// It unlocks, and wakes nobody.
-const WAKES_NOBODY: [Row; 1] = [Row(Calls(2, UNLOCK, 7), Any, Resting, Awake)];
+const WAKES_NOBODY: Row = Row(Calls(2, UNLOCK, 7), Any, Resting, Awake);
 
 /// It trims the cell, and clears its pending entry.
 const TRIMS: [Row; 2] = [
-    Row(Steps(2), Any, Resting, Awake),
-    Row(Steps(2), Any, Resting, Resting),
+    Row(Steps(2, 1), Any, Resting, Awake),
+    Row(Steps(2, 1), Any, Resting, Resting),
 ];
 
-#[test]
-fn the_last_unlock_clears_waiters(rt: HostRuntime) -> Result<(), Fail> {
-    let mut machine = gone_through(rt.alloc(), 2, &ONE_IS_WOKEN)?;
-    assert!(rt; goes_through(&mut machine, &WOKEN_TAKES)?);
-    assert!(rt; machine.word(7) == Some(0x8000_0002));
-    assert!(rt; goes_through(&mut machine, &WAKES_NOBODY)?);
-    assert!(rt; machine.word(7) == Some(0x8000_0000));
-    assert!(rt; goes_through(&mut machine, &TRIMS)?);
-    assert!(rt; machine.word(7) == Some(0));
-    Ok(())
-}
+static LAST_UNLOCK: [Part; 5] = [
+    (&[ONE_TAKES, TWO_SLEEPS], 0x8000_0001),
+    (&[WAKES], 0x8000_0000),
+    (&WOKEN_TAKES, 0x8000_0002),
+    (&[WAKES_NOBODY], 0x8000_0000),
+    (&TRIMS, 0),
+];
 
 /// Thread 1 wakes nobody, and before it trims, thread 2 takes the mutex.
 const TAKEN_FIRST: [Row; 4] = [
-    Row(Calls(1, LOCK, 8), Any, Resting, Resting),
+    ONE_TAKES,
     Row(Calls(2, LOCK, 3), Any, Resting, Awake),
     Row(Calls(1, UNLOCK, 7), Any, Awake, Awake),
-    Row(Steps(2), Any, Awake, Awake),
+    Row(Steps(2, 1), Any, Awake, Awake),
 ];
 
-const TAKES_IT: [Row; 2] = [
-    Row(Steps(2), Any, Awake, Awake),
-    Row(Steps(2), Any, Awake, Awake),
-];
+const TAKES_IT: Row = Row(Steps(2, 2), Any, Awake, Awake);
 
 /// The trim leaves an owned cell.
 const TRIM_FAILS: [Row; 2] = [
-    Row(Steps(1), Any, Awake, Awake),
-    Row(Steps(1), Any, Resting, Awake),
+    Row(Steps(1, 1), Any, Awake, Awake),
+    Row(Steps(1, 1), Any, Resting, Awake),
+];
+
+static OWNED_BEFORE_THE_TRIM: [Part; 3] = [
+    (&TAKEN_FIRST, 0x8000_0000),
+    (&[TAKES_IT], 0x8000_0002),
+    (&TRIM_FAILS, 0x8000_0002),
 ];
 
 #[test]
-fn an_owned_cell_keeps_waiters(rt: HostRuntime) -> Result<(), Fail> {
-    let mut machine = gone_through(rt.alloc(), 2, &TAKEN_FIRST)?;
-    assert!(rt; machine.word(7) == Some(0x8000_0000));
-    assert!(rt; goes_through(&mut machine, &TAKES_IT)?);
-    assert!(rt; machine.word(7) == Some(0x8000_0002));
-    assert!(rt; goes_through(&mut machine, &TRIM_FAILS)?);
-    assert!(rt; machine.word(7) == Some(0x8000_0002));
+fn an_unlock_trims_a_free_cell_alone(rt: HostRuntime) -> Result<(), Fail> {
+    assert_eq!(rt; first_wrong(rt.alloc(), &LAST_UNLOCK)?, None);
+    assert_eq!(rt; first_wrong(rt.alloc(), &OWNED_BEFORE_THE_TRIM)?, None);
     Ok(())
 }
 
 /// Thread 2 falls asleep, and then does nothing.
-const FALLS_ASLEEP: [Row; 8] = [
-    Row(Calls(1, LOCK, 8), Any, Resting, Resting),
+const FALLS_ASLEEP: [Row; 6] = [
+    ONE_TAKES,
     Row(Begins(2, LOCK), Any, Resting, Awake),
-    Row(Steps(2), Any, Resting, Awake),
-    Row(Steps(2), Any, Resting, Awake),
-    Row(Steps(2), Any, Resting, Awake),
-    Row(Steps(2), Sleeps, Resting, Asleep),
-    Row(Steps(2), Nothing, Resting, Asleep),
+    Row(Steps(2, 3), Any, Resting, Awake),
+    Row(Steps(2, 1), Sleeps, Resting, Asleep),
+    Row(Steps(2, 1), Nothing, Resting, Asleep),
     Row(Begins(2, UNLOCK), Nothing, Resting, Asleep),
 ];
 
 #[test]
 fn a_sleeper_does_nothing_until_it_is_woken(rt: HostRuntime) -> Result<(), Fail> {
-    let unknown = thread(64)?;
     let machine = gone_through(rt.alloc(), 2, &FALLS_ASLEEP)?;
-    assert!(rt; standing_of(&machine, unknown) == Resting);
+    assert!(rt; standing_of(&machine, thread(64)?) == Resting);
+    Ok(())
+}
+
+/// Whether thread 2 goes on alone so many steps behind these events, stands so then, and leaves these words.
+fn alone_leaves(
+    alloc: Global,
+    rows: &[Row],
+    steps: u32,
+    standing: Standing,
+    words: &[u64],
+) -> Result<bool, Fail> {
+    let left = alone_after(alloc, 2, rows, 2, steps)?;
+    Ok(has_words(&left, words) && standing_of(&left, thread(2)?) == standing && !left.fresh())
+}
+
+/// Whoever was woken takes the mutex and ends its call, and a sleeper sleeps on.
+#[test]
+fn a_thread_goes_on_alone(rt: HostRuntime) -> Result<(), Fail> {
+    let taken = [1, u64::MAX, 0, 4, u64::MAX, 8, 0x8000_0002, 1, 1];
+    assert!(rt; alone_leaves(rt.alloc(), &ONE_IS_WOKEN, 2, Awake, &taken)?);
+    let linked = [1, u64::MAX, 0, 8, u64::MAX, 0, 0x8000_0002, 4, 4];
+    assert!(rt; alone_leaves(rt.alloc(), &ONE_IS_WOKEN, 7, Resting, &linked)?);
+    let asleep = [8, u64::MAX, 0, 4, u64::MAX, 8, 0x8000_0001, 1, 1];
+    assert!(rt; alone_leaves(rt.alloc(), &FALLS_ASLEEP, 9000, Asleep, &asleep)?);
     Ok(())
 }
 
 #[test]
-fn a_sleeper_sleeps_on_alone(rt: HostRuntime) -> Result<(), Fail> {
-    let two = thread(2)?;
-    let alone = alone_after(rt.alloc(), 2, &FALLS_ASLEEP, 2, 9000)?;
-    let words = [8, u64::MAX, 0, 4, u64::MAX, 8, 0x8000_0001, 1, 1];
-    assert!(rt; is_left(&alone, &words, two, Asleep));
+fn the_machine_of_which_a_copy_runs_stays(rt: HostRuntime) -> Result<(), Fail> {
+    let machine = gone_through(rt.alloc(), 2, &ONE_IS_WOKEN)?;
+    let _ = machine.alone(rt.alloc(), thread(2)?, 7)?;
+    assert!(rt; machine.word(7) == Some(0x8000_0000));
     Ok(())
 }
 
@@ -178,8 +156,6 @@ fn are_empty(machine: &Machine, places: &[u64]) -> bool {
     true
 }
 
-const TAKES: [Row; 1] = [Row(Calls(1, LOCK, 8), Any, Resting, Resting)];
-
 const TWO_SLEEP: [Row; 2] = [
     Row(Calls(3, LOCK, 4), Any, Resting, Resting),
     Row(Calls(2, LOCK, 3), Any, Resting, Asleep),
@@ -195,7 +171,7 @@ fn put_to_sleep(machine: &mut Machine, rows: &[Row], ids: &[u8]) -> Result<bool,
 #[test]
 fn sleepers_are_told_in_their_order(rt: HostRuntime) -> Result<(), Fail> {
     let mut machine = machine(rt.alloc(), 3, 1, &[])?;
-    assert!(rt; put_to_sleep(&mut machine, &TAKES, &[])?);
+    assert!(rt; put_to_sleep(&mut machine, &[ONE_TAKES], &[])?);
     assert!(rt; put_to_sleep(&mut machine, &TWO_SLEEP, &[3, 2])?);
     assert!(rt; are_empty(&machine, &[0, 1, 9, 11, 13, u64::MAX]));
     assert!(rt; put_to_sleep(&mut machine, &RELEASES, &[2])?);

@@ -47,19 +47,41 @@ pub(crate) enum Then {
 #[derive(Clone, Copy)]
 pub(crate) struct Step(pub Made, pub Then);
 
-/// Every kind of answer.
-pub(crate) const ANSWERS: [Answer; 10] = [
-    Answer::Value(0),
-    Answer::Stored,
-    Answer::Exchanged,
-    Answer::Changed(0),
-    Answer::Again,
-    Answer::Woken,
-    Answer::Count(1),
-    Answer::Counts(0, 0),
-    Answer::Trimmed(true),
-    Answer::Fault,
+/// A kind of access, by its answers.
+#[derive(Clone, Copy, PartialEq, Eq)]
+pub(crate) enum Kind {
+    /// It is answered the word.
+    OfWord,
+    Store,
+    Exchange,
+    Wait,
+    Wake,
+    Requeue,
+    Trim,
+}
+
+/// What an access of each kind may be answered. Any may be answered `Fault` too.
+pub(crate) static ANSWERS: [(Kind, &[Answer]); 7] = [
+    (Kind::OfWord, &[Answer::Value(0)]),
+    (Kind::Store, &[Answer::Stored]),
+    (Kind::Exchange, &[Answer::Exchanged, Answer::Changed(0)]),
+    (Kind::Wait, &[Answer::Again, Answer::Woken]),
+    (Kind::Wake, &[Answer::Count(1)]),
+    (Kind::Requeue, &[Answer::Counts(0, 0)]),
+    (Kind::Trim, &[Answer::Trimmed(true)]),
 ];
+
+pub(crate) fn kind_of(access: Access) -> Kind {
+    match access {
+        Access::Store { .. } => Kind::Store,
+        Access::Exchange { .. } => Kind::Exchange,
+        Access::Wait { .. } => Kind::Wait,
+        Access::Wake { .. } => Kind::Wake,
+        Access::Requeue { .. } | Access::CmpRequeue { .. } => Kind::Requeue,
+        Access::Trim { .. } => Kind::Trim,
+        _ => Kind::OfWord,
+    }
+}
 
 /// A call in progress, of which some accesses may be left out.
 pub(crate) trait Stepping {
@@ -229,6 +251,51 @@ pub(crate) fn first_wrong<F: Fn(Operation, &[&[Step]]) -> bool>(
     for (place, (operation, parts)) in calls.iter().enumerate() {
         if !takes(*operation, *parts) {
             return Some(place);
+        }
+    }
+    None
+}
+
+/// An operation, cells at whose load its call ends, and its reply.
+pub(crate) type Refused = (Operation, &'static [u64], Reply);
+
+/// The first operation and cell of these that goes otherwise, by the test of one.
+pub(crate) fn first_not_refused<F: Fn(Operation, &[&[Step]]) -> bool>(
+    rows: &[Refused],
+    takes: F,
+) -> Option<(Operation, u64)>
+    requires { F.IsAlwaysCallable takes }
+{
+    for (operation, cells, reply) in rows {
+        for cell in *cells {
+            let ends = [Step(Made::Loads(10, *cell), Then::Ends(*operation, *reply))];
+            if !takes(*operation, &[&ends]) {
+                return Some((*operation, *cell));
+            }
+        }
+    }
+    None
+}
+
+/// Operations whose calls have made these accesses, in two parts, and make this one then.
+pub(crate) type Next = (&'static [Operation], [&'static [Step]; 2], Access);
+
+/// The first operation and access of these whose call doesn't return EFAULT where the access is answered no answer of
+/// it, by the test of one.
+pub(crate) fn first_not_faulted<F: Fn(Operation, &[&[Step]]) -> bool>(
+    rows: &[Next],
+    takes: F,
+) -> Option<(Operation, Access)>
+    requires { F.IsAlwaysCallable takes }
+{
+    for (operations, [way, more], access) in rows {
+        for operation in *operations {
+            for answer in [Answer::Fault, Answer::Exchanged] {
+                let fault = [Step(Made::Is(*access, answer), Then::Returns(Reply::EFAULT))];
+                if !takes(*operation, &[*way, *more, &fault]) {
+                    return Some((*operation, *access));
+                }
+            }
         }
     }
     None

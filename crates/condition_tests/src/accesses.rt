@@ -1,12 +1,12 @@
 //! Threads that die right before an access of a call on a condition variable.
-use condvar::CondCall;
+use condvar::CondCall::{self, Broadcast, Signal, Wait};
 use condvar::Op::{OnCondition, OnMutex};
 use lockword::Reply;
 use memorymap::Layout;
 use mutex::Call::Lock;
 use ruledwords::Never;
 use std::alloc::Global;
-use std::sync::Wait;
+use std::sync;
 use std::sync::atomic::{AtomicU64, Ordering};
 use std::test::Fail;
 use thread_fixtures::{Asked, Left, makes, team};
@@ -22,7 +22,7 @@ struct Story {
 }
 
 /// The owner of the mutex makes a call, and dies before its access with that number. The counter begins at 5.
-fn dies_before<R: Wait>(
+fn dies_before<R: sync::Wait>(
     rt: &R,
     alloc: Global,
     call: CondCall,
@@ -62,44 +62,42 @@ fn lived(asked: u64, cell: u64) -> Option<Story> {
     })
 }
 
-/// A wait that finds nobody to wake makes seven accesses before it sleeps. It was asked before each, and before its
-/// sleep; once it has made all seven the mutex is free.
+/// A call, accesses before which its thread dies, and the cell and the counter that it leaves then. A wait that finds
+/// nobody to wake makes seven accesses before it sleeps; once it has made all seven the mutex is free. A signal makes
+/// four accesses; once it has made three it has counted. A broadcast makes five; once it has made four it has set
+/// WAITERS. The fate was asked before each of them, and before the sleep.
+static DEATHS: [(CondCall, &[u64], u64, u64); 7] = [
+    (Wait(0), &[1, 2, 3, 4, 5, 6, 7], 0x4000_0000, 5),
+    (Wait(0), &[8], 0, 5),
+    (Signal(0), &[1, 2, 3], 0x4000_0000, 5),
+    (Signal(0), &[4], 0x4000_0000, 6),
+    (Broadcast(0), &[1, 2, 3], 0x4000_0000, 5),
+    (Broadcast(0), &[4], 0x4000_0000, 6),
+    (Broadcast(0), &[5], 0xc000_0000, 6),
+];
+
 #[test]
-fn a_wait_dies_before_each_access(rt: HostRuntime) -> Result<(), Fail> {
-    for access in 1..9_u64 {
-        let found = dies_before(&rt, rt.alloc(), CondCall::Wait(0), access)?;
-        assert!(rt; found == died(access, if access == 8 { 0 } else { 0x4000_0000 }, 5));
+fn a_thread_dies_before_each_access(rt: HostRuntime) -> Result<(), Fail> {
+    for (call, accesses, cell, counter) in &DEATHS {
+        for access in *accesses {
+            let found = dies_before(&rt, rt.alloc(), *call, *access)?;
+            assert!(rt;
+                found == died(*access, *cell, *counter),
+                "{call:?} before {access}"
+            );
+        }
     }
     Ok(())
 }
 
-/// A signal makes four accesses; it was asked before each. Once it has made three it has counted.
-#[test]
-fn a_signal_dies_before_each_access(rt: HostRuntime) -> Result<(), Fail> {
-    for access in 1..6_u64 {
-        let found = dies_before(&rt, rt.alloc(), CondCall::Signal(0), access)?;
-        let want = match access {
-            1..=3 => died(access, 0x4000_0000, 5),
-            4 => died(access, 0x4000_0000, 6),
-            _ => lived(4, 1),
-        };
-        assert!(rt; found == want);
-    }
-    Ok(())
-}
+/// A call, all its accesses, and the cell that it leaves.
+static LIVES: [(CondCall, u64, u64); 2] = [(Signal(0), 4, 1), (Broadcast(0), 5, 0x8000_0001)];
 
-/// A broadcast makes five accesses; it was asked before each. Once it has made four it has set WAITERS.
 #[test]
-fn a_broadcast_dies_before_each_access(rt: HostRuntime) -> Result<(), Fail> {
-    for access in 1..7_u64 {
-        let found = dies_before(&rt, rt.alloc(), CondCall::Broadcast(0), access)?;
-        let want = match access {
-            1..=3 => died(access, 0x4000_0000, 5),
-            4 => died(access, 0x4000_0000, 6),
-            5 => died(access, 0xc000_0000, 6),
-            _ => lived(5, 0x8000_0001),
-        };
-        assert!(rt; found == want);
+fn a_thread_lives_that_makes_each_access(rt: HostRuntime) -> Result<(), Fail> {
+    for (call, accesses, cell) in &LIVES {
+        let found = dies_before(&rt, rt.alloc(), *call, accesses.wrapping_add(1))?;
+        assert!(rt; found == lived(*accesses, *cell), "{call:?}");
     }
     Ok(())
 }

@@ -162,28 +162,19 @@ fn as_owner<R: Wait>(rt: &R, bench: &Bench, pass: Pass<Live>, call: CondCall) ->
 }
 
 /// Takes the mutex and waits, with the second thread asleep on the mutex by then: whether all was told OK.
-fn waits_above_a_sleeper<R: Wait + Clock>(
-    rt: &R,
-    bench: &Bench,
-    pass: Pass<Live>,
-    board: &Board,
-) -> bool
+fn waits_above<R: Wait + Clock>(rt: &R, bench: &Bench, pass: Pass<Live>, board: &Board) -> bool
     requires { IsLive bench.now pass }
 {
     let Some(pass) = is_told_ok(rt, bench, pass, OnMutex(Lock(0))) else {
         return false;
     };
     board.owned.store(1, Ordering::SeqCst);
-    fall_asleep(rt, bench, &WAITERS[1..2]) && waits_as_owner(rt, bench, pass, board, 0, 0)
+    fall_asleep(rt, bench, &WAITERS[1..2])
+        && waits_as_owner(rt, bench, pass, board, Waiter::living(0))
 }
 
 /// Comes for the mutex that the first thread owns, which frees it by its wait, and broadcasts once that sleeps.
-fn comes_and_broadcasts<R: Wait + Clock>(
-    rt: &R,
-    bench: &Bench,
-    pass: Pass<Live>,
-    board: &Board,
-) -> bool
+fn comes<R: Wait + Clock>(rt: &R, bench: &Bench, pass: Pass<Live>, board: &Board) -> bool
     requires { IsLive bench.now pass }
 {
     if !waits_for(rt, &board.owned, 1) {
@@ -201,20 +192,29 @@ fn comes_and_broadcasts<R: Wait + Clock>(
     is_told_ok(rt, bench, pass, OnMutex(Unlock(0))).is_some()
 }
 
-/// Takes the mutex, waits, and gives it back; whether it lives and all was told OK. It dies where the fate of its wait
-/// is asked for the time with that number, from 1.
-fn waits<R: Wait>(
-    rt: &R,
-    bench: &Bench,
-    pass: Pass<Live>,
-    board: &Board,
-    waiter: usize,
+/// A waiter by its number, from 0, which dies where the fate of its wait is asked for the time with that number, from
+/// 1; a 0 never comes.
+#[derive(Clone, Copy)]
+struct Waiter {
+    number: usize,
     stops_at: u64,
-) -> bool
+}
+
+impl Waiter {
+    fn living(number: usize) -> Waiter {
+        Waiter {
+            number,
+            stops_at: 0,
+        }
+    }
+}
+
+/// Takes the mutex, waits, and gives it back; whether it lives and all was told OK.
+fn waits<R: Wait>(rt: &R, bench: &Bench, pass: Pass<Live>, board: &Board, waiter: Waiter) -> bool
     requires { IsLive bench.now pass }
 {
     match is_told_ok(rt, bench, pass, OnMutex(Lock(0))) {
-        Some(pass) => waits_as_owner(rt, bench, pass, board, waiter, stops_at),
+        Some(pass) => waits_as_owner(rt, bench, pass, board, waiter),
         None => false,
     }
 }
@@ -225,18 +225,23 @@ fn waits_as_owner<R: Wait>(
     bench: &Bench,
     pass: Pass<Live>,
     board: &Board,
-    waiter: usize,
-    stops_at: u64,
+    waiter: Waiter,
 ) -> bool
     requires { IsLive bench.now pass }
 {
-    let Some(asked) = board.asked.get(waiter) else {
+    let Some(asked) = board.asked.get(waiter.number) else {
         return false;
     };
     let call = OnCondition(CondCall::Wait(board.condition));
-    match makes(rt, bench, pass, call, &mut Asked::new(asked, stops_at)) {
+    match makes(
+        rt,
+        bench,
+        pass,
+        call,
+        &mut Asked::new(asked, waiter.stops_at),
+    ) {
         Some((pass, reply)) => {
-            board.answer(waiter);
+            board.answer(waiter.number);
             is_told_ok(rt, bench, pass, OnMutex(Unlock(0))).is_some() && reply == Reply::OK
         }
         None => {
@@ -371,13 +376,19 @@ fn does_its_part<R: Wait + Clock>(
     match role {
         Role::Nothing => true,
         Role::Waits(waiter) => {
-            sleep(rt, bench, waiter) && waits(rt, bench, pass, board, waiter, 0)
+            sleep(rt, bench, waiter) && waits(rt, bench, pass, board, Waiter::living(waiter))
         }
-        Role::WaitsAtOnce => waits(rt, bench, pass, board, 0, 0),
-        Role::DiesInItsWait(asked) => waits(rt, bench, pass, board, 0, asked),
+        Role::WaitsAtOnce => waits(rt, bench, pass, board, Waiter::living(0)),
+        Role::DiesInItsWait(asked) => {
+            let waiter = Waiter {
+                number: 0,
+                stops_at: asked,
+            };
+            waits(rt, bench, pass, board, waiter)
+        }
         Role::Repeats => repeats(rt, bench, pass, board),
-        Role::WaitsAboveASleeper => waits_above_a_sleeper(rt, bench, pass, board),
-        Role::ComesAndBroadcasts => comes_and_broadcasts(rt, bench, pass, board),
+        Role::WaitsAboveASleeper => waits_above(rt, bench, pass, board),
+        Role::ComesAndBroadcasts => comes(rt, bench, pass, board),
         Role::Watches => waits_for(rt, &board.order, 1),
         Role::Broadcasts => sleep(rt, bench, 3) && broadcasts(rt, bench, pass, board),
         Role::BroadcastsToOne => {

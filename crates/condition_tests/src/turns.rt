@@ -1,6 +1,6 @@
 //! Calls on condition variables that threads make by turns.
 use condvar::CondCall::{Broadcast, Signal, Wait};
-use condvar::Op::{OnCondition, OnMutex};
+use condvar::Op::{self, OnCondition, OnMutex};
 use lockword::Reply::{EOWNERDEAD, EPERM, OK, XFULL, XSTATE};
 use memorymap::Layout;
 use mutex::Call::{Consistent, Lock, TryLock, Unlock};
@@ -23,78 +23,69 @@ fn left_by<R: sync::Wait>(
     Ok(left.map(|left| [left.cells[0], left.counters[0]]))
 }
 
-/// Nobody owns the mutex, and then another thread does.
-static BY_OTHERS: [Step; 7] = [
-    Calls(First, OnCondition(Wait(0)), Some(EPERM)),
-    Calls(First, OnCondition(Signal(0)), Some(EPERM)),
-    Calls(First, OnCondition(Broadcast(0)), Some(EPERM)),
-    Calls(Second, OnMutex(Lock(0)), Some(OK)),
-    Calls(First, OnCondition(Wait(0)), Some(EPERM)),
-    Calls(First, OnCondition(Signal(0)), Some(EPERM)),
-    Calls(First, OnCondition(Broadcast(0)), Some(EPERM)),
-];
+const LOCK: Op = OnMutex(Lock(0));
 
-#[test]
-fn whoever_does_not_own_the_mutex_is_refused(rt: HostRuntime) -> Result<(), Fail> {
-    assert!(rt; left_by(&rt, rt.alloc(), 7, &BY_OTHERS)? == Some([2, 7]));
-    Ok(())
-}
+const TRY_LOCK: Op = OnMutex(TryLock(0));
+
+const UNLOCK: Op = OnMutex(Unlock(0));
+
+const WAIT: Op = OnCondition(Wait(0));
+
+const SIGNAL: Op = OnCondition(Signal(0));
+
+const BROADCAST: Op = OnCondition(Broadcast(0));
+
+/// Nobody owns the mutex, and then another thread does: whoever doesn't own it is refused.
+static BY_OTHERS: [Step; 3] = [
+    Calls(First, &[WAIT, SIGNAL, BROADCAST], Some(EPERM)),
+    Calls(Second, &[LOCK], Some(OK)),
+    Calls(First, &[WAIT, SIGNAL, BROADCAST], Some(EPERM)),
+];
 
 /// The last owner died, and nobody has declared the mutex consistent: a wait is refused, which would free it. Once it
 /// is declared, nothing is.
-static BEHIND_A_DEATH: [Step; 9] = [
-    Calls(First, OnMutex(Lock(0)), Some(OK)),
+static BEHIND_A_DEATH: [Step; 6] = [
+    Calls(First, &[LOCK], Some(OK)),
     Kills(1),
-    Calls(First, OnCondition(Wait(0)), None),
-    Calls(Second, OnMutex(Lock(0)), Some(EOWNERDEAD)),
-    Calls(Second, OnCondition(Wait(0)), Some(XSTATE)),
-    Calls(Second, OnCondition(Signal(0)), Some(OK)),
-    Calls(Second, OnCondition(Broadcast(0)), Some(OK)),
-    Calls(Second, OnMutex(Consistent(0)), Some(OK)),
-    Calls(Second, OnCondition(Signal(0)), Some(OK)),
+    Calls(First, &[WAIT], None),
+    Calls(Second, &[LOCK], Some(EOWNERDEAD)),
+    Calls(Second, &[WAIT], Some(XSTATE)),
+    Calls(
+        Second,
+        &[SIGNAL, BROADCAST, OnMutex(Consistent(0)), SIGNAL],
+        Some(OK),
+    ),
 ];
-
-#[test]
-fn a_wait_behind_a_death_is_refused(rt: HostRuntime) -> Result<(), Fail> {
-    assert!(rt; left_by(&rt, rt.alloc(), 0, &BEHIND_A_DEATH)? == Some([0x8000_0002, 3]));
-    Ok(())
-}
 
 /// Owners of the mutex are killed, one after the other: one whose unlock has somebody to wake, as a broadcast has set
-/// WAITERS, and which frees it all the same; one that signals; and one that broadcasts.
-static KILLED: [Step; 11] = [
-    Calls(First, OnMutex(Lock(0)), Some(OK)),
-    Calls(First, OnCondition(Broadcast(0)), Some(OK)),
+/// WAITERS, and which frees it all the same; one that signals; and one that broadcasts. Each dies in its next call.
+static KILLED: [Step; 10] = [
+    Calls(First, &[LOCK, BROADCAST], Some(OK)),
     Kills(1),
-    Calls(First, OnMutex(Unlock(0)), None),
-    Calls(Second, OnMutex(TryLock(0)), Some(OK)),
+    Calls(First, &[UNLOCK], None),
+    Calls(Second, &[TRY_LOCK], Some(OK)),
     Kills(2),
-    Calls(Second, OnCondition(Signal(0)), None),
-    Calls(Third, OnMutex(TryLock(0)), Some(EOWNERDEAD)),
+    Calls(Second, &[SIGNAL], None),
+    Calls(Third, &[TRY_LOCK], Some(EOWNERDEAD)),
     Kills(3),
-    Calls(Third, OnCondition(Broadcast(0)), None),
-    Calls(Fourth, OnMutex(TryLock(0)), Some(EOWNERDEAD)),
+    Calls(Third, &[BROADCAST], None),
+    Calls(Fourth, &[TRY_LOCK], Some(EOWNERDEAD)),
 ];
-
-#[test]
-fn killed_owners_die_in_their_next_calls(rt: HostRuntime) -> Result<(), Fail> {
-    assert!(rt; left_by(&rt, rt.alloc(), 0, &KILLED)? == Some([0xc000_0004, 1]));
-    Ok(())
-}
 
 /// A counter at its limit stays there.
-static FULL: [Step; 7] = [
-    Calls(First, OnCondition(Signal(0)), Some(EPERM)),
-    Calls(First, OnMutex(Lock(0)), Some(OK)),
-    Calls(First, OnCondition(Signal(0)), Some(OK)),
-    Calls(First, OnCondition(Broadcast(0)), Some(XFULL)),
-    Calls(First, OnCondition(Signal(0)), Some(XFULL)),
-    Calls(First, OnMutex(Unlock(0)), Some(OK)),
-    Calls(Second, OnMutex(TryLock(0)), Some(OK)),
+static FULL: [Step; 5] = [
+    Calls(First, &[SIGNAL], Some(EPERM)),
+    Calls(First, &[LOCK, SIGNAL], Some(OK)),
+    Calls(First, &[BROADCAST, SIGNAL], Some(XFULL)),
+    Calls(First, &[UNLOCK], Some(OK)),
+    Calls(Second, &[TRY_LOCK], Some(OK)),
 ];
 
 #[test]
-fn a_full_counter_is_told(rt: HostRuntime) -> Result<(), Fail> {
+fn calls_are_told_and_leave_their_words(rt: HostRuntime) -> Result<(), Fail> {
+    assert!(rt; left_by(&rt, rt.alloc(), 7, &BY_OTHERS)? == Some([2, 7]));
+    assert!(rt; left_by(&rt, rt.alloc(), 0, &BEHIND_A_DEATH)? == Some([0x8000_0002, 3]));
+    assert!(rt; left_by(&rt, rt.alloc(), 0, &KILLED)? == Some([0xc000_0004, 1]));
     assert!(rt; left_by(&rt, rt.alloc(), 0xffff_fffe, &FULL)? == Some([2, 0xffff_ffff]));
     Ok(())
 }

@@ -18,8 +18,10 @@ mod waits;
 /// A call of a kernel, and what it answers. Threads are ids, and those in a batch stand in their order.
 #[derive(Clone, Copy)]
 enum Call {
-    /// The thread with an id waits at an address for a word, and has this reply.
-    Wait(u8, u64, u32, Reply),
+    /// The threads with these ids wait at an address for a word, one after the other, and fall asleep.
+    Sleep(&'static [u8], u64, u32),
+    /// The thread with an id waits at an address for a word, and is refused so.
+    WaitRefused(u8, u64, u32, Reply),
     /// At an address so many are to be woken, and these are.
     Wake(u64, u32, &'static [u8]),
     /// The same, and it is refused so.
@@ -50,7 +52,12 @@ fn words(rt: &impl Abort, alloc: Global) -> Result<PlainMemory, Fail> {
 /// Makes a call.
 fn make(rt: &impl Abort, kernel: &mut Kernel, memory: &PlainMemory, call: Call) {
     match call {
-        Call::Wait(id, at, expected, reply) => {
+        Call::Sleep(ids, at, expected) => {
+            for id in ids {
+                assert!(rt; wait(rt, kernel, 0, memory, *id, at, expected) == Reply::OK);
+            }
+        }
+        Call::WaitRefused(id, at, expected, reply) => {
             assert!(rt; wait(rt, kernel, 0, memory, id, at, expected) == reply);
         }
         Call::Wake(at, n, ids) => {

@@ -1,10 +1,11 @@
 //! A kernel's buckets: which keys each has, and requeues between two.
 
 use crate::batches::has_ids;
-use crate::kernels::{RequeueCall, is_asleep, remove, requeue, wait, wake};
+use crate::kernels::{
+    Moved, RequeueCall, Woken, is_asleep, kernel_and_words, remove, requeue, wait, wake,
+};
 use lockword::Reply;
 use memorymap::key_of;
-use std::alloc::Global;
 use std::process::Abort;
 use std::test::Fail;
 use syscalls::{Kernel, PlainMemory};
@@ -32,53 +33,34 @@ fn moves(
     moves: u32,
     moved: &'static [u8],
 ) {
-    let call = RequeueCall {
-        from,
-        wake: 0,
-        to,
-        moves,
-        woken: &[],
-        moved,
-    };
+    let call = RequeueCall(from, to, Woken(0, &[]), Moved(moves, moved));
     assert!(rt; requeue(rt, kernel, 0, memory, call) == Reply::OK);
 }
 
-/// 1,024 words, all 0: each bucket has four of them.
-fn words(alloc: Global) -> Result<PlainMemory, Fail> {
-    Ok(PlainMemory::new(alloc, 1024)?)
-}
+/// With so many words each bucket has four of them.
+const WORDS: usize = 1024;
 
 /// The words 10 and 778 have one bucket, and the words 10 and 11 have two.
 static SLEEPERS: [(u8, u64); 4] = [(1, 10), (2, 778), (3, 11), (4, 10)];
 
-/// A bucket, a key, and who sleeps on the key in that bucket.
-static QUEUES: [(u8, u64, &[u8]); 17] = [
-    (10, 10, &[1, 4]),
-    (10, 778, &[2]),
-    (10, 11, &[]),
-    (11, 11, &[3]),
-    (11, 10, &[]),
-    (0, 10, &[]),
-    (0, 11, &[]),
-    (0, 778, &[]),
-    (9, 10, &[]),
-    (9, 11, &[]),
-    (9, 778, &[]),
-    (12, 10, &[]),
-    (12, 11, &[]),
-    (12, 778, &[]),
-    (255, 10, &[]),
-    (255, 11, &[]),
-    (255, 778, &[]),
+/// A bucket, and who sleeps in it on the keys 10, 11 and 778.
+static QUEUES: [(u8, [&[u8]; 3]); 6] = [
+    (10, [&[1, 4], &[], &[2]]),
+    (11, [&[], &[3], &[]]),
+    (0, [&[], &[], &[]]),
+    (9, [&[], &[], &[]]),
+    (12, [&[], &[], &[]]),
+    (255, [&[], &[], &[]]),
 ];
 
 #[test]
 fn a_bucket_has_the_queues_of_its_keys(rt: HostRuntime) -> Result<(), Fail> {
-    let memory = words(rt.alloc())?;
-    let mut kernel = Kernel::new(rt.alloc(), 4)?;
+    let (mut kernel, memory) = kernel_and_words(rt.alloc(), 4, WORDS)?;
     sleep(&rt, &mut kernel, &memory, &SLEEPERS);
-    for (bucket, key, ids) in &QUEUES {
-        has_queue(&rt, &kernel, *bucket, *key, *ids);
+    for (bucket, queues) in &QUEUES {
+        has_queue(&rt, &kernel, *bucket, 10, queues[0]);
+        has_queue(&rt, &kernel, *bucket, 11, queues[1]);
+        has_queue(&rt, &kernel, *bucket, 778, queues[2]);
     }
     Ok(())
 }
@@ -97,8 +79,7 @@ fn can_be_removed(rt: &impl Abort, kernel: &Kernel, id: u8) -> Result<(), Fail> 
 /// and where they stand is known of each.
 #[test]
 fn a_requeue_moves_between_two_buckets(rt: HostRuntime) -> Result<(), Fail> {
-    let memory = words(rt.alloc())?;
-    let mut kernel = Kernel::new(rt.alloc(), 4)?;
+    let (mut kernel, memory) = kernel_and_words(rt.alloc(), 4, WORDS)?;
     sleep(&rt, &mut kernel, &memory, &FOUR_SLEEP);
     moves(&rt, &mut kernel, &memory, 10, 255, 2, &[3, 1]);
     has_queue(&rt, &kernel, 10, 10, &[2]);

@@ -1,11 +1,29 @@
 //! A kernel's calls, by threads' ids. Tests make each call here alone: a function that makes one itself sees all that
 //! the call promises, and is dear to prove.
+ghost use Rattle.std.specs.Prelude.{◌≤◌};
 
 use crate::batches::{has_ids, thread};
 use buckets::Batch;
 use lockword::Reply;
+use std::alloc::Global;
 use std::process::Abort;
+use std::test::Fail;
 use syscalls::{Kernel, PlainMemory};
+
+/// A kernel of so many threads, and so many words, all 0.
+pub(crate) fn kernel_and_words(
+    alloc: Global,
+    threads: u8,
+    words: usize,
+) -> Result<(Kernel, PlainMemory), Fail>
+    requires some { 1 ≤ threads }
+    requires room { threads ≤ 64 }
+{
+    Ok((
+        Kernel::new(alloc, threads)?,
+        PlainMemory::new(alloc, words)?,
+    ))
+}
 
 pub(crate) fn reply_of(answer: Result<(), Reply>) -> Reply {
     match answer {
@@ -49,35 +67,34 @@ pub(crate) fn wake(
     }
 }
 
-/// A requeue, and those that it wakes and moves, in this order, where it isn't refused.
+/// How many are to be woken, at most, and who are, in this order.
 #[derive(Clone, Copy)]
-pub(crate) struct RequeueCall {
-    pub(crate) from: u64,
-    pub(crate) wake: u32,
-    pub(crate) to: u64,
-    pub(crate) moves: u32,
-    pub(crate) woken: &'static [u8],
-    pub(crate) moved: &'static [u8],
-}
+pub(crate) struct Woken(pub(crate) u32, pub(crate) &'static [u8]);
+
+/// How many are to be moved, at most, and who are, in this order.
+#[derive(Clone, Copy)]
+pub(crate) struct Moved(pub(crate) u32, pub(crate) &'static [u8]);
+
+/// A requeue from an address to another one, and whom it wakes and moves where it isn't refused.
+#[derive(Clone, Copy)]
+pub(crate) struct RequeueCall(
+    pub(crate) u64,
+    pub(crate) u64,
+    pub(crate) Woken,
+    pub(crate) Moved,
+);
 
 impl RequeueCall {
     /// One that is to wake one and to move one.
     pub(crate) fn refused(from: u64, to: u64) -> RequeueCall {
-        RequeueCall {
-            from,
-            wake: 1,
-            to,
-            moves: 1,
-            woken: &[],
-            moved: &[],
-        }
+        RequeueCall(from, to, Woken(1, &[]), Moved(1, &[]))
     }
 
     fn reply(self, rt: &impl Abort, answer: Result<(Batch, Batch), Reply>) -> Reply {
         match answer {
             Ok((woken, moved)) => {
-                has_ids(rt, &woken, self.woken);
-                has_ids(rt, &moved, self.moved);
+                has_ids(rt, &woken, self.2.1);
+                has_ids(rt, &moved, self.3.1);
                 Reply::OK
             }
             Err(reply) => reply,
@@ -92,8 +109,8 @@ pub(crate) fn requeue(
     memory: &PlainMemory,
     call: RequeueCall,
 ) -> Reply {
-    let answer = kernel.requeue(base, memory, call.from, call.wake, call.to, call.moves);
-    call.reply(rt, answer)
+    let RequeueCall(from, to, Woken(wake, _), Moved(moves, _)) = call;
+    call.reply(rt, kernel.requeue(base, memory, from, wake, to, moves))
 }
 
 /// The same where the word is the expected one.
@@ -105,9 +122,8 @@ pub(crate) fn cmp_requeue(
     expected: u32,
     call: RequeueCall,
 ) -> Reply {
-    let answer = kernel.cmp_requeue(
-        base, memory, call.from, expected, call.wake, call.to, call.moves,
-    );
+    let RequeueCall(from, to, Woken(wake, _), Moved(moves, _)) = call;
+    let answer = kernel.cmp_requeue(base, memory, from, expected, wake, to, moves);
     call.reply(rt, answer)
 }
 

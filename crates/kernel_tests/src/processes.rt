@@ -1,82 +1,57 @@
 //! Futex calls of processes that map the words at bases of their own: words meet by their places, whatever their
 //! addresses.
 
-use crate::kernels::{RequeueCall, cmp_requeue, has_sleepers, requeue, trim, wait, wake};
+use crate::kernels::{
+    Moved, RequeueCall, Woken, cmp_requeue, has_sleepers, kernel_and_words, requeue, trim, wait,
+    wake,
+};
 use lockword::Reply;
-use std::alloc::Global;
 use std::process::Abort;
 use std::test::Fail;
 use syscalls::{Kernel, Memory, PlainMemory};
-
-/// 16 words, all 0.
-fn words(alloc: Global) -> Result<PlainMemory, Fail> {
-    Ok(PlainMemory::new(alloc, 16)?)
-}
 
 /// The thread falls asleep on a word that is 0.
 fn sleeps(rt: &impl Abort, kernel: &mut Kernel, base: u64, memory: &PlainMemory, id: u8, at: u64) {
     assert!(rt; wait(rt, kernel, base, memory, id, at, 0) == Reply::OK);
 }
 
-/// These are woken, in this order.
-fn wakes(
-    rt: &impl Abort,
-    kernel: &mut Kernel,
-    base: u64,
-    memory: &PlainMemory,
-    at: u64,
-    n: u32,
-    ids: &[u8],
-) {
-    assert!(rt; wake(rt, kernel, base, memory, at, n, ids) == Reply::OK);
-}
-
 /// The bases lie 5 apart: the address 1010 is that of place 10 in the one process and of place 5 in the other.
 #[test]
 fn one_address_is_two_places(rt: HostRuntime) -> Result<(), Fail> {
-    let memory = words(rt.alloc())?;
-    let mut kernel = Kernel::new(rt.alloc(), 2)?;
+    let (mut kernel, memory) = kernel_and_words(rt.alloc(), 2, 16)?;
     sleeps(&rt, &mut kernel, 1000, &memory, 1, 1010);
     sleeps(&rt, &mut kernel, 1005, &memory, 2, 1010);
     has_sleepers(&rt, &kernel, 10, &[1]);
     has_sleepers(&rt, &kernel, 5, &[2]);
-    wakes(&rt, &mut kernel, 1005, &memory, 1010, 64, &[2]);
-    wakes(&rt, &mut kernel, 1005, &memory, 1010, 64, &[]);
-    wakes(&rt, &mut kernel, 1000, &memory, 1010, 64, &[1]);
+    assert!(rt; wake(&rt, &mut kernel, 1005, &memory, 1010, 64, &[2]) == Reply::OK);
+    assert!(rt; wake(&rt, &mut kernel, 1005, &memory, 1010, 64, &[]) == Reply::OK);
+    assert!(rt; wake(&rt, &mut kernel, 1000, &memory, 1010, 64, &[1]) == Reply::OK);
     Ok(())
 }
 
 /// A requeue of one that wakes nobody, and who is moved.
 fn of_one(from: u64, to: u64, moved: &'static [u8]) -> RequeueCall {
-    RequeueCall {
-        from,
-        wake: 0,
-        to,
-        moves: 1,
-        woken: &[],
-        moved,
-    }
+    RequeueCall(from, to, Woken(0, &[]), Moved(1, moved))
 }
 
 /// Threads of four processes sleep on word 4, by the addresses 4, 5, 1004 and 1000000004; they are woken and moved in
 /// the order in which they fell asleep, from any process.
 #[test]
 fn one_place_has_several_addresses(rt: HostRuntime) -> Result<(), Fail> {
-    let memory = words(rt.alloc())?;
-    let mut kernel = Kernel::new(rt.alloc(), 4)?;
+    let (mut kernel, memory) = kernel_and_words(rt.alloc(), 4, 16)?;
     sleeps(&rt, &mut kernel, 1000, &memory, 3, 1004);
     sleeps(&rt, &mut kernel, 0, &memory, 1, 4);
     sleeps(&rt, &mut kernel, 1_000_000_000, &memory, 4, 1_000_000_004);
     sleeps(&rt, &mut kernel, 1, &memory, 2, 5);
     has_sleepers(&rt, &kernel, 4, &[3, 1, 4, 2]);
     has_sleepers(&rt, &kernel, 5, &[]);
-    wakes(&rt, &mut kernel, 1, &memory, 5, 1, &[3]);
+    assert!(rt; wake(&rt, &mut kernel, 1, &memory, 5, 1, &[3]) == Reply::OK);
     let first = of_one(1004, 1006, &[1]);
     assert!(rt; cmp_requeue(&rt, &mut kernel, 1000, &memory, 0, first) == Reply::OK);
     let second = of_one(1_000_000_004, 1_000_000_006, &[4]);
     assert!(rt; requeue(&rt, &mut kernel, 1_000_000_000, &memory, second) == Reply::OK);
     has_sleepers(&rt, &kernel, 4, &[2]);
-    wakes(&rt, &mut kernel, 0, &memory, 6, 64, &[1, 4]);
+    assert!(rt; wake(&rt, &mut kernel, 0, &memory, 6, 64, &[1, 4]) == Reply::OK);
     Ok(())
 }
 
@@ -93,8 +68,7 @@ fn has_word(rt: &impl Abort, memory: &PlainMemory, place: u64, word: u64) {
 /// A trim by any process finds the sleeper of another one.
 #[test]
 fn a_trim_looks_at_the_place(rt: HostRuntime) -> Result<(), Fail> {
-    let mut memory = words(rt.alloc())?;
-    let mut kernel = Kernel::new(rt.alloc(), 1)?;
+    let (mut kernel, mut memory) = kernel_and_words(rt.alloc(), 1, 16)?;
     sleeps(&rt, &mut kernel, 1000, &memory, 1, 1008);
     put(&rt, &mut memory, 7, 0x8000_0000);
     put(&rt, &mut memory, 8, 0x8000_0000);
@@ -149,8 +123,7 @@ fn is_refused(rt: &impl Abort, kernel: &mut Kernel, memory: &mut PlainMemory, ba
 
 #[test]
 fn an_address_of_no_place_is_refused(rt: HostRuntime) -> Result<(), Fail> {
-    let mut memory = words(rt.alloc())?;
-    let mut kernel = Kernel::new(rt.alloc(), 1)?;
+    let (mut kernel, mut memory) = kernel_and_words(rt.alloc(), 1, 16)?;
     for (base, at) in &NOWHERE {
         is_refused(&rt, &mut kernel, &mut memory, *base, *at);
     }

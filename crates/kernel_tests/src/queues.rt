@@ -9,47 +9,24 @@ use std::test::Fail;
 /// A call of a bucket, and what it answers. Threads are ids, and those in a batch stand in their order.
 #[derive(Clone, Copy)]
 enum Call {
-    Enqueue {
-        id: u8,
-        key: u64,
-    },
-    /// A wait on key 7.
-    Wait {
-        id: u8,
-        seen: u64,
-        expected: u32,
-        sleeps: bool,
-    },
-    Take {
-        key: u64,
-        n: u32,
-        ids: &'static [u8],
-    },
-    MoveWithin {
-        key: u64,
-        n: u32,
-        to: u64,
-        ids: &'static [u8],
-    },
-    Remove {
-        id: u8,
-        stood: bool,
-    },
-    Stands {
-        id: u8,
-        stands: bool,
-    },
-    Count {
-        key: u64,
-        count: usize,
-    },
-    Sleepers {
-        key: u64,
-        ids: &'static [u8],
-    },
-    Full {
-        full: bool,
-    },
+    /// These are put into the queue of a key, one after the other.
+    Enqueue(&'static [u8], u64),
+    /// The thread with an id waits on key 7, whose word is seen so, for this one: whether it sleeps.
+    Wait(u8, u64, u32, bool),
+    /// Of a key so many are to be taken, and these are.
+    Take(u64, u32, &'static [u8]),
+    /// Of a key so many are to be moved to another one, and these are.
+    MoveWithin(u64, u32, u64, &'static [u8]),
+    /// The thread with an id is taken out of its queue: whether it stood in one.
+    Remove(u8, bool),
+    /// Whether the thread with an id stands in a queue.
+    Stands(u8, bool),
+    /// So many stand in the queue of a key.
+    Count(u64, usize),
+    /// These stand there.
+    Sleepers(u64, &'static [u8]),
+    /// Whether there is no room.
+    Full(bool),
 }
 
 /// A thread that stands nowhere is put into a queue that has room.
@@ -86,18 +63,17 @@ fn remove(rt: &impl Abort, bucket: &mut Bucket, id: u8) -> bool {
 /// Makes a call that changes the bucket.
 fn make(rt: &impl Abort, bucket: &mut Bucket, call: Call) {
     match call {
-        Call::Enqueue { id, key } => enqueue(rt, bucket, id, key),
-        Call::Wait {
-            id,
-            seen,
-            expected,
-            sleeps,
-        } => {
+        Call::Enqueue(ids, key) => {
+            for id in ids {
+                enqueue(rt, bucket, *id, key);
+            }
+        }
+        Call::Wait(id, seen, expected, sleeps) => {
             assert!(rt; wait(rt, bucket, id, seen, expected) == sleeps);
         }
-        Call::Take { key, n, ids } => take(rt, bucket, key, n, ids),
-        Call::MoveWithin { key, n, to, ids } => move_within(rt, bucket, key, n, to, ids),
-        Call::Remove { id, stood } => assert!(rt; remove(rt, bucket, id) == stood),
+        Call::Take(key, n, ids) => take(rt, bucket, key, n, ids),
+        Call::MoveWithin(key, n, to, ids) => move_within(rt, bucket, key, n, to, ids),
+        Call::Remove(id, stood) => assert!(rt; remove(rt, bucket, id) == stood),
         _ => look(rt, bucket, call),
     }
 }
@@ -105,10 +81,10 @@ fn make(rt: &impl Abort, bucket: &mut Bucket, call: Call) {
 /// Makes a call that tells of the bucket.
 fn look(rt: &impl Abort, bucket: &Bucket, call: Call) {
     match call {
-        Call::Stands { id, stands } => assert!(rt; bucket.stands(thread(rt, id)) == stands),
-        Call::Count { key, count } => assert!(rt; bucket.count(Key(key)) == count),
-        Call::Sleepers { key, ids } => has_ids(rt, &bucket.sleepers(Key(key)), ids),
-        Call::Full { full } => assert!(rt; bucket.full() == full),
+        Call::Stands(id, stands) => assert!(rt; bucket.stands(thread(rt, id)) == stands),
+        Call::Count(key, count) => assert!(rt; bucket.count(Key(key)) == count),
+        Call::Sleepers(key, ids) => has_ids(rt, &bucket.sleepers(Key(key)), ids),
+        Call::Full(full) => assert!(rt; bucket.full() == full),
         _ => assert!(rt; false),
     }
 }
@@ -119,50 +95,24 @@ fn make_all(rt: &impl Abort, bucket: &mut Bucket, calls: &[Call]) {
     }
 }
 
-static WAKES: [Call; 18] = [
-    Call::Enqueue { id: 3, key: 7 },
-    Call::Enqueue { id: 1, key: 9 },
-    Call::Enqueue { id: 2, key: 7 },
-    Call::Enqueue { id: 64, key: 7 },
-    Call::Count { key: 7, count: 3 },
-    Call::Count { key: 9, count: 1 },
-    Call::Count { key: 8, count: 0 },
-    Call::Full { full: true },
-    Call::Sleepers {
-        key: 7,
-        ids: &[3, 2, 64],
-    },
-    Call::Sleepers { key: 8, ids: &[] },
-    Call::Take {
-        key: 7,
-        n: 0,
-        ids: &[],
-    },
-    Call::Take {
-        key: 7,
-        n: 2,
-        ids: &[3, 2],
-    },
-    Call::Stands {
-        id: 64,
-        stands: true,
-    },
-    Call::Stands {
-        id: 3,
-        stands: false,
-    },
-    Call::Take {
-        key: 7,
-        n: u32::MAX,
-        ids: &[64],
-    },
-    Call::Take {
-        key: 7,
-        n: 1,
-        ids: &[],
-    },
-    Call::Count { key: 9, count: 1 },
-    Call::Full { full: false },
+static WAKES: [Call; 17] = [
+    Call::Enqueue(&[3], 7),
+    Call::Enqueue(&[1], 9),
+    Call::Enqueue(&[2, 64], 7),
+    Call::Count(7, 3),
+    Call::Count(9, 1),
+    Call::Count(8, 0),
+    Call::Full(true),
+    Call::Sleepers(7, &[3, 2, 64]),
+    Call::Sleepers(8, &[]),
+    Call::Take(7, 0, &[]),
+    Call::Take(7, 2, &[3, 2]),
+    Call::Stands(64, true),
+    Call::Stands(3, false),
+    Call::Take(7, u32::MAX, &[64]),
+    Call::Take(7, 1, &[]),
+    Call::Count(9, 1),
+    Call::Full(false),
 ];
 
 #[test]
@@ -173,33 +123,17 @@ fn a_wake_takes_the_first_of_one_key(rt: HostRuntime) -> Result<(), Fail> {
     Ok(())
 }
 
-static THREE_SLEEP: [Call; 3] = [
-    Call::Enqueue { id: 1, key: 5 },
-    Call::Enqueue { id: 2, key: 5 },
-    Call::Enqueue { id: 3, key: 5 },
-];
-
 static REMOVALS: [Call; 4] = [
-    Call::Remove { id: 2, stood: true },
-    Call::Remove {
-        id: 2,
-        stood: false,
-    },
-    Call::Take {
-        key: 5,
-        n: 3,
-        ids: &[1, 3],
-    },
-    Call::Remove {
-        id: 1,
-        stood: false,
-    },
+    Call::Remove(2, true),
+    Call::Remove(2, false),
+    Call::Take(5, 3, &[1, 3]),
+    Call::Remove(1, false),
 ];
 
 #[test]
 fn a_removal_takes_one_thread(rt: HostRuntime) -> Result<(), Fail> {
     let mut bucket = Bucket::new(rt.alloc(), 64)?;
-    make_all(&rt, &mut bucket, &THREE_SLEEP);
+    make(&rt, &mut bucket, Call::Enqueue(&[1, 2, 3], 5));
     let copy = bucket.clone()?;
     make_all(&rt, &mut bucket, &REMOVALS);
     has_ids(&rt, &copy.sleepers(Key(5)), &[1, 2, 3]);
@@ -207,39 +141,18 @@ fn a_removal_takes_one_thread(rt: HostRuntime) -> Result<(), Fail> {
 }
 
 static REQUEUES: [Call; 12] = [
-    Call::Enqueue { id: 1, key: 7 },
-    Call::Enqueue { id: 5, key: 9 },
-    Call::Enqueue { id: 2, key: 7 },
-    Call::Enqueue { id: 6, key: 8 },
-    Call::Enqueue { id: 3, key: 7 },
-    Call::MoveWithin {
-        key: 7,
-        n: 0,
-        to: 9,
-        ids: &[],
-    },
-    Call::MoveWithin {
-        key: 7,
-        n: 2,
-        to: 9,
-        ids: &[1, 2],
-    },
-    Call::Sleepers { key: 7, ids: &[3] },
-    Call::Sleepers { key: 8, ids: &[6] },
-    Call::Sleepers {
-        key: 9,
-        ids: &[5, 1, 2],
-    },
-    Call::MoveWithin {
-        key: 9,
-        n: u32::MAX,
-        to: 7,
-        ids: &[5, 1, 2],
-    },
-    Call::Sleepers {
-        key: 7,
-        ids: &[3, 5, 1, 2],
-    },
+    Call::Enqueue(&[1], 7),
+    Call::Enqueue(&[5], 9),
+    Call::Enqueue(&[2], 7),
+    Call::Enqueue(&[6], 8),
+    Call::Enqueue(&[3], 7),
+    Call::MoveWithin(7, 0, 9, &[]),
+    Call::MoveWithin(7, 2, 9, &[1, 2]),
+    Call::Sleepers(7, &[3]),
+    Call::Sleepers(8, &[6]),
+    Call::Sleepers(9, &[5, 1, 2]),
+    Call::MoveWithin(9, u32::MAX, 7, &[5, 1, 2]),
+    Call::Sleepers(7, &[3, 5, 1, 2]),
 ];
 
 #[test]
@@ -249,31 +162,10 @@ fn a_requeue_moves_the_first_of_one_key(rt: HostRuntime) -> Result<(), Fail> {
     Ok(())
 }
 
-static FOUR_SLEEP: [Call; 4] = [
-    Call::Enqueue { id: 1, key: 7 },
-    Call::Enqueue { id: 2, key: 7 },
-    Call::Enqueue { id: 3, key: 7 },
-    Call::Enqueue { id: 4, key: 7 },
-];
-
-static TWO_ARE_LEFT: [Call; 1] = [Call::Sleepers {
-    key: 7,
-    ids: &[3, 4],
-}];
-
-static ONE_SLEEPS: [Call; 1] = [Call::Enqueue { id: 5, key: 9 }];
-
 static TWO_CAME: [Call; 3] = [
-    Call::Sleepers {
-        key: 9,
-        ids: &[5, 1, 2],
-    },
-    Call::Take {
-        key: 9,
-        n: 3,
-        ids: &[5, 1, 2],
-    },
-    Call::Enqueue { id: 4, key: 9 },
+    Call::Sleepers(9, &[5, 1, 2]),
+    Call::Take(9, 3, &[5, 1, 2]),
+    Call::Enqueue(&[4], 9),
 ];
 
 /// Whether so many sleepers of a key fit into another bucket.
@@ -291,12 +183,12 @@ fn move_two(rt: &impl Abort, bucket: &mut Bucket, other: &mut Bucket) {
 fn a_requeue_moves_into_another_bucket(rt: HostRuntime) -> Result<(), Fail> {
     let mut bucket = Bucket::new(rt.alloc(), 4)?;
     let mut other = Bucket::new(rt.alloc(), 3)?;
-    make_all(&rt, &mut bucket, &FOUR_SLEEP);
-    make_all(&rt, &mut other, &ONE_SLEEPS);
+    make(&rt, &mut bucket, Call::Enqueue(&[1, 2, 3, 4], 7));
+    make(&rt, &mut other, Call::Enqueue(&[5], 9));
     assert!(rt; fits(&bucket, &other, 8, u32::MAX));
     assert!(rt; !fits(&bucket, &other, 7, 3));
     move_two(&rt, &mut bucket, &mut other);
-    make_all(&rt, &mut bucket, &TWO_ARE_LEFT);
+    look(&rt, &bucket, Call::Sleepers(7, &[3, 4]));
     make_all(&rt, &mut other, &TWO_CAME);
     assert!(rt; fits(&bucket, &other, 7, 1));
     assert!(rt; !fits(&bucket, &other, 7, 2));
@@ -304,37 +196,13 @@ fn a_requeue_moves_into_another_bucket(rt: HostRuntime) -> Result<(), Fail> {
 }
 
 static WAITS: [Call; 7] = [
-    Call::Wait {
-        id: 1,
-        seen: 0xffff_ffff_0000_0002,
-        expected: 2,
-        sleeps: true,
-    },
-    Call::Wait {
-        id: 2,
-        seen: 3,
-        expected: 2,
-        sleeps: false,
-    },
-    Call::Wait {
-        id: 2,
-        seen: 0x2_0000_0000,
-        expected: 2,
-        sleeps: false,
-    },
-    Call::Count { key: 7, count: 1 },
-    Call::Wait {
-        id: 2,
-        seen: 2,
-        expected: 2,
-        sleeps: true,
-    },
-    Call::Full { full: true },
-    Call::Take {
-        key: 7,
-        n: 2,
-        ids: &[1, 2],
-    },
+    Call::Wait(1, 0xffff_ffff_0000_0002, 2, true),
+    Call::Wait(2, 3, 2, false),
+    Call::Wait(2, 0x2_0000_0000, 2, false),
+    Call::Count(7, 1),
+    Call::Wait(2, 2, 2, true),
+    Call::Full(true),
+    Call::Take(7, 2, &[1, 2]),
 ];
 
 #[test]

@@ -27,64 +27,49 @@ fn cells_of<R: Wait>(
     Ok(left.map(|left| left.cells))
 }
 
-static IN_THE_NEXT_CALL: [Step; 7] = [
-    Calls(First, OnMutex(Lock(0)), Some(OK)),
-    Kills(1),
-    Kills(1),
-    Calls(First, OnMutex(Lock(1)), None),
-    Kills(1),
-    Calls(Second, OnMutex(Lock(0)), Some(EOWNERDEAD)),
-    Calls(Second, OnMutex(Lock(1)), Some(OK)),
-];
-
 /// A thread that was killed dies in its next call; what it held is marked, and what it was about to take isn't touched.
 /// A second kill changes nothing.
-#[test]
-fn a_thread_dies_in_its_next_call(rt: HostRuntime) -> Result<(), Fail> {
-    let layout = Layout::new(5, 2, &[])?;
-    assert!(rt; cells_of(&rt, rt.alloc(), layout, &IN_THE_NEXT_CALL)? == Some([0x4000_0002, 2]));
-    Ok(())
-}
-
-static BEFORE_IT_PAYS: [Step; 4] = [
-    Calls(First, OnMutex(Lock(0)), Some(OK)),
+static IN_THE_NEXT_CALL: [Step; 7] = [
+    Calls(First, &[OnMutex(Lock(0))], Some(OK)),
     Kills(1),
-    Calls(First, OnMutex(Unlock(0)), None),
-    Calls(Second, OnMutex(Lock(0)), Some(OK)),
+    Kills(1),
+    Calls(First, &[OnMutex(Lock(1))], None),
+    Kills(1),
+    Calls(Second, &[OnMutex(Lock(0))], Some(EOWNERDEAD)),
+    Calls(Second, &[OnMutex(Lock(1))], Some(OK)),
 ];
 
 /// The end of an unlock heeds a kill, and its release doesn't: the mutex is free.
-#[test]
-fn a_thread_dies_before_it_pays(rt: HostRuntime) -> Result<(), Fail> {
-    let layout = Layout::new(5, 1, &[])?;
-    assert!(rt; cells_of(&rt, rt.alloc(), layout, &BEFORE_IT_PAYS)? == Some([2, 0]));
-    Ok(())
-}
-
-static PROCESS_1: [Step; 6] = [
-    Calls(Second, OnMutex(Lock(0)), Some(OK)),
-    KillsProcess(1),
-    Calls(Second, OnMutex(Lock(1)), None),
-    Calls(Fourth, OnMutex(Lock(1)), None),
-    Calls(First, OnMutex(Lock(0)), Some(EOWNERDEAD)),
-    Calls(Third, OnMutex(Lock(1)), Some(OK)),
+static BEFORE_IT_PAYS: [Step; 4] = [
+    Calls(First, &[OnMutex(Lock(0))], Some(OK)),
+    Kills(1),
+    Calls(First, &[OnMutex(Unlock(0))], None),
+    Calls(Second, &[OnMutex(Lock(0))], Some(OK)),
 ];
 
 /// A process is killed: the calls of its threads end, what one of them held is told to a thread of the other process,
 /// and that goes on.
-#[test]
-fn a_process_is_killed(rt: HostRuntime) -> Result<(), Fail> {
-    let layout = Layout::with_processes(&[0, 1, 0, 1, 0], &[0, 1000], 2, &[])?;
-    assert!(rt; cells_of(&rt, rt.alloc(), layout, &PROCESS_1)? == Some([0x4000_0001, 3]));
-    Ok(())
-}
-
-static ANOTHER_THREAD: [Step; 2] = [Kills(28), Calls(First, OnMutex(Lock(0)), Some(OK))];
+static PROCESS_1: [Step; 6] = [
+    Calls(Second, &[OnMutex(Lock(0))], Some(OK)),
+    KillsProcess(1),
+    Calls(Second, &[OnMutex(Lock(1))], None),
+    Calls(Fourth, &[OnMutex(Lock(1))], None),
+    Calls(First, &[OnMutex(Lock(0))], Some(EOWNERDEAD)),
+    Calls(Third, &[OnMutex(Lock(1))], Some(OK)),
+];
 
 /// The note of a kill is that of its thread alone: the first of the last five of 64 threads, with the id 60, lives
 /// where 28 is killed.
+static ANOTHER_THREAD: [Step; 2] = [Kills(28), Calls(First, &[OnMutex(Lock(0))], Some(OK))];
+
 #[test]
-fn another_thread_is_killed(rt: HostRuntime) -> Result<(), Fail> {
+fn the_killed_die_in_their_next_calls(rt: HostRuntime) -> Result<(), Fail> {
+    let layout = Layout::new(5, 2, &[])?;
+    assert!(rt; cells_of(&rt, rt.alloc(), layout, &IN_THE_NEXT_CALL)? == Some([0x4000_0002, 2]));
+    let layout = Layout::new(5, 1, &[])?;
+    assert!(rt; cells_of(&rt, rt.alloc(), layout, &BEFORE_IT_PAYS)? == Some([2, 0]));
+    let layout = Layout::with_processes(&[0, 1, 0, 1, 0], &[0, 1000], 2, &[])?;
+    assert!(rt; cells_of(&rt, rt.alloc(), layout, &PROCESS_1)? == Some([0x4000_0001, 3]));
     let layout = Layout::new(64, 1, &[])?;
     assert!(rt; cells_of(&rt, rt.alloc(), layout, &ANOTHER_THREAD)? == Some([60, 0]));
     Ok(())

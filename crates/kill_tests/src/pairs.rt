@@ -28,6 +28,15 @@ struct Board {
     alone: AtomicU64,
 }
 
+impl Board {
+    fn new() -> Board {
+        Board {
+            ended: AtomicU64::new(0),
+            alone: AtomicU64::new(0),
+        }
+    }
+}
+
 /// How the owner leaves two sleepers. It had the mutex from a dead owner where it spoils it: it frees it without
 /// declaring it consistent.
 #[derive(Clone, Copy, PartialEq, Eq)]
@@ -148,6 +157,31 @@ fn both_follow<R: Threads + Wait + Clock + Sync>(
     )
 }
 
+/// The three parts at once: whether the owner's went so, and what the sleepers were told.
+fn all_act<R: Threads + Wait + Clock + Sync>(
+    rt: &R,
+    bench: &Bench,
+    owner: Pass<Live>,
+    sleepers: (Pass<Live>, Pass<Live>),
+    end: End,
+    board: &Board,
+) -> (bool, (Option<Reply>, Option<Reply>))
+    requires owner { IsLive bench.now owner }
+    requires sleepers { IsLive bench.now sleepers.0 × IsLive bench.now sleepers.1 }
+{
+    let (one, other) = sleepers;
+    thread::join(
+        rt,
+        || -> bool
+            requires { IsLive bench.now owner }
+        { ends(rt, bench, owner, end, board) },
+        || -> (Option<Reply>, Option<Reply>)
+            requires one { IsLive bench.now one }
+            requires other { IsLive bench.now other }
+        { both_follow(rt, bench, one, other, end.other_mutex(), board) },
+    )
+}
+
 /// What came of it.
 #[derive(Clone, Copy)]
 struct Story {
@@ -184,22 +218,9 @@ fn played<R: Threads + Wait + Clock + Sync>(
     let Some(third) = has(rt, &bench, third, 1) else {
         return Ok(None);
     };
-    let board = Board {
-        ended: AtomicU64::new(0),
-        alone: AtomicU64::new(0),
-    };
-    let shared = &bench;
-    let between = &board;
-    let (well, told) = thread::join(
-        rt,
-        || -> bool
-            requires { IsLive shared.now third }
-        { ends(rt, shared, third, end, between) },
-        || -> (Option<Reply>, Option<Reply>)
-            requires one { IsLive shared.now fourth }
-            requires other { IsLive shared.now fifth }
-        { both_follow(rt, shared, fourth, fifth, end.other_mutex(), between) },
-    );
+    let board = Board::new();
+    let sleepers = (fourth, fifth);
+    let (well, told) = all_act(rt, &bench, third, sleepers, end, &board);
     Ok(Some(Story {
         well,
         told: [told.0, told.1],

@@ -35,15 +35,6 @@ enum Act {
     IsKilled,
 }
 
-/// What two threads tell each other.
-#[derive(Drop)]
-struct Board {
-    /// How often the sleeper's fate was asked.
-    asked: AtomicU64,
-    /// Whether the sleeper's call has ended.
-    ended: AtomicU64,
-}
-
 /// A mutex, its sleeper, and what its owner does.
 #[derive(Clone, Copy)]
 struct Plan {
@@ -53,62 +44,94 @@ struct Plan {
     act: Act,
 }
 
-/// The sleeper's part: what its lock is told, if it lives.
-fn sleep<R: Wait>(
-    rt: &R,
-    bench: &Bench,
-    pass: Pass<Live>,
+/// What two threads are to do, and what they tell each other.
+#[derive(Drop)]
+struct Board {
     plan: Plan,
-    board: &Board,
-) -> Option<Reply>
-    requires { IsLive bench.now pass }
-{
-    let mut fate = Asked::new(&board.asked, 0);
-    let made = makes(rt, bench, pass, OnMutex(Lock(plan.mutex)), &mut fate);
-    board.ended.store(1, Ordering::SeqCst);
-    made.map(|made| made.1)
+    /// How often the sleeper's fate was asked.
+    asked: AtomicU64,
+    /// Whether the sleeper's call has ended.
+    ended: AtomicU64,
 }
 
-/// The owner kills the sleeper and frees the mutex once that is dead: whether it went so.
-fn kill_and_free<R: Wait + Clock>(
-    rt: &R,
-    bench: &Bench,
-    pass: Pass<Live>,
-    plan: Plan,
-    board: &Board,
-) -> bool
-    requires { IsLive bench.now pass }
-{
-    let killed = match plan.act {
-        Act::KillsItsProcess => bench.kill_process(rt, 1) == Ok(()),
-        _ => bench.kill(rt, plan.sleeper) == Ok(()),
-    };
-    let died = waits_for(rt, &board.ended, 1);
-    let made = makes(rt, bench, pass, OnMutex(Unlock(plan.mutex)), &mut Never);
-    ends_unless(rt, bench, killed && died && made.is_some())
-}
-
-/// The owner's part: whether it went so.
-fn acts<R: Wait + Clock>(rt: &R, bench: &Bench, pass: Pass<Live>, plan: Plan, board: &Board) -> bool
-    requires { IsLive bench.now pass }
-{
-    if let Act::KillsAfter(asked) = plan.act {
-        let came = waits_for(rt, &board.asked, asked);
-        return kill_and_free(rt, bench, pass, plan, board) && came;
-    }
-    let came = fall_asleep(rt, bench, &[plan.sleeper]);
-    let (call, stops_at) = match plan.act {
-        Act::Kills | Act::KillsAfter(_) | Act::KillsItsProcess => {
-            return kill_and_free(rt, bench, pass, plan, board) && came;
+impl Board {
+    fn new(plan: Plan) -> Board {
+        Board {
+            plan,
+            asked: AtomicU64::new(0),
+            ended: AtomicU64::new(0),
         }
-        Act::Dies => (Consistent(plan.mutex), 1),
-        // an unlock makes six accesses up to the one that frees the mutex
-        Act::DiesOwing => (Unlock(plan.mutex), 7),
-        Act::IsKilled => (Lock(plan.mutex), 0),
-    };
-    let killed = plan.act != Act::IsKilled || bench.kill(rt, plan.owner) == Ok(());
-    let died = dies(rt, bench, pass, OnMutex(call), stops_at);
-    ends_unless(rt, bench, came && killed && died)
+    }
+
+    /// The sleeper's part: what its lock is told, if it lives.
+    fn sleep<R: Wait>(&self, rt: &R, bench: &Bench, pass: Pass<Live>) -> Option<Reply>
+        requires { IsLive bench.now pass }
+    {
+        let mut fate = Asked::new(&self.asked, 0);
+        let made = makes(rt, bench, pass, OnMutex(Lock(self.plan.mutex)), &mut fate);
+        self.ended.store(1, Ordering::SeqCst);
+        made.map(|made| made.1)
+    }
+
+    /// The owner kills the sleeper and frees the mutex once that is dead: whether it went so.
+    fn kill_and_free<R: Wait + Clock>(&self, rt: &R, bench: &Bench, pass: Pass<Live>) -> bool
+        requires { IsLive bench.now pass }
+    {
+        let plan = self.plan;
+        let killed = match plan.act {
+            Act::KillsItsProcess => bench.kill_process(rt, 1) == Ok(()),
+            _ => bench.kill(rt, plan.sleeper) == Ok(()),
+        };
+        let died = waits_for(rt, &self.ended, 1);
+        let made = makes(rt, bench, pass, OnMutex(Unlock(plan.mutex)), &mut Never);
+        ends_unless(rt, bench, killed && died && made.is_some())
+    }
+
+    /// The owner's part: whether it went so.
+    fn act<R: Wait + Clock>(&self, rt: &R, bench: &Bench, pass: Pass<Live>) -> bool
+        requires { IsLive bench.now pass }
+    {
+        let plan = self.plan;
+        if let Act::KillsAfter(asked) = plan.act {
+            let came = waits_for(rt, &self.asked, asked);
+            return self.kill_and_free(rt, bench, pass) && came;
+        }
+        let came = fall_asleep(rt, bench, &[plan.sleeper]);
+        let (call, stops_at) = match plan.act {
+            Act::Kills | Act::KillsAfter(_) | Act::KillsItsProcess => {
+                return self.kill_and_free(rt, bench, pass) && came;
+            }
+            Act::Dies => (Consistent(plan.mutex), 1),
+            // an unlock makes six accesses up to the one that frees the mutex
+            Act::DiesOwing => (Unlock(plan.mutex), 7),
+            Act::IsKilled => (Lock(plan.mutex), 0),
+        };
+        let killed = plan.act != Act::IsKilled || bench.kill(rt, plan.owner) == Ok(());
+        let died = dies(rt, bench, pass, OnMutex(call), stops_at);
+        ends_unless(rt, bench, came && killed && died)
+    }
+
+    /// Both parts at once: whether the owner's went so, and what the sleeper's lock is told.
+    fn both<R: Threads + Wait + Clock + Sync>(
+        &self,
+        rt: &R,
+        bench: &Bench,
+        owner: Pass<Live>,
+        sleeper: Pass<Live>,
+    ) -> (bool, Option<Reply>)
+        requires owner { IsLive bench.now owner }
+        requires sleeper { IsLive bench.now sleeper }
+    {
+        thread::join(
+            rt,
+            || -> bool
+                requires { IsLive bench.now owner }
+            { self.act(rt, bench, owner) },
+            || -> Option<Reply>
+                requires { IsLive bench.now sleeper }
+            { self.sleep(rt, bench, sleeper) },
+        )
+    }
 }
 
 /// What came of a plan.
@@ -147,21 +170,7 @@ fn played<R: Threads + Wait + Clock + Sync>(
             cell: 0,
         });
     };
-    let board = Board {
-        asked: AtomicU64::new(0),
-        ended: AtomicU64::new(0),
-    };
-    let shared = &bench;
-    let told = &board;
-    let (well, sleeper) = thread::join(
-        rt,
-        || -> bool
-            requires { IsLive shared.now fourth }
-        { acts(rt, shared, fourth, plan, told) },
-        || -> Option<Reply>
-            requires { IsLive shared.now fifth }
-        { sleep(rt, shared, fifth, plan, told) },
-    );
+    let (well, sleeper) = Board::new(plan).both(rt, &bench, fourth, fifth);
     let next = makes(rt, &bench, third, OnMutex(TryLock(mutex)), &mut Never).map(|made| made.1);
     Ok(Story {
         well: well && taken == OK,

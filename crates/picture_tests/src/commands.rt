@@ -1,7 +1,7 @@
 //! `rfx-draw` from the words of its command line on: its forms, each fault, files that are there or not, readers and
 //! writers that fail.
 
-use crate::answers::answer_of;
+use crate::answers::{USAGE, Wanted, answer_of};
 use draw_report::{OUT_OF_MEMORY, run};
 use std::alloc::{AllocError, Global};
 use std::io::{self, ErrorKind};
@@ -17,101 +17,98 @@ fn files_of(text: &[u8]) -> Folder<'_> {
     Folder::with_script(SCRIPT, text)
 }
 
-pub(crate) const USAGE: &str = "usage: rfx-draw [--svg] [--script SCRIPT] [FILE] | --legend\n";
-
 const LEGEND: &str =
     "A row is a line of the trace: the number of its event, who owns each mutex behind it, and a lane for each thread.\n┌ lock m0        the thread begins a call\n● m0 OK          the call takes effect, with its reply\n└ OK             the call returns\nz on m0          the thread falls asleep\n> woken, < woken it is woken by the thread from whose lane the arrow comes\n> to m0, < to m0 it is moved, asleep, to the mutex\n○ woken          it left its queue by itself, or no line tells who woke it\n╳ killed         the thread is killed\n! m0 owner died  the kernel marks a mutex that it owned\n† reaped         the kernel has gone through its list\n* renewed        it lives anew: its id is used again\nA lane shows what its thread does:\n·   it is in no call\n│   it is in a call\nz   it is asleep in a call\n╎   it was killed, and the kernel goes through its list\n†   it was reaped\nBelow a mutex stands its owner:\nt1    t1 owns it\nt1!   t1 owns it, and has to declare it consistent: an owner died\n-!    an owner died, and nobody was told yet\n-     nobody owns it\nlost  nobody can have it, unless it is made anew\n";
 
-/// A file, a command line, what comes of it, and how often a file is opened.
-static LINES: [(&[u8], &[&str], u8, &str, &str, usize); 22] = [
-    (TRACE, &["rfx-draw"], 0, TEXT, "", 1),
-    (TRACE, &["rfx-draw", "f"], 0, TEXT, "", 1),
-    (TRACE, &["rfx-draw", "/dev/stdin"], 0, TEXT, "", 1),
-    (TRACE, &["rfx-draw", "-f"], 2, "", USAGE, 0),
-    (TRACE, &["rfx-draw", "-"], 2, "", USAGE, 0),
-    (TRACE, &["rfx-draw", "--help"], 2, "", USAGE, 0),
-    (TRACE, &["rfx-draw", "f", "f"], 2, "", USAGE, 0),
-    (TRACE, &["rfx-draw", "f", "--svg"], 2, "", USAGE, 0),
-    (TRACE, &["rfx-draw", "--svg", "-f"], 2, "", USAGE, 0),
-    (TRACE, &["rfx-draw", "--svg", "--svg"], 2, "", USAGE, 0),
-    (TRACE, &["rfx-draw", "--svg", "f", "f"], 2, "", USAGE, 0),
-    (TRACE, &["rfx-draw", "--legend", "f"], 2, "", USAGE, 0),
-    (TRACE, &["rfx-draw", "--legend"], 0, LEGEND, "", 0),
-    (TRACE, &[], 2, "", USAGE, 0),
+/// Command lines, what is printed, and how often a file is opened.
+static DRAWN: [(&[&str], &str, usize); 4] = [
+    (&["rfx-draw"], TEXT, 1),
+    (&["rfx-draw", "f"], TEXT, 1),
+    (&["rfx-draw", "/dev/stdin"], TEXT, 1),
+    (&["rfx-draw", "--legend"], LEGEND, 0),
+];
+
+/// Other command lines.
+static OTHERS: [&[&str]; 10] = [
+    &["rfx-draw", "-f"],
+    &["rfx-draw", "-"],
+    &["rfx-draw", "--help"],
+    &["rfx-draw", "f", "f"],
+    &["rfx-draw", "f", "--svg"],
+    &["rfx-draw", "--svg", "-f"],
+    &["rfx-draw", "--svg", "--svg"],
+    &["rfx-draw", "--svg", "f", "f"],
+    &["rfx-draw", "--legend", "f"],
+    &[],
+];
+
+/// Traces with a fault, a command line, and what is told.
+static FAULTS: [(&[u8], &[&str], &str); 4] = [
     (
         b"trace 1 1 0\n\xff\nend 1\n",
         &["rfx-draw", "f"],
-        1,
-        "",
         "rfx-draw: line 2: fault 1: not UTF-8\n",
-        1,
     ),
     (
         b"trace 1 1 0\n1 begin t1\nend 1\n",
         &["rfx-draw", "--svg", "f"],
-        1,
-        "",
         "rfx-draw: line 2: fault 2: unknown word\n",
-        1,
     ),
     (
         b"trace 1 1 0\n1 begin t2 lock m0\nend 1\n",
         &["rfx-draw", "f"],
-        1,
-        "",
         "rfx-draw: line 2: fault 3: number out of range\n",
-        1,
     ),
     (
         b"trace 1 1 0\n1 begin t1 lock m0\n",
         &["rfx-draw"],
-        1,
-        "",
         "rfx-draw: line 3: fault 5: cut\n",
-        1,
     ),
+];
+
+/// Files that can't be read, and what is told.
+static NOT_READ: [(&[&str], &str); 4] = [
     (
-        TRACE,
         &["rfx-draw", "endless"],
-        1,
-        "",
         "rfx-draw: line 1: fault 4: too long\n",
-        1,
     ),
     (
-        TRACE,
         &["rfx-draw", "--svg", "no file"],
-        1,
-        "",
         "rfx-draw: cannot read no file\n",
-        1,
     ),
     // A name without a letter, in a message that is written all the same.
-    (
-        TRACE,
-        &["rfx-draw", ""],
-        1,
-        "",
-        "rfx-draw: cannot read \n",
-        1,
-    ),
-    (
-        TRACE,
-        &["rfx-draw", "broken"],
-        1,
-        "",
-        "rfx-draw: cannot read broken\n",
-        1,
-    ),
+    (&["rfx-draw", ""], "rfx-draw: cannot read \n"),
+    (&["rfx-draw", "broken"], "rfx-draw: cannot read broken\n"),
 ];
 
 #[test]
 fn command_lines_are_served(rt: HostRuntime) {
-    for (file, line, status, printed, told, opened) in &LINES {
-        let files = files_of(*file);
-        let answered = answer_of(rt.alloc(), words(rt.alloc(), *line), &files);
-        assert!(rt; answered.is(*status, *printed, *told));
-        assert!(rt; files.opened.get() == *opened);
+    for (line, printed, opened) in &DRAWN {
+        let wanted = Wanted::printed(*printed, *opened);
+        assert!(rt;
+            wanted.comes_of(rt.alloc(), *line, &files_of(TRACE)),
+            "of {line:?}"
+        );
+    }
+    for line in &OTHERS {
+        assert!(rt;
+            Wanted::usage().comes_of(rt.alloc(), *line, &files_of(TRACE)),
+            "of {line:?}"
+        );
+    }
+    for (trace, line, told) in &FAULTS {
+        let wanted = Wanted::told(*told, 1);
+        assert!(rt;
+            wanted.comes_of(rt.alloc(), *line, &files_of(*trace)),
+            "not {told}"
+        );
+    }
+    for (line, told) in &NOT_READ {
+        let wanted = Wanted::told(*told, 1);
+        assert!(rt;
+            wanted.comes_of(rt.alloc(), *line, &files_of(TRACE)),
+            "of {line:?}"
+        );
     }
 }
 

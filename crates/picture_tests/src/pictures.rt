@@ -31,68 +31,33 @@ fn is_drawn(alloc: Global, trace: &str, picture: &str) -> bool {
     is_drawn_with(alloc, &Names::none(alloc), trace, picture)
 }
 
-/// An owner dies, and the next one is told.
-#[test]
-fn dead_owner(rt: HostRuntime) {
-    assert!(rt;
-        is_drawn(
-            rt.alloc(),
-            "trace 2 1 0\n1 begin t1 lock m0\n4 point t1 m0 lock OK\n9 return t1 OK\n10 kill t1\n16 death t1 m0\n16 reaped t1\n17 begin t2 lock m0\n20 point t2 m0 lock EOWNERDEAD\n25 return t2 EOWNERDEAD\n26 begin t2 consistent m0\n28 point t2 m0 consistent OK\n28 return t2 OK\nend 28\n",
-            " event  m0   t1                      t2\n     1  -    ┌ lock m0               ·\n     4  t1   ● m0 OK                 ·\n     9  t1   └ OK                    ·\n    10  t1   ╳ killed                ·\n    16  -!   ! m0 owner died         ·\n    16  -!   † reaped                ·\n    17  -!   †                       ┌ lock m0\n    20  t2!  †                       ● m0 EOWNERDEAD\n    25  t2!  †                       └ EOWNERDEAD\n    26  t2!  †                       ┌ consistent m0\n    28  t2   †                       ● m0 OK\n    28  t2   †                       └ OK\n    28  end\n",
-        )
-    );
-}
-
-/// Two wait on a condition variable, a third moves both to the mutex and is killed; the mutex is lost then.
-#[test]
-fn sleepers_moves_and_a_death(rt: HostRuntime) {
-    assert!(rt;
-        is_drawn(
-            rt.alloc(),
-            "trace 3 2 1\n1 begin t1 lock m0\n2 point t1 m0 lock OK\n3 return t1 OK\n4 begin t1 wait c0 m0\n5 point t1 m0 unlock OK\n6 sleep t1 c0\n7 begin t2 lock m0\n8 point t2 m0 lock OK\n9 return t2 OK\n10 begin t2 wait c0 m0\n11 point t2 m0 unlock OK\n12 sleep t2 c0\n13 begin t3 lock m0\n14 point t3 m0 lock OK\n15 return t3 OK\n16 begin t3 broadcast c0 m0\n17 point t3 m0 broadcast OK\n18 move t1 m0\n18 move t2 m0\n18 return t3 OK\n19 begin t3 trylock m1\n20 point t3 m1 trylock OK\n21 return t3 OK\n22 kill t3\n25 death t3 m1\n27 death t3 m0\n28 wake t1\n29 reaped t3\n31 point t1 m0 lock EOWNERDEAD\n33 return t1 EOWNERDEAD\n34 begin t1 unlock m0\n35 point t1 m0 unlock OK\n36 wake t2\n36 return t1 OK\n37 point t2 m0 lock ENOTRECOVERABLE\n38 return t2 ENOTRECOVERABLE\nend 40\n",
-            " event  m0   m1   t1                      t2                      t3\n     1  -    -    ┌ lock m0               ·                       ·\n     2  t1   -    ● m0 OK                 ·                       ·\n     3  t1   -    └ OK                    ·                       ·\n     4  t1   -    ┌ wait c0 m0            ·                       ·\n     5  -    -    ● m0 unlock OK          ·                       ·\n     6  -    -    z on c0                 ·                       ·\n     7  -    -    z                       ┌ lock m0               ·\n     8  t2   -    z                       ● m0 OK                 ·\n     9  t2   -    z                       └ OK                    ·\n    10  t2   -    z                       ┌ wait c0 m0            ·\n    11  -    -    z                       ● m0 unlock OK          ·\n    12  -    -    z                       z on c0                 ·\n    13  -    -    z                       z                       ┌ lock m0\n    14  t3   -    z                       z                       ● m0 OK\n    15  t3   -    z                       z                       └ OK\n    16  t3   -    z                       z                       ┌ broadcast c0 m0\n    17  t3   -    z                       z                       ● m0 OK\n    18  t3   -    < to m0 ────────────────────────────────────────┤\n    18  t3   -    z                       < to m0 ────────────────┤\n    18  t3   -    z                       z                       └ OK\n    19  t3   -    z                       z                       ┌ trylock m1\n    20  t3   t3   z                       z                       ● m1 OK\n    21  t3   t3   z                       z                       └ OK\n    22  t3   t3   z                       z                       ╳ killed\n    25  t3   -!   z                       z                       ! m1 owner died\n    27  -!   -!   z                       z                       ! m0 owner died\n    28  -!   -!   ○ woken                 z                       ╎\n    29  -!   -!   │                       z                       † reaped\n    31  t1!  -!   ● m0 lock EOWNERDEAD    z                       †\n    33  t1!  -!   └ EOWNERDEAD            z                       †\n    34  t1!  -!   ┌ unlock m0             z                       †\n    35  lost -!   ● m0 OK                 z                       †\n    36  lost -!   ├───────────────────────> woken                 †\n    36  lost -!   └ OK                    │                       †\n    37  lost -!   ·                       ● m0 lock ENOTRECOVERABLE\n    38  lost -!   ·                       └ ENOTRECOVERABLE       †\n    40  end\n",
-        )
-    );
-}
-
-/// Lanes that have no room for words.
-#[test]
-fn ten_threads(rt: HostRuntime) {
-    assert!(rt;
-        is_drawn(
-            rt.alloc(),
-            "trace 10 5 0\n1 begin t3 lock m4\n2 point t3 m4 lock OK\n3 return t3 OK\n4 begin t9 lock m4\n5 sleep t9 m4\n6 begin t3 unlock m4\n7 point t3 m4 unlock OK\n8 wake t9\n8 return t3 OK\n9 point t9 m4 lock OK\n10 kill t10\n11 begin t1 unlock m0\n11 point t1 m0 unlock EPERM\n11 return t1 EPERM\nend 11\n",
-            " event  m4   m0   t   t   t   t   t   t   t   t   t   1\n                  1   2   3   4   5   6   7   8   9   0\n     1  -    -    ·   ·   ┌   ·   ·   ·   ·   ·   ·   ·  t3 lock m4\n     2  t3   -    ·   ·   ●   ·   ·   ·   ·   ·   ·   ·  t3 m4 OK\n     3  t3   -    ·   ·   └   ·   ·   ·   ·   ·   ·   ·  t3 OK\n     4  t3   -    ·   ·   ·   ·   ·   ·   ·   ·   ┌   ·  t9 lock m4\n     5  t3   -    ·   ·   ·   ·   ·   ·   ·   ·   z   ·  t9 on m4\n     6  t3   -    ·   ·   ┌   ·   ·   ·   ·   ·   z   ·  t3 unlock m4\n     7  -    -    ·   ·   ●   ·   ·   ·   ·   ·   z   ·  t3 m4 OK\n     8  -    -    ·   ·   ├───────────────────────>   ·  t9 woken\n     8  -    -    ·   ·   └   ·   ·   ·   ·   ·   │   ·  t3 OK\n     9  t9   -    ·   ·   ·   ·   ·   ·   ·   ·   ●   ·  t9 m4 OK\n    10  t9   -    ·   ·   ·   ·   ·   ·   ·   ·   │   ╳  t10 killed\n    11  t9   -    ┌   ·   ·   ·   ·   ·   ·   ·   │   ╎  t1 unlock m0\n    11  t9   -    ●   ·   ·   ·   ·   ·   ·   ·   │   ╎  t1 m0 EPERM\n    11  t9   -    └   ·   ·   ·   ·   ·   ·   ·   │   ╎  t1 EPERM\n    11  end\n",
-        )
-    );
-}
-
-/// Words that are longer than their lane cover the next one; and of three mutexes the one that is used has a band.
-#[test]
-fn eight_threads(rt: HostRuntime) {
-    assert!(rt;
-        is_drawn(
-            rt.alloc(),
-            "trace 8 3 0\n1 begin t7 consistent m0\n2 begin t8 lock m1\n3 point t7 m0 consistent EPERM\nend 3\n",
-            " event  m0   t1        t2        t3        t4        t5        t6        t7        t8\n     1  -    ·         ·         ·         ·         ·         ·         ┌ consistent m0\n     2  -    ·         ·         ·         ·         ·         ·         │         ┌ lock m1\n     3  -    ·         ·         ·         ·         ·         ·         ● m0 EPERM\n     3  end\n",
-        )
-    );
-}
-
-/// Words behind an arrow that fill their lane hide the next one's sign.
-#[test]
-fn seven_threads(rt: HostRuntime) {
-    assert!(rt;
-        is_drawn(
-            rt.alloc(),
-            "trace 7 1001 0\n1 begin t1 lock m0\n1 move t2 m1000\n1 move t1 m2\nend 1\n",
-            " event  t1        t2        t3        t4        t5        t6        t7\n     1  ┌ lock m0 ·         ·         ·         ·         ·         ·\n     1  ├─────────> to m1000          ·         ·         ·         ·\n     1  ○ to m2   ·         ·         ·         ·         ·         ·\n     1  end\n",
-        )
-    );
-}
-
-/// Traces and their pictures: lanes of each width, and what else has a place of its own in a row.
-static LANES: [(&str, &str); 18] = [
+/// Traces and their pictures: whole schedules, lanes of each width, and what else has a place of its own in a row.
+static PICTURES: [(&str, &str); 24] = [
+    // An owner dies, and the next one is told.
+    (
+        "trace 2 1 0\n1 begin t1 lock m0\n4 point t1 m0 lock OK\n9 return t1 OK\n10 kill t1\n16 death t1 m0\n16 reaped t1\n17 begin t2 lock m0\n20 point t2 m0 lock EOWNERDEAD\n25 return t2 EOWNERDEAD\n26 begin t2 consistent m0\n28 point t2 m0 consistent OK\n28 return t2 OK\nend 28\n",
+        " event  m0   t1                      t2\n     1  -    ┌ lock m0               ·\n     4  t1   ● m0 OK                 ·\n     9  t1   └ OK                    ·\n    10  t1   ╳ killed                ·\n    16  -!   ! m0 owner died         ·\n    16  -!   † reaped                ·\n    17  -!   †                       ┌ lock m0\n    20  t2!  †                       ● m0 EOWNERDEAD\n    25  t2!  †                       └ EOWNERDEAD\n    26  t2!  †                       ┌ consistent m0\n    28  t2   †                       ● m0 OK\n    28  t2   †                       └ OK\n    28  end\n",
+    ),
+    // Two wait on a condition variable, a third moves both to the mutex and is killed; the mutex is lost then.
+    (
+        "trace 3 2 1\n1 begin t1 lock m0\n2 point t1 m0 lock OK\n3 return t1 OK\n4 begin t1 wait c0 m0\n5 point t1 m0 unlock OK\n6 sleep t1 c0\n7 begin t2 lock m0\n8 point t2 m0 lock OK\n9 return t2 OK\n10 begin t2 wait c0 m0\n11 point t2 m0 unlock OK\n12 sleep t2 c0\n13 begin t3 lock m0\n14 point t3 m0 lock OK\n15 return t3 OK\n16 begin t3 broadcast c0 m0\n17 point t3 m0 broadcast OK\n18 move t1 m0\n18 move t2 m0\n18 return t3 OK\n19 begin t3 trylock m1\n20 point t3 m1 trylock OK\n21 return t3 OK\n22 kill t3\n25 death t3 m1\n27 death t3 m0\n28 wake t1\n29 reaped t3\n31 point t1 m0 lock EOWNERDEAD\n33 return t1 EOWNERDEAD\n34 begin t1 unlock m0\n35 point t1 m0 unlock OK\n36 wake t2\n36 return t1 OK\n37 point t2 m0 lock ENOTRECOVERABLE\n38 return t2 ENOTRECOVERABLE\nend 40\n",
+        " event  m0   m1   t1                      t2                      t3\n     1  -    -    ┌ lock m0               ·                       ·\n     2  t1   -    ● m0 OK                 ·                       ·\n     3  t1   -    └ OK                    ·                       ·\n     4  t1   -    ┌ wait c0 m0            ·                       ·\n     5  -    -    ● m0 unlock OK          ·                       ·\n     6  -    -    z on c0                 ·                       ·\n     7  -    -    z                       ┌ lock m0               ·\n     8  t2   -    z                       ● m0 OK                 ·\n     9  t2   -    z                       └ OK                    ·\n    10  t2   -    z                       ┌ wait c0 m0            ·\n    11  -    -    z                       ● m0 unlock OK          ·\n    12  -    -    z                       z on c0                 ·\n    13  -    -    z                       z                       ┌ lock m0\n    14  t3   -    z                       z                       ● m0 OK\n    15  t3   -    z                       z                       └ OK\n    16  t3   -    z                       z                       ┌ broadcast c0 m0\n    17  t3   -    z                       z                       ● m0 OK\n    18  t3   -    < to m0 ────────────────────────────────────────┤\n    18  t3   -    z                       < to m0 ────────────────┤\n    18  t3   -    z                       z                       └ OK\n    19  t3   -    z                       z                       ┌ trylock m1\n    20  t3   t3   z                       z                       ● m1 OK\n    21  t3   t3   z                       z                       └ OK\n    22  t3   t3   z                       z                       ╳ killed\n    25  t3   -!   z                       z                       ! m1 owner died\n    27  -!   -!   z                       z                       ! m0 owner died\n    28  -!   -!   ○ woken                 z                       ╎\n    29  -!   -!   │                       z                       † reaped\n    31  t1!  -!   ● m0 lock EOWNERDEAD    z                       †\n    33  t1!  -!   └ EOWNERDEAD            z                       †\n    34  t1!  -!   ┌ unlock m0             z                       †\n    35  lost -!   ● m0 OK                 z                       †\n    36  lost -!   ├───────────────────────> woken                 †\n    36  lost -!   └ OK                    │                       †\n    37  lost -!   ·                       ● m0 lock ENOTRECOVERABLE\n    38  lost -!   ·                       └ ENOTRECOVERABLE       †\n    40  end\n",
+    ),
+    // Lanes that have no room for words.
+    (
+        "trace 10 5 0\n1 begin t3 lock m4\n2 point t3 m4 lock OK\n3 return t3 OK\n4 begin t9 lock m4\n5 sleep t9 m4\n6 begin t3 unlock m4\n7 point t3 m4 unlock OK\n8 wake t9\n8 return t3 OK\n9 point t9 m4 lock OK\n10 kill t10\n11 begin t1 unlock m0\n11 point t1 m0 unlock EPERM\n11 return t1 EPERM\nend 11\n",
+        " event  m4   m0   t   t   t   t   t   t   t   t   t   1\n                  1   2   3   4   5   6   7   8   9   0\n     1  -    -    ·   ·   ┌   ·   ·   ·   ·   ·   ·   ·  t3 lock m4\n     2  t3   -    ·   ·   ●   ·   ·   ·   ·   ·   ·   ·  t3 m4 OK\n     3  t3   -    ·   ·   └   ·   ·   ·   ·   ·   ·   ·  t3 OK\n     4  t3   -    ·   ·   ·   ·   ·   ·   ·   ·   ┌   ·  t9 lock m4\n     5  t3   -    ·   ·   ·   ·   ·   ·   ·   ·   z   ·  t9 on m4\n     6  t3   -    ·   ·   ┌   ·   ·   ·   ·   ·   z   ·  t3 unlock m4\n     7  -    -    ·   ·   ●   ·   ·   ·   ·   ·   z   ·  t3 m4 OK\n     8  -    -    ·   ·   ├───────────────────────>   ·  t9 woken\n     8  -    -    ·   ·   └   ·   ·   ·   ·   ·   │   ·  t3 OK\n     9  t9   -    ·   ·   ·   ·   ·   ·   ·   ·   ●   ·  t9 m4 OK\n    10  t9   -    ·   ·   ·   ·   ·   ·   ·   ·   │   ╳  t10 killed\n    11  t9   -    ┌   ·   ·   ·   ·   ·   ·   ·   │   ╎  t1 unlock m0\n    11  t9   -    ●   ·   ·   ·   ·   ·   ·   ·   │   ╎  t1 m0 EPERM\n    11  t9   -    └   ·   ·   ·   ·   ·   ·   ·   │   ╎  t1 EPERM\n    11  end\n",
+    ),
+    // Words that are longer than their lane cover the next one; and of three mutexes the one that is used has a band.
+    (
+        "trace 8 3 0\n1 begin t7 consistent m0\n2 begin t8 lock m1\n3 point t7 m0 consistent EPERM\nend 3\n",
+        " event  m0   t1        t2        t3        t4        t5        t6        t7        t8\n     1  -    ·         ·         ·         ·         ·         ·         ┌ consistent m0\n     2  -    ·         ·         ·         ·         ·         ·         │         ┌ lock m1\n     3  -    ·         ·         ·         ·         ·         ·         ● m0 EPERM\n     3  end\n",
+    ),
+    // Words behind an arrow that fill their lane hide the next one's sign.
+    (
+        "trace 7 1001 0\n1 begin t1 lock m0\n1 move t2 m1000\n1 move t1 m2\nend 1\n",
+        " event  t1        t2        t3        t4        t5        t6        t7\n     1  ┌ lock m0 ·         ·         ·         ·         ·         ·\n     1  ├─────────> to m1000          ·         ·         ·         ·\n     1  ○ to m2   ·         ·         ·         ·         ·         ·\n     1  end\n",
+    ),
     // Two lanes of 24 columns, and bands for eight mutexes.
     (
         "trace 2 8 0\n1 begin t1 lock m0\nend 1\n",
@@ -184,12 +149,17 @@ static LANES: [(&str, &str); 18] = [
         "trace 2 2 0\n1 death t1 m0\n2 point t1 m0 unlock OK\n3 death t1 m0\nend 3\n",
         " event  m0   m1   t1                      t2\n     1  -!   -    ! m0 owner died         ·\n     2  lost -    ● m0 unlock OK          ·\n     3  lost -    ! m0 owner died         ·\n     3  end\n",
     ),
+    // A trace that is not legal is drawn as it stands.
+    (
+        "trace 1 1 0\n2 wake t1\n1 death t1 m0\nend 1\n",
+        " event  m0   t1\n     2  -    ○ woken\n     1  -!   ! m0 owner died\n     1  end\n",
+    ),
 ];
 
 #[test]
-fn lanes_of_each_width(rt: HostRuntime) {
-    for (trace, picture) in &LANES {
-        assert!(rt; is_drawn(rt.alloc(), *trace, *picture));
+fn pictures_are_drawn(rt: HostRuntime) {
+    for (trace, picture) in &PICTURES {
+        assert!(rt; is_drawn(rt.alloc(), *trace, *picture), "of {trace}");
     }
 }
 
@@ -257,20 +227,7 @@ fn names_stand_in_place_of_numbers(rt: HostRuntime) -> Result<(), AllocError> {
     Ok(())
 }
 
-/// A trace that is not legal is drawn as it stands, and one that is no trace is refused as the judge of traces refuses
-/// it.
-#[test]
-fn illegal_and_faulty_traces(rt: HostRuntime) {
-    assert!(rt;
-        is_drawn(
-            rt.alloc(),
-            "trace 1 1 0\n2 wake t1\n1 death t1 m0\nend 1\n",
-            " event  m0   t1\n     2  -    ○ woken\n     1  -!   ! m0 owner died\n     1  end\n",
-        )
-    );
-}
-
-/// Texts that are no traces.
+/// Texts that are no traces: they are refused as the judge of traces refuses them.
 static FAULTY: [&str; 6] = [
     "",
     "trace 2 1 0\n1 begin t1 lock m0\n",

@@ -41,64 +41,69 @@ const TRACE: &str = "trace 1 1 0\n1 begin t1 unlock m0\n2 point t1 m0 unlock EPE
 
 const ILLEGAL: &str = "trace 1 1 0\n1 return t1 OK\nend 1\n";
 
-/// A file, a command line, what comes of it, and how often a file is opened.
-static LINES: [(&str, &[&str], u8, &str, &str, usize); 11] = [
-    (SCRIPT, &["rfx", "run", "f"], 0, TRACE, "", 1),
+/// Files, command lines, the status, and what is printed.
+static PRINTED: [(&str, &[&str], u8, &str); 5] = [
+    (SCRIPT, &["rfx", "run", "f"], 0, TRACE),
     (
         SCRIPT,
         &["rfx", "run", "--table", "f"],
         0,
         "thread a idle 0 EPERM\nmutex m 0000000000000000 - -\n",
-        "",
-        1,
     ),
     (
         SCRIPT,
         &["rfx", "threads", "f"],
         0,
         "replies a EPERM\nmutex m 0000000000000000 - -\n",
-        "",
-        1,
     ),
-    (TRACE, &["rfx", "check", "f"], 0, "legal 1 points\n", "", 1),
-    (
-        ILLEGAL,
-        &["rfx", "check", "f"],
-        1,
-        "illegal at line 2\n",
-        "",
-        1,
-    ),
+    (TRACE, &["rfx", "check", "f"], 0, "legal 1 points\n"),
+    (ILLEGAL, &["rfx", "check", "f"], 1, "illegal at line 2\n"),
+];
+
+/// Files, command lines, and what is told.
+static TOLD: [(&str, &[&str], &str); 3] = [
     (
         ILLEGAL,
         &["rfx", "run", "f"],
-        1,
-        "",
         "rfx: line 1: fault 2: unknown word\n",
-        1,
     ),
     (
         SCRIPT,
         &["rfx", "run", "no file"],
-        1,
-        "",
         "rfx: cannot read no file\n",
-        1,
     ),
     // A name without a letter, in a message that is written all the same.
-    (SCRIPT, &["rfx", "run", ""], 1, "", "rfx: cannot read \n", 1),
-    (SCRIPT, &["rfx", "run"], 2, "", USAGE, 0),
-    (SCRIPT, &["rfx", "--help"], 2, "", USAGE, 0),
-    (SCRIPT, &[], 2, "", USAGE, 0),
+    (SCRIPT, &["rfx", "run", ""], "rfx: cannot read \n"),
 ];
+
+/// Other command lines: no file is opened.
+static OTHERS: [&[&str]; 3] = [&["rfx", "run"], &["rfx", "--help"], &[]];
 
 #[test]
 fn command_lines_are_served(rt: HostRuntime) {
-    for (file, line, status, printed, told, opened) in &LINES {
+    for (file, line, status, printed) in &PRINTED {
         let files = Folder::new(file.as_bytes());
         let answered = answered(&rt, words(rt.alloc(), *line), &files);
-        assert!(rt; answered.is(*status, *printed, *told));
-        assert!(rt; files.opened.get() == *opened);
+        assert!(rt;
+            answered.is(*status, *printed, "") && files.opened.get() == 1,
+            "of {line:?}"
+        );
+    }
+    for (file, line, told) in &TOLD {
+        let files = Folder::new(file.as_bytes());
+        let answered = answered(&rt, words(rt.alloc(), *line), &files);
+        assert!(rt;
+            answered.is(1, "", *told) && files.opened.get() == 1,
+            "of {line:?}"
+        );
+    }
+    for line in &OTHERS {
+        let files = Folder::new(SCRIPT.as_bytes());
+        let answered = answered(&rt, words(rt.alloc(), *line), &files);
+        assert!(rt;
+            answered.is(2, "", USAGE) && files.opened.get() == 0,
+            "of {line:?}"
+        );
     }
 }
 

@@ -1,5 +1,6 @@
 //! The program: command lines, readers, writers, and what is written of a script.
 
+use crate::forms::{MANY, MANY_TEXT, PHASES, PHASES_TEXT, SKIPPED, SKIPPED_TEXT};
 use crate::served::{is_served_or_wants_memory, is_told_of_room, served};
 use memorymap::NoMem;
 use report::{CANNOT_READ, CANNOT_WRITE, Form, OUT_OF_MEMORY, USAGE, form_of_words, serve};
@@ -85,20 +86,11 @@ fn messages_are_as_documented(rt: HostRuntime) {
 const ROW: &str =
     "thread a\nmutex m\ncall a unlock m\ncall a trylock m\ncall a trylock m\ncall a unlock m\n";
 
-const ROW_TEXT: &str = "trace 1 1 0\n\
-    1 begin t1 unlock m0\n\
-    2 point t1 m0 unlock EPERM\n\
-    2 return t1 EPERM\n\
-    3 begin t1 trylock m0\n\
-    6 point t1 m0 trylock OK\n\
-    11 return t1 OK\n\
-    12 begin t1 trylock m0\n\
-    14 point t1 m0 trylock EBUSY\n\
-    15 return t1 EBUSY\n\
-    16 begin t1 unlock m0\n\
-    22 point t1 m0 unlock OK\n\
-    23 return t1 OK\n\
-    end 23\n";
+const ROW_TEXT: &str =
+    "trace 1 1 0\n1 begin t1 unlock m0\n2 point t1 m0 unlock EPERM\n2 return t1 EPERM\n\
+    3 begin t1 trylock m0\n6 point t1 m0 trylock OK\n11 return t1 OK\n\
+    12 begin t1 trylock m0\n14 point t1 m0 trylock EBUSY\n15 return t1 EBUSY\n\
+    16 begin t1 unlock m0\n22 point t1 m0 unlock OK\n23 return t1 OK\nend 23\n";
 
 /// The same from a reader that gives a byte at a call.
 fn run_slowly(
@@ -138,7 +130,10 @@ static REFUSED: [(&[u8], &str); 5] = [
 #[test]
 fn a_fault_is_told(rt: HostRuntime) {
     for (script, told) in &REFUSED {
-        assert!(rt; run_slowly(&rt, *script, false).is(1, "", *told));
+        assert!(rt;
+            run_slowly(&rt, *script, false).is(1, "", *told),
+            "not {told}"
+        );
     }
 }
 
@@ -173,17 +168,64 @@ fn the_longest_script_is_run(rt: HostRuntime) -> Result<(), AllocError> {
         let script = script_of(rt.alloc(), *length)?;
         let mut input = slow_reader(script.as_slice(), false);
         let served = served(&rt, &Form::Run("f"), &mut input);
-        assert!(rt; served.status == *status && served.told.as_slice() == told.as_bytes());
-        assert!(rt; input.left.len() == *left);
+        assert!(rt;
+            served.status == *status && served.told.as_slice() == told.as_bytes(),
+            "{length}"
+        );
+        assert_eq!(rt; input.left.len(), *left, "of {length}");
     }
     Ok(())
 }
 
+/// One thread is refused.
+const REFUSED_CALL: &str = "thread a\nmutex m\ncall a unlock m\n";
+
+/// A script for each form, and what is printed of it.
+static PRINTED: [(Form<'static>, &str, &str); 3] = [
+    (Form::Run("f"), ROW, ROW_TEXT),
+    (
+        Form::Table("f"),
+        REFUSED_CALL,
+        "thread a idle 0 EPERM\nmutex m 0000000000000000 - -\n",
+    ),
+    (Form::Threads("f"), PHASES, PHASES_TEXT),
+];
+
 #[test]
-fn a_trace_that_cannot_be_written_is_told(rt: HostRuntime) {
-    for room in 0..ROW_TEXT.len() {
-        let mut input = slow_reader(ROW.as_bytes(), false);
-        assert!(rt; is_told_of_room(&rt, &Form::Run("f"), &mut input, ROW_TEXT, room));
+fn a_text_that_cannot_be_written_is_told(rt: HostRuntime) {
+    for (form, script, text) in &PRINTED {
+        for room in 0..text.len() {
+            let mut input = slow_reader(script.as_bytes(), false);
+            assert!(rt;
+                is_told_of_room(&rt, form, &mut input, *text, room),
+                "{room} of {text}"
+            );
+        }
+    }
+}
+
+/// Passes too where any one allocation fails: nothing is printed then, and want of memory is told.
+#[test]
+fn memory(rt: HostRuntime) {
+    for (form, script, text) in &PRINTED {
+        let mut input = slow_reader(script.as_bytes(), false);
+        assert!(rt;
+            is_served_or_wants_memory(&rt, form, &mut input, *text),
+            "of {text}"
+        );
+    }
+}
+
+/// A thread that dies, and five threads.
+static PRINTED_OF_THREADS: [(&str, &str); 2] = [(SKIPPED, SKIPPED_TEXT), (MANY, MANY_TEXT)];
+
+/// Passes too where any one allocation fails: the same.
+#[test]
+fn memory_for_threads(rt: HostRuntime) {
+    for (script, text) in &PRINTED_OF_THREADS {
+        let mut input = script.as_bytes();
+        let is_so = is_served_or_wants_memory(&rt, &Form::Threads("f"), &mut input, *text);
+        assert!(rt; is_so, "of {text}");
     }
 }
 
@@ -203,13 +245,6 @@ fn usage_is_told(rt: HostRuntime) {
     let mut input = slow_reader(ROW.as_bytes(), false);
     assert!(rt; served(&rt, &Form::Usage, &mut input).is(2, "", USAGE));
     assert!(rt; input.left.len() == ROW.len());
-}
-
-/// Passes too where any one allocation fails: nothing is printed then, and want of memory is told.
-#[test]
-fn memory(rt: HostRuntime) {
-    let mut input = slow_reader(ROW.as_bytes(), false);
-    assert!(rt; is_served_or_wants_memory(&rt, &Form::Run("f"), &mut input, ROW_TEXT));
 }
 
 /// A file for each form, which is served in full where the writer lets go of it.
@@ -237,6 +272,6 @@ fn is_told_as_kept_back(
 #[test]
 fn bytes_that_are_kept_back_are_told(rt: HostRuntime) {
     for (form, file) in &SERVED {
-        assert!(rt; is_told_as_kept_back(&rt, form, *file));
+        assert!(rt; is_told_as_kept_back(&rt, form, *file), "of {file}");
     }
 }

@@ -39,15 +39,6 @@ pub fn check(rt: &(impl AllocGlobal + Threads + Wait + Sync), trace: &str) -> An
     served(rt, &Form::Check("f"), &mut trace.as_bytes())
 }
 
-/// The script's trace is this.
-pub fn trace_is(
-    rt: &(impl AllocGlobal + Threads + Wait + Sync),
-    script: &str,
-    trace: &str,
-) -> bool {
-    run(rt, script).is(0, trace, "")
-}
-
 /// The script's table is this.
 pub fn table_is(
     rt: &(impl AllocGlobal + Threads + Wait + Sync),

@@ -24,7 +24,7 @@ static JUDGED: [(&str, u8, &str); 4] = [
 #[test]
 fn a_trace_is_judged(rt: HostRuntime) {
     for (trace, status, printed) in &JUDGED {
-        assert!(rt; check(&rt, *trace).is(*status, *printed, ""));
+        assert!(rt; check(&rt, *trace).is(*status, *printed, ""), "of {trace}");
     }
 }
 
@@ -41,15 +41,29 @@ fn a_trace_without_its_end_is_told(rt: HostRuntime) {
     assert!(rt; check(&rt, cut).is(1, "", "rfx: line 8: fault 5: cut\n"));
 }
 
-/// What a run prints is found legal.
+/// Scripts whose traces are found legal.
+static RUN: [(&str, &str); 2] = [
+    (
+        "thread x\nthread a\nthread b\nmutex m\ncall x lock m\ncall b lock m\nkill x\n\
+         go x\ngo b\nkill b\ngo b\ncall a lock m\ncall a unlock m\n",
+        "legal 4 points\n",
+    ),
+    // With a mutex that is made anew.
+    (
+        "thread a\nthread b\nmutex m\ncall a lock m\nkill a\ngo a\ncall b lock m\nreinit b m\n\
+         call b unlock m\nreinit a m\nreinit b m\nreinit b m\ncall b lock m\n",
+        "legal 5 points\n",
+    ),
+];
+
 #[test]
 fn the_trace_of_a_run_is_legal(rt: HostRuntime) {
-    let script = "thread x\nthread a\nthread b\nmutex m\ncall x lock m\ncall b lock m\nkill x\n\
-        go x\ngo b\nkill b\ngo b\ncall a lock m\ncall a unlock m\n";
-    let run = run(&rt, script);
-    assert!(rt; run.status == 0 && run.told.is_empty());
-    let judged = served(&rt, &Form::Check("f"), &mut run.printed.as_slice());
-    assert!(rt; judged.is(0, "legal 4 points\n", ""));
+    for (script, verdict) in &RUN {
+        let run = run(&rt, *script);
+        assert!(rt; run.status == 0 && run.told.is_empty(), "of {script}");
+        let judged = served(&rt, &Form::Check("f"), &mut run.printed.as_slice());
+        assert!(rt; judged.is(0, *verdict, ""), "of {script}");
+    }
 }
 
 /// The first line of a trace.

@@ -34,21 +34,23 @@ fn began(id: u8, call: Call, refused: Option<Reply>) -> Note
     }
 }
 
-fn stepped(id: u8, point: Option<(u16, Operation, Reply)>, returned: Option<Reply>) -> Note
+/// The point of a call by this thread.
+fn decided(id: u8, mutex: u16, operation: Operation, reply: Reply) -> Decision
     requires { (1 ≤ id) × (id ≤ 64) }
 {
-    let thread = tid(id);
-    let point = match point {
-        Some((mutex, operation, reply)) => Some(Decision {
-            thread,
-            mutex,
-            operation,
-            reply,
-        }),
-        None => None,
-    };
+    Decision {
+        thread: tid(id),
+        mutex,
+        operation,
+        reply,
+    }
+}
+
+fn stepped(id: u8, point: Option<Decision>, returned: Option<Reply>) -> Note
+    requires { (1 ≤ id) × (id ≤ 64) }
+{
     Note::Stepped {
-        thread,
+        thread: tid(id),
         mutex: 0,
         point,
         slept: None,
@@ -60,19 +62,18 @@ fn stepped(id: u8, point: Option<(u16, Operation, Reply)>, returned: Option<Repl
 
 /// A trace with each kind of note, whose text is `TEXT`.
 fn sample(alloc: Global) -> Result<Trace, AllocError> {
+    let refused = decided(1, 0, Operation::Unlock, Reply::EPERM);
+    let taken = decided(20, 11, Operation::TryLock, Reply::OK);
+    let inherited = decided(3, 2, Operation::Lock, Reply::EOWNERDEAD);
     let notes = [
         Note::Nothing,
         began(1, Call::Unlock(0), None),
         began(64, Call::TryLock(4095), Some(Reply::XHELD)),
-        stepped(
-            1,
-            Some((0, Operation::Unlock, Reply::EPERM)),
-            Some(Reply::EPERM),
-        ),
-        stepped(20, Some((11, Operation::TryLock, Reply::OK)), None),
+        stepped(1, Some(refused), Some(Reply::EPERM)),
+        stepped(20, Some(taken), None),
         stepped(20, None, None),
         stepped(20, None, Some(Reply::OK)),
-        stepped(3, Some((2, Operation::Lock, Reply::EOWNERDEAD)), None),
+        stepped(3, Some(inherited), None),
         began(2, Call::TryLock(7), None),
     ];
     Ok(Trace {

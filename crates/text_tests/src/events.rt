@@ -1,7 +1,8 @@
 //! Scripts that are played, with how many events each runs, counted by hand.
 
 use crate::built::joined;
-use crate::faults::{Refused, read};
+use crate::cases::all_hold;
+use crate::faults::{Refused, is_or_wants_memory, read};
 use interleave::{Machine, Trace};
 use script::{Mode, first_machine, play};
 use std::alloc::Global;
@@ -43,105 +44,133 @@ fn played(rt: HostRuntime) {
 }
 
 /// How many events a script runs, or the number of its fault and its line.
-pub type Played = Result<usize, Refused>;
-
-pub fn playing(alloc: Global, text: &str, mode: Mode) -> Played {
+pub fn playing(alloc: Global, text: &str, mode: Mode) -> Result<usize, Refused> {
     match outcome(alloc, text.as_bytes(), mode) {
         Ok((trace, _machine)) => Ok(trace.notes.len()),
         Err(refused) => Err(refused),
     }
 }
 
-/// Whether the commands behind these declarations run so.
-pub fn is_playing(alloc: Global, declarations: &str, commands: &str, want: Played) -> bool {
-    match joined(alloc, declarations, commands, "") {
-        Ok(text) => playing(alloc, text.as_str(), Mode::Run) == want,
-        Err(_) => false,
-    }
+/// Commands behind these declarations.
+#[derive(Clone, Copy)]
+struct Commands {
+    declarations: &'static str,
+    /// With how many events they run.
+    played: &'static [(&'static str, usize)],
+    /// With the line of the command that would run one event too many.
+    too_long: &'static [(&'static str, usize)],
 }
 
-/// The place of the first commands behind these declarations that run otherwise.
-pub fn first_wrong(alloc: Global, declarations: &str, cases: &[(&str, Played)]) -> Option<usize> {
-    for (place, (commands, want)) in cases.iter().enumerate() {
-        if !is_playing(alloc, declarations, *commands, *want) {
-            return Some(place);
+impl Commands {
+    /// The first commands that run otherwise.
+    fn first_wrong(&self, alloc: Global) -> Option<&'static str> {
+        for (commands, events) in self.played {
+            if !self.are_played(alloc, *commands, Ok(*events)) {
+                return Some(*commands);
+            }
+        }
+        for (commands, line) in self.too_long {
+            if !self.are_played(alloc, *commands, Err((5, *line))) {
+                return Some(*commands);
+            }
+        }
+        None
+    }
+
+    fn are_played(&self, alloc: Global, commands: &str, want: Result<usize, Refused>) -> bool {
+        match joined(alloc, self.declarations, commands, "") {
+            Ok(text) => playing(alloc, text.as_str(), Mode::Run) == want,
+            Err(_) => false,
         }
     }
-    None
 }
 
 /// A trylock that takes its thread's first mutex has nine events: its begin, three accesses to the pending entry and
 /// the cell, four that link the entry, and one that clears it. An unlock has eight.
-static TOO_MANY_EVENTS: [(&str, Played); 12] = [
-    ("", Ok(0)),
-    ("call a trylock m\n", Ok(9)),
-    ("call a trylock m\ncall a unlock m\n", Ok(17)),
-    ("step a 100000\n", Ok(100_000)),
-    ("step a 100000\n\nstep a 1\n", Err((5, 5))),
-    ("step a 100000\nstep a 1\n", Err((5, 4))),
-    ("step a 99991\nlocks a m 1\n", Ok(100_000)),
-    ("step a 99992\nlocks a m 1\n", Err((5, 4))),
-    ("step a 99998\ncall a unlock m\n", Ok(100_000)),
-    ("step a 99999\nbegin a unlock m\n", Ok(100_000)),
-    ("step a 99999\ncall a unlock m\n", Err((5, 4))),
-    (
-        "step a 100000\nbegin a unlock m\n# no more\nstep a 1\n",
-        Err((5, 4)),
-    ),
-];
-
-#[test]
-fn too_many_events(rt: HostRuntime) {
-    let declarations = "thread a\nmutex m\n";
-    assert!(rt; first_wrong(rt.alloc(), declarations, &TOO_MANY_EVENTS).is_none());
-}
+static OF_ONE_THREAD: Commands = Commands {
+    declarations: "thread a\nmutex m\n",
+    played: &[
+        ("", 0),
+        ("call a trylock m\n", 9),
+        ("call a trylock m\ncall a unlock m\n", 17),
+        ("step a 100000\n", 100_000),
+        ("step a 99991\nlocks a m 1\n", 100_000),
+        ("step a 99998\ncall a unlock m\n", 100_000),
+        ("step a 99999\nbegin a unlock m\n", 100_000),
+    ],
+    too_long: &[
+        ("step a 100000\n\nstep a 1\n", 5),
+        ("step a 100000\nstep a 1\n", 4),
+        ("step a 99992\nlocks a m 1\n", 4),
+        ("step a 99999\ncall a unlock m\n", 4),
+        ("step a 100000\nbegin a unlock m\n# no more\nstep a 1\n", 4),
+    ],
+};
 
 /// Counted by hand. A lock that takes its thread's first mutex has nine events, and ten where the thread has one. A
 /// walk has three, three more for each mutex of the list, and one for a pending entry whose mutex another owns. A lock
 /// of a mutex that another owns sleeps after five, and after two more where its sleeper left its queue.
-static EVENTS: [(&str, Played); 14] = [
-    ("go a\n", Ok(0)),
-    ("locks a m0 3\n", Ok(29)),
-    ("locks a m1 2\nkill a\ngo a\n", Ok(29)),
-    ("kill a\nkill a\ngo a\ngo a\n", Ok(5)),
-    ("begin a lock m0\nstep a 2\ngo a\ngo a\n", Ok(9)),
-    ("call a lock m0\ncall b lock m0\ngo b\n", Ok(14)),
-    ("call a lock m0\ncall b lock m0\nkill b\ngo b\n", Ok(19)),
-    ("leave a\ndecline a\n", Ok(2)),
-    ("kill a\ngo a\nrenew a\nrenew a\ncall a lock m0\n", Ok(15)),
-    ("reinit a m0\ncall a lock m0\nreinit a m0\n", Ok(11)),
-    (
-        "call a lock m0\nkill a\ngo a\ncall b lock m0\ncall b unlock m0\nreinit b m0\ncall b lock m0\n",
-        Ok(43),
-    ),
-    (
-        "call a lock m0\ncall b lock m0\nleave b\nleave b\ngo b\n",
-        Ok(18),
-    ),
-    (
-        "call a lock m0\ncall b lock m0\ncall a unlock m0\ngo b\n",
-        Ok(30),
-    ),
-    (
-        "call a lock m0\nkill a\ngo a\ncall b lock m0\ncall b consistent m0\n",
-        Ok(28),
-    ),
-];
+static OF_TWO_THREADS: Commands = Commands {
+    declarations: "thread a\nthread b\nmutexes m 3\n",
+    played: &[
+        ("go a\n", 0),
+        ("locks a m0 3\n", 29),
+        ("locks a m1 2\nkill a\ngo a\n", 29),
+        ("kill a\nkill a\ngo a\ngo a\n", 5),
+        ("begin a lock m0\nstep a 2\ngo a\ngo a\n", 9),
+        ("call a lock m0\ncall b lock m0\ngo b\n", 14),
+        ("call a lock m0\ncall b lock m0\nkill b\ngo b\n", 19),
+        ("leave a\ndecline a\n", 2),
+        ("kill a\ngo a\nrenew a\nrenew a\ncall a lock m0\n", 15),
+        ("reinit a m0\ncall a lock m0\nreinit a m0\n", 11),
+        (
+            "call a lock m0\nkill a\ngo a\ncall b lock m0\ncall b unlock m0\nreinit b m0\ncall b lock m0\n",
+            43,
+        ),
+        (
+            "call a lock m0\ncall b lock m0\nleave b\nleave b\ngo b\n",
+            18,
+        ),
+        (
+            "call a lock m0\ncall b lock m0\ncall a unlock m0\ngo b\n",
+            30,
+        ),
+        (
+            "call a lock m0\nkill a\ngo a\ncall b lock m0\ncall b consistent m0\n",
+            28,
+        ),
+    ],
+    too_long: &[],
+};
+
+/// Of three processes beside process 0: `p` has two threads, `q` has one, `r` has none. A kill of a dead thread is an
+/// event too.
+static OF_PROCESSES: Commands = Commands {
+    declarations: "process p 1000\nprocess q 0\nprocess r 5\nthread a p\nthread b q\nthread c p\nthread d\nmutex m\n",
+    played: &[
+        ("killall p\n", 2),
+        ("killall q\n", 1),
+        ("killall p\nkillall q\nkillall p\n", 5),
+        ("step a 99998\nkillall p\n", 100_000),
+        ("step a 100000\nkillall r\n", 100_000),
+    ],
+    too_long: &[
+        ("step a 99999\nkillall p\n", 10),
+        ("step a 100000\nkillall q\n", 10),
+    ],
+};
 
 #[test]
 fn events(rt: HostRuntime) {
-    let declarations = "thread a\nthread b\nmutexes m 3\n";
-    assert!(rt; first_wrong(rt.alloc(), declarations, &EVENTS).is_none());
+    all_hold(&rt, OF_ONE_THREAD.first_wrong(rt.alloc()));
+    all_hold(&rt, OF_TWO_THREADS.first_wrong(rt.alloc()));
+    all_hold(&rt, OF_PROCESSES.first_wrong(rt.alloc()));
 }
 
 /// Passes too where any one allocation fails: memory for the machine is wanted at line 1, and for notes at a command.
 #[test]
 fn memory_in_play(rt: HostRuntime) {
     let text = "thread a\nmutex m\n# played\ncall a trylock m\nstep a 40\n";
-    match playing(rt.alloc(), text, Mode::Run) {
-        Ok(events) => assert!(rt; events == 49),
-        Err((fault, line)) => {
-            assert!(rt; fault == 6 && line != 0 && line != 3 && line < 6);
-        }
-    }
+    let events = playing(rt.alloc(), text, Mode::Run);
+    assert!(rt; is_or_wants_memory(events, 49, &[1, 2, 4, 5]));
 }

@@ -1,22 +1,21 @@
 //! Traces with a line that doesn't fit, each the smallest with its reason, and the text of the reason.
 
-use crate::built::joined;
-use crate::traces::taken_and_one_more;
+use crate::cases::all_hold;
+use crate::traces::{BEHIND_THE_FIRST, taken_and_one_more};
 use facts::Begun;
 use lockword::{Reply, Tid};
 use posixmutex::{Object, Operation};
-use std::alloc::Global;
+use std::alloc::{AllocError, Global};
 use std::test::Fail;
 use verdict::{Fault, Finding, Misfit, TraceFault, TraceMisfit, Verdict, check, explain};
 
-/// Lines of a trace of two threads, two mutexes and a condition variable behind its first line; the first line that
-/// doesn't fit, and why; and the text of that.
+/// Why a line doesn't fit, how that is told behind the line's number, and the smallest traces with such a line: their
+/// lines behind the first, and which line is the first that doesn't fit.
 #[derive(Clone, Copy)]
-struct Case {
-    behind: &'static str,
-    line: usize,
+struct Reason {
     misfit: Misfit,
     text: &'static str,
+    traces: &'static [(&'static str, usize)],
 }
 
 /// A lock of the first mutex.
@@ -40,345 +39,312 @@ const UNTOUCHED: Object = Object {
     unusable: false,
 };
 
+const INCONSISTENT: Object = Object {
+    inconsistent: true,
+    ..UNTOUCHED
+};
+
+const UNUSABLE: Object = Object {
+    unusable: true,
+    ..UNTOUCHED
+};
+
 /// By the numbers of events.
-const OF_EVENTS: [Case; 6] = [
-    Case {
-        behind: "2 begin t1 lock m0\n1 kill t2\nend 2",
-        line: 3,
+const OF_EVENTS: [Reason; 5] = [
+    Reason {
         misfit: Misfit::EventFalls { latest: 2 },
-        text: "line 3: the event is before event 2, of which a line was told",
+        text: "the event is before event 2, of which a line was told",
+        traces: &[
+            ("2 begin t1 lock m0\n1 kill t2\nend 2", 3),
+            // The number of the event comes before what the thread does.
+            ("2 begin t1 lock m0\n1 return t2 OK\nend 2", 3),
+        ],
     },
-    Case {
-        behind: "1 begin t1 lock m0\n1 point t1 m0 lock OK\n1 return t1 OK\n1 begin t1 unlock m0\n1 point t1 m0 unlock OK\nend 1",
-        line: 6,
+    Reason {
         misfit: Misfit::EventDecided,
-        text: "line 6: the event has a point or a death already",
+        text: "the event has a point or a death already",
+        traces: &[(
+            "1 begin t1 lock m0\n1 point t1 m0 lock OK\n1 return t1 OK\n1 begin t1 unlock m0\n1 point t1 m0 unlock OK\nend 1",
+            6,
+        )],
     },
-    Case {
-        behind: "1 begin t1 lock m0\n1 kill t1\nend 1",
-        line: 3,
+    Reason {
         misfit: Misfit::KillShares,
-        text: "line 3: a kill is an event of its own, and this event has a line already",
+        text: "a kill is an event of its own, and this event has a line already",
+        traces: &[("1 begin t1 lock m0\n1 kill t1\nend 1", 3)],
     },
-    Case {
-        behind: "1 kill t1\n1 reaped t1\nend 1",
-        line: 3,
+    Reason {
         misfit: Misfit::EventKilled,
-        text: "line 3: the event is a kill, and has no other line",
+        text: "the event is a kill, and has no other line",
+        traces: &[("1 kill t1\n1 reaped t1\nend 1", 3)],
     },
-    Case {
-        behind: "2 begin t1 lock m0\nend 1",
-        line: 3,
+    Reason {
         misfit: Misfit::EndFalls { latest: 2 },
-        text: "line 3: the end is before event 2, of which a line was told",
-    },
-    // The number of the event comes before what the thread does.
-    Case {
-        behind: "2 begin t1 lock m0\n1 return t2 OK\nend 2",
-        line: 3,
-        misfit: Misfit::EventFalls { latest: 2 },
-        text: "line 3: the event is before event 2, of which a line was told",
+        text: "the end is before event 2, of which a line was told",
+        traces: &[("2 begin t1 lock m0\nend 1", 3)],
     },
 ];
 
 /// By what was told of the thread.
-const OF_THREADS: [Case; 16] = [
-    Case {
-        behind: "1 begin t1 lock m0\n2 begin t1 unlock m0\nend 2",
-        line: 3,
+const OF_THREADS: [Reason; 8] = [
+    Reason {
         misfit: Misfit::InCall { call: LOCK },
-        text: "line 3: the thread is in a call already: lock of m0",
+        text: "the thread is in a call already: lock of m0",
+        traces: &[("1 begin t1 lock m0\n2 begin t1 unlock m0\nend 2", 3)],
     },
-    Case {
-        behind: "1 begin t1 wait c0 m1\n2 begin t1 lock m0\nend 2",
-        line: 3,
+    Reason {
         misfit: Misfit::InCall { call: WAIT },
-        text: "line 3: the thread is in a call already: wait of m1",
+        text: "the thread is in a call already: wait of m1",
+        traces: &[("1 begin t1 wait c0 m1\n2 begin t1 lock m0\nend 2", 3)],
     },
-    Case {
-        behind: "1 point t1 m0 lock OK\nend 1",
-        line: 2,
+    Reason {
         misfit: Misfit::NoCall,
-        text: "line 2: the thread is in no call",
+        text: "the thread is in no call",
+        traces: &[
+            ("1 point t1 m0 lock OK\nend 1", 2),
+            ("1 sleep t1 m0\nend 1", 2),
+            ("1 return t1 OK\nend 1", 2),
+        ],
     },
-    Case {
-        behind: "1 sleep t1 m0\nend 1",
-        line: 2,
-        misfit: Misfit::NoCall,
-        text: "line 2: the thread is in no call",
-    },
-    Case {
-        behind: "1 return t1 OK\nend 1",
-        line: 2,
-        misfit: Misfit::NoCall,
-        text: "line 2: the thread is in no call",
-    },
-    Case {
-        behind: "1 begin t1 lock m0\n2 sleep t1 m0\n3 point t1 m0 lock OK\nend 3",
-        line: 4,
+    Reason {
         misfit: Misfit::Asleep,
-        text: "line 4: the thread is asleep",
+        text: "the thread is asleep",
+        traces: &[
+            (
+                "1 begin t1 lock m0\n2 sleep t1 m0\n3 point t1 m0 lock OK\nend 3",
+                4,
+            ),
+            ("1 begin t1 lock m0\n2 sleep t1 m0\n3 sleep t1 m0\nend 3", 4),
+            (
+                "1 begin t1 lock m0\n2 point t1 m0 lock OK\n3 sleep t1 m0\n4 return t1 OK\nend 4",
+                5,
+            ),
+        ],
     },
-    Case {
-        behind: "1 begin t1 lock m0\n2 sleep t1 m0\n3 sleep t1 m0\nend 3",
-        line: 4,
-        misfit: Misfit::Asleep,
-        text: "line 4: the thread is asleep",
-    },
-    Case {
-        behind: "1 begin t1 lock m0\n2 point t1 m0 lock OK\n3 sleep t1 m0\n4 return t1 OK\nend 4",
-        line: 5,
-        misfit: Misfit::Asleep,
-        text: "line 5: the thread is asleep",
-    },
-    Case {
-        behind: "1 wake t1\nend 1",
-        line: 2,
+    Reason {
         misfit: Misfit::Awake,
-        text: "line 2: the thread isn't asleep",
+        text: "the thread isn't asleep",
+        traces: &[
+            ("1 wake t1\nend 1", 2),
+            ("1 begin t1 lock m0\n2 move t1 m0\nend 2", 3),
+        ],
     },
-    Case {
-        behind: "1 begin t1 lock m0\n2 move t1 m0\nend 2",
-        line: 3,
-        misfit: Misfit::Awake,
-        text: "line 3: the thread isn't asleep",
-    },
-    Case {
-        behind: "1 kill t1\n2 begin t1 lock m0\nend 2",
-        line: 3,
+    Reason {
         misfit: Misfit::Killed,
-        text: "line 3: the thread was killed",
+        text: "the thread was killed",
+        traces: &[
+            ("1 kill t1\n2 begin t1 lock m0\nend 2", 3),
+            // A kill ends sleep.
+            (
+                "1 begin t1 lock m0\n2 sleep t1 m0\n3 kill t1\n4 wake t1\nend 4",
+                5,
+            ),
+            ("1 kill t1\n2 kill t1\nend 2", 3),
+        ],
     },
-    // A kill ends sleep.
-    Case {
-        behind: "1 begin t1 lock m0\n2 sleep t1 m0\n3 kill t1\n4 wake t1\nend 4",
-        line: 5,
-        misfit: Misfit::Killed,
-        text: "line 5: the thread was killed",
-    },
-    Case {
-        behind: "1 kill t1\n2 kill t1\nend 2",
-        line: 3,
-        misfit: Misfit::Killed,
-        text: "line 3: the thread was killed",
-    },
-    Case {
-        behind: "1 kill t1\n2 reaped t1\n3 reaped t1\nend 3",
-        line: 4,
+    Reason {
         misfit: Misfit::Reaped,
-        text: "line 4: the thread was reaped",
+        text: "the thread was reaped",
+        traces: &[("1 kill t1\n2 reaped t1\n3 reaped t1\nend 3", 4)],
     },
-    Case {
-        behind: "1 death t1 m0\nend 1",
-        line: 2,
+    Reason {
         misfit: Misfit::Alive,
-        text: "line 2: the thread lives",
-    },
-    Case {
-        behind: "1 begin t1 lock m0\n2 reaped t1\nend 2",
-        line: 3,
-        misfit: Misfit::Alive,
-        text: "line 3: the thread lives",
+        text: "the thread lives",
+        traces: &[
+            ("1 death t1 m0\nend 1", 2),
+            ("1 begin t1 lock m0\n2 reaped t1\nend 2", 3),
+        ],
     },
 ];
 
 /// By the points of the thread's call.
-const OF_CALLS: [Case; 10] = [
-    Case {
-        behind: "1 begin t1 lock m0\n2 point t1 m1 lock OK\nend 2",
-        line: 3,
+const OF_CALLS: [Reason; 8] = [
+    Reason {
         misfit: Misfit::OtherMutex { mutex: 0 },
-        text: "line 3: the thread's call is on m0",
+        text: "the thread's call is on m0",
+        traces: &[("1 begin t1 lock m0\n2 point t1 m1 lock OK\nend 2", 3)],
     },
-    Case {
-        behind: "1 begin t1 lock m0\n2 point t1 m0 trylock OK\nend 2",
-        line: 3,
+    Reason {
         misfit: Misfit::OtherOperation {
             operation: Operation::Lock,
         },
-        text: "line 3: a call of lock has no such point",
+        text: "a call of lock has no such point",
+        traces: &[("1 begin t1 lock m0\n2 point t1 m0 trylock OK\nend 2", 3)],
     },
     // A wait releases its mutex before it locks it.
-    Case {
-        behind: "1 begin t1 wait c0 m0\n2 point t1 m0 lock OK\nend 2",
-        line: 3,
+    Reason {
         misfit: Misfit::OtherOperation {
             operation: Operation::Wait,
         },
-        text: "line 3: a call of wait has no such point",
+        text: "a call of wait has no such point",
+        traces: &[("1 begin t1 wait c0 m0\n2 point t1 m0 lock OK\nend 2", 3)],
     },
-    Case {
-        behind: "1 begin t1 wait c0 m0\n2 point t1 m0 unlock EPERM\nend 2",
-        line: 3,
+    Reason {
         misfit: Misfit::ReleaseRefused,
-        text: "line 3: the unlock of a wait replies OK",
+        text: "the unlock of a wait replies OK",
+        traces: &[(
+            "1 begin t1 wait c0 m0\n2 point t1 m0 unlock EPERM\nend 2",
+            3,
+        )],
     },
-    Case {
-        behind: "1 begin t1 lock m0\n2 point t1 m0 lock OK\n3 return t1 OK\n4 begin t1 wait c0 m0\n5 point t1 m0 unlock OK\n6 point t1 m0 wait EPERM\nend 6",
-        line: 7,
+    Reason {
         misfit: Misfit::Released,
-        text: "line 7: the wait has released its mutex, and locks it next",
+        text: "the wait has released its mutex, and locks it next",
+        traces: &[
+            (
+                "1 begin t1 lock m0\n2 point t1 m0 lock OK\n3 return t1 OK\n4 begin t1 wait c0 m0\n5 point t1 m0 unlock OK\n6 point t1 m0 wait EPERM\nend 6",
+                7,
+            ),
+            (
+                "1 begin t1 lock m0\n2 point t1 m0 lock OK\n3 return t1 OK\n4 begin t1 wait c0 m0\n5 point t1 m0 unlock OK\n6 return t1 OK\nend 6",
+                7,
+            ),
+        ],
     },
-    Case {
-        behind: "1 begin t1 lock m0\n2 point t1 m0 lock OK\n3 return t1 OK\n4 begin t1 wait c0 m0\n5 point t1 m0 unlock OK\n6 return t1 OK\nend 6",
-        line: 7,
-        misfit: Misfit::Released,
-        text: "line 7: the wait has released its mutex, and locks it next",
-    },
-    Case {
-        behind: "1 begin t1 trylock m0\n2 point t1 m0 trylock X_RACED\n3 point t1 m0 trylock OK\nend 3",
-        line: 4,
+    Reason {
         misfit: Misfit::Decided {
             reply: Reply::XRACED,
         },
-        text: "line 4: the call has its points already, and returns X_RACED",
+        text: "the call has its points already, and returns X_RACED",
+        traces: &[(
+            "1 begin t1 trylock m0\n2 point t1 m0 trylock X_RACED\n3 point t1 m0 trylock OK\nend 3",
+            4,
+        )],
     },
-    Case {
-        behind: "1 begin t1 lock m0\n2 return t1 OK\nend 2",
-        line: 3,
+    Reason {
         misfit: Misfit::Undecided,
-        text: "line 3: the call has had no point yet",
+        text: "the call has had no point yet",
+        traces: &[("1 begin t1 lock m0\n2 return t1 OK\nend 2", 3)],
     },
-    Case {
-        behind: "1 begin t1 lock m0\n2 point t1 m0 lock OK\n3 return t1 EBUSY\nend 3",
-        line: 4,
+    Reason {
         misfit: Misfit::OtherReply { reply: Reply::OK },
-        text: "line 4: the call's point replied OK",
-    },
-    // The reply of a wait is that of its lock.
-    Case {
-        behind: "1 begin t1 lock m0\n2 point t1 m0 lock OK\n3 return t1 OK\n4 begin t1 wait c0 m0\n5 point t1 m0 unlock OK\n6 kill t2\n7 point t1 m0 lock OK\n8 return t1 EOWNERDEAD\nend 8",
-        line: 9,
-        misfit: Misfit::OtherReply { reply: Reply::OK },
-        text: "line 9: the call's point replied OK",
+        text: "the call's point replied OK",
+        traces: &[
+            (
+                "1 begin t1 lock m0\n2 point t1 m0 lock OK\n3 return t1 EBUSY\nend 3",
+                4,
+            ),
+            // The reply of a wait is that of its lock.
+            (
+                "1 begin t1 lock m0\n2 point t1 m0 lock OK\n3 return t1 OK\n4 begin t1 wait c0 m0\n5 point t1 m0 unlock OK\n6 kill t2\n7 point t1 m0 lock OK\n8 return t1 EOWNERDEAD\nend 8",
+                9,
+            ),
+        ],
     },
 ];
 
 /// By the mutexes, which nobody owns.
-const OF_MUTEXES: [Case; 7] = [
-    Case {
-        behind: "1 begin t1 lock m0\n2 point t1 m0 lock EBUSY\nend 2",
-        line: 3,
+const OF_MUTEXES: [Reason; 7] = [
+    Reason {
         misfit: Misfit::NotAllowed {
             object: UNTOUCHED,
             reply: Reply::EBUSY,
         },
-        text: "line 3: the mutex doesn't allow the reply EBUSY: nobody owns it",
+        text: "the mutex doesn't allow the reply EBUSY: nobody owns it",
+        traces: &[("1 begin t1 lock m0\n2 point t1 m0 lock EBUSY\nend 2", 3)],
     },
-    Case {
-        behind: "1 begin t1 lock m0\n2 point t1 m0 lock OK\n3 kill t1\n4 death t1 m0\n5 begin t2 lock m0\n6 point t2 m0 lock OK\nend 6",
-        line: 7,
+    Reason {
         misfit: Misfit::NotAllowed {
-            object: Object {
-                owner: None,
-                inconsistent: true,
-                unusable: false,
-            },
+            object: INCONSISTENT,
             reply: Reply::OK,
         },
-        text: "line 7: the mutex doesn't allow the reply OK: nobody owns it, it is inconsistent",
+        text: "the mutex doesn't allow the reply OK: nobody owns it, it is inconsistent",
+        traces: &[(
+            "1 begin t1 lock m0\n2 point t1 m0 lock OK\n3 kill t1\n4 death t1 m0\n5 begin t2 lock m0\n6 point t2 m0 lock OK\nend 6",
+            7,
+        )],
     },
-    Case {
-        behind: "1 begin t1 lock m0\n2 point t1 m0 lock OK\n3 kill t1\n4 death t1 m0\n5 begin t2 lock m0\n6 point t2 m0 lock EOWNERDEAD\n7 return t2 EOWNERDEAD\n8 begin t2 unlock m0\n9 point t2 m0 unlock OK\n10 return t2 OK\n11 begin t2 lock m0\n12 point t2 m0 lock OK\nend 12",
-        line: 13,
+    Reason {
         misfit: Misfit::NotAllowed {
-            object: Object {
-                owner: None,
-                inconsistent: false,
-                unusable: true,
-            },
+            object: UNUSABLE,
             reply: Reply::OK,
         },
-        text: "line 13: the mutex doesn't allow the reply OK: nobody owns it, it is unusable",
+        text: "the mutex doesn't allow the reply OK: nobody owns it, it is unusable",
+        traces: &[(
+            "1 begin t1 lock m0\n2 point t1 m0 lock OK\n3 kill t1\n4 death t1 m0\n5 begin t2 lock m0\n6 point t2 m0 lock EOWNERDEAD\n7 return t2 EOWNERDEAD\n8 begin t2 unlock m0\n9 point t2 m0 unlock OK\n10 return t2 OK\n11 begin t2 lock m0\n12 point t2 m0 lock OK\nend 12",
+            13,
+        )],
     },
     // Only an unusable one is made anew.
-    Case {
-        behind: "1 begin t1 reinit m0\n1 point t1 m0 reinit OK\nend 1",
-        line: 3,
+    Reason {
         misfit: Misfit::NotAllowed {
             object: UNTOUCHED,
             reply: Reply::OK,
         },
-        text: "line 3: the mutex doesn't allow the reply OK: nobody owns it",
+        text: "the mutex doesn't allow the reply OK: nobody owns it",
+        traces: &[("1 begin t1 reinit m0\n1 point t1 m0 reinit OK\nend 1", 3)],
     },
-    Case {
-        behind: "1 kill t1\n2 death t1 m0\nend 2",
-        line: 3,
+    Reason {
         misfit: Misfit::NotOwner { object: UNTOUCHED },
-        text: "line 3: the thread doesn't own the mutex: nobody owns it",
+        text: "the thread doesn't own the mutex: nobody owns it",
+        traces: &[("1 kill t1\n2 death t1 m0\nend 2", 3)],
     },
-    Case {
-        behind: "1 begin t1 lock m0\n2 point t1 m0 lock OK\n3 kill t1\n4 reaped t1\nend 4",
-        line: 5,
+    Reason {
         misfit: Misfit::StillOwns { mutex: 0 },
-        text: "line 5: the thread still owns m0",
+        text: "the thread still owns m0",
+        traces: &[(
+            "1 begin t1 lock m0\n2 point t1 m0 lock OK\n3 kill t1\n4 reaped t1\nend 4",
+            5,
+        )],
     },
-    Case {
-        behind: "1 begin t1 lock m1\n2 point t1 m1 lock OK\n3 kill t1\n4 reaped t1\nend 4",
-        line: 5,
+    Reason {
         misfit: Misfit::StillOwns { mutex: 1 },
-        text: "line 5: the thread still owns m1",
+        text: "the thread still owns m1",
+        traces: &[(
+            "1 begin t1 lock m1\n2 point t1 m1 lock OK\n3 kill t1\n4 reaped t1\nend 4",
+            5,
+        )],
     },
 ];
 
-/// Whether the trace is found illegal at this line, for this reason, with this text, and `check` finds the same line.
-fn is_found(alloc: Global, trace: &str, case: &Case) -> bool {
+/// Whether the trace is found illegal at this line, for this reason, which is told so; and `check` finds the same line.
+fn is_found(alloc: Global, trace: &str, line: usize, reason: &Reason) -> bool {
     let want = TraceMisfit {
-        line: case.line,
-        misfit: case.misfit,
+        line,
+        misfit: reason.misfit,
     };
     let Ok(Finding::Illegal(found)) = explain(alloc, trace.as_bytes()) else {
         return false;
     };
     let checked = check(alloc, trace.as_bytes());
     found == want
-        && is_told(alloc, found, case.text)
-        && checked == Ok(Verdict::Illegal { line: case.line })
+        && matches!(is_told(alloc, found, reason.text), Ok(true))
+        && checked == Ok(Verdict::Illegal { line })
 }
 
-fn is_told(alloc: Global, misfit: TraceMisfit, text: &str) -> bool {
-    match misfit.to_string(alloc) {
-        Ok(told) => told.as_str() == text,
-        Err(_) => false,
-    }
+/// Whether this is told of the misfit behind the number of its line.
+fn is_told(alloc: Global, misfit: TraceMisfit, text: &str) -> Result<bool, AllocError> {
+    let line = misfit.line;
+    let told = format!(in alloc; "{misfit}")?;
+    let wanted = format!(in alloc; "line {line}: {text}")?;
+    Ok(told.as_str() == wanted.as_str())
 }
 
-/// The place of the first case that is found otherwise.
-fn first_wrong(alloc: Global, cases: &[Case]) -> Option<usize> {
-    for (place, case) in cases.iter().enumerate() {
-        if !is_found_behind(alloc, case) {
-            return Some(place);
+/// The first trace in which another line, or another reason, is found.
+fn first_wrong(alloc: Global, reasons: &[Reason]) -> Option<&'static str> {
+    for reason in reasons {
+        for (behind, line) in reason.traces {
+            if !is_found_behind(alloc, *behind, *line, reason) {
+                return Some(*behind);
+            }
         }
     }
     None
 }
 
-/// Whether the case's own trace is found so.
-fn is_found_behind(alloc: Global, case: &Case) -> bool {
-    match joined(alloc, "trace 2 2 1\n", case.behind, "\n") {
-        Ok(trace) => is_found(alloc, trace.as_str(), case),
+fn is_found_behind(alloc: Global, behind: &str, line: usize, reason: &Reason) -> bool {
+    match BEHIND_THE_FIRST.around(alloc, behind) {
+        Ok(trace) => is_found(alloc, trace.as_str(), line, reason),
         Err(_) => false,
     }
 }
 
 #[test]
-fn reasons_of_events(rt: HostRuntime) {
-    assert!(rt; first_wrong(rt.alloc(), &OF_EVENTS).is_none());
-}
-
-#[test]
-fn reasons_of_threads(rt: HostRuntime) {
-    assert!(rt; first_wrong(rt.alloc(), &OF_THREADS).is_none());
-}
-
-#[test]
-fn reasons_of_calls(rt: HostRuntime) {
-    assert!(rt; first_wrong(rt.alloc(), &OF_CALLS).is_none());
-}
-
-#[test]
-fn reasons_of_mutexes(rt: HostRuntime) {
-    assert!(rt; first_wrong(rt.alloc(), &OF_MUTEXES).is_none());
+fn reasons(rt: HostRuntime) {
+    all_hold(&rt, first_wrong(rt.alloc(), &OF_EVENTS));
+    all_hold(&rt, first_wrong(rt.alloc(), &OF_THREADS));
+    all_hold(&rt, first_wrong(rt.alloc(), &OF_CALLS));
+    all_hold(&rt, first_wrong(rt.alloc(), &OF_MUTEXES));
 }
 
 /// Of a mutex that the thread owns.
@@ -391,52 +357,55 @@ fn owned_by(thread: Tid) -> Object {
 }
 
 /// Reasons that name thread 1, which is this one.
-fn of_a_thread(thread: Tid) -> [Case; 3] {
+fn of_a_thread(thread: Tid) -> [Reason; 3] {
     [
-        Case {
-            behind: "1 begin t1 lock m0\n1 begin t2 lock m0\nend 1",
-            line: 3,
+        Reason {
             misfit: Misfit::AnothersEvent { thread },
-            text: "line 3: the event is one of thread t1",
+            text: "the event is one of thread t1",
+            traces: &[("1 begin t1 lock m0\n1 begin t2 lock m0\nend 1", 3)],
         },
-        Case {
-            behind: "1 begin t1 lock m0\n2 point t1 m0 lock OK\n3 begin t2 lock m0\n4 point t2 m0 lock OK\nend 4",
-            line: 5,
+        Reason {
             misfit: Misfit::NotAllowed {
                 object: owned_by(thread),
                 reply: Reply::OK,
             },
-            text: "line 5: the mutex doesn't allow the reply OK: t1 owns it",
+            text: "the mutex doesn't allow the reply OK: t1 owns it",
+            traces: &[(
+                "1 begin t1 lock m0\n2 point t1 m0 lock OK\n3 begin t2 lock m0\n4 point t2 m0 lock OK\nend 4",
+                5,
+            )],
         },
-        Case {
-            behind: "1 begin t1 lock m0\n2 point t1 m0 lock OK\n3 kill t2\n4 death t2 m0\nend 4",
-            line: 5,
+        Reason {
             misfit: Misfit::NotOwner {
                 object: owned_by(thread),
             },
-            text: "line 5: the thread doesn't own the mutex: t1 owns it",
+            text: "the thread doesn't own the mutex: t1 owns it",
+            traces: &[(
+                "1 begin t1 lock m0\n2 point t1 m0 lock OK\n3 kill t2\n4 death t2 m0\nend 4",
+                5,
+            )],
         },
     ]
 }
 
 #[test]
 fn reasons_with_threads(rt: HostRuntime) -> Result<(), Fail> {
-    let cases = of_a_thread(Tid::new(1).ok_or("no thread 1")?);
-    assert!(rt; first_wrong(rt.alloc(), &cases).is_none());
+    let reasons = of_a_thread(Tid::new(1).ok_or("no thread 1")?);
+    all_hold(&rt, first_wrong(rt.alloc(), &reasons));
     Ok(())
 }
 
 /// A lock that is told to succeed though the thread holds as many mutexes as it may.
+const AT_LIMIT: Reason = Reason {
+    misfit: Misfit::AtLimit { held: 2048 },
+    text: "the thread holds 2048 mutexes, so that the reply is X_HELD",
+    traces: &[],
+};
+
 #[test]
 fn reason_at_the_limit(rt: HostRuntime) -> Result<(), Fail> {
     let trace = taken_and_one_more(rt.alloc(), 2048, "OK")?;
-    let case = Case {
-        behind: "",
-        line: 6147,
-        misfit: Misfit::AtLimit { held: 2048 },
-        text: "line 6147: the thread holds 2048 mutexes, so that the reply is X_HELD",
-    };
-    assert!(rt; is_found(rt.alloc(), trace.as_str(), &case));
+    assert!(rt; is_found(rt.alloc(), trace.as_str(), 6147, &AT_LIMIT));
     Ok(())
 }
 
@@ -445,22 +414,22 @@ static STATES: [(bool, bool, &str); 4] = [
     (
         false,
         false,
-        "line 3: the thread doesn't own the mutex: nobody owns it",
+        "the thread doesn't own the mutex: nobody owns it",
     ),
     (
         true,
         false,
-        "line 3: the thread doesn't own the mutex: nobody owns it, it is inconsistent",
+        "the thread doesn't own the mutex: nobody owns it, it is inconsistent",
     ),
     (
         false,
         true,
-        "line 3: the thread doesn't own the mutex: nobody owns it, it is unusable",
+        "the thread doesn't own the mutex: nobody owns it, it is unusable",
     ),
     (
         true,
         true,
-        "line 3: the thread doesn't own the mutex: nobody owns it, it is inconsistent, it is unusable",
+        "the thread doesn't own the mutex: nobody owns it, it is inconsistent, it is unusable",
     ),
 ];
 
@@ -479,10 +448,12 @@ fn death_in(inconsistent: bool, unusable: bool) -> TraceMisfit {
 }
 
 #[test]
-fn texts_of_states(rt: HostRuntime) {
+fn texts_of_states(rt: HostRuntime) -> Result<(), Fail> {
     for (inconsistent, unusable, text) in &STATES {
-        assert!(rt; is_told(rt.alloc(), death_in(*inconsistent, *unusable), *text));
+        let death = death_in(*inconsistent, *unusable);
+        assert!(rt; is_told(rt.alloc(), death, *text)?, "{text}");
     }
+    Ok(())
 }
 
 /// Where there is no reason, `explain` answers as `check` does.

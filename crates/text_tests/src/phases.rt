@@ -1,153 +1,12 @@
-//! Scripts for real threads, with the fault that each is refused for, and what each thread does in each phase and when
-//! it dies, written out by hand.
+//! What scripts ask of real threads: what each thread does in each phase, and when it dies, written out by hand.
 
 use crate::built::joined;
 use crate::events::playing;
-use crate::faults::{FOR_THREADS, Refusal, Refused, Scripts, WHOLE, read, refusal};
+use crate::faults::{Refused, is_or_wants_memory, read};
 use condvar::{CondCall, Op};
 use mutex::Call;
 use script::{Jobs, Mode, Phase, jobs};
 use std::alloc::Global;
-
-/// Third lines.
-static LINES: [(&str, Refusal); 59] = [
-    ("", None),
-    ("# phase", None),
-    ("phase", None),
-    ("call a trylock m", None),
-    ("call a unlock m", None),
-    ("thread b", None),
-    ("phase ", Some((2, 3))),
-    (" phase", Some((2, 3))),
-    ("phase a", Some((2, 3))),
-    ("Phase", Some((2, 3))),
-    ("phases", Some((2, 3))),
-    ("call b trylock m", Some((4, 3))),
-    ("call a unlock n", Some((4, 3))),
-    ("call B trylock m", Some((2, 3))),
-    ("call a lock m", None),
-    ("call a consistent m", None),
-    ("call b consistent m", Some((4, 3))),
-    ("call a lock m0", Some((4, 3))),
-    ("call a trylock", Some((2, 3))),
-    ("begin a trylock m", Some((2, 3))),
-    ("begin b trylock m", Some((2, 3))),
-    ("step a 1", Some((2, 3))),
-    ("step a 0", Some((2, 3))),
-    ("kill a", Some((2, 3))),
-    ("go a", Some((2, 3))),
-    ("locks a m 1", Some((2, 3))),
-    ("die a 4", None),
-    ("die a 1", None),
-    ("die a 100000", None),
-    ("die a 0", Some((3, 3))),
-    ("die a 100001", Some((3, 3))),
-    ("die a 4294967297", Some((3, 3))),
-    ("die b 1", Some((4, 3))),
-    ("die b 0", Some((3, 3))),
-    ("die B 0", Some((2, 3))),
-    ("die m 1", Some((4, 3))),
-    ("die a 01", Some((2, 3))),
-    ("die a -1", Some((2, 3))),
-    ("die a", Some((2, 3))),
-    ("die 4", Some((2, 3))),
-    ("die", Some((2, 3))),
-    ("die a 4 4", Some((2, 3))),
-    ("dies a 4", Some((2, 3))),
-    ("cond c m 0", None),
-    ("cond c m 4294967295", None),
-    ("cond c n 4294967296", Some((3, 3))),
-    ("cond c n 0", Some((4, 3))),
-    ("cond c m", Some((2, 3))),
-    ("call a wait c", Some((4, 3))),
-    ("call a wait m", Some((4, 3))),
-    ("call b signal m", Some((4, 3))),
-    ("call a broadcast m", Some((4, 3))),
-    ("begin a signal c", Some((2, 3))),
-    ("thread a", Some((4, 3))),
-    ("mutex n", None),
-    ("mutex m", Some((4, 3))),
-    ("mutexes m 4095", None),
-    ("mutexes m 4096", Some((3, 3))),
-    ("mutexes n 0", Some((3, 3))),
-];
-
-#[test]
-fn lines(rt: HostRuntime) {
-    assert!(rt; FOR_THREADS.first_wrong(rt.alloc(), &LINES).is_none());
-}
-
-const WHOLE_FOR_THREADS: Scripts = Scripts {
-    mode: Mode::Threads,
-    ..WHOLE
-};
-
-/// Whole scripts.
-static SCRIPTS: [(&str, Refusal); 21] = [
-    ("", Some((3, 1))),
-    ("phase\n", Some((3, 2))),
-    ("thread a\nphase\n", Some((3, 3))),
-    ("thread a\nphase\nmutex m\n", Some((2, 3))),
-    ("thread a\nmutex m\nphase\nthread b\n", Some((2, 4))),
-    ("thread a\nmutex m\nphase", Some((2, 3))),
-    ("thread a\nmutex m\nphase\nphase\n", None),
-    (
-        "thread a\nmutex m\ncall b unlock m\nbegin a unlock m\n",
-        Some((4, 3)),
-    ),
-    // A thread dies once.
-    ("thread a\nmutex m\ndie a 4\ndie a 4\n", Some((4, 4))),
-    ("thread a\nmutex m\ndie a 4\ndie a 0\n", Some((3, 4))),
-    ("thread a\nmutex m\ndie a 4\ndie a\n", Some((2, 4))),
-    (
-        "thread a\nthread b\nmutex m\ndie a 4\nphase\ndie b 4\n",
-        None,
-    ),
-    (
-        "thread a\nthread b\nmutex m\ndie a 4\nphase\ndie b 4\ndie a 5\n",
-        Some((4, 7)),
-    ),
-    // It is a command.
-    ("thread a\nmutex m\ndie a 4\nthread b\n", Some((2, 4))),
-    ("thread a\ndie a 4\nmutex m\n", Some((2, 3))),
-    ("thread a\ndie a 4\n", Some((3, 3))),
-    ("thread a\nmutex m\ndie a 4", Some((2, 3))),
-    // Calls name condition variables that are declared above, and these name mutexes.
-    ("thread a\nmutex m\ncond q m 0\ncall a wait q\n", None),
-    (
-        "thread a\nmutex m\ncond q m 0\ncall a signal m\n",
-        Some((4, 4)),
-    ),
-    ("thread a\ncond q m 0\nmutex m\n", Some((4, 2))),
-    ("thread a\nmutex m\nphase\ncond q m 0\n", Some((2, 4))),
-];
-
-#[test]
-fn scripts(rt: HostRuntime) {
-    assert!(rt;
-        WHOLE_FOR_THREADS
-            .first_wrong(rt.alloc(), &SCRIPTS)
-            .is_none()
-    );
-    let bytes = b"phase\n#\n\xff\n";
-    assert!(rt; refusal(rt.alloc(), bytes, Mode::Threads) == Some((1, 3)));
-}
-
-/// A phase is a script's line for real threads alone.
-#[test]
-fn phase_in_a_run(rt: HostRuntime) {
-    let text = b"thread a\nmutex m\nphase\n";
-    assert!(rt; refusal(rt.alloc(), text, Mode::Run) == Some((2, 3)));
-}
-
-/// So is the death of a thread before an access.
-#[test]
-fn death_in_a_run(rt: HostRuntime) {
-    let text = b"thread a\nmutex m\ndie a 4\n";
-    assert!(rt; refusal(rt.alloc(), text, Mode::Run) == Some((2, 3)));
-    let past_range = b"thread a\nmutex m\ndie b 0\n";
-    assert!(rt; refusal(rt.alloc(), past_range, Mode::Run) == Some((2, 3)));
-}
 
 const LOCK: Op = Op::OnMutex(Call::Lock(0));
 
@@ -261,19 +120,11 @@ fn ask_for(alloc: Global, commands: &str, want: &[&[Calls]]) -> bool {
     }
 }
 
-/// The place of the first commands that ask for other phases.
-fn first_wrong(alloc: Global) -> Option<usize> {
-    for (place, (commands, want)) in PHASES.iter().enumerate() {
-        if !ask_for(alloc, *commands, *want) {
-            return Some(place);
-        }
-    }
-    None
-}
-
 #[test]
 fn phases(rt: HostRuntime) {
-    assert!(rt; first_wrong(rt.alloc()).is_none());
+    for (commands, want) in &PHASES {
+        assert!(rt; ask_for(rt.alloc(), *commands, *want), "by {commands}");
+    }
 }
 
 /// The commands of three threads, and before which of its accesses each dies.
@@ -301,19 +152,14 @@ fn die_so(alloc: Global, commands: &str, want: &[Option<u32>]) -> bool {
     }
 }
 
-/// The place of the first commands by which threads die otherwise.
-fn first_wrong_death(alloc: Global) -> Option<usize> {
-    for (place, (commands, want)) in DEATHS.iter().enumerate() {
-        if !die_so(alloc, *commands, want.as_slice()) {
-            return Some(place);
-        }
-    }
-    None
-}
-
 #[test]
 fn deaths(rt: HostRuntime) {
-    assert!(rt; first_wrong_death(rt.alloc()).is_none());
+    for (commands, want) in &DEATHS {
+        assert!(rt;
+            die_so(rt.alloc(), *commands, want.as_slice()),
+            "by {commands}"
+        );
+    }
 }
 
 /// What only the machine runs asks for nothing of real threads, and the end of a phase and a thread's death before an
@@ -339,10 +185,5 @@ fn phases_of(alloc: Global, text: &[u8]) -> Result<usize, Refused> {
 #[test]
 fn memory(rt: HostRuntime) {
     let text = b"thread a\n#\nmutex m\ncall a trylock m\nphase\ncall a unlock m\ndie a 4\n";
-    match phases_of(rt.alloc(), text) {
-        Ok(phases) => assert!(rt; phases == 2),
-        Err((fault, line)) => {
-            assert!(rt; fault == 6 && line != 0 && line != 2 && line < 8);
-        }
-    }
+    assert!(rt; is_or_wants_memory(phases_of(rt.alloc(), text), 2, &[1, 3, 4, 5, 6, 7]));
 }

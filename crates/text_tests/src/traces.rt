@@ -1,6 +1,7 @@
 //! Traces with the answer that each gets, written out by hand from the format.
 
-use crate::built::joined;
+use crate::built::{Frame, WHOLE};
+use crate::cases::all_hold;
 use std::alloc::{AllocError, Global};
 use std::test::Fail;
 use verdict::{Verdict, check};
@@ -26,74 +27,68 @@ pub(crate) fn answered(alloc: Global, bytes: &[u8]) -> Answer {
     }
 }
 
-/// The place of the first text that is answered otherwise.
-pub(crate) fn first_wrong(alloc: Global, cases: &[(&str, Answer)]) -> Option<usize> {
-    for (place, (text, want)) in cases.iter().enumerate() {
-        if answered(alloc, text.as_bytes()) != *want {
-            return Some(place);
-        }
-    }
-    None
+/// Traces that begin alike and end alike, by what is answered to them: what stands in between.
+#[derive(Clone, Copy)]
+pub(crate) struct Traces {
+    pub frame: Frame,
+    pub answers: &'static [(Answer, &'static [&'static str])],
 }
 
-/// Whether that is the answer to a trace of two threads, two mutexes and a condition variable, with these lines behind
-/// the first.
-fn is_answered_behind(alloc: Global, behind: &str, want: Answer) -> bool {
-    match joined(alloc, "trace 2 2 1\n", behind, "\n") {
-        Ok(text) => answered(alloc, text.as_bytes()) == want,
-        Err(_) => false,
-    }
-}
+/// Lines stand behind a first one of two threads, two mutexes and a condition variable.
+pub(crate) const BEHIND_THE_FIRST: Frame = Frame {
+    front: "trace 2 2 1\n",
+    end: "\n",
+};
 
-/// The place of the first such trace that is answered otherwise.
-pub(crate) fn first_wrong_behind(alloc: Global, cases: &[(&str, Answer)]) -> Option<usize> {
-    for (place, (behind, want)) in cases.iter().enumerate() {
-        if !is_answered_behind(alloc, *behind, *want) {
-            return Some(place);
+impl Traces {
+    /// The first of them that is answered otherwise.
+    pub(crate) fn first_wrong(&self, alloc: Global) -> Option<&'static str> {
+        for (want, traces) in self.answers {
+            for lines in *traces {
+                if !self.is_answered(alloc, *lines, *want) {
+                    return Some(*lines);
+                }
+            }
+        }
+        None
+    }
+
+    fn is_answered(&self, alloc: Global, lines: &str, want: Answer) -> bool {
+        match self.frame.around(alloc, lines) {
+            Ok(text) => answered(alloc, text.as_bytes()) == want,
+            Err(_) => false,
         }
     }
-    None
-}
-
-/// The place of the first such trace that is answered otherwise than this.
-pub(crate) fn first_answered_otherwise(
-    alloc: Global,
-    want: Answer,
-    cases: &[&str],
-) -> Option<usize> {
-    for (place, behind) in cases.iter().enumerate() {
-        if !is_answered_behind(alloc, *behind, want) {
-            return Some(place);
-        }
-    }
-    None
 }
 
 /// A lock and an unlock of one thread.
 const LOCK_AND_UNLOCK: &str =
     "trace 1 1 0\n1 begin t1 lock m0\n4 point t1 m0 lock OK\n9 return t1 OK\n10 begin t1 unlock m0\n16 point t1 m0 unlock OK\n17 return t1 OK\nend 17\n";
 
-/// Whole traces.
-static WORKED_TRACES: [(&str, Answer); 7] = [
-    (LOCK_AND_UNLOCK, Legal(2)),
-    ("trace 1 1 0\nend 0\n", Legal(0)),
-    ("trace 1 1 0\nend 100000\n", Legal(0)),
-    ("trace 1 1 0\n1 return t1 OK\nend 1\n", Illegal(2)),
-    ("trace 1 1 0\n5 kill t1\nend 4\n", Illegal(3)),
-    (
-        "trace 1 1 0\n1 begin t1 lock m0\n4 point t1 m0 lock OK\n9 return t1 OK\n10 begin t1 unlock m0\n16 point t1 m0 unlock EPERM\n17 return t1 OK\nend 17\n",
-        Illegal(6),
-    ),
-    (
-        "trace 1 1 0\n1 begin t1 lock m0\n4 point t1 m0 lock OK\n9 return t1 OK\n10 begin t1 unlock m0\n16 point t1 m0 unlock OK\n17 return t1 OK\n",
-        Refused(5, 8),
-    ),
-];
-
-#[test]
-fn worked_traces(rt: HostRuntime) {
-    assert!(rt; first_wrong(rt.alloc(), &WORKED_TRACES).is_none());
-}
+static WORKED_TRACES: Traces = Traces {
+    frame: WHOLE,
+    answers: &[
+        (Legal(2), &[LOCK_AND_UNLOCK]),
+        (
+            Legal(0),
+            &["trace 1 1 0\nend 0\n", "trace 1 1 0\nend 100000\n"],
+        ),
+        (Illegal(2), &["trace 1 1 0\n1 return t1 OK\nend 1\n"]),
+        (Illegal(3), &["trace 1 1 0\n5 kill t1\nend 4\n"]),
+        (
+            Illegal(6),
+            &[
+                "trace 1 1 0\n1 begin t1 lock m0\n4 point t1 m0 lock OK\n9 return t1 OK\n10 begin t1 unlock m0\n16 point t1 m0 unlock EPERM\n17 return t1 OK\nend 17\n",
+            ],
+        ),
+        (
+            Refused(5, 8),
+            &[
+                "trace 1 1 0\n1 begin t1 lock m0\n4 point t1 m0 lock OK\n9 return t1 OK\n10 begin t1 unlock m0\n16 point t1 m0 unlock OK\n17 return t1 OK\n",
+            ],
+        ),
+    ],
+};
 
 /// Passes too where any one allocation fails: the answer is then want of memory at line 1.
 #[test]
@@ -124,116 +119,237 @@ fn first_wrong_cut(alloc: Global) -> Option<usize> {
 
 #[test]
 fn lock_and_unlock_cut_at_each_byte(rt: HostRuntime) {
-    assert!(rt; first_wrong_cut(rt.alloc()).is_none());
+    assert_eq!(rt; first_wrong_cut(rt.alloc()), None, "the length");
 }
 
 /// What threads that are killed leave.
-static DEATHS: [(&str, Answer); 11] = [
-    // A whole call, then a death, a new owner, and a call that declares the mutex consistent.
-    (
-        "1 begin t1 lock m0\n4 point t1 m0 lock OK\n9 return t1 OK\n10 kill t1\n16 death t1 m0\n16 reaped t1\n17 begin t2 lock m0\n20 point t2 m0 lock EOWNERDEAD\n25 return t2 EOWNERDEAD\n26 begin t2 consistent m0\n28 point t2 m0 consistent OK\n28 return t2 OK\n29 begin t2 unlock m0\n35 point t2 m0 unlock OK\n36 return t2 OK\n37 begin t2 lock m0\n40 point t2 m0 lock OK\n45 return t2 OK\nend 45",
-        Legal(5),
-    ),
-    // Killed behind the point of its call.
-    (
-        "1 begin t1 lock m0\n4 point t1 m0 lock OK\n5 kill t1\n10 death t1 m0\n10 reaped t1\n11 begin t2 lock m0\n14 point t2 m0 lock EOWNERDEAD\n19 return t2 EOWNERDEAD\nend 19",
-        Legal(2),
-    ),
-    // Killed between the release and the wake.
-    (
-        "1 begin t1 lock m0\n4 point t1 m0 lock OK\n9 return t1 OK\n10 begin t2 lock m0\n14 sleep t2 m0\n15 begin t1 unlock m0\n21 point t1 m0 unlock OK\n22 kill t1\n27 wake t2\n27 reaped t1\n29 point t2 m0 lock OK\n34 return t2 OK\nend 34",
-        Legal(3),
-    ),
-    ("1 kill t1\n2 kill t1\nend 2", Illegal(3)),
-    ("1 death t1 m0\nend 1", Illegal(2)),
-    ("1 kill t1\n2 death t1 m0\nend 2", Illegal(3)),
-    (
-        "1 begin t1 lock m0\n2 point t1 m0 lock OK\n3 death t1 m0\nend 3",
-        Illegal(4),
-    ),
-    (
-        "1 begin t1 lock m0\n2 point t1 m0 lock OK\n3 kill t1\n4 reaped t1\nend 4",
-        Illegal(5),
-    ),
-    ("1 reaped t1\nend 1", Illegal(2)),
-    ("1 kill t1\n2 reaped t1\n3 reaped t1\nend 3", Illegal(4)),
-    ("1 kill t1\n2 begin t1 lock m0\nend 2", Illegal(3)),
-];
+static DEATHS: Traces = Traces {
+    frame: BEHIND_THE_FIRST,
+    answers: &[
+        // A whole call, then a death, a new owner, and a call that declares the mutex consistent.
+        (
+            Legal(5),
+            &[
+                "1 begin t1 lock m0\n4 point t1 m0 lock OK\n9 return t1 OK\n10 kill t1\n16 death t1 m0\n16 reaped t1\n17 begin t2 lock m0\n20 point t2 m0 lock EOWNERDEAD\n25 return t2 EOWNERDEAD\n26 begin t2 consistent m0\n28 point t2 m0 consistent OK\n28 return t2 OK\n29 begin t2 unlock m0\n35 point t2 m0 unlock OK\n36 return t2 OK\n37 begin t2 lock m0\n40 point t2 m0 lock OK\n45 return t2 OK\nend 45",
+            ],
+        ),
+        // Killed behind the point of its call.
+        (
+            Legal(2),
+            &[
+                "1 begin t1 lock m0\n4 point t1 m0 lock OK\n5 kill t1\n10 death t1 m0\n10 reaped t1\n11 begin t2 lock m0\n14 point t2 m0 lock EOWNERDEAD\n19 return t2 EOWNERDEAD\nend 19",
+            ],
+        ),
+        // Killed between the release and the wake.
+        (
+            Legal(3),
+            &[
+                "1 begin t1 lock m0\n4 point t1 m0 lock OK\n9 return t1 OK\n10 begin t2 lock m0\n14 sleep t2 m0\n15 begin t1 unlock m0\n21 point t1 m0 unlock OK\n22 kill t1\n27 wake t2\n27 reaped t1\n29 point t2 m0 lock OK\n34 return t2 OK\nend 34",
+            ],
+        ),
+        (Illegal(2), &["1 death t1 m0\nend 1", "1 reaped t1\nend 1"]),
+        (
+            Illegal(3),
+            &[
+                "1 kill t1\n2 kill t1\nend 2",
+                "1 kill t1\n2 death t1 m0\nend 2",
+                "1 kill t1\n2 begin t1 lock m0\nend 2",
+            ],
+        ),
+        (
+            Illegal(4),
+            &[
+                "1 begin t1 lock m0\n2 point t1 m0 lock OK\n3 death t1 m0\nend 3",
+                "1 kill t1\n2 reaped t1\n3 reaped t1\nend 3",
+            ],
+        ),
+        (
+            Illegal(5),
+            &["1 begin t1 lock m0\n2 point t1 m0 lock OK\n3 kill t1\n4 reaped t1\nend 4"],
+        ),
+    ],
+};
 
-#[test]
-fn deaths(rt: HostRuntime) {
-    assert!(rt; first_wrong_behind(rt.alloc(), &DEATHS).is_none());
-}
+/// A mutex is made anew that is free, or that its own thread owns.
+static REINITS: Traces = Traces {
+    frame: BEHIND_THE_FIRST,
+    answers: &[
+        (
+            Illegal(3),
+            &["1 begin t1 reinit m0\n1 point t1 m0 reinit OK\n1 return t1 OK\nend 1"],
+        ),
+        (
+            Illegal(6),
+            &[
+                "1 begin t1 lock m0\n2 point t1 m0 lock OK\n3 return t1 OK\n4 begin t1 reinit m0\n4 point t1 m0 reinit OK\nend 4",
+            ],
+        ),
+    ],
+};
 
-/// Mutexes that are made anew.
-static REINITS: [(&str, Answer); 6] = [
-    // An unusable one, which is locked then.
-    (
-        "1 begin t1 lock m0\n2 point t1 m0 lock OK\n3 kill t1\n4 death t1 m0\n4 reaped t1\n5 begin t2 lock m0\n6 point t2 m0 lock EOWNERDEAD\n7 return t2 EOWNERDEAD\n8 begin t2 unlock m0\n9 point t2 m0 unlock OK\n10 return t2 OK\n11 begin t2 reinit m0\n11 point t2 m0 reinit OK\n11 return t2 OK\n12 begin t2 lock m0\n13 point t2 m0 lock OK\nend 13",
-        Legal(5),
-    ),
-    // A return without its point.
-    (
-        "1 begin t1 lock m0\n2 point t1 m0 lock OK\n3 kill t1\n4 death t1 m0\n4 reaped t1\n5 begin t2 lock m0\n6 point t2 m0 lock EOWNERDEAD\n7 return t2 EOWNERDEAD\n8 begin t2 unlock m0\n9 point t2 m0 unlock OK\n10 return t2 OK\n11 begin t2 reinit m0\n12 return t2 OK\nend 12",
-        Illegal(14),
-    ),
-    // One that is free, one that its own thread owns, and another reply.
-    (
-        "1 begin t1 reinit m0\n1 point t1 m0 reinit OK\n1 return t1 OK\nend 1",
-        Illegal(3),
-    ),
-    (
-        "1 begin t1 lock m0\n2 point t1 m0 lock OK\n3 return t1 OK\n4 begin t1 reinit m0\n4 point t1 m0 reinit OK\nend 4",
-        Illegal(6),
-    ),
-    (
-        "1 begin t1 lock m0\n2 point t1 m0 lock OK\n3 kill t1\n4 death t1 m0\n4 reaped t1\n5 begin t2 lock m0\n6 point t2 m0 lock EOWNERDEAD\n7 return t2 EOWNERDEAD\n8 begin t2 unlock m0\n9 point t2 m0 unlock OK\n10 return t2 OK\n11 begin t2 reinit m0\n11 point t2 m0 reinit EBUSY\nend 11",
-        Illegal(14),
-    ),
-    // Of another mutex than that which is unusable.
-    (
-        "1 begin t1 lock m0\n2 point t1 m0 lock OK\n3 kill t1\n4 death t1 m0\n4 reaped t1\n5 begin t2 lock m0\n6 point t2 m0 lock EOWNERDEAD\n7 return t2 EOWNERDEAD\n8 begin t2 unlock m0\n9 point t2 m0 unlock OK\n10 return t2 OK\n11 begin t2 reinit m1\n11 point t2 m1 reinit OK\nend 11",
-        Illegal(14),
-    ),
-];
-
-#[test]
-fn reinits(rt: HostRuntime) {
-    assert!(rt; first_wrong_behind(rt.alloc(), &REINITS).is_none());
-}
+/// The same where it is unusable: a dead owner's heir has unlocked it, and didn't declare it consistent.
+static REINITS_OF_AN_UNUSABLE: Traces = Traces {
+    frame: Frame {
+        front: "trace 2 2 1\n1 begin t1 lock m0\n2 point t1 m0 lock OK\n3 kill t1\n4 death t1 m0\n4 reaped t1\n5 begin t2 lock m0\n6 point t2 m0 lock EOWNERDEAD\n7 return t2 EOWNERDEAD\n8 begin t2 unlock m0\n9 point t2 m0 unlock OK\n10 return t2 OK\n",
+        end: "\n",
+    },
+    answers: &[
+        // It is locked then.
+        (
+            Legal(5),
+            &[
+                "11 begin t2 reinit m0\n11 point t2 m0 reinit OK\n11 return t2 OK\n12 begin t2 lock m0\n13 point t2 m0 lock OK\nend 13",
+            ],
+        ),
+        // A return without its point, another reply, and another mutex.
+        (
+            Illegal(14),
+            &[
+                "11 begin t2 reinit m0\n12 return t2 OK\nend 12",
+                "11 begin t2 reinit m0\n11 point t2 m0 reinit EBUSY\nend 11",
+                "11 begin t2 reinit m1\n11 point t2 m1 reinit OK\nend 11",
+            ],
+        ),
+    ],
+};
 
 /// Calls on a condition variable.
-static WAITS: [(&str, Answer); 6] = [
-    // Released, moved, woken, and the mutex taken again.
-    (
-        "1 begin t1 lock m0\n2 point t1 m0 lock OK\n3 return t1 OK\n4 begin t1 wait c0 m0\n5 point t1 m0 unlock OK\n6 sleep t1 c0\n7 begin t2 lock m0\n8 point t2 m0 lock OK\n9 return t2 OK\n10 begin t2 broadcast c0 m0\n11 point t2 m0 broadcast OK\n12 move t1 m0\n12 return t2 OK\n13 begin t2 unlock m0\n14 point t2 m0 unlock OK\n15 wake t1\n15 return t2 OK\n16 point t1 m0 lock OK\n17 return t1 OK\nend 17",
-        Legal(6),
-    ),
-    (
-        "1 begin t1 wait c0 m0\n2 point t1 m0 wait EPERM\n2 return t1 EPERM\nend 2",
-        Legal(1),
-    ),
-    (
-        "1 begin t1 wait c0 m0\n2 point t1 m0 unlock EPERM\nend 2",
-        Illegal(3),
-    ),
-    (
-        "1 begin t1 wait c0 m0\n2 point t1 m0 lock OK\nend 2",
-        Illegal(3),
-    ),
-    (
-        "1 begin t1 lock m0\n2 point t1 m0 lock OK\n3 return t1 OK\n4 begin t1 wait c0 m0\n5 point t1 m0 unlock OK\n6 return t1 OK\nend 6",
-        Illegal(7),
-    ),
-    (
-        "1 begin t1 lock m0\n2 point t1 m0 lock OK\n3 return t1 OK\n4 begin t1 wait c0 m0\n5 point t1 m0 unlock OK\n6 point t1 m0 wait EPERM\nend 6",
-        Illegal(7),
-    ),
-];
+static WAITS: Traces = Traces {
+    frame: BEHIND_THE_FIRST,
+    answers: &[
+        // Released, moved, woken, and the mutex taken again.
+        (
+            Legal(6),
+            &[
+                "1 begin t1 lock m0\n2 point t1 m0 lock OK\n3 return t1 OK\n4 begin t1 wait c0 m0\n5 point t1 m0 unlock OK\n6 sleep t1 c0\n7 begin t2 lock m0\n8 point t2 m0 lock OK\n9 return t2 OK\n10 begin t2 broadcast c0 m0\n11 point t2 m0 broadcast OK\n12 move t1 m0\n12 return t2 OK\n13 begin t2 unlock m0\n14 point t2 m0 unlock OK\n15 wake t1\n15 return t2 OK\n16 point t1 m0 lock OK\n17 return t1 OK\nend 17",
+            ],
+        ),
+        (
+            Legal(1),
+            &["1 begin t1 wait c0 m0\n2 point t1 m0 wait EPERM\n2 return t1 EPERM\nend 2"],
+        ),
+        (
+            Illegal(3),
+            &[
+                "1 begin t1 wait c0 m0\n2 point t1 m0 unlock EPERM\nend 2",
+                "1 begin t1 wait c0 m0\n2 point t1 m0 lock OK\nend 2",
+            ],
+        ),
+        (
+            Illegal(6),
+            &[
+                "1 begin t1 lock m0\n2 point t1 m0 lock OK\n3 return t1 OK\n4 begin t1 wait c0 m0\n5 point t1 m0 wait OK\nend 5",
+            ],
+        ),
+        (
+            Illegal(7),
+            &[
+                "1 begin t1 lock m0\n2 point t1 m0 lock OK\n3 return t1 OK\n4 begin t1 wait c0 m0\n5 point t1 m0 unlock OK\n6 return t1 OK\nend 6",
+                "1 begin t1 lock m0\n2 point t1 m0 lock OK\n3 return t1 OK\n4 begin t1 wait c0 m0\n5 point t1 m0 unlock OK\n6 point t1 m0 wait EPERM\nend 6",
+            ],
+        ),
+    ],
+};
+
+/// Numbers of events that fall, or that two lines share.
+static NUMBERS_OF_EVENTS: Traces = Traces {
+    frame: BEHIND_THE_FIRST,
+    answers: &[
+        (
+            Legal(0),
+            &["1 begin t1 lock m0\n2 sleep t1 m0\n3 begin t2 lock m0\n3 wake t1\nend 3"],
+        ),
+        (
+            Illegal(3),
+            &[
+                "2 begin t1 lock m0\n1 kill t2\nend 2",
+                "2 begin t1 lock m0\nend 1",
+                "1 begin t1 lock m0\n1 begin t2 lock m0\nend 1",
+                "1 begin t1 lock m0\n1 kill t1\nend 1",
+                "1 kill t1\n1 reaped t1\nend 1",
+            ],
+        ),
+        (
+            Illegal(5),
+            &[
+                "1 begin t1 lock m0\n2 sleep t1 m0\n3 kill t2\n3 wake t1\nend 3",
+                // A kill behind a wake.
+                "1 begin t1 lock m0\n2 sleep t1 m0\n3 wake t1\n3 kill t2\nend 3",
+            ],
+        ),
+        (
+            Illegal(6),
+            &[
+                "1 begin t1 lock m0\n1 point t1 m0 lock OK\n1 return t1 OK\n1 begin t1 unlock m0\n1 point t1 m0 unlock OK\nend 1",
+                // A wake doesn't part what two threads did.
+                "1 begin t1 lock m0\n2 sleep t1 m0\n3 begin t2 lock m1\n3 wake t1\n3 point t1 m0 lock OK\nend 3",
+            ],
+        ),
+        // Two deaths.
+        (
+            Illegal(9),
+            &[
+                "1 begin t1 lock m0\n2 point t1 m0 lock OK\n3 return t1 OK\n4 begin t1 lock m1\n5 point t1 m1 lock OK\n6 kill t1\n7 death t1 m0\n7 death t1 m1\nend 7",
+            ],
+        ),
+    ],
+};
+
+/// Calls, their points and their returns.
+static CALLS: Traces = Traces {
+    frame: BEHIND_THE_FIRST,
+    answers: &[
+        (
+            Legal(2),
+            &[
+                "1 begin t1 lock m0\n2 point t1 m0 lock OK\n2 return t1 OK\n3 begin t1 lock m0\n4 point t1 m0 lock EDEADLK\n4 return t1 EDEADLK\nend 4",
+            ],
+        ),
+        (
+            Illegal(2),
+            &["1 point t1 m0 lock OK\nend 1", "1 sleep t1 m0\nend 1"],
+        ),
+        (
+            Illegal(3),
+            &[
+                "1 begin t1 lock m0\n2 begin t1 lock m0\nend 2",
+                "1 begin t1 lock m0\n2 point t1 m1 lock OK\nend 2",
+                "1 begin t1 lock m0\n2 point t1 m0 trylock OK\nend 2",
+                "1 begin t1 lock m0\n2 point t1 m0 lock EBUSY\nend 2",
+                "1 begin t1 lock m0\n2 return t1 OK\nend 2",
+                "1 begin t1 lock m0\n2 wake t1\nend 2",
+                "1 begin t1 lock m0\n2 move t1 m0\nend 2",
+            ],
+        ),
+        (
+            Illegal(4),
+            &[
+                "1 begin t1 trylock m0\n2 point t1 m0 trylock X_RACED\n3 point t1 m0 trylock OK\nend 3",
+                "1 begin t1 lock m0\n2 sleep t1 m0\n3 point t1 m0 lock OK\nend 3",
+                "1 begin t1 lock m0\n2 point t1 m0 lock OK\n3 return t1 EBUSY\nend 3",
+                "1 begin t1 lock m0\n2 sleep t1 m0\n3 sleep t1 m0\nend 3",
+            ],
+        ),
+        (
+            Illegal(5),
+            &["1 begin t1 lock m0\n2 point t1 m0 lock OK\n3 sleep t1 m0\n4 return t1 OK\nend 4"],
+        ),
+    ],
+};
 
 #[test]
-fn waits(rt: HostRuntime) {
-    assert!(rt; first_wrong_behind(rt.alloc(), &WAITS).is_none());
+fn traces_are_judged(rt: HostRuntime) {
+    for traces in [
+        &WORKED_TRACES,
+        &DEATHS,
+        &REINITS,
+        &REINITS_OF_AN_UNUSABLE,
+        &WAITS,
+        &NUMBERS_OF_EVENTS,
+        &CALLS,
+    ] {
+        all_hold(&rt, traces.first_wrong(rt.alloc()));
+    }
 }
 
 /// Adds the lock of a mutex by thread 1, in an event of a number above 10,000.
@@ -271,96 +387,4 @@ fn a_thread_holds_2048_mutexes(rt: HostRuntime) -> Result<(), Fail> {
         assert!(rt; answered(rt.alloc(), text.as_bytes()) == want);
     }
     Ok(())
-}
-
-/// Numbers of events that fall, or that two lines share.
-static NUMBERS_OF_EVENTS: [(&str, Answer); 11] = [
-    ("2 begin t1 lock m0\n1 kill t2\nend 2", Illegal(3)),
-    ("1 begin t1 lock m0\n1 begin t2 lock m0\nend 1", Illegal(3)),
-    (
-        "1 begin t1 lock m0\n1 point t1 m0 lock OK\n1 return t1 OK\n1 begin t1 unlock m0\n1 point t1 m0 unlock OK\nend 1",
-        Illegal(6),
-    ),
-    ("1 begin t1 lock m0\n1 kill t1\nend 1", Illegal(3)),
-    ("1 kill t1\n1 reaped t1\nend 1", Illegal(3)),
-    (
-        "1 begin t1 lock m0\n2 sleep t1 m0\n3 kill t2\n3 wake t1\nend 3",
-        Illegal(5),
-    ),
-    (
-        "1 begin t1 lock m0\n2 sleep t1 m0\n3 begin t2 lock m0\n3 wake t1\nend 3",
-        Legal(0),
-    ),
-    ("2 begin t1 lock m0\nend 1", Illegal(3)),
-    // Two deaths.
-    (
-        "1 begin t1 lock m0\n2 point t1 m0 lock OK\n3 return t1 OK\n4 begin t1 lock m1\n5 point t1 m1 lock OK\n6 kill t1\n7 death t1 m0\n7 death t1 m1\nend 7",
-        Illegal(9),
-    ),
-    // A kill behind a wake.
-    (
-        "1 begin t1 lock m0\n2 sleep t1 m0\n3 wake t1\n3 kill t2\nend 3",
-        Illegal(5),
-    ),
-    // A wake doesn't part what two threads did.
-    (
-        "1 begin t1 lock m0\n2 sleep t1 m0\n3 begin t2 lock m1\n3 wake t1\n3 point t1 m0 lock OK\nend 3",
-        Illegal(6),
-    ),
-];
-
-#[test]
-fn numbers_of_events(rt: HostRuntime) {
-    assert!(rt; first_wrong_behind(rt.alloc(), &NUMBERS_OF_EVENTS).is_none());
-}
-
-/// Calls, their points and their returns.
-static CALLS: [(&str, Answer); 15] = [
-    ("1 begin t1 lock m0\n2 begin t1 lock m0\nend 2", Illegal(3)),
-    ("1 point t1 m0 lock OK\nend 1", Illegal(2)),
-    (
-        "1 begin t1 lock m0\n2 point t1 m1 lock OK\nend 2",
-        Illegal(3),
-    ),
-    (
-        "1 begin t1 lock m0\n2 point t1 m0 trylock OK\nend 2",
-        Illegal(3),
-    ),
-    (
-        "1 begin t1 lock m0\n2 point t1 m0 lock EBUSY\nend 2",
-        Illegal(3),
-    ),
-    (
-        "1 begin t1 trylock m0\n2 point t1 m0 trylock X_RACED\n3 point t1 m0 trylock OK\nend 3",
-        Illegal(4),
-    ),
-    (
-        "1 begin t1 lock m0\n2 sleep t1 m0\n3 point t1 m0 lock OK\nend 3",
-        Illegal(4),
-    ),
-    ("1 begin t1 lock m0\n2 return t1 OK\nend 2", Illegal(3)),
-    (
-        "1 begin t1 lock m0\n2 point t1 m0 lock OK\n3 return t1 EBUSY\nend 3",
-        Illegal(4),
-    ),
-    (
-        "1 begin t1 lock m0\n2 point t1 m0 lock OK\n3 sleep t1 m0\n4 return t1 OK\nend 4",
-        Illegal(5),
-    ),
-    ("1 sleep t1 m0\nend 1", Illegal(2)),
-    (
-        "1 begin t1 lock m0\n2 sleep t1 m0\n3 sleep t1 m0\nend 3",
-        Illegal(4),
-    ),
-    ("1 begin t1 lock m0\n2 wake t1\nend 2", Illegal(3)),
-    ("1 begin t1 lock m0\n2 move t1 m0\nend 2", Illegal(3)),
-    (
-        "1 begin t1 lock m0\n2 point t1 m0 lock OK\n2 return t1 OK\n3 begin t1 lock m0\n4 point t1 m0 lock EDEADLK\n4 return t1 EDEADLK\nend 4",
-        Legal(2),
-    ),
-];
-
-#[test]
-fn calls(rt: HostRuntime) {
-    assert!(rt; first_wrong_behind(rt.alloc(), &CALLS).is_none());
 }

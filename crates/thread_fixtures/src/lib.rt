@@ -7,8 +7,8 @@
 //!
 //! ```text
 //! static STEPS: [Step; 2] = [
-//!     Step::Calls(Who::First, Op::OnMutex(Call::Lock(0)), Some(Reply::OK)),
-//!     Step::Calls(Who::Second, Op::OnMutex(Call::TryLock(0)), Some(Reply::EBUSY)),
+//!     Step::Calls(Who::First, &[Op::OnMutex(Call::Lock(0))], Some(Reply::OK)),
+//!     Step::Calls(Who::Second, &[Op::OnMutex(Call::TryLock(0))], Some(Reply::EBUSY)),
 //! ];
 //!
 //! let left = plays(&rt, rt.alloc(), Layout::new(5, 1, &[])?, &[], &STEPS)?;

@@ -26,8 +26,8 @@ pub enum Who {
 /// What happens next.
 #[derive(Clone, Copy)]
 pub enum Step {
-    /// The thread makes this call, and is told so; None: it dies in it.
-    Calls(Who, Op, Option<Reply>),
+    /// The thread makes these calls, one after the other, and is told so by each; None: it dies in the first.
+    Calls(Who, &'static [Op], Option<Reply>),
     /// The thread with this id is killed.
     Kills(u8),
     /// The process with this number is killed.
@@ -43,81 +43,48 @@ struct Four {
     fourth: Option<Pass<Live>>,
 }
 
-/// What a thread is told, if it lives; and its pass, if it lives still.
-fn told<R: Wait>(
+/// What a thread is told, if it lives. Its pass is gone where it dies.
+fn told<R: Wait>(rt: &R, bench: &Bench, pass: &mut Option<Pass<Live>>, op: Op) -> Option<Reply>
+    requires { IfSome pass.old (λ p. IsLive bench.now p) }
+    ensures { IfSome pass.new (λ p. IsLive bench.now p) }
+{
+    let living = pass.take()?;
+    let (after, reply) = makes(rt, bench, living, op, &mut Never)?;
+    *pass = Some(after);
+    Some(reply)
+}
+
+/// Whether a thread is told so by each of its calls.
+fn calls<R: Wait>(
     rt: &R,
     bench: &Bench,
-    pass: Option<Pass<Live>>,
-    op: Op,
-) -> (Option<Pass<Live>>, Option<Reply>)
-    requires { IfSome pass (λ p. IsLive bench.now p) }
-    ensures { IfSome result.0 (λ p. IsLive bench.now p) }
+    pass: &mut Option<Pass<Live>>,
+    ops: &[Op],
+    want: Option<Reply>,
+) -> bool
+    requires { IfSome pass.old (λ p. IsLive bench.now p) }
+    ensures { IfSome pass.new (λ p. IsLive bench.now p) }
 {
-    let Some(pass) = pass else {
-        return (None, None);
-    };
-    match makes(rt, bench, pass, op, &mut Never) {
-        Some((pass, reply)) => (Some(pass), Some(reply)),
-        None => (None, None),
+    let mut well = true;
+    for op in ops {
+        let reply = told(rt, bench, pass, *op);
+        well = well && reply == want;
     }
+    well
 }
 
-/// Makes a call of one of the four.
-fn turn<R: Wait>(rt: &R, bench: &Bench, four: Four, who: Who, op: Op) -> (Four, Option<Reply>)
-    requires { AreLive bench.now four }
-    ensures { AreLive bench.now result.0 }
-{
-    let Four {
-        mut first,
-        mut second,
-        mut third,
-        mut fourth,
-    } = four;
-    let reply = match who {
-        Who::First => {
-            let (after, reply) = told(rt, bench, first, op);
-            first = after;
-            reply
-        }
-        Who::Second => {
-            let (after, reply) = told(rt, bench, second, op);
-            second = after;
-            reply
-        }
-        Who::Third => {
-            let (after, reply) = told(rt, bench, third, op);
-            third = after;
-            reply
-        }
-        Who::Fourth => {
-            let (after, reply) = told(rt, bench, fourth, op);
-            fourth = after;
-            reply
-        }
-    };
-    (
-        Four {
-            first,
-            second,
-            third,
-            fourth,
-        },
-        reply,
-    )
-}
-
-/// A step, and whether it goes as it should.
-fn goes<R: Wait>(rt: &R, bench: &Bench, four: Four, step: Step) -> (Four, bool)
-    requires { AreLive bench.now four }
-    ensures { AreLive bench.now result.0 }
+/// Whether a step goes as it should.
+fn goes<R: Wait>(rt: &R, bench: &Bench, four: &mut Four, step: Step) -> bool
+    requires { AreLive bench.now four.old }
+    ensures { AreLive bench.now four.new }
 {
     match step {
-        Step::Calls(who, op, want) => {
-            let (after, reply) = turn(rt, bench, four, who, op);
-            (after, reply == want)
-        }
-        Step::Kills(thread) => (four, bench.kill(rt, thread) == Ok(())),
-        Step::KillsProcess(process) => (four, bench.kill_process(rt, process) == Ok(())),
+        Step::Calls(Who::First, ops, want) => calls(rt, bench, &mut four.first, ops, want),
+        Step::Calls(Who::Second, ops, want) => calls(rt, bench, &mut four.second, ops, want),
+        Step::Calls(Who::Third, ops, want) => calls(rt, bench, &mut four.third, ops, want),
+        Step::Calls(Who::Fourth, ops, want) => calls(rt, bench, &mut four.fourth, ops, want),
+        Step::Kills(thread) => bench.kill(rt, thread) == Ok(()),
+        Step::KillsProcess(process) => bench.kill_process(rt, process) == Ok(()),
     }
 }
 
@@ -139,8 +106,7 @@ pub fn plays<R: Wait>(
     };
     let mut well = true;
     for step in steps {
-        let (after, went) = goes(rt, &bench, four, *step);
-        four = after;
+        let went = goes(rt, &bench, &mut four, *step);
         well = well && went;
     }
     let left = Left::of(bench, fifth);

@@ -4,7 +4,7 @@ ghost use Rattle.ruledwords.specs.declared.pass.Card.{Card};
 ghost use Rattle.ruledwords.specs.Deaths.{reaping_pass, HasWalked, IsReapingOf, WalksOn};
 ghost use Rattle.ruledwords.specs.Passes.{card, layout_of, IsDying, IsLive, IsPassOf};
 
-use crate::two::{CELLS, Two, cells, makes, of_two};
+use crate::two::{CELLS, Two, cells, of_two, told};
 use lockword::Reply::{self, EOWNERDEAD, OK};
 use memorymap::Layout;
 use mutex::Call::{self, Consistent, TryLock};
@@ -51,21 +51,6 @@ fn walk(words: &Words, pass: Pass<Dead>) -> Option<(Pass<Reaped>, u32)>
     None
 }
 
-/// Makes calls one after the other: the pass after them, and whether each was told what stands beside it.
-fn told(words: &Words, pass: Pass<Live>, calls: &[(Call, Reply)]) -> (Pass<Live>, bool)
-    requires { IsLive words.now pass }
-    ensures { IsLive words.now result.0 }
-{
-    let mut pass = pass;
-    let mut well = true;
-    for (call, want) in calls {
-        let (after, reply) = makes(words, pass, *call);
-        pass = after;
-        well = well && reply == *want;
-    }
-    (pass, well)
-}
-
 /// What a dead thread leaves.
 #[derive(Clone, Copy, PartialEq, Eq)]
 struct Story {
@@ -84,11 +69,7 @@ fn dies(
     takes: &[(Call, Reply)],
     then: &[(Call, Reply)],
 ) -> Result<Option<Story>, Fail> {
-    let Two {
-        words,
-        first,
-        second,
-    } = of_two(alloc, layout, &[])?;
+    let Two(words, first, second) = of_two(alloc, layout, &[])?;
     let mutexes = words.layout().mutexes();
     let (first, taken) = told(&words, first, takes);
     let Some((first, accesses)) = walk(&words, die(&words, first)) else {

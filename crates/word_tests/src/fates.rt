@@ -80,6 +80,7 @@ fn reply_of(words: &Words, pass: Pass<Live>, call: Call, fate: &mut StopsAt) -> 
 }
 
 /// A call on mutex 0 by a thread that may hold mutex 1, and what it makes.
+#[derive(Clone, Copy)]
 struct Case {
     /// The thread's calls before it.
     before: &'static [Call],
@@ -99,11 +100,7 @@ struct Case {
 /// Whether the thread dies before this access of the case's call, or lives where it makes fewer. A dead thread's mutex
 /// stays its own, and nobody else can take it then.
 fn dies_before(alloc: Global, case: &Case, access: u32) -> Result<bool, Fail> {
-    let Two {
-        words,
-        first: mut pass,
-        second,
-    } = of_two(alloc, Layout::new(2, 2, &[])?, &[])?;
+    let Two(words, mut pass, second) = of_two(alloc, Layout::new(2, 2, &[])?, &[])?;
     for call in case.before {
         pass = makes(&words, pass, *call).0;
     }
@@ -135,7 +132,7 @@ fn first_wrong(alloc: Global, case: &Case) -> Result<Option<u32>, Fail> {
 
 /// By a thread that holds nothing: it announces the mutex, loads and exchanges its cell, puts it in front of the empty
 /// list by 4, and clears what it announced.
-static TRYLOCK: Case = Case {
+const TRYLOCK: Case = Case {
     before: &[],
     call: TryLock(0),
     accesses: 8,
@@ -145,76 +142,49 @@ static TRYLOCK: Case = Case {
     other: 0,
 };
 
-#[test]
-fn trylock_dies_before_each_access(rt: HostRuntime) -> Result<(), Fail> {
-    assert!(rt; first_wrong(rt.alloc(), &TRYLOCK)? == None);
-    Ok(())
-}
-
-/// It puts its mutex in front of the other one by 5.
-static TRYLOCK_BEFORE_ANOTHER: Case = Case {
-    before: &[TryLock(1)],
-    call: TryLock(0),
-    accesses: 9,
-    reply: Reply::OK,
-    owns_from: 4,
-    owns_until: 99,
-    other: 1,
-};
-
-#[test]
-fn trylock_before_another_dies_before_each_access(rt: HostRuntime) -> Result<(), Fail> {
-    assert!(rt; first_wrong(rt.alloc(), &TRYLOCK_BEFORE_ANOTHER)? == None);
-    Ok(())
-}
-
-/// The mutex is consistent, so its load finds nothing to declare.
-static DECLARATION: Case = Case {
-    before: &[TryLock(0)],
-    call: Consistent(0),
-    accesses: 1,
-    reply: Reply::EINVAL,
-    owns_from: 1,
-    owns_until: 99,
-    other: 0,
-};
-
-#[test]
-fn declaration_dies_before_its_load(rt: HostRuntime) -> Result<(), Fail> {
-    assert!(rt; first_wrong(rt.alloc(), &DECLARATION)? == None);
-    Ok(())
-}
-
 /// It loads the cell, announces the mutex, takes it out of the list by 3, and flips the cell.
-static RELEASE: Case = Case {
+const RELEASE: Case = Case {
     before: &[TryLock(0)],
     call: Unlock(0),
     accesses: 6,
-    reply: Reply::OK,
     owns_from: 1,
     owns_until: 6,
-    other: 0,
+    ..TRYLOCK
 };
 
-#[test]
-fn release_dies_before_each_access(rt: HostRuntime) -> Result<(), Fail> {
-    assert!(rt; first_wrong(rt.alloc(), &RELEASE)? == None);
-    Ok(())
-}
+static CASES: [Case; 5] = [
+    TRYLOCK,
+    // it puts its mutex in front of the other one by 5
+    Case {
+        before: &[TryLock(1)],
+        accesses: 9,
+        other: 1,
+        ..TRYLOCK
+    },
+    // the mutex is consistent, so its load finds nothing to declare
+    Case {
+        before: &[TryLock(0)],
+        call: Consistent(0),
+        accesses: 1,
+        reply: Reply::EINVAL,
+        owns_from: 1,
+        ..TRYLOCK
+    },
+    RELEASE,
+    // it takes the mutex out of the list, where another one stands behind it, by 4
+    Case {
+        before: &[TryLock(1), TryLock(0)],
+        accesses: 7,
+        owns_until: 7,
+        other: 1,
+        ..RELEASE
+    },
+];
 
-/// It takes the mutex out of the list, where another one stands behind it, by 4.
-static RELEASE_BEFORE_ANOTHER: Case = Case {
-    before: &[TryLock(1), TryLock(0)],
-    call: Unlock(0),
-    accesses: 7,
-    reply: Reply::OK,
-    owns_from: 1,
-    owns_until: 7,
-    other: 1,
-};
-
 #[test]
-fn release_before_another_dies_before_each_access(rt: HostRuntime) -> Result<(), Fail> {
-    assert!(rt; first_wrong(rt.alloc(), &RELEASE_BEFORE_ANOTHER)? == None);
+fn a_thread_dies_before_each_access_of_its_call(rt: HostRuntime) -> Result<(), Fail> {
+    for (place, case) in CASES.iter().enumerate() {
+        assert_eq!(rt; first_wrong(rt.alloc(), case)?, None, "in case {place}");
+    }
     Ok(())
 }

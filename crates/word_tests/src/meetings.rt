@@ -1,7 +1,7 @@
 //! Two callers' threads, which meet between two calls.
 ghost use Rattle.ruledwords.specs.Passes.{IsLive};
 
-use crate::two::{CELLS, Two, left, makes, of_two};
+use crate::two::{Two, left, makes, of_two};
 use lockword::Reply;
 use lockword::Reply::{EBUSY, OK};
 use memorymap::Layout;
@@ -40,11 +40,7 @@ fn at_once<R: Threads + Sync>(
 /// Each of two threads takes a mutex, they meet, and then each tries the other's: both locks stand before both tries.
 #[test]
 fn locks_before_a_meeting_are_seen_behind_it(rt: HostRuntime) -> Result<(), Fail> {
-    let Two {
-        words,
-        first,
-        second,
-    } = of_two(rt.alloc(), Layout::new(2, 2, &[])?, &[])?;
+    let Two(words, first, second) = of_two(rt.alloc(), Layout::new(2, 2, &[])?, &[])?;
     let ((first, one), (second, other)) = at_once(
         &rt,
         &words,
@@ -59,11 +55,6 @@ fn locks_before_a_meeting_are_seen_behind_it(rt: HostRuntime) -> Result<(), Fail
         (second, TryLock(0)),
     );
     assert!(rt; (one, other, third, fourth) == (OK, OK, EBUSY, EBUSY));
-    let two = Two {
-        words,
-        first,
-        second,
-    };
-    assert!(rt; left(two) == [1, 2, 0, 0]);
+    assert!(rt; left(Two(words, first, second)) == [1, 2, 0, 0]);
     Ok(())
 }

@@ -17,83 +17,60 @@ fn goes(alloc: Global, layout: Layout, steps: &[Step], want: [u64; CELLS]) -> Re
     Ok(well && left(two) == want)
 }
 
-static REPLIES: [Step; 7] = [
-    (First, Unlock(1), EPERM),
-    (First, TryLock(1), OK),
-    (Second, TryLock(1), EBUSY),
-    (Second, Unlock(1), EPERM),
-    (First, TryLock(1), EBUSY),
-    (First, Unlock(1), OK),
-    (Second, TryLock(1), OK),
+static REPLIES: [Step; 4] = [
+    (First, &[(Unlock(1), EPERM), (TryLock(1), OK)]),
+    (Second, &[(TryLock(1), EBUSY), (Unlock(1), EPERM)]),
+    (First, &[(TryLock(1), EBUSY), (Unlock(1), OK)]),
+    (Second, &[(TryLock(1), OK)]),
 ];
-
-#[test]
-fn replies_to_two_passes(rt: HostRuntime) -> Result<(), Fail> {
-    assert!(rt; goes(rt.alloc(), Layout::new(2, 2, &[])?, &REPLIES, [0, 2, 0, 0])?);
-    Ok(())
-}
 
 /// Nobody marks what a dead owner had yet, so no mutex is inconsistent.
-static CONSISTENT: [Step; 5] = [
-    (First, Consistent(1), EPERM),
-    (First, TryLock(1), OK),
-    (First, Consistent(1), EINVAL),
-    (Second, Consistent(1), EPERM),
-    (First, Unlock(1), OK),
+static CONSISTENT: [Step; 4] = [
+    (First, &[(Consistent(1), EPERM)]),
+    (First, &[(TryLock(1), OK), (Consistent(1), EINVAL)]),
+    (Second, &[(Consistent(1), EPERM)]),
+    (First, &[(Unlock(1), OK)]),
+];
+
+/// Of three mutexes the middle one of the list is released first, then the last of it, then the only one left.
+static ANY_ORDER: [Step; 3] = [
+    (First, &[(TryLock(0), OK), (TryLock(1), OK)]),
+    (First, &[(TryLock(2), OK), (Unlock(1), OK)]),
+    (First, &[(Unlock(0), OK), (Unlock(2), OK)]),
 ];
 
 #[test]
-fn consistent_of_consistent_mutexes(rt: HostRuntime) -> Result<(), Fail> {
+fn two_threads_by_turns(rt: HostRuntime) -> Result<(), Fail> {
+    assert!(rt; goes(rt.alloc(), Layout::new(2, 2, &[])?, &REPLIES, [0, 2, 0, 0])?);
     assert!(rt; goes(rt.alloc(), Layout::new(2, 2, &[])?, &CONSISTENT, [0; CELLS])?);
+    assert!(rt; goes(rt.alloc(), Layout::new(2, 3, &[])?, &ANY_ORDER, [0; CELLS])?);
     Ok(())
 }
 
-static BY_TURNS: [Step; 4] = [
-    (First, TryLock(0), OK),
-    (Second, TryLock(0), EBUSY),
-    (First, Unlock(0), OK),
-    (Second, TryLock(0), OK),
+static ONE_MUTEX: [Step; 4] = [
+    (First, &[(TryLock(0), OK)]),
+    (Second, &[(TryLock(0), EBUSY)]),
+    (First, &[(Unlock(0), OK)]),
+    (Second, &[(TryLock(0), OK)]),
 ];
 
-/// Threads of two processes, which map the words at 1000 and at 2000, at one mutex.
+/// A thread releases two mutexes in the order in which it took them, so the first one from the end of its list; a
+/// thread of another process takes both then.
+static ONE_AFTER_THE_OTHER: [Step; 5] = [
+    (Second, &[(TryLock(0), OK), (TryLock(1), OK)]),
+    (Second, &[(Unlock(0), OK)]),
+    (First, &[(TryLock(0), OK)]),
+    (Second, &[(Unlock(1), OK)]),
+    (First, &[(TryLock(1), OK)]),
+];
+
+/// They are of two processes, which map the words at 1000 and at 2000.
 #[test]
 fn threads_of_two_processes(rt: HostRuntime) -> Result<(), Fail> {
     let layout = Layout::with_processes(&[0, 1], &[1000, 2000], 1, &[])?;
-    assert!(rt; goes(rt.alloc(), layout, &BY_TURNS, [2, 0, 0, 0])?);
-    Ok(())
-}
-
-static ONE_AFTER_THE_OTHER: [Step; 6] = [
-    (Second, TryLock(0), OK),
-    (Second, TryLock(1), OK),
-    (Second, Unlock(0), OK),
-    (First, TryLock(0), OK),
-    (Second, Unlock(1), OK),
-    (First, TryLock(1), OK),
-];
-
-/// A thread whose process maps the words at 2000 releases two mutexes in the order in which it took them, so the first
-/// one from the end of its list; a thread of another process takes both then.
-#[test]
-fn two_mutexes_go_to_another_process(rt: HostRuntime) -> Result<(), Fail> {
+    assert!(rt; goes(rt.alloc(), layout, &ONE_MUTEX, [2, 0, 0, 0])?);
     let layout = Layout::with_processes(&[0, 1], &[1000, 2000], 2, &[])?;
     assert!(rt; goes(rt.alloc(), layout, &ONE_AFTER_THE_OTHER, [1, 1, 0, 0])?);
-    Ok(())
-}
-
-/// Of three mutexes the middle one of the list is released first, then the last of it, then the only one left.
-static ANY_ORDER: [Step; 6] = [
-    (First, TryLock(0), OK),
-    (First, TryLock(1), OK),
-    (First, TryLock(2), OK),
-    (First, Unlock(1), OK),
-    (First, Unlock(0), OK),
-    (First, Unlock(2), OK),
-];
-
-#[test]
-fn mutexes_are_released_in_any_order(rt: HostRuntime) -> Result<(), Fail> {
-    assert!(rt; goes(rt.alloc(), Layout::new(2, 3, &[])?, &ANY_ORDER, [0; CELLS])?);
     Ok(())
 }
 
@@ -120,11 +97,7 @@ fn rounds(words: &Words, first: Pass<Live>) -> (u32, Pass<Live>)
 
 #[test]
 fn two_threads_try_one_mutex(rt: HostRuntime) -> Result<(), Fail> {
-    let Two {
-        words,
-        first,
-        second,
-    } = of_two(rt.alloc(), Layout::new(2, 1, &[])?, &[])?;
+    let Two(words, first, second) = of_two(rt.alloc(), Layout::new(2, 1, &[])?, &[])?;
     let shared = &words;
     let (a, b) = thread::join(
         &rt,
@@ -138,12 +111,7 @@ fn two_threads_try_one_mutex(rt: HostRuntime) -> Result<(), Fail> {
         { rounds(shared, second) },
     );
     assert!(rt; a.0 <= ROUNDS && b.0 <= ROUNDS);
-    let two = Two {
-        words,
-        first: a.1,
-        second: b.1,
-    };
-    assert!(rt; left(two) == [0; CELLS]);
+    assert!(rt; left(Two(words, a.1, b.1)) == [0; CELLS]);
     Ok(())
 }
 
@@ -173,11 +141,7 @@ fn owed_wakes(words: &Words, pass: Pass<Live>) -> Option<Wakes>
 
 #[test]
 fn release_owes_nobody(rt: HostRuntime) -> Result<(), Fail> {
-    let Two {
-        words,
-        first,
-        second,
-    } = of_two(rt.alloc(), Layout::new(2, 1, &[])?, &[])?;
+    let Two(words, first, second) = of_two(rt.alloc(), Layout::new(2, 1, &[])?, &[])?;
     let (first, taken) = makes(&words, first, TryLock(0));
     assert!(rt; taken == OK && owed_wakes(&words, first) == Some(Wakes::Nobody));
     assert!(rt; owed_wakes(&words, second) == None);
@@ -199,31 +163,20 @@ fn takes_2048(words: &Words, first: Pass<Live>) -> (Pass<Live>, u32)
     (pass, taken)
 }
 
-static ONE_MORE: [Step; 3] = [
-    (First, TryLock(2048), XHELD),
-    (First, Unlock(7), OK),
-    (First, TryLock(2048), OK),
+static ONE_MORE: [Step; 2] = [
+    (First, &[(TryLock(2048), XHELD), (Unlock(7), OK)]),
+    (First, &[(TryLock(2048), OK)]),
 ];
+
+static HAVE_OWNERS: [Step; 1] = [(Second, &[(TryLock(7), OK), (TryLock(2048), EBUSY)])];
 
 #[test]
 fn the_2049th_mutex_is_refused(rt: HostRuntime) -> Result<(), Fail> {
-    let Two {
-        words,
-        first,
-        second,
-    } = of_two(rt.alloc(), Layout::new(2, 2049, &[])?, &[])?;
+    let Two(words, first, second) = of_two(rt.alloc(), Layout::new(2, 2049, &[])?, &[])?;
     let (first, taken) = takes_2048(&words, first);
-    let two = Two {
-        words,
-        first,
-        second,
-    };
-    let (two, well) = plays(two, &ONE_MORE);
+    let (two, well) = plays(Two(words, first, second), &ONE_MORE);
     assert!(rt; taken == 2048 && well);
-    let (_two, others) = plays(
-        two,
-        &[(Second, TryLock(7), OK), (Second, TryLock(2048), EBUSY)],
-    );
+    let (_two, others) = plays(two, &HAVE_OWNERS);
     assert!(rt; others);
     Ok(())
 }

@@ -1,5 +1,5 @@
 //! Words with two threads, and calls that these make by turns.
-ghost use Rattle.std.specs.Prelude.{◌<◌, ◌≡◌, ◌+◌, All, IfOk, length};
+ghost use Rattle.std.specs.Prelude.{◌<◌, ◌≡◌, All, IfOk};
 ghost use Rattle.lockword.specs.declared.reply.Reply.TheVariants.{OK};
 ghost use Rattle.mutex.specs.declared.phase.Phase.TheVariants.{Clearing};
 ghost use Rattle.ruledwords.specs.declared.turn.Wakes.TheVariants.{Nobody};
@@ -16,11 +16,11 @@ use stepprograms::{Access, Answer};
 
 /// Words and the passes of their two threads, which are in no call.
 #[derive(Drop)]
-pub(crate) struct Two {
-    pub(crate) words: Words,
-    pub(crate) first: Pass<Live>,
-    pub(crate) second: Pass<Live>,
-}
+pub(crate) struct Two(
+    pub(crate) Words,
+    pub(crate) Pass<Live>,
+    pub(crate) Pass<Live>,
+);
 
 /// One of the two threads.
 #[derive(Clone, Copy)]
@@ -29,37 +29,31 @@ pub(crate) enum Who {
     Second,
 }
 
-/// A thread, its call, and what that is told.
-pub(crate) type Step = (Who, Call, Reply);
+/// A thread, its calls, one after the other, and what each is told.
+pub(crate) type Step = (Who, &'static [(Call, Reply)]);
 
-/// The last of these passes, which are some.
-fn last_of(_words: &Words, passes: &mut Vec<Pass<Live>>) -> Pass<Live>
-    requires passes { All (λ p. IsLive _words.now p) passes.old.items }
-    requires some { 0 < length passes.old.items }
-    ensures pass { IsLive _words.now result }
+/// The last of these passes. Where there is none, it is refused as for want of memory.
+fn popped(_words: &Words, passes: &mut Vec<Pass<Live>>) -> Result<Pass<Live>, NoMem>
+    requires { All (λ p. IsLive _words.now p) passes.old.items }
+    ensures pass { IfOk result (λ p. IsLive _words.now p) }
     ensures rest { All (λ p. IsLive _words.now p) passes.new.items }
-    ensures len { length passes.new.items + 1 ≡ length passes.old.items }
 {
-    passes.pop().unwrap()
+    passes.pop().ok_or(NoMem)
 }
 
 /// The words of a layout of two threads, with these presets for its condition variables. It is refused as for want of
 /// memory where there are other threads, or not as many presets.
 pub(crate) fn of_two(alloc: Global, layout: Layout, presets: &[u32]) -> Result<Two, NoMem>
-    ensures first { IfOk result (λ t. IsLive t.words t.first) }
-    ensures second { IfOk result (λ t. IsLive t.words t.second) }
+    ensures first { IfOk result (λ t. IsLive t.0 t.1) }
+    ensures second { IfOk result (λ t. IsLive t.0 t.2) }
 {
     if presets.len() != usize::from(layout.conditions()) || layout.threads() != 2 {
         return Err(NoMem);
     }
     let (words, mut passes) = Words::new(alloc, layout, presets)?;
-    let second = last_of(&words, &mut passes);
-    let first = last_of(&words, &mut passes);
-    Ok(Two {
-        words,
-        first,
-        second,
-    })
+    let second = popped(&words, &mut passes)?;
+    let first = popped(&words, &mut passes)?;
+    Ok(Two(words, first, second))
 }
 
 /// Makes the last access of an unlock, which clears the thread's pending entry.
@@ -129,57 +123,54 @@ pub(crate) fn makes(words: &Words, pass: Pass<Live>, call: Call) -> (Pass<Live>,
     }
 }
 
-/// Makes a call of one of the two.
-fn turn(two: Two, who: Who, call: Call) -> (Two, Reply)
-    requires first { IsLive two.words two.first }
-    requires second { IsLive two.words two.second }
-    ensures first { IsLive result.0.words result.0.first }
-    ensures second { IsLive result.0.words result.0.second }
+/// Makes calls one after the other: the pass after them, and whether each was told what stands beside it.
+pub(crate) fn told(words: &Words, pass: Pass<Live>, calls: &[(Call, Reply)]) -> (Pass<Live>, bool)
+    requires { IsLive words.now pass }
+    ensures { IsLive words.now result.0 }
 {
-    let Two {
-        words,
-        first,
-        second,
-    } = two;
+    let mut pass = pass;
+    let mut well = true;
+    for (call, want) in calls {
+        let (after, reply) = makes(words, pass, *call);
+        pass = after;
+        well = well && reply == *want;
+    }
+    (pass, well)
+}
+
+/// Makes calls of one of the two.
+fn turn(two: Two, who: Who, calls: &[(Call, Reply)]) -> (Two, bool)
+    requires first { IsLive two.0 two.1 }
+    requires second { IsLive two.0 two.2 }
+    ensures first { IsLive result.0.0 result.0.1 }
+    ensures second { IsLive result.0.0 result.0.2 }
+{
+    let Two(words, first, second) = two;
     match who {
         Who::First => {
-            let (first, reply) = makes(&words, first, call);
-            (
-                Two {
-                    words,
-                    first,
-                    second,
-                },
-                reply,
-            )
+            let (first, well) = told(&words, first, calls);
+            (Two(words, first, second), well)
         }
         Who::Second => {
-            let (second, reply) = makes(&words, second, call);
-            (
-                Two {
-                    words,
-                    first,
-                    second,
-                },
-                reply,
-            )
+            let (second, well) = told(&words, second, calls);
+            (Two(words, first, second), well)
         }
     }
 }
 
 /// Makes these steps' calls one after the other. Whether each was told what stands in its step.
 pub(crate) fn plays(two: Two, steps: &[Step]) -> (Two, bool)
-    requires first { IsLive two.words two.first }
-    requires second { IsLive two.words two.second }
-    ensures first { IsLive result.0.words result.0.first }
-    ensures second { IsLive result.0.words result.0.second }
+    requires first { IsLive two.0 two.1 }
+    requires second { IsLive two.0 two.2 }
+    ensures first { IsLive result.0.0 result.0.1 }
+    ensures second { IsLive result.0.0 result.0.2 }
 {
     let mut two = two;
     let mut well = true;
-    for (who, call, want) in steps {
-        let (after, reply) = turn(two, *who, *call);
+    for (who, calls) in steps {
+        let (after, went) = turn(two, *who, *calls);
         two = after;
-        well = well && reply == *want;
+        well = well && went;
     }
     (two, well)
 }
@@ -199,14 +190,10 @@ pub(crate) fn cells(last: &Last, mutexes: u16) -> [u64; CELLS]
 
 /// Ends the words, where the two meet: the words of the first cells.
 pub(crate) fn left(two: Two) -> [u64; CELLS]
-    requires first { IsPassOf two.words two.first }
-    requires second { IsPassOf two.words two.second }
+    requires first { IsPassOf two.0 two.1 }
+    requires second { IsPassOf two.0 two.2 }
 {
-    let Two {
-        words,
-        first,
-        second,
-    } = two;
+    let Two(words, first, second) = two;
     let mutexes = words.layout().mutexes();
     let (_first, second) = words.meet(first, second);
     let last = words.close(second);

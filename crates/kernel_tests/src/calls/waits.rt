@@ -7,14 +7,14 @@ use std::test::Fail;
 use syscalls::Kernel;
 
 static WAITS_AND_WAKES: [Call; 15] = [
-    Call::Wait(1, 4, 7, Reply::OK),
-    Call::Wait(2, 4, 8, Reply::EAGAIN),
-    Call::Wait(2, 4, 7, Reply::OK),
-    Call::Wait(3, 5, 0, Reply::OK),
-    Call::Wait(4, 16, 0, Reply::EFAULT),
-    Call::Wait(4, 0, 0, Reply::EFAULT),
-    Call::Wait(4, u64::MAX, 0, Reply::EFAULT),
-    Call::Wait(4, 6, 7, Reply::OK),
+    Call::Sleep(&[1], 4, 7),
+    Call::WaitRefused(2, 4, 8, Reply::EAGAIN),
+    Call::Sleep(&[2], 4, 7),
+    Call::Sleep(&[3], 5, 0),
+    Call::WaitRefused(4, 16, 0, Reply::EFAULT),
+    Call::WaitRefused(4, 0, 0, Reply::EFAULT),
+    Call::WaitRefused(4, u64::MAX, 0, Reply::EFAULT),
+    Call::Sleep(&[4], 6, 7),
     Call::Wake(4, 0, &[]),
     Call::Wake(4, 1, &[1]),
     Call::Wake(4, 5, &[2]),
@@ -29,12 +29,9 @@ fn waits_and_wakes_of_four_threads(rt: HostRuntime) -> Result<(), Fail> {
     play(&rt, rt.alloc(), 4, &WAITS_AND_WAKES)
 }
 
-static FIVE_SLEEP: [Call; 6] = [
-    Call::Wait(3, 15, 0, Reply::OK),
-    Call::Wait(64, 15, 0, Reply::OK),
-    Call::Wait(1, 15, 0, Reply::OK),
-    Call::Wait(2, 15, 0, Reply::OK),
-    Call::Wait(5, 4, 7, Reply::OK),
+static FIVE_SLEEP: [Call; 3] = [
+    Call::Sleep(&[3, 64, 1, 2], 15, 0),
+    Call::Sleep(&[5], 4, 7),
     Call::Sleepers(15, &[3, 64, 1, 2]),
 ];
 

@@ -1,8 +1,9 @@
 //! Scripts that are as long as they may be, too long, or cut.
 
-use crate::built::{joined, repeated};
-use crate::faults::{FOR_A_RUN, Refusal, Scripts, read, refusal};
-use script::{MAX_BYTES, MAX_LINES, Mode};
+use crate::built::{Frame, joined, repeated};
+use crate::cases::all_hold;
+use crate::faults::{Lines, Refusal, read, refusal};
+use script::{MAX_BYTES, MAX_LINES, Mode, Script};
 use std::alloc::{AllocError, Global};
 use std::test::Fail;
 
@@ -43,8 +44,13 @@ static NOT_UTF8: [(&[u8], usize); 5] = [
 #[test]
 fn not_utf8(rt: HostRuntime) {
     for (bytes, line) in &NOT_UTF8 {
-        assert!(rt; refusal(rt.alloc(), *bytes, Mode::Run) == Some((1, *line)));
+        assert!(rt;
+            refusal(rt.alloc(), *bytes, Mode::Run) == Some((1, *line)),
+            "{bytes:?}"
+        );
     }
+    let for_threads = b"phase\n#\n\xff\n";
+    assert!(rt; refusal(rt.alloc(), for_threads, Mode::Threads) == Some((1, 3)));
 }
 
 /// A piece, how many copies of it there are, and what stands behind them.
@@ -72,7 +78,11 @@ fn first_wrong_length(alloc: Global) -> Result<Option<usize>, AllocError> {
 
 #[test]
 fn too_long(rt: HostRuntime) -> Result<(), Fail> {
-    assert!(rt; first_wrong_length(rt.alloc())?.is_none());
+    assert_eq!(rt;
+        first_wrong_length(rt.alloc())?,
+        None,
+        "the length at this place"
+    );
     let mut bytes = repeated(rt.alloc(), "a", MAX_BYTES)?.into_bytes();
     bytes.push(0xff)?;
     assert!(rt; refusal(rt.alloc(), &bytes, Mode::Run) == Some((5, 1)));
@@ -90,19 +100,17 @@ const MANY_THREADS: &str = "mutex m\n\
     thread t49\nthread t50\nthread t51\nthread t52\nthread t53\nthread t54\nthread t55\nthread t56\n\
     thread t57\nthread t58\nthread t59\nthread t60\nthread t61\nthread t62\nthread t63\nthread t64\n";
 
-/// A line stands behind them.
-const BEHIND_MANY_THREADS: Scripts = Scripts {
-    front: MANY_THREADS,
-    ..FOR_A_RUN
-};
-
 /// The 65th thread, also of a process that is not declared; one of the 64 again; and no thread.
-static ONE_MORE_THREAD: [(&str, Refusal); 4] = [
-    ("thread t65 p", Some((3, 66))),
-    ("thread t65", Some((3, 66))),
-    ("thread t64", Some((3, 66))),
-    ("thread 65", Some((2, 66))),
-];
+static ONE_MORE_THREAD: Lines = Lines {
+    frame: Frame {
+        front: MANY_THREADS,
+        end: "\n",
+    },
+    good: &[],
+    unknown_word: &["thread 65"],
+    out_of_range: &["thread t65 p", "thread t65", "thread t64"],
+    no_such_name: &[],
+};
 
 #[test]
 fn many_threads(rt: HostRuntime) {
@@ -111,11 +119,26 @@ fn many_threads(rt: HostRuntime) {
         Err(_) => false,
     };
     assert!(rt; are_most);
-    assert!(rt;
-        BEHIND_MANY_THREADS
-            .first_wrong(rt.alloc(), &ONE_MORE_THREAD)
-            .is_none()
-    );
+    all_hold(&rt, ONE_MORE_THREAD.first_wrong(rt.alloc(), Mode::Run));
+}
+
+/// Whether the mutexes are `n` and `m0` to `m2048`.
+fn is_of_many(script: &Script) -> bool {
+    script.mutexes() == 2050
+        && script.mutex_name(0) == "n"
+        && script.mutex_name(1) == "m0"
+        && script.mutex_name(11) == "m10"
+        && script.mutex_name(2049) == "m2048"
+}
+
+#[test]
+fn many_mutexes(rt: HostRuntime) {
+    let text = b"thread a\nmutex n\nmutexes m 2049\n";
+    let is_so = match read(rt.alloc(), text, Mode::Run) {
+        Ok(script) => is_of_many(&script),
+        Err(_) => false,
+    };
+    assert!(rt; is_so);
 }
 
 /// A script that is cut: each beginning whose length is from the first number on and below the second is refused so.
@@ -149,6 +172,10 @@ fn first_wrong_cut(alloc: Global, from: usize, to: usize, want: Refusal) -> Opti
 fn cut(rt: HostRuntime) {
     assert!(rt; CUT.len() == 50);
     for (from, to, want) in &CUT_AT {
-        assert!(rt; first_wrong_cut(rt.alloc(), *from, *to, *want).is_none());
+        assert_eq!(rt;
+            first_wrong_cut(rt.alloc(), *from, *to, *want),
+            None,
+            "the length"
+        );
     }
 }

@@ -2,4 +2,4 @@ use Rattle.ruledwords.specs.Passes.{IsLive}
 use Rattle.word_tests.proofs.two.plays.Given as goal
 
 abbrev pub invariant-loop-who : goal.invariant-loop-who
-invariant-loop-who l = IsLive l.two.words l.two.first × IsLive l.two.words l.two.second
+invariant-loop-who l = IsLive l.two.0 l.two.1 × IsLive l.two.0 l.two.2
