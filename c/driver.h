@@ -11,9 +11,10 @@
 #ifndef PZ_TRACE
 #define PZ_TRACE 0
 #endif
-/* How many pauses a thread makes before it sleeps on a mutex's word, at most; some more, so that a look comes last. */
+/* For how many microseconds a thread pauses before it sleeps on a mutex's word, at most; some more, so that a look comes
+ * last. */
 #ifndef PZ_SPIN
-#define PZ_SPIN 8000
+#define PZ_SPIN 600
 #endif
 /* How many of those that sleep on a mutex already a sleeper watches, beside its owner. */
 #ifndef PZ_WATCH

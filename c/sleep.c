@@ -11,7 +11,8 @@
 #define SYS_futex_waitv 449
 #endif
 
-enum { ASLEEP = 0, FIRST_LOOK_MS = 20, LAST_LOOK_MS = 500, FIRST_PAUSES = 256, TRY_ALL = 16 };
+enum { ASLEEP = 0, FIRST_LOOK_MS = 20, LAST_LOOK_MS = 500 };
+enum { FIRST_PAUSES = 256, LAST_PAUSES = 8192, LEAST_US = 2, TRY_ALL = 16 };
 
 struct sleeper {
     pz *p;
@@ -28,9 +29,16 @@ static _Atomic int no_waitv;
 /* How long it pays to pause before a sleep: half as long after each time that it didn't, twice as long after each that
  * it did, and now and then as long as may be. */
 static _Thread_local struct {
-    int pauses;
+    long us;
     unsigned sleeps;
 } patience = {PZ_SPIN, 0};
+
+static long now_us(void)
+{
+    struct timespec now;
+    clock_gettime(CLOCK_MONOTONIC, &now);
+    return now.tv_sec * 1000000 + now.tv_nsec / 1000;
+}
 
 static void pause_for(int pauses)
 {
@@ -42,16 +50,16 @@ static void pause_for(int pauses)
  */
 static int changes_soon(word *w, uint32_t expected)
 {
-    int most = ++patience.sleeps % TRY_ALL ? patience.pauses : PZ_SPIN;
-    for (int made = 0, next = FIRST_PAUSES; made < most; made += next, next *= 2) {
+    long most = ++patience.sleeps % TRY_ALL ? patience.us : PZ_SPIN, since = now_us();
+    for (int next = FIRST_PAUSES; now_us() - since < most; next = next < LAST_PAUSES ? 2 * next : next) {
         pause_for(next);
         if ((uint32_t)atomic_load_explicit(w, memory_order_relaxed) != expected) {
-            patience.pauses = 2 * patience.pauses < PZ_SPIN ? 2 * patience.pauses : PZ_SPIN;
+            patience.us = 2 * patience.us < PZ_SPIN ? 2 * patience.us : PZ_SPIN;
             return 1;
         }
     }
-    if (patience.pauses > FIRST_PAUSES)
-        patience.pauses /= 2;
+    if (patience.us > LEAST_US)
+        patience.us /= 2;
     return 0;
 }
 
