@@ -1,5 +1,6 @@
 -- The sleepers of a hash bucket, and the queue of each key (futex(2)).
-use Rattle.std.specs.Prelude.{ℕ, ◌≡◌, ◌≢◌, ◌≤◌, ◌+◌, ◌==◌, Bool, not, List, [], ◌∷◌, ◌++◌, length, map, filter, take, drop, if◌then◌else◌, All, AllPairs, Contains, MatchBool}
+use Rattle.std.specs.Prelude.{ℕ, ◌≡◌, ◌≢◌, ◌≤◌, ◌+◌, ◌==◌, Bool, not, List, [], ◌∷◌, ◌++◌, length, map}
+use Rattle.std.specs.Prelude.{filter, take, drop, if◌then◌else◌, All, AllPairs, Contains, MatchBool}
 use Rattle.buckets.specs.declared.sleeper.Sleeper.{Sleeper}
 
 -- who sleeps in a bucket with room for so many. Of those on one key, who came earlier stands first; the order between

@@ -1,5 +1,6 @@
 -- The rows of the threads that sleep, and the rings through them.
-use Rattle.std.specs.Prelude.{ℕ, zero, suc, ◌≡◌, ◌≢◌, ◌-◌, ◌≤◌, ◌==◌, nat_le, List, [], ◌∷◌, ◌++◌, length, map, get_or, slice_get, Option, Some, None, if◌then◌else◌}
+use Rattle.std.specs.Prelude.{ℕ, zero, suc, ◌≡◌, ◌≢◌, ◌-◌, ◌≤◌, ◌==◌, nat_le, List, [], ◌∷◌, ◌++◌}
+use Rattle.std.specs.Prelude.{length, map, get_or, slice_get, Option, Some, None, if◌then◌else◌}
 use Rattle.buckets.specs.declared.row.Row.{Row}
 use Rattle.buckets.specs.declared.ring.Ring.{Ring}
 use Rattle.buckets.specs.declared.sleeper.Sleeper.{Sleeper}
@@ -29,7 +30,8 @@ row k b a = record { key = record { 0 = k }; before = b; after = a }
 pub record AreRows (rows : List (Option Row)) (b : Sleepers) : Type 0 where
   pub long : length rows ≡ 64
   pub awake : (t : ℕ) → 1 ≤ t → t ≤ 64 → StandsNowhere b t → slice_get rows (t - 1) ≡ Some None
-  pub asleep : (k t : ℕ) (earlier later : List ℕ) → queue b k ≡ earlier ++ t ∷ later → slice_get rows (t - 1) ≡ Some (Some (row k (last_or t (later ++ earlier)) (first_or (later ++ earlier) t)))
+  pub asleep : (k t : ℕ) (earlier later : List ℕ) → queue b k ≡ earlier ++ t ∷ later
+      → slice_get rows (t - 1) ≡ Some (Some (row k (last_or t (later ++ earlier)) (first_or (later ++ earlier) t)))
 
 -- a thread's row after a change
 abbrev pub put : (ℕ → Option Row) → ℕ → Option Row → ℕ → Option Row

@@ -1,7 +1,9 @@
 //! The bucket.
-ghost use Rattle.std.specs.Prelude.{◌≡◌, ◌≢◌, ◌==◌, ◌<◌, ◌≤◌, ◌+◌, ◌%◌, ◌^◌, length, option_to_list, slice_get, All, AllPairs, IfOk, MatchBool};
+ghost use Rattle.std.specs.Prelude.{◌≡◌, ◌≢◌, ◌==◌, ◌<◌, ◌≤◌, ◌+◌, ◌%◌, ◌^◌, length};
+ghost use Rattle.std.specs.Prelude.{option_to_list, slice_get, All, AllPairs, IfOk, MatchBool};
 ghost use Rattle.std.specs.Bool.{OnTrue};
-ghost use Rattle.buckets.specs.Queues.{queue, standing, Stands, StandsNowhere, IsOrderly, IsEmptied, Enqueues, Takes, Joins, MovesWithin, MovesTo, Fits, Removes};
+ghost use Rattle.buckets.specs.Queues.{queue, standing, Stands, StandsNowhere, IsOrderly, IsEmptied};
+ghost use Rattle.buckets.specs.Queues.{Enqueues, Takes, Joins, MovesWithin, MovesTo, Fits, Removes};
 ghost use Rattle.buckets.specs.Rings.{AreRows};
 
 use crate::batch::Batch;
@@ -33,7 +35,8 @@ impl Model for Bucket {
 
     ghost view = { λ b. record { capacity = b.capacity; sleeping = sleeping_of (row_of b.rows) b.rings.items } };
 
-    ghost invariant = { λ b. AreRings b.capacity b.standing (row_of b.rows) b.rings.items × (b.capacity ≤ vec_capacity b.rings) };
+    ghost invariant = { λ b. AreRings b.capacity b.standing (row_of b.rows) b.rings.items
+        × (b.capacity ≤ vec_capacity b.rings) };
 }
 
 impl Clone for Bucket {

@@ -26,7 +26,8 @@ pub(crate) fn ring_on(rings: &[Ring], key: Key) -> Option<usize>
 /// taken away.
 pub(crate) fn leave(rings: &mut Vec<Ring>, place: usize, thread: Tid, after: Tid)
     requires { place < length rings.old.items }
-    ensures left { (front back : List Ring) (r : Ring) → length front ≡ place → rings.old.items ≡ front ++ r ∷ back → rings.new.items ≡ front ++ (left_of r thread after ++ back) }
+    ensures left { (front back : List Ring) (r : Ring) → length front ≡ place → rings.old.items ≡ front ++ r ∷ back
+        → rings.new.items ≡ front ++ (left_of r thread after ++ back) }
     ensures room { vec_capacity rings.new ≡ vec_capacity rings.old }
 {
     let Ring { first, count } = rings[place];

@@ -31,7 +31,9 @@ impl<V, K, P: PlaceRule<V, K>> Places<V, K, P> {
     ) -> Result<(Places<V, K, P>, Seat<(), V>), AllocError>
         requires holds { P.holds about.now (opening words.now [] (P.first about.now)) }
         requires count { P.how_many about.now ≡ length words.now }
-        ensures { IfOk result (λ t. (t.0.table.shared.key ≡ about.now) × (t.1.table_id ≡ t.0.table.shared.table_id) × (t.1.id ≡ 0) × (t.1.me ≡ (P.first about.now, [])) × (t.0.count ≡ length words.now)) }
+        ensures { IfOk result
+            (λ t. (t.0.table.shared.key ≡ about.now) × (t.1.table_id ≡ t.0.table.shared.table_id) × (t.1.id ≡ 0)
+            × (t.1.me ≡ (P.first about.now, [])) × (t.0.count ≡ length words.now)) }
     {
         let count = words.len();
         let apart = apart(alloc, words)?;
@@ -55,7 +57,8 @@ impl<V, K, P: PlaceRule<V, K>> Places<V, K, P> {
         requires all { self.count ≡ P.how_many self.table.shared.key }
         requires seat { seat.table_id ≡ self.table.shared.table_id }
         ensures count { result.count ≡ self.count }
-        ensures last { Final (Seen (P.holds self.table.shared.key) seat.id seat.me.0) (words_at result) (slots_items result.closed.slots) }
+        ensures last { Final (Seen (P.holds self.table.shared.key) seat.id seat.me.0) (words_at result)
+            (slots_items result.closed.slots) }
     {
         let Places { table, count } = self;
         let closed = table.close_with(seat);

@@ -24,7 +24,8 @@ asked_of_file word file = if not (is_file_word file) then usage
 
 -- what a subcommand, a word and a file after it ask for
 abbrev pub asked_of_table : List ℕ → List ℕ → List ℕ → Asked
-asked_of_table word option file = if bytes_eq word (codes "run") && bytes_eq option (codes "--table") && is_file_word file then table file else usage
+asked_of_table word option file =
+    if bytes_eq word (codes "run") && bytes_eq option (codes "--table") && is_file_word file then table file else usage
 
 -- what the words of a command line ask for, of which the first is the program's name
 abbrev pub asked_of : List (List ℕ) → Asked
@@ -57,4 +58,6 @@ abbrev pub run_app : App
 run_app = with_rule (with_rule (new_app (codes "run")) table_rule) file_rule
 
 abbrev pub rfx : App
-rfx = with_subcommand (with_subcommand (with_subcommand (new_app (codes "rfx")) run_app.top) (file_app (codes "threads")).top) (file_app (codes "check")).top
+rfx = with_subcommand
+    (with_subcommand (with_subcommand (new_app (codes "rfx")) run_app.top) (file_app (codes "threads")).top)
+    (file_app (codes "check")).top

@@ -1,5 +1,6 @@
 -- What clap finds in the words of a command line.
-use Rattle.std.specs.Prelude.{ℕ, ◌≡◌, ◌⊎◌, Bool, true, false, not, ◌&&◌, List, [], ◌∷◌, codes, Option, Some, None, if◌then◌else◌}
+use Rattle.std.specs.Prelude.{ℕ, ◌≡◌, ◌⊎◌, Bool, true, false, not, ◌&&◌, List, []}
+use Rattle.std.specs.Prelude.{◌∷◌, codes, Option, Some, None, if◌then◌else◌}
 use Rattle.std.specs.Str.{bytes_eq}
 use Rattle.clap.specs.Words.{Row, Text, first_of, one_of}
 use Rattle.cmdline.specs.declared.form.Found.{Found}
@@ -24,7 +25,8 @@ IsFlag (Some text) b = ((text ≡ codes "true") × (b ≡ true)) ⊎ ((text ≡ 
 -- a subcommand and its matches say this
 abbrev pub IsSaid : Option (Text × List Row) → Said → Type 0
 IsSaid None s = ⊥
-IsSaid (Some p) s = (p.0 ≡ s.word) × (first_of (codes "FILE") p.1 ≡ Some s.file) × IsFlag (one_of (codes "table") p.1) s.table
+IsSaid (Some p) s =
+    (p.0 ≡ s.word) × (first_of (codes "FILE") p.1 ≡ Some s.file) × IsFlag (one_of (codes "table") p.1) s.table
 
 -- what it asks for
 abbrev pub asked_for : Said → Asked
@@ -35,6 +37,8 @@ asked_for s = if s.table then (if bytes_eq s.word (codes "run") then table s.fil
 
 -- the words are just these, in the order of the forms, and the file's name doesn't begin with a hyphen
 abbrev pub in_order : List (List ℕ) → Said → Bool
-in_order (program ∷ word ∷ file ∷ []) s = not s.table && (is_file_word file && (bytes_eq word s.word && bytes_eq file s.file))
-in_order (program ∷ word ∷ option ∷ file ∷ []) s = s.table && (is_file_word file && (bytes_eq option (codes "--table") && (bytes_eq word s.word && bytes_eq file s.file)))
+in_order (program ∷ word ∷ file ∷ []) s =
+    not s.table && (is_file_word file && (bytes_eq word s.word && bytes_eq file s.file))
+in_order (program ∷ word ∷ option ∷ file ∷ []) s = s.table
+    && (is_file_word file && (bytes_eq option (codes "--table") && (bytes_eq word s.word && bytes_eq file s.file)))
 in_order _ s = false

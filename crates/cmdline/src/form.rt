@@ -100,7 +100,9 @@ fn found_in<'a>(matches: &ArgMatches<'a>) -> Option<Found<'a>>
 
 /// What clap finds in the words; nothing where it refuses them.
 fn found_by_clap<'a>(alloc: Global, words: &'a [&'a str]) -> Result<Option<Found<'a>>, NoMem>
-    ensures { IfOk result (λ found. (s : Said) → takes rfx (map (λ w. w.now) words.entry.now) ≡ true → IsSaid (subcommand_of rfx (map (λ w. w.now) words.entry.now)) s → option_map seen found ≡ Some s) }
+    ensures { IfOk result
+        (λ found. (s : Said) → takes rfx (map (λ w. w.now) words.entry.now) ≡ true
+        → IsSaid (subcommand_of rfx (map (λ w. w.now) words.entry.now)) s → option_map seen found ≡ Some s) }
 {
     let command = command(alloc)?;
     let kind = match command.try_get_matches_from(words) {

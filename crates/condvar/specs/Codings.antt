@@ -70,7 +70,8 @@ phase_code (Ended r) = ended r
 -- the lock that ends a wait of thread t, whose head, whose mutex's entry and whose cell are at these addresses, and
 -- which knows what its phase does
 abbrev pub IsLockOf : ℕ → ℕ → ℕ → ℕ → Whole → Type 0
-IsLockOf t h e cell w = (w ≡ mutex.whole_at t operation.Lock h e cell w.phase) × mutex.PhaseKnows w.phase × coded.LiesAt h e w.phase
+IsLockOf t h e cell w =
+    (w ≡ mutex.whole_at t operation.Lock h e cell w.phase) × mutex.PhaseKnows w.phase × coded.LiesAt h e w.phase
 
 -- a call's unlink and lock are its own
 abbrev pub LiesAt : ℕ → ℕ → ℕ → ℕ → CondPhase → Type 0

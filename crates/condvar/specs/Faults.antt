@@ -11,7 +11,11 @@ use Rattle.condvar.specs.WholeLaws.{cond_reached}
 
 -- a call returns EFAULT exactly after an answer that its access doesn't have
 pub record FaultsAreTold : Type 0 where
-  pub faulted : (l : Layout') (t : ℕ) (c : CondCall) (answers : List Answer) (a : Answer) → IsUnderWay (cond_reached (begins l t c) answers).phase → ¬ IsAnswerOf (cond_access (cond_reached (begins l t c) answers)) a
+  pub faulted : (l : Layout') (t : ℕ) (c : CondCall) (answers : List Answer) (a : Answer)
+      → IsUnderWay (cond_reached (begins l t c) answers).phase
+      → ¬ IsAnswerOf (cond_access (cond_reached (begins l t c) answers)) a
       → (cond_led (cond_reached (begins l t c) answers) a).phase ≡ Ended EFAULT
-  pub answered : (l : Layout') (t : ℕ) (c : CondCall) (answers : List Answer) (a : Answer) → IsUnderWay (cond_reached (begins l t c) answers).phase → IsAnswerOf (cond_access (cond_reached (begins l t c) answers)) a
+  pub answered : (l : Layout') (t : ℕ) (c : CondCall) (answers : List Answer) (a : Answer)
+      → IsUnderWay (cond_reached (begins l t c) answers).phase
+      → IsAnswerOf (cond_access (cond_reached (begins l t c) answers)) a
       → (cond_led (cond_reached (begins l t c) answers) a).phase ≢ Ended EFAULT

@@ -110,23 +110,30 @@ pub record Right (t cell : ℕ) (r : CondRow) (l : CondLed) (w k w' k' : ℕ) : 
 
 -- whatever words an access meets
 abbrev pub CallsAreRight : Type 0
-CallsAreRight = (t cell counter w k : ℕ) (r : CondRow) → 1 ≤ t → t ≤ 64 → IsGoing r → k ≤ largest_counter → Sound (object_of (fields_of w)) → Expects t r (fields_of w) k
-    → Right t cell r (resume_of t r (answer_at (row_access t cell counter r) (met_word r w k))) w k (cell_after t cell counter r w) (counter_after t cell counter r k)
+CallsAreRight = (t cell counter w k : ℕ) (r : CondRow) → 1 ≤ t → t ≤ 64 → IsGoing r → k ≤ largest_counter
+    → Sound (object_of (fields_of w)) → Expects t r (fields_of w) k
+    → Right t cell r (resume_of t r (answer_at (row_access t cell counter r) (met_word r w k))) w k
+    (cell_after t cell counter r w) (counter_after t cell counter r k)
 
 -- a call's accesses are at the cell and at the counter alone
 abbrev pub AccessesAreThere : Type 0
-AccessesAreThere = (t cell counter : ℕ) (r : CondRow) → address_of (row_access t cell counter r) ≡ (if is_at_counter r then counter else cell)
+AccessesAreThere = (t cell counter : ℕ) (r : CondRow)
+    → address_of (row_access t cell counter r) ≡ (if is_at_counter r then counter else cell)
 
 -- a broadcast moves to a cell that its thread owns and that has WAITERS, and only by the counter as it is: so it is
 -- never answered that this differs
 abbrev pub MovesAreRight : Type 0
-MovesAreRight = (t cell counter seen k : ℕ) (c : Fields) → k ≤ largest_counter → Expects t (Broadcast (broadcast.Move seen)) c k
-    → (row_access t cell counter (Broadcast (broadcast.Move seen)) ≡ access.CmpRequeue counter (k % 2 ^ 32) 0 cell 64) × (c.owner ≡ t) × (c.waiters ≡ true)
+MovesAreRight =
+    (t cell counter seen k : ℕ) (c : Fields) → k ≤ largest_counter → Expects t (Broadcast (broadcast.Move seen)) c k
+    → (row_access t cell counter (Broadcast (broadcast.Move seen)) ≡ access.CmpRequeue counter (k % 2 ^ 32) 0 cell 64)
+    × (c.owner ≡ t) × (c.waiters ≡ true)
 
 -- what a call needs of the words is its thread's own while that owns the mutex: where others leave then the owner,
 -- OWNER_DIED and the counter, and clear no WAITERS then, it stays so
 abbrev pub NeedsAreOwned : Type 0
-NeedsAreOwned = (t : ℕ) (r : CondRow) (c d : Fields) (k j : ℕ) → (c.owner ≡ t → (d.owner ≡ c.owner) × (d.died ≡ c.died) × (j ≡ k) × (c.waiters ≡ true → d.waiters ≡ true)) → Expects t r c k → Expects t r d j
+NeedsAreOwned = (t : ℕ) (r : CondRow) (c d : Fields) (k j : ℕ)
+    → (c.owner ≡ t → (d.owner ≡ c.owner) × (d.died ≡ c.died) × (j ≡ k) × (c.waiters ≡ true → d.waiters ≡ true))
+    → Expects t r c k → Expects t r d j
 
 -- the cell that an access met, as its answer tells: each call's first load
 abbrev pub met : CondRow → Answer → Option Fields
@@ -138,8 +145,10 @@ met r a = None
 -- a call goes on to its counter only from a cell for which the object permits it to decide so
 abbrev pub GoesOnFrom : ℕ → CondRow → Option Fields → Type 0
 GoesOnFrom t (Wait wait.LoadCounter) (Some c) = IsPermitted c t operation.Unlock OK × (c.died ≡ false)
-GoesOnFrom t (Signal signal.LoadCounter) (Some c) = IsPermitted c t operation.Signal OK × IsPermitted c t operation.Signal XFULL
-GoesOnFrom t (Broadcast broadcast.LoadCounter) (Some c) = IsPermitted c t operation.Broadcast OK × IsPermitted c t operation.Broadcast XFULL
+GoesOnFrom t (Signal signal.LoadCounter) (Some c) =
+    IsPermitted c t operation.Signal OK × IsPermitted c t operation.Signal XFULL
+GoesOnFrom t (Broadcast broadcast.LoadCounter) (Some c) =
+    IsPermitted c t operation.Broadcast OK × IsPermitted c t operation.Broadcast XFULL
 GoesOnFrom t (Wait wait.LoadCounter) None = ⊥
 GoesOnFrom t (Signal signal.LoadCounter) None = ⊥
 GoesOnFrom t (Broadcast broadcast.LoadCounter) None = ⊥
@@ -148,5 +157,6 @@ GoesOnFrom t r c = Unit {0}
 -- for any answers: what a first load decides is what the object permits for the cell met there, and a call goes on from
 -- it only where its thread owns the mutex
 pub record PointsArePermitted : Type 0 where
-  pub at : (t : ℕ) (r : CondRow) (a : Answer) (d : Decided) → 1 ≤ t → (resume_of t r a).decided ≡ Some d → PermitsAt (met r a) t d.operation d.reply
+  pub at : (t : ℕ) (r : CondRow) (a : Answer) (d : Decided) → 1 ≤ t → (resume_of t r a).decided ≡ Some d
+      → PermitsAt (met r a) t d.operation d.reply
   pub goes_on : (t : ℕ) (r : CondRow) (a : Answer) → 1 ≤ t → GoesOnFrom t (resume_of t r a).row (met r a)

@@ -31,7 +31,12 @@ wait_access t cell counter (Sleep seen) = access.Wait counter seen
 
 -- only the owner of a consistent mutex may wait
 abbrev pub wait_sees : ℕ → Fields → CondLed
-wait_sees t c = if not (c.owner == t) then ends operation.Wait EPERM else if c.died then ends operation.Wait XSTATE else goes (Wait LoadCounter)
+wait_sees t c =
+    if not (c.owner == t)
+    then ends operation.Wait EPERM
+    else if c.died
+    then ends operation.Wait XSTATE
+    else goes (Wait LoadCounter)
 
 -- where a release leads that found this cell
 abbrev pub after_release : ℕ → Fields → CondRow

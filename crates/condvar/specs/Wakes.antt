@@ -32,4 +32,5 @@ Wakes cell counter (Some d) b at n = WakesBehind cell counter d.operation d.repl
 -- whatever an access is answered, the next one is a wake exactly there
 abbrev pub WakesAreRight : Type 0
 WakesAreRight = (t cell counter at n : ℕ) (r : CondRow) (a : Answer) → IsGoing r
-    → (row_access t cell counter (resume_of t r a).row ≡ access.Wake at n) ↔ Wakes cell counter (resume_of t r a).decided (tells_waiters a) at n
+    → (row_access t cell counter (resume_of t r a).row ≡ access.Wake at n)
+    ↔ Wakes cell counter (resume_of t r a).decided (tells_waiters a) at n

@@ -68,7 +68,8 @@ abbrev pub begun_at : ℕ → ℕ → ℕ → ℕ → ℕ → CondCall → CondW
 begun_at t h e cell counter c = cond_at t h e cell counter (AtWords (first_row c))
 
 abbrev pub begins : Layout' → ℕ → CondCall → CondWhole
-begins l t c = begun_at t (address_in l t (head_place t)) (address_in l t (entry_place l (mutex_of l c))) (address_in l t (cell_place l (mutex_of l c))) (address_in l t (counter_place l (condition_of c))) c
+begins l t c = begun_at t (address_in l t (head_place t)) (address_in l t (entry_place l (mutex_of l c)))
+    (address_in l t (cell_place l (mutex_of l c))) (address_in l t (counter_place l (condition_of c))) c
 
 -- ---- the access of each phase
 
@@ -112,7 +113,8 @@ abbrev pub phase_led : CondWhole → CondPhase → Answer → CondOnward
 phase_led p (AtWords r) a = from_words p (resume_of p.thread r a)
 phase_led p (Announcing seen) Stored = onward (Unlinking (unlink_started p.head p.entry) seen)
 phase_led p (Unlinking u seen) a = onward (unlinked (unlink_moved u a) seen)
-phase_led p (Locking w) a = from_lock (mutex.whole_moved w (mutex.whole_led w a)) (mutex.whole_progress w (mutex.whole_led w a))
+phase_led p (Locking w) a =
+    from_lock (mutex.whole_moved w (mutex.whole_led w a)) (mutex.whole_progress w (mutex.whole_led w a))
 phase_led p (Ended x) a = onward (Ended x)
 phase_led p f a = faulted
 

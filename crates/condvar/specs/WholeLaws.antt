@@ -33,7 +33,8 @@ cond_reached p (a ∷ answers) = cond_reached (cond_moved p (cond_led p a)) answ
 -- the points that it makes with them, behind those that it made so far
 abbrev pub points_after : CondWhole → List Point → List Answer → List Point
 points_after p so_far [] = so_far
-points_after p so_far (a ∷ answers) = points_after (cond_moved p (cond_led p a)) (so_far ++ points (cond_led p a).point) answers
+points_after p so_far (a ∷ answers) =
+    points_after (cond_moved p (cond_led p a)) (so_far ++ points (cond_led p a).point) answers
 
 -- a point of thread t at a mutex's cell
 abbrev pub point : ℕ → ℕ → Operation → Reply → Point
@@ -48,7 +49,8 @@ RefusesWait x = ⊥
 -- the points of a call that returned a reply: a wait was refused, or unlocked the mutex and later locked it again, with
 -- that reply; a signal and a broadcast have one point, with that reply
 abbrev pub IsDecidedBy : ℕ → ℕ → Operation → Reply → List Point → Type 0
-IsDecidedBy t cell operation.Wait x ps = (RefusesWait x × (ps ≡ point t cell operation.Wait x ∷ [])) ⊎ (ps ≡ point t cell operation.Unlock OK ∷ point t cell operation.Lock x ∷ [])
+IsDecidedBy t cell operation.Wait x ps = (RefusesWait x × (ps ≡ point t cell operation.Wait x ∷ []))
+    ⊎ (ps ≡ point t cell operation.Unlock OK ∷ point t cell operation.Lock x ∷ [])
 IsDecidedBy t cell op x ps = ps ≡ point t cell op x ∷ []
 
 -- the lock that ends a wait: the mutex's own lock of that thread, on that mutex and that list
@@ -90,20 +92,28 @@ IsAtWords f = ⊥
 pub record WholeCallsWake : Type 0 where
   -- after an access at the cell or the counter, whatever that is answered, the next one is a wake exactly where its
   -- point asks for one, of so many, and of those on that word
-  pub at_the_words : (p : CondWhole) (r : CondRow) (a : Answer) (at n : ℕ) → p.phase ≡ AtWords r → IsGoing r → WakesNext p a at n ↔ IsToWake p (cond_led p a).point (tells_waiters a) at n
+  pub at_the_words : (p : CondWhole) (r : CondRow) (a : Answer) (at n : ℕ) → p.phase ≡ AtWords r → IsGoing r
+      → WakesNext p a at n ↔ IsToWake p (cond_led p a).point (tells_waiters a) at n
   -- in the lock that ends a wait exactly where the lock's next access is one, of which all holds that the mutex's laws
   -- say
-  pub in_its_lock : (p : CondWhole) (w : Whole) (a : Answer) (at n : ℕ) → p.phase ≡ Locking w → WakesNext p a at n ↔ mutex.WakesNext w a at n
+  pub in_its_lock : (p : CondWhole) (w : Whole) (a : Answer) (at n : ℕ) → p.phase ≡ Locking w → WakesNext p a at n
+      ↔ mutex.WakesNext w a at n
   -- a call doesn't begin by a wake, and whatever it is answered, none follows an access of its thread's list
   pub first : (l : Layout') (t : ℕ) (c : CondCall) (at n : ℕ) → cond_access (begins l t c) ≢ access.Wake at n
-  pub at_the_list : (l : Layout') (t : ℕ) (c : CondCall) (answers : List Answer) (a : Answer) (at n : ℕ) → ¬ IsAtWords (cond_reached (begins l t c) answers).phase → ¬ WakesNext (cond_reached (begins l t c) answers) a at n
+  pub at_the_list : (l : Layout') (t : ℕ) (c : CondCall) (answers : List Answer) (a : Answer) (at n : ℕ)
+      → ¬ IsAtWords (cond_reached (begins l t c) answers).phase
+      → ¬ WakesNext (cond_reached (begins l t c) answers) a at n
 
 -- whatever a call is answered
 pub record WholeCallsAreRight : Type 0 where
   -- one that returned, and not for a fault, has exactly its points, each at its mutex's cell
-  pub points : (l : Layout') (t : ℕ) (c : CondCall) (answers : List Answer) (x : Reply) → 1 ≤ t → (cond_reached (begins l t c) answers).phase ≡ Ended x → x ≢ EFAULT
-      → IsDecidedBy t (address_in l t (cell_place l (mutex_of l c))) (operation_of c) x (points_after (begins l t c) [] answers)
+  pub points : (l : Layout') (t : ℕ) (c : CondCall) (answers : List Answer) (x : Reply) → 1 ≤ t
+      → (cond_reached (begins l t c) answers).phase ≡ Ended x → x ≢ EFAULT
+      → IsDecidedBy t (address_in l t (cell_place l (mutex_of l c))) (operation_of c) x
+      (points_after (begins l t c) [] answers)
   -- each point but that of a lock has a reply that the object permits for the cell that the call's first load met
-  pub permitted : (l : Layout') (t : ℕ) (c : CondCall) (answers : List Answer) → 1 ≤ t → All (IsPermittedFirst t (first_met answers)) (points_after (begins l t c) [] answers)
+  pub permitted : (l : Layout') (t : ℕ) (c : CondCall) (answers : List Answer) → 1 ≤ t
+      → All (IsPermittedFirst t (first_met answers)) (points_after (begins l t c) [] answers)
   -- where a wait takes its mutex again it is a lock, of which all holds that the mutex's laws say of whole calls
-  pub locks : (l : Layout') (t : ℕ) (c : CondCall) (answers : List Answer) (w : Whole) → 1 ≤ t → (cond_reached (begins l t c) answers).phase ≡ Locking w → IsLockOf l t c w
+  pub locks : (l : Layout') (t : ℕ) (c : CondCall) (answers : List Answer) (w : Whole) → 1 ≤ t
+      → (cond_reached (begins l t c) answers).phase ≡ Locking w → IsLockOf l t c w

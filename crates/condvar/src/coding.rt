@@ -55,8 +55,10 @@ impl CodedCondPhase {
     /// The phase whose numbers these are, of a call of this thread that hasn't returned, whose head, whose mutex's
     /// entry and whose cell are at these addresses; `None` where no such phase has them.
     pub fn phase(&self, thread: Tid, head: u64, entry: u64, cell: u64) -> Option<CondPhase>
-        ensures has_these { IfSome result (λ f. IsUnderWay f × PhaseKnows f × LiesAt thread head entry cell f × (phase_code f ≡ self.now)) }
-        ensures each { (f : CondPhase) → IsUnderWay f → PhaseKnows f → LiesAt thread head entry cell f → phase_code f ≡ self.now → result ≡ Some f }
+        ensures has_these { IfSome result
+            (λ f. IsUnderWay f × PhaseKnows f × LiesAt thread head entry cell f × (phase_code f ≡ self.now)) }
+        ensures each { (f : CondPhase) → IsUnderWay f → PhaseKnows f → LiesAt thread head entry cell f
+            → phase_code f ≡ self.now → result ≡ Some f }
     {
         let phase = self.read(thread, head, entry, cell)?;
         if CodedCondPhase::of(&phase) == *self {
@@ -69,7 +71,8 @@ impl CodedCondPhase {
     /// The only phase that may have these numbers.
     fn read(&self, thread: Tid, head: u64, entry: u64, cell: u64) -> Option<CondPhase>
         ensures knows { IfSome result (λ f. IsUnderWay f × PhaseKnows f × LiesAt thread head entry cell f) }
-        ensures each { (f : CondPhase) → IsUnderWay f → PhaseKnows f → LiesAt thread head entry cell f → phase_code f ≡ self.now → result ≡ Some f }
+        ensures each { (f : CondPhase) → IsUnderWay f → PhaseKnows f → LiesAt thread head entry cell f
+            → phase_code f ≡ self.now → result ≡ Some f }
     {
         let kind = self.kind;
         let seen = self.seen;
@@ -185,7 +188,8 @@ fn read_row(kind: u8, seen: u32) -> Option<CondRow>
 
 fn read_unlink(kind: u8, x: u64, y: u64) -> Option<UnlinkRow>
     ensures goes { IfSome result (λ r. UnlinkGoes r) }
-    ensures each { (seen : ℕ) (r : UnlinkRow) → UnlinkGoes r → (unlink_code seen r).kind ≡ kind → (unlink_code seen r).lock.x ≡ x → (unlink_code seen r).lock.y ≡ y → result ≡ Some r }
+    ensures each { (seen : ℕ) (r : UnlinkRow) → UnlinkGoes r → (unlink_code seen r).kind ≡ kind
+        → (unlink_code seen r).lock.x ≡ x → (unlink_code seen r).lock.y ≡ y → result ≡ Some r }
 {
     match kind {
         16 => Some(UnlinkRow::LoadNext),

@@ -34,17 +34,20 @@ impl Model for CondProgram {
 
     ghost Value = { CondWhole };
 
-    ghost view = { λ p. record { thread = p.thread; head = p.head; entry = p.entry; cell = p.cell; counter = p.counter; phase = p.phase } };
+    ghost view = { λ p. record
+        { thread = p.thread; head = p.head; entry = p.entry; cell = p.cell; counter = p.counter; phase = p.phase } };
 
     ghost use Rattle.condvar.specs.Whole.{PhaseKnows};
 
     ghost invariant = { λ p. PhaseKnows p.phase };
 
-    ghost inverse = { λ s. record { thread = s.thread; head = s.head; entry = s.entry; cell = s.cell; counter = s.counter; phase = s.phase } };
+    ghost inverse = { λ s. record
+        { thread = s.thread; head = s.head; entry = s.entry; cell = s.cell; counter = s.counter; phase = s.phase } };
 }
 
 impl CondProgram {
-    ghost use Rattle.condvar.specs.Whole.{begins, begun_at, cond_at, cond_access, cond_led, cond_moved, cond_progress, from_words, lock_of, phase_led, IsUnderWay};
+    ghost use Rattle.condvar.specs.Whole.{begins, begun_at, cond_at, cond_access, cond_led, cond_moved};
+    ghost use Rattle.condvar.specs.Whole.{cond_progress, from_words, lock_of, phase_led, IsUnderWay};
 
     /// A call of a thread, which speaks of words by their addresses in the thread's process. What it may be refused for
     /// is seen in the mutex's cell and in the counter.
@@ -238,7 +241,9 @@ fn from_unlink(mut unlink: Unlink, seen: u32, answer: Answer) -> CondOnward
 /// Where an answer leads the lock that ends a wait: the wait returns when it does, and its points are the lock's.
 fn from_lock(mut lock: Program, answer: Answer) -> CondOnward
     requires { mutex.IsUnderWay lock.phase }
-    ensures value { result ≡ from_lock (mutex.whole_moved lock (mutex.whole_led lock answer)) (mutex.whole_progress lock (mutex.whole_led lock answer)) }
+    ensures value { result
+        ≡ from_lock (mutex.whole_moved lock (mutex.whole_led lock answer))
+        (mutex.whole_progress lock (mutex.whole_led lock answer)) }
     ensures knows { PhaseKnows result.phase }
 {
     match lock.resume(answer) {

@@ -8,7 +8,8 @@
 //! own        the same, each thread of a mutex of its own: a pair
 //! pingpong   two threads signal each other and wait for each other by turns, TIMES rounds: a round
 //! broadcast  one thread wakes all others by a broadcast, TIMES times: a broadcast, until all of them wait again
-//! death      a thread takes a mutex from a dead owner, declares it consistent and dies as its owner, and the next one begins: a thread
+//! death      a thread takes a mutex from a dead owner, declares it consistent and dies as its owner, and the next one
+//!            begins: a thread
 //! ```
 //!
 //! Without words it measures nothing. The figures are the machine's; no test looks at them.

@@ -1,5 +1,6 @@
 -- The forms of a command line.
-use Rattle.std.specs.Prelude.{ℕ, ◌==◌, ◌&&◌, List, [], ◌∷◌, length, Option, Some, None, option_map, codes, if◌then◌else◌}
+use Rattle.std.specs.Prelude.{ℕ, ◌==◌, ◌&&◌, List, [], ◌∷◌, length, Option}
+use Rattle.std.specs.Prelude.{Some, None, option_map, codes, if◌then◌else◌}
 use Rattle.std.specs.Str.{bytes_eq}
 use Rattle.draw_report.specs.declared.asking.Form.{Form}
 use Rattle.draw_report.specs.declared.asking.Form.TheVariants.{Picture, Legend, Usage}
@@ -22,10 +23,12 @@ abbrev pub asked_of_file : Kind → List ℕ → Asked
 asked_of_file kind file = if is_file_word file then Drawing kind None file else Nothing
 
 abbrev pub asked_by_script : Kind → List ℕ → List ℕ → Asked
-asked_by_script kind script file = if is_file_word script && is_file_word file then Drawing kind (Some script) file else Nothing
+asked_by_script kind script file =
+    if is_file_word script && is_file_word file then Drawing kind (Some script) file else Nothing
 
 abbrev pub asked_of_option : Kind → List ℕ → List ℕ → List ℕ → Asked
-asked_of_option kind option script file = if bytes_eq option (codes "--script") then asked_by_script kind script file else Nothing
+asked_of_option kind option script file =
+    if bytes_eq option (codes "--script") then asked_by_script kind script file else Nothing
 
 -- what the words behind the kind of picture ask for: FILE, or --script SCRIPT [FILE]
 abbrev pub asked_behind : Kind → List ℕ → List (List ℕ) → Asked

@@ -5,7 +5,8 @@ use Rattle.picture.specs.Signs.{dot, bar, dashes, dagger, top, disc, bottom, cro
 
 -- the marks of lines, each in the lane of its thread
 abbrev pub marks_legend : List (List ℕ)
-marks_legend = codes "A row is a line of the trace: the number of its event, who owns each mutex behind it, and a lane for each thread.\n"
+marks_legend = codes
+    "A row is a line of the trace: the number of its event, who owns each mutex behind it, and a lane for each thread.\n"
     ∷ top ∷ codes " lock m0        the thread begins a call\n"
     ∷ disc ∷ codes " m0 OK          the call takes effect, with its reply\n"
     ∷ bottom ∷ codes " OK             the call returns\n"

@@ -6,18 +6,22 @@ use Rattle.script.specs.Faults as script_faults
 use Rattle.verdict.specs.declared.fault.TraceFault.{TraceFault}
 use Rattle.verdict.specs.Faults as trace_faults
 use Rattle.draw_report.specs.declared.messages.Failure.{Failure}
-use Rattle.draw_report.specs.declared.messages.Failure.TheVariants.{Usage, CannotRead, CannotWrite, OutOfMemory, Script, Unlike, Trace}
+use Rattle.draw_report.specs.declared.messages.Failure.TheVariants.{Usage, CannotRead, CannotWrite}
+use Rattle.draw_report.specs.declared.messages.Failure.TheVariants.{OutOfMemory, Script, Unlike, Trace}
 
 -- a fault with its line, its number and its words, behind the start of the line
 abbrev pub fault_text : List ℕ → ℕ → ℕ → List ℕ → List ℕ
-fault_text start line number words = concat (start ∷ decimal line ∷ codes ": fault " ∷ decimal number ∷ codes ": " ∷ words ∷ codes "\n" ∷ [])
+fault_text start line number words =
+    concat (start ∷ decimal line ∷ codes ": fault " ∷ decimal number ∷ codes ": " ∷ words ∷ codes "\n" ∷ [])
 
 -- of the script, as the reader of scripts tells it, and of the trace, as the judge of traces does
 abbrev pub script_text : ScriptFault → List ℕ
-script_text e = fault_text (codes "rfx-draw: script: line ") e.line (script_faults.number_of e.fault) (script_faults.words_of e.fault)
+script_text e = fault_text (codes "rfx-draw: script: line ") e.line (script_faults.number_of e.fault)
+    (script_faults.words_of e.fault)
 
 abbrev pub trace_text : TraceFault → List ℕ
-trace_text e = fault_text (codes "rfx-draw: line ") e.line (trace_faults.number_of e.fault) (trace_faults.words_of e.fault)
+trace_text e =
+    fault_text (codes "rfx-draw: line ") e.line (trace_faults.number_of e.fault) (trace_faults.words_of e.fault)
 
 -- why a file of this name wasn't drawn
 abbrev pub failure_text : List ℕ → Failure → List ℕ
@@ -26,7 +30,9 @@ failure_text file CannotRead = concat (codes "rfx-draw: cannot read " ∷ file �
 failure_text file CannotWrite = concat (codes "rfx-draw: cannot write\n" ∷ [])
 failure_text file OutOfMemory = concat (codes "rfx-draw: out of memory\n" ∷ [])
 failure_text file (Script e) = script_text e
-failure_text file Unlike = concat (codes "rfx-draw: script: not of this trace, which has other numbers of threads, mutexes or condition variables\n" ∷ [])
+failure_text file Unlike = concat
+    (codes "rfx-draw: script: not of this trace, which has other numbers of threads, mutexes or condition variables\n"
+    ∷ [])
 failure_text file (Trace e) = trace_text e
 
 -- the exit status after it

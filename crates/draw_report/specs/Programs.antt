@@ -1,5 +1,6 @@
 -- What the program does with the words of its command line.
-use Rattle.std.specs.Prelude.{ℕ, ◌≡◌, ◌⊎◌, List, [], Option, Some, None, Result, Ok, Err, Vec, String, map, string_bytes}
+use Rattle.std.specs.Prelude.{ℕ, ◌≡◌, ◌⊎◌, List, [], Option, Some, None}
+use Rattle.std.specs.Prelude.{Result, Ok, Err, Vec, String, map, string_bytes}
 use Rattle.std.specs.declared.io.Error.{Error}
 use Rattle.std.specs.declared.alloc.Global.{Global}
 use Rattle.std.specs.declared.io.ErrorKind.{ErrorKind}
@@ -33,39 +34,53 @@ IsTold file f told told' status = AppendsFront told told' (failure_text file f) 
 -- how a picture of the trace in a file ended, with the names of this script, if there is one: it was written from what
 -- opening the file gave, the writer has let go of it, and nothing was told; or it wasn't, or not all of it, and that is
 -- told; or the file couldn't be opened
-abbrev pub PictureEnds : (List ℕ → Result (Option (List ℕ)) ErrorKind → Type 0) → Kind → Option Scope → List ℕ → Option (List ℕ) → Option (List ℕ) → Type 0 → Type 0 → Option (List ℕ) → Option (List ℕ) → ℕ → Type 0
+abbrev pub PictureEnds : (List ℕ → Result (Option (List ℕ)) ErrorKind → Type 0) → Kind → Option Scope → List ℕ
+    → Option (List ℕ) → Option (List ℕ) → Type 0 → Type 0 → Option (List ℕ) → Option (List ℕ) → ℕ → Type 0
 PictureEnds Opens k script file old new LetGo Quiet told told' status =
-    ((had : Option (List ℕ)) × Opens file (Ok had) × (left : Option (List ℕ)) × ((Serves k script had left old new × LetGo × Quiet × (status ≡ 0)) ⊎ ((f : Failure) × Fails k script had left old new f × IsTold file f told told' status)))
+    ((had : Option (List ℕ)) × Opens file (Ok had) × (left : Option (List ℕ))
+    × ((Serves k script had left old new × LetGo × Quiet × (status ≡ 0))
+    ⊎ ((f : Failure) × Fails k script had left old new f × IsTold file f told told' status)))
     ⊎ ((e : ErrorKind) × Opens file (Err e) × (new ≡ old) × IsTold file (unopened_by e) told told' status)
 
 -- how the script of this name was read: opening it gave one; or a failure, which is told
 abbrev pub ScriptOpens : (List ℕ → Result (Option (List ℕ)) ErrorKind → Type 0) → List ℕ → Scope → Type 0
-ScriptOpens Opens name s = (had : Option (List ℕ)) × Opens name (Ok had) × (left : Option (List ℕ)) × GivesScript had left s
+ScriptOpens Opens name s =
+    (had : Option (List ℕ)) × Opens name (Ok had) × (left : Option (List ℕ)) × GivesScript had left s
 
-abbrev pub ScriptIsTold : (List ℕ → Result (Option (List ℕ)) ErrorKind → Type 0) → List ℕ → Option (List ℕ) → Option (List ℕ) → ℕ → Type 0
+abbrev pub ScriptIsTold : (List ℕ → Result (Option (List ℕ)) ErrorKind → Type 0) → List ℕ → Option (List ℕ)
+    → Option (List ℕ) → ℕ → Type 0
 ScriptIsTold Opens name told told' status =
-    ((had : Option (List ℕ)) × Opens name (Ok had) × (left : Option (List ℕ)) × (f : Failure) × FailsScript had left f × IsTold name f told told' status)
+    ((had : Option (List ℕ)) × Opens name (Ok had) × (left : Option (List ℕ)) × (f : Failure) × FailsScript had left f
+    × IsTold name f told told' status)
     ⊎ ((e : ErrorKind) × Opens name (Err e) × IsTold name (unopened_by e) told told' status)
 
 -- how a picture with the names of a script ended: with those of the script that this file is; or nothing was written,
 -- and why there is no script is told
-abbrev pub NamedEnds : (List ℕ → Result (Option (List ℕ)) ErrorKind → Type 0) → Kind → List ℕ → List ℕ → Option (List ℕ) → Option (List ℕ) → Type 0 → Type 0 → Option (List ℕ) → Option (List ℕ) → ℕ → Type 0
+abbrev pub NamedEnds : (List ℕ → Result (Option (List ℕ)) ErrorKind → Type 0) → Kind → List ℕ → List ℕ → Option (List ℕ)
+    → Option (List ℕ) → Type 0 → Type 0 → Option (List ℕ) → Option (List ℕ) → ℕ → Type 0
 NamedEnds Opens k name file old new LetGo Quiet told told' status =
     ((s : Scope) × ScriptOpens Opens name s × PictureEnds Opens k (Some s) file old new LetGo Quiet told told' status)
     ⊎ ((new ≡ old) × ScriptIsTold Opens name told told' status)
 
 -- how it ended to tell what the signs mean: all of that was written, the writer has let go of it, and nothing was told;
 -- or a beginning of it, and that it couldn't be written is told
-abbrev pub LegendEnds : Option (List ℕ) → Option (List ℕ) → Type 0 → Type 0 → Option (List ℕ) → Option (List ℕ) → ℕ → Type 0
-LegendEnds old new LetGo Quiet told told' status = (Appends old new legend × LetGo × Quiet × (status ≡ 0)) ⊎ (AppendsFront old new legend × IsTold [] CannotWrite told told' status)
+abbrev pub LegendEnds : Option (List ℕ) → Option (List ℕ) → Type 0 → Type 0 → Option (List ℕ) → Option (List ℕ) → ℕ
+    → Type 0
+LegendEnds old new LetGo Quiet told told' status = (Appends old new legend × LetGo × Quiet × (status ≡ 0))
+    ⊎ (AppendsFront old new legend × IsTold [] CannotWrite told told' status)
 
 -- how a command line ended that asks for this
-abbrev pub AskedEnds : (List ℕ → Result (Option (List ℕ)) ErrorKind → Type 0) → Asked → Option (List ℕ) → Option (List ℕ) → Type 0 → Type 0 → Option (List ℕ) → Option (List ℕ) → ℕ → Type 0
+abbrev pub AskedEnds : (List ℕ → Result (Option (List ℕ)) ErrorKind → Type 0) → Asked → Option (List ℕ)
+    → Option (List ℕ) → Type 0 → Type 0 → Option (List ℕ) → Option (List ℕ) → ℕ → Type 0
 AskedEnds Opens Nothing old new LetGo Quiet told told' status = (new ≡ old) × IsTold [] Usage told told' status
 AskedEnds Opens Meaning old new LetGo Quiet told told' status = LegendEnds old new LetGo Quiet told told' status
-AskedEnds Opens (Drawing kind (Some name) file) old new LetGo Quiet told told' status = NamedEnds Opens kind name file old new LetGo Quiet told told' status
-AskedEnds Opens (Drawing kind None file) old new LetGo Quiet told told' status = PictureEnds Opens kind None file old new LetGo Quiet told told' status
+AskedEnds Opens (Drawing kind (Some name) file) old new LetGo Quiet told told' status =
+    NamedEnds Opens kind name file old new LetGo Quiet told told' status
+AskedEnds Opens (Drawing kind None file) old new LetGo Quiet told told' status =
+    PictureEnds Opens kind None file old new LetGo Quiet told told' status
 
 -- how the program ended: as its command line asks; or memory for its words was wanted, and that is told
-abbrev pub RunEnds : (List ℕ → Result (Option (List ℕ)) ErrorKind → Type 0) → Asked → Option (List ℕ) → Option (List ℕ) → Type 0 → Type 0 → Option (List ℕ) → Option (List ℕ) → ℕ → Type 0
-RunEnds Opens a old new LetGo Quiet told told' status = AskedEnds Opens a old new LetGo Quiet told told' status ⊎ ((new ≡ old) × IsTold [] OutOfMemory told told' status)
+abbrev pub RunEnds : (List ℕ → Result (Option (List ℕ)) ErrorKind → Type 0) → Asked → Option (List ℕ) → Option (List ℕ)
+    → Type 0 → Type 0 → Option (List ℕ) → Option (List ℕ) → ℕ → Type 0
+RunEnds Opens a old new LetGo Quiet told told' status =
+    AskedEnds Opens a old new LetGo Quiet told told' status ⊎ ((new ≡ old) × IsTold [] OutOfMemory told told' status)

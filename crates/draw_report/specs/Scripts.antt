@@ -7,7 +7,8 @@ use Rattle.script.specs.Outcome.{TellsAt}
 use Rattle.script.specs.Reading.{script_read}
 use Rattle.script.specs.Scope.{Scope}
 use Rattle.draw_report.specs.declared.messages.Failure.{Failure}
-use Rattle.draw_report.specs.declared.messages.Failure.TheVariants.{Usage, CannotRead, CannotWrite, OutOfMemory, Script, Unlike, Trace}
+use Rattle.draw_report.specs.declared.messages.Failure.TheVariants.{Usage, CannotRead, CannotWrite}
+use Rattle.draw_report.specs.declared.messages.Failure.TheVariants.{OutOfMemory, Script, Unlike, Trace}
 use Rattle.draw_report.specs.Served.{IsUnread}
 
 -- all that a reader had, up to its end, is this script
@@ -27,4 +28,5 @@ IsFaultOf bytes (Trace e) = ⊥
 -- why there is no script: it couldn't be read, or memory was wanted; or its bytes, which are all that the reader had,
 -- or more than there may be, have this fault
 abbrev pub FailsScript : Option (List ℕ) → Option (List ℕ) → Failure → Type 0
-FailsScript had left f = IsUnread f ⊎ ((bytes : List ℕ) × Consumes had left bytes × (length bytes ≤ max_bytes → IsAtEnd left) × IsFaultOf bytes f)
+FailsScript had left f = IsUnread f
+    ⊎ ((bytes : List ℕ) × Consumes had left bytes × (length bytes ≤ max_bytes → IsAtEnd left) × IsFaultOf bytes f)

@@ -13,7 +13,8 @@ use Rattle.draw_report.specs.declared.asking.Kind.TheVariants.{Text, Svg}
 use Rattle.picture.specs.declared.drawing.Unwritten.{Unwritten}
 use Rattle.picture.specs.declared.drawing.Unwritten.TheVariants as unwritten
 use Rattle.draw_report.specs.declared.messages.Failure.{Failure}
-use Rattle.draw_report.specs.declared.messages.Failure.TheVariants.{Usage, CannotRead, CannotWrite, OutOfMemory, Script, Unlike, Trace}
+use Rattle.draw_report.specs.declared.messages.Failure.TheVariants.{Usage, CannotRead, CannotWrite}
+use Rattle.draw_report.specs.declared.messages.Failure.TheVariants.{OutOfMemory, Script, Unlike, Trace}
 use Rattle.script.specs.Scope.{Scope}
 use Rattle.picture.specs.Drawn.{drawn}
 use Rattle.picture.specs.Names.{Called}
@@ -54,7 +55,8 @@ abbrev pub Draws : Kind → Option Scope → Option (List ℕ) → Option (List 
 Draws kind script old new bytes = (t : Told) × IsOf script bytes t × Appends old new (picture kind (called_by script) t)
 
 abbrev pub DrawsFront : Kind → Option Scope → Option (List ℕ) → Option (List ℕ) → List ℕ → Type 0
-DrawsFront kind script old new bytes = (t : Told) × IsOf script bytes t × AppendsFront old new (picture kind (called_by script) t)
+DrawsFront kind script old new bytes =
+    (t : Told) × IsOf script bytes t × AppendsFront old new (picture kind (called_by script) t)
 
 -- these bytes are a trace that begins otherwise than a run of the script
 abbrev pub IsUnlike : Option Scope → List ℕ → Type 0
@@ -73,13 +75,17 @@ FailsDrawing kind script bytes old new (Trace e) = (new ≡ old) × Gives (trace
 
 -- all that the reader had, up to its end, is a trace, and its picture was written
 abbrev pub Serves : Kind → Option Scope → Option (List ℕ) → Option (List ℕ) → Option (List ℕ) → Option (List ℕ) → Type 0
-Serves kind script had left old new = (bytes : List ℕ) × Consumes had left bytes × IsAtEnd left × Draws kind script old new bytes
+Serves kind script had left old new =
+    (bytes : List ℕ) × Consumes had left bytes × IsAtEnd left × Draws kind script old new bytes
 
 -- what came of a reader's bytes, which are all that it had, or more than there may be
-abbrev pub Comes : Kind → Option Scope → Option (List ℕ) → Option (List ℕ) → Option (List ℕ) → Option (List ℕ) → Failure → Type 0
-Comes kind script had left old new f = (bytes : List ℕ) × Consumes had left bytes × (length bytes ≤ max_bytes → IsAtEnd left) × FailsDrawing kind script bytes old new f
+abbrev pub Comes : Kind → Option Scope → Option (List ℕ) → Option (List ℕ) → Option (List ℕ) → Option (List ℕ) → Failure
+    → Type 0
+Comes kind script had left old new f = (bytes : List ℕ) × Consumes had left bytes
+    × (length bytes ≤ max_bytes → IsAtEnd left) × FailsDrawing kind script bytes old new f
 
 -- why a file wasn't drawn, or not all: before the first byte it couldn't be read, or memory was wanted; or this came of
 -- its bytes
-abbrev pub Fails : Kind → Option Scope → Option (List ℕ) → Option (List ℕ) → Option (List ℕ) → Option (List ℕ) → Failure → Type 0
+abbrev pub Fails : Kind → Option Scope → Option (List ℕ) → Option (List ℕ) → Option (List ℕ) → Option (List ℕ) → Failure
+    → Type 0
 Fails kind script had left old new f = (IsUnread f × (new ≡ old)) ⊎ Comes kind script had left old new f

@@ -1,7 +1,8 @@
 //! What the words of a command line ask for.
 
 ghost use Rattle.std.specs.Prelude.{◌≡◌, map};
-ghost use Rattle.draw_report.specs.Asked.{asked_behind, asked_by, asked_by_script, asked_of, asked_of_file, asked_of_option, asked_of_svg};
+ghost use Rattle.draw_report.specs.Asked.{asked_behind, asked_by, asked_by_script, asked_of};
+ghost use Rattle.draw_report.specs.Asked.{asked_of_file, asked_of_option, asked_of_svg};
 
 use streams::is_file;
 

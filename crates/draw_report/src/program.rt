@@ -4,7 +4,8 @@ ghost use Rattle.std.specs.Prelude.{◌≡◌, IfErr, IfOk, OnOk};
 ghost use Rattle.std.specs.IoError.{error_kind};
 ghost use Rattle.streams.specs.Leaves.{AppendsFront};
 ghost use Rattle.draw_report.specs.Messages.{failure_status, failure_text};
-ghost use Rattle.draw_report.specs.Programs.{asked_in, unopened_by, LegendEnds, NamedEnds, RunEnds, PictureEnds, ScriptIsTold, ScriptOpens};
+ghost use Rattle.draw_report.specs.Programs.{asked_in, unopened_by, LegendEnds, NamedEnds};
+ghost use Rattle.draw_report.specs.Programs.{RunEnds, PictureEnds, ScriptIsTold, ScriptOpens};
 
 use crate::asking::{Form, Kind, form_of_words};
 use crate::messages::{Failure, fail};
@@ -34,7 +35,8 @@ fn run_picture<F: Opener, W: Output, E: Write>(
     out: &mut W,
     err: &mut E,
 ) -> u8
-    ensures { PictureEnds (F.opens files.now) kind script.now file.now (W.contents out.old) (W.contents out.new) (W.is_let_go out.new) (err.new ≡ err.old) (E.contents err.old) (E.contents err.new) result }
+    ensures { PictureEnds (F.opens files.now) kind script.now file.now (W.contents out.old) (W.contents out.new)
+        (W.is_let_go out.new) (err.new ≡ err.old) (E.contents err.old) (E.contents err.new) result }
 {
     let mut input = match files.open(file) {
         Ok(input) => input,
@@ -77,7 +79,8 @@ fn run_named<F: Opener, W: Output, E: Write>(
     out: &mut W,
     err: &mut E,
 ) -> u8
-    ensures { NamedEnds (F.opens files.now) kind name.now file.now (W.contents out.old) (W.contents out.new) (W.is_let_go out.new) (err.new ≡ err.old) (E.contents err.old) (E.contents err.new) result }
+    ensures { NamedEnds (F.opens files.now) kind name.now file.now (W.contents out.old) (W.contents out.new)
+        (W.is_let_go out.new) (err.new ≡ err.old) (E.contents err.old) (E.contents err.new) result }
 {
     match open_script(alloc, name, files, err) {
         Ok(script) => run_picture(alloc, kind, &Some(script), file, files, out, err),
@@ -87,7 +90,8 @@ fn run_named<F: Opener, W: Output, E: Write>(
 
 /// What the signs of pictures mean.
 fn run_legend<W: Output, E: Write>(out: &mut W, err: &mut E) -> u8
-    ensures { LegendEnds (W.contents out.old) (W.contents out.new) (W.is_let_go out.new) (err.new ≡ err.old) (E.contents err.old) (E.contents err.new) result }
+    ensures { LegendEnds (W.contents out.old) (W.contents out.new) (W.is_let_go out.new) (err.new ≡ err.old)
+        (E.contents err.old) (E.contents err.new) result }
 {
     match write_legend(out) {
         Ok(()) => 0,
@@ -106,7 +110,8 @@ pub fn run<F: Opener, W: Output, E: Write>(
     out: &mut W,
     err: &mut E,
 ) -> u8
-    ensures { RunEnds (F.opens files.now) (asked_in words) (W.contents out.old) (W.contents out.new) (W.is_let_go out.new) (err.new ≡ err.old) (E.contents err.old) (E.contents err.new) result }
+    ensures { RunEnds (F.opens files.now) (asked_in words) (W.contents out.old) (W.contents out.new)
+        (W.is_let_go out.new) (err.new ≡ err.old) (E.contents err.old) (E.contents err.new) result }
 {
     let words = match words {
         Ok(words) => words,

@@ -9,7 +9,8 @@ ghost use Rattle.draw_report.specs.Legend.{legend};
 ghost use Rattle.script.specs.Limits as scripts;
 ghost use Rattle.draw_report.specs.Names.{called_by};
 ghost use Rattle.draw_report.specs.Scripts.{FailsScript, GivesScript};
-ghost use Rattle.draw_report.specs.Served.{Draws, Fails, FailsDrawing, IsUnread, Serves, failed_by, picture, undrawn_by};
+ghost use Rattle.draw_report.specs.Served.{Draws, Fails, FailsDrawing, IsUnread};
+ghost use Rattle.draw_report.specs.Served.{Serves, failed_by, picture, undrawn_by};
 
 use crate::asking::Kind;
 use crate::legend::{lanes_legend, marks_legend};
@@ -115,7 +116,8 @@ fn draw_named<W: Output>(
     trace: &Told,
     out: &mut W,
 ) -> Result<(), Unwritten>
-    ensures text { Leaves (W.contents out.old) (W.contents out.new) result (picture kind (called_by script.now) trace.now) }
+    ensures text { Leaves (W.contents out.old) (W.contents out.new) result
+        (picture kind (called_by script.now) trace.now) }
     ensures let_go { OnOk result (W.is_let_go out.new) }
 {
     match names_of(alloc, script) {
@@ -158,9 +160,13 @@ pub fn serve<R: Read, W: Output>(
     input: &mut R,
     out: &mut W,
 ) -> Result<(), Failure>
-    ensures serves { OnOk result (Serves kind script.now (R.remaining input.old) (R.remaining input.new) (W.contents out.old) (W.contents out.new)) }
+    ensures serves { OnOk result
+        (Serves kind script.now (R.remaining input.old) (R.remaining input.new) (W.contents out.old)
+        (W.contents out.new)) }
     ensures let_go { OnOk result (W.is_let_go out.new) }
-    ensures fails { IfErr result (Fails kind script.now (R.remaining input.old) (R.remaining input.new) (W.contents out.old) (W.contents out.new)) }
+    ensures fails { IfErr result
+        (Fails kind script.now (R.remaining input.old) (R.remaining input.new) (W.contents out.old)
+        (W.contents out.new)) }
     ensures limit { TakesAtMost (max_bytes + 1) (R.remaining input.old) (R.remaining input.new) }
 {
     match read_file(alloc, MAX_BYTES, input) {

@@ -59,7 +59,12 @@ WakesFor x a = ⊥
 pub record AnyAnswersEnd : Type 0 where
   pub ends : (t h : ℕ) (answers : List Answer) → 10247 ≤ length answers → reached t h LoadFirst answers ≡ Ended
   pub loads : (t h : ℕ) (answers : List Answer) → entry_loads t h LoadFirst answers ≤ held_limit
-  pub asks : (t h : ℕ) (r : Row) (a : Answer) (at old new : ℕ) → row_access h (row_after t h r a) ≡ Exchange at old new → Asks t (row_access h r) a at old new
-  pub twice : (t h : ℕ) (r : Row) (a b : Answer) → IsExchange (row_access h r) → IsExchange (row_access h (row_after t h r a)) → IsExchange (row_access h (row_after t h (row_after t h r a) b)) → ⊥
-  pub wakes : (t h : ℕ) (r : Row) (a : Answer) (at n : ℕ) → row_access h (row_after t h r a) ≡ Wake at n → (address_of (row_access h r) ≡ at) × (n ≡ 1) × WakesFor (row_access h r) a
-  pub faults : (t h : ℕ) (r : Row) (a : Answer) → IsGoing r → ¬ IsAnswerOf (row_access h r) a → row_after t h r a ≡ Ended
+  pub asks : (t h : ℕ) (r : Row) (a : Answer) (at old new : ℕ) → row_access h (row_after t h r a) ≡ Exchange at old new
+      → Asks t (row_access h r) a at old new
+  pub twice : (t h : ℕ) (r : Row) (a b : Answer) → IsExchange (row_access h r)
+      → IsExchange (row_access h (row_after t h r a)) → IsExchange (row_access h (row_after t h (row_after t h r a) b))
+      → ⊥
+  pub wakes : (t h : ℕ) (r : Row) (a : Answer) (at n : ℕ) → row_access h (row_after t h r a) ≡ Wake at n
+      → (address_of (row_access h r) ≡ at) × (n ≡ 1) × WakesFor (row_access h r) a
+  pub faults : (t h : ℕ) (r : Row) (a : Answer) → IsGoing r → ¬ IsAnswerOf (row_access h r) a
+      → row_after t h r a ≡ Ended

@@ -17,18 +17,31 @@ use Rattle.exitwalk.specs.declared.row.Rest.{Rest}
 use Rattle.exitwalk.specs.declared.row.Part.{Part}
 use Rattle.exitwalk.specs.declared.row.Part.TheVariants.{List, Pending}
 use Rattle.exitwalk.specs.declared.row.Row.{Row}
-use Rattle.exitwalk.specs.declared.row.Row.TheVariants.{LoadFirst, LoadOffset, LoadPending, LoadNext, LoadWord, Mark, WakeOne, Ended}
+use Rattle.exitwalk.specs.declared.row.Row.TheVariants.{LoadFirst, LoadOffset, LoadPending}
+use Rattle.exitwalk.specs.declared.row.Row.TheVariants.{LoadNext, LoadWord, Mark, WakeOne, Ended}
 use Rattle.exitwalk.specs.declared.coding.CodedRow.{CodedRow}
 
 abbrev pub rest_code : ℕ → Rest → CodedRow
-rest_code kind r = record { at = 0; seen = 0; entry = r.entry; offset = r.offset; pending = r.pending; loaded = r.loaded; kind = kind; again = 0; of_pending = 0 }
+rest_code kind r = record {
+  at = 0;
+  seen = 0;
+  entry = r.entry;
+  offset = r.offset;
+  pending = r.pending;
+  loaded = r.loaded;
+  kind = kind;
+  again = 0;
+  of_pending = 0;
+}
 
 abbrev pub first_code : ℕ → ℕ → ℕ → CodedRow
 first_code kind entry offset = rest_code kind (record { entry = entry; offset = offset; pending = 0; loaded = 0 })
 
 abbrev pub part_code : ℕ → ℕ → ℕ → Bool → Part → CodedRow
-part_code kind at seen again (List r) = record (rest_code kind r) { at = at; seen = seen; again = if again then 1 else 0 }
-part_code kind at seen again Pending = record (first_code kind 0 0) { at = at; seen = seen; again = if again then 1 else 0; of_pending = 1 }
+part_code kind at seen again (List r) =
+    record (rest_code kind r) { at = at; seen = seen; again = if again then 1 else 0 }
+part_code kind at seen again Pending =
+    record (first_code kind 0 0) { at = at; seen = seen; again = if again then 1 else 0; of_pending = 1 }
 
 abbrev pub row_code : Row → CodedRow
 row_code LoadFirst = first_code 1 0 0

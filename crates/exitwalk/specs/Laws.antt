@@ -13,4 +13,5 @@ pub record Leaves (c : Course) (e : Effect) : Type 0 where
 -- where nobody else writes a walk ends after at most 8,198 accesses, and leaves its meaning: over any words, cyclic
 -- links and wrong offsets among them, whatever is valid, and however many sleepers a wake wakes
 abbrev pub WalksAreRight : Type 0
-WalksAreRight = (valid : ℕ → Bool) (sleepers : List ℕ → ℕ) (t h n : ℕ) (words : ℕ → ℕ) → 8198 ≤ n → Leaves (run valid sleepers t h n (outset words)) (meaning valid t h words)
+WalksAreRight = (valid : ℕ → Bool) (sleepers : List ℕ → ℕ) (t h n : ℕ) (words : ℕ → ℕ) → 8198 ≤ n
+    → Leaves (run valid sleepers t h n (outset words)) (meaning valid t h words)

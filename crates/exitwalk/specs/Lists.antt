@@ -1,5 +1,6 @@
 -- What the walk leaves of a list that is whole (robust-futexes.rst, robust-futex-ABI.rst).
-use Rattle.std.specs.Prelude.{ℕ, ◌≡◌, ◌≢◌, ◌⊎◌, ◌≤◌, ◌==◌, Bool, true, false, ◌&&◌, ◌||◌, not, List, [], ◌∷◌, length, if◌then◌else◌}
+use Rattle.std.specs.Prelude.{ℕ, ◌≡◌, ◌≢◌, ◌⊎◌, ◌≤◌, ◌==◌, Bool, true, false, ◌&&◌}
+use Rattle.std.specs.Prelude.{◌||◌, not, List, [], ◌∷◌, length, if◌then◌else◌}
 use Rattle.posixmutex.specs.Objects.{held_limit}
 use Rattle.exitwalk.specs.Words.{sum_of, owner_in, died_word}
 use Rattle.exitwalk.specs.Meanings.{Head, meaning}
@@ -40,5 +41,8 @@ treated_word t v = if owner_in v == t then died_word v else v
 
 -- of a whole list the word of each entry is treated, and that of the pending entry; each other word stays
 abbrev pub WholeListsAreTreated : Type 0
-WholeListsAreTreated = (valid : ℕ → Bool) (t : ℕ) (words : ℕ → ℕ) (h : Head) (es : List ℕ) → 1 ≤ t → IsWhole valid words h es
-    → (at : ℕ) → (meaning valid t h.at words).words at ≡ (if is_listed h.offset es at || is_pended h at then treated_word t (words at) else words at)
+WholeListsAreTreated =
+    (valid : ℕ → Bool) (t : ℕ) (words : ℕ → ℕ) (h : Head) (es : List ℕ) → 1 ≤ t → IsWhole valid words h es
+    → (at : ℕ)
+    → (meaning valid t h.at words).words at
+    ≡ (if is_listed h.offset es at || is_pended h at then treated_word t (words at) else words at)

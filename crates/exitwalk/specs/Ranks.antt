@@ -4,7 +4,8 @@ use Rattle.posixmutex.specs.Objects.{held_limit}
 use Rattle.exitwalk.specs.declared.row.Part.{Part}
 use Rattle.exitwalk.specs.declared.row.Part.TheVariants.{List, Pending}
 use Rattle.exitwalk.specs.declared.row.Row.{Row}
-use Rattle.exitwalk.specs.declared.row.Row.TheVariants.{LoadFirst, LoadOffset, LoadPending, LoadNext, LoadWord, Mark, WakeOne, Ended}
+use Rattle.exitwalk.specs.declared.row.Row.TheVariants.{LoadFirst, LoadOffset, LoadPending}
+use Rattle.exitwalk.specs.declared.row.Row.TheVariants.{LoadNext, LoadWord, Mark, WakeOne, Ended}
 
 -- whatever it is answered: five for an entry, four for the pending one
 abbrev pub part_left : Part → ℕ
@@ -33,6 +34,7 @@ left_alone words (LoadOffset first) = 4 * held_limit + 5
 left_alone words (LoadPending first offset) = 4 * held_limit + 4
 left_alone words (LoadNext r) = 4 * (held_limit - r.loaded) + 3
 left_alone words (LoadWord at part) = part_left_alone part + 3
-left_alone words (Mark at seen again part) = part_left_alone part + (if words at == seen then 2 else if again then 1 else 3)
+left_alone words (Mark at seen again part) =
+    part_left_alone part + (if words at == seen then 2 else if again then 1 else 3)
 left_alone words (WakeOne at part) = part_left_alone part + 1
 left_alone words Ended = 0

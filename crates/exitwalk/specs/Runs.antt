@@ -27,7 +27,8 @@ wakes_after wakes a = wakes
 
 -- what an access leaves where its address is valid
 abbrev pub made : Effect → Access → Effect
-made s a = record { words = put s.words (address_of a) (changed a (s.words (address_of a))); wakes = wakes_after s.wakes a }
+made s a =
+    record { words = put s.words (address_of a) (changed a (s.words (address_of a))); wakes = wakes_after s.wakes a }
 
 abbrev pub answer_of : (ℕ → Bool) → (List ℕ → ℕ) → Effect → Access → Answer
 answer_of valid sleepers s a = if valid (address_of a) then answered sleepers s a else Fault
@@ -43,7 +44,10 @@ has_ended r = false
 abbrev pub step : (ℕ → Bool) → (List ℕ → ℕ) → ℕ → ℕ → Course → Course
 step valid sleepers t h c =
     if has_ended c.row then c
-    else record { row = row_after t h c.row (answer_of valid sleepers c.effect (row_access h c.row)); effect = effect_of valid c.effect (row_access h c.row) }
+    else record {
+      row = row_after t h c.row (answer_of valid sleepers c.effect (row_access h c.row));
+      effect = effect_of valid c.effect (row_access h c.row);
+    }
 
 -- so many accesses
 unfoldable pub run : (ℕ → Bool) → (List ℕ → ℕ) → ℕ → ℕ → ℕ → Course → Course

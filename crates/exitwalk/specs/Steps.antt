@@ -12,7 +12,8 @@ use Rattle.posixmutex.specs.Objects.{Run, object_of}
 use Rattle.exitwalk.specs.declared.row.Part.{Part}
 use Rattle.exitwalk.specs.declared.row.Row.{Row}
 use Rattle.exitwalk.specs.declared.row.Part.TheVariants as part
-use Rattle.exitwalk.specs.declared.row.Row.TheVariants.{LoadFirst, LoadOffset, LoadPending, LoadNext, LoadWord, Mark, WakeOne, Ended}
+use Rattle.exitwalk.specs.declared.row.Row.TheVariants.{LoadFirst, LoadOffset, LoadPending}
+use Rattle.exitwalk.specs.declared.row.Row.TheVariants.{LoadNext, LoadWord, Mark, WakeOne, Ended}
 use Rattle.exitwalk.specs.Words.{owner_in, has_waiters, died_word}
 use Rattle.exitwalk.specs.Walks.{row_access, row_after, point_of, IsCounted, IsGoing, Knows}
 use Rattle.exitwalk.specs.Ranks.{accesses_left, left_alone}
@@ -55,13 +56,18 @@ pub record OnlyWaits (seen : ℕ) (again : Bool) (w : ℕ) : Type 0 where
 -- Where others only set WAITERS in the dead thread's words, an exchange fails once at most, and the next one is for the
 -- word found.
 pub record StepsAreRight : Type 0 where
-  pub right : (t h w : ℕ) (r : Row) → 1 ≤ t → IsGoing r → Knows t h r → Right t r (answer_at (row_access h r) w) w (changed (row_access h r) w)
+  pub right : (t h w : ℕ) (r : Row) → 1 ≤ t → IsGoing r → Knows t h r
+      → Right t r (answer_at (row_access h r) w) w (changed (row_access h r) w)
   pub knows : (t h : ℕ) (r : Row) (a : Answer) → Knows t h r → Knows t h (row_after t h r a)
-  pub falls : (t h : ℕ) (r : Row) (a : Answer) → IsGoing r → Knows t h r → accesses_left (row_after t h r a) < accesses_left r
+  pub falls : (t h : ℕ) (r : Row) (a : Answer) → IsGoing r → Knows t h r
+      → accesses_left (row_after t h r a) < accesses_left r
   pub few : (t h : ℕ) (r : Row) (words : ℕ → ℕ) → Knows t h r → (accesses_left r ≤ 10247) × (left_alone words r ≤ 8198)
-  pub alone : (t h : ℕ) (r : Row) (a : Answer) (words words' : ℕ → ℕ) → IsGoing r → Knows t h r → IsTrueOf (row_access h r) (words (address_of (row_access h r))) a
-      → words' (address_of (row_access h r)) ≡ changed (row_access h r) (words (address_of (row_access h r))) → left_alone words' (row_after t h r a) < left_alone words r
-  pub second : (t h at seen w : ℕ) (again : Bool) (p : Part) → 1 ≤ t → Knows t h (Mark at seen again p) → OnlyWaits seen again w → w ≢ seen
+  pub alone : (t h : ℕ) (r : Row) (a : Answer) (words words' : ℕ → ℕ) → IsGoing r → Knows t h r
+      → IsTrueOf (row_access h r) (words (address_of (row_access h r))) a
+      → words' (address_of (row_access h r)) ≡ changed (row_access h r) (words (address_of (row_access h r)))
+      → left_alone words' (row_after t h r a) < left_alone words r
+  pub second : (t h at seen w : ℕ) (again : Bool) (p : Part) → 1 ≤ t → Knows t h (Mark at seen again p)
+      → OnlyWaits seen again w → w ≢ seen
       → (again ≡ false) × (row_after t h (Mark at seen again p) (Changed w) ≡ Mark at w true p) × OnlyWaits w true w
 
 -- what a row knows has one proof at most

@@ -18,7 +18,8 @@
 -- 2^64. This project's own, of which nothing is claimed of a kernel: the end at a fault, the pending entry included;
 -- the word left alone after a second exchange; the wake for an unowned pending word; and that the bits above the low
 -- half stay.
-use Rattle.std.specs.Prelude.{ℕ, ◌≡◌, ◌+◌, ◌==◌, ◌≤◌, ◌<◌, ◌&&◌, ◌||◌, Bool, true, false, Option, Some, None, if◌then◌else◌}
+use Rattle.std.specs.Prelude.{ℕ, ◌≡◌, ◌+◌, ◌==◌, ◌≤◌, ◌<◌, ◌&&◌, ◌||◌, Bool}
+use Rattle.std.specs.Prelude.{true, false, Option, Some, None, if◌then◌else◌}
 use Rattle.posixmutex.specs.Objects.{held_limit}
 use Rattle.lockword.specs.Cells.{fields_of, word_of, marked}
 use Rattle.lockword.specs.declared.reply.Reply.TheVariants.{OK}
@@ -34,7 +35,8 @@ use Rattle.exitwalk.specs.declared.row.Rest.{Rest}
 use Rattle.exitwalk.specs.declared.row.Part.{Part}
 use Rattle.exitwalk.specs.declared.row.Part.TheVariants.{List, Pending}
 use Rattle.exitwalk.specs.declared.row.Row.{Row}
-use Rattle.exitwalk.specs.declared.row.Row.TheVariants.{LoadFirst, LoadOffset, LoadPending, LoadNext, LoadWord, Mark, WakeOne, Ended}
+use Rattle.exitwalk.specs.declared.row.Row.TheVariants.{LoadFirst, LoadOffset, LoadPending}
+use Rattle.exitwalk.specs.declared.row.Row.TheVariants.{LoadNext, LoadWord, Mark, WakeOne, Ended}
 use Rattle.exitwalk.specs.Standings.{Standing}
 use Rattle.exitwalk.specs.Words.{sum_of}
 
@@ -71,7 +73,10 @@ abbrev pub further : Rest → ℕ → Rest
 further r next = record { entry = next; offset = r.offset; pending = r.pending; loaded = r.loaded + 1 }
 
 abbrev pub after_next : ℕ → Rest → ℕ → Row
-after_next h r next = if r.entry == r.pending then forward h (further r next) else LoadWord (sum_of r.entry r.offset) (List (further r next))
+after_next h r next =
+    if r.entry == r.pending
+    then forward h (further r next)
+    else LoadWord (sum_of r.entry r.offset) (List (further r next))
 
 abbrev pub looks : ℕ → ℕ → ℕ → ℕ → Bool → Part → Row
 looks t h at v again part =
@@ -91,7 +96,8 @@ after_miss t h at again part found = if again then goes_on h part else looks t h
 abbrev pub row_after : ℕ → ℕ → Row → Answer → Row
 row_after t h LoadFirst (Value v) = LoadOffset v
 row_after t h (LoadOffset first) (Value v) = LoadPending first v
-row_after t h (LoadPending first offset) (Value v) = forward h (record { entry = first; offset = offset; pending = v; loaded = 0 })
+row_after t h (LoadPending first offset) (Value v) =
+    forward h (record { entry = first; offset = offset; pending = v; loaded = 0 })
 row_after t h (LoadNext r) (Value v) = after_next h r v
 row_after t h (LoadWord at part) (Value v) = looks t h at v false part
 row_after t h (Mark at seen again part) Exchanged = after_mark h at seen part

@@ -121,7 +121,9 @@ impl CodedRow {
     }
 
     fn rest(&self) -> Rest
-        ensures { result ≡ record { entry = self.now.entry; offset = self.now.offset; pending = self.now.pending; loaded = self.now.loaded } }
+        ensures { result
+            ≡ record
+            { entry = self.now.entry; offset = self.now.offset; pending = self.now.pending; loaded = self.now.loaded } }
     {
         Rest {
             entry: self.entry,
@@ -133,7 +135,8 @@ impl CodedRow {
 
     fn part(&self) -> Option<Part>
         ensures counted { IfSome result (λ p. IsCounted p) }
-        ensures each { (kind at seen : ℕ) (again : Bool) (p : Part) → IsCounted p → part_code kind at seen again p ≡ self.now → result ≡ Some p }
+        ensures each { (kind at seen : ℕ) (again : Bool) (p : Part) → IsCounted p
+            → part_code kind at seen again p ≡ self.now → result ≡ Some p }
     {
         let loaded = self.loaded;
         if self.of_pending == 1 {

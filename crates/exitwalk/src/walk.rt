@@ -35,7 +35,8 @@ impl Model for Walk {
 }
 
 impl Walk {
-    ghost use Rattle.exitwalk.specs.Walks.{begun, walk_at, access_of, row_after, point_of, moved, progress_of, IsGoing, IsCounted, Knows};
+    ghost use Rattle.exitwalk.specs.Walks.{begun, walk_at, access_of, row_after, point_of};
+    ghost use Rattle.exitwalk.specs.Walks.{moved, progress_of, IsGoing, IsCounted, Knows};
     ghost use Rattle.exitwalk.specs.Walks.{forward, goes_on, looks, after_next, after_mark, after_miss};
 
     /// The walk of a dead thread's list whose head is at an address. That may be any number, and so may the words

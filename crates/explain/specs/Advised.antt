@@ -1,6 +1,8 @@
 -- What is told of the line that a title names: which of its words is marked, what is said of it, and which earlier
 -- line it goes back to.
-use Rattle.std.specs.Prelude.{ℕ, ◌≡◌, ◌⊎◌, ◌+◌, ◌-◌, ◌==◌, ◌++◌, nat_le, nat_lt, Bool, true, not, ◌&&◌, List, [], ◌∷◌, length, take, reverse, Option, Some, None, option_map, Ok, codes, if◌then◌else◌, MatchBool, MatchOption}
+use Rattle.std.specs.Prelude.{ℕ, ◌≡◌, ◌⊎◌, ◌+◌, ◌-◌, ◌==◌, ◌++◌, nat_le, nat_lt, Bool, true, not}
+use Rattle.std.specs.Prelude.{◌&&◌, List, [], ◌∷◌, length, take, reverse, Option, Some, None}
+use Rattle.std.specs.Prelude.{option_map, Ok, codes, if◌then◌else◌, MatchBool, MatchOption}
 use Rattle.std.specs.Option.{is_none}
 use Rattle.std.specs.Str.{bytes_eq}
 use Rattle.std.specs.Str.Parse.{digits_value}
@@ -22,7 +24,9 @@ use Rattle.wording.specs.Wrongs.{IsFirstWrong, is_line}
 use Rattle.explain.specs.declared.explanation.Advice.{Advice}
 use Rattle.explain.specs.declared.explanation.Mark.{Mark}
 use Rattle.explain.specs.declared.explanation.Note.{Note}
-use Rattle.explain.specs.declared.explanation.Note.TheVariants.{NoLineFeed, BehindCommand, Range, TooMany, PastLast, NothingDeclared, Undeclared, DeclaredTwice, DiesTwice, Bytes, Lines, Events, Uncounted, NoEnd, BehindEnd}
+use Rattle.explain.specs.declared.explanation.Note.TheVariants.{NoLineFeed, BehindCommand, Range, TooMany, PastLast}
+use Rattle.explain.specs.declared.explanation.Note.TheVariants.{NothingDeclared, Undeclared, DeclaredTwice, DiesTwice}
+use Rattle.explain.specs.declared.explanation.Note.TheVariants.{Bytes, Lines, Events, Uncounted, NoEnd, BehindEnd}
 use Rattle.explain.specs.declared.explanation.Title.{Title}
 use Rattle.explain.specs.declared.explanation.Title.TheVariants.{Good, Script, Legal, Illegal, Trace as TraceTitle}
 use Rattle.explain.specs.declared.explanation.Things.{Things}
@@ -118,7 +122,8 @@ lacking (Some n) = Mutexes
 -- line n of a script has a number that is out of its range; or it is the end of one that declares too little
 abbrev pub script_range : List ℕ → ℕ → Advice
 script_range text n = if length (line_of text n) == 0
-    then saying (NothingDeclared (lacking (first_earlier text n (λ t. is_of Threads (things_of (word_of (words_of t) 0))))))
+    then saying
+    (NothingDeclared (lacking (first_earlier text n (λ t. is_of Threads (things_of (word_of (words_of t) 0))))))
     else ranged_by (range_of (word_at text n 0)) (words_of (line_of text n)) (counted (things_of (word_at text n 0)))
 
 -- a number of a trace's first line
@@ -177,7 +182,8 @@ trace_range text n = if n == 1 then head_range (words_of (line_of text n))
 -- the name of such a thing that a line declares, where it declares that name alone
 abbrev pub single_name : Things → List ℕ → Option (List ℕ)
 single_name things line =
-    if is_of things (things_of (word_of (words_of line) 0)) && not (bytes_eq (word_of (words_of line) 0) (codes "mutexes"))
+    if is_of things (things_of (word_of (words_of line) 0))
+    && not (bytes_eq (word_of (words_of line) 0) (codes "mutexes"))
     then Some (word_of (words_of line) 1) else None
 
 abbrev pub listed : Option (List ℕ) → List (List ℕ)
@@ -230,7 +236,8 @@ pub record IsUndeclared (text : List ℕ) (n : ℕ) (things : Things) (i : ℕ) 
   pub marked : a.mark ≡ Some mark
   pub word : mark.word ≡ i
   pub expected : mark.expected ≡ None
-  pub near : IsNearest (word_at text n i) (names_in things (take (n - 1) (lines_of text))) (option_map (λ w. w.now) mark.near)
+  pub near : IsNearest (word_at text n i) (names_in things (take (n - 1) (lines_of text)))
+      (option_map (λ w. w.now) mark.near)
   pub note : a.note ≡ Some (Undeclared things)
   pub origin : a.origin ≡ None
 

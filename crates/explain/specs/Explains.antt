@@ -1,5 +1,6 @@
 -- What is told of a file's bytes.
-use Rattle.std.specs.Prelude.{ℕ, ◌≡◌, ◌⊎◌, ◌||◌, Bool, true, false, List, [], ◌∷◌, Option, Some, None, Ok, Err, codes, nat_eq}
+use Rattle.std.specs.Prelude.{ℕ, ◌≡◌, ◌⊎◌, ◌||◌, Bool, true, false, List, []}
+use Rattle.std.specs.Prelude.{◌∷◌, Option, Some, None, Ok, Err, codes, nat_eq}
 use Rattle.std.specs.List.{starts_with}
 use Rattle.std.specs.Option.{is_none}
 use Rattle.lines.specs.Lines.{lines_of, words_of}
@@ -32,7 +33,8 @@ abbrev pub IsFaultOf : Mode → List ℕ → Option ScriptFault → Type 0
 IsFaultOf Threads bytes None = (s : Scope) × (script_read Threads bytes ≡ Ok s)
 IsFaultOf Run bytes None = (s : Scope) × (script_read Run bytes ≡ Ok s) × (overlong s ≡ None)
 IsFaultOf Threads bytes (Some e) = script_read Threads bytes ≡ Err e
-IsFaultOf Run bytes (Some e) = (script_read Run bytes ≡ Err e) ⊎ ((s : Scope) × (script_read Run bytes ≡ Ok s) × (overlong s ≡ Some e.line) × (e.fault ≡ fault.TooLong))
+IsFaultOf Run bytes (Some e) = (script_read Run bytes ≡ Err e)
+    ⊎ ((s : Scope) × (script_read Run bytes ≡ Ok s) × (overlong s ≡ Some e.line) × (e.fault ≡ fault.TooLong))
 
 -- the mode that the first line points to which only scripts of one mode have, and the machine's where none does; what
 -- stands behind the last line feed is no line
@@ -106,4 +108,5 @@ status_of (Trace e) = 1
 
 -- the text of an explanation of the bytes, and its exit status
 abbrev pub IsTold : List ℕ → List ℕ → List ℕ → ℕ → Type 0
-IsTold file bytes text status = (x : Explanation) × (Explains bytes x × ((text ≡ explanation_text file (lines_in bytes) x) × (status ≡ status_of x.title)))
+IsTold file bytes text status = (x : Explanation)
+    × (Explains bytes x × ((text ≡ explanation_text file (lines_in bytes) x) × (status ≡ status_of x.title)))

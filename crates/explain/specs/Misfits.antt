@@ -5,7 +5,11 @@ use Rattle.lockword.specs.Replies.{reply_word}
 use Rattle.posixmutex.specs.declared.object.Object.{Object}
 use Rattle.posixmutex.specs.Words.{operation_word}
 use Rattle.verdict.specs.declared.misfit.Misfit.{Misfit}
-use Rattle.verdict.specs.declared.misfit.Misfit.TheVariants.{EventFalls, AnothersEvent, EventDecided, KillShares, EventKilled, InCall, NoCall, Asleep, Awake, Killed, NotReaped, Reaped, Alive, OtherMutex, OtherOperation, ReleaseRefused, Released, Decided, Undecided, OtherReply, NotAllowed, AtLimit, NotOwner, StillOwns, EndFalls}
+use Rattle.verdict.specs.declared.misfit.Misfit.TheVariants.{EventFalls, AnothersEvent, EventDecided, KillShares}
+use Rattle.verdict.specs.declared.misfit.Misfit.TheVariants.{EventKilled, InCall, NoCall, Asleep, Awake, Killed}
+use Rattle.verdict.specs.declared.misfit.Misfit.TheVariants.{NotReaped, Reaped, Alive, OtherMutex, OtherOperation}
+use Rattle.verdict.specs.declared.misfit.Misfit.TheVariants.{ReleaseRefused, Released, Decided, Undecided, OtherReply}
+use Rattle.verdict.specs.declared.misfit.Misfit.TheVariants.{NotAllowed, AtLimit, NotOwner, StillOwns, EndFalls}
 
 abbrev pub with_number : List ℕ → ℕ → List ℕ → List ℕ
 with_number before n behind = concat (before ∷ decimal n ∷ behind ∷ [])
@@ -24,7 +28,8 @@ misfit_text (AnothersEvent t) = with_number (codes "the event is one of thread t
 misfit_text EventDecided = concat (codes "the event has a point or a death already" ∷ [])
 misfit_text KillShares = concat (codes "a kill is an event of its own, and this event has a line already" ∷ [])
 misfit_text EventKilled = concat (codes "the event is a kill, and has no other line" ∷ [])
-misfit_text (InCall c) = concat (codes "the thread is in a call already: " ∷ operation_word c.operation ∷ []) ++ with_number (codes " of m") c.mutex []
+misfit_text (InCall c) = concat (codes "the thread is in a call already: " ∷ operation_word c.operation ∷ [])
+    ++ with_number (codes " of m") c.mutex []
 misfit_text NoCall = concat (codes "the thread is in no call" ∷ [])
 misfit_text Asleep = concat (codes "the thread is asleep" ∷ [])
 misfit_text Awake = concat (codes "the thread isn't asleep" ∷ [])
@@ -39,7 +44,8 @@ misfit_text Released = concat (codes "the wait has released its mutex, and locks
 misfit_text (Decided x) = concat (codes "the call has its points already, and returns " ∷ reply_word x ∷ [])
 misfit_text Undecided = concat (codes "the call has had no point yet" ∷ [])
 misfit_text (OtherReply x) = concat (codes "the call's point replied " ∷ reply_word x ∷ [])
-misfit_text (NotAllowed o x) = concat (codes "the mutex doesn't allow the reply " ∷ reply_word x ∷ codes ": " ∷ []) ++ object_text o
+misfit_text (NotAllowed o x) =
+    concat (codes "the mutex doesn't allow the reply " ∷ reply_word x ∷ codes ": " ∷ []) ++ object_text o
 misfit_text (AtLimit k) = with_number (codes "the thread holds ") k (codes " mutexes, so that the reply is X_HELD")
 misfit_text (NotOwner o) = concat (codes "the thread doesn't own the mutex: " ∷ []) ++ object_text o
 misfit_text (StillOwns m) = with_number (codes "the thread still owns m") m []

@@ -3,20 +3,27 @@ use Rattle.std.specs.Prelude.{ℕ, List, [], ◌∷◌, ◌++◌, Option, Some, 
 use Rattle.std.specs.List.{concat}
 use Rattle.explain.specs.declared.explanation.Things.{Things}
 use Rattle.explain.specs.declared.explanation.Note.{Note}
-use Rattle.explain.specs.declared.explanation.Note.TheVariants.{NoLineFeed, CarriageReturn, LeadingBlank, TwoBlanks, TrailingBlank, Tab, Remark, OtherMode, OfTrace, OfScript, BehindCommand, Range, TooMany, PastLast, NothingDeclared, Undeclared, DeclaredTwice, DiesTwice, Bytes, Lines, Events, Uncounted, NoEnd, BehindEnd}
+use Rattle.explain.specs.declared.explanation.Note.TheVariants.{NoLineFeed, CarriageReturn, LeadingBlank, TwoBlanks}
+use Rattle.explain.specs.declared.explanation.Note.TheVariants.{TrailingBlank, Tab, Remark, OtherMode, OfTrace}
+use Rattle.explain.specs.declared.explanation.Note.TheVariants.{OfScript, BehindCommand, Range, TooMany, PastLast}
+use Rattle.explain.specs.declared.explanation.Note.TheVariants.{NothingDeclared, Undeclared, DeclaredTwice, DiesTwice}
+use Rattle.explain.specs.declared.explanation.Note.TheVariants.{Bytes, Lines, Events, Uncounted, NoEnd, BehindEnd}
 use Rattle.explain.specs.Words.{mode_words, things_words}
 
 abbrev pub with_things : List ℕ → Things → List ℕ → List ℕ
-with_things before things behind = concat (codes "  = " ∷ before ∷ []) ++ (concat (things_words things ∷ []) ++ concat (behind ∷ codes "\n" ∷ []))
+with_things before things behind =
+    concat (codes "  = " ∷ before ∷ []) ++ (concat (things_words things ∷ []) ++ concat (behind ∷ codes "\n" ∷ []))
 
 abbrev pub many_text : List ℕ → ℕ → List ℕ → List ℕ
 many_text before limit behind = concat (codes "  = " ∷ before ∷ decimal limit ∷ behind ∷ codes "\n" ∷ [])
 
 abbrev pub range_text : ℕ → ℕ → List ℕ
-range_text low high = concat (codes "  = the number is from " ∷ decimal low ∷ codes " to " ∷ decimal high ∷ codes "\n" ∷ [])
+range_text low high =
+    concat (codes "  = the number is from " ∷ decimal low ∷ codes " to " ∷ decimal high ∷ codes "\n" ∷ [])
 
 unfoldable pub counted_text : List ℕ → ℕ → Things → List ℕ
-counted_text before count things = concat (codes "  = " ∷ before ∷ []) ++ (concat (decimal count ∷ codes " of this kind: " ∷ []) ++ concat (things_words things ∷ codes "\n" ∷ []))
+counted_text before count things = concat (codes "  = " ∷ before ∷ [])
+    ++ (concat (decimal count ∷ codes " of this kind: " ∷ []) ++ concat (things_words things ∷ codes "\n" ∷ []))
 
 abbrev pub said_text : Note → List ℕ
 said_text NoLineFeed = codes "the last line has no line feed at its end"

@@ -1,5 +1,6 @@
 -- What the program does with the words of its command line.
-use Rattle.std.specs.Prelude.{ℕ, ◌≡◌, ◌⊎◌, List, [], Option, Some, None, Result, Ok, Err, Vec, String, map, string_bytes}
+use Rattle.std.specs.Prelude.{ℕ, ◌≡◌, ◌⊎◌, List, [], Option, Some, None}
+use Rattle.std.specs.Prelude.{Result, Ok, Err, Vec, String, map, string_bytes}
 use Rattle.std.specs.declared.io.Error.{Error}
 use Rattle.std.specs.declared.alloc.Global.{Global}
 use Rattle.std.specs.declared.io.ErrorKind.{ErrorKind}
@@ -27,16 +28,23 @@ IsTold file f told told' status = AppendsFront told told' (failure_text file f) 
 
 -- how an explanation of a file ended: it was written of what opening the file gave, the writer has let go of it, and
 -- nothing was told; or it wasn't, or not all of it, and that is told; or the file couldn't be opened
-abbrev pub FileEnds : (List ℕ → Result (Option (List ℕ)) ErrorKind → Type 0) → List ℕ → Option (List ℕ) → Option (List ℕ) → Type 0 → Type 0 → Option (List ℕ) → Option (List ℕ) → ℕ → Type 0
+abbrev pub FileEnds : (List ℕ → Result (Option (List ℕ)) ErrorKind → Type 0) → List ℕ → Option (List ℕ)
+    → Option (List ℕ) → Type 0 → Type 0 → Option (List ℕ) → Option (List ℕ) → ℕ → Type 0
 FileEnds Opens file old new LetGo Quiet told told' status =
-    ((had : Option (List ℕ)) × Opens file (Ok had) × (left : Option (List ℕ)) × ((Serves file had left old new status × LetGo × Quiet) ⊎ ((f : Failure) × Fails file had left old new f × IsTold file f told told' status)))
+    ((had : Option (List ℕ)) × Opens file (Ok had) × (left : Option (List ℕ))
+    × ((Serves file had left old new status × LetGo × Quiet)
+    ⊎ ((f : Failure) × Fails file had left old new f × IsTold file f told told' status)))
     ⊎ ((e : ErrorKind) × Opens file (Err e) × (new ≡ old) × IsTold file (unopened_by e) told told' status)
 
 -- how a command line ended that asks for this
-abbrev pub AskedEnds : (List ℕ → Result (Option (List ℕ)) ErrorKind → Type 0) → Asked → Option (List ℕ) → Option (List ℕ) → Type 0 → Type 0 → Option (List ℕ) → Option (List ℕ) → ℕ → Type 0
+abbrev pub AskedEnds : (List ℕ → Result (Option (List ℕ)) ErrorKind → Type 0) → Asked → Option (List ℕ)
+    → Option (List ℕ) → Type 0 → Type 0 → Option (List ℕ) → Option (List ℕ) → ℕ → Type 0
 AskedEnds Opens None old new LetGo Quiet told told' status = (new ≡ old) × IsTold [] Usage told told' status
-AskedEnds Opens (Some file) old new LetGo Quiet told told' status = FileEnds Opens file old new LetGo Quiet told told' status
+AskedEnds Opens (Some file) old new LetGo Quiet told told' status =
+    FileEnds Opens file old new LetGo Quiet told told' status
 
 -- how the program ended: as its command line asks; or memory for its words was wanted, and that is told
-abbrev pub RunEnds : (List ℕ → Result (Option (List ℕ)) ErrorKind → Type 0) → Asked → Option (List ℕ) → Option (List ℕ) → Type 0 → Type 0 → Option (List ℕ) → Option (List ℕ) → ℕ → Type 0
-RunEnds Opens a old new LetGo Quiet told told' status = AskedEnds Opens a old new LetGo Quiet told told' status ⊎ ((new ≡ old) × IsTold [] OutOfMemory told told' status)
+abbrev pub RunEnds : (List ℕ → Result (Option (List ℕ)) ErrorKind → Type 0) → Asked → Option (List ℕ) → Option (List ℕ)
+    → Type 0 → Type 0 → Option (List ℕ) → Option (List ℕ) → ℕ → Type 0
+RunEnds Opens a old new LetGo Quiet told told' status =
+    AskedEnds Opens a old new LetGo Quiet told told' status ⊎ ((new ≡ old) × IsTold [] OutOfMemory told told' status)

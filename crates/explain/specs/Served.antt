@@ -26,7 +26,8 @@ abbrev pub Tells : List ℕ → List ℕ → Option (List ℕ) → Option (List 
 Tells file bytes old new status = (text : List ℕ) × (IsTold file bytes text status × Appends old new text)
 
 abbrev pub TellsFront : List ℕ → List ℕ → Option (List ℕ) → Option (List ℕ) → Type 0
-TellsFront file bytes old new = (text : List ℕ) × ((status : ℕ) × (IsTold file bytes text status × AppendsFront old new text))
+TellsFront file bytes old new =
+    (text : List ℕ) × ((status : ℕ) × (IsTold file bytes text status × AppendsFront old new text))
 
 -- why nothing was told of bytes, or not all: want of memory, before the first byte; or a write that failed, behind a
 -- beginning
@@ -38,10 +39,12 @@ FailsTelling file bytes old new OutOfMemory = new ≡ old
 
 -- what came of a reader's bytes, which are all that it had, or more than a trace may have
 abbrev pub Serves : List ℕ → Option (List ℕ) → Option (List ℕ) → Option (List ℕ) → Option (List ℕ) → ℕ → Type 0
-Serves file had left old new status = (bytes : List ℕ) × (Consumes had left bytes × ((length bytes ≤ max_bytes → IsAtEnd left) × Tells file bytes old new status))
+Serves file had left old new status = (bytes : List ℕ)
+    × (Consumes had left bytes × ((length bytes ≤ max_bytes → IsAtEnd left) × Tells file bytes old new status))
 
 abbrev pub Comes : List ℕ → Option (List ℕ) → Option (List ℕ) → Option (List ℕ) → Option (List ℕ) → Failure → Type 0
-Comes file had left old new f = (bytes : List ℕ) × (Consumes had left bytes × ((length bytes ≤ max_bytes → IsAtEnd left) × FailsTelling file bytes old new f))
+Comes file had left old new f = (bytes : List ℕ)
+    × (Consumes had left bytes × ((length bytes ≤ max_bytes → IsAtEnd left) × FailsTelling file bytes old new f))
 
 -- why nothing was told of a file, or not all: before the first byte it couldn't be read, or memory was wanted; or this
 -- came of its bytes

@@ -1,5 +1,6 @@
 -- Earlier lines of a script that a line goes back to.
-use Rattle.std.specs.Prelude.{ℕ, ◌+◌, Bool, true, false, not, ◌&&◌, List, [], ◌∷◌, Option, Some, None, unwrap_or, codes, if◌then◌else◌}
+use Rattle.std.specs.Prelude.{ℕ, ◌+◌, Bool, true, false, not, ◌&&◌, List, [], ◌∷◌}
+use Rattle.std.specs.Prelude.{Option, Some, None, unwrap_or, codes, if◌then◌else◌}
 use Rattle.std.specs.Option.{is_some}
 use Rattle.std.specs.Str.{bytes_eq}
 use Rattle.std.specs.Str.Parse.{digits_value}
@@ -41,7 +42,10 @@ count_of w = if is_number w then unwrap_or (within 0 max_mutexes (digits_value 1
 -- count behind it
 abbrev pub declares : List (List ℕ) → Things → List ℕ → Bool
 declares ws things name = is_of things (things_of (word_of ws 0))
-    && (if bytes_eq (word_of ws 0) (codes "mutexes") then is_numbered (word_of ws 1) (count_of (word_of ws 2)) name else bytes_eq (word_of ws 1) name)
+    &&
+    (if bytes_eq (word_of ws 0) (codes "mutexes")
+    then is_numbered (word_of ws 1) (count_of (word_of ws 2)) name
+    else bytes_eq (word_of ws 1) name)
 
 -- a name that it declares is the stem with a number below n behind it, as a single name has it, or one of the same stem
 abbrev pub is_clashing : List (List ℕ) → List ℕ → ℕ → Bool
@@ -57,7 +61,8 @@ is_sought (Declaration things name) text = declares (words_of text) things name.
 is_sought (Numbered stem n) text = is_clashing (words_of text) stem.now n
 is_sought (Any things) text = is_of things (things_of (word_of (words_of text) 0))
 is_sought Command text = is_command text
-is_sought (Death name) text = bytes_eq (word_of (words_of text) 0) (codes "die") && bytes_eq (word_of (words_of text) 1) name.now
+is_sought (Death name) text =
+    bytes_eq (word_of (words_of text) 0) (codes "die") && bytes_eq (word_of (words_of text) 1) name.now
 
 -- of these lines, the first of which is line n, the number of the first for which the test passes
 abbrev pub first_line : (List ℕ → Bool) → ℕ → List (List ℕ) → Option ℕ

@@ -1,5 +1,6 @@
 -- What is said of words at which no line of a kind can go on.
-use Rattle.std.specs.Prelude.{ℕ, ◌≡◌, ◌-◌, Bool, true, false, not, ◌||◌, ◌==◌, List, [], ◌∷◌, length, take, slice_get, Option, Some, None, option_map, unwrap_or, if◌then◌else◌}
+use Rattle.std.specs.Prelude.{ℕ, ◌≡◌, ◌-◌, Bool, true, false, not, ◌||◌, ◌==◌, List, [], ◌∷◌, length}
+use Rattle.std.specs.Prelude.{take, slice_get, Option, Some, None, option_map, unwrap_or, if◌then◌else◌}
 use Rattle.std.specs.Option.{is_some}
 use Rattle.std.specs.List.{list_any}
 use Rattle.std.specs.Str.{is_utf8}
@@ -15,13 +16,16 @@ use Rattle.wording.specs.Near.{IsNearest}
 use Rattle.wording.specs.Wrongs.{Awaits, IsFirstWrong, ends_at, is_line}
 use Rattle.explain.specs.declared.explanation.Mark.{Mark}
 use Rattle.explain.specs.declared.explanation.Note.{Note}
-use Rattle.explain.specs.declared.explanation.Note.TheVariants.{CarriageReturn, LeadingBlank, TwoBlanks, TrailingBlank, Tab, Remark, OtherMode, OfTrace, OfScript}
+use Rattle.explain.specs.declared.explanation.Note.TheVariants.{CarriageReturn, LeadingBlank, TwoBlanks}
+use Rattle.explain.specs.declared.explanation.Note.TheVariants.{TrailingBlank, Tab, Remark, OtherMode, OfTrace}
+use Rattle.explain.specs.declared.explanation.Note.TheVariants.{OfScript}
 
 -- ---- what is said
 
 -- a word without a letter stands before the first blank, behind the last one, or between two
 abbrev pub blank_note : List ℕ → ℕ → Note
-blank_note text i = if i == 0 then LeadingBlank else (if ends_at i (words_of text) == length text then TrailingBlank else TwoBlanks)
+blank_note text i =
+    if i == 0 then LeadingBlank else (if ends_at i (words_of text) == length text then TrailingBlank else TwoBlanks)
 
 abbrev pub is_return : Option ℕ → Bool
 is_return None = false
@@ -44,7 +48,8 @@ mode_note None n = n
 
 -- the line is one of the other mode, or of a trace; or it is one of scripts
 abbrev pub kind_note : Kind → List (List ℕ) → List ℕ → Option Note
-kind_note (Script k) ws w = mode_note (mode_of_word w) (if is_line Trace ws || is_line Head ws then Some OfTrace else None)
+kind_note (Script k) ws w =
+    mode_note (mode_of_word w) (if is_line Trace ws || is_line Head ws then Some OfTrace else None)
 kind_note Head ws w = if is_line (Script Run) ws || is_line (Script Threads) ws then Some OfScript else None
 kind_note Trace ws w = if is_line (Script Run) ws || is_line (Script Threads) ws then Some OfScript else None
 

@@ -1,5 +1,6 @@
 -- The text of what is told of a file.
-use Rattle.std.specs.Prelude.{ℕ, ◌-◌, Bool, true, false, ◌==◌, min, max, List, [], ◌∷◌, ◌++◌, length, take, drop, replicate, Option, Some, None, option_map, codes, decimal, if◌then◌else◌}
+use Rattle.std.specs.Prelude.{ℕ, ◌-◌, Bool, true, false, ◌==◌, min, max, List, [], ◌∷◌, ◌++◌, length, take}
+use Rattle.std.specs.Prelude.{drop, replicate, Option, Some, None, option_map, codes, decimal, if◌then◌else◌}
 use Rattle.std.specs.List.{concat, flat_map}
 use Rattle.lines.specs.Lines.{words_of}
 use Rattle.script.specs.declared.command.Mode.{Mode}
@@ -30,7 +31,8 @@ programs true true = codes "`rfx run` and `rfx threads`"
 programs false false = codes "`rfx run` and `rfx threads`"
 
 abbrev pub good_text : List ℕ → Bool → Bool → List ℕ
-good_text file run threads = concat (file ∷ codes ": a good script for " ∷ []) ++ concat (programs run threads ∷ codes "\n" ∷ [])
+good_text file run threads =
+    concat (file ∷ codes ": a good script for " ∷ []) ++ concat (programs run threads ∷ codes "\n" ∷ [])
 
 abbrev pub place_text : List ℕ → ℕ → List ℕ
 place_text file line = concat (file ∷ codes ": line " ∷ decimal line ∷ codes ": " ∷ [])
@@ -39,16 +41,20 @@ abbrev pub fault_text : ℕ → List ℕ → List ℕ
 fault_text number words = concat (codes "fault " ∷ decimal number ∷ codes ": " ∷ words ∷ [])
 
 abbrev pub script_text : List ℕ → Mode → ScriptFault → List ℕ
-script_text file k e = place_text file e.line ++ (fault_text (script.number_of e.fault) (script.words_of e.fault) ++ concat (codes " (a script for " ∷ mode_words k ∷ codes ")\n" ∷ []))
+script_text file k e = place_text file e.line
+    ++ (fault_text (script.number_of e.fault) (script.words_of e.fault)
+    ++ concat (codes " (a script for " ∷ mode_words k ∷ codes ")\n" ∷ []))
 
 abbrev pub trace_text : List ℕ → TraceFault → List ℕ
-trace_text file e = place_text file e.line ++ (fault_text (traces.number_of e.fault) (traces.words_of e.fault) ++ concat (codes " (a trace)\n" ∷ []))
+trace_text file e = place_text file e.line
+    ++ (fault_text (traces.number_of e.fault) (traces.words_of e.fault) ++ concat (codes " (a trace)\n" ∷ []))
 
 abbrev pub legal_text : List ℕ → ℕ → List ℕ
 legal_text file points = concat (file ∷ codes ": a legal trace, of " ∷ decimal points ∷ codes " points\n" ∷ [])
 
 abbrev pub illegal_text : List ℕ → TraceMisfit → List ℕ
-illegal_text file why = place_text file why.line ++ (concat (codes "illegal: " ∷ []) ++ (misfit_text why.misfit ++ concat (codes "\n" ∷ [])))
+illegal_text file why = place_text file why.line
+    ++ (concat (codes "illegal: " ∷ []) ++ (misfit_text why.misfit ++ concat (codes "\n" ∷ [])))
 
 abbrev pub title_text : List ℕ → Title → List ℕ
 title_text file (Good run threads) = good_text file run threads
@@ -88,7 +94,8 @@ known_text ws = flat_map (λ w. concat (codes " `" ∷ w ∷ codes "`" ∷ [])) 
 
 abbrev pub expected_text : Option Next → List ℕ
 expected_text None = []
-expected_text (Some n) = concat (codes "  = expected " ∷ expected_words n ∷ []) ++ (known_text (known_words n) ++ concat (codes "\n" ∷ []))
+expected_text (Some n) =
+    concat (codes "  = expected " ∷ expected_words n ∷ []) ++ (known_text (known_words n) ++ concat (codes "\n" ∷ []))
 
 abbrev pub near_text : Option (List ℕ) → List ℕ
 near_text None = []
@@ -96,7 +103,8 @@ near_text (Some v) = concat (codes "  = did you mean `" ∷ v ∷ codes "`?\n" �
 
 abbrev pub mark_text : List ℕ → Option Mark → List ℕ
 mark_text line None = []
-mark_text line (Some m) = caret_text line m.word ++ (expected_text m.expected ++ near_text (option_map (λ w. w.now) m.near))
+mark_text line (Some m) =
+    caret_text line m.word ++ (expected_text m.expected ++ near_text (option_map (λ w. w.now) m.near))
 
 abbrev pub marked_line : List ℕ → Option Mark → List ℕ
 marked_line line m = if length line == 0 then [] else line_text line ++ mark_text line m
@@ -122,4 +130,5 @@ origin_text lines (Some n) = earlier_text lines n
 
 -- of a file of this name, whose text is this
 abbrev pub explanation_text : List ℕ → List ℕ → Explanation → List ℕ
-explanation_text file lines x = title_text file x.title ++ (quote_text lines x.title x.advice.mark ++ (note_text x.advice.note ++ origin_text lines x.advice.origin))
+explanation_text file lines x = title_text file x.title
+    ++ (quote_text lines x.title x.advice.mark ++ (note_text x.advice.note ++ origin_text lines x.advice.origin))

@@ -62,7 +62,8 @@ fn tell_explanation(
     explanation: &Explanation<'_>,
 ) -> Result<Told, AllocError>
     requires { length bytes.now < 2 ^ 32 }
-    ensures text { IfOk result (λ t. t.text.items ≡ explanation_text file.now (lines_in bytes.now) explanation.entry.now) }
+    ensures text { IfOk result
+        (λ t. t.text.items ≡ explanation_text file.now (lines_in bytes.now) explanation.entry.now) }
     ensures status { IfOk result (λ t. t.status ≡ status_of explanation.entry.now.title) }
 {
     let text = explanation_text(alloc, file, lines_in(bytes), explanation)?;

@@ -2,7 +2,8 @@
 
 ghost use Rattle.std.specs.Prelude.{◌≡◌, ◌++◌, ◌-◌, map, option_map, take, IfOk, OnOk};
 ghost use Rattle.lines.specs.Lines.{lines_of, words_of};
-ghost use Rattle.explain.specs.Advised.{IsNameAdvice, IsUndeclared, first_death, first_declared, is_undeclared, listed, names_in, single_name, twice, uses_of, uses_of_call};
+ghost use Rattle.explain.specs.Advised.{IsNameAdvice, IsUndeclared, first_death, first_declared};
+ghost use Rattle.explain.specs.Advised.{is_undeclared, listed, names_in, single_name, twice, uses_of, uses_of_call};
 
 use crate::explanation::{Advice, Mark, Note, Things};
 use crate::quoting::line_of;
@@ -52,7 +53,9 @@ fn single_name(line: &str, things: Things) -> Option<&str>
 
 /// Keeps a name behind the others, if there is one.
 fn keep<'a>(names: &mut Vec<&'a str>, name: Option<&'a str>) -> Result<(), AllocError>
-    ensures { OnOk result (map (λ w. w.now) names.new.items ≡ map (λ w. w.now) names.old.items ++ listed (option_map (λ w. w.now) name.entry)) }
+    ensures { OnOk result
+        (map (λ w. w.now) names.new.items
+        ≡ map (λ w. w.now) names.old.items ++ listed (option_map (λ w. w.now) name.entry)) }
 {
     if let Some(name) = name {
         names.push(name)?;
@@ -67,7 +70,8 @@ fn names_before<'a>(
     before: usize,
     things: Things,
 ) -> Result<Vec<&'a str>, AllocError>
-    ensures { IfOk result (λ v. map (λ w. w.now) v.items ≡ names_in things (take (before - 1) (lines_of text.entry.now))) }
+    ensures { IfOk result
+        (λ v. map (λ w. w.now) v.items ≡ names_in things (take (before - 1) (lines_of text.entry.now))) }
 {
     let mut names = Vec::new(alloc);
     let mut line = 1;

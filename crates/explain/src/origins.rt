@@ -2,7 +2,8 @@
 
 ghost use Rattle.std.specs.Prelude.{◌≡◌, ◌&&◌, ◌==◌, not, reverse};
 ghost use Rattle.facts.specs.Facts.{decision_of, is_passive, is_renewal, thread_of};
-ghost use Rattle.explain.specs.Origins.{is_begin, is_origin, is_reap, is_return, is_sleep, is_step_like, is_step_of, is_wake, newest_line, origin_of};
+ghost use Rattle.explain.specs.Origins.{is_begin, is_origin, is_reap, is_return, is_sleep};
+ghost use Rattle.explain.specs.Origins.{is_step_like, is_step_of, is_wake, newest_line, origin_of};
 
 use facts::{Fact, Line};
 use lockword::Tid;

@@ -29,7 +29,8 @@ fn run_file<F: Opener, W: Output, E: Write>(
     out: &mut W,
     err: &mut E,
 ) -> u8
-    ensures { FileEnds (F.opens files.now) file.now (W.contents out.old) (W.contents out.new) (W.is_let_go out.new) (err.new ≡ err.old) (E.contents err.old) (E.contents err.new) result }
+    ensures { FileEnds (F.opens files.now) file.now (W.contents out.old) (W.contents out.new) (W.is_let_go out.new)
+        (err.new ≡ err.old) (E.contents err.old) (E.contents err.new) result }
 {
     let mut input = match files.open(file) {
         Ok(input) => input,
@@ -53,7 +54,8 @@ pub fn run<F: Opener, W: Output, E: Write>(
     out: &mut W,
     err: &mut E,
 ) -> u8
-    ensures { RunEnds (F.opens files.now) (asked_in words) (W.contents out.old) (W.contents out.new) (W.is_let_go out.new) (err.new ≡ err.old) (E.contents err.old) (E.contents err.new) result }
+    ensures { RunEnds (F.opens files.now) (asked_in words) (W.contents out.old) (W.contents out.new)
+        (W.is_let_go out.new) (err.new ≡ err.old) (E.contents err.old) (E.contents err.new) result }
 {
     let words = match words {
         Ok(words) => words,

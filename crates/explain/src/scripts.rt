@@ -2,7 +2,8 @@
 
 ghost use Rattle.std.specs.Prelude.{◌≡◌, ◌≢◌, ◌<◌, ◌^◌, false, length, Some, IfOk};
 ghost use Rattle.lines.specs.Lines.{lines_of, words_of};
-ghost use Rattle.explain.specs.Advised.{IsAdvised, IsScriptAdvice, behind_command, counted, first_earlier, lacking, limit_of, range_of, script_length, script_range};
+ghost use Rattle.explain.specs.Advised.{IsAdvised, IsScriptAdvice, behind_command, counted};
+ghost use Rattle.explain.specs.Advised.{first_earlier, lacking, limit_of, range_of, script_length, script_range};
 ghost use Rattle.explain.specs.Explains.{IsFaultOf, IsOfKind, IsTitle, mode_in};
 ghost use Rattle.explain.specs.Sought.{is_of, things_of};
 ghost use Rattle.explain.specs.Stray.{word_of};
@@ -69,7 +70,8 @@ fn counted(keyword: &str) -> Advice<'static>
 
 /// What a script declares too few of: threads, where it has none; else mutexes.
 fn lacking(text: &str, number: usize) -> Things
-    ensures { result ≡ lacking (first_earlier text.now number (λ t. is_of Things.Threads (things_of (word_of (words_of t) 0)))) }
+    ensures { result
+        ≡ lacking (first_earlier text.now number (λ t. is_of Things.Threads (things_of (word_of (words_of t) 0)))) }
 {
     match first_before(text, number, &Sought::Any(Things::Threads)) {
         None => Things::Threads,

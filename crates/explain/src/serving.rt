@@ -79,9 +79,12 @@ pub fn serve<R: Read, W: Output>(
     input: &mut R,
     out: &mut W,
 ) -> Result<u8, Failure>
-    ensures serves { IfOk result (λ status. Serves file.now (R.remaining input.old) (R.remaining input.new) (W.contents out.old) (W.contents out.new) status) }
+    ensures serves { IfOk result
+        (λ status. Serves file.now (R.remaining input.old) (R.remaining input.new) (W.contents out.old)
+        (W.contents out.new) status) }
     ensures let_go { OnOk result (W.is_let_go out.new) }
-    ensures fails { IfErr result (Fails file.now (R.remaining input.old) (R.remaining input.new) (W.contents out.old) (W.contents out.new)) }
+    ensures fails { IfErr result
+        (Fails file.now (R.remaining input.old) (R.remaining input.new) (W.contents out.old) (W.contents out.new)) }
     ensures limit { TakesAtMost (max_bytes + 1) (R.remaining input.old) (R.remaining input.new) }
 {
     match read_file(alloc, input) {

@@ -3,7 +3,8 @@
 ghost use Rattle.std.specs.Prelude.{◌≡◌, IfOk};
 ghost use Rattle.lines.specs.Lines.{words_of};
 ghost use Rattle.explain.specs.Advised.{IsStray};
-ghost use Rattle.explain.specs.Stray.{IsMarked, blank_note, ends_in_return, has_tab, is_remark, kind_note, stray_note, word_note};
+ghost use Rattle.explain.specs.Stray.{IsMarked, blank_note, ends_in_return, has_tab};
+ghost use Rattle.explain.specs.Stray.{is_remark, kind_note, stray_note, word_note};
 
 use crate::explanation::{Advice, Mark, Note};
 use crate::quoting::{is_last, line_of};

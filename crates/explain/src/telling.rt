@@ -2,7 +2,10 @@
 
 ghost use Rattle.std.specs.Prelude.{◌≡◌, ◌++◌, map, option_map, IfOk, OnOk};
 ghost use Rattle.explain.specs.Shown.{begins_character, columns};
-ghost use Rattle.explain.specs.Texts.{caret_text, earlier_text, expected_text, explanation_text, fault_text, good_text, illegal_text, known_text, legal_text, line_named, line_text, mark_text, near_text, origin_text, place_text, programs, quote_text, script_text, title_text, trace_text};
+ghost use Rattle.explain.specs.Texts.{caret_text, earlier_text, expected_text, explanation_text};
+ghost use Rattle.explain.specs.Texts.{fault_text, good_text, illegal_text, known_text, legal_text};
+ghost use Rattle.explain.specs.Texts.{line_named, line_text, mark_text, near_text, origin_text, place_text};
+ghost use Rattle.explain.specs.Texts.{programs, quote_text, script_text, title_text, trace_text};
 
 use crate::adding::{add, add_run, add_shown};
 use crate::explanation::{Explanation, Mark, Title};

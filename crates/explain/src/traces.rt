@@ -2,7 +2,8 @@
 
 ghost use Rattle.std.specs.Prelude.{◌≡◌, ◌≢◌, ◌<◌, ◌^◌, true, length, IfOk};
 ghost use Rattle.lines.specs.Lines.{words_of};
-ghost use Rattle.explain.specs.Advised.{IsAdvised, IsMisfitAdvice, IsTraceAdvice, cut_short, head_range, kind_of, line_range, trace_range, uncounted_at};
+ghost use Rattle.explain.specs.Advised.{IsAdvised, IsMisfitAdvice, IsTraceAdvice, cut_short};
+ghost use Rattle.explain.specs.Advised.{head_range, kind_of, line_range, trace_range, uncounted_at};
 ghost use Rattle.explain.specs.Explains.{IsOfKind, IsTitle, title_of};
 
 use crate::explanation::{Advice, Explanation, Note, Things, Title};

@@ -6,7 +6,8 @@ use Rattle.posixmutex.specs.declared.point.Operation.{Operation}
 use Rattle.posixmutex.specs.declared.point.Operation.TheVariants.{Lock, Unlock, Wait}
 use Rattle.facts.specs.declared.fact.Begun.{Begun}
 use Rattle.facts.specs.declared.fact.Fact.{Fact}
-use Rattle.facts.specs.declared.fact.Fact.TheVariants.{Begin, Point, Death, Sleep, Wake, Move, Return, Kill, Reap, Renew}
+use Rattle.facts.specs.declared.fact.Fact.TheVariants.{Begin, Point, Death, Sleep, Wake}
+use Rattle.facts.specs.declared.fact.Fact.TheVariants.{Move, Return, Kill, Reap, Renew}
 use Rattle.facts.specs.declared.fact.Line.{Line}
 use Rattle.facts.specs.Facts.{thread_of}
 
@@ -62,9 +63,11 @@ pub data Mourned (t : ℕ) : List Fact → Type 0 where
 -- ends that call. No point belongs to any other call, and no death comes before the kill
 pub data Life (t : ℕ) : List Fact → Type 0 where
   Rests : Life t []
-  Returns : (c : Begun) (ps : List Act) (x : Reply) (later : List Fact) → Complete c.operation ps x → Life t later → Life t (Begin t c ∷ (made t c ps ++ Return t x ∷ later))
+  Returns : (c : Begun) (ps : List Act) (x : Reply) (later : List Fact) → Complete c.operation ps x → Life t later
+      → Life t (Begin t c ∷ (made t c ps ++ Return t x ∷ later))
   Stays : (c : Begun) (ps : List Act) → Beginning c.operation ps → Life t (Begin t c ∷ made t c ps)
-  Cut : (c : Begun) (ps : List Act) (later : List Fact) → Beginning c.operation ps → Mourned t later → Life t (Begin t c ∷ (made t c ps ++ Kill t ∷ later))
+  Cut : (c : Begun) (ps : List Act) (later : List Fact) → Beginning c.operation ps → Mourned t later
+      → Life t (Begin t c ∷ (made t c ps ++ Kill t ∷ later))
   Dies : (later : List Fact) → Mourned t later → Life t (Kill t ∷ later)
 
 -- ---- lives
@@ -77,4 +80,5 @@ EndsReaped t fs = (before : List Fact) × (fs ≡ before ++ Reap t ∷ [])
 -- behind which t lives anew. So a call, a point or a death belongs to one of them
 pub data Lives (t : ℕ) : List Fact → Type 0 where
   Last : (life : List Fact) → Life t life → Lives t life
-  Earlier : (life later : List Fact) → Life t life → EndsReaped t life → Lives t later → Lives t (life ++ Renew t ∷ later)
+  Earlier : (life later : List Fact) → Life t life → EndsReaped t life → Lives t later
+      → Lives t (life ++ Renew t ∷ later)

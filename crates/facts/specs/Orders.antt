@@ -8,7 +8,8 @@ use Rattle.facts.specs.Facts.{thread_of, decides, is_passive, is_kill}
 pub record Later (a b : Line) : Type 0 where
   pub never_falls : a.event ≤ b.event
   pub decisions_rise : decides a.fact ≡ true → decides b.fact ≡ true → a.event < b.event
-  pub one_thread : a.event ≡ b.event → is_passive a.fact ≡ false → is_passive b.fact ≡ false → thread_of a.fact ≡ thread_of b.fact
+  pub one_thread : a.event ≡ b.event → is_passive a.fact ≡ false → is_passive b.fact ≡ false
+      → thread_of a.fact ≡ thread_of b.fact
   pub kill_before : is_kill a.fact ≡ true → a.event < b.event
   pub kill_behind : is_kill b.fact ≡ true → a.event < b.event
 

@@ -1,5 +1,6 @@
 -- What an access does over a list of words and a kernel's queues, and what a thread does with its answer.
-use Rattle.std.specs.Prelude.{ℕ, ◌≡◌, ◌==◌, ◌&&◌, not, Bool, true, false, List, [], ◌++◌, length, slice_index, slice_set, Option, Some, None, Result, Ok, Err, if◌then◌else◌}
+use Rattle.std.specs.Prelude.{ℕ, ◌≡◌, ◌==◌, ◌&&◌, not, Bool, true, false, List, [], ◌++◌, length}
+use Rattle.std.specs.Prelude.{slice_index, slice_set, Option, Some, None, Result, Ok, Err, if◌then◌else◌}
 use Rattle.lockword.specs.declared.reply.Reply.{Reply}
 use Rattle.lockword.specs.declared.reply.Reply.TheVariants.{EAGAIN}
 use Rattle.stepprograms.specs.declared.access.Access.{Access}
@@ -52,8 +53,10 @@ place_from b a = seen_at b (address_of a)
 
 -- an access isn't refused: its address is valid; of a requeue both are, and they differ
 abbrev pub list_met : List ℕ → ℕ → Access → Bool
-list_met ws b (Requeue from n to k) = is_valid ws (seen_at b from) && (is_valid ws (seen_at b to) && not (seen_at b from == seen_at b to))
-list_met ws b (CmpRequeue from e n to k) = is_valid ws (seen_at b from) && (is_valid ws (seen_at b to) && not (seen_at b from == seen_at b to))
+list_met ws b (Requeue from n to k) =
+    is_valid ws (seen_at b from) && (is_valid ws (seen_at b to) && not (seen_at b from == seen_at b to))
+list_met ws b (CmpRequeue from e n to k) =
+    is_valid ws (seen_at b from) && (is_valid ws (seen_at b to) && not (seen_at b from == seen_at b to))
 list_met ws b a = is_valid ws (place_from b a)
 
 -- these threads come to the end of the queue that an access moves to
@@ -65,22 +68,33 @@ list_joined b a us queues = queues
 -- the words after an access, of the words before and of those who sleep on the one that it meets: that one is changed,
 -- where its address is valid, and all others stay
 abbrev pub list_words : List ℕ → Kernel' → ℕ → Access → List ℕ
-list_words ws k b a = if is_valid ws (place_from b a) then slice_set ws (place_from b a) (word_among a (slice_index ws (place_from b a)) (queue_of k (place_from b a))) else ws
+list_words ws k b a =
+    if is_valid ws (place_from b a)
+    then slice_set ws (place_from b a) (word_among a (slice_index ws (place_from b a)) (queue_of k (place_from b a)))
+    else ws
 
 abbrev pub list_answer : List ℕ → Kernel' → ℕ → Access → Answer
-list_answer ws k b a = if list_met ws b a then answer_among a (slice_index ws (place_from b a)) (queue_of k (place_from b a)) else Fault
+list_answer ws k b a =
+    if list_met ws b a then answer_among a (slice_index ws (place_from b a)) (queue_of k (place_from b a)) else Fault
 
 abbrev pub list_slept : List ℕ → ℕ → Access → Bool
 list_slept ws b a = list_met ws b a && sleeps_at a (slice_index ws (place_from b a))
 
 abbrev pub list_woken : List ℕ → Kernel' → ℕ → Access → List ℕ
-list_woken ws k b a = if list_met ws b a then woken_by a (slice_index ws (place_from b a)) (queue_of k (place_from b a)) else []
+list_woken ws k b a =
+    if list_met ws b a then woken_by a (slice_index ws (place_from b a)) (queue_of k (place_from b a)) else []
 
 abbrev pub list_moved : List ℕ → Kernel' → ℕ → Access → List ℕ
-list_moved ws k b a = if list_met ws b a then moved_by a (slice_index ws (place_from b a)) (queue_of k (place_from b a)) else []
+list_moved ws k b a =
+    if list_met ws b a then moved_by a (slice_index ws (place_from b a)) (queue_of k (place_from b a)) else []
 
 abbrev pub list_queues : List ℕ → Kernel' → ℕ → ℕ → Access → ℕ → List ℕ
-list_queues ws k b t a = if list_met ws b a then list_joined b a (moved_by a (slice_index ws (place_from b a)) (queue_of k (place_from b a))) (put (queue_of k) (place_from b a) (queue_after t a (slice_index ws (place_from b a)) (queue_of k (place_from b a)))) else queue_of k
+list_queues ws k b t a =
+    if list_met ws b a
+    then list_joined b a (moved_by a (slice_index ws (place_from b a)) (queue_of k (place_from b a)))
+    (put (queue_of k) (place_from b a)
+    (queue_after t a (slice_index ws (place_from b a)) (queue_of k (place_from b a))))
+    else queue_of k
 
 -- what thread t's access over these words does to the queues, and tells, its process mapping the words at base b
 pub record Performs (ws : List ℕ) (old new : Kernel') (b t : ℕ) (a : Access) (done : Performed) : Type 0 where

@@ -18,7 +18,8 @@ thread_at ts zero = idle
 thread_at ts (suc i) = slice_index_or ts i idle
 
 abbrev pub state_at : Layout' → List ℕ → Kernel' → List Thread → State
-state_at l ws k ts = record { layout = l; words = λ p. slice_index ws p; queues = λ p. queue_of k p; threads = thread_at ts }
+state_at l ws k ts =
+    record { layout = l; words = λ p. slice_index ws p; queues = λ p. queue_of k p; threads = thread_at ts }
 
 abbrev pub state_of : Shown → State
 state_of m = state_at m.layout m.words m.kernel m.threads

@@ -14,7 +14,8 @@ use Rattle.protocol.specs.Machine.{State, stands_in, is_asleep}
 abbrev pub IsOnItsWay : Layout' → Stage → Type 0
 IsOnItsWay l Idle = Unit {0}
 IsOnItsWay l (Calling o p) = (is_in l o ≡ true) × IsUnderWay p.phase × PhaseKnows p.phase
-IsOnItsWay l (AtCondition c p) = (is_in l (OnCondition c) ≡ true) × condition.IsUnderWay p.phase × condition.PhaseKnows p.phase
+IsOnItsWay l (AtCondition c p) =
+    (is_in l (OnCondition c) ≡ true) × condition.IsUnderWay p.phase × condition.PhaseKnows p.phase
 IsOnItsWay l (Dying w) = exit.IsGoing w.row
 IsOnItsWay l Reaped = Unit {0}
 

@@ -4,7 +4,8 @@ ghost use Rattle.std.specs.Prelude.{◌≡◌, ◌≤◌, ℕ, [], true, false};
 ghost use Rattle.stepprograms.specs.declared.access.Access.TheVariants.{Wait, Wake};
 ghost use Rattle.stepprograms.specs.declared.access.Answer.TheVariants.{Value, Stored, Exchanged, Changed};
 ghost use Rattle.syscalls.specs.Kernels.{IsAwake};
-ghost use Rattle.interleave.specs.Perform.{or_fault, exchange_answer, requeue_performed, trim_performed, list_words, Performs};
+ghost use Rattle.interleave.specs.Perform.{or_fault, exchange_answer, requeue_performed};
+ghost use Rattle.interleave.specs.Perform.{trim_performed, list_words, Performs};
 
 use buckets::Batch;
 use lockword::{Reply, Tid};

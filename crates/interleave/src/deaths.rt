@@ -38,9 +38,13 @@ pub(crate) fn kill(
 ) -> Note
     requires kernel { kernel.old.threads ≡ layout.now.threads }
     requires threads { length threads.old.items ≡ layout.now.threads }
-    requires heads { thread ≤ layout.now.threads → head_of kernel.old thread ≡ address_in layout.now thread (head_place thread) }
-    ensures state { (ws : List ℕ) → state_at layout.now ws kernel.new threads.new.items ≡ (happens (state_at layout.now ws kernel.old threads.old.items) (Kill thread)).state }
-    ensures note { (ws : List ℕ) → result ≡ (happens (state_at layout.now ws kernel.old threads.old.items) (Kill thread)).note }
+    requires heads { thread ≤ layout.now.threads
+        → head_of kernel.old thread ≡ address_in layout.now thread (head_place thread) }
+    ensures state { (ws : List ℕ)
+        → state_at layout.now ws kernel.new threads.new.items
+        ≡ (happens (state_at layout.now ws kernel.old threads.old.items) (Kill thread)).state }
+    ensures note { (ws : List ℕ)
+        → result ≡ (happens (state_at layout.now ws kernel.old threads.old.items) (Kill thread)).note }
     ensures kernel { kernel.new.threads ≡ kernel.old.threads }
     ensures heads { kernel.new.heads ≡ kernel.old.heads }
     ensures threads { length threads.new.items ≡ length threads.old.items }
@@ -129,7 +133,8 @@ pub(crate) fn walk_on(
     requires awake { IsAwake kernel.old thread }
     requires stands { (thread_at threads.old.items thread).stage ≡ Dying walk }
     requires going { IsGoing walk.row }
-    ensures state { state_at layout.now memory.new kernel.new threads.new.items ≡ (happens (state_at layout.now memory.old kernel.old threads.old.items) (Step thread)).state }
+    ensures state { state_at layout.now memory.new kernel.new threads.new.items
+        ≡ (happens (state_at layout.now memory.old kernel.old threads.old.items) (Step thread)).state }
     ensures note { result ≡ (happens (state_at layout.now memory.old kernel.old threads.old.items) (Step thread)).note }
     ensures words { length memory.new ≡ length memory.old }
     ensures kernel { kernel.new.threads ≡ kernel.old.threads }

@@ -20,8 +20,10 @@ use syscalls::Kernel;
 /// nothing else is to do.
 pub(crate) fn leave(layout: &Layout, kernel: &mut Kernel, thread: Tid) -> Note
     requires { kernel.old.threads ≡ layout.now.threads }
-    ensures state { (ws : List ℕ) (ts : List Thread) → SleepsInItsCall (state_at layout.now ws kernel.old ts) thread → state_at layout.now ws kernel.new ts ≡ (happens (state_at layout.now ws kernel.old ts) (Leave thread)).state }
-    ensures note { (ws : List ℕ) (ts : List Thread) → SleepsInItsCall (state_at layout.now ws kernel.old ts) thread → result ≡ (happens (state_at layout.now ws kernel.old ts) (Leave thread)).note }
+    ensures state { (ws : List ℕ) (ts : List Thread) → SleepsInItsCall (state_at layout.now ws kernel.old ts) thread
+        → state_at layout.now ws kernel.new ts ≡ (happens (state_at layout.now ws kernel.old ts) (Leave thread)).state }
+    ensures note { (ws : List ℕ) (ts : List Thread) → SleepsInItsCall (state_at layout.now ws kernel.old ts) thread
+        → result ≡ (happens (state_at layout.now ws kernel.old ts) (Leave thread)).note }
     ensures kernel { kernel.new.threads ≡ kernel.old.threads }
     ensures heads { kernel.new.heads ≡ kernel.old.heads }
 {
@@ -45,8 +47,11 @@ pub(crate) fn decline(
 ) -> Note
     requires threads { length threads.old.items ≡ layout.now.threads }
     requires goes { thread ≤ layout.now.threads → MayStep layout.now (thread_at threads.old.items thread) }
-    ensures state { (ws : List ℕ) → SleepsInItsCall (state_at layout.now ws kernel.now threads.old.items) thread → state_at layout.now ws kernel.now threads.new.items ≡ (happens (state_at layout.now ws kernel.now threads.old.items) (Decline thread)).state }
-    ensures note { (ws : List ℕ) → SleepsInItsCall (state_at layout.now ws kernel.now threads.old.items) thread → result ≡ (happens (state_at layout.now ws kernel.now threads.old.items) (Decline thread)).note }
+    ensures state { (ws : List ℕ) → SleepsInItsCall (state_at layout.now ws kernel.now threads.old.items) thread
+        → state_at layout.now ws kernel.now threads.new.items
+        ≡ (happens (state_at layout.now ws kernel.now threads.old.items) (Decline thread)).state }
+    ensures note { (ws : List ℕ) → SleepsInItsCall (state_at layout.now ws kernel.now threads.old.items) thread
+        → result ≡ (happens (state_at layout.now ws kernel.now threads.old.items) (Decline thread)).note }
     ensures threads { length threads.new.items ≡ length threads.old.items }
 {
     if layout.threads() < thread.get() {

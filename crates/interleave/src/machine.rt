@@ -1,8 +1,11 @@
 //! The machine.
-ghost use Rattle.std.specs.Prelude.{◌≡◌, ◌<◌, ◌≤◌, ◌^◌, ◌&&◌, ℕ, true, false, [], ◌∷◌, ◌++◌, length, map, take, replicate, vec_len, vec_capacity, Some, None, IfOk, OnOk, OnErr, MatchBool, if◌then◌else◌};
+ghost use Rattle.std.specs.Prelude.{◌≡◌, ◌<◌, ◌≤◌, ◌^◌, ◌&&◌, ℕ, true, false, [], ◌∷◌, ◌++◌};
+ghost use Rattle.std.specs.Prelude.{length, map, take, replicate, vec_len, vec_capacity};
+ghost use Rattle.std.specs.Prelude.{Some, None, IfOk, OnOk, OnErr, MatchBool, if◌then◌else◌};
 ghost use Rattle.std.specs.List.{All, range_with_len};
 ghost use Rattle.memorymap.specs.Layouts.{IsLayout, counter_place, words_of, first_word};
-ghost use Rattle.protocol.specs.Machine.{start, idle, happens, put, run, notes, is_valid, is_busy, is_dying, is_asleep, stands_in};
+ghost use Rattle.protocol.specs.Machine.{start, idle, happens, put, run, notes, is_valid};
+ghost use Rattle.protocol.specs.Machine.{is_busy, is_dying, is_asleep, stands_in};
 ghost use Rattle.protocol.specs.Sleepers.{alone, RunsAlone};
 ghost use Rattle.protocol.specs.Deaths.{ReportsDeaths};
 ghost use Rattle.protocol.specs.Headline.{seen, NoReapedOwns};
@@ -41,15 +44,19 @@ impl Model for Machine {
 
     ghost Value = { Shown };
 
-    ghost view = { λ m. record { layout = m.layout; words = m.memory; kernel = m.kernel; threads = m.threads.items; fresh = m.fresh } };
+    ghost view = { λ m. record
+        { layout = m.layout; words = m.memory; kernel = m.kernel; threads = m.threads.items; fresh = m.fresh } };
 
     ghost use Rattle.interleave.specs.Reached.{IsReached};
 
-    ghost invariant = { λ m. IsReached (record { layout = m.layout; words = m.memory; kernel = m.kernel; threads = m.threads.items; fresh = m.fresh }) };
+    ghost invariant = { λ m. IsReached
+        (record
+        { layout = m.layout; words = m.memory; kernel = m.kernel; threads = m.threads.items; fresh = m.fresh }) };
 }
 
 fn first_words(alloc: Global, layout: &Layout) -> Result<Vec<u64>, AllocError>
-    ensures words { IfOk result (λ v. v.items ≡ map (first_word layout.now (λ c. 0)) (range_with_len 0 (words_of layout.now))) }
+    ensures words { IfOk result
+        (λ v. v.items ≡ map (first_word layout.now (λ c. 0)) (range_with_len 0 (words_of layout.now))) }
     ensures layout { IsLayout layout.now }
 {
     let count = layout.words() as u64;
@@ -131,7 +138,9 @@ impl Machine {
     pub fn preset(&mut self, condition: u16, value: u32)
         requires condition { condition < length self.old.layout.conditions }
         requires fresh { self.old.fresh ≡ true }
-        ensures state { state_of self.new ≡ record (state_of self.old) { words = put (state_of self.old).words (counter_place self.old.layout condition) value } }
+        ensures state { state_of self.new
+            ≡ record (state_of self.old)
+            { words = put (state_of self.old).words (counter_place self.old.layout condition) value } }
         ensures fresh { self.new.fresh ≡ true }
     {
         let place = self.layout.counter(condition);
@@ -197,9 +206,12 @@ impl Machine {
         ensures notes { IfOk result (λ t. t.notes.items ≡ notes (state_of self.old) events.now) }
         ensures numbers { IfOk result (λ t. IsOf self.old.layout t) }
         ensures fresh { IfOk result (λ t. self.new.fresh ≡ (self.old.fresh && are_nothing t.notes.items)) }
-        ensures history { IfOk result (λ t. self.old.fresh ≡ true → AtEachMoment (state_of self.old) events.now t.notes.items) }
+        ensures history { IfOk result
+            (λ t. self.old.fresh ≡ true → AtEachMoment (state_of self.old) events.now t.notes.items) }
         ensures explained { IfOk result (λ t. self.old.fresh ≡ true → IsExplained events.now t.notes.items) }
-        ensures sleeps { IfOk result (λ t. self.old.fresh ≡ true → TellsAtEachMoment self.old.layout (state_of self.old) events.now t.notes.items) }
+        ensures sleeps { IfOk result
+            (λ t. self.old.fresh ≡ true
+            → TellsAtEachMoment self.old.layout (state_of self.old) events.now t.notes.items) }
         ensures passed { IfOk result (λ t. self.old.fresh ≡ true → PassesNobody (state_of self.old) events.now) }
         ensures runs_alone { IfOk result (λ t. (n : ℕ) → RunsAlone (run (state_of self.old) (take n events.now))) }
         ensures reaped { IfOk result (λ t. (n : ℕ) → NoReapedOwns (run (state_of self.old) (take n events.now))) }
@@ -307,7 +319,8 @@ impl Machine {
     /// Whether a thread sleeps in its call. False where there is no such thread.
     pub fn asleep(&self, thread: Tid) -> bool
         ensures value { result ≡ is_asleep (state_of self.now) thread }
-        ensures stands { MatchBool result ((key : ℕ) × (stands_in thread ((state_of self.now).queues key) ≡ true)) ((key : ℕ) → stands_in thread ((state_of self.now).queues key) ≡ false) }
+        ensures stands { MatchBool result ((key : ℕ) × (stands_in thread ((state_of self.now).queues key) ≡ true))
+            ((key : ℕ) → stands_in thread ((state_of self.now).queues key) ≡ false) }
     {
         self.kernel.asleep(thread)
     }

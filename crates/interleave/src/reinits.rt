@@ -16,7 +16,10 @@ use syscalls::{Kernel, Memory, PlainMemory};
 /// Whether the thread is one of the layout, lives and is in no call.
 fn is_resting(layout: &Layout, threads: &Vec<Thread>, thread: Tid) -> bool
     requires { length threads.now.items ≡ layout.now.threads }
-    ensures { (ws : List ℕ) (kernel : Kernel') → result ≡ (has_thread (state_at layout.now ws kernel threads.now.items) thread && is_idle (thread_at threads.now.items thread).stage) }
+    ensures { (ws : List ℕ) (kernel : Kernel')
+        → result
+        ≡ (has_thread (state_at layout.now ws kernel threads.now.items) thread
+        && is_idle (thread_at threads.now.items thread).stage) }
 {
     if layout.threads() < thread.get() {
         return false;
@@ -27,7 +30,8 @@ fn is_resting(layout: &Layout, threads: &Vec<Thread>, thread: Tid) -> bool
 /// Whether the mutex is one of the layout, and its word says that it is unusable.
 fn is_unusable(layout: &Layout, memory: &PlainMemory, mutex: u16) -> bool
     requires { length memory.now ≡ words_of layout.now }
-    ensures { (kernel : Kernel') (ts : List Thread) → result ≡ (nat_lt mutex layout.now.mutexes && is_unusable (state_at layout.now memory.now kernel ts) mutex) }
+    ensures { (kernel : Kernel') (ts : List Thread)
+        → result ≡ (nat_lt mutex layout.now.mutexes && is_unusable (state_at layout.now memory.now kernel ts) mutex) }
 {
     if layout.mutexes() <= mutex {
         return false;
@@ -50,8 +54,10 @@ pub(crate) fn reinit(
 ) -> Note
     requires words { length memory.old ≡ words_of layout.now }
     requires threads { length threads.now.items ≡ layout.now.threads }
-    ensures state { state_at layout.now memory.new kernel.now threads.now.items ≡ (happens (state_at layout.now memory.old kernel.now threads.now.items) (Reinit thread mutex)).state }
-    ensures note { result ≡ (happens (state_at layout.now memory.old kernel.now threads.now.items) (Reinit thread mutex)).note }
+    ensures state { state_at layout.now memory.new kernel.now threads.now.items
+        ≡ (happens (state_at layout.now memory.old kernel.now threads.now.items) (Reinit thread mutex)).state }
+    ensures note { result
+        ≡ (happens (state_at layout.now memory.old kernel.now threads.now.items) (Reinit thread mutex)).note }
     ensures words { length memory.new ≡ length memory.old }
 {
     if !is_resting(layout, threads, thread) {

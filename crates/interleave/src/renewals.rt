@@ -22,8 +22,11 @@ pub(crate) fn renew(
 ) -> Note
     requires words { length memory.old ≡ words_of layout.now }
     requires threads { length threads.old.items ≡ layout.now.threads }
-    ensures state { (kernel : Kernel') → state_at layout.now memory.new kernel threads.new.items ≡ (happens (state_at layout.now memory.old kernel threads.old.items) (Renew thread)).state }
-    ensures note { (kernel : Kernel') → result ≡ (happens (state_at layout.now memory.old kernel threads.old.items) (Renew thread)).note }
+    ensures state { (kernel : Kernel')
+        → state_at layout.now memory.new kernel threads.new.items
+        ≡ (happens (state_at layout.now memory.old kernel threads.old.items) (Renew thread)).state }
+    ensures note { (kernel : Kernel')
+        → result ≡ (happens (state_at layout.now memory.old kernel threads.old.items) (Renew thread)).note }
     ensures words { length memory.new ≡ length memory.old }
     ensures threads { length threads.new.items ≡ length threads.old.items }
 {

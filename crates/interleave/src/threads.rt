@@ -177,8 +177,11 @@ fn first_stage(layout: &Layout, thread: Tid, held: u16, op: Op) -> Result<Stage,
 /// The thread begins a call, if it can.
 fn begin(layout: &Layout, threads: &mut Vec<Thread>, thread: Tid, op: Op) -> Note
     requires { length threads.old.items ≡ layout.now.threads }
-    ensures state { (ws : List ℕ) (k : Kernel') → state_at layout.now ws k threads.new.items ≡ (happens (state_at layout.now ws k threads.old.items) (Begin thread op)).state }
-    ensures note { (ws : List ℕ) (k : Kernel') → result ≡ (happens (state_at layout.now ws k threads.old.items) (Begin thread op)).note }
+    ensures state { (ws : List ℕ) (k : Kernel')
+        → state_at layout.now ws k threads.new.items
+        ≡ (happens (state_at layout.now ws k threads.old.items) (Begin thread op)).state }
+    ensures note { (ws : List ℕ) (k : Kernel')
+        → result ≡ (happens (state_at layout.now ws k threads.old.items) (Begin thread op)).note }
     ensures threads { length threads.new.items ≡ length threads.old.items }
 {
     if layout.threads() < thread.get() || !op.is_in(layout) {
@@ -215,7 +218,9 @@ pub(crate) fn stepped(
     done: &Performed,
     progress: &Progress,
 ) -> Note
-    ensures { result ≡ Stepped thread mutex (decision_with thread mutex (point_in progress.now)) (slept_in queue done.now.slept) done.now.woken done.now.moved (reply_in progress.now) }
+    ensures { result
+        ≡ Stepped thread mutex (decision_with thread mutex (point_in progress.now)) (slept_in queue done.now.slept)
+        done.now.woken done.now.moved (reply_in progress.now) }
 {
     Note::Stepped {
         thread,
@@ -248,7 +253,8 @@ fn go_on(
     requires inside { is_in layout.now op ≡ true }
     requires going { IsUnderWay program.phase }
     requires few { (thread_at threads.old.items thread).held < 65535 }
-    ensures state { state_at layout.now memory.new kernel.new threads.new.items ≡ (happens (state_at layout.now memory.old kernel.old threads.old.items) (Step thread)).state }
+    ensures state { state_at layout.now memory.new kernel.new threads.new.items
+        ≡ (happens (state_at layout.now memory.old kernel.old threads.old.items) (Step thread)).state }
     ensures note { result ≡ (happens (state_at layout.now memory.old kernel.old threads.old.items) (Step thread)).note }
     ensures words { length memory.new ≡ length memory.old }
     ensures kernel { kernel.new.threads ≡ kernel.old.threads }
@@ -288,7 +294,8 @@ fn go_on_at(
     requires inside { is_in layout.now (OnCondition call) ≡ true }
     requires going { condition.IsUnderWay program.phase }
     requires few { (thread_at threads.old.items thread).held < 65535 }
-    ensures state { state_at layout.now memory.new kernel.new threads.new.items ≡ (happens (state_at layout.now memory.old kernel.old threads.old.items) (Step thread)).state }
+    ensures state { state_at layout.now memory.new kernel.new threads.new.items
+        ≡ (happens (state_at layout.now memory.old kernel.old threads.old.items) (Step thread)).state }
     ensures note { result ≡ (happens (state_at layout.now memory.old kernel.old threads.old.items) (Step thread)).note }
     ensures words { length memory.new ≡ length memory.old }
     ensures kernel { kernel.new.threads ≡ kernel.old.threads }
@@ -324,7 +331,8 @@ fn step(
     requires threads { length threads.old.items ≡ layout.now.threads }
     requires goes { thread ≤ layout.now.threads → MayStep layout.now (thread_at threads.old.items thread) }
     requires sleeps { SleepsInItsCall (state_at layout.now memory.old kernel.old threads.old.items) thread }
-    ensures state { state_at layout.now memory.new kernel.new threads.new.items ≡ (happens (state_at layout.now memory.old kernel.old threads.old.items) (Step thread)).state }
+    ensures state { state_at layout.now memory.new kernel.new threads.new.items
+        ≡ (happens (state_at layout.now memory.old kernel.old threads.old.items) (Step thread)).state }
     ensures note { result ≡ (happens (state_at layout.now memory.old kernel.old threads.old.items) (Step thread)).note }
     ensures words { length memory.new ≡ length memory.old }
     ensures kernel { kernel.new.threads ≡ kernel.old.threads }
@@ -361,10 +369,12 @@ pub(crate) fn apply(
     requires words { length memory.old ≡ words_of layout.now }
     requires kernel { kernel.old.threads ≡ layout.now.threads }
     requires threads { length threads.old.items ≡ layout.now.threads }
-    requires heads { (t : ℕ) → 1 ≤ t → t ≤ layout.now.threads → head_of kernel.old t ≡ address_in layout.now t (head_place t) }
+    requires heads { (t : ℕ) → 1 ≤ t → t ≤ layout.now.threads
+        → head_of kernel.old t ≡ address_in layout.now t (head_place t) }
     requires goes { (t : ℕ) → 1 ≤ t → t ≤ layout.now.threads → MayStep layout.now (thread_at threads.old.items t) }
     requires sleeps { (t : ℕ) → SleepsInItsCall (state_at layout.now memory.old kernel.old threads.old.items) t }
-    ensures state { state_at layout.now memory.new kernel.new threads.new.items ≡ (happens (state_at layout.now memory.old kernel.old threads.old.items) event).state }
+    ensures state { state_at layout.now memory.new kernel.new threads.new.items
+        ≡ (happens (state_at layout.now memory.old kernel.old threads.old.items) event).state }
     ensures note { result ≡ (happens (state_at layout.now memory.old kernel.old threads.old.items) event).note }
     ensures words { length memory.new ≡ length memory.old }
     ensures kernel { kernel.new.threads ≡ kernel.old.threads }

@@ -16,7 +16,8 @@ bit true n = n
 bit false n = 0
 
 abbrev pub word_of : Fields → ℕ
-word_of c = c.owner + bit c.died 0x4000_0000 + bit c.waiters 0x8000_0000 + bit c.unusable 0x1_0000_0000 + c.rest * 0x2_0000_0000
+word_of c =
+    c.owner + bit c.died 0x4000_0000 + bit c.waiters 0x8000_0000 + bit c.unusable 0x1_0000_0000 + c.rest * 0x2_0000_0000
 
 abbrev pub fields_of : ℕ → Fields
 fields_of w =

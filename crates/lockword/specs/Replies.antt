@@ -2,7 +2,9 @@
 use Rattle.std.specs.Prelude.{ℕ, ◌≡◌, List, [], ◌∷◌, Option, Some, find, codes}
 use Rattle.std.specs.Str.{bytes_eq}
 use Rattle.lockword.specs.declared.reply.Reply.{Reply}
-use Rattle.lockword.specs.declared.reply.Reply.TheVariants.{OK, EPERM, ESRCH, EAGAIN, EFAULT, EBUSY, EINVAL, EDEADLK, EOWNERDEAD, ENOTRECOVERABLE, XNOMEM, XRACED, XHELD, XFULL, XSTATE}
+use Rattle.lockword.specs.declared.reply.Reply.TheVariants.{OK, EPERM, ESRCH, EAGAIN, EFAULT, EBUSY}
+use Rattle.lockword.specs.declared.reply.Reply.TheVariants.{EINVAL, EDEADLK, EOWNERDEAD, ENOTRECOVERABLE}
+use Rattle.lockword.specs.declared.reply.Reply.TheVariants.{XNOMEM, XRACED, XHELD, XFULL, XSTATE}
 
 abbrev pub number_of : Reply → ℕ
 number_of OK = 0
@@ -40,7 +42,8 @@ reply_word XSTATE = codes "X_STATE"
 
 -- every reply
 abbrev pub all_replies : List Reply
-all_replies = OK ∷ EPERM ∷ ESRCH ∷ EAGAIN ∷ EFAULT ∷ EBUSY ∷ EINVAL ∷ EDEADLK ∷ EOWNERDEAD ∷ ENOTRECOVERABLE ∷ XNOMEM ∷ XRACED ∷ XHELD ∷ XFULL ∷ XSTATE ∷ []
+all_replies = OK ∷ EPERM ∷ ESRCH ∷ EAGAIN ∷ EFAULT ∷ EBUSY ∷ EINVAL ∷ EDEADLK ∷ EOWNERDEAD ∷ ENOTRECOVERABLE ∷ XNOMEM
+    ∷ XRACED ∷ XHELD ∷ XFULL ∷ XSTATE ∷ []
 
 -- the reply that has this name
 unfoldable pub reply_of : List ℕ → Option Reply

@@ -16,11 +16,13 @@ words_from base words at = words (seen_at base at)
 
 -- from each base, each place has an address of its own, and each address is a place's
 abbrev pub AddressesAreSeen : Type 0
-AddressesAreSeen = (base n : ℕ) → base < 2 ^ 64 → n < 2 ^ 64 → (seen_at base (address_from base n) ≡ n) × (address_from base (seen_at base n) ≡ n)
+AddressesAreSeen = (base n : ℕ) → base < 2 ^ 64 → n < 2 ^ 64
+    → (seen_at base (address_from base n) ≡ n) × (address_from base (seen_at base n) ≡ n)
 
 -- a write at an address, which is one at its place, changes the words as they are seen from the base at that address
 -- alone
 abbrev pub WritesAreSeen : Type 0
 WritesAreSeen =
     (base : ℕ) (words : ℕ → ℕ) (a v x : ℕ) → base < 2 ^ 64 → a < 2 ^ 64 → x < 2 ^ 64
-    → words_from base (λ p. if p == seen_at base a then v else words p) x ≡ (if x == a then v else words_from base words x)
+    → words_from base (λ p. if p == seen_at base a then v else words p) x
+    ≡ (if x == a then v else words_from base words x)

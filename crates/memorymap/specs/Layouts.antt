@@ -1,5 +1,6 @@
 -- The places of the shared words, and the keys that sleepers meet by.
-use Rattle.std.specs.Prelude.{ℕ, ◌≡◌, ◌+◌, ◌-◌, ◌*◌, ◌/◌, ◌%◌, ◌<◌, ◌≤◌, ◌==◌, ◌&&◌, Bool, nat_le, nat_lt, List, [], ◌∷◌, length, replicate, slice_index, All, if◌then◌else◌}
+use Rattle.std.specs.Prelude.{ℕ, ◌≡◌, ◌+◌, ◌-◌, ◌*◌, ◌/◌, ◌%◌, ◌<◌, ◌≤◌, ◌==◌, ◌&&◌, Bool, nat_le}
+use Rattle.std.specs.Prelude.{nat_lt, List, [], ◌∷◌, length, replicate, slice_index, All, if◌then◌else◌}
 use Rattle.memorymap.specs.Addresses.{address_from, seen_at}
 
 -- so many threads and mutexes, and for each condition variable the number of its mutex; for each thread the number of
@@ -126,4 +127,5 @@ place_of l (of_counter c) = counter_place l c
 
 -- every word of a layout has a valid place, and no other word has it
 abbrev pub PlacesDiffer : Type 0
-PlacesDiffer = (l : Layout') (a : Spot) → IsIn l a → (1 ≤ place_of l a) × (place_of l a < words_of l) × ((b : Spot) → IsIn l b → place_of l b ≡ place_of l a → b ≡ a)
+PlacesDiffer = (l : Layout') (a : Spot) → IsIn l a
+    → (1 ≤ place_of l a) × (place_of l a < words_of l) × ((b : Spot) → IsIn l b → place_of l b ≡ place_of l a → b ≡ a)

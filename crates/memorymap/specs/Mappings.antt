@@ -12,7 +12,10 @@ pub record AddressesAreSums : Type 0 where
   pub found : (base place : ℕ) → base < 2 ^ 64 → place < 2 ^ 64 → seen_at base ((base + place) % 2 ^ 64) ≡ place
   pub at_zero : (place : ℕ) → place < 2 ^ 64 → (address_from 0 place ≡ place) × (seen_at 0 place ≡ place)
   pub next : (base place : ℕ) → address_from base (place + 1) ≡ (address_from base place + 1) % 2 ^ 64
-  pub apart : (base other place : ℕ) → base ≤ other → address_from other place ≡ (address_from base place + (other - base)) % 2 ^ 64
-  pub of_threads : (l : Layout') (t place : ℕ) → address_in l t place ≡ (slice_index l.bases (slice_index l.processes (t - 1)) + place) % 2 ^ 64
+  pub apart : (base other place : ℕ) → base ≤ other
+      → address_from other place ≡ (address_from base place + (other - base)) % 2 ^ 64
+  pub of_threads : (l : Layout') (t place : ℕ)
+      → address_in l t place ≡ (slice_index l.bases (slice_index l.processes (t - 1)) + place) % 2 ^ 64
   pub valid : (l : Layout') (place : ℕ) → (is_place l place ≡ true) ↔ ((1 ≤ place) × (place < words_of l))
-  pub of_places : (l : Layout') (t at : ℕ) → place_in l t at ≡ seen_at (slice_index l.bases (slice_index l.processes (t - 1))) at
+  pub of_places : (l : Layout') (t at : ℕ)
+      → place_in l t at ≡ seen_at (slice_index l.bases (slice_index l.processes (t - 1))) at

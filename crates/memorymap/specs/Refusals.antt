@@ -3,7 +3,8 @@ use Rattle.std.specs.Prelude.{ℕ, ◌≡◌, List, length, Result, Ok, Err}
 use Rattle.memorymap.specs.Layouts.{HasThreads, HasMutexes, HasConditions, HasProcesses, HasBases, AreOf, one_process}
 use Rattle.memorymap.specs.declared.layout.Layout.{Layout}
 use Rattle.memorymap.specs.declared.layout.LayoutFault.{LayoutFault}
-use Rattle.memorymap.specs.declared.layout.LayoutFault.TheVariants.{Threads, Mutexes, Conditions, Processes, Bases, Members}
+use Rattle.memorymap.specs.declared.layout.LayoutFault.TheVariants.{Threads, Mutexes, Conditions}
+use Rattle.memorymap.specs.declared.layout.LayoutFault.TheVariants.{Processes, Bases, Members}
 
 -- what is asked for is given, in one process that maps the words at 0, and else the first fault is told
 abbrev pub Lays : ℕ → ℕ → List ℕ → Result Layout LayoutFault → Type 0
@@ -20,7 +21,8 @@ MayBe t m cs = HasThreads t × HasMutexes m × HasConditions m cs
 -- the same of threads of these processes, which map the words at these bases
 abbrev pub LaysOver : List ℕ → List ℕ → ℕ → List ℕ → Result Layout LayoutFault → Type 0
 LaysOver ps bs m cs (Ok l) =
-    MayBe (length ps) m cs × HasProcesses bs × HasBases bs × AreOf bs ps × (l ≡ record { threads = length ps; mutexes = m; conditions = cs; processes = ps; bases = bs })
+    MayBe (length ps) m cs × HasProcesses bs × HasBases bs × AreOf bs ps
+    × (l ≡ record { threads = length ps; mutexes = m; conditions = cs; processes = ps; bases = bs })
 LaysOver ps bs m cs (Err Threads) = ¬ HasThreads (length ps)
 LaysOver ps bs m cs (Err Mutexes) = HasThreads (length ps) × ¬ HasMutexes m
 LaysOver ps bs m cs (Err Conditions) = HasThreads (length ps) × HasMutexes m × ¬ HasConditions m cs

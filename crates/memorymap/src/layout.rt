@@ -1,6 +1,9 @@
 //! The places of the shared words.
-ghost use Rattle.std.specs.Prelude.{◌≡◌, ◌≢◌, ◌<◌, ◌≤◌, ◌-◌, ◌*◌, ◌^◌, ℕ, IsTrue, Some, None, length, slice_index, MatchOption, if◌then◌else◌};
-ghost use Rattle.memorymap.specs.Layouts.{Layout', head_place, cell_place, entry_place, counter_place, words_of, base_of, address_in, place_in, is_place, thread_of, first_word, IsLayout, PlacesDiffer};
+ghost use Rattle.std.specs.Prelude.{◌≡◌, ◌≢◌, ◌<◌, ◌≤◌, ◌-◌, ◌*◌, ◌^◌, ℕ, IsTrue, Some};
+ghost use Rattle.std.specs.Prelude.{None, length, slice_index, MatchOption, if◌then◌else◌};
+ghost use Rattle.memorymap.specs.Layouts.{Layout', head_place, cell_place, entry_place};
+ghost use Rattle.memorymap.specs.Layouts.{counter_place, words_of, base_of, address_in, place_in};
+ghost use Rattle.memorymap.specs.Layouts.{is_place, thread_of, first_word, IsLayout, PlacesDiffer};
 ghost use Rattle.memorymap.specs.Refusals.{Lays, LaysOver};
 
 use crate::address::{address_from, seen_at};
@@ -65,7 +68,8 @@ pub struct Layout {
 
 impl Model for Layout {
     ghost use Rattle.std.specs.Prelude.{◌≤◌, ◌<◌, take, All};
-    ghost use Rattle.memorymap.specs.Layouts.{Layout', HasThreads, HasMutexes, HasConditions, HasProcesses, HasBases, AreOf};
+    ghost use Rattle.memorymap.specs.Layouts.{Layout', HasThreads, HasMutexes};
+    ghost use Rattle.memorymap.specs.Layouts.{HasConditions, HasProcesses, HasBases, AreOf};
 
     ghost Value = { Layout' };
 
@@ -77,8 +81,9 @@ impl Model for Layout {
       bases = take l.processes l.bases;
     } };
 
-    ghost invariant = { λ l. HasThreads l.threads × HasMutexes l.mutexes × (l.conditions ≤ 256) × HasConditions l.mutexes (take l.conditions l.mutex_of_condition)
-        × ((1 ≤ l.processes) × (l.processes ≤ 8)) × HasBases (take l.processes l.bases) × All (λ p. p < l.processes) (take l.threads l.process_of_thread) };
+    ghost invariant = { λ l. HasThreads l.threads × HasMutexes l.mutexes × (l.conditions ≤ 256)
+        × HasConditions l.mutexes (take l.conditions l.mutex_of_condition) × ((1 ≤ l.processes) × (l.processes ≤ 8))
+        × HasBases (take l.processes l.bases) × All (λ p. p < l.processes) (take l.threads l.process_of_thread) };
 }
 
 impl Layout {
@@ -243,8 +248,12 @@ impl Layout {
     /// The place of an address in a thread's process; None where the address isn't valid there.
     pub fn place(&self, thread: Tid, address: u64) -> Option<u64>
         requires { thread ≤ self.now.threads }
-        ensures value { result ≡ (if is_place self.now (place_in self.now thread address) then Some (place_in self.now thread address) else None) }
-        ensures address { MatchOption result ((p : ℕ) → IsTrue (is_place self.now p) → address_in self.now thread p ≢ address)
+        ensures value { result
+            ≡ (if is_place self.now (place_in self.now thread address)
+            then Some (place_in self.now thread address)
+            else None) }
+        ensures address { MatchOption result
+            ((p : ℕ) → IsTrue (is_place self.now p) → address_in self.now thread p ≢ address)
             (λ p. IsTrue (is_place self.now p) × (address_in self.now thread p ≡ address)) }
     {
         let words = self.words() as u64;

@@ -53,7 +53,8 @@ is_wake a = false
 
 -- where those of q sleep on the word w, WAITERS stays in it, or nobody sleeps there and nobody owns the cell
 abbrev pub KeepsWaiters : ℕ → List ℕ → ℕ → Type 0
-KeepsWaiters w q w' = (fields_of w).waiters ≡ true → ((fields_of w').waiters ≡ true) ⊎ ((q ≡ []) × ((fields_of w).owner ≡ 0))
+KeepsWaiters w q w' =
+    (fields_of w).waiters ≡ true → ((fields_of w').waiters ≡ true) ⊎ ((q ≡ []) × ((fields_of w).owner ≡ 0))
 
 -- one access of a call of thread t at row r, which meets the word w, on which those of q sleep, leaves the word w' and
 -- leads to l
@@ -64,5 +65,6 @@ pub record Alone (t : ℕ) (r : Row) (a : Access) (l : Led) (w : ℕ) (q : List 
   -- else fewer accesses are left
   pub fewer : sleeps_at a w ≡ false → left l.row w' < left r w
   -- who leaves a free cell that has WAITERS, and wakes nobody, answers for it; but for those who only looked at it
-  pub answers : is_wake a ≡ false → (fields_of w').owner ≡ 0 → (fields_of w').waiters ≡ true → (answers_for l.row ≡ true) ⊎ ((answers_for r ≡ false) × (w' ≡ w))
+  pub answers : is_wake a ≡ false → (fields_of w').owner ≡ 0 → (fields_of w').waiters ≡ true
+      → (answers_for l.row ≡ true) ⊎ ((answers_for r ≡ false) × (w' ≡ w))
   pub steady : sleeps_at a w ≡ false → Steady t r w → Steady t l.row w'

@@ -25,7 +25,8 @@ consistent_access cell Load = access.Load cell
 consistent_access cell Declare = access.FetchAnd cell all_but_owner_died
 
 abbrev pub consistent_sees : ℕ → Fields → Led
-consistent_sees t c = if not (c.owner == t) then ends EPERM else if c.died then goes (Consistent Declare) else ends EINVAL
+consistent_sees t c =
+    if not (c.owner == t) then ends EPERM else if c.died then goes (Consistent Declare) else ends EINVAL
 
 abbrev pub consistent_resume : ℕ → ConsistentRow → Answer → Led
 consistent_resume t Load (Value w) = consistent_sees t (fields_of w)

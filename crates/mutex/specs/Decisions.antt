@@ -42,17 +42,24 @@ IsPermittedFor p None (Some x) = ⊥
 -- so it is of each point that some answers bring, of a call that met this cell last
 abbrev pub ArePermitted : Whole → Option Fields → List Answer → Type 0
 ArePermitted p c [] = Unit {0}
-ArePermitted p c (a ∷ answers) = IsPermittedFor p (or_before (met_in p.phase a) c) (whole_led p a).point × ArePermitted (whole_moved p (whole_led p a)) (or_before (met_in p.phase a) c) answers
+ArePermitted p c (a ∷ answers) = IsPermittedFor p (or_before (met_in p.phase a) c) (whole_led p a).point
+    × ArePermitted (whole_moved p (whole_led p a)) (or_before (met_in p.phase a) c) answers
 
 -- whatever a call is answered
 pub record WholeCallsAreDecided : Type 0 where
   -- one that returned, and not for a fault, has exactly one point, whose reply it returned
-  pub once : (l : Layout') (t : ℕ) (c : Call) (answers : List Answer) (x : Reply) → (whole_reached (begins l t c) answers).phase ≡ Ended x → x ≢ EFAULT → decided_by (begins l t c) answers ≡ x ∷ []
+  pub once : (l : Layout') (t : ℕ) (c : Call) (answers : List Answer) (x : Reply)
+      → (whole_reached (begins l t c) answers).phase ≡ Ended x → x ≢ EFAULT → decided_by (begins l t c) answers ≡ x ∷ []
   -- its point's reply, a release's and a declaration's too, is one that the object permits for the cell that it met
   -- there, or met last before
-  pub permitted : (l : Layout') (t : ℕ) (c : Call) (answers : List Answer) → 1 ≤ t → ArePermitted (begins l t c) None answers
+  pub permitted : (l : Layout') (t : ℕ) (c : Call) (answers : List Answer) → 1 ≤ t
+      → ArePermitted (begins l t c) None answers
   -- it returns EFAULT exactly after an answer that its access doesn't have
-  pub faulted : (l : Layout') (t : ℕ) (c : Call) (answers : List Answer) (a : Answer) → IsUnderWay (whole_reached (begins l t c) answers).phase → ¬ IsAnswerOf (whole_access (whole_reached (begins l t c) answers)) a
+  pub faulted : (l : Layout') (t : ℕ) (c : Call) (answers : List Answer) (a : Answer)
+      → IsUnderWay (whole_reached (begins l t c) answers).phase
+      → ¬ IsAnswerOf (whole_access (whole_reached (begins l t c) answers)) a
       → (whole_led (whole_reached (begins l t c) answers) a).phase ≡ Ended EFAULT
-  pub answered : (l : Layout') (t : ℕ) (c : Call) (answers : List Answer) (a : Answer) → IsUnderWay (whole_reached (begins l t c) answers).phase → IsAnswerOf (whole_access (whole_reached (begins l t c) answers)) a
+  pub answered : (l : Layout') (t : ℕ) (c : Call) (answers : List Answer) (a : Answer)
+      → IsUnderWay (whole_reached (begins l t c) answers).phase
+      → IsAnswerOf (whole_access (whole_reached (begins l t c) answers)) a
       → (whole_led (whole_reached (begins l t c) answers) a).phase ≢ Ended EFAULT

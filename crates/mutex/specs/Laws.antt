@@ -57,7 +57,8 @@ IsOf op r = row_operation r ≡ op
 -- one access of a call at row r, which meets the word w, leaves the word w' and leads to l, is a step of the mutex as
 -- an object, and leaves what the next row needs
 pub record Right (t cell : ℕ) (r : Row) (l : Led) (w w' : ℕ) : Type 0 where
-  pub runs : Run (object_of (fields_of w)) (points (point_of t cell (row_operation r) l.point)) (object_of (fields_of w'))
+  pub runs : Run (object_of (fields_of w)) (points (point_of t cell (row_operation r) l.point))
+      (object_of (fields_of w'))
   pub knows : Knows l.row
   pub expects : Expects t l.row (object_of (fields_of w'))
   pub sound : Sound (object_of (fields_of w'))
@@ -66,19 +67,23 @@ pub record Right (t cell : ℕ) (r : Row) (l : Led) (w w' : ℕ) : Type 0 where
 
 -- whatever word an access meets, and whoever sleeps on it
 abbrev pub ProgramsAreRight : Type 0
-ProgramsAreRight = (t cell w : ℕ) (queue : List ℕ) (r : Row) → 1 ≤ t → t ≤ 64 → IsGoing r → Knows r → Sound (object_of (fields_of w)) → Expects t r (object_of (fields_of w))
-    → Right t cell r (resume_of t r (answer_among (row_access t cell r) w queue)) w (word_among (row_access t cell r) w queue)
+ProgramsAreRight = (t cell w : ℕ) (queue : List ℕ) (r : Row) → 1 ≤ t → t ≤ 64 → IsGoing r → Knows r
+    → Sound (object_of (fields_of w)) → Expects t r (object_of (fields_of w))
+    → Right t cell r (resume_of t r (answer_among (row_access t cell r) w queue)) w
+    (word_among (row_access t cell r) w queue)
 
 -- WAITERS stays through every access of a call but a trim: taking, releasing and declaring keep it
 abbrev pub WaitersAreKept : Type 0
-WaitersAreKept = (t cell w : ℕ) (queue : List ℕ) (r : Row) → t ≤ 64 → IsGoing r → Knows r → Expects t r (object_of (fields_of w)) → row_access t cell r ≢ access.Trim cell
+WaitersAreKept = (t cell w : ℕ) (queue : List ℕ) (r : Row) → t ≤ 64 → IsGoing r → Knows r
+    → Expects t r (object_of (fields_of w)) → row_access t cell r ≢ access.Trim cell
     → (fields_of w).waiters ≡ true → (fields_of (word_among (row_access t cell r) w queue)).waiters ≡ true
 
 -- a call comes to a trim exactly where an unlock was to wake one thread and woke nobody, whatever it was answered
 -- before
 abbrev pub UnlocksTrim : Type 0
 UnlocksTrim = (t cell : ℕ) (r : Row) (a : Answer) → 1 ≤ t → IsGoing r → Knows r
-    → (row_access t cell (resume_of t r a).row ≡ access.Trim cell) ↔ ((row_operation r ≡ operation.Unlock) × (row_access t cell r ≡ access.Wake cell 1) × (a ≡ Count 0))
+    → (row_access t cell (resume_of t r a).row ≡ access.Trim cell)
+    ↔ ((row_operation r ≡ operation.Unlock) × (row_access t cell r ≡ access.Wake cell 1) × (a ≡ Count 0))
 
 -- where a call stands after some answers, whatever they are
 abbrev pub reached : ℕ → Row → List Answer → Row
@@ -96,11 +101,13 @@ changes (a ∷ answers) = tells_change a + changes answers
 
 -- a trylock gives up only after four exchanges that each found a changed cell
 abbrev pub RacedAfterFour : Type 0
-RacedAfterFour = (t : ℕ) (answers : List Answer) → reached t (TryLock try.Load) answers ≡ Ended XRACED → 4 ≤ changes answers
+RacedAfterFour =
+    (t : ℕ) (answers : List Answer) → reached t (TryLock try.Load) answers ≡ Ended XRACED → 4 ≤ changes answers
 
 -- one that tries still has met three at most: after the fourth it gives up
 abbrev pub GivesUpAfterFour : Type 0
-GivesUpAfterFour = (t : ℕ) (answers : List Answer) (v : Fields) (k : ℕ) → reached t (TryLock try.Load) answers ≡ TryLock (try.Take v k) → changes answers < 4
+GivesUpAfterFour = (t : ℕ) (answers : List Answer) (v : Fields) (k : ℕ)
+    → reached t (TryLock try.Load) answers ≡ TryLock (try.Take v k) → changes answers < 4
 
 -- the cell that an access met, as its answer tells: that of a release and of a declaration is told by the call's first
 -- load
@@ -127,6 +134,9 @@ PermitsAt (Some c) t op x = IsPermitted c t op x
 -- for any answers: a point has a reply that the object permits for the cell met there; and a call stands before a
 -- release or a declaration only where it loaded a cell for which that is permitted
 pub record PointsArePermitted : Type 0 where
-  pub at : (t : ℕ) (r : Row) (a : Answer) (x : Reply) → 1 ≤ t → Knows r → (resume_of t r a).point ≡ Some x → PermitsAt (met r a) t (row_operation r) x
-  pub release : (t : ℕ) (r : Row) (a : Answer) (d : Bool) → 1 ≤ t → (resume_of t r a).row ≡ Unlock (unlock.Release d) → (c : Fields) × (met r a ≡ Some c) × IsPermitted c t operation.Unlock OK × (c.died ≡ d)
-  pub declaration : (t : ℕ) (r : Row) (a : Answer) → 1 ≤ t → (resume_of t r a).row ≡ Consistent consistent.Declare → (c : Fields) × (met r a ≡ Some c) × IsPermitted c t operation.Consistent OK
+  pub at : (t : ℕ) (r : Row) (a : Answer) (x : Reply) → 1 ≤ t → Knows r → (resume_of t r a).point ≡ Some x
+      → PermitsAt (met r a) t (row_operation r) x
+  pub release : (t : ℕ) (r : Row) (a : Answer) (d : Bool) → 1 ≤ t → (resume_of t r a).row ≡ Unlock (unlock.Release d)
+      → (c : Fields) × (met r a ≡ Some c) × IsPermitted c t operation.Unlock OK × (c.died ≡ d)
+  pub declaration : (t : ℕ) (r : Row) (a : Answer) → 1 ≤ t → (resume_of t r a).row ≡ Consistent consistent.Declare
+      → (c : Fields) × (met r a ≡ Some c) × IsPermitted c t operation.Consistent OK

@@ -35,6 +35,10 @@ Wakes op x w o n = ⊥
 -- whatever word an access meets, and whoever sleeps on it, the next one is a wake of n sleepers exactly there, and of
 -- those on the mutex's cell
 abbrev pub WakesAreRight : Type 0
-WakesAreRight = (t cell w at n : ℕ) (queue : List ℕ) (r : Row) → 1 ≤ t → t ≤ 64 → IsGoing r → Knows r → Sound (object_of (fields_of w)) → Expects t r (object_of (fields_of w))
+WakesAreRight = (t cell w at n : ℕ) (queue : List ℕ) (r : Row) → 1 ≤ t → t ≤ 64 → IsGoing r → Knows r
+    → Sound (object_of (fields_of w)) → Expects t r (object_of (fields_of w))
     → (row_access t cell (resume_of t r (answer_among (row_access t cell r) w queue)).row ≡ access.Wake at n)
-    ↔ ((at ≡ cell) × Wakes (row_operation r) (resume_of t r (answer_among (row_access t cell r) w queue)).point (fields_of w).waiters (object_of (fields_of (word_among (row_access t cell r) w queue))) n)
+    ↔
+    ((at ≡ cell)
+    × Wakes (row_operation r) (resume_of t r (answer_among (row_access t cell r) w queue)).point
+    (fields_of w).waiters (object_of (fields_of (word_among (row_access t cell r) w queue))) n)

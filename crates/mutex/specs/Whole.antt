@@ -86,7 +86,8 @@ begun_at t h e cell c = whole_at t (operation_of c) h e cell (first_phase c)
 
 -- it speaks of its head, its entry and its cell by their addresses in the thread's process
 abbrev pub begins : Layout' → ℕ → Call → Whole
-begins l t c = begun_at t (address_in l t (head_place t)) (address_in l t (entry_place l (mutex_of c))) (address_in l t (cell_place l (mutex_of c))) c
+begins l t c = begun_at t (address_in l t (head_place t)) (address_in l t (entry_place l (mutex_of c)))
+    (address_in l t (cell_place l (mutex_of c))) c
 
 -- whoever holds as many mutexes as a thread may hold may not take another
 abbrev pub whole_started : Layout' → ℕ → ℕ → Call → Result Whole Reply

@@ -47,7 +47,8 @@ about_to_release f = None
 
 -- a whole unlock that was to wake one thread and woke nobody goes on to its trim
 abbrev pub WholeUnlocksTrim : Type 0
-WholeUnlocksTrim = (p : Whole) → p.phase ≡ AtCell (row.Unlock (Wake false)) → whole_access (whole_moved p (whole_led p (Count 0))) ≡ access.Trim p.cell
+WholeUnlocksTrim = (p : Whole) → p.phase ≡ AtCell (row.Unlock (Wake false))
+    → whole_access (whole_moved p (whole_led p (Count 0))) ≡ access.Trim p.cell
 
 -- after this answer its next access is a wake of n sleepers of the word at this address
 abbrev pub WakesNext : Whole → Answer → ℕ → ℕ → Type 0
@@ -62,21 +63,31 @@ IsAtCell f = ⊥
 pub record WholeCallsWake : Type 0 where
   -- after an access at its mutex's cell, whatever word that meets and whoever sleeps there, the next one is a wake
   -- exactly where its point asks for one, of so many, and of those on the mutex's cell
-  pub at_the_cell : (p : Whole) (r : Row) (w at n : ℕ) (queue : List ℕ) → IsWhole p → p.thread ≤ 64 → p.phase ≡ AtCell r → IsGoing r → Sound (object_of (fields_of w)) → Expects p.thread r (object_of (fields_of w))
+  pub at_the_cell : (p : Whole) (r : Row) (w at n : ℕ) (queue : List ℕ) → IsWhole p → p.thread ≤ 64 → p.phase ≡ AtCell r
+      → IsGoing r → Sound (object_of (fields_of w)) → Expects p.thread r (object_of (fields_of w))
       → WakesNext p (answer_among (whole_access p) w queue) at n
-      ↔ ((at ≡ p.cell) × Wakes p.operation (whole_led p (answer_among (whole_access p) w queue)).point (fields_of w).waiters (object_of (fields_of (word_among (whole_access p) w queue))) n)
+      ↔
+      ((at ≡ p.cell)
+      × Wakes p.operation (whole_led p (answer_among (whole_access p) w queue)).point (fields_of w).waiters
+      (object_of (fields_of (word_among (whole_access p) w queue))) n)
   -- a call doesn't begin by a wake, and whatever it is answered, none follows an access of its thread's list
   pub first : (l : Layout') (t : ℕ) (c : Call) (at n : ℕ) → whole_access (begins l t c) ≢ access.Wake at n
-  pub at_the_list : (l : Layout') (t : ℕ) (c : Call) (answers : List Answer) (a : Answer) (at n : ℕ) → ¬ IsAtCell (whole_reached (begins l t c) answers).phase → ¬ WakesNext (whole_reached (begins l t c) answers) a at n
+  pub at_the_list : (l : Layout') (t : ℕ) (c : Call) (answers : List Answer) (a : Answer) (at n : ℕ)
+      → ¬ IsAtCell (whole_reached (begins l t c) answers).phase
+      → ¬ WakesNext (whole_reached (begins l t c) answers) a at n
 
 -- whatever a call is answered
 pub record WholeCallsAreRight : Type 0 where
   pub begins_so : (l : Layout') (t : ℕ) (c : Call) → 1 ≤ t → IsWhole (begins l t c)
   pub keeps : (p : Whole) (a : Answer) → IsWhole p → IsWhole (whole_moved p (whole_led p a))
   -- its point is made at the cell, and has a reply that the object permits for the cell met there
-  pub points : (p : Whole) (a : Answer) (x : Reply) → IsWhole p → (whole_led p a).point ≡ Some x → (r : Row) × (p.phase ≡ AtCell r) × PermitsAt (met r a) p.thread p.operation x
+  pub points : (p : Whole) (a : Answer) (x : Reply) → IsWhole p → (whole_led p a).point ≡ Some x
+      → (r : Row) × (p.phase ≡ AtCell r) × PermitsAt (met r a) p.thread p.operation x
   -- it goes to release the mutex only once it loaded a cell for which that is permitted
   pub releases : (p : Whole) (a : Answer) (d : Bool) → IsWhole p → about_to_release (whole_led p a).phase ≡ Some d →
-      (about_to_release p.phase ≡ Some d) ⊎ (r : Row) × (c : Fields) × (p.phase ≡ AtCell r) × (met r a ≡ Some c) × IsPermitted c p.thread operation.Unlock OK × (c.died ≡ d)
+      (about_to_release p.phase ≡ Some d)
+      ⊎ (r : Row) × (c : Fields) × (p.phase ≡ AtCell r) × (met r a ≡ Some c)
+      × IsPermitted c p.thread operation.Unlock OK × (c.died ≡ d)
   -- a trylock gives up only after four exchanges that each found a changed cell
-  pub raced : (l : Layout') (t : ℕ) (c : Call) (answers : List Answer) → 1 ≤ t → (whole_reached (begins l t c) answers).phase ≡ Ended XRACED → 4 ≤ changes answers
+  pub raced : (l : Layout') (t : ℕ) (c : Call) (answers : List Answer) → 1 ≤ t
+      → (whole_reached (begins l t c) answers).phase ≡ Ended XRACED → 4 ≤ changes answers

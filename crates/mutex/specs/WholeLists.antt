@@ -37,7 +37,9 @@ entry_in l t k = address_in l t (entry_place l k)
 -- the place of a word that the thread alone writes: its head's first entry or pending one, or a link of a mutex that it
 -- owns
 abbrev pub IsOwnPlace : Layout' → ℕ → (ℕ → Bool) → ℕ → Type 0
-IsOwnPlace l t owns p = (p ≡ head_place t) ⊎ ((p ≡ head_place t + 2) ⊎ (k : ℕ) × (k < l.mutexes) × ((p ≡ entry_place l k) ⊎ (p ≡ entry_place l k + 1)) × (owns k ≡ true))
+IsOwnPlace l t owns p = (p ≡ head_place t)
+    ⊎ ((p ≡ head_place t + 2)
+    ⊎ (k : ℕ) × (k < l.mutexes) × ((p ≡ entry_place l k) ⊎ (p ≡ entry_place l k + 1)) × (owns k ≡ true))
 
 -- the address of one
 pub record IsOwnAddress (l : Layout') (t : ℕ) (owns : ℕ → Bool) (a : ℕ) : Type 0 where
@@ -50,7 +52,8 @@ pub record IsOwnAddress (l : Layout') (t : ℕ) (owns : ℕ → Bool) (a : ℕ) 
 
 -- the entries are those of the mutexes that the thread owns, but for this one
 pub record Entries (l : Layout') (t : ℕ) (owns : ℕ → Bool) (out : Option ℕ) (es : List ℕ) : Type 0 where
-  pub each : (x : ℕ) → IsAmong x es → (k : ℕ) × (k < l.mutexes) × (x ≡ entry_in l t k) × (owns k ≡ true) × (out ≢ Some k)
+  pub each : (x : ℕ) → IsAmong x es
+      → (k : ℕ) × (k < l.mutexes) × (x ≡ entry_in l t k) × (owns k ≡ true) × (out ≢ Some k)
   pub all : (k : ℕ) → k < l.mutexes → owns k ≡ true → out ≢ Some k → IsAmong (entry_in l t k) es
 
 -- between calls: from the head the words lead over just the mutexes that the thread owns, both ways, and no entry is
@@ -110,13 +113,14 @@ StandsAt h e op own (Clearing x) = Unit {0}
 StandsAt h e op own (Ended x) = ⊥
 
 -- in a call on mutex m: its words are a list of what the thread owns, but for what is put there or released just now
-pub record KeepsList (l : Layout') (t : ℕ) (owns : ℕ → Bool) (m : ℕ) (op : Operation) (f : Phase) (w : ℕ → ℕ) : Type 0 where
-  pub knows : PhaseKnows f
-  pub stands : StandsAt (head_in l t) (entry_in l t m) op (owns m) f
-  pub entries : List ℕ
-  pub owned : Entries l t owns (left_out m f) entries
-  pub chain : IsChainedIn w (head_in l t) (entry_in l t m) entries f
-  pub pending : w (pending_place (head_in l t)) ≡ pending_in (entry_in l t m) f
+pub record KeepsList (l : Layout') (t : ℕ) (owns : ℕ → Bool) (m : ℕ) (op : Operation) (f : Phase) (w : ℕ → ℕ) : Type 0
+  where
+    pub knows : PhaseKnows f
+    pub stands : StandsAt (head_in l t) (entry_in l t m) op (owns m) f
+    pub entries : List ℕ
+    pub owned : Entries l t owns (left_out m f) entries
+    pub chain : IsChainedIn w (head_in l t) (entry_in l t m) entries f
+    pub pending : w (pending_place (head_in l t)) ≡ pending_in (entry_in l t m) f
 
 -- the call has returned, or stands there so
 abbrev pub Arrives : Layout' → ℕ → (ℕ → Bool) → ℕ → Operation → Phase → (ℕ → ℕ) → Type 0
@@ -151,7 +155,8 @@ owns_after own op x = own
 
 -- words that are the same at what was the thread's own and still is
 abbrev pub AgreeOnOwn : Layout' → ℕ → (ℕ → Bool) → (ℕ → Bool) → (ℕ → ℕ) → (ℕ → ℕ) → Type 0
-AgreeOnOwn l t owns owns' w w' = (p : ℕ) → IsOwnPlace l t owns p → IsOwnPlace l t owns' p → w' (address_in l t p) ≡ w (address_in l t p)
+AgreeOnOwn l t owns owns' w w' =
+    (p : ℕ) → IsOwnPlace l t owns p → IsOwnPlace l t owns' p → w' (address_in l t p) ≡ w (address_in l t p)
 
 -- what the kernel finds of a thread that dies: next words lead from its head over mutexes that it owned, and back, and
 -- each that it owned is one of these or the pending one (get_robust_list(2))
@@ -159,8 +164,10 @@ pub record CanBeWalked (l : Layout') (t : ℕ) (owns : ℕ → Bool) (w : ℕ �
   pub entries : List ℕ
   pub chain : IsChain w (head_in l t) entries
   pub each : (x : ℕ) → IsAmong x entries → (k : ℕ) × (k < l.mutexes) × (x ≡ entry_in l t k) × (owns k ≡ true)
-  pub all : (k : ℕ) → k < l.mutexes → owns k ≡ true → IsAmong (entry_in l t k) entries ⊎ (w (pending_place (head_in l t)) ≡ entry_in l t k)
-  pub pending : (w (pending_place (head_in l t)) ≡ 0) ⊎ (k : ℕ) × (k < l.mutexes) × (w (pending_place (head_in l t)) ≡ entry_in l t k)
+  pub all : (k : ℕ) → k < l.mutexes → owns k ≡ true
+      → IsAmong (entry_in l t k) entries ⊎ (w (pending_place (head_in l t)) ≡ entry_in l t k)
+  pub pending : (w (pending_place (head_in l t)) ≡ 0)
+      ⊎ (k : ℕ) × (k < l.mutexes) × (w (pending_place (head_in l t)) ≡ entry_in l t k)
 
 -- ---- what every whole call keeps of its thread's list
 
@@ -182,13 +189,20 @@ pub record Owns (m : ℕ) (op : Operation) (led : Led) (owns owns' : ℕ → Boo
 
 pub record WholeListsAreKept : Type 0 where
   -- a call begins with the list as it is between calls
-  pub begins_so : (l : Layout') (t : ℕ) (owns : ℕ → Bool) (c : Call) (w : ℕ → ℕ) → IsThere l t (mutex_of c) → HasList l t owns w → KeepsList l t owns (mutex_of c) (operation_of c) (first_phase c) w
+  pub begins_so : (l : Layout') (t : ℕ) (owns : ℕ → Bool) (c : Call) (w : ℕ → ℕ) → IsThere l t (mutex_of c)
+      → HasList l t owns w → KeepsList l t owns (mutex_of c) (operation_of c) (first_phase c) w
   -- an access of its thread's own words is at such a word, and leaves a list
-  pub own_words : (l : Layout') (t : ℕ) (owns : ℕ → Bool) (m : ℕ) (p : Whole) (w : ℕ → ℕ) → IsThere l t m → IsCallOn l t m p → IsOwnAccess p.phase → KeepsList l t owns m p.operation p.phase w →
-      IsOwnAddress l t owns (address_of (whole_access p)) × Arrives l t owns m p.operation (whole_led p (answer_on (whole_access p) w)).phase (after (whole_access p) w)
+  pub own_words : (l : Layout') (t : ℕ) (owns : ℕ → Bool) (m : ℕ) (p : Whole) (w : ℕ → ℕ) → IsThere l t m
+      → IsCallOn l t m p → IsOwnAccess p.phase → KeepsList l t owns m p.operation p.phase w →
+      IsOwnAddress l t owns (address_of (whole_access p))
+      × Arrives l t owns m p.operation (whole_led p (answer_on (whole_access p) w)).phase (after (whole_access p) w)
   -- so does one at the cell, whatever others do there
-  pub at_the_cell : (l : Layout') (t : ℕ) (owns owns' : ℕ → Bool) (m : ℕ) (p : Whole) (r : Row) (a : Answer) (w w' : ℕ → ℕ) → IsThere l t m → IsCallOn l t m p → p.phase ≡ AtCell r → KeepsList l t owns m p.operation (AtCell r) w →
-      Owns m p.operation (resume_of p.thread r a) owns owns' → AgreeOnOwn l t owns owns' w w' → Arrives l t owns' m p.operation (whole_led p a).phase w'
+  pub at_the_cell : (l : Layout') (t : ℕ) (owns owns' : ℕ → Bool) (m : ℕ) (p : Whole) (r : Row) (a : Answer)
+      (w w' : ℕ → ℕ) → IsThere l t m → IsCallOn l t m p → p.phase ≡ AtCell r
+      → KeepsList l t owns m p.operation (AtCell r) w →
+      Owns m p.operation (resume_of p.thread r a) owns owns' → AgreeOnOwn l t owns owns' w w'
+      → Arrives l t owns' m p.operation (whole_led p a).phase w'
   -- wherever the thread dies, between calls or in one, the kernel finds all that it owns
   pub between_calls : (l : Layout') (t : ℕ) (owns : ℕ → Bool) (w : ℕ → ℕ) → HasList l t owns w → CanBeWalked l t owns w
-  pub in_a_call : (l : Layout') (t : ℕ) (owns : ℕ → Bool) (m : ℕ) (op : Operation) (f : Phase) (w : ℕ → ℕ) → IsThere l t m → KeepsList l t owns m op f w → CanBeWalked l t owns w
+  pub in_a_call : (l : Layout') (t : ℕ) (owns : ℕ → Bool) (m : ℕ) (op : Operation) (f : Phase) (w : ℕ → ℕ)
+      → IsThere l t m → KeepsList l t owns m op f w → CanBeWalked l t owns w

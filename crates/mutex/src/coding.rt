@@ -71,8 +71,10 @@ impl CodedPhase {
     /// `None` where no such phase has them.
     #[inline(always)]
     pub fn phase(&self, head: u64, entry: u64) -> Option<Phase>
-        ensures has_these { IfSome result (λ f. IsUnderWay f × PhaseKnows f × LiesAt head entry f × (phase_code f ≡ self.now)) }
-        ensures each { (f : Phase) → IsUnderWay f → PhaseKnows f → LiesAt head entry f → phase_code f ≡ self.now → result ≡ Some f }
+        ensures has_these { IfSome result
+            (λ f. IsUnderWay f × PhaseKnows f × LiesAt head entry f × (phase_code f ≡ self.now)) }
+        ensures each { (f : Phase) → IsUnderWay f → PhaseKnows f → LiesAt head entry f → phase_code f ≡ self.now
+            → result ≡ Some f }
     {
         let phase = self.read(head, entry)?;
         if CodedPhase::of(&phase) == *self {
@@ -86,7 +88,8 @@ impl CodedPhase {
     #[inline(always)]
     fn read(&self, head: u64, entry: u64) -> Option<Phase>
         ensures knows { IfSome result (λ f. IsUnderWay f × PhaseKnows f × LiesAt head entry f) }
-        ensures each { (f : Phase) → IsUnderWay f → PhaseKnows f → LiesAt head entry f → phase_code f ≡ self.now → result ≡ Some f }
+        ensures each { (f : Phase) → IsUnderWay f → PhaseKnows f → LiesAt head entry f → phase_code f ≡ self.now
+            → result ≡ Some f }
     {
         let kind = self.kind;
         if kind == 1 {
@@ -244,7 +247,8 @@ fn read_row(kind: u8, flag: bool, x: u64, y: u64) -> Option<Row>
 #[inline(always)]
 fn read_link(kind: u8, x: u64) -> Option<LinkRow>
     ensures goes { IfSome result (λ r. LinkGoes r) }
-    ensures each { (reply : Reply) (r : LinkRow) → LinkGoes r → link_code reply r ≡ replying kind reply x → result ≡ Some r }
+    ensures each { (reply : Reply) (r : LinkRow) → LinkGoes r → link_code reply r ≡ replying kind reply x
+        → result ≡ Some r }
 {
     match kind {
         2 => Some(LinkRow::LoadFirst),
@@ -259,7 +263,8 @@ fn read_link(kind: u8, x: u64) -> Option<LinkRow>
 #[inline(always)]
 fn read_unlink(kind: u8, x: u64, y: u64) -> Option<UnlinkRow>
     ensures goes { IfSome result (λ r. UnlinkGoes r) }
-    ensures each { (died : Bool) (r : UnlinkRow) → UnlinkGoes r → unlink_code died r ≡ plain kind (flag_of died) x y → result ≡ Some r }
+    ensures each { (died : Bool) (r : UnlinkRow) → UnlinkGoes r → unlink_code died r ≡ plain kind (flag_of died) x y
+        → result ≡ Some r }
 {
     match kind {
         7 => Some(UnlinkRow::LoadNext),

@@ -1,5 +1,6 @@
 //! What holds of every call.
-ghost use Rattle.mutex.specs.Laws.{ProgramsAreRight, WaitersAreKept, UnlocksTrim, RacedAfterFour, GivesUpAfterFour, PointsArePermitted};
+ghost use Rattle.mutex.specs.Laws.{ProgramsAreRight, WaitersAreKept, UnlocksTrim};
+ghost use Rattle.mutex.specs.Laws.{RacedAfterFour, GivesUpAfterFour, PointsArePermitted};
 ghost use Rattle.mutex.specs.Wakes.{WakesAreRight};
 ghost use Rattle.mutex.specs.WholeLaws.{WholeCallsAreRight, WholeCallsWake, WholeUnlocksTrim};
 ghost use Rattle.mutex.specs.WholeLists.{WholeListsAreKept};

@@ -34,19 +34,35 @@ impl Model for Program {
 
     ghost Value = { Whole };
 
-    ghost view = { λ p. record { thread = p.thread; operation = p.operation; head = p.head; entry = p.entry; cell = p.cell; phase = p.phase } };
+    ghost view = { λ p. record {
+      thread = p.thread;
+      operation = p.operation;
+      head = p.head;
+      entry = p.entry;
+      cell = p.cell;
+      phase = p.phase;
+    } };
 
     ghost use Rattle.mutex.specs.Whole.{PhaseKnows};
 
     ghost invariant = { λ p. PhaseKnows p.phase };
 
-    ghost inverse = { λ s. record { thread = s.thread; operation = s.operation; head = s.head; entry = s.entry; cell = s.cell; phase = s.phase } };
+    ghost inverse = { λ s. record {
+      thread = s.thread;
+      operation = s.operation;
+      head = s.head;
+      entry = s.entry;
+      cell = s.cell;
+      phase = s.phase;
+    } };
 }
 
 impl Program {
     ghost use Rattle.mutex.specs.Rows.{Knows};
     ghost use Rattle.mutex.specs.declared.phase.Phase.TheVariants.{AtCell};
-    ghost use Rattle.mutex.specs.Whole.{whole_started, whole_at, begun_at, retaking, whole_access, whole_led, whole_moved, whole_point, whole_progress, announced, from_cell, after_cell, leaving, IsUnderWay, PhaseKnows};
+    ghost use Rattle.mutex.specs.Whole.{whole_started, whole_at, begun_at, retaking, whole_access};
+    ghost use Rattle.mutex.specs.Whole.{whole_led, whole_moved, whole_point, whole_progress, announced};
+    ghost use Rattle.mutex.specs.Whole.{from_cell, after_cell, leaving, IsUnderWay, PhaseKnows};
 
     /// A call of a thread that holds so many mutexes. It speaks of words by their addresses in the thread's process. A
     /// lock or trylock by a thread that holds 2,048 is refused with `XHELD` before any access.

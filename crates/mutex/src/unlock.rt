@@ -1,7 +1,8 @@
 //! Unlock.
 ghost use Rattle.std.specs.Prelude.{◌≡◌};
 ghost use Rattle.mutex.specs.Rows.{Knows};
-ghost use Rattle.mutex.specs.Unlock.{unlock_access, unlock_resume, unlock_sees, after_release, after_wake, released_bits};
+ghost use Rattle.mutex.specs.Unlock.{unlock_access, unlock_resume, unlock_sees};
+ghost use Rattle.mutex.specs.Unlock.{after_release, after_wake, released_bits};
 
 use crate::row::{Led, Row};
 use lockword::{Cell, OWNER_DIED, Reply, Tid, UNUSABLE};

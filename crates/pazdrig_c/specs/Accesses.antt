@@ -28,9 +28,11 @@
 use Rattle.std.specs.Prelude.{ℕ, ◌/◌, ◌%◌, ◌^◌, ◌==◌, nat_lt, not, Option, Some, None, if◌then◌else◌}
 use Rattle.lockword.specs.Replies.{number_of}
 use Rattle.stepprograms.specs.declared.access.Access.{Access}
-use Rattle.stepprograms.specs.declared.access.Access.TheVariants.{Load, Store, Exchange, FetchXor, FetchOr, FetchAnd, FetchAdd, Wait, Wake, CmpRequeue, Trim, Requeue}
+use Rattle.stepprograms.specs.declared.access.Access.TheVariants.{Load, Store, Exchange, FetchXor, FetchOr, FetchAnd}
+use Rattle.stepprograms.specs.declared.access.Access.TheVariants.{FetchAdd, Wait, Wake, CmpRequeue, Trim, Requeue}
 use Rattle.stepprograms.specs.declared.access.Answer.{Answer}
-use Rattle.stepprograms.specs.declared.access.Answer.TheVariants.{Value, Stored, Exchanged, Changed, Again, Woken, Count, Counts, Trimmed, Fault}
+use Rattle.stepprograms.specs.declared.access.Answer.TheVariants.{Value, Stored, Exchanged, Changed, Again}
+use Rattle.stepprograms.specs.declared.access.Answer.TheVariants.{Woken, Count, Counts, Trimmed, Fault}
 use Rattle.posixmutex.specs.declared.point.Operation.{Operation}
 use Rattle.posixmutex.specs.declared.point.Operation.TheVariants as operation
 use Rattle.posixmutex.specs.declared.point.Point.{Point}
@@ -48,7 +50,8 @@ operation_number operation.Death = 7
 operation_number operation.Reinit = 8
 
 abbrev pub plain : ℕ → ℕ → ℕ → ℕ → ℕ → ℕ → PzAccess
-plain kind at a b most wakes = record { at = at; a = a; b = b; kind = kind; most = most; wakes = wakes; point = 0xffff; operation = 0 }
+plain kind at a b most wakes =
+    record { at = at; a = a; b = b; kind = kind; most = most; wakes = wakes; point = 0xffff; operation = 0 }
 
 abbrev pub no_access : PzAccess
 no_access = plain 0 0 0 0 0 0

@@ -97,7 +97,8 @@ abbrev pub unlink_answers : ℕ → ℕ → ℕ → Bool → List Answer
 unlink_answers w n p b = Value w ∷ Stored ∷ Value n ∷ Value p ∷ Stored ∷ behind_answers b
 
 abbrev pub unlink_plan : ℕ → ℕ → ℕ → ℕ → ℕ → Bool → List Access
-unlink_plan h e c n p b = access.Load c ∷ access.Store (pending_place h) e ∷ access.Load e ∷ access.Load (previous_place e) ∷ access.Store p n ∷ behind_plan b n p
+unlink_plan h e c n p b = access.Load c ∷ access.Store (pending_place h) e ∷ access.Load e
+    ∷ access.Load (previous_place e) ∷ access.Store p n ∷ behind_plan b n p
 
 -- thread t announces the entry e, takes it off its list, and releases the cell
 abbrev pub unlock_plan : ℕ → ℕ → ℕ → ℕ → ℕ → ℕ → Bool → List Access
@@ -124,10 +125,14 @@ release_plan t h c v = access.FetchXor c t ∷ wake_plan (fields_of v).waiters h
 
 pub record UnlockByPlan (t h e c w n p v : ℕ) : Type 0 where
   pub unlinks : asked (unlock_begun t h e c) (unlink_answers w n p (n == h)) ≡ unlink_plan h e c n p (n == h)
-  pub stands : run (unlock_begun t h e c) (unlink_answers w n p (n == h)) ≡ whole_at t operation.Unlock h e c (AtCell release_row)
-  pub releases : asked (whole_at t operation.Unlock h e c (AtCell release_row)) (release_answers v) ≡ release_plan t h c v
+  pub stands : run (unlock_begun t h e c) (unlink_answers w n p (n == h))
+      ≡ whole_at t operation.Unlock h e c (AtCell release_row)
+  pub releases : asked (whole_at t operation.Unlock h e c (AtCell release_row)) (release_answers v)
+      ≡ release_plan t h c v
   pub returns : (run (whole_at t operation.Unlock h e c (AtCell release_row)) (release_answers v)).phase ≡ Ended OK
-  pub asks : (fields_of v).waiters ≡ false → asked (unlock_begun t h e c) (unlink_answers w n p (n == h) ++ release_answers v) ≡ unlock_plan t h e c n p (n == h)
+  pub asks : (fields_of v).waiters ≡ false
+      → asked (unlock_begun t h e c) (unlink_answers w n p (n == h) ++ release_answers v)
+      ≡ unlock_plan t h e c n p (n == h)
 
 -- whether a thread finds a cell that it may release so
 abbrev pub is_held : Fields → ℕ → Bool

@@ -32,8 +32,10 @@ IsOnMutex op = ⊥
 
 -- a call that hasn't returned, and which knows what its phase does
 abbrev pub IsRunning : Running → Type 0
-IsRunning (OnMutex p) = IsThread p.thread × IsOnMutex p.operation × mutex.IsUnderWay p.phase × mutex.PhaseKnows p.phase × coded.LiesAt p.head p.entry p.phase
-IsRunning (OnCondition p) = IsThread p.thread × condition.IsUnderWay p.phase × condition.PhaseKnows p.phase × cond_coded.LiesAt p.thread p.head p.entry p.cell p.phase
+IsRunning (OnMutex p) = IsThread p.thread × IsOnMutex p.operation × mutex.IsUnderWay p.phase × mutex.PhaseKnows p.phase
+    × coded.LiesAt p.head p.entry p.phase
+IsRunning (OnCondition p) = IsThread p.thread × condition.IsUnderWay p.phase × condition.PhaseKnows p.phase
+    × cond_coded.LiesAt p.thread p.head p.entry p.cell p.phase
 
 -- its numbers
 abbrev pub call_code : Running → PzCall
@@ -79,9 +81,12 @@ begun_with op c =
     else if op == 1 then Some (OnMutex (mutex.begun_at c.thread c.head c.entry c.cell (call.TryLock 0)))
     else if op == 2 then Some (OnMutex (mutex.begun_at c.thread c.head c.entry c.cell (call.Unlock 0)))
     else if op == 3 then Some (OnMutex (mutex.begun_at c.thread c.head c.entry c.cell (call.Consistent 0)))
-    else if op == 4 then Some (OnCondition (condition.begun_at c.thread c.head c.entry c.cell c.counter (cond_call.Wait 0)))
-    else if op == 5 then Some (OnCondition (condition.begun_at c.thread c.head c.entry c.cell c.counter (cond_call.Signal 0)))
-    else if op == 6 then Some (OnCondition (condition.begun_at c.thread c.head c.entry c.cell c.counter (cond_call.Broadcast 0)))
+    else if op == 4
+    then Some (OnCondition (condition.begun_at c.thread c.head c.entry c.cell c.counter (cond_call.Wait 0)))
+    else if op == 5
+    then Some (OnCondition (condition.begun_at c.thread c.head c.entry c.cell c.counter (cond_call.Signal 0)))
+    else if op == 6
+    then Some (OnCondition (condition.begun_at c.thread c.head c.entry c.cell c.counter (cond_call.Broadcast 0)))
     else None
 
 abbrev pub begun : ℕ → PzCall → Option Running
@@ -90,7 +95,8 @@ begun op c = if nat_le 1 c.thread && nat_le c.thread 64 then begun_with op c els
 -- 0: it goes on, and this is its access; 2: no call has these numbers, and nothing is written
 abbrev pub Begins : Option Running → ℕ → PzCall → PzCall → PzAccess → PzAccess → Type 0
 Begins None result old new access access' = (result ≡ 2) × (new ≡ old) × (access' ≡ access)
-Begins (Some r) result old new access access' = (result ≡ 0) × (new ≡ call_code r) × (access' ≡ access_code (access_of r))
+Begins (Some r) result old new access access' =
+    (result ≡ 0) × (new ≡ call_code r) × (access' ≡ access_code (access_of r))
 
 -- ---- an answer
 

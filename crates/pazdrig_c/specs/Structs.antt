@@ -19,7 +19,8 @@ filled_call = record {
 abbrev pub filled_walk : PzWalk
 filled_walk = record {
   head = 1;
-  row = record { at = 2; seen = 3; entry = 4; offset = 5; pending = 6; loaded = 7; kind = 8; again = 9; of_pending = 10 };
+  row =
+      record { at = 2; seen = 3; entry = 4; offset = 5; pending = 6; loaded = 7; kind = 8; again = 9; of_pending = 10 };
   thread = 11;
 }
 

@@ -43,8 +43,10 @@ pub extern "C" fn pz_begin(call: &mut PzCall, access: &mut PzAccess, operation: 
 /// `call.phase.lock.reply` is its reply; 2, and nothing is written: no call in progress has these numbers.
 #[unsafe(no_mangle)]
 pub extern "C" fn pz_step(call: &mut PzCall, access: &mut PzAccess, kind: u32, value: u64) -> u32
-    ensures goes_on { (r : Running) → IsRunning r → call_code r ≡ call.old → GoesOn r (answer_of kind value) result call.new access.new }
-    ensures refused { ((r : Running) → IsRunning r → call_code r ≢ call.old) → (result ≡ 2) × (call.new ≡ call.old) × (access.new ≡ access.old) }
+    ensures goes_on { (r : Running) → IsRunning r → call_code r ≡ call.old
+        → GoesOn r (answer_of kind value) result call.new access.new }
+    ensures refused { ((r : Running) → IsRunning r → call_code r ≢ call.old)
+        → (result ≡ 2) × (call.new ≡ call.old) × (access.new ≡ access.old) }
 {
     match read(call) {
         Some(running) => go_on(running, call, access, answer(kind, value)),
@@ -61,7 +63,8 @@ fn begin_on_mutex(
 ) -> u32
     requires thread { thread ≡ call.old.thread }
     requires number { number ≡ operation_number (operation_of on_mutex) }
-    ensures { Begins (Some (OnMutex (mutex.begun_at thread call.old.head call.old.entry call.old.cell on_mutex))) result call.old call.new access.old access.new }
+    ensures { Begins (Some (OnMutex (mutex.begun_at thread call.old.head call.old.entry call.old.cell on_mutex))) result
+        call.old call.new access.old access.new }
 {
     let program = Program::begin(thread, call.head, call.entry, call.cell, on_mutex);
     call.counter = 0;
@@ -82,7 +85,11 @@ fn begin_on_condition(
     on_condition: CondCall,
 ) -> u32
     requires { thread ≡ call.old.thread }
-    ensures { Begins (Some (OnCondition (condition.begun_at thread call.old.head call.old.entry call.old.cell call.old.counter on_condition))) result call.old call.new access.old access.new }
+    ensures { Begins
+        (Some
+        (OnCondition
+        (condition.begun_at thread call.old.head call.old.entry call.old.cell call.old.counter on_condition))) result
+        call.old call.new access.old access.new }
 {
     let program = CondProgram::begin(
         thread,

@@ -25,7 +25,10 @@ pub extern "C" fn pz_plan_lock(
     first: u64,
 ) -> bool
     ensures answers { result ≡ (is_thread thread && is_free (fields_of cell)) }
-    ensures accesses { OnTrue result ((c : ℕ) → planned plan.new (access.Exchange c cell plan.new.operand) ≡ changes_in (lock_plan thread head entry c cell first (first == head))) }
+    ensures accesses { OnTrue result
+        ((c : ℕ)
+        → planned plan.new (access.Exchange c cell plan.new.operand)
+        ≡ changes_in (lock_plan thread head entry c cell first (first == head))) }
     ensures reply { OnTrue result (plan.new.reply ≡ number_of (acquired (fields_of cell))) }
     ensures unchanged { OnFalse result (plan.new ≡ plan.old) }
 {
@@ -84,7 +87,10 @@ pub extern "C" fn pz_plan_unlock(
     previous: u64,
 ) -> bool
     ensures answers { result ≡ (is_thread thread && is_held (fields_of cell) thread) }
-    ensures accesses { OnTrue result ((c : ℕ) → planned plan.new (access.FetchXor c plan.new.operand) ≡ changes_in (unlock_plan thread head entry c next previous (next == head))) }
+    ensures accesses { OnTrue result
+        ((c : ℕ)
+        → planned plan.new (access.FetchXor c plan.new.operand)
+        ≡ changes_in (unlock_plan thread head entry c next previous (next == head))) }
     ensures reply { OnTrue result (plan.new.reply ≡ 0) }
     ensures unchanged { OnFalse result (plan.new ≡ plan.old) }
 {

@@ -17,8 +17,11 @@ use stepprograms::{Answer, Progress, StepProgram};
 /// first access. 0; or 2, and nothing is written, where there is no such thread.
 #[unsafe(no_mangle)]
 pub extern "C" fn pz_walk_begin(walk: &mut PzWalk, access: &mut PzAccess) -> u32
-    ensures begins { IsThread walk.old.thread → (result ≡ 0) × (walk.new ≡ walk_code (begun walk.old.thread walk.old.head)) × (access.new ≡ access_code (access_of (begun walk.old.thread walk.old.head))) }
-    ensures refused { (IsThread walk.old.thread → ⊥) → (result ≡ 2) × (walk.new ≡ walk.old) × (access.new ≡ access.old) }
+    ensures begins { IsThread walk.old.thread
+        → (result ≡ 0) × (walk.new ≡ walk_code (begun walk.old.thread walk.old.head))
+        × (access.new ≡ access_code (access_of (begun walk.old.thread walk.old.head))) }
+    ensures refused { (IsThread walk.old.thread → ⊥)
+        → (result ≡ 2) × (walk.new ≡ walk.old) × (access.new ≡ access.old) }
 {
     let Some(thread) = Tid::new(walk.thread) else {
         return INVALID;
@@ -33,8 +36,10 @@ pub extern "C" fn pz_walk_begin(walk: &mut PzWalk, access: &mut PzAccess) -> u32
 /// no walk in progress has these numbers.
 #[unsafe(no_mangle)]
 pub extern "C" fn pz_walk_next(walk: &PzWalk, access: &mut PzAccess) -> u32
-    ensures tells { (s : Standing) → IsWalking s → walk_code s ≡ walk.now → (result ≡ 0) × (access.new ≡ access_code (access_of s)) }
-    ensures refused { ((s : Standing) → IsWalking s → walk_code s ≢ walk.now) → (result ≡ 2) × (access.new ≡ access.old) }
+    ensures tells { (s : Standing) → IsWalking s → walk_code s ≡ walk.now
+        → (result ≡ 0) × (access.new ≡ access_code (access_of s)) }
+    ensures refused { ((s : Standing) → IsWalking s → walk_code s ≢ walk.now)
+        → (result ≡ 2) × (access.new ≡ access.old) }
 {
     match read(walk) {
         Some(program) => {
@@ -54,8 +59,10 @@ pub extern "C" fn pz_walk_step(
     kind: u32,
     value: u64,
 ) -> u32
-    ensures goes_on { (s : Standing) → IsWalking s → walk_code s ≡ walk.old → WalksOn s (answer_of kind value) result walk.new access.new }
-    ensures refused { ((s : Standing) → IsWalking s → walk_code s ≢ walk.old) → (result ≡ 2) × (walk.new ≡ walk.old) × (access.new ≡ access.old) }
+    ensures goes_on { (s : Standing) → IsWalking s → walk_code s ≡ walk.old
+        → WalksOn s (answer_of kind value) result walk.new access.new }
+    ensures refused { ((s : Standing) → IsWalking s → walk_code s ≢ walk.old)
+        → (result ≡ 2) × (walk.new ≡ walk.old) × (access.new ≡ access.old) }
 {
     match read(walk) {
         Some(program) => go_on(program, walk, access, answer(kind, value)),

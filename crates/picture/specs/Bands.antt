@@ -1,5 +1,6 @@
 -- Which mutexes have bands: all of them, or where there are more than fit those that the trace uses first.
-use Rattle.std.specs.Prelude.{ℕ, zero, suc, ◌+◌, ◌==◌, ◌||◌, nat_le, Bool, false, Option, Some, None, List, [], ◌∷◌, slice_index_or, slice_set, if◌then◌else◌}
+use Rattle.std.specs.Prelude.{ℕ, zero, suc, ◌+◌, ◌==◌, ◌||◌, nat_le, Bool, false, Option, Some}
+use Rattle.std.specs.Prelude.{None, List, [], ◌∷◌, slice_index_or, slice_set, if◌then◌else◌}
 use Rattle.posixmutex.specs.declared.point.Decision.{Decision}
 use Rattle.facts.specs.declared.fact.Line.{Line}
 use Rattle.facts.specs.Facts.{decision_of}

@@ -16,7 +16,11 @@ lanes_of threads = min threads 64
 
 -- what a picture has, in which there is room for so many bands
 abbrev pub extent_in : ℕ → Called → ℕ → ℕ → List Line → Extent
-extent_in room n threads mutexes ls = record { threads = lanes_of threads; letters = letters_of (least_letters (shown room mutexes ls)) n; bands = shown room mutexes ls }
+extent_in room n threads mutexes ls = record {
+  threads = lanes_of threads;
+  letters = letters_of (least_letters (shown room mutexes ls)) n;
+  bands = shown room mutexes ls;
+}
 
 abbrev pub text_extent : Called → ℕ → ℕ → List Line → Extent
 text_extent n threads mutexes ls = extent_in (band_room (lanes_of threads)) n threads mutexes ls
@@ -24,7 +28,8 @@ text_extent n threads mutexes ls = extent_in (band_room (lanes_of threads)) n th
 -- each line is one row, in the order of the trace
 abbrev pub rows_text : Called → Extent → Scene → List Line → List ℕ
 rows_text n x s [] = []
-rows_text n x s (l ∷ ls) = row_text n x (behind x.bands s l (l ∷ ls)) l ++ rows_text n x (behind x.bands s l (l ∷ ls)) ls
+rows_text n x s (l ∷ ls) =
+    row_text n x (behind x.bands s l (l ∷ ls)) l ++ rows_text n x (behind x.bands s l (l ∷ ls)) ls
 
 -- the heads, the rows and the number of events
 abbrev pub drawn_with : Called → Extent → List Line → ℕ → List ℕ

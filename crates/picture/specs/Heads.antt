@@ -1,5 +1,6 @@
 -- The rows above all lanes: what stands in which column.
-use Rattle.std.specs.Prelude.{ℕ, ◌+◌, ◌-◌, ◌*◌, ◌/◌, ◌%◌, ◌==◌, nat_lt, min, List, [], ◌∷◌, ◌++◌, length, codes, decimal, slice_index_or, if◌then◌else◌}
+use Rattle.std.specs.Prelude.{ℕ, ◌+◌, ◌-◌, ◌*◌, ◌/◌, ◌%◌, ◌==◌, nat_lt, min, List, [], ◌∷◌}
+use Rattle.std.specs.Prelude.{◌++◌, length, codes, decimal, slice_index_or, if◌then◌else◌}
 use Rattle.std.specs.Char.{encode_utf8}
 use Rattle.std.specs.List.{repeat}
 use Rattle.picture.specs.declared.bands.Extent.{Extent}
@@ -73,4 +74,5 @@ abbrev pub narrow_heads : Called → Extent → List ℕ
 narrow_heads n x = if length n.threads == 0 then numbers_down x else letters_down n x (rows_of n)
 
 abbrev pub heads : Called → Extent → List ℕ
-heads n x = codes " event  " ++ (band_heads n x ++ ((if is_wide x then lane_heads n x else narrow_heads n x) ++ codes "\n"))
+heads n x =
+    codes " event  " ++ (band_heads n x ++ ((if is_wide x then lane_heads n x else narrow_heads n x) ++ codes "\n"))

@@ -4,4 +4,8 @@ use Rattle.picture.specs.Names.{Called}
 use Rattle.picture.specs.declared.names.Names.TheInside.{Inside}
 
 abbrev pub contents : Inside → Called
-contents n = record { threads = map string_bytes n.threads.items; mutexes = map string_bytes n.mutexes.items; conditions = map string_bytes n.conditions.items }
+contents n = record {
+  threads = map string_bytes n.threads.items;
+  mutexes = map string_bytes n.mutexes.items;
+  conditions = map string_bytes n.conditions.items;
+}

@@ -1,5 +1,7 @@
 -- What holds of every picture.
-use Rattle.std.specs.Prelude.{All, Any, IsSomeAnd, Some, None, ℕ, ◌≡◌, ◌≢◌, ◌≤◌, ◌<◌, ◌+◌, ◌-◌, ◌*◌, ◌/◌, ◌^◌, ◌==◌, nat_lt, Bool, true, false, List, [], ◌∷◌, ◌++◌, length, codes, decimal, slice_index_or, IfSome, if◌then◌else◌}
+use Rattle.std.specs.Prelude.{All, Any, IsSomeAnd, Some, None, ℕ, ◌≡◌, ◌≢◌, ◌≤◌, ◌<◌, ◌+◌, ◌-◌}
+use Rattle.std.specs.Prelude.{◌*◌, ◌/◌, ◌^◌, ◌==◌, nat_lt, Bool, true, false, List, [], ◌∷◌, ◌++◌}
+use Rattle.std.specs.Prelude.{length, codes, decimal, slice_index_or, IfSome, if◌then◌else◌}
 use Rattle.std.specs.List.{concat}
 use Rattle.posixmutex.specs.Objects.{fresh}
 use Rattle.facts.specs.declared.fact.Line.{Line}
@@ -50,7 +52,8 @@ pub record StandsInItsLane (n : Called) (x : Extent) (s : Scene) (l : Line) : Ty
 -- so it is of every line of one of a picture's threads, whatever all lanes and bands show, and whatever things are
 -- called
 abbrev pub MarksStandInTheirLanes : Type 0
-MarksStandInTheirLanes = (n : Called) (x : Extent) (s : Scene) (l : Line) → 1 ≤ thread_of l.fact → thread_of l.fact ≤ x.threads → StandsInItsLane n x s l
+MarksStandInTheirLanes = (n : Called) (x : Extent) (s : Scene) (l : Line) → 1 ≤ thread_of l.fact
+    → thread_of l.fact ≤ x.threads → StandsInItsLane n x s l
 
 -- ---- in text: all lanes
 
@@ -81,7 +84,8 @@ pub record HasRoomForNames (n : Called) (x : Extent) : Type 0 where
 
 -- so has each that is drawn
 abbrev pub PicturesHaveRoomForNames : Type 0
-PicturesHaveRoomForNames = (room : ℕ) (n : Called) (threads mutexes : ℕ) (ls : List Line) → AreNames n → HasRoomForNames n (extent_in room n threads mutexes ls)
+PicturesHaveRoomForNames = (room : ℕ) (n : Called) (threads mutexes : ℕ) (ls : List Line) → AreNames n
+    → HasRoomForNames n (extent_in room n threads mutexes ls)
 
 -- numbers as a trace's are: an event's has at most 6 digits, those of mutexes and condition variables have 4, and an
 -- owner's 2
@@ -105,9 +109,13 @@ pub record EndsWithABlank (text : List ℕ) : Type 0 where
 
 -- so does each lane that shows something, whatever the line's words and its arrow, where there is room for the names
 pub record ShownLanesStandInTheirColumns : Type 0 where
-  pub lanes : (n : Called) (x : Extent) (s : Scene) (l : Line) → AreNames n → HasRoomForNames n x → HasNumbersOfATrace s l → 1 ≤ thread_of l.fact → thread_of l.fact ≤ x.threads → (u : ℕ) → 1 ≤ u → u ≤ x.threads → Shows n x s l u → StandsInItsColumns n x s l u
-  pub bands : (n : Called) (x : Extent) (s : Scene) (l : Line) → AreNames n → HasRoomForNames n x → HasNumbersOfATrace s l → (i : ℕ) → EndsWithABlank (band_at n x s.objects i)
-  pub heads : (n : Called) (x : Extent) → AreNames n → HasRoomForNames n x → (i : ℕ) → i < x.bands.count → mutex_at x.bands i < 10 ^ 4 → EndsWithABlank (band_head n x i)
+  pub lanes : (n : Called) (x : Extent) (s : Scene) (l : Line) → AreNames n → HasRoomForNames n x
+      → HasNumbersOfATrace s l → 1 ≤ thread_of l.fact → thread_of l.fact ≤ x.threads → (u : ℕ) → 1 ≤ u → u ≤ x.threads
+      → Shows n x s l u → StandsInItsColumns n x s l u
+  pub bands : (n : Called) (x : Extent) (s : Scene) (l : Line) → AreNames n → HasRoomForNames n x
+      → HasNumbersOfATrace s l → (i : ℕ) → EndsWithABlank (band_at n x s.objects i)
+  pub heads : (n : Called) (x : Extent) → AreNames n → HasRoomForNames n x → (i : ℕ) → i < x.bands.count
+      → mutex_at x.bands i < 10 ^ 4 → EndsWithABlank (band_head n x i)
 
 -- ---- in SVG
 
@@ -132,7 +140,10 @@ pub record IsDrawnSo (n : Called) (x : Extent) (s : Scene) (l : Line) (k : ℕ) 
   pub mark : List ℕ
   pub above : Bool
   pub whole : line_marks n x s l k
-      ≡ (codes "<text class=\"n\" x=\"" ++ (decimal number_x ++ (codes "\" y=\"" ++ (decimal (row_y k + 4) ++ (codes "\">" ++ (decimal l.event ++ codes "</text>"))))))
+      ≡
+      (codes "<text class=\"n\" x=\""
+      ++ (decimal number_x
+      ++ (codes "\" y=\"" ++ (decimal (row_y k + 4) ++ (codes "\">" ++ (decimal l.event ++ codes "</text>"))))))
       ++ (mark
       ++ ((codes "<text class=\"t\" x=\"" ++ (decimal (words_x (lane_x x (thread_of l.fact))) ++ (codes "\" y=\"" ++ (decimal (words_y k above) ++ codes "\">"))))
       ++ (concat (words_at n s l) ++ codes "</text>\n")))
@@ -150,7 +161,9 @@ mentions word (c ∷ cs) = if begins_with word (c ∷ cs) then true else mention
 -- all texts are of one font, whose letters are equally wide, at 11 pixels. The numbers of events end where they stand,
 -- the names of bands and lanes have their middle there, and all other texts begin there
 pub record HasOneFont : Type 0 where
-  pub first : style ≡ codes "<style>text{font:11px monospace}.n{text-anchor:end;fill:#777}.h{text-anchor:middle;font-weight:bold}" ++ shapes_style
+  pub first : style
+      ≡ codes "<style>text{font:11px monospace}.n{text-anchor:end;fill:#777}.h{text-anchor:middle;font-weight:bold}"
+      ++ shapes_style
   pub fonts : mentions (codes "font") shapes_style ≡ false
   pub anchors : mentions (codes "text-anchor") shapes_style ≡ false
 
@@ -159,9 +172,14 @@ pub record HasOneFont : Type 0 where
 pub record TextsHaveRoom : Type 0 where
   pub font : HasOneFont
   pub drawn : (n : Called) (x : Extent) (s : Scene) (l : Line) (k : ℕ) → IsDrawnSo n x s l k
-  pub lines : (n : Called) (x : Extent) (s : Scene) (l : Line) → AreNames n → HasRoomForNames n x → HasNumbersOfATrace s l → 1 ≤ thread_of l.fact → thread_of l.fact ≤ x.threads → HasRoom n x s l
-  pub bands : (n : Called) (x : Extent) → AreNames n → HasRoomForNames n x → (i : ℕ) → i < x.bands.count → mutex_at x.bands i < 10 ^ 4 → band_x x i + pixels (length (mutex_head n (mutex_at x.bands i) ++ mutex_tail n (mutex_at x.bands i))) < band_x x (i + 1)
-  pub lanes : (n : Called) (x : Extent) → AreNames n → HasRoomForNames n x → (u : ℕ) → 1 ≤ u → u < 10 ^ 2 → lane_x x u + pixels (length (thread_head n u ++ thread_tail n u)) < lane_x x (u + 1)
+  pub lines : (n : Called) (x : Extent) (s : Scene) (l : Line) → AreNames n → HasRoomForNames n x
+      → HasNumbersOfATrace s l → 1 ≤ thread_of l.fact → thread_of l.fact ≤ x.threads → HasRoom n x s l
+  pub bands : (n : Called) (x : Extent) → AreNames n → HasRoomForNames n x → (i : ℕ) → i < x.bands.count
+      → mutex_at x.bands i < 10 ^ 4
+      → band_x x i + pixels (length (mutex_head n (mutex_at x.bands i) ++ mutex_tail n (mutex_at x.bands i)))
+      < band_x x (i + 1)
+  pub lanes : (n : Called) (x : Extent) → AreNames n → HasRoomForNames n x → (u : ℕ) → 1 ≤ u → u < 10 ^ 2
+      → lane_x x u + pixels (length (thread_head n u ++ thread_tail n u)) < lane_x x (u + 1)
 
 -- ---- bands
 
@@ -179,4 +197,5 @@ pub record AreShown (room mutexes : ℕ) (ls : List Line) (b : Bands) : Type 0 w
   pub full : room < mutexes → (m : ℕ) → Any (Uses m) ls → band_of b m ≡ None → b.count ≡ room
 
 abbrev pub UsedMutexesHaveBands : Type 0
-UsedMutexesHaveBands = (room mutexes : ℕ) (ls : List Line) → room ≤ 16 → AreShown room mutexes ls (shown room mutexes ls)
+UsedMutexesHaveBands =
+    (room mutexes : ℕ) (ls : List Line) → room ≤ 16 → AreShown room mutexes ls (shown room mutexes ls)

@@ -1,5 +1,6 @@
 -- What things are called in a picture.
-use Rattle.std.specs.Prelude.{ℕ, ◌-◌, max, min, nat_lt, List, [], ◌∷◌, length, codes, decimal, slice_index_or, if◌then◌else◌}
+use Rattle.std.specs.Prelude.{ℕ, ◌-◌, max, min, nat_lt, List, [], ◌∷◌, length}
+use Rattle.std.specs.Prelude.{codes, decimal, slice_index_or, if◌then◌else◌}
 
 -- the names of threads, mutexes and condition variables, in the order of their numbers; what comes behind the last one
 -- has none

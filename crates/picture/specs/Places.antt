@@ -13,7 +13,10 @@ name_room x = 8 * x.letters + 8
 -- how far a lane is from the next one: the more lanes, the nearer; up to five have room for the words of each line, all
 -- of them for their names
 abbrev pub apart : Extent → ℕ
-apart x = if nat_le x.threads 5 then words_room x else max (if nat_le x.threads 8 then 120 else (if nat_le x.threads 16 then 60 else 30)) (name_room x)
+apart x =
+    if nat_le x.threads 5
+    then words_room x
+    else max (if nat_le x.threads 8 then 120 else (if nat_le x.threads 16 then 60 else 30)) (name_room x)
 
 -- how far lane u is from lane 1
 abbrev pub along : Extent → ℕ → ℕ

@@ -1,10 +1,12 @@
 -- The rows of a picture in text, from their left to their right.
-use Rattle.std.specs.Prelude.{ℕ, ◌+◌, ◌-◌, ◌/◌, ◌%◌, ◌==◌, ◌&&◌, nat_lt, nat_le, min, max, not, Bool, false, Option, Some, None, List, [], ◌∷◌, ◌++◌, length, codes, decimal, if◌then◌else◌}
+use Rattle.std.specs.Prelude.{ℕ, ◌+◌, ◌-◌, ◌/◌, ◌%◌, ◌==◌, ◌&&◌, nat_lt, nat_le, min, max, not, Bool, false}
+use Rattle.std.specs.Prelude.{Option, Some, None, List, [], ◌∷◌, ◌++◌, length, codes, decimal, if◌then◌else◌}
 use Rattle.std.specs.List.{concat, repeat}
 use Rattle.posixmutex.specs.declared.object.Object.{Object}
 use Rattle.posixmutex.specs.Objects.{fresh}
 use Rattle.facts.specs.declared.fact.Fact.{Fact}
-use Rattle.facts.specs.declared.fact.Fact.TheVariants.{Begin, Point, Death, Sleep, Wake, Move, Return, Kill, Reap, Renew}
+use Rattle.facts.specs.declared.fact.Fact.TheVariants.{Begin, Point, Death, Sleep, Wake}
+use Rattle.facts.specs.declared.fact.Fact.TheVariants.{Move, Return, Kill, Reap, Renew}
 use Rattle.facts.specs.declared.fact.Line.{Line}
 use Rattle.facts.specs.Facts.{is_passive, thread_of}
 use Rattle.std.specs.Prelude.{slice_index_or}
@@ -90,14 +92,16 @@ beside x t from ws u = if is_covered x t from ws u then part.Covered else part.S
 -- an arrow takes all lanes between both ends
 abbrev pub in_arrow : Option ℕ → ℕ → ℕ → Part → Part
 in_arrow None t u other = other
-in_arrow (Some a) t u other = if u == a then part.Origin else (if nat_lt (min t a) u && nat_lt u (max t a) then part.Arrow else other)
+in_arrow (Some a) t u other =
+    if u == a then part.Origin else (if nat_lt (min t a) u && nat_lt u (max t a) then part.Arrow else other)
 
 -- what stands in lane u at the row of a line of thread t
 abbrev pub part_of : Extent → ℕ → Option ℕ → List (List ℕ) → ℕ → Part
 part_of x t from ws u = if u == t then part.Mark else in_arrow from t u (beside x t from ws u)
 
 abbrev pub origin : Extent → ℕ → Option ℕ → ℕ → List ℕ
-origin x t from u = if is_from_right t from then to_left ++ repeat (gap x u) (codes " ") else to_right ++ repeat (width x - 1) dash
+origin x t from u =
+    if is_from_right t from then to_left ++ repeat (gap x u) (codes " ") else to_right ++ repeat (width x - 1) dash
 
 -- a lane that goes on to show what it showed
 abbrev pub stays_so : Extent → Lane → ℕ → List ℕ
@@ -122,7 +126,8 @@ cells x t from s ws lanes = each (cell_at x t from s ws lanes) x.threads
 
 -- where lanes have no room for words, these stand behind all lanes
 abbrev pub tail : Called → Extent → ℕ → List (List ℕ) → List ℕ
-tail n x t ws = if is_wide x then [] else concat (codes "  " ∷ thread_head n t ∷ thread_tail n t ∷ codes " " ∷ []) ++ concat ws
+tail n x t ws =
+    if is_wide x then [] else concat (codes "  " ∷ thread_head n t ∷ thread_tail n t ∷ codes " " ∷ []) ++ concat ws
 
 -- ---- a band
 
@@ -155,7 +160,8 @@ from_at s l = arrow_from s.actor l.fact
 
 -- the row of a line of this event, with its thread, where its arrow comes from, its sign and its words
 abbrev pub row_of : Called → Extent → Scene → ℕ → ℕ → Option ℕ → List ℕ → List (List ℕ) → List ℕ
-row_of n x s event t from mark ws = event_text event ++ (bands_text n x s.objects ++ (cells x t from mark ws s.lanes ++ (tail n x t ws ++ codes "\n")))
+row_of n x s event t from mark ws =
+    event_text event ++ (bands_text n x s.objects ++ (cells x t from mark ws s.lanes ++ (tail n x t ws ++ codes "\n")))
 
 -- the row of a line, behind which all lanes and bands show this
 abbrev pub row_text : Called → Extent → Scene → Line → List ℕ

@@ -1,5 +1,6 @@
 -- What all lanes and bands show, line after line.
-use Rattle.std.specs.Prelude.{ℕ, ◌==◌, Option, Some, None, List, [], ◌∷◌, replicate, slice_index_or, slice_set, if◌then◌else◌}
+use Rattle.std.specs.Prelude.{ℕ, ◌==◌, Option, Some, None, List, [], ◌∷◌}
+use Rattle.std.specs.Prelude.{replicate, slice_index_or, slice_set, if◌then◌else◌}
 use Rattle.posixmutex.specs.declared.object.Object.{Object}
 use Rattle.posixmutex.specs.declared.point.Decision.{Decision}
 use Rattle.posixmutex.specs.Objects.{fresh, stepped}
@@ -38,7 +39,8 @@ objects_behind b os (Some d) = object_behind os d (band_of b d.mutex)
 -- another; a trace needn't tell
 abbrev pub actor_of : ℕ → List Line → Option ℕ
 actor_of i [] = None
-actor_of i (l ∷ ls) = if l.event == i then (if is_passive l.fact then actor_of i ls else Some (thread_of l.fact)) else None
+actor_of i (l ∷ ls) =
+    if l.event == i then (if is_passive l.fact then actor_of i ls else Some (thread_of l.fact)) else None
 
 abbrev pub first_scene : Scene
 first_scene = record { lanes = replicate 65 Idle; objects = replicate most_bands fresh; event = 0; actor = None }

@@ -1,5 +1,6 @@
 -- The shapes of an SVG picture.
-use Rattle.std.specs.Prelude.{ℕ, ◌+◌, ◌-◌, nat_lt, Bool, Option, Some, None, List, [], ◌∷◌, ◌++◌, codes, decimal, if◌then◌else◌}
+use Rattle.std.specs.Prelude.{ℕ, ◌+◌, ◌-◌, nat_lt, Bool, Option, Some, None, List}
+use Rattle.std.specs.Prelude.{[], ◌∷◌, ◌++◌, codes, decimal, if◌then◌else◌}
 use Rattle.std.specs.List.{concat}
 use Rattle.posixmutex.specs.declared.object.Object.{Object}
 use Rattle.facts.specs.declared.fact.Fact.{Fact}
@@ -13,7 +14,9 @@ use Rattle.picture.specs.Places.{band_middle, band_wide, band_x, number_x, row_y
 -- ---- what lanes and bands show, from one line to another one
 
 abbrev pub rectangle : List ℕ → ℕ → ℕ → ℕ → ℕ → List ℕ
-rectangle class left top width height = concat (codes "<rect class=\"" ∷ class ∷ codes "\" x=\"" ∷ decimal left ∷ codes "\" y=\"" ∷ decimal top ∷ codes "\" width=\"" ∷ decimal width ∷ codes "\" height=\"" ∷ decimal height ∷ codes "\"/>\n" ∷ [])
+rectangle class left top width height = concat
+    (codes "<rect class=\"" ∷ class ∷ codes "\" x=\"" ∷ decimal left ∷ codes "\" y=\"" ∷ decimal top
+    ∷ codes "\" width=\"" ∷ decimal width ∷ codes "\" height=\"" ∷ decimal height ∷ codes "\"/>\n" ∷ [])
 
 -- a call, sleep in it, and the time from a kill to the end of the walk
 abbrev pub lane_class : Lane → Option (List ℕ)
@@ -33,7 +36,8 @@ lane_shape l middle from to = lane_box (lane_class l) middle from to
 -- that is lost
 abbrev pub owned_class : Option ℕ → Bool → Bool → Option (List ℕ)
 owned_class (Some t) inconsistent unusable = if inconsistent then Some (codes "i") else Some (codes "o")
-owned_class None inconsistent unusable = if unusable then Some (codes "u") else (if inconsistent then Some (codes "w") else None)
+owned_class None inconsistent unusable =
+    if unusable then Some (codes "u") else (if inconsistent then Some (codes "w") else None)
 
 abbrev pub band_class : Object → Option (List ℕ)
 band_class o = owned_class o.owner o.inconsistent o.unusable
@@ -53,7 +57,8 @@ owner_of n None middle top = []
 owner_of n (Some t) middle top = owner_label n t middle top
 
 abbrev pub stretch : Called → Extent → List ℕ → Option ℕ → ℕ → ℕ → ℕ → List ℕ
-stretch n x class owner i from to = rectangle class (band_x x i) (row_y from - 9) (band_wide x) (row_y to - row_y from) ++ owner_of n owner (band_x x i + band_middle x) (row_y from)
+stretch n x class owner i from to = rectangle class (band_x x i) (row_y from - 9) (band_wide x) (row_y to - row_y from)
+    ++ owner_of n owner (band_x x i + band_middle x) (row_y from)
 
 abbrev pub band_box : Called → Extent → Option (List ℕ) → Option ℕ → ℕ → ℕ → ℕ → List ℕ
 band_box n x None owner i from to = []
@@ -90,15 +95,21 @@ mark_path (fact.Wake t) = codes "m-4 0a4 4 0 1 0 8 0a4 4 0 1 0-8 0"
 mark_path (fact.Move t m) = codes "m-4 0a4 4 0 1 0 8 0a4 4 0 1 0-8 0"
 
 abbrev pub mark_shape : Fact → ℕ → ℕ → List ℕ
-mark_shape f middle k = concat (codes "<path class=\"" ∷ mark_class f ∷ codes "\" d=\"M" ∷ decimal middle ∷ codes " " ∷ decimal (row_y k) ∷ mark_path f ∷ codes "\"/>" ∷ [])
+mark_shape f middle k = concat
+    (codes "<path class=\"" ∷ mark_class f ∷ codes "\" d=\"M" ∷ decimal middle ∷ codes " " ∷ decimal (row_y k)
+    ∷ mark_path f ∷ codes "\"/>" ∷ [])
 
 abbrev pub arrow_shape : ℕ → ℕ → ℕ → List ℕ
-arrow_shape from to k = concat (codes "<path class=\"a\" d=\"M" ∷ decimal from ∷ codes " " ∷ decimal (row_y k) ∷ codes "H" ∷ decimal (if nat_lt from to then to - 6 else to + 6) ∷ codes "\"/>" ∷ [])
+arrow_shape from to k = concat
+    (codes "<path class=\"a\" d=\"M" ∷ decimal from ∷ codes " " ∷ decimal (row_y k) ∷ codes "H"
+    ∷ decimal (if nat_lt from to then to - 6 else to + 6) ∷ codes "\"/>" ∷ [])
 
 -- ---- a line's texts
 
 abbrev pub number_label : ℕ → ℕ → List ℕ
-number_label i k = concat (codes "<text class=\"n\" x=\"" ∷ decimal number_x ∷ codes "\" y=\"" ∷ decimal (row_y k + 4) ∷ codes "\">" ∷ decimal i ∷ codes "</text>" ∷ [])
+number_label i k = concat
+    (codes "<text class=\"n\" x=\"" ∷ decimal number_x ∷ codes "\" y=\"" ∷ decimal (row_y k + 4) ∷ codes "\">"
+    ∷ decimal i ∷ codes "</text>" ∷ [])
 
 -- beside the mark; above an arrow from the right
 abbrev pub words_y : ℕ → Bool → ℕ
@@ -108,4 +119,5 @@ abbrev pub words_at_pixel : List ℕ → List ℕ → List ℕ
 words_at_pixel left y = concat (codes "<text class=\"t\" x=\"" ∷ left ∷ codes "\" y=\"" ∷ y ∷ codes "\">" ∷ [])
 
 abbrev pub words_label : List (List ℕ) → ℕ → ℕ → Bool → List ℕ
-words_label ws middle k above = words_at_pixel (decimal (words_x middle)) (decimal (words_y k above)) ++ (concat ws ++ codes "</text>\n")
+words_label ws middle k above =
+    words_at_pixel (decimal (words_x middle)) (decimal (words_y k above)) ++ (concat ws ++ codes "</text>\n")

@@ -1,6 +1,7 @@
 -- An SVG picture: time runs downwards. Below stands what lanes and bands show from line to line, over it the marks of
 -- all lines.
-use Rattle.std.specs.Prelude.{ℕ, ◌+◌, Bool, true, false, Option, Some, None, List, [], ◌∷◌, ◌++◌, length, codes, decimal, replicate, slice_index_or, slice_set, if◌then◌else◌}
+use Rattle.std.specs.Prelude.{ℕ, ◌+◌, Bool, true, false, Option, Some, None, List, [], ◌∷◌, ◌++◌, length}
+use Rattle.std.specs.Prelude.{codes, decimal, replicate, slice_index_or, slice_set, if◌then◌else◌}
 use Rattle.std.specs.List.{concat}
 use Rattle.posixmutex.specs.declared.object.Object.{Object}
 use Rattle.posixmutex.specs.declared.point.Decision.{Decision}
@@ -95,7 +96,8 @@ rests n x s since k = lane_rests x s.lanes since.lanes k ++ band_rests n x s.obj
 -- the lines from line k on
 abbrev pub parts : Called → Extent → Scene → Since → ℕ → List Line → List ℕ
 parts n x s since k [] = rests n x s since k
-parts n x s since k (l ∷ ls) = line_parts n x s since l.fact k ++ parts n x (behind x.bands s l (l ∷ ls)) (begins_at x.bands since l.fact k) (k + 1) ls
+parts n x s since k (l ∷ ls) = line_parts n x s since l.fact k
+    ++ parts n x (behind x.bands s l (l ∷ ls)) (begins_at x.bands since l.fact k) (k + 1) ls
 
 -- ---- the lines' marks
 
@@ -116,22 +118,26 @@ line_marks n x s l k = marks_of x l.fact l.event (from_at s l) (words_at n s l) 
 
 abbrev pub marks : Called → Extent → Scene → ℕ → List Line → List ℕ
 marks n x s k [] = []
-marks n x s k (l ∷ ls) = line_marks n x (behind x.bands s l (l ∷ ls)) l k ++ marks n x (behind x.bands s l (l ∷ ls)) (k + 1) ls
+marks n x s k (l ∷ ls) =
+    line_marks n x (behind x.bands s l (l ∷ ls)) l k ++ marks n x (behind x.bands s l (l ∷ ls)) (k + 1) ls
 
 -- ---- heads and foot
 
 abbrev pub svg_band : Called → Extent → ℕ → List ℕ
-svg_band n x i = name_label (mutex_head n (mutex_at x.bands i)) (mutex_tail n (mutex_at x.bands i)) (band_x x i + band_middle x) 20 ++ codes "\n"
+svg_band n x i = name_label (mutex_head n (mutex_at x.bands i)) (mutex_tail n (mutex_at x.bands i))
+    (band_x x i + band_middle x) 20 ++ codes "\n"
 
 abbrev pub svg_bands : Called → Extent → List ℕ
 svg_bands n x = each (svg_band n x) x.bands.count
 
 -- the line that stands for a lane's time
 abbrev pub lane_line : List ℕ → List ℕ → List ℕ
-lane_line middle bottom = concat (codes "<path class=\"l\" d=\"M" ∷ middle ∷ codes " 28V" ∷ bottom ∷ codes "\"/>\n" ∷ [])
+lane_line middle bottom =
+    concat (codes "<path class=\"l\" d=\"M" ∷ middle ∷ codes " 28V" ∷ bottom ∷ codes "\"/>\n" ∷ [])
 
 abbrev pub svg_lane : Called → Extent → ℕ → ℕ → List ℕ
-svg_lane n x bottom u = name_label (thread_head n u) (thread_tail n u) (lane_x x u) 20 ++ lane_line (decimal (lane_x x u)) (decimal bottom)
+svg_lane n x bottom u =
+    name_label (thread_head n u) (thread_tail n u) (lane_x x u) 20 ++ lane_line (decimal (lane_x x u)) (decimal bottom)
 
 -- the lane behind i others
 abbrev pub svg_lane_behind : Called → Extent → ℕ → ℕ → List ℕ
@@ -141,7 +147,9 @@ abbrev pub svg_lanes : Called → Extent → ℕ → List ℕ
 svg_lanes n x bottom = each (svg_lane_behind n x bottom) x.threads
 
 abbrev pub svg_tag : List ℕ → List ℕ → List ℕ → List ℕ
-svg_tag wide high shown = concat (codes "<svg xmlns=\"http://www.w3.org/2000/svg\" width=\"" ∷ wide ∷ codes "\" height=\"" ∷ high ∷ codes "\" viewBox=\"0 0 " ∷ wide ∷ codes " " ∷ high ∷ codes "\">\n" ∷ shown ∷ [])
+svg_tag wide high shown = concat
+    (codes "<svg xmlns=\"http://www.w3.org/2000/svg\" width=\"" ∷ wide ∷ codes "\" height=\"" ∷ high
+    ∷ codes "\" viewBox=\"0 0 " ∷ wide ∷ codes " " ∷ high ∷ codes "\">\n" ∷ shown ∷ [])
 
 -- how wide and how high a picture is
 abbrev pub svg_width : Extent → ℕ
@@ -157,12 +165,15 @@ abbrev pub svg_heads : Called → Extent → ℕ → List ℕ
 svg_heads n x lines = svg_open x lines ++ (svg_bands n x ++ svg_lanes n x (row_y lines + 18))
 
 abbrev pub foot_text : ℕ → ℕ → List ℕ
-foot_text last lines = concat (codes "<text class=\"n\" x=\"48\" y=\"" ∷ decimal (row_y lines + 22) ∷ codes "\">" ∷ decimal last ∷ codes "</text><text x=\"54\" y=\"" ∷ decimal (row_y lines + 22) ∷ codes "\">end</text>\n</svg>\n" ∷ [])
+foot_text last lines = concat
+    (codes "<text class=\"n\" x=\"48\" y=\"" ∷ decimal (row_y lines + 22) ∷ codes "\">" ∷ decimal last
+    ∷ codes "</text><text x=\"54\" y=\"" ∷ decimal (row_y lines + 22) ∷ codes "\">end</text>\n</svg>\n" ∷ [])
 
 -- ---- all of it
 
 abbrev pub svg_with : Called → Extent → List Line → ℕ → List ℕ
-svg_with n x ls last = svg_heads n x (length ls) ++ (parts n x first_scene first_since 1 ls ++ (marks n x first_scene 1 ls ++ foot_text last (length ls)))
+svg_with n x ls last = svg_heads n x (length ls)
+    ++ (parts n x first_scene first_since 1 ls ++ (marks n x first_scene 1 ls ++ foot_text last (length ls)))
 
 abbrev pub svg_drawn : Called → ℕ → ℕ → List Line → ℕ → List ℕ
 svg_drawn n threads mutexes ls last = svg_with n (svg_extent n threads mutexes ls) ls last

@@ -8,7 +8,8 @@ use Rattle.posixmutex.specs.Words.{operation_word}
 use Rattle.facts.specs.declared.fact.Queue.{Queue}
 use Rattle.facts.specs.declared.fact.Queue.TheVariants.{Mutex, Condition}
 use Rattle.facts.specs.declared.fact.Fact.{Fact}
-use Rattle.facts.specs.declared.fact.Fact.TheVariants.{Begin, Point, Death, Sleep, Wake, Move, Return, Kill, Reap, Renew}
+use Rattle.facts.specs.declared.fact.Fact.TheVariants.{Begin, Point, Death, Sleep, Wake}
+use Rattle.facts.specs.declared.fact.Fact.TheVariants.{Move, Return, Kill, Reap, Renew}
 use Rattle.picture.specs.declared.lane.Lane.{Lane}
 use Rattle.picture.specs.Lanes.{called}
 use Rattle.picture.specs.Names.{Called, condition_head, condition_tail, mutex_head, mutex_tail}
@@ -41,7 +42,8 @@ second_number f = 0
 -- a call begins: OP MUTEX, or OP CONDITION MUTEX on a condition variable
 abbrev pub begin_words : Called → Option ℕ → Operation → ℕ → List (List ℕ)
 begin_words n None op m = operation_word op ∷ codes " " ∷ mutex_head n m ∷ mutex_tail n m ∷ [] ∷ [] ∷ [] ∷ []
-begin_words n (Some k) op m = operation_word op ∷ codes " " ∷ condition_head n k ∷ condition_tail n k ∷ codes " " ∷ mutex_head n m ∷ mutex_tail n m ∷ []
+begin_words n (Some k) op m = operation_word op ∷ codes " " ∷ condition_head n k ∷ condition_tail n k ∷ codes " "
+    ∷ mutex_head n m ∷ mutex_tail n m ∷ []
 
 -- whether an operation isn't that of the call
 abbrev pub differs : Option Operation → Operation → Bool
@@ -51,7 +53,8 @@ differs (Some call) op = not (bytes_eq (operation_word call) (operation_word op)
 -- a point: MUTEX REPLY, and the operation between them where it isn't the call's
 abbrev pub point_words : Called → Option Operation → Decision → List (List ℕ)
 point_words n call d = if differs call d.operation
-    then mutex_head n d.mutex ∷ mutex_tail n d.mutex ∷ codes " " ∷ operation_word d.operation ∷ codes " " ∷ reply_word d.reply ∷ [] ∷ []
+    then mutex_head n d.mutex ∷ mutex_tail n d.mutex ∷ codes " " ∷ operation_word d.operation ∷ codes " "
+    ∷ reply_word d.reply ∷ [] ∷ []
     else mutex_head n d.mutex ∷ mutex_tail n d.mutex ∷ codes " " ∷ [] ∷ [] ∷ reply_word d.reply ∷ [] ∷ []
 
 -- on a mutex, or on a condition variable

@@ -1,7 +1,8 @@
 //! Which mutexes have bands, and what else a picture has.
 
 ghost use Rattle.std.specs.Prelude.{◌≡◌, ◌≤◌, ◌<◌, IfSome};
-ghost use Rattle.picture.specs.Bands.{band_of, first_bands, has_long, least_letters, one_more, shown, with_decision, with_mutex};
+ghost use Rattle.picture.specs.Bands.{band_of, first_bands, has_long, least_letters};
+ghost use Rattle.picture.specs.Bands.{one_more, shown, with_decision, with_mutex};
 ghost use Rattle.picture.specs.Drawn.{extent_in};
 
 use crate::names::Names;

@@ -68,7 +68,8 @@ fn write_row<W: Write>(
 ) -> Result<(), Unwritten>
     requires few { sheet.now.extent.threads ≤ 64 }
     requires narrow { sheet.now.extent.bands.count ≤ 16 }
-    ensures { Leaves (W.contents out.old) (W.contents out.new) result (row_text sheet.now.names.now sheet.now.extent scene.now line.now) }
+    ensures { Leaves (W.contents out.old) (W.contents out.new) result
+        (row_text sheet.now.names.now sheet.now.extent scene.now line.now) }
 {
     row.clear();
     add_row(row, sheet, scene, line)?;
@@ -83,7 +84,8 @@ fn write_rows<W: Write>(
 ) -> Result<(), Unwritten>
     requires few { sheet.now.extent.threads ≤ 64 }
     requires narrow { sheet.now.extent.bands.count ≤ 16 }
-    ensures { Leaves (W.contents out.old) (W.contents out.new) result (rows_text sheet.now.names.now sheet.now.extent first_scene lines.now) }
+    ensures { Leaves (W.contents out.old) (W.contents out.new) result
+        (rows_text sheet.now.names.now sheet.now.extent first_scene lines.now) }
 {
     let mut scene = Scene::new();
     for index in 0..lines.len() {

@@ -1,7 +1,9 @@
 //! The rows above all lanes.
 
 ghost use Rattle.std.specs.Prelude.{◌≡◌, ◌++◌, ◌≤◌, ◌<◌, string_bytes, IfOk};
-ghost use Rattle.picture.specs.Heads.{band_heads, heads, lane_heads, letter, letter_at, letters, letters_below, letters_down, name_width, narrow_heads, next_row, numbers_down, ten_sign, tens, units};
+ghost use Rattle.picture.specs.Heads.{band_heads, heads, lane_heads, letter, letter_at};
+ghost use Rattle.picture.specs.Heads.{letters, letters_below, letters_down, name_width};
+ghost use Rattle.picture.specs.Heads.{narrow_heads, next_row, numbers_down, ten_sign, tens, units};
 
 use crate::bands::{Extent, Sheet};
 use crate::layout::{EVENT, band_width, gap, is_wide, width};
@@ -11,7 +13,8 @@ use std::alloc::AllocError;
 
 fn add_band_heads(text: &mut String, sheet: &Sheet<'_>) -> Result<(), AllocError>
     requires { sheet.now.extent.bands.count ≤ 16 }
-    ensures { IfOk result (λ _. string_bytes text.new ≡ string_bytes text.old ++ band_heads sheet.now.names.now sheet.now.extent) }
+    ensures { IfOk result
+        (λ _. string_bytes text.new ≡ string_bytes text.old ++ band_heads sheet.now.names.now sheet.now.extent) }
 {
     for band in 0..sheet.extent.bands.count {
         let mut digits = Buffer::new();
@@ -37,7 +40,8 @@ fn name_width(extent: &Extent, lane: u8) -> usize
 /// The names of all lanes, side by side.
 fn add_lane_heads(text: &mut String, sheet: &Sheet<'_>) -> Result<(), AllocError>
     requires { sheet.now.extent.threads ≤ 64 }
-    ensures { IfOk result (λ _. string_bytes text.new ≡ string_bytes text.old ++ lane_heads sheet.now.names.now sheet.now.extent) }
+    ensures { IfOk result
+        (λ _. string_bytes text.new ≡ string_bytes text.old ++ lane_heads sheet.now.names.now sheet.now.extent) }
 {
     for index in 0..sheet.extent.threads {
         let mut digits = Buffer::new();
@@ -131,7 +135,9 @@ fn add_letter(
     index: u8,
 ) -> Result<(), AllocError>
     requires { index < 64 }
-    ensures { IfOk result (λ _. string_bytes text.new ≡ string_bytes text.old ++ letter sheet.now.names.now sheet.now.extent place index) }
+    ensures { IfOk result
+        (λ _. string_bytes text.new
+        ≡ string_bytes text.old ++ letter sheet.now.names.now sheet.now.extent place index) }
 {
     add_letter_at(text, sheet.names.lane(index), place)?;
     fill(text, " ", gap(&sheet.extent, index + 1))
@@ -140,7 +146,8 @@ fn add_letter(
 /// A letter of each lane's name.
 fn add_letters(text: &mut String, sheet: &Sheet<'_>, place: usize) -> Result<(), AllocError>
     requires { sheet.now.extent.threads ≤ 64 }
-    ensures { IfOk result (λ _. string_bytes text.new ≡ string_bytes text.old ++ letters sheet.now.names.now sheet.now.extent place) }
+    ensures { IfOk result
+        (λ _. string_bytes text.new ≡ string_bytes text.old ++ letters sheet.now.names.now sheet.now.extent place) }
 {
     for index in 0..sheet.extent.threads {
         add_letter(text, sheet, place, index)?;
@@ -153,7 +160,9 @@ fn add_letters_below(text: &mut String, sheet: &Sheet<'_>, place: usize) -> Resu
     requires few { sheet.now.extent.threads ≤ 64 }
     requires narrow { sheet.now.extent.bands.count ≤ 16 }
     requires few_letters { place < 64 }
-    ensures { IfOk result (λ _. string_bytes text.new ≡ string_bytes text.old ++ letters_below sheet.now.names.now sheet.now.extent place) }
+    ensures { IfOk result
+        (λ _. string_bytes text.new
+        ≡ string_bytes text.old ++ letters_below sheet.now.names.now sheet.now.extent place) }
 {
     add_next_row(text, &sheet.extent)?;
     add_letters(text, sheet, place + 1)
@@ -164,7 +173,8 @@ fn add_letters_down(text: &mut String, sheet: &Sheet<'_>, rows: usize) -> Result
     requires few { sheet.now.extent.threads ≤ 64 }
     requires narrow { sheet.now.extent.bands.count ≤ 16 }
     requires low { rows ≤ 64 }
-    ensures { IfOk result (λ _. string_bytes text.new ≡ string_bytes text.old ++ letters_down sheet.now.names.now sheet.now.extent rows) }
+    ensures { IfOk result
+        (λ _. string_bytes text.new ≡ string_bytes text.old ++ letters_down sheet.now.names.now sheet.now.extent rows) }
 {
     add_letters(text, sheet, 0)?;
     for row in 0..rows {
@@ -176,7 +186,8 @@ fn add_letters_down(text: &mut String, sheet: &Sheet<'_>, rows: usize) -> Result
 fn add_narrow_heads(text: &mut String, sheet: &Sheet<'_>) -> Result<(), AllocError>
     requires few { sheet.now.extent.threads ≤ 64 }
     requires narrow { sheet.now.extent.bands.count ≤ 16 }
-    ensures { IfOk result (λ _. string_bytes text.new ≡ string_bytes text.old ++ narrow_heads sheet.now.names.now sheet.now.extent) }
+    ensures { IfOk result
+        (λ _. string_bytes text.new ≡ string_bytes text.old ++ narrow_heads sheet.now.names.now sheet.now.extent) }
 {
     if sheet.names.threads() == 0 {
         add_numbers_down(text, &sheet.extent)
@@ -189,7 +200,8 @@ fn add_narrow_heads(text: &mut String, sheet: &Sheet<'_>) -> Result<(), AllocErr
 pub fn add_heads(text: &mut String, sheet: &Sheet<'_>) -> Result<(), AllocError>
     requires few { sheet.now.extent.threads ≤ 64 }
     requires narrow { sheet.now.extent.bands.count ≤ 16 }
-    ensures { IfOk result (λ _. string_bytes text.new ≡ string_bytes text.old ++ heads sheet.now.names.now sheet.now.extent) }
+    ensures { IfOk result
+        (λ _. string_bytes text.new ≡ string_bytes text.old ++ heads sheet.now.names.now sheet.now.extent) }
 {
     add(text, &[" event  "])?;
     add_band_heads(text, sheet)?;

@@ -1,6 +1,7 @@
 //! What holds of every picture.
 
-ghost use Rattle.picture.specs.Laws.{MarksStandInTheirLanes, PicturesHaveRoomForNames, ShownLanesStandInTheirColumns, TextsHaveRoom, UsedMutexesHaveBands};
+ghost use Rattle.picture.specs.Laws.{MarksStandInTheirLanes, PicturesHaveRoomForNames};
+ghost use Rattle.picture.specs.Laws.{ShownLanesStandInTheirColumns, TextsHaveRoom, UsedMutexesHaveBands};
 
 /// A line's mark stands in its own thread's lane, behind as many columns as the lanes before that one have, and in no
 /// other lane.

@@ -1,7 +1,9 @@
 //! What things are called in a picture.
 
 ghost use Rattle.std.specs.Prelude.{◌≡◌, ◌≤◌, [], length, map, min, slice_index_or, string_bytes};
-ghost use Rattle.picture.specs.Names.{condition_head, condition_tail, head_of, letters_of, longest_of, most_letters, mutex_head, mutex_tail, nameless, tail_of, thread_head, thread_tail};
+ghost use Rattle.picture.specs.Names.{condition_head, condition_tail, head_of, letters_of, longest_of};
+ghost use Rattle.picture.specs.Names.{most_letters, mutex_head, mutex_tail, nameless, tail_of, thread_head};
+ghost use Rattle.picture.specs.Names.{thread_tail};
 
 use itoa::Buffer;
 use std::alloc::Global;

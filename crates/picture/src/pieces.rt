@@ -40,7 +40,8 @@ pub fn room(columns: usize, pieces: &[&str]) -> usize
 
 /// Adds the pieces, and blanks up to so many columns.
 pub fn add_padded(text: &mut String, pieces: &[&str], columns: usize) -> Result<(), AllocError>
-    ensures { IfOk result (λ _. string_bytes text.new ≡ string_bytes text.old ++ padded columns (map (λ p. p.now) pieces.now)) }
+    ensures { IfOk result
+        (λ _. string_bytes text.new ≡ string_bytes text.old ++ padded columns (map (λ p. p.now) pieces.now)) }
 {
     add(text, pieces)?;
     fill(text, " ", room(columns, pieces))

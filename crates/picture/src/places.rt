@@ -1,7 +1,8 @@
 //! Where things stand in an SVG picture, in its pixels. Time runs downwards, a line of the trace after the other.
 
 ghost use Rattle.std.specs.Prelude.{◌≡◌, ◌≤◌, ◌<◌, ◌+◌, ◌*◌, ◌^◌};
-ghost use Rattle.picture.specs.Places.{along, apart, band_apart, band_middle, band_wide, band_x, lane_x, name_room, row_y, words_room, words_x};
+ghost use Rattle.picture.specs.Places.{along, apart, band_apart, band_middle, band_wide};
+ghost use Rattle.picture.specs.Places.{band_x, lane_x, name_room, row_y, words_room, words_x};
 
 use crate::bands::Extent;
 

@@ -1,7 +1,9 @@
 //! The rows of a picture in text.
 
 ghost use Rattle.std.specs.Prelude.{◌≡◌, ◌++◌, ◌≤◌, map, string_bytes, IfOk};
-ghost use Rattle.picture.specs.Rows.{arrow_end, arrow_from, arrow_sign, bands_text, blanks, cell, cells, end_text, event_text, is_covered, is_from_right, mark, narrow_mark, origin, owner_pieces, part_of, reach, row_of, row_text, sign, stays_so, tail, taken, wide_mark};
+ghost use Rattle.picture.specs.Rows.{arrow_end, arrow_from, arrow_sign, bands_text, blanks, cell, cells, end_text};
+ghost use Rattle.picture.specs.Rows.{event_text, is_covered, is_from_right, mark, narrow_mark, origin, owner_pieces};
+ghost use Rattle.picture.specs.Rows.{part_of, reach, row_of, row_text, sign, stays_so, tail, taken, wide_mark};
 
 use crate::bands::{Extent, Sheet};
 use crate::lane::Lane;
@@ -163,7 +165,10 @@ fn add_arrow_end(text: &mut String, columns: usize) -> Result<(), AllocError>
 
 /// The mark of a line, with its words.
 fn add_wide_mark(text: &mut String, row: &Row<'_>) -> Result<(), AllocError>
-    ensures { IfOk result (λ _. string_bytes text.new ≡ string_bytes text.old ++ wide_mark row.now.extent row.now.thread row.now.from row.now.sign.now (map (λ w. w.now) row.now.words.now)) }
+    ensures { IfOk result
+        (λ _. string_bytes text.new
+        ≡ string_bytes text.old
+        ++ wide_mark row.now.extent row.now.thread row.now.from row.now.sign.now (map (λ w. w.now) row.now.words.now)) }
 {
     add(text, &[row.sign, " "])?;
     add(text, row.words)?;
@@ -176,7 +181,9 @@ fn add_wide_mark(text: &mut String, row: &Row<'_>) -> Result<(), AllocError>
 
 /// The mark of a line in a lane that has no room for words.
 fn add_narrow_mark(text: &mut String, row: &Row<'_>) -> Result<(), AllocError>
-    ensures { IfOk result (λ _. string_bytes text.new ≡ string_bytes text.old ++ narrow_mark row.now.extent row.now.thread row.now.from row.now.sign.now) }
+    ensures { IfOk result
+        (λ _. string_bytes text.new
+        ≡ string_bytes text.old ++ narrow_mark row.now.extent row.now.thread row.now.from row.now.sign.now) }
 {
     add(text, &[row.sign])?;
     if is_right_of(row.thread, row.from) {
@@ -187,7 +194,10 @@ fn add_narrow_mark(text: &mut String, row: &Row<'_>) -> Result<(), AllocError>
 }
 
 fn add_mark(text: &mut String, row: &Row<'_>) -> Result<(), AllocError>
-    ensures { IfOk result (λ _. string_bytes text.new ≡ string_bytes text.old ++ mark row.now.extent row.now.thread row.now.from row.now.sign.now (map (λ w. w.now) row.now.words.now)) }
+    ensures { IfOk result
+        (λ _. string_bytes text.new
+        ≡ string_bytes text.old
+        ++ mark row.now.extent row.now.thread row.now.from row.now.sign.now (map (λ w. w.now) row.now.words.now)) }
 {
     if is_wide(&row.extent) {
         add_wide_mark(text, row)
@@ -198,7 +208,8 @@ fn add_mark(text: &mut String, row: &Row<'_>) -> Result<(), AllocError>
 
 /// Where an arrow begins in this lane.
 fn add_origin(text: &mut String, row: &Row<'_>, lane: u8) -> Result<(), AllocError>
-    ensures { IfOk result (λ _. string_bytes text.new ≡ string_bytes text.old ++ origin row.now.extent row.now.thread row.now.from lane) }
+    ensures { IfOk result
+        (λ _. string_bytes text.new ≡ string_bytes text.old ++ origin row.now.extent row.now.thread row.now.from lane) }
 {
     if is_right_of(row.thread, row.from) {
         add(text, &["┤"])?;
@@ -218,7 +229,11 @@ fn add_sign(text: &mut String, row: &Row<'_>, shown: Lane, lane: u8) -> Result<(
 
 /// What stands in a lane at a row, where the lane shows this.
 fn add_cell(text: &mut String, row: &Row<'_>, shown: Lane, lane: u8) -> Result<(), AllocError>
-    ensures { IfOk result (λ _. string_bytes text.new ≡ string_bytes text.old ++ cell row.now.extent row.now.thread row.now.from row.now.sign.now (map (λ w. w.now) row.now.words.now) shown lane) }
+    ensures { IfOk result
+        (λ _. string_bytes text.new
+        ≡ string_bytes text.old
+        ++ cell row.now.extent row.now.thread row.now.from row.now.sign.now (map (λ w. w.now) row.now.words.now) shown
+        lane) }
 {
     match part_at(row, lane) {
         Part::Stays => add_sign(text, row, shown, lane),
@@ -231,7 +246,11 @@ fn add_cell(text: &mut String, row: &Row<'_>, shown: Lane, lane: u8) -> Result<(
 
 fn add_cells(text: &mut String, row: &Row<'_>, lanes: &[Lane; 65]) -> Result<(), AllocError>
     requires { row.now.extent.threads ≤ 64 }
-    ensures { IfOk result (λ _. string_bytes text.new ≡ string_bytes text.old ++ cells row.now.extent row.now.thread row.now.from row.now.sign.now (map (λ w. w.now) row.now.words.now) lanes.now) }
+    ensures { IfOk result
+        (λ _. string_bytes text.new
+        ≡ string_bytes text.old
+        ++ cells row.now.extent row.now.thread row.now.from row.now.sign.now (map (λ w. w.now) row.now.words.now)
+        lanes.now) }
 {
     for index in 0..row.extent.threads {
         add_cell(text, row, lanes[usize::from(index) + 1], index + 1)?;
@@ -241,7 +260,9 @@ fn add_cells(text: &mut String, row: &Row<'_>, lanes: &[Lane; 65]) -> Result<(),
 
 /// The words of a line behind all lanes, where these have no room for them.
 fn add_tail(text: &mut String, names: &Names, row: &Row<'_>) -> Result<(), AllocError>
-    ensures { IfOk result (λ _. string_bytes text.new ≡ string_bytes text.old ++ tail names.now row.now.extent row.now.thread (map (λ w. w.now) row.now.words.now)) }
+    ensures { IfOk result
+        (λ _. string_bytes text.new
+        ≡ string_bytes text.old ++ tail names.now row.now.extent row.now.thread (map (λ w. w.now) row.now.words.now)) }
 {
     if is_wide(&row.extent) {
         return Ok(());
@@ -279,7 +300,8 @@ fn add_bands(
     objects: &[Object; 16],
 ) -> Result<(), AllocError>
     requires { extent.now.bands.count ≤ 16 }
-    ensures { IfOk result (λ _. string_bytes text.new ≡ string_bytes text.old ++ bands_text names.now extent.now objects.now) }
+    ensures { IfOk result
+        (λ _. string_bytes text.new ≡ string_bytes text.old ++ bands_text names.now extent.now objects.now) }
 {
     for band in 0..extent.bands.count {
         let mut digits = Buffer::new();
@@ -312,7 +334,11 @@ fn add_row_of(
 ) -> Result<(), AllocError>
     requires few { row.now.extent.threads ≤ 64 }
     requires narrow { row.now.extent.bands.count ≤ 16 }
-    ensures { IfOk result (λ _. string_bytes text.new ≡ string_bytes text.old ++ row_of names.now row.now.extent scene.now event row.now.thread row.now.from row.now.sign.now (map (λ w. w.now) row.now.words.now)) }
+    ensures { IfOk result
+        (λ _. string_bytes text.new
+        ≡ string_bytes text.old
+        ++ row_of names.now row.now.extent scene.now event row.now.thread row.now.from row.now.sign.now
+        (map (λ w. w.now) row.now.words.now)) }
 {
     add_event(text, event)?;
     add_bands(text, names, &row.extent, &scene.objects)?;
@@ -330,7 +356,9 @@ pub fn add_row(
 ) -> Result<(), AllocError>
     requires few { sheet.now.extent.threads ≤ 64 }
     requires narrow { sheet.now.extent.bands.count ≤ 16 }
-    ensures { IfOk result (λ _. string_bytes text.new ≡ string_bytes text.old ++ row_text sheet.now.names.now sheet.now.extent scene.now line.now) }
+    ensures { IfOk result
+        (λ _. string_bytes text.new
+        ≡ string_bytes text.old ++ row_text sheet.now.names.now sheet.now.extent scene.now line.now) }
 {
     let thread = line.fact.thread();
     let from = arrow_from(scene.actor, &line.fact);

@@ -1,7 +1,9 @@
 //! The shapes of an SVG picture.
 
 ghost use Rattle.std.specs.Prelude.{◌≡◌, ◌++◌, ◌≤◌, ◌<◌, ◌^◌, map, option_map, string_bytes, IfOk};
-ghost use Rattle.picture.specs.Shapes.{arrow_shape, band_class, band_shape, lane_class, lane_shape, mark_class, mark_path, mark_shape, name_label, number_label, owner_label, owner_of, rectangle, stretch, words_label, words_y};
+ghost use Rattle.picture.specs.Shapes.{arrow_shape, band_class, band_shape, lane_class, lane_shape};
+ghost use Rattle.picture.specs.Shapes.{mark_class, mark_path, mark_shape, name_label, number_label};
+ghost use Rattle.picture.specs.Shapes.{owner_label, owner_of, rectangle, stretch, words_label, words_y};
 
 use crate::bands::Sheet;
 use crate::lane::Lane;
@@ -23,7 +25,8 @@ fn add_rectangle(
     width: u32,
     height: u128,
 ) -> Result<(), AllocError>
-    ensures { IfOk result (λ _. string_bytes text.new ≡ string_bytes text.old ++ rectangle class.now left top width height) }
+    ensures { IfOk result
+        (λ _. string_bytes text.new ≡ string_bytes text.old ++ rectangle class.now left top width height) }
 {
     let mut lefts = Buffer::new();
     let mut tops = Buffer::new();
@@ -113,7 +116,9 @@ fn band_class(object: Object) -> Option<&'static str>
 
 /// The name of a thing, its middle here.
 pub fn add_name(text: &mut String, label: Label<'_>, middle: u32, y: u128) -> Result<(), AllocError>
-    ensures { IfOk result (λ _. string_bytes text.new ≡ string_bytes text.old ++ name_label label.entry.head.now label.entry.tail.now middle y) }
+    ensures { IfOk result
+        (λ _. string_bytes text.new
+        ≡ string_bytes text.old ++ name_label label.entry.head.now label.entry.tail.now middle y) }
 {
     let mut middles = Buffer::new();
     let mut rows = Buffer::new();
@@ -135,7 +140,8 @@ fn add_owner(
     top: u128,
 ) -> Result<(), AllocError>
     requires { top < 2 ^ 70 }
-    ensures { IfOk result (λ _. string_bytes text.new ≡ string_bytes text.old ++ owner_label names.now owner middle top) }
+    ensures { IfOk result
+        (λ _. string_bytes text.new ≡ string_bytes text.old ++ owner_label names.now owner middle top) }
 {
     let mut digits = Buffer::new();
     add_name(text, names.thread(owner, &mut digits), middle, top + 4)?;
@@ -170,7 +176,9 @@ fn add_stretch(
     to: usize,
 ) -> Result<(), AllocError>
     requires { band ≤ 16 }
-    ensures { IfOk result (λ _. string_bytes text.new ≡ string_bytes text.old ++ stretch sheet.now.names.now sheet.now.extent class.now owner band from to) }
+    ensures { IfOk result
+        (λ _. string_bytes text.new
+        ≡ string_bytes text.old ++ stretch sheet.now.names.now sheet.now.extent class.now owner band from to) }
 {
     let top = row_y(from);
     let height = row_y(to).saturating_sub(top);
@@ -201,7 +209,9 @@ pub fn add_band(
     to: usize,
 ) -> Result<(), AllocError>
     requires { band ≤ 16 }
-    ensures { IfOk result (λ _. string_bytes text.new ≡ string_bytes text.old ++ band_shape sheet.now.names.now sheet.now.extent object band from to) }
+    ensures { IfOk result
+        (λ _. string_bytes text.new
+        ≡ string_bytes text.old ++ band_shape sheet.now.names.now sheet.now.extent object band from to) }
 {
     let owner = object.owner;
     match band_class(object) {
@@ -322,7 +332,9 @@ pub fn add_words(
     is_above: bool,
 ) -> Result<(), AllocError>
     requires { middle < 2 ^ 20 }
-    ensures { IfOk result (λ _. string_bytes text.new ≡ string_bytes text.old ++ words_label (map (λ w. w.now) words.now) middle line is_above) }
+    ensures { IfOk result
+        (λ _. string_bytes text.new
+        ≡ string_bytes text.old ++ words_label (map (λ w. w.now) words.now) middle line is_above) }
 {
     let mut lefts = Buffer::new();
     let mut rows = Buffer::new();

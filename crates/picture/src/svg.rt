@@ -2,7 +2,10 @@
 
 ghost use Rattle.std.specs.Prelude.{◌≡◌, ◌++◌, ◌≤◌, ◌<◌, decimal, map, string_bytes, IfOk};
 ghost use Rattle.facts.specs.Facts.{decision_of};
-ghost use Rattle.picture.specs.Svg.{band_part, band_rests, begins_at, ends_lane, first_since, foot_text, lane_line, lane_part, lane_rests, line_marks, line_parts, mark_of, marks_of, rests, since_band, since_lane, svg_band, svg_bands, svg_heads, svg_lane, svg_lanes, svg_open};
+ghost use Rattle.picture.specs.Svg.{band_part, band_rests, begins_at, ends_lane, first_since, foot_text, lane_line};
+ghost use Rattle.picture.specs.Svg.{lane_part, lane_rests, line_marks, line_parts, mark_of, marks_of, rests};
+ghost use Rattle.picture.specs.Svg.{since_band, since_lane, svg_band, svg_bands, svg_heads, svg_lane, svg_lanes};
+ghost use Rattle.picture.specs.Svg.{svg_open};
 
 use crate::bands::{Bands, Extent, Sheet};
 use crate::pieces::add;
@@ -105,7 +108,8 @@ fn add_lane_part(
     line: usize,
 ) -> Result<(), AllocError>
     requires { extent.now.bands.count ≤ 16 }
-    ensures { IfOk result (λ _. string_bytes text.new ≡ string_bytes text.old ++ lane_part extent.now scene.now since.now fact.now line) }
+    ensures { IfOk result
+        (λ _. string_bytes text.new ≡ string_bytes text.old ++ lane_part extent.now scene.now since.now fact.now line) }
 {
     if !ends_lane(fact) {
         return Ok(());
@@ -130,7 +134,9 @@ fn add_band_part(
     line: usize,
 ) -> Result<(), AllocError>
     requires { sheet.now.extent.bands.count ≤ 16 }
-    ensures { IfOk result (λ _. string_bytes text.new ≡ string_bytes text.old ++ band_part sheet.now.names.now sheet.now.extent scene.now since.now decision line) }
+    ensures { IfOk result
+        (λ _. string_bytes text.new
+        ≡ string_bytes text.old ++ band_part sheet.now.names.now sheet.now.extent scene.now since.now decision line) }
 {
     let Some(decision) = decision else {
         return Ok(());
@@ -158,7 +164,9 @@ pub fn add_parts(
     line: usize,
 ) -> Result<(), AllocError>
     requires { sheet.now.extent.bands.count ≤ 16 }
-    ensures { IfOk result (λ _. string_bytes text.new ≡ string_bytes text.old ++ line_parts sheet.now.names.now sheet.now.extent scene.now since.now fact.now line) }
+    ensures { IfOk result
+        (λ _. string_bytes text.new
+        ≡ string_bytes text.old ++ line_parts sheet.now.names.now sheet.now.extent scene.now since.now fact.now line) }
 {
     add_lane_part(text, &sheet.extent, scene, since, fact, line)?;
     add_band_part(text, sheet, scene, since, fact.decision(), line)
@@ -173,7 +181,9 @@ fn add_lane_rests(
 ) -> Result<(), AllocError>
     requires few { extent.now.threads ≤ 64 }
     requires narrow { extent.now.bands.count ≤ 16 }
-    ensures { IfOk result (λ _. string_bytes text.new ≡ string_bytes text.old ++ lane_rests extent.now scene.now.lanes since.now.lanes line) }
+    ensures { IfOk result
+        (λ _. string_bytes text.new
+        ≡ string_bytes text.old ++ lane_rests extent.now scene.now.lanes since.now.lanes line) }
 {
     for index in 0..extent.threads {
         let at = usize::from(index) + 1;
@@ -196,7 +206,10 @@ fn add_band_rests(
     line: usize,
 ) -> Result<(), AllocError>
     requires { sheet.now.extent.bands.count ≤ 16 }
-    ensures { IfOk result (λ _. string_bytes text.new ≡ string_bytes text.old ++ band_rests sheet.now.names.now sheet.now.extent scene.now.objects since.now.bands line) }
+    ensures { IfOk result
+        (λ _. string_bytes text.new
+        ≡ string_bytes text.old
+        ++ band_rests sheet.now.names.now sheet.now.extent scene.now.objects since.now.bands line) }
 {
     for band in 0..sheet.extent.bands.count {
         add_band(
@@ -221,7 +234,9 @@ pub fn add_rests(
 ) -> Result<(), AllocError>
     requires few { sheet.now.extent.threads ≤ 64 }
     requires narrow { sheet.now.extent.bands.count ≤ 16 }
-    ensures { IfOk result (λ _. string_bytes text.new ≡ string_bytes text.old ++ rests sheet.now.names.now sheet.now.extent scene.now since.now line) }
+    ensures { IfOk result
+        (λ _. string_bytes text.new
+        ≡ string_bytes text.old ++ rests sheet.now.names.now sheet.now.extent scene.now since.now line) }
 {
     add_lane_rests(text, &sheet.extent, scene, since, line)?;
     add_band_rests(text, sheet, scene, since, line)
@@ -236,7 +251,8 @@ fn add_mark_of(
     line: usize,
 ) -> Result<(), AllocError>
     requires { extent.now.bands.count ≤ 16 }
-    ensures { IfOk result (λ _. string_bytes text.new ≡ string_bytes text.old ++ mark_of extent.now fact.now from line) }
+    ensures { IfOk result
+        (λ _. string_bytes text.new ≡ string_bytes text.old ++ mark_of extent.now fact.now from line) }
 {
     let middle = lane_x(extent, fact.thread().get());
     match from {
@@ -256,7 +272,9 @@ fn add_marks(
     number: usize,
 ) -> Result<(), AllocError>
     requires { extent.now.bands.count ≤ 16 }
-    ensures { IfOk result (λ _. string_bytes text.new ≡ string_bytes text.old ++ marks_of extent.now fact.now event from (map (λ w. w.now) words.now) number) }
+    ensures { IfOk result
+        (λ _. string_bytes text.new
+        ≡ string_bytes text.old ++ marks_of extent.now fact.now event from (map (λ w. w.now) words.now) number) }
 {
     let thread = fact.thread().get();
     let middle = lane_x(extent, thread);
@@ -274,7 +292,9 @@ pub fn add_line(
     number: usize,
 ) -> Result<(), AllocError>
     requires { sheet.now.extent.bands.count ≤ 16 }
-    ensures { IfOk result (λ _. string_bytes text.new ≡ string_bytes text.old ++ line_marks sheet.now.names.now sheet.now.extent scene.now line.now number) }
+    ensures { IfOk result
+        (λ _. string_bytes text.new
+        ≡ string_bytes text.old ++ line_marks sheet.now.names.now sheet.now.extent scene.now line.now number) }
 {
     let thread = line.fact.thread().get();
     let from = arrow_from(scene.actor, &line.fact);
@@ -296,7 +316,8 @@ pub fn add_line(
 /// The name of a band.
 fn add_band_name(text: &mut String, sheet: &Sheet<'_>, band: usize) -> Result<(), AllocError>
     requires { band < 16 }
-    ensures { IfOk result (λ _. string_bytes text.new ≡ string_bytes text.old ++ svg_band sheet.now.names.now sheet.now.extent band) }
+    ensures { IfOk result
+        (λ _. string_bytes text.new ≡ string_bytes text.old ++ svg_band sheet.now.names.now sheet.now.extent band) }
 {
     let mut digits = Buffer::new();
     let label = sheet
@@ -308,7 +329,8 @@ fn add_band_name(text: &mut String, sheet: &Sheet<'_>, band: usize) -> Result<()
 
 fn add_band_names(text: &mut String, sheet: &Sheet<'_>) -> Result<(), AllocError>
     requires { sheet.now.extent.bands.count ≤ 16 }
-    ensures { IfOk result (λ _. string_bytes text.new ≡ string_bytes text.old ++ svg_bands sheet.now.names.now sheet.now.extent) }
+    ensures { IfOk result
+        (λ _. string_bytes text.new ≡ string_bytes text.old ++ svg_bands sheet.now.names.now sheet.now.extent) }
 {
     for band in 0..sheet.extent.bands.count {
         add_band_name(text, sheet, band)?;
@@ -318,7 +340,8 @@ fn add_band_names(text: &mut String, sheet: &Sheet<'_>) -> Result<(), AllocError
 
 /// The line that stands for a lane's time.
 fn add_lane_line(text: &mut String, middle: u32, bottom: u128) -> Result<(), AllocError>
-    ensures { IfOk result (λ _. string_bytes text.new ≡ string_bytes text.old ++ lane_line (decimal middle) (decimal bottom)) }
+    ensures { IfOk result
+        (λ _. string_bytes text.new ≡ string_bytes text.old ++ lane_line (decimal middle) (decimal bottom)) }
 {
     let mut middles = Buffer::new();
     let mut bottoms = Buffer::new();
@@ -338,7 +361,9 @@ fn add_lane_name(
     lane: u8,
 ) -> Result<(), AllocError>
     requires { sheet.now.extent.bands.count ≤ 16 }
-    ensures { IfOk result (λ _. string_bytes text.new ≡ string_bytes text.old ++ svg_lane sheet.now.names.now sheet.now.extent bottom lane) }
+    ensures { IfOk result
+        (λ _. string_bytes text.new
+        ≡ string_bytes text.old ++ svg_lane sheet.now.names.now sheet.now.extent bottom lane) }
 {
     let mut digits = Buffer::new();
     let middle = lane_x(&sheet.extent, lane);
@@ -349,7 +374,8 @@ fn add_lane_name(
 fn add_lane_names(text: &mut String, sheet: &Sheet<'_>, bottom: u128) -> Result<(), AllocError>
     requires few { sheet.now.extent.threads ≤ 64 }
     requires narrow { sheet.now.extent.bands.count ≤ 16 }
-    ensures { IfOk result (λ _. string_bytes text.new ≡ string_bytes text.old ++ svg_lanes sheet.now.names.now sheet.now.extent bottom) }
+    ensures { IfOk result
+        (λ _. string_bytes text.new ≡ string_bytes text.old ++ svg_lanes sheet.now.names.now sheet.now.extent bottom) }
 {
     for index in 0..sheet.extent.threads {
         add_lane_name(text, sheet, bottom, index + 1)?;
@@ -387,7 +413,8 @@ fn add_open(text: &mut String, extent: &Extent, lines: usize) -> Result<(), Allo
 pub fn add_svg_heads(text: &mut String, sheet: &Sheet<'_>, lines: usize) -> Result<(), AllocError>
     requires few { sheet.now.extent.threads ≤ 64 }
     requires narrow { sheet.now.extent.bands.count ≤ 16 }
-    ensures { IfOk result (λ _. string_bytes text.new ≡ string_bytes text.old ++ svg_heads sheet.now.names.now sheet.now.extent lines) }
+    ensures { IfOk result
+        (λ _. string_bytes text.new ≡ string_bytes text.old ++ svg_heads sheet.now.names.now sheet.now.extent lines) }
 {
     add_open(text, &sheet.extent, lines)?;
     add_band_names(text, sheet)?;

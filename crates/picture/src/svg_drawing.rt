@@ -3,7 +3,8 @@
 ghost use Rattle.std.specs.Prelude.{◌≤◌};
 ghost use Rattle.streams.specs.Leaves.{Leaves};
 ghost use Rattle.picture.specs.Scenes.{first_scene};
-ghost use Rattle.picture.specs.Svg.{first_since, foot_text, line_marks, line_parts, marks, parts, rests, svg_drawn, svg_heads};
+ghost use Rattle.picture.specs.Svg.{first_since, foot_text, line_marks, line_parts};
+ghost use Rattle.picture.specs.Svg.{marks, parts, rests, svg_drawn, svg_heads};
 
 use crate::bands::{BANDS, Extent, Sheet};
 use crate::drawing::{Unwritten, write_text};
@@ -25,7 +26,8 @@ fn write_svg_heads<W: Write>(
 ) -> Result<(), Unwritten>
     requires few { sheet.now.extent.threads ≤ 64 }
     requires narrow { sheet.now.extent.bands.count ≤ 16 }
-    ensures { Leaves (W.contents out.old) (W.contents out.new) result (svg_heads sheet.now.names.now sheet.now.extent lines) }
+    ensures { Leaves (W.contents out.old) (W.contents out.new) result
+        (svg_heads sheet.now.names.now sheet.now.extent lines) }
 {
     part.clear();
     add_svg_heads(part, sheet, lines)?;
@@ -42,7 +44,8 @@ fn write_line_parts<W: Write>(
     out: &mut W,
 ) -> Result<(), Unwritten>
     requires { sheet.now.extent.bands.count ≤ 16 }
-    ensures { Leaves (W.contents out.old) (W.contents out.new) result (line_parts sheet.now.names.now sheet.now.extent scene.now since.now fact.now line) }
+    ensures { Leaves (W.contents out.old) (W.contents out.new) result
+        (line_parts sheet.now.names.now sheet.now.extent scene.now since.now fact.now line) }
 {
     part.clear();
     add_parts(part, sheet, scene, since, fact, line)?;
@@ -59,7 +62,8 @@ fn write_rests<W: Write>(
 ) -> Result<(), Unwritten>
     requires few { sheet.now.extent.threads ≤ 64 }
     requires narrow { sheet.now.extent.bands.count ≤ 16 }
-    ensures { Leaves (W.contents out.old) (W.contents out.new) result (rests sheet.now.names.now sheet.now.extent scene.now since.now line) }
+    ensures { Leaves (W.contents out.old) (W.contents out.new) result
+        (rests sheet.now.names.now sheet.now.extent scene.now since.now line) }
 {
     part.clear();
     add_rests(part, sheet, scene, since, line)?;
@@ -75,7 +79,8 @@ fn write_parts<W: Write>(
 ) -> Result<(), Unwritten>
     requires few { sheet.now.extent.threads ≤ 64 }
     requires narrow { sheet.now.extent.bands.count ≤ 16 }
-    ensures { Leaves (W.contents out.old) (W.contents out.new) result (parts sheet.now.names.now sheet.now.extent first_scene first_since 1 lines.now) }
+    ensures { Leaves (W.contents out.old) (W.contents out.new) result
+        (parts sheet.now.names.now sheet.now.extent first_scene first_since 1 lines.now) }
 {
     let mut scene = Scene::new();
     let mut since = Since::new();
@@ -97,7 +102,8 @@ fn write_line<W: Write>(
     out: &mut W,
 ) -> Result<(), Unwritten>
     requires { sheet.now.extent.bands.count ≤ 16 }
-    ensures { Leaves (W.contents out.old) (W.contents out.new) result (line_marks sheet.now.names.now sheet.now.extent scene.now line.now number) }
+    ensures { Leaves (W.contents out.old) (W.contents out.new) result
+        (line_marks sheet.now.names.now sheet.now.extent scene.now line.now number) }
 {
     part.clear();
     add_line(part, sheet, scene, line, number)?;
@@ -112,7 +118,8 @@ fn write_marks<W: Write>(
     out: &mut W,
 ) -> Result<(), Unwritten>
     requires { sheet.now.extent.bands.count ≤ 16 }
-    ensures { Leaves (W.contents out.old) (W.contents out.new) result (marks sheet.now.names.now sheet.now.extent first_scene 1 lines.now) }
+    ensures { Leaves (W.contents out.old) (W.contents out.new) result
+        (marks sheet.now.names.now sheet.now.extent first_scene 1 lines.now) }
 {
     let mut scene = Scene::new();
     for index in 0..lines.len() {
@@ -148,7 +155,8 @@ pub fn draw_svg<W: Write>(
     last: u32,
     out: &mut W,
 ) -> Result<(), Unwritten>
-    ensures { Leaves (W.contents out.old) (W.contents out.new) result (svg_drawn names.now threads mutexes lines.now last) }
+    ensures { Leaves (W.contents out.old) (W.contents out.new) result
+        (svg_drawn names.now threads mutexes lines.now last) }
 {
     let mut part = String::with_capacity(alloc, PART)?;
     let extent = Extent::of(BANDS, names, threads, mutexes, lines);

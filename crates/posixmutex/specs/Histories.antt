@@ -1,5 +1,6 @@
 -- Legal histories of all mutexes.
-use Rattle.std.specs.Prelude.{ℕ, zero, suc, ◌≡◌, ◌≢◌, ◌+◌, ◌<◌, ◌==◌, Bool, false, Option, Some, None, List, [], ◌∷◌, if◌then◌else◌}
+use Rattle.std.specs.Prelude.{ℕ, zero, suc, ◌≡◌, ◌≢◌, ◌+◌, ◌<◌, ◌==◌, Bool, false}
+use Rattle.std.specs.Prelude.{Option, Some, None, List, [], ◌∷◌, if◌then◌else◌}
 use Rattle.posixmutex.specs.declared.point.Decision.{Decision}
 use Rattle.posixmutex.specs.declared.object.Object.{Object}
 use Rattle.posixmutex.specs.Objects.{Does, fresh}
@@ -18,7 +19,9 @@ held_by t objects (suc n) = (if is_thread t (objects n).owner then 1 else 0) + h
 abbrev pub Legal : ℕ → (ℕ → Object) → List Decision → (ℕ → Object) → Type 0
 Legal n old [] new = (m : ℕ) → new m ≡ old m
 Legal n old (d ∷ ds) new =
-    (d.mutex < n) × ((next : ℕ → Object) × Does (held_by d.thread old n) (old d.mutex) d.thread d.operation d.reply (next d.mutex) × ((m : ℕ) → m ≢ d.mutex → next m ≡ old m) × Legal n next ds new)
+    (d.mutex < n)
+    × ((next : ℕ → Object) × Does (held_by d.thread old n) (old d.mutex) d.thread d.operation d.reply (next d.mutex)
+    × ((m : ℕ) → m ≢ d.mutex → next m ≡ old m) × Legal n next ds new)
 
 -- a history begins with every mutex free
 abbrev pub opening : ℕ → Object

@@ -1,11 +1,14 @@
 -- A robust mutex as POSIX sees it (pthread_mutex_lock, pthread_mutex_trylock, pthread_mutex_unlock,
 -- pthread_mutex_consistent, pthread_mutex_destroy), with no bits.
-use Rattle.std.specs.Prelude.{ℕ, zero, suc, ◌≡◌, ◌≢◌, Bool, true, false, ◌&&◌, ◌||◌, ◌⊎◌, ◌↔◌, ◌≤◌, nat_le, if◌then◌else◌, MatchBool, Option, Some, None, List, [], ◌∷◌}
+use Rattle.std.specs.Prelude.{ℕ, zero, suc, ◌≡◌, ◌≢◌, Bool, true, false, ◌&&◌, ◌||◌, ◌⊎◌, ◌↔◌, ◌≤◌}
+use Rattle.std.specs.Prelude.{nat_le, if◌then◌else◌, MatchBool, Option, Some, None, List, [], ◌∷◌}
 use Rattle.lockword.specs.Cells.{Fields}
 use Rattle.lockword.specs.declared.reply.Reply.{Reply}
-use Rattle.lockword.specs.declared.reply.Reply.TheVariants.{OK, EPERM, EBUSY, EINVAL, EDEADLK, EOWNERDEAD, ENOTRECOVERABLE, XRACED, XHELD, XFULL, XSTATE}
+use Rattle.lockword.specs.declared.reply.Reply.TheVariants.{OK, EPERM, EBUSY, EINVAL, EDEADLK, EOWNERDEAD}
+use Rattle.lockword.specs.declared.reply.Reply.TheVariants.{ENOTRECOVERABLE, XRACED, XHELD, XFULL, XSTATE}
 use Rattle.posixmutex.specs.declared.point.Operation.{Operation}
-use Rattle.posixmutex.specs.declared.point.Operation.TheVariants.{Lock, TryLock, Unlock, Consistent, Wait, Signal, Broadcast, Death, Reinit}
+use Rattle.posixmutex.specs.declared.point.Operation.TheVariants.{Lock, TryLock, Unlock, Consistent, Wait}
+use Rattle.posixmutex.specs.declared.point.Operation.TheVariants.{Signal, Broadcast, Death, Reinit}
 use Rattle.posixmutex.specs.declared.point.Point.{Point}
 use Rattle.posixmutex.specs.declared.object.Object.{Object}
 
@@ -32,7 +35,8 @@ Permits o t Lock EOWNERDEAD n = (o.unusable ≡ false) × (o.owner ≡ None) × 
 Permits o t Lock ENOTRECOVERABLE n = (o.unusable ≡ true) × (n ≡ o)
 Permits o t Lock EDEADLK n = (o.owner ≡ Some t) × (n ≡ o)
 Permits o t TryLock OK n = (o.unusable ≡ false) × (o.owner ≡ None) × (o.inconsistent ≡ false) × (n ≡ owned_by o t)
-Permits o t TryLock EOWNERDEAD n = (o.unusable ≡ false) × (o.owner ≡ None) × (o.inconsistent ≡ true) × (n ≡ owned_by o t)
+Permits o t TryLock EOWNERDEAD n =
+    (o.unusable ≡ false) × (o.owner ≡ None) × (o.inconsistent ≡ true) × (n ≡ owned_by o t)
 Permits o t TryLock ENOTRECOVERABLE n = (o.unusable ≡ true) × (n ≡ o)
 Permits o t TryLock EBUSY n = (o.owner ≢ None) × (n ≡ o)
 Permits o t TryLock XRACED n = (o.unusable ≡ false) × (o.owner ≡ None) × (n ≡ o)
@@ -83,19 +87,22 @@ stepped o t op r = o
 
 -- a step leaves no choice: who knows the operation and its reply knows the object behind it
 abbrev pub StepsAreDetermined : Type 0
-StepsAreDetermined = (held : ℕ) (o : Object) (t : ℕ) (op : Operation) (r : Reply) (n : Object) → Does held o t op r n → n ≡ stepped o t op r
+StepsAreDetermined = (held : ℕ) (o : Object) (t : ℕ) (op : Operation) (r : Reply) (n : Object) → Does held o t op r n
+    → n ≡ stepped o t op r
 
 -- ---- what changes a mutex
 
 -- thread t takes it, and is told of its last owner's death exactly where the mutex is inconsistent
 abbrev pub IsTaking : Object → ℕ → Operation → Reply → Object → Type 0
-IsTaking o t op r n = (acquires op ≡ true) × (r ≡ (if o.inconsistent then EOWNERDEAD else OK)) × (n.owner ≡ Some t) × (n.inconsistent ≡ o.inconsistent) × (n.unusable ≡ false)
+IsTaking o t op r n = (acquires op ≡ true) × (r ≡ (if o.inconsistent then EOWNERDEAD else OK)) × (n.owner ≡ Some t)
+    × (n.inconsistent ≡ o.inconsistent) × (n.unusable ≡ false)
 
 -- its owner releases it, which makes it unusable where it is inconsistent; declares it consistent; or dies, which
 -- leaves it inconsistent
 abbrev pub IsByOwner : Object → Operation → Object → Type 0
 IsByOwner o Unlock n = (n.owner ≡ None) × (n.inconsistent ≡ false) × (n.unusable ≡ (o.inconsistent || o.unusable))
-IsByOwner o Consistent n = (o.inconsistent ≡ true) × (n.owner ≡ o.owner) × (n.inconsistent ≡ false) × (n.unusable ≡ o.unusable)
+IsByOwner o Consistent n =
+    (o.inconsistent ≡ true) × (n.owner ≡ o.owner) × (n.inconsistent ≡ false) × (n.unusable ≡ o.unusable)
 IsByOwner o Death n = (n.owner ≡ None) × (n.inconsistent ≡ true) × (n.unusable ≡ o.unusable)
 IsByOwner o op n = ⊥
 
@@ -109,7 +116,8 @@ releases op = false
 -- or released the mutex did so
 pub record ChangesWithReason (o : Object) (t : ℕ) (op : Operation) (r : Reply) (n : Object) : Type 0 where
   pub usable : o.owner ≡ None → o.unusable ≡ false → (n ≡ o) ⊎ IsTaking o t op r n
-  pub unusable : o.owner ≡ None → o.unusable ≡ true → (n ≡ o) ⊎ ((op ≡ Reinit) × (r ≡ OK) × (n.owner ≡ None) × (n.inconsistent ≡ false) × (n.unusable ≡ false))
+  pub unusable : o.owner ≡ None → o.unusable ≡ true
+      → (n ≡ o) ⊎ ((op ≡ Reinit) × (r ≡ OK) × (n.owner ≡ None) × (n.inconsistent ≡ false) × (n.unusable ≡ false))
   pub own : o.owner ≡ Some t → (n ≡ o) ⊎ ((r ≡ OK) × IsByOwner o op n)
   pub others : (u : ℕ) → o.owner ≡ Some u → t ≢ u → n ≡ o
   pub takes : acquires op ≡ true → (r ≡ OK) ⊎ (r ≡ EOWNERDEAD) → n.owner ≡ Some t
@@ -130,7 +138,8 @@ HasReason held o t Consistent OK = (o.owner ≡ Some t) × (o.inconsistent ≡ t
 HasReason held o t Reinit OK = (o.owner ≡ None) × (o.unusable ≡ true)
 HasReason held o t Wait OK = ⊥
 HasReason held o t op OK = o.owner ≡ Some t
-HasReason held o t op EOWNERDEAD = (acquires op ≡ true) × (o.owner ≡ None) × (o.inconsistent ≡ true) × (o.unusable ≡ false)
+HasReason held o t op EOWNERDEAD =
+    (acquires op ≡ true) × (o.owner ≡ None) × (o.inconsistent ≡ true) × (o.unusable ≡ false)
 HasReason held o t op ENOTRECOVERABLE = (acquires op ≡ true) × (o.unusable ≡ true)
 HasReason held o t op EDEADLK = (op ≡ Lock) × (o.owner ≡ Some t)
 HasReason held o t op EBUSY = (op ≡ TryLock) × (o.owner ≢ None)
@@ -147,7 +156,8 @@ HasReason held o t op XHELD = ((op ≡ Lock) ⊎ (op ≡ TryLock)) × (nat_le he
 HasReason held o t op r = ⊥
 
 abbrev pub RepliesHaveReasons : Type 0
-RepliesHaveReasons = (held : ℕ) (o : Object) (t : ℕ) (op : Operation) (r : Reply) (n : Object) → Does held o t op r n → HasReason held o t op r
+RepliesHaveReasons = (held : ℕ) (o : Object) (t : ℕ) (op : Operation) (r : Reply) (n : Object) → Does held o t op r n
+    → HasReason held o t op r
 
 -- X_HELD is the reply of a lock or trylock whose thread holds 2,048 mutexes or more, and of no other call: as many as
 -- there are entries that the kernel walks (ROBUST_LIST_LIMIT; robust-futexes)

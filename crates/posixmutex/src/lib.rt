@@ -5,9 +5,9 @@
 //! table: a step leaves no choice (`steps_are_determined`); whoever doesn't own a mutex changes it only by taking a
 //! free one, or by making an unusable one anew (`changes_have_reasons`); each reply has its reason
 //! (`replies_have_reasons`) and may come where it has it (`reasons_suffice`), X_HELD exactly its own
-//! (`limit_is_exact`); and no call goes without one that could have it (`calls_are_answered`). A [`Point`] is the step at which a call takes effect; a [`Decision`] is a point as traces
-//! tell it. `specs/Histories.antt` says which lists of them are legal. An operation's word is read back as that
-//! operation (`operations_are_read_back`).
+//! (`limit_is_exact`); and no call goes without one that could have it (`calls_are_answered`). A [`Point`] is the step
+//! at which a call takes effect; a [`Decision`] is a point as traces tell it. `specs/Histories.antt` says which lists
+//! of them are legal. An operation's word is read back as that operation (`operations_are_read_back`).
 //!
 //! Stands on `lockword`, for thread ids, replies and what cells say, and on `thiserror`, for the message of what is
 //! refused.

@@ -1,6 +1,7 @@
 //! The robust mutex as an object, with no bits: what each operation may answer, and what it leaves.
 ghost use Rattle.std.specs.Prelude.{◌≡◌, true, false, MatchOption};
-ghost use Rattle.posixmutex.specs.Objects.{CallsAreAnswered, ChangesHaveReasons, LimitIsExact, ReasonsSuffice, RepliesHaveReasons, StepsAreDetermined};
+ghost use Rattle.posixmutex.specs.Objects.{CallsAreAnswered, ChangesHaveReasons, LimitIsExact};
+ghost use Rattle.posixmutex.specs.Objects.{ReasonsSuffice, RepliesHaveReasons, StepsAreDetermined};
 
 use crate::point::Operation;
 use lockword::{Reply, Tid};
@@ -35,7 +36,8 @@ impl Object {
     /// What the mutex becomes where the thread's operation replies so; None where it may not reply so. `held` is how
     /// many mutexes the thread owns.
     pub fn step(self, held: u16, thread: Tid, operation: Operation, reply: Reply) -> Option<Object>
-        ensures { MatchOption result ((new : Object) → ¬ Does held self thread operation reply new) (λ new. Does held self thread operation reply new) }
+        ensures { MatchOption result ((new : Object) → ¬ Does held self thread operation reply new)
+            (λ new. Does held self thread operation reply new) }
     {
         let acquires = operation == Operation::Lock || operation == Operation::TryLock;
         if acquires && HELD_LIMIT <= held {
@@ -45,7 +47,8 @@ impl Object {
     }
 
     fn permitted(self, thread: Tid, operation: Operation, reply: Reply) -> Option<Object>
-        ensures { MatchOption result ((new : Object) → ¬ Permits self thread operation reply new) (λ new. Permits self thread operation reply new) }
+        ensures { MatchOption result ((new : Object) → ¬ Permits self thread operation reply new)
+            (λ new. Permits self thread operation reply new) }
     {
         match operation {
             Operation::Lock => self.locked(thread, reply),
@@ -61,7 +64,8 @@ impl Object {
     }
 
     fn locked(self, thread: Tid, reply: Reply) -> Option<Object>
-        ensures { MatchOption result ((new : Object) → ¬ Permits self thread Operation.Lock reply new) (λ new. Permits self thread Operation.Lock reply new) }
+        ensures { MatchOption result ((new : Object) → ¬ Permits self thread Operation.Lock reply new)
+            (λ new. Permits self thread Operation.Lock reply new) }
     {
         let free = !self.unusable && self.owner.is_none();
         match reply {
@@ -74,7 +78,8 @@ impl Object {
     }
 
     fn tried(self, thread: Tid, reply: Reply) -> Option<Object>
-        ensures { MatchOption result ((new : Object) → ¬ Permits self thread Operation.TryLock reply new) (λ new. Permits self thread Operation.TryLock reply new) }
+        ensures { MatchOption result ((new : Object) → ¬ Permits self thread Operation.TryLock reply new)
+            (λ new. Permits self thread Operation.TryLock reply new) }
     {
         let free = !self.unusable && self.owner.is_none();
         match reply {
@@ -88,7 +93,8 @@ impl Object {
     }
 
     fn unlocked(self, thread: Tid, reply: Reply) -> Option<Object>
-        ensures { MatchOption result ((new : Object) → ¬ Permits self thread Operation.Unlock reply new) (λ new. Permits self thread Operation.Unlock reply new) }
+        ensures { MatchOption result ((new : Object) → ¬ Permits self thread Operation.Unlock reply new)
+            (λ new. Permits self thread Operation.Unlock reply new) }
     {
         let owns = self.owner == Some(thread);
         match reply {
@@ -103,7 +109,8 @@ impl Object {
     }
 
     fn declared(self, thread: Tid, reply: Reply) -> Option<Object>
-        ensures { MatchOption result ((new : Object) → ¬ Permits self thread Operation.Consistent reply new) (λ new. Permits self thread Operation.Consistent reply new) }
+        ensures { MatchOption result ((new : Object) → ¬ Permits self thread Operation.Consistent reply new)
+            (λ new. Permits self thread Operation.Consistent reply new) }
     {
         let owns = self.owner == Some(thread);
         match reply {
@@ -119,7 +126,8 @@ impl Object {
     }
 
     fn waited(self, thread: Tid, reply: Reply) -> Option<Object>
-        ensures { MatchOption result ((new : Object) → ¬ Permits self thread Operation.Wait reply new) (λ new. Permits self thread Operation.Wait reply new) }
+        ensures { MatchOption result ((new : Object) → ¬ Permits self thread Operation.Wait reply new)
+            (λ new. Permits self thread Operation.Wait reply new) }
     {
         let owns = self.owner == Some(thread);
         match reply {
@@ -130,8 +138,10 @@ impl Object {
     }
 
     fn signalled(self, thread: Tid, reply: Reply) -> Option<Object>
-        ensures signal { MatchOption result ((new : Object) → ¬ Permits self thread Operation.Signal reply new) (λ new. Permits self thread Operation.Signal reply new) }
-        ensures broadcast { MatchOption result ((new : Object) → ¬ Permits self thread Operation.Broadcast reply new) (λ new. Permits self thread Operation.Broadcast reply new) }
+        ensures signal { MatchOption result ((new : Object) → ¬ Permits self thread Operation.Signal reply new)
+            (λ new. Permits self thread Operation.Signal reply new) }
+        ensures broadcast { MatchOption result ((new : Object) → ¬ Permits self thread Operation.Broadcast reply new)
+            (λ new. Permits self thread Operation.Broadcast reply new) }
     {
         let owns = self.owner == Some(thread);
         match reply {
@@ -142,7 +152,8 @@ impl Object {
     }
 
     fn died(self, thread: Tid, reply: Reply) -> Option<Object>
-        ensures { MatchOption result ((new : Object) → ¬ Permits self thread Operation.Death reply new) (λ new. Permits self thread Operation.Death reply new) }
+        ensures { MatchOption result ((new : Object) → ¬ Permits self thread Operation.Death reply new)
+            (λ new. Permits self thread Operation.Death reply new) }
     {
         let owns = self.owner == Some(thread);
         let bereaved = Object {
@@ -154,7 +165,8 @@ impl Object {
     }
 
     fn reinited(self, thread: Tid, reply: Reply) -> Option<Object>
-        ensures { MatchOption result ((new : Object) → ¬ Permits self thread Operation.Reinit reply new) (λ new. Permits self thread Operation.Reinit reply new) }
+        ensures { MatchOption result ((new : Object) → ¬ Permits self thread Operation.Reinit reply new)
+            (λ new. Permits self thread Operation.Reinit reply new) }
     {
         let free = self.unusable && self.owner.is_none();
         Object::new().kept(free && reply == Reply::OK)

@@ -1,5 +1,6 @@
 -- Which events apply, by what the trace has told so far.
-use Rattle.std.specs.Prelude.{ℕ, length, ◌≡◌, ◌<◌, ◌≤◌, ◌==◌, ◌&&◌, nat_le, true, false, Option, Some, None, List, [], ◌∷◌, if◌then◌else◌}
+use Rattle.std.specs.Prelude.{ℕ, length, ◌≡◌, ◌<◌, ◌≤◌, ◌==◌, ◌&&◌, nat_le, true}
+use Rattle.std.specs.Prelude.{false, Option, Some, None, List, [], ◌∷◌, if◌then◌else◌}
 use Rattle.lockword.specs.declared.reply.Reply.{Reply}
 use Rattle.lockword.specs.declared.reply.Reply.TheVariants.{XHELD}
 use Rattle.memorymap.specs.Layouts.{Layout', IsLayout}
@@ -14,7 +15,8 @@ use Rattle.condvar.specs.declared.op.Op.TheVariants.{OnMutex, OnCondition}
 use Rattle.protocol.specs.declared.event.Event.{Event}
 use Rattle.protocol.specs.declared.event.Event.TheVariants as event
 use Rattle.protocol.specs.declared.note.Note.{Note}
-use Rattle.protocol.specs.declared.note.Note.TheVariants.{Nothing, Began, Stepped, Killed, Walked, Left, Renewed, Reinited}
+use Rattle.protocol.specs.declared.note.Note.TheVariants.{Nothing, Began, Stepped, Killed}
+use Rattle.protocol.specs.declared.note.Note.TheVariants.{Walked, Left, Renewed, Reinited}
 use Rattle.facts.specs.declared.fact.Fact.{Fact}
 use Rattle.facts.specs.declared.fact.Fact.TheVariants.{Begin, Return, Kill, Reap, Renew}
 use Rattle.stepprograms.specs.declared.access.Access.TheVariants.{Trim}
@@ -103,11 +105,13 @@ Applies l s ns (event.Kill t) = IsThread l t × IsLiving (last_told t ns)
 Applies l s ns (event.Leave t) = IsThread l t × IsInAQueue s t
 Applies l s ns (event.Decline t) = IsThread l t × IsAboutToTrim s t
 Applies l s ns (event.Renew t) = IsThread l t × (last_told t ns ≡ Gone)
-Applies l s ns (event.Reinit t m) = IsThread l t × (last_told t ns ≡ AtRest) × (m < l.mutexes) × ((seen s m).unusable ≡ true) × (sleepers s m ≡ [])
+Applies l s ns (event.Reinit t m) =
+    IsThread l t × (last_told t ns ≡ AtRest) × (m < l.mutexes) × ((seen s m).unusable ≡ true) × (sleepers s m ≡ [])
 
 -- a call that takes a mutex is refused at once where its thread owns 2,048
 abbrev pub refusal : Layout' → State → ℕ → Op → Option Reply
-refusal l s t o = if acquires (operation_of o) && nat_le held_limit (held_by t (seen s) l.mutexes) then Some XHELD else None
+refusal l s t o =
+    if acquires (operation_of o) && nat_le held_limit (held_by t (seen s) l.mutexes) then Some XHELD else None
 
 -- an access of thread t, of its call or of its walk
 abbrev pub IsAccessOf : ℕ → Note → Type 0
@@ -118,7 +122,8 @@ IsAccessOf t n = ⊥
 -- an access of the call in which thread t stands, on that call's mutex, that decided nothing, returned nothing, and by
 -- which nobody fell asleep, was woken or was moved
 abbrev pub IsQuietAccessOf : Layout' → State → ℕ → Note → Type 0
-IsQuietAccessOf l s t n = (o : Op) (p : Whole) → (s.threads t).stage ≡ Calling o p → n ≡ Stepped t (mutex_of l o) None None [] [] None
+IsQuietAccessOf l s t n =
+    (o : Op) (p : Whole) → (s.threads t).stage ≡ Calling o p → n ≡ Stepped t (mutex_of l o) None None [] [] None
 
 -- an event that applies is noted as what it is
 abbrev pub IsNotedAs : Layout' → State → Event → Note → Type 0
@@ -140,4 +145,5 @@ pub record NextApplies (l : Layout') (s : State) (ns : List Note) : Type 0 where
 
 -- whatever happens, with any values of the counters at the beginning
 abbrev pub EventsApply : Type 0
-EventsApply = (l : Layout') (counters : ℕ → ℕ) (events : List Event) → IsLayout l → NextApplies l (run (start l counters) events) (notes (start l counters) events)
+EventsApply = (l : Layout') (counters : ℕ → ℕ) (events : List Event) → IsLayout l
+    → NextApplies l (run (start l counters) events) (notes (start l counters) events)

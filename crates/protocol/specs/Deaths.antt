@@ -25,17 +25,25 @@ IsNotRenewed t (f ∷ fs) = IsNotRenewed t fs
 -- has lost since, and of no other; so once it is reaped, of each mutex that it owned
 pub record ReportsDeath (s : State) (t : ℕ) (events : List Event) : Type 0 where
   pub owned : (m : ℕ) → m < s.layout.mutexes → (seen s m).owner ≡ Some t →
-      ((deaths t m (facts_among (notes (killed s t).state events)) ≡ 1) × ((seen (run (killed s t).state events) m).owner ≢ Some t))
-      ⊎ ((deaths t m (facts_among (notes (killed s t).state events)) ≡ 0) × ((seen (run (killed s t).state events) m).owner ≡ Some t))
-  pub others : (m : ℕ) → m < s.layout.mutexes → (seen s m).owner ≢ Some t → deaths t m (facts_among (notes (killed s t).state events)) ≡ 0
-  pub reaped : (m : ℕ) → m < s.layout.mutexes → (seen s m).owner ≡ Some t → ((run (killed s t).state events).threads t).stage ≡ Reaped → deaths t m (facts_among (notes (killed s t).state events)) ≡ 1
+      ((deaths t m (facts_among (notes (killed s t).state events)) ≡ 1)
+      × ((seen (run (killed s t).state events) m).owner ≢ Some t))
+      ⊎
+      ((deaths t m (facts_among (notes (killed s t).state events)) ≡ 0)
+      × ((seen (run (killed s t).state events) m).owner ≡ Some t))
+  pub others : (m : ℕ) → m < s.layout.mutexes → (seen s m).owner ≢ Some t
+      → deaths t m (facts_among (notes (killed s t).state events)) ≡ 0
+  pub reaped : (m : ℕ) → m < s.layout.mutexes → (seen s m).owner ≡ Some t
+      → ((run (killed s t).state events).threads t).stage ≡ Reaped
+      → deaths t m (facts_among (notes (killed s t).state events)) ≡ 1
 
 -- it is so of each kill among the events, wherever it stands, of a thread that lives then, at each moment behind it
 -- before the thread is renewed: of each life of a thread its own mutexes are told
 abbrev pub ReportsDeaths : State → List Event → Type 0
-ReportsDeaths s events = (before after rest : List Event) (t : ℕ) → events ≡ before ++ Kill t ∷ (after ++ rest) → has_thread (run s before) t ≡ true → is_alive ((run s before).threads t).stage ≡ true
+ReportsDeaths s events = (before after rest : List Event) (t : ℕ) → events ≡ before ++ Kill t ∷ (after ++ rest)
+    → has_thread (run s before) t ≡ true → is_alive ((run s before).threads t).stage ≡ true
     → IsNotRenewed t (facts_among (notes (killed (run s before) t).state after)) → ReportsDeath (run s before) t after
 
 -- whatever happens, with any values of the counters at the beginning
 abbrev pub DeathsAreTold : Type 0
-DeathsAreTold = (l : Layout') (counters : ℕ → ℕ) (events : List Event) → IsLayout l → ReportsDeaths (start l counters) events
+DeathsAreTold =
+    (l : Layout') (counters : ℕ → ℕ) (events : List Event) → IsLayout l → ReportsDeaths (start l counters) events

@@ -63,9 +63,11 @@ AreWithin (l ∷ ls) = Each (Within l) ls × AreWithin ls
 pub record IsExplained (events : List Event) (told : List Note) : Type 0 where
   pub orderly : Orderly (lines_from 1 told)
   pub within : AreWithin (lines_from 1 told)
-  pub callers : Each (λ l. is_passive l.fact ≡ false → thread_of l.fact ≡ caller_of 1 events l.event) (lines_from 1 told)
+  pub callers : Each (λ l. is_passive l.fact ≡ false → thread_of l.fact ≡ caller_of 1 events l.event)
+      (lines_from 1 told)
   pub lives : (t : ℕ) → Lives t (own t (lines_from 1 told))
 
 -- whatever happens, with any values of the counters at the beginning
 abbrev pub TraceIsExplained : Type 0
-TraceIsExplained = (l : Layout') (counters : ℕ → ℕ) (events : List Event) → IsLayout l → IsExplained events (notes (start l counters) events)
+TraceIsExplained = (l : Layout') (counters : ℕ → ℕ) (events : List Event) → IsLayout l
+    → IsExplained events (notes (start l counters) events)

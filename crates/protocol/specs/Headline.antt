@@ -43,7 +43,8 @@ IsHistory s ns = Legal s.layout.mutexes opening (points_among ns) (seen s)
 
 -- whatever happens, with any values of the counters at the beginning; so it holds after each event
 abbrev pub HistoryIsLegal : Type 0
-HistoryIsLegal = (l : Layout') (counters : ℕ → ℕ) (events : List Event) → IsLayout l → IsHistory (run (start l counters) events) (notes (start l counters) events)
+HistoryIsLegal = (l : Layout') (counters : ℕ → ℕ) (events : List Event) → IsLayout l
+    → IsHistory (run (start l counters) events) (notes (start l counters) events)
 
 -- a thread that was reaped owns no mutex
 abbrev pub NoReapedOwns : State → Type 0
@@ -51,4 +52,5 @@ NoReapedOwns s = (m t : ℕ) → (s.threads t).stage ≡ Reaped → (seen s m).o
 
 -- whatever happens, kills at any moment included
 abbrev pub NoReapedOwner : Type 0
-NoReapedOwner = (l : Layout') (counters : ℕ → ℕ) (events : List Event) → IsLayout l → NoReapedOwns (run (start l counters) events)
+NoReapedOwner =
+    (l : Layout') (counters : ℕ → ℕ) (events : List Event) → IsLayout l → NoReapedOwns (run (start l counters) events)

@@ -23,7 +23,8 @@ pub record OnlyLeaves (s s' : State) (t : ℕ) : Type 0 where
 
 -- of a thread that sleeps a wake is told, and nothing else
 abbrev pub LeavesSo : State → ℕ → Type 0
-LeavesSo s t = OnlyLeaves s (happens s (Leave t)).state t × (IsInAQueue s t → facts_of (happens s (Leave t)).note ≡ Wake t ∷ [])
+LeavesSo s t =
+    OnlyLeaves s (happens s (Leave t)).state t × (IsInAQueue s t → facts_of (happens s (Leave t)).note ≡ Wake t ∷ [])
 
 -- ---- declines
 
@@ -47,7 +48,8 @@ pub record LeavesAndDeclines (l : Layout') (s : State) : Type 0 where
   pub declines : (t : ℕ) → 1 ≤ t → t ≤ l.threads → DeclinesSo s t
 
 abbrev pub LeavesAreLone : Type 0
-LeavesAreLone = (l : Layout') (counters : ℕ → ℕ) (events : List Event) → IsLayout l → LeavesAndDeclines l (run (start l counters) events)
+LeavesAreLone = (l : Layout') (counters : ℕ → ℕ) (events : List Event) → IsLayout l
+    → LeavesAndDeclines l (run (start l counters) events)
 
 -- nobody leaves by itself
 abbrev pub NobodyLeaves : List Event → Type 0
@@ -57,4 +59,5 @@ NobodyLeaves (e ∷ es) = NobodyLeaves es
 
 -- where nobody does, whoever is told to be woken is the front of a queue
 abbrev pub FrontsAreWoken : Type 0
-FrontsAreWoken = (l : Layout') (counters : ℕ → ℕ) (events : List Event) → IsLayout l → NobodyLeaves events → NameFronts l nobody (facts_among (notes (start l counters) events))
+FrontsAreWoken = (l : Layout') (counters : ℕ → ℕ) (events : List Event) → IsLayout l → NobodyLeaves events
+    → NameFronts l nobody (facts_among (notes (start l counters) events))

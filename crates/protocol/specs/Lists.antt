@@ -15,10 +15,15 @@ pub record HasList (s : State) (t : ℕ) : Type 0 where
   pub entries : List ℕ
   pub chain : IsChain (words_from (base_of s.layout t) s.words) (address_in s.layout t (head_place t)) entries
   pub few : length entries ≤ held_limit
-  pub owned : (e : ℕ) → IsAmong e entries → (m : ℕ) × (m < s.layout.mutexes) × (e ≡ address_in s.layout t (entry_place s.layout m)) × ((seen s m).owner ≡ Some t)
-  pub all : (m : ℕ) → m < s.layout.mutexes → (seen s m).owner ≡ Some t → IsAmong (address_in s.layout t (entry_place s.layout m)) entries ⊎ (s.words (head_place t + 2) ≡ address_in s.layout t (entry_place s.layout m))
+  pub owned : (e : ℕ) → IsAmong e entries
+      → (m : ℕ) × (m < s.layout.mutexes) × (e ≡ address_in s.layout t (entry_place s.layout m))
+      × ((seen s m).owner ≡ Some t)
+  pub all : (m : ℕ) → m < s.layout.mutexes → (seen s m).owner ≡ Some t
+      → IsAmong (address_in s.layout t (entry_place s.layout m)) entries
+      ⊎ (s.words (head_place t + 2) ≡ address_in s.layout t (entry_place s.layout m))
   pub offset : s.words (head_place t + 1) ≡ cell_offset
 
 -- whatever happens, with any values of the counters at the beginning, of each thread that lives
 abbrev pub ListsAreKept : Type 0
-ListsAreKept = (l : Layout') (counters : ℕ → ℕ) (events : List Event) → IsLayout l → (t : ℕ) → 1 ≤ t → t ≤ l.threads → is_alive ((run (start l counters) events).threads t).stage ≡ true → HasList (run (start l counters) events) t
+ListsAreKept = (l : Layout') (counters : ℕ → ℕ) (events : List Event) → IsLayout l → (t : ℕ) → 1 ≤ t → t ≤ l.threads
+    → is_alive ((run (start l counters) events).threads t).stage ≡ true → HasList (run (start l counters) events) t

@@ -1,5 +1,6 @@
 -- The machine: threads whose calls step over shared words, and sleep on them.
-use Rattle.std.specs.Prelude.{ℕ, not, ◌==◌, ◌+◌, ◌-◌, ◌/◌, ◌%◌, ◌^◌, Bool, true, false, ◌&&◌, nat_le, nat_lt, Option, Some, None, Result, Ok, Err, List, [], ◌∷◌, ◌++◌, take, drop, if◌then◌else◌}
+use Rattle.std.specs.Prelude.{ℕ, not, ◌==◌, ◌+◌, ◌-◌, ◌/◌, ◌%◌, ◌^◌, Bool, true, false, ◌&&◌, nat_le, nat_lt}
+use Rattle.std.specs.Prelude.{Option, Some, None, Result, Ok, Err, List, [], ◌∷◌, ◌++◌, take, drop, if◌then◌else◌}
 use Rattle.lockword.specs.Cells.{fields_of}
 use Rattle.lockword.specs.declared.reply.Reply.{Reply}
 use Rattle.lockword.specs.declared.reply.Reply.TheVariants.{OK, EOWNERDEAD}
@@ -10,7 +11,8 @@ use Rattle.stepprograms.specs.declared.access.Answer.TheVariants.{Fault, Trimmed
 use Rattle.posixmutex.specs.declared.point.Operation.{Operation}
 use Rattle.posixmutex.specs.declared.point.Operation.TheVariants as operation
 use Rattle.posixmutex.specs.declared.point.Decision.{Decision}
-use Rattle.memorymap.specs.Layouts.{Layout', head_place, cell_place, counter_place, words_of, address_in, place_in, head_word, first_word}
+use Rattle.memorymap.specs.Layouts.{Layout', head_place, cell_place, counter_place}
+use Rattle.memorymap.specs.Layouts.{words_of, address_in, place_in, head_word, first_word}
 use Rattle.buckets.specs.Queues.{without}
 use Rattle.stepprograms.specs.Accesses.{address_of, word_among, answer_among, sleeps_at, is_nobody}
 use Rattle.mutex.specs.declared.call.Call.{Call}
@@ -43,7 +45,8 @@ use Rattle.protocol.specs.declared.thread.Thread.{Thread}
 use Rattle.protocol.specs.declared.thread.Stage.{Stage}
 use Rattle.protocol.specs.declared.thread.Stage.TheVariants.{Idle, Calling, AtCondition, Dying, Reaped}
 use Rattle.protocol.specs.declared.note.Note.{Note}
-use Rattle.protocol.specs.declared.note.Note.TheVariants.{Nothing, Began, Stepped, Killed, Walked, Left, Renewed, Reinited}
+use Rattle.protocol.specs.declared.note.Note.TheVariants.{Nothing, Began, Stepped, Killed}
+use Rattle.protocol.specs.declared.note.Note.TheVariants.{Walked, Left, Renewed, Reinited}
 
 -- the words by place, who sleeps on each, also by place, in the order in which they are to be woken, and the threads by
 -- id
@@ -115,19 +118,37 @@ joined l t (access.CmpRequeue from e n to k) us queues = put queues (place_in l 
 joined l t a us queues = queues
 
 abbrev pub answer_of : State → ℕ → Access → Answer
-answer_of s t a = if is_met s.layout t a then answer_among a (s.words (place_met s.layout t a)) (s.queues (place_met s.layout t a)) else Fault
+answer_of s t a =
+    if is_met s.layout t a
+    then answer_among a (s.words (place_met s.layout t a)) (s.queues (place_met s.layout t a))
+    else Fault
 
 abbrev pub words_after : State → ℕ → Access → ℕ → ℕ
-words_after s t a = if is_met s.layout t a then put s.words (place_met s.layout t a) (word_among a (s.words (place_met s.layout t a)) (s.queues (place_met s.layout t a))) else s.words
+words_after s t a =
+    if is_met s.layout t a
+    then put s.words (place_met s.layout t a)
+    (word_among a (s.words (place_met s.layout t a)) (s.queues (place_met s.layout t a)))
+    else s.words
 
 abbrev pub woken : State → ℕ → Access → List ℕ
-woken s t a = if is_met s.layout t a then woken_by a (s.words (place_met s.layout t a)) (s.queues (place_met s.layout t a)) else []
+woken s t a =
+    if is_met s.layout t a
+    then woken_by a (s.words (place_met s.layout t a)) (s.queues (place_met s.layout t a))
+    else []
 
 abbrev pub moved : State → ℕ → Access → List ℕ
-moved s t a = if is_met s.layout t a then moved_by a (s.words (place_met s.layout t a)) (s.queues (place_met s.layout t a)) else []
+moved s t a =
+    if is_met s.layout t a
+    then moved_by a (s.words (place_met s.layout t a)) (s.queues (place_met s.layout t a))
+    else []
 
 abbrev pub queues_after : State → ℕ → Access → ℕ → List ℕ
-queues_after s t a = if is_met s.layout t a then joined s.layout t a (moved_by a (s.words (place_met s.layout t a)) (s.queues (place_met s.layout t a))) (put s.queues (place_met s.layout t a) (queue_after t a (s.words (place_met s.layout t a)) (s.queues (place_met s.layout t a)))) else s.queues
+queues_after s t a =
+    if is_met s.layout t a
+    then joined s.layout t a (moved_by a (s.words (place_met s.layout t a)) (s.queues (place_met s.layout t a)))
+    (put s.queues (place_met s.layout t a)
+    (queue_after t a (s.words (place_met s.layout t a)) (s.queues (place_met s.layout t a))))
+    else s.queues
 
 -- thread t falls asleep by its access
 abbrev pub falls_asleep : State → ℕ → Access → Bool
@@ -191,7 +212,8 @@ sleepers s m = s.queues (cell_place s.layout m)
 -- wait that of the mutex, or still the counter of the condition variable
 abbrev pub places_of : Layout' → Stage → List ℕ
 places_of l (Calling (OnMutex c) p) = cell_place l (mutex_of l (OnMutex c)) ∷ []
-places_of l (Calling (OnCondition c) p) = cell_place l (mutex_of l (OnCondition c)) ∷ counter_place l (conditions.condition_of c) ∷ []
+places_of l (Calling (OnCondition c) p) =
+    cell_place l (mutex_of l (OnCondition c)) ∷ counter_place l (conditions.condition_of c) ∷ []
 places_of l g = []
 
 -- thread t stands in the queue of one of these places
@@ -220,7 +242,10 @@ first_stage l t held (OnMutex c) = stage_begun c (whole_started l t held c)
 first_stage l t held (OnCondition c) = Ok (AtCondition c (condition.begins l t c))
 
 abbrev pub begun : State → ℕ → Op → Result Stage Reply → After
-begun s t o (Ok g) = record { state = record s { threads = put s.threads t (record (s.threads t) { stage = g }) }; note = Began t (begun_of s.layout o) None }
+begun s t o (Ok g) = record {
+  state = record s { threads = put s.threads t (record (s.threads t) { stage = g }) };
+  note = Began t (begun_of s.layout o) None;
+}
 begun s t o (Err x) = record { state = s; note = Began t (begun_of s.layout o) (Some x) }
 
 -- where an answer leads a call: its thread's stage then; the reply of its point, if that access was one, and the
@@ -241,7 +266,8 @@ returned (Ended x) = Some x
 returned f = None
 
 abbrev pub led : Op → Whole → Onward → Led
-led o p g = record { stage = stage_after o p g.phase; operation = p.operation; point = g.point; returned = returned g.phase }
+led o p g =
+    record { stage = stage_after o p g.phase; operation = p.operation; point = g.point; returned = returned g.phase }
 
 -- of a call on a condition variable: once a wait is awake again it is in the lock that ends it
 abbrev pub stage_at : CondCall → CondWhole → CondPhase → Stage
@@ -263,7 +289,12 @@ reply_at None = None
 reply_at (Some p) = Some p.reply
 
 abbrev pub led_at : CondCall → CondWhole → CondOnward → Led
-led_at c p g = record { stage = stage_at c p g.phase; operation = decided_at (conditions.operation_of c) g.point; point = reply_at g.point; returned = returned_at g.phase }
+led_at c p g = record {
+  stage = stage_at c p g.phase;
+  operation = decided_at (conditions.operation_of c) g.point;
+  point = reply_at g.point;
+  returned = returned_at g.phase;
+}
 
 -- a thread owns one mutex more after it took one, and one less after it released one, or after its death was told of
 -- one
@@ -296,7 +327,8 @@ went s t held m q a g =
         queues = queues_after s t a;
         threads = put s.threads t (record { stage = g.stage; held = held_after held g.operation g.point });
       };
-      note = Stepped t m (decision t m g.operation g.point) (slept_in q (falls_asleep s t a)) (woken s t a) (moved s t a) g.returned;
+      note = Stepped t m (decision t m g.operation g.point) (slept_in q (falls_asleep s t a)) (woken s t a)
+          (moved s t a) g.returned;
     }
 
 -- ---- sleeps that end by themselves
@@ -317,7 +349,8 @@ is_trim a = false
 abbrev pub spared : State → ℕ → ℕ → ℕ → Led → After
 spared s t held m g =
     record {
-      state = record s { threads = put s.threads t (record { stage = g.stage; held = held_after held g.operation g.point }) };
+      state = record s
+          { threads = put s.threads t (record { stage = g.stage; held = held_after held g.operation g.point }) };
       note = Stepped t m (decision t m g.operation g.point) None [] [] g.returned;
     }
 
@@ -328,14 +361,20 @@ spared s t held m g =
 abbrev pub killed : State → ℕ → After
 killed s t =
     record {
-      state = record s { queues = λ key. without t (s.queues key); threads = put s.threads t (record (s.threads t) { stage = Dying (exit.begun t (address_in s.layout t (head_place t))) }) };
+      state = record s {
+        queues = λ key. without t (s.queues key);
+        threads = put s.threads t
+            (record (s.threads t) { stage = Dying (exit.begun t (address_in s.layout t (head_place t))) });
+      };
       note = Killed t;
     }
 
 -- the mutex whose cell is at a place
 abbrev pub mutex_at : Layout' → ℕ → Option ℕ
 mutex_at l p =
-    if nat_le (cell_place l 0) p && ((p - cell_place l 0) % 3 == 0) && nat_lt ((p - cell_place l 0) / 3) l.mutexes then Some ((p - cell_place l 0) / 3) else None
+    if nat_le (cell_place l 0) p && ((p - cell_place l 0) % 3 == 0) && nat_lt ((p - cell_place l 0) / 3) l.mutexes
+    then Some ((p - cell_place l 0) / 3)
+    else None
 
 -- the mutex of which thread t's walk told the owner's death, by its cell's address in t's process
 abbrev pub death_at : Layout' → ℕ → Option Point → Option ℕ
@@ -366,7 +405,8 @@ walked s t held w =
       state = record s {
         words = words_after s t a;
         queues = queues_after s t a;
-        threads = put s.threads t (record { stage = stage_walked w row; held = held_after held operation.Death (told_of death) });
+        threads = put s.threads t
+            (record { stage = stage_walked w row; held = held_after held operation.Death (told_of death) });
       };
       note = Walked t death (woken s t a) (has_ended row);
     }
@@ -382,7 +422,8 @@ is_in_head t p = nat_le (head_place t) p && nat_lt p (head_place t + 3)
 abbrev pub renewed : State → ℕ → After
 renewed s t =
     record {
-      state = record s { words = λ p. if is_in_head t p then head_word s.layout p else s.words p; threads = put s.threads t idle };
+      state = record s
+          { words = λ p. if is_in_head t p then head_word s.layout p else s.words p; threads = put s.threads t idle };
       note = Renewed t;
     }
 
@@ -395,7 +436,8 @@ is_unusable s m = (fields_of (s.words (cell_place s.layout m))).unusable
 -- thread t is in no call, and mutex m, one of the layout, is unusable, and nobody sleeps on it. (So nobody owns it
 -- either)
 abbrev pub may_reinit : State → ℕ → ℕ → Bool
-may_reinit s t m = has_thread s t && is_idle (s.threads t).stage && nat_lt m s.layout.mutexes && is_unusable s m && is_nobody (sleepers s m)
+may_reinit s t m = has_thread s t && is_idle (s.threads t).stage && nat_lt m s.layout.mutexes && is_unusable s m
+    && is_nobody (sleepers s m)
 
 -- it makes the mutex anew (pthread_mutex_destroy(3p), pthread_mutex_init(3p)): its word is as at first
 abbrev pub reinited : State → ℕ → ℕ → After
@@ -406,16 +448,20 @@ reinited s t m = record { state = record s { words = put s.words (cell_place s.l
 abbrev pub stepped : State → ℕ → ℕ → Stage → After
 stepped s t held (Calling o p) =
     if sleeps s t (Calling o p) then nothing s
-    else went s t held (mutex_of s.layout o) (Mutex (mutex_of s.layout o)) (whole_access p) (led o p (whole_led p (answer_of s t (whole_access p))))
+    else went s t held (mutex_of s.layout o) (Mutex (mutex_of s.layout o)) (whole_access p)
+    (led o p (whole_led p (answer_of s t (whole_access p))))
 stepped s t held (AtCondition c p) =
-    went s t held (mutex_of s.layout (OnCondition c)) (Condition (conditions.condition_of c)) (condition.cond_access p) (led_at c p (condition.cond_led p (answer_of s t (condition.cond_access p))))
+    went s t held (mutex_of s.layout (OnCondition c)) (Condition (conditions.condition_of c)) (condition.cond_access p)
+    (led_at c p (condition.cond_led p (answer_of s t (condition.cond_access p))))
 stepped s t held (Dying w) = walked s t held w
 stepped s t held g = nothing s
 
 -- where a thread that doesn't sleep is about to trim, that is declined
 abbrev pub declined : State → ℕ → ℕ → Stage → After
 declined s t held (Calling o p) =
-    if is_trim (whole_access p) && not (sleeps s t (Calling o p)) then spared s t held (mutex_of s.layout o) (led o p (whole_led p (Trimmed false))) else nothing s
+    if is_trim (whole_access p) && not (sleeps s t (Calling o p))
+    then spared s t held (mutex_of s.layout o) (led o p (whole_led p (Trimmed false)))
+    else nothing s
 declined s t held g = nothing s
 
 -- a begin of a busy, killed or unknown thread or of a call outside the layout, a step of an idle, sleeping, reaped or

@@ -5,11 +5,13 @@ use Rattle.lockword.specs.declared.reply.Reply.TheVariants.{OK}
 use Rattle.posixmutex.specs.declared.point.Operation.TheVariants as operation
 use Rattle.posixmutex.specs.declared.point.Decision.{Decision}
 use Rattle.protocol.specs.declared.note.Note.{Note}
-use Rattle.protocol.specs.declared.note.Note.TheVariants.{Nothing, Began, Stepped, Killed, Walked, Left, Renewed, Reinited}
+use Rattle.protocol.specs.declared.note.Note.TheVariants.{Nothing, Began, Stepped, Killed}
+use Rattle.protocol.specs.declared.note.Note.TheVariants.{Walked, Left, Renewed, Reinited}
 use Rattle.facts.specs.declared.fact.Begun.{Begun}
 use Rattle.facts.specs.declared.fact.Queue.{Queue}
 use Rattle.facts.specs.declared.fact.Fact.{Fact}
-use Rattle.facts.specs.declared.fact.Fact.TheVariants.{Begin, Point, Sleep, Wake, Move, Return, Kill, Death, Reap, Renew}
+use Rattle.facts.specs.declared.fact.Fact.TheVariants.{Begin, Point, Sleep, Wake, Move}
+use Rattle.facts.specs.declared.fact.Fact.TheVariants.{Return, Kill, Death, Reap, Renew}
 use Rattle.facts.specs.declared.fact.Line.{Line}
 
 abbrev pub return_facts : ℕ → Option Reply → List Fact
@@ -23,7 +25,8 @@ point_facts (Some d) = Point d ∷ []
 -- a call that is refused at once is decided and returns
 abbrev pub refusal_facts : ℕ → Begun → Option Reply → List Fact
 refusal_facts t c None = []
-refusal_facts t c (Some x) = Point (record { thread = t; mutex = c.mutex; operation = c.operation; reply = x }) ∷ Return t x ∷ []
+refusal_facts t c (Some x) =
+    Point (record { thread = t; mutex = c.mutex; operation = c.operation; reply = x }) ∷ Return t x ∷ []
 
 abbrev pub sleep_facts : ℕ → Option Queue → List Fact
 sleep_facts t None = []
@@ -49,11 +52,13 @@ reinit_of m = record { operation = operation.Reinit; mutex = m; condition = None
 abbrev pub facts_of : Note → List Fact
 facts_of Nothing = []
 facts_of (Began t c refused) = Begin t c ∷ refusal_facts t c refused
-facts_of (Stepped t m point slept woken moved returned) = point_facts point ++ (sleep_facts t slept ++ (map Wake woken ++ (map (moves_to m) moved ++ return_facts t returned)))
+facts_of (Stepped t m point slept woken moved returned) = point_facts point
+    ++ (sleep_facts t slept ++ (map Wake woken ++ (map (moves_to m) moved ++ return_facts t returned)))
 facts_of (Killed t) = Kill t ∷ []
 facts_of (Left t) = Wake t ∷ []
 facts_of (Renewed t) = Renew t ∷ []
-facts_of (Reinited t m) = Begin t (reinit_of m) ∷ Point (record { thread = t; mutex = m; operation = operation.Reinit; reply = OK }) ∷ Return t OK ∷ []
+facts_of (Reinited t m) = Begin t (reinit_of m)
+    ∷ Point (record { thread = t; mutex = m; operation = operation.Reinit; reply = OK }) ∷ Return t OK ∷ []
 facts_of (Walked t death woken reaped) = death_facts t death ++ (map Wake woken ++ reap_facts t reaped)
 
 abbrev pub line_of : ℕ → Fact → Line

@@ -63,21 +63,24 @@ pub record IsPassedBy (t k : ℕ) (told : List Note) : Type 0 where
   pub rest : List Note
   pub told_so : told ≡ before ++ release ∷ (between ++ count ∷ (later ++ sleep ∷ rest))
   pub mutex : ℕ
-  pub releases : IsAmong (Point (record { thread = t; mutex = mutex; operation = Unlock; reply = OK })) (facts_of release)
+  pub releases : IsAmong (Point (record { thread = t; mutex = mutex; operation = Unlock; reply = OK }))
+      (facts_of release)
   pub point : Decision
-  pub counts : IsAmong (Point point) (facts_of count) × Counts point.operation point.reply × IsOn k (call_told point.thread (before ++ release ∷ between))
+  pub counts : IsAmong (Point point) (facts_of count) × Counts point.operation point.reply
+      × IsOn k (call_told point.thread (before ++ release ∷ between))
   pub sleeps : IsAmong (Sleep t (Condition k)) (facts_of sleep)
   pub same_call : BeginsNone t (facts_among (between ++ count ∷ later))
 
 -- ---- wakes and moves
 
 -- at this event a call of thread t, as it was told, of this operation on condition variable k, returns OK
-pub record ReturnsOk (s : State) (events before after : List Event) (t k : ℕ) (b : Begun) (op : Operation) : Type 0 where
-  pub happened : events ≡ before ++ Step t ∷ after
-  pub told : call_told t (notes s before) ≡ Some b
-  pub operation : b.operation ≡ op
-  pub condition : b.condition ≡ Some k
-  pub returns : IsAmong (Return t OK) (facts_of (happens (run s before) (Step t)).note)
+pub record ReturnsOk (s : State) (events before after : List Event) (t k : ℕ) (b : Begun) (op : Operation) : Type 0
+  where
+    pub happened : events ≡ before ++ Step t ∷ after
+    pub told : call_told t (notes s before) ≡ Some b
+    pub operation : b.operation ≡ op
+    pub condition : b.condition ≡ Some k
+    pub returns : IsAmong (Return t OK) (facts_of (happens (run s before) (Step t)).note)
 
 -- who stood in the queue of condition variable k after these events
 abbrev pub waiters_of : State → List Event → ℕ → List ℕ
@@ -93,7 +96,9 @@ WakesFirst s events = (before after : List Event) (t k : ℕ) (b : Begun) → Re
 -- before it; nothing else is told of the event, and nobody stands there directly after it
 abbrev pub MovesAll : State → List Event → Type 0
 MovesAll s events = (before after : List Event) (t k : ℕ) (b : Begun) → ReturnsOk s events before after t k b Broadcast
-    → (facts_of (happens (run s before) (Step t)).note ≡ map (moves_to b.mutex) (waiters_of s before k) ++ Return t OK ∷ []) × ((happens (run s before) (Step t)).state.queues (queue_place s.layout (Condition k)) ≡ [])
+    → (facts_of (happens (run s before) (Step t)).note
+    ≡ map (moves_to b.mutex) (waiters_of s before k) ++ Return t OK ∷ [])
+    × ((happens (run s before) (Step t)).state.queues (queue_place s.layout (Condition k)) ≡ [])
 
 -- ---- runs
 
@@ -108,4 +113,5 @@ ArePresets counters = (k : ℕ) → counters k ≤ largest_counter
 
 -- whatever happens, with any such values of the counters at the beginning
 abbrev pub NobodyIsPassedBy : Type 0
-NobodyIsPassedBy = (l : Layout') (counters : ℕ → ℕ) (events : List Event) → IsLayout l → ArePresets counters → PassesNobody (start l counters) events
+NobodyIsPassedBy = (l : Layout') (counters : ℕ → ℕ) (events : List Event) → IsLayout l → ArePresets counters
+    → PassesNobody (start l counters) events

@@ -38,16 +38,19 @@ pub record OnlyReinits (s s' : State) (m : ℕ) : Type 0 where
 
 -- it is told as a call of one event: its begin, its point and its return with OK
 abbrev pub reinit_told : ℕ → ℕ → List Fact
-reinit_told t m = Begin t (record { operation = operation.Reinit; mutex = m; condition = None }) ∷ (Point (record { thread = t; mutex = m; operation = operation.Reinit; reply = OK }) ∷ (Return t OK ∷ []))
+reinit_told t m = Begin t (record { operation = operation.Reinit; mutex = m; condition = None })
+    ∷ (Point (record { thread = t; mutex = m; operation = operation.Reinit; reply = OK }) ∷ (Return t OK ∷ []))
 
 -- thread t makes mutex m anew where it may, and that is told; else nothing happens
 pub record ReinitsSo (s : State) (t m : ℕ) : Type 0 where
-  pub anew : MayReinit s t m → OnlyReinits s (happens s (Reinit t m)).state m × (facts_of (happens s (Reinit t m)).note ≡ reinit_told t m)
+  pub anew : MayReinit s t m
+      → OnlyReinits s (happens s (Reinit t m)).state m × (facts_of (happens s (Reinit t m)).note ≡ reinit_told t m)
   pub else_nothing : ¬ MayReinit s t m → happens s (Reinit t m) ≡ nothing s
 
 -- whatever happened, with any values of the counters at the beginning
 abbrev pub ReinitsFreeTheMutex : Type 0
-ReinitsFreeTheMutex = (l : Layout') (counters : ℕ → ℕ) (events : List Event) → IsLayout l → (t m : ℕ) → ReinitsSo (run (start l counters) events) t m
+ReinitsFreeTheMutex = (l : Layout') (counters : ℕ → ℕ) (events : List Event) → IsLayout l → (t m : ℕ)
+    → ReinitsSo (run (start l counters) events) t m
 
 -- ---- runs without reinits
 
@@ -61,7 +64,8 @@ NobodyReinits m (e ∷ es) = NobodyReinits m es
 -- whatever else happens behind that
 abbrev pub UnusableStays : Type 0
 UnusableStays = (l : Layout') (counters : ℕ → ℕ) (before after : List Event) (m : ℕ) → IsLayout l
-    → (seen (run (start l counters) before) m).unusable ≡ true → NobodyReinits m after → (seen (run (run (start l counters) before) after) m).unusable ≡ true
+    → (seen (run (start l counters) before) m).unusable ≡ true → NobodyReinits m after
+    → (seen (run (run (start l counters) before) after) m).unusable ≡ true
 
 -- ---- who comes to sleep on an unusable mutex
 
@@ -74,4 +78,5 @@ pub record NobodyJoins (s : State) (m : ℕ) : Type 0 where
 -- whatever happened, with any values of the counters at the beginning: so it is of a mutex that is unusable then.
 -- Whoever sees nobody sleep there finds nobody there later, as long as the mutex isn't made anew
 abbrev pub NobodyJoinsAnUnusableMutex : Type 0
-NobodyJoinsAnUnusableMutex = (l : Layout') (counters : ℕ → ℕ) (events : List Event) (m : ℕ) → IsLayout l → m < l.mutexes → (seen (run (start l counters) events) m).unusable ≡ true → NobodyJoins (run (start l counters) events) m
+NobodyJoinsAnUnusableMutex = (l : Layout') (counters : ℕ → ℕ) (events : List Event) (m : ℕ) → IsLayout l → m < l.mutexes
+    → (seen (run (start l counters) events) m).unusable ≡ true → NobodyJoins (run (start l counters) events) m

@@ -19,7 +19,8 @@ use Rattle.protocol.specs.Deaths.{ReportsDeath}
 -- thread is as it was, and every queue
 pub record OnlyRenews (s s' : State) (t : ℕ) : Type 0 where
   pub thread : s'.threads t ≡ idle
-  pub head : (counters : ℕ → ℕ) (k : ℕ) → k < 3 → s'.words (head_place t + k) ≡ first_word s.layout counters (head_place t + k)
+  pub head : (counters : ℕ → ℕ) (k : ℕ) → k < 3
+      → s'.words (head_place t + k) ≡ first_word s.layout counters (head_place t + k)
   pub words : (p : ℕ) → ((k : ℕ) → k < 3 → p ≢ head_place t + k) → s'.words p ≡ s.words p
   pub others : (u : ℕ) → u ≢ t → s'.threads u ≡ s.threads u
   pub queues : (key : ℕ) → s'.queues key ≡ s.queues key
@@ -28,11 +29,13 @@ pub record OnlyRenews (s s' : State) (t : ℕ) : Type 0 where
 
 -- where it was reaped, and that it is renewed is all that is told
 abbrev pub RenewsSo : State → ℕ → Type 0
-RenewsSo s t = (s.threads t).stage ≡ Reaped → OnlyRenews s (happens s (Renew t)).state t × (facts_of (happens s (Renew t)).note ≡ fact.Renew t ∷ [])
+RenewsSo s t = (s.threads t).stage ≡ Reaped
+    → OnlyRenews s (happens s (Renew t)).state t × (facts_of (happens s (Renew t)).note ≡ fact.Renew t ∷ [])
 
 -- whatever happened, with any values of the counters at the beginning: so each thread of the layout begins anew
 abbrev pub RenewalsBeginAnew : Type 0
-RenewalsBeginAnew = (l : Layout') (counters : ℕ → ℕ) (events : List Event) → IsLayout l → (t : ℕ) → 1 ≤ t → t ≤ l.threads → RenewsSo (run (start l counters) events) t
+RenewalsBeginAnew = (l : Layout') (counters : ℕ → ℕ) (events : List Event) → IsLayout l → (t : ℕ) → 1 ≤ t
+    → t ≤ l.threads → RenewsSo (run (start l counters) events) t
 
 -- ---- runs without renewals
 
@@ -45,8 +48,11 @@ NobodyIsRenewed (e ∷ es) = NobodyIsRenewed es
 -- then what is told of each thread is one life, and a death is reported however much happens behind it
 pub record LivesOnce (s : State) (events : List Event) : Type 0 where
   pub lives : (t : ℕ) → Life t (own t (lines_from 1 (notes s events)))
-  pub deaths : (before after : List Event) (t : ℕ) → events ≡ before ++ Kill t ∷ after → has_thread (run s before) t ≡ true → is_alive ((run s before).threads t).stage ≡ true → ReportsDeath (run s before) t after
+  pub deaths : (before after : List Event) (t : ℕ) → events ≡ before ++ Kill t ∷ after
+      → has_thread (run s before) t ≡ true → is_alive ((run s before).threads t).stage ≡ true
+      → ReportsDeath (run s before) t after
 
 -- whatever else happens, with any values of the counters at the beginning
 abbrev pub LivesAreOne : Type 0
-LivesAreOne = (l : Layout') (counters : ℕ → ℕ) (events : List Event) → IsLayout l → NobodyIsRenewed events → LivesOnce (start l counters) events
+LivesAreOne = (l : Layout') (counters : ℕ → ℕ) (events : List Event) → IsLayout l → NobodyIsRenewed events
+    → LivesOnce (start l counters) events

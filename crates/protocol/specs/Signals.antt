@@ -1,6 +1,7 @@
 -- A signal and a broadcast by the owner of the mutex that no other event divides (pthread_cond_signal(3p),
 -- pthread_cond_broadcast(3p)).
-use Rattle.std.specs.Prelude.{ℕ, ◌≡◌, ◌≢◌, ◌+◌, ◌≤◌, true, Some, List, [], ◌∷◌, ◌++◌, map, replicate, take, drop, slice_index}
+use Rattle.std.specs.Prelude.{ℕ, ◌≡◌, ◌≢◌, ◌+◌, ◌≤◌, true, Some, List, [], ◌∷◌}
+use Rattle.std.specs.Prelude.{◌++◌, map, replicate, take, drop, slice_index}
 use Rattle.lockword.specs.Cells.{fields_of}
 use Rattle.lockword.specs.declared.reply.Reply.{Reply}
 use Rattle.lockword.specs.declared.reply.Reply.TheVariants.{OK, XFULL}
@@ -27,7 +28,8 @@ call_alone t c n = event.Begin t (OnCondition c) ∷ replicate n (event.Step t)
 
 -- its begin and its one point, and then these facts and its return are told
 abbrev pub told_of_call : State → ℕ → CondCall → ℕ → Operation → Reply → List Fact → List Fact
-told_of_call s t c m op x fs = Begin t (begun_of s.layout (OnCondition c)) ∷ (Point (record { thread = t; mutex = m; operation = op; reply = x }) ∷ (fs ++ Return t x ∷ []))
+told_of_call s t c m op x fs = Begin t (begun_of s.layout (OnCondition c))
+    ∷ (Point (record { thread = t; mutex = m; operation = op; reply = x }) ∷ (fs ++ Return t x ∷ []))
 
 -- nothing changed
 pub record IsUnchanged (s s' : State) : Type 0 where
@@ -47,26 +49,41 @@ pub record IsSignalled (s s' : State) (k : ℕ) : Type 0 where
 -- its order, to the end of the mutex's, and nothing else changed
 pub record IsBroadcast (s s' : State) (k m : ℕ) : Type 0 where
   pub counter : s'.words (counter_place s.layout k) ≡ s.words (counter_place s.layout k) + 1
-  pub cell : fields_of (s'.words (cell_place s.layout m)) ≡ record (fields_of (s.words (cell_place s.layout m))) { waiters = true }
+  pub cell : fields_of (s'.words (cell_place s.layout m))
+      ≡ record (fields_of (s.words (cell_place s.layout m))) { waiters = true }
   pub words : (p : ℕ) → p ≢ counter_place s.layout k → p ≢ cell_place s.layout m → s'.words p ≡ s.words p
   pub queue : s'.queues (counter_place s.layout k) ≡ []
-  pub moved : s'.queues (cell_place s.layout m) ≡ s.queues (cell_place s.layout m) ++ s.queues (counter_place s.layout k)
+  pub moved : s'.queues (cell_place s.layout m)
+      ≡ s.queues (cell_place s.layout m) ++ s.queues (counter_place s.layout k)
   pub queues : (key : ℕ) → key ≢ counter_place s.layout k → key ≢ cell_place s.layout m → s'.queues key ≡ s.queues key
   pub threads : (u : ℕ) → s'.threads u ≡ s.threads u
 
 -- by the owner of condition variable k's mutex m: refused exactly where the counter has its largest value
 pub record IsRightAlone (s : State) (t k m n : ℕ) : Type 0 where
-  pub signal_full : s.words (counter_place s.layout k) ≡ largest_counter → IsUnchanged s (run s (call_alone t (Signal k) n)) × (facts_among (notes s (call_alone t (Signal k) n)) ≡ told_of_call s t (Signal k) m operation.Signal XFULL [])
+  pub signal_full : s.words (counter_place s.layout k) ≡ largest_counter
+      → IsUnchanged s (run s (call_alone t (Signal k) n))
+      × (facts_among (notes s (call_alone t (Signal k) n)) ≡ told_of_call s t (Signal k) m operation.Signal XFULL [])
   pub signal : s.words (counter_place s.layout k) ≢ largest_counter
-      → IsSignalled s (run s (call_alone t (Signal k) n)) k × (facts_among (notes s (call_alone t (Signal k) n)) ≡ told_of_call s t (Signal k) m operation.Signal OK (map Wake (take 1 (s.queues (counter_place s.layout k)))))
-  pub broadcast_full : s.words (counter_place s.layout k) ≡ largest_counter → IsUnchanged s (run s (call_alone t (Broadcast k) n)) × (facts_among (notes s (call_alone t (Broadcast k) n)) ≡ told_of_call s t (Broadcast k) m operation.Broadcast XFULL [])
+      → IsSignalled s (run s (call_alone t (Signal k) n)) k
+      × (facts_among (notes s (call_alone t (Signal k) n))
+      ≡ told_of_call s t (Signal k) m operation.Signal OK (map Wake (take 1 (s.queues (counter_place s.layout k)))))
+  pub broadcast_full : s.words (counter_place s.layout k) ≡ largest_counter
+      → IsUnchanged s (run s (call_alone t (Broadcast k) n))
+      × (facts_among (notes s (call_alone t (Broadcast k) n))
+      ≡ told_of_call s t (Broadcast k) m operation.Broadcast XFULL [])
   pub broadcast : s.words (counter_place s.layout k) ≢ largest_counter
-      → IsBroadcast s (run s (call_alone t (Broadcast k) n)) k m × (facts_among (notes s (call_alone t (Broadcast k) n)) ≡ told_of_call s t (Broadcast k) m operation.Broadcast OK (map (moves_to m) (s.queues (counter_place s.layout k))))
+      → IsBroadcast s (run s (call_alone t (Broadcast k) n)) k m
+      × (facts_among (notes s (call_alone t (Broadcast k) n))
+      ≡ told_of_call s t (Broadcast k) m operation.Broadcast OK
+      (map (moves_to m) (s.queues (counter_place s.layout k))))
 
 -- a thread in no call, that owns the mutex of condition variable k, calls; it has returned within 9,000 steps
 abbrev pub AreRightAlone : State → Type 0
-AreRightAlone s = (t k n : ℕ) → may_begin s t (OnCondition (Signal k)) ≡ true → (seen s (slice_index s.layout.conditions k)).owner ≡ Some t → 9000 ≤ n → IsRightAlone s t k (slice_index s.layout.conditions k) n
+AreRightAlone s = (t k n : ℕ) → may_begin s t (OnCondition (Signal k)) ≡ true
+    → (seen s (slice_index s.layout.conditions k)).owner ≡ Some t → 9000 ≤ n
+    → IsRightAlone s t k (slice_index s.layout.conditions k) n
 
 -- whatever happened before, with any such values of the counters at the beginning
 abbrev pub SignalsAreRight : Type 0
-SignalsAreRight = (l : Layout') (counters : ℕ → ℕ) (events : List Event) → IsLayout l → ArePresets counters → AreRightAlone (run (start l counters) events)
+SignalsAreRight = (l : Layout') (counters : ℕ → ℕ) (events : List Event) → IsLayout l → ArePresets counters
+    → AreRightAlone (run (start l counters) events)

@@ -17,7 +17,8 @@ use Rattle.protocol.specs.declared.event.Event.{Event}
 use Rattle.protocol.specs.declared.event.Event.TheVariants.{Begin, Step}
 use Rattle.facts.specs.declared.fact.Fact.{Fact}
 use Rattle.facts.specs.declared.fact.Fact.TheVariants.{Return}
-use Rattle.protocol.specs.Machine.{State, start, run, notes, stands_in, sleepers, is_busy, is_dying, is_asleep, may_begin}
+use Rattle.protocol.specs.Machine.{State, start, run, notes, stands_in, sleepers}
+use Rattle.protocol.specs.Machine.{is_busy, is_dying, is_asleep, may_begin}
 use Rattle.protocol.specs.Headline.{seen, facts_among}
 
 -- thread t stands in a queue
@@ -42,11 +43,14 @@ alone s t n = run s (replicate n (Step t))
 
 -- thread t, run alone, takes mutex m or wakes one that sleeps on it, within n steps
 abbrev pub Owes : State → ℕ → ℕ → ℕ → Type 0
-Owes s t m n = (k : ℕ) × (k ≤ n) × (((seen (alone s t k) m).owner ≡ Some t) ⊎ ((u : ℕ) × Sleeps s u m × (stands_in u (sleepers (alone s t k) m) ≡ false)))
+Owes s t m n = (k : ℕ) × (k ≤ n)
+    × (((seen (alone s t k) m).owner ≡ Some t)
+    ⊎ ((u : ℕ) × Sleeps s u m × (stands_in u (sleepers (alone s t k) m) ≡ false)))
 
 -- whenever a mutex that nobody owns has sleepers, some awake thread owes them
 abbrev pub SomebodyOwes : State → Type 0
-SomebodyOwes s = (m u : ℕ) → m < s.layout.mutexes → IsUnowned s m → Sleeps s u m → (t : ℕ) × IsAwake s t × Owes s t m 9000
+SomebodyOwes s =
+    (m u : ℕ) → m < s.layout.mutexes → IsUnowned s m → Sleeps s u m → (t : ℕ) × IsAwake s t × Owes s t m 9000
 
 -- thread t has ended its call, and its walk if it died; or it sleeps
 abbrev pub IsAtRest : State → ℕ → Type 0
@@ -77,9 +81,17 @@ pub record IsWaiting (o : Object) (t : ℕ) (op : Operation) (condition : Option
 -- and it sleeps only where it is a lock of a mutex that another owns, or a wait by the owner of a consistent one, and
 -- that in the queue of its condition variable
 pub record IsUndivided (s : State) (t : ℕ) (c : Op) (n : ℕ) : Type 0 where
-  pub ends : 9000 ≤ n → ((x : Reply) × IsAmong (Return t x) (facts_among (notes s (Begin t c ∷ replicate n (Step t))))) ⊎ (is_asleep (run s (Begin t c ∷ replicate n (Step t))) t ≡ true)
-  pub returns : (x : Reply) → IsAmong (Return t x) (facts_among (notes s (Begin t c ∷ replicate n (Step t)))) → (x ≢ XRACED) × Does (held_by t (seen s) s.layout.mutexes) (seen s (mutex_of s.layout c)) t (operation_of c) x (seen (run s (Begin t c ∷ replicate n (Step t))) (mutex_of s.layout c))
-  pub sleeps : is_asleep (run s (Begin t c ∷ replicate n (Step t))) t ≡ true → IsKeptWaiting (seen s (mutex_of s.layout c)) t (operation_of c) ⊎ IsWaiting (seen s (mutex_of s.layout c)) t (operation_of c) (condition_of c) (run s (Begin t c ∷ replicate n (Step t)))
+  pub ends : 9000 ≤ n
+      → ((x : Reply) × IsAmong (Return t x) (facts_among (notes s (Begin t c ∷ replicate n (Step t)))))
+      ⊎ (is_asleep (run s (Begin t c ∷ replicate n (Step t))) t ≡ true)
+  pub returns : (x : Reply) → IsAmong (Return t x) (facts_among (notes s (Begin t c ∷ replicate n (Step t))))
+      → (x ≢ XRACED)
+      × Does (held_by t (seen s) s.layout.mutexes) (seen s (mutex_of s.layout c)) t (operation_of c) x
+      (seen (run s (Begin t c ∷ replicate n (Step t))) (mutex_of s.layout c))
+  pub sleeps : is_asleep (run s (Begin t c ∷ replicate n (Step t))) t ≡ true
+      → IsKeptWaiting (seen s (mutex_of s.layout c)) t (operation_of c)
+      ⊎ IsWaiting (seen s (mutex_of s.layout c)) t (operation_of c) (condition_of c)
+      (run s (Begin t c ∷ replicate n (Step t)))
 
 -- what thread t can do alone in every state that events lead to: the three together
 pub record RunsAlone (s : State) : Type 0 where
@@ -90,14 +102,17 @@ pub record RunsAlone (s : State) : Type 0 where
 -- whatever happens, with any values of the counters at the beginning: whenever a mutex that nobody owns has sleepers,
 -- some awake thread owes them
 abbrev pub NoSleeperIsStranded : Type 0
-NoSleeperIsStranded = (l : Layout') (counters : ℕ → ℕ) (events : List Event) → IsLayout l → SomebodyOwes (run (start l counters) events)
+NoSleeperIsStranded =
+    (l : Layout') (counters : ℕ → ℕ) (events : List Event) → IsLayout l → SomebodyOwes (run (start l counters) events)
 
 -- whatever happens, so: whoever is awake and runs alone comes to rest
 abbrev pub LoneThreadsComeToRest : Type 0
-LoneThreadsComeToRest = (l : Layout') (counters : ℕ → ℕ) (events : List Event) → IsLayout l → (t : ℕ) → EndsAlone (run (start l counters) events) t
+LoneThreadsComeToRest = (l : Layout') (counters : ℕ → ℕ) (events : List Event) → IsLayout l → (t : ℕ)
+    → EndsAlone (run (start l counters) events) t
 
 -- whatever happened before, so: a call that may begin, and that no other event divides, returns or sleeps as its
 -- mutex's object says
 abbrev pub UndividedCallsReply : Type 0
 UndividedCallsReply = (l : Layout') (counters : ℕ → ℕ) (events : List Event) → IsLayout l
-    → (t : ℕ) (c : Op) (n : ℕ) → may_begin (run (start l counters) events) t c ≡ true → IsUndivided (run (start l counters) events) t c n
+    → (t : ℕ) (c : Op) (n : ℕ) → may_begin (run (start l counters) events) t c ≡ true
+    → IsUndivided (run (start l counters) events) t c n

@@ -6,4 +6,5 @@ use Rattle.protocol.specs.Notes.{moves_to}
 
 -- two facts that come first, those who are woken, those who are moved to mutex m, and the last fact
 abbrev pub in_turn : Option Fact → Option Fact → List ℕ → ℕ → List ℕ → Option Fact → List Fact
-in_turn first second woken m moved last = option_to_list first ++ (option_to_list second ++ (map Wake woken ++ (map (moves_to m) moved ++ option_to_list last)))
+in_turn first second woken m moved last = option_to_list first
+    ++ (option_to_list second ++ (map Wake woken ++ (map (moves_to m) moved ++ option_to_list last)))

@@ -20,16 +20,19 @@ HasWaiters s m = (fields_of (s.words (cell_place s.layout m))).waiters ≡ true
 
 -- WAITERS stays in each mutex's word; or it goes from one that nobody owned, and nobody sleeps on it
 abbrev pub WaitersStay : State → State → Type 0
-WaitersStay s s' = (m : ℕ) → m < s.layout.mutexes → HasWaiters s m → HasWaiters s' m ⊎ ((sleepers s' m ≡ []) × IsUnowned s m)
+WaitersStay s s' =
+    (m : ℕ) → m < s.layout.mutexes → HasWaiters s m → HasWaiters s' m ⊎ ((sleepers s' m ≡ []) × IsUnowned s m)
 
 -- thread t has released mutex m in an unlock, and is to wake one that sleeps on it
 abbrev pub IsToWakeOne : State → ℕ → ℕ → Type 0
-IsToWakeOne s t m = (p : Whole) × ((s.threads t).stage ≡ Calling (OnMutex (call.Unlock m)) p) × (p.phase ≡ AtCell (row.Unlock (Wake false)))
+IsToWakeOne s t m = (p : Whole) × ((s.threads t).stage ≡ Calling (OnMutex (call.Unlock m)) p)
+    × (p.phase ≡ AtCell (row.Unlock (Wake false)))
 
 -- where nobody sleeps on the mutex, the thread's next two steps leave its word 0, if that was WAITERS alone, and else
 -- leave it as it was
 abbrev pub IsTrimmed : State → ℕ → ℕ → Type 0
-IsTrimmed s t m = (run s (Step t ∷ Step t ∷ [])).words (cell_place s.layout m) ≡ (if s.words (cell_place s.layout m) == 0x8000_0000 then 0 else s.words (cell_place s.layout m))
+IsTrimmed s t m = (run s (Step t ∷ Step t ∷ [])).words (cell_place s.layout m)
+    ≡ (if s.words (cell_place s.layout m) == 0x8000_0000 then 0 else s.words (cell_place s.layout m))
 
 -- whoever sleeps on a mutex is told of in its word; at each event WAITERS stays so; and an unlock that finds nobody to
 -- wake takes it away
@@ -40,4 +43,5 @@ pub record WaitersAreTold (s : State) : Type 0 where
 
 -- whatever happened before, with any values of the counters at the beginning
 abbrev pub WaitersAreKept : Type 0
-WaitersAreKept = (l : Layout') (counters : ℕ → ℕ) (events : List Event) → IsLayout l → WaitersAreTold (run (start l counters) events)
+WaitersAreKept =
+    (l : Layout') (counters : ℕ → ℕ) (events : List Event) → IsLayout l → WaitersAreTold (run (start l counters) events)

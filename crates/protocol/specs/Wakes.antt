@@ -44,7 +44,8 @@ left_next t s o (f ∷ fs) = left_next t s o fs
 -- by these events from state s on
 abbrev pub left_by : ℕ → State → Option Object → List Event → Option Object
 left_by t s o [] = o
-left_by t s o (e ∷ es) = left_by t (happens s e).state (left_next t (happens s e).state o (facts_of (happens s e).note)) es
+left_by t s o (e ∷ es) =
+    left_by t (happens s e).state (left_next t (happens s e).state o (facts_of (happens s e).note)) es
 
 -- ---- whom a call wakes or moves
 
@@ -84,8 +85,10 @@ AreNoneOr these told = (told ≡ []) ⊎ (told ≡ these)
 -- point was left so: in a call it wakes and moves those whom that call is to, out of its own queues; once the thread is
 -- dead, the walk of its list wakes the first of a mutex's queue
 abbrev pub WakesWhom : State → Told → Option Begun → Option Object → List Fact → Type 0
-WakesWhom s InCall (Some b) o fs = AreNoneOr (map Wake (whom_it_wakes s o b.operation b.mutex b.condition)) (wakes_in fs) × AreNoneOr (map (moves_to b.mutex) (whom_it_moves s b.operation b.condition)) (moves_in fs)
-WakesWhom s Dead b o fs = ((wakes_in fs ≡ []) ⊎ (m : ℕ) × (m < s.layout.mutexes) × (wakes_in fs ≡ map Wake (take 1 (sleepers s m)))) × (moves_in fs ≡ [])
+WakesWhom s InCall (Some b) o fs = AreNoneOr (map Wake (whom_it_wakes s o b.operation b.mutex b.condition))
+    (wakes_in fs) × AreNoneOr (map (moves_to b.mutex) (whom_it_moves s b.operation b.condition)) (moves_in fs)
+WakesWhom s Dead b o fs = ((wakes_in fs ≡ [])
+    ⊎ (m : ℕ) × (m < s.layout.mutexes) × (wakes_in fs ≡ map Wake (take 1 (sleepers s m)))) × (moves_in fs ≡ [])
 WakesWhom s w b o fs = (wakes_in fs ≡ []) × (moves_in fs ≡ [])
 
 -- a leave wakes nobody but its own thread, if that sleeps, and moves nobody
@@ -94,12 +97,15 @@ WakesItself t fs = AreNoneOr (Wake t ∷ []) (wakes_in fs) × (moves_in fs ≡ [
 
 -- behind these events from state s on; a begin, a kill, a decline, a renewal and a reinit wake and move nobody
 abbrev pub WakesSo : State → List Event → Event → Type 0
-WakesSo s events (event.Step t) = WakesWhom (run s events) (last_told t (notes s events)) (call_told t (notes s events)) (left_by t s None events) (facts_of (happens (run s events) (event.Step t)).note)
+WakesSo s events (event.Step t) = WakesWhom (run s events) (last_told t (notes s events)) (call_told t (notes s events))
+    (left_by t s None events) (facts_of (happens (run s events) (event.Step t)).note)
 WakesSo s events (event.Leave t) = WakesItself t (facts_of (happens (run s events) (event.Leave t)).note)
-WakesSo s events e = (wakes_in (facts_of (happens (run s events) e).note) ≡ []) × (moves_in (facts_of (happens (run s events) e).note) ≡ [])
+WakesSo s events e = (wakes_in (facts_of (happens (run s events) e).note) ≡ [])
+    × (moves_in (facts_of (happens (run s events) e).note) ≡ [])
 
 -- ---- runs
 
 -- whatever happened, with any values of the counters at the beginning: so does the next event
 abbrev pub WakesAreRight : Type 0
-WakesAreRight = (l : Layout') (counters : ℕ → ℕ) (events : List Event) → IsLayout l → (e : Event) → WakesSo (start l counters) events e
+WakesAreRight = (l : Layout') (counters : ℕ → ℕ) (events : List Event) → IsLayout l → (e : Event)
+    → WakesSo (start l counters) events e

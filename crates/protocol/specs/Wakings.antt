@@ -1,5 +1,6 @@
 -- What a trace tells of who falls asleep and who is woken (futex(2)).
-use Rattle.std.specs.Prelude.{ℕ, length, slice_index, ◌≡◌, ◌≢◌, ◌<◌, ◌==◌, ◌↔◌, Bool, true, false, Option, Some, None, List, [], ◌∷◌, ◌++◌, if◌then◌else◌}
+use Rattle.std.specs.Prelude.{ℕ, length, slice_index, ◌≡◌, ◌≢◌, ◌<◌, ◌==◌, ◌↔◌, Bool, true}
+use Rattle.std.specs.Prelude.{false, Option, Some, None, List, [], ◌∷◌, ◌++◌, if◌then◌else◌}
 use Rattle.buckets.specs.Queues.{without}
 use Rattle.memorymap.specs.Layouts.{Layout', IsLayout}
 use Rattle.protocol.specs.declared.event.Event.{Event}
@@ -91,7 +92,8 @@ IsFront t (u ∷ us) = u ≡ t
 -- many of it are told, is said in `Wakes.antt`
 abbrev pub NamesFront : Layout' → (Queue → List ℕ) → Fact → Type 0
 NamesFront l w (Wake t) = (q : Queue) × IsQueue l q × IsFront t (w q)
-NamesFront l w (Move t m) = (k : ℕ) × (k < length l.conditions) × (slice_index l.conditions k ≡ m) × IsFront t (w (Condition k))
+NamesFront l w (Move t m) =
+    (k : ℕ) × (k < length l.conditions) × (slice_index l.conditions k ≡ m) × IsFront t (w (Condition k))
 NamesFront l w f = Unit {0}
 
 -- by the facts before it
@@ -122,7 +124,8 @@ LeavesQueue s s' t = ((key : ℕ) × (stands_in t (s.queues key) ≡ true)) × I
 
 -- it stood in the queue of a condition variable of mutex m, and stands in the mutex's then
 abbrev pub IsMoved : State → State → ℕ → ℕ → Type 0
-IsMoved s s' t m = ((k : ℕ) × (k < length s.layout.conditions) × (slice_index s.layout.conditions k ≡ m) × StandsIn s t (Condition k)) × StandsIn s' t (Mutex m)
+IsMoved s s' t m = ((k : ℕ) × (k < length s.layout.conditions) × (slice_index s.layout.conditions k ≡ m)
+    × StandsIn s t (Condition k)) × StandsIn s' t (Mutex m)
 
 -- an event tells thread t's sleep exactly where it comes to stand in a queue, which the sleep names; its wake exactly
 -- where it leaves one and stands in none, but by its kill; and its move exactly where it leaves that of a condition
@@ -138,7 +141,8 @@ pub record TellsTurns (s : State) (e : Event) (t : ℕ) : Type 0 where
 -- among sleep, move, wake and kill is a sleep or a move, in the one that this names, and in no other; in each queue
 -- they stand as they came, by what was told; and who is woken or moved is the front
 pub record TellsSleepers (l : Layout') (s : State) (ns : List Note) : Type 0 where
-  pub stands : (t key : ℕ) → stands_in t (s.queues key) ≡ true → (q : Queue) × (told_asleep t ns ≡ Some q) × (key ≡ queue_place l q)
+  pub stands : (t key : ℕ) → stands_in t (s.queues key) ≡ true
+      → (q : Queue) × (told_asleep t ns ≡ Some q) × (key ≡ queue_place l q)
   pub sleeps : (t : ℕ) (q : Queue) → told_asleep t ns ≡ Some q → IsQueue l q × StandsIn s t q
   pub alternate : (t : ℕ) → Alternates t None (facts_among ns)
   pub queues : (q : Queue) → IsQueue l q → s.queues (queue_place l q) ≡ queues_told ns q
@@ -147,4 +151,5 @@ pub record TellsSleepers (l : Layout') (s : State) (ns : List Note) : Type 0 whe
 
 -- whatever happens, with any values of the counters at the beginning; so after each event
 abbrev pub SleepsAreTold : Type 0
-SleepsAreTold = (l : Layout') (counters : ℕ → ℕ) (events : List Event) → IsLayout l → TellsSleepers l (run (start l counters) events) (notes (start l counters) events)
+SleepsAreTold = (l : Layout') (counters : ℕ → ℕ) (events : List Event) → IsLayout l
+    → TellsSleepers l (run (start l counters) events) (notes (start l counters) events)

@@ -17,5 +17,6 @@ StaysOwned s t r = Unit {0}
 
 -- whatever happens, with any values of the counters at the beginning
 abbrev pub WalksGoOn : Type 0
-WalksGoOn = (l : Layout') (counters : ℕ → ℕ) (events : List Event) → IsLayout l → (t : ℕ) → 1 ≤ t → t ≤ l.threads → (w : Standing) → ((run (start l counters) events).threads t).stage ≡ Dying w
+WalksGoOn = (l : Layout') (counters : ℕ → ℕ) (events : List Event) → IsLayout l → (t : ℕ) → 1 ≤ t → t ≤ l.threads
+    → (w : Standing) → ((run (start l counters) events).threads t).stage ≡ Dying w
     → StaysOwned (run (start l counters) events) t w.row

@@ -36,8 +36,9 @@
 //!     Event::Step(first),
 //!     Event::Kill(first),
 //! ];
-//! // `interleave` runs it. The fourth note is a `Note::Stepped` whose point says that the lock was decided with OK, the fifth
-//! // `Note::Killed`. From then on the thread's steps are the kernel's walk, which finds the mutex pending: `Note::Walked`.
+//! // `interleave` runs it. The fourth note is a `Note::Stepped` whose point says that the lock was decided with OK,
+//! // the fifth `Note::Killed`. From then on the thread's steps are the kernel's walk, which finds the mutex pending:
+//! // `Note::Walked`.
 //! ```
 #![tactic(auto)]
 

@@ -97,7 +97,8 @@ fn declared(bench: &Bench, pass: Pass<Live>, mutex: u16) -> Pass<Live>
     requires pass { IsLive bench.now pass }
     requires mutex { mutex < (layout_of bench.now).mutexes }
     ensures live { IsLive bench.now result }
-    ensures owns { owns_in (layout_of bench.now) (card pass) mutex ≡ true → owns_in (layout_of bench.now) (card result) mutex ≡ true }
+    ensures owns { owns_in (layout_of bench.now) (card pass) mutex ≡ true
+        → owns_in (layout_of bench.now) (card result) mutex ≡ true }
 {
     match bench.words().consistent(pass, mutex, &mut Never) {
         Outcome::Lives(pass, _) => pass,

@@ -15,7 +15,8 @@ use Rattle.streams.specs.Leaves.{AppendsFront}
 use Rattle.cmdline.specs.declared.form.Form.{Form}
 use Rattle.cmdline.specs.declared.form.Form.TheVariants as form
 use Rattle.report.specs.declared.messages.Failure.{Failure}
-use Rattle.report.specs.declared.messages.Failure.TheVariants.{Usage, CannotRead, CannotWrite, OutOfMemory, Script, Trace}
+use Rattle.report.specs.declared.messages.Failure.TheVariants.{Usage, CannotRead, CannotWrite}
+use Rattle.report.specs.declared.messages.Failure.TheVariants.{OutOfMemory, Script, Trace}
 use Rattle.streams.specs.declared.reading.ReadFault.{ReadFault}
 use Rattle.streams.specs.declared.reading.ReadFault.TheVariants as read
 use Rattle.report.specs.declared.threads.Answers.{Answers as Replies}
@@ -50,7 +51,9 @@ Stops replies s e = WantsAtFirst e
 -- what is wrong with these bytes as a script: their first fault, or want of memory at a line before it that says
 -- something; or what stops the script that they are
 abbrev pub IsFaultOf : Report → List ℕ → ScriptFault → Type 0
-IsFaultOf k bytes e = (TellsAt e e.fault (script_read (mode_of k) bytes) × (e.fault ≡ fault.OutOfMemory → SpeaksAt bytes e.line)) ⊎ ((s : Scope) × (script_read (mode_of k) bytes ≡ Ok s) × Stops k s e)
+IsFaultOf k bytes e = (TellsAt e e.fault (script_read (mode_of k) bytes)
+    × (e.fault ≡ fault.OutOfMemory → SpeaksAt bytes e.line))
+    ⊎ ((s : Scope) × (script_read (mode_of k) bytes ≡ Ok s) × Stops k s e)
 
 -- memory that no line asks for is wanted by real threads alone, of a script that was read
 abbrev pub WantsMemory : Report → List ℕ → Type 0
@@ -88,20 +91,28 @@ FailsTrace bytes old new (Trace e) = (new ≡ old) × Answers (trace_read bytes)
 
 -- the same for a reader's file: before the first byte it couldn't be read, or memory was wanted; or this came of its
 -- bytes, which are all that it had, or more than there may be
-abbrev pub FailsAt : ℕ → (List ℕ → Failure → Type 0) → Option (List ℕ) → Option (List ℕ) → Option (List ℕ) → Option (List ℕ) → Failure → Type 0
+abbrev pub FailsAt : ℕ → (List ℕ → Failure → Type 0) → Option (List ℕ) → Option (List ℕ) → Option (List ℕ)
+    → Option (List ℕ) → Failure → Type 0
 FailsAt most Comes had left old new Usage = ⊥
 FailsAt most Comes had left old new CannotRead = new ≡ old
 FailsAt most Comes had left old new OutOfMemory = new ≡ old
-FailsAt most Comes had left old new CannotWrite = (bytes : List ℕ) × Consumes had left bytes × (length bytes ≤ most → IsAtEnd left) × Comes bytes CannotWrite
-FailsAt most Comes had left old new (Script e) = (bytes : List ℕ) × Consumes had left bytes × (length bytes ≤ most → IsAtEnd left) × Comes bytes (Script e)
-FailsAt most Comes had left old new (Trace e) = (bytes : List ℕ) × Consumes had left bytes × (length bytes ≤ most → IsAtEnd left) × Comes bytes (Trace e)
+FailsAt most Comes had left old new CannotWrite =
+    (bytes : List ℕ) × Consumes had left bytes × (length bytes ≤ most → IsAtEnd left) × Comes bytes CannotWrite
+FailsAt most Comes had left old new (Script e) =
+    (bytes : List ℕ) × Consumes had left bytes × (length bytes ≤ most → IsAtEnd left) × Comes bytes (Script e)
+FailsAt most Comes had left old new (Trace e) =
+    (bytes : List ℕ) × Consumes had left bytes × (length bytes ≤ most → IsAtEnd left) × Comes bytes (Trace e)
 
 -- what a form failed by
 abbrev pub FailsAs : Form → Option (List ℕ) → Option (List ℕ) → Option (List ℕ) → Option (List ℕ) → Failure → Type 0
-FailsAs (form.Run file) had left old new f = FailsAt max_bytes (λ bytes g. Fails trace bytes old new g) had left old new f
-FailsAs (form.Table file) had left old new f = FailsAt max_bytes (λ bytes g. Fails table bytes old new g) had left old new f
-FailsAs (form.Threads file) had left old new f = FailsAt max_bytes (λ bytes g. Fails replies bytes old new g) had left old new f
-FailsAs (form.Check file) had left old new f = FailsAt traces.max_bytes (λ bytes g. FailsTrace bytes old new g) had left old new f
+FailsAs (form.Run file) had left old new f =
+    FailsAt max_bytes (λ bytes g. Fails trace bytes old new g) had left old new f
+FailsAs (form.Table file) had left old new f =
+    FailsAt max_bytes (λ bytes g. Fails table bytes old new g) had left old new f
+FailsAs (form.Threads file) had left old new f =
+    FailsAt max_bytes (λ bytes g. Fails replies bytes old new g) had left old new f
+FailsAs (form.Check file) had left old new f =
+    FailsAt traces.max_bytes (λ bytes g. FailsTrace bytes old new g) had left old new f
 FailsAs form.Usage had left old new f = (f ≡ Usage) × (new ≡ old)
 
 -- what a form wrote, and the status of that
@@ -122,6 +133,9 @@ file_of form.Usage = []
 
 -- how a form ended: it wrote what it had to, the writer has let go of it, and nothing was told; or it failed, and that
 -- is told, or a beginning of it, where it can't be written
-abbrev pub Ends : Form → Option (List ℕ) → Option (List ℕ) → Option (List ℕ) → Option (List ℕ) → Type 0 → Type 0 → Option (List ℕ) → Option (List ℕ) → ℕ → Type 0
+abbrev pub Ends : Form → Option (List ℕ) → Option (List ℕ) → Option (List ℕ) → Option (List ℕ) → Type 0 → Type 0
+    → Option (List ℕ) → Option (List ℕ) → ℕ → Type 0
 Ends f had left old new LetGo Quiet told told' status = (EndsAs f had left old new status × LetGo × Quiet)
-    ⊎ ((g : Failure) × FailsAs f had left old new g × AppendsFront told told' (failure_text (file_of f) g) × (status ≡ failure_status g))
+    ⊎
+    ((g : Failure) × FailsAs f had left old new g × AppendsFront told told' (failure_text (file_of f) g)
+    × (status ≡ failure_status g))

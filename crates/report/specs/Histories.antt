@@ -1,5 +1,6 @@
 -- One history of each mutex, in which all threads' replies stand.
-use Rattle.std.specs.Prelude.{ℕ, Bool, true, false, ◌≡◌, ◌≢◌, ◌+◌, ◌<◌, ◌≤◌, ◌⊎◌, ◌||◌, List, [], ◌∷◌, ◌++◌, Vec, Some, length, slice_get, slice_index, take}
+use Rattle.std.specs.Prelude.{ℕ, Bool, true, false, ◌≡◌, ◌≢◌, ◌+◌, ◌<◌, ◌≤◌, ◌⊎◌, ◌||◌, List, []}
+use Rattle.std.specs.Prelude.{◌∷◌, ◌++◌, Vec, Some, length, slice_get, slice_index, take}
 use Rattle.std.specs.declared.alloc.Global.{Global}
 use Rattle.std.specs.List.{flat_map}
 use Rattle.lockword.specs.Cells.{fields_of}
@@ -28,14 +29,17 @@ abbrev pub AreTold : Layout' → ℕ → ℕ → List Op → List Reply → List
 AreTold k t m [] [] xs = xs ≡ []
 AreTold k t m (c ∷ cs) (r ∷ rs) xs =
     (((mutex_of k c ≢ m) ⊎ ((acquires (operation_of c) ≡ true) × (r ≡ XHELD))) × AreTold k t m cs rs xs)
-    ⊎ ((mutex_of k c ≡ m) × (acts : List Act) × Complete (operation_of c) acts r × (ys : List Point) × (xs ≡ points_of t (cell_place k m) acts ++ ys) × AreTold k t m cs rs ys)
+    ⊎
+    ((mutex_of k c ≡ m) × (acts : List Act) × Complete (operation_of c) acts r × (ys : List Point)
+    × (xs ≡ points_of t (cell_place k m) acts ++ ys) × AreTold k t m cs rs ys)
 AreTold k t m [] (r ∷ rs) xs = ⊥
 AreTold k t m (c ∷ cs) [] xs = ⊥
 
 -- the points that thread t made of mutex m, behind its earlier ones, and that died before it answered all these calls:
 -- those of the calls that were answered, and then, if the next call is on this mutex or on a condition variable of it,
 -- all that it has or some of the first. If the thread held the mutex then, its death as the mutex's owner comes last
-pub record AreLastWordsBehind (k : Layout') (t m : ℕ) (earlier : List Point) (calls : List Op) (replies : List Reply) (xs : List Point) : Type 0 where
+pub record AreLastWordsBehind (k : Layout') (t m : ℕ) (earlier : List Point) (calls : List Op) (replies : List Reply)
+    (xs : List Point) : Type 0 where
   pub call : Op
   pub next : slice_get calls (length replies) ≡ Some call
   pub answered : List Point
@@ -43,7 +47,9 @@ pub record AreLastWordsBehind (k : Layout') (t m : ℕ) (earlier : List Point) (
   pub acts : List Act
   pub begun : mutex_of k call ≡ m → Beginning (operation_of call) acts
   pub elsewhere : mutex_of k call ≢ m → acts ≡ []
-  pub all : xs ≡ (answered ++ points_of t (cell_place k m) acts) ++ deaths t (cell_place k m) (held_after false (earlier ++ (answered ++ points_of t (cell_place k m) acts)))
+  pub all : xs
+      ≡ (answered ++ points_of t (cell_place k m) acts)
+      ++ deaths t (cell_place k m) (held_after false (earlier ++ (answered ++ points_of t (cell_place k m) acts)))
 
 -- whether the thread died or not
 abbrev pub ArePointsBehind : Layout' → ℕ → ℕ → List Point → List Op → List Reply → Bool → List Point → Type 0
@@ -58,8 +64,11 @@ ArePointsOf k t m calls replies died xs = ArePointsBehind k t m [] calls replies
 -- first, and one more for each signal or broadcast of its history that was answered OK. Where there is none, each is
 -- what it was
 pub record CountUp (k : Layout') (presets counters : List ℕ) (histories : List (List Point)) : Type 0 where
-  pub sums : (m : ℕ) → m < k.mutexes → total_of m k.conditions (slice_index counters) 0 ≡ total_of m k.conditions (slice_index presets) 0 + counts_in (at histories (cell_place k m))
-  pub still : (q : ℕ) → q < length k.conditions → counts_in (at histories (cell_at k q)) ≡ 0 → slice_index counters q ≡ slice_index presets q
+  pub sums : (m : ℕ) → m < k.mutexes
+      → total_of m k.conditions (slice_index counters) 0
+      ≡ total_of m k.conditions (slice_index presets) 0 + counts_in (at histories (cell_place k m))
+  pub still : (q : ℕ) → q < length k.conditions → counts_in (at histories (cell_at k q)) ≡ 0
+      → slice_index counters q ≡ slice_index presets q
 
 -- ---- phases
 
@@ -71,10 +80,13 @@ IsCountOf false replies calls = replies ≡ calls
 -- what a phase adds of thread i + 1, with these calls in it, where these points of each mutex stand before the phase:
 -- the points of its calls, in their order and with the replies that it was given. One that had died adds nothing
 abbrev pub TakesPart : Layout' → ℕ → Bool → (ℕ → List Point) → List Op → List Reply → Bool → (ℕ → List Point) → Type 0
-TakesPart k i true earlier calls replies died points = (replies ≡ []) × (died ≡ false) × ((m : ℕ) → m < k.mutexes → by (i + 1) (points m) ≡ [])
+TakesPart k i true earlier calls replies died points =
+    (replies ≡ []) × (died ≡ false) × ((m : ℕ) → m < k.mutexes → by (i + 1) (points m) ≡ [])
 TakesPart k i false earlier calls replies died points =
     IsCountOf died (length replies) (length calls)
-    × ((m : ℕ) → m < k.mutexes → ArePointsBehind k (i + 1) m (by (i + 1) (earlier m)) calls replies died (by (i + 1) (points m)))
+    ×
+    ((m : ℕ) → m < k.mutexes
+    → ArePointsBehind k (i + 1) m (by (i + 1) (earlier m)) calls replies died (by (i + 1) (points m)))
 
 -- what phases add, one after the other, in which threads have these calls. Some had died before, and these points stand
 -- before the first phase
@@ -95,14 +107,20 @@ some_died i (q ∷ parts) = q.died i || some_died i parts
 -- calls alone, whatever the later ones have, each of its replies is the answer of the mutexes and the counters as they
 -- are then. The mutexes are left as their histories up to there leave them, and the counters of all phases as they are
 -- at last
-pub record StandInOrder (k : Layout') (phases : List (ℕ → List Op)) (presets : List ℕ) (replies : List (Vec Reply Global)) (died : List Bool) (counters : List ℕ) (histories : List (List Point)) : Type 0 where
-  pub parts : List Part
-  pub are : AreParts k (λ i. false) (λ m. []) phases parts
-  pub history : (m : ℕ) → m < k.mutexes → at histories (cell_place k m) ≡ flat_map (λ q. q.points m) parts
-  pub answered : (i : ℕ) (r : Vec Reply Global) → slice_get replies i ≡ Some r → r.items ≡ flat_map (λ q. q.replies i) parts
-  pub dead : (i : ℕ) (d : Bool) → slice_get died i ≡ Some d → d ≡ some_died i parts
-  pub lone : (n : ℕ) (is : List ℕ) → AreLone k.threads (take n phases) is → (os : ℕ → Object) × (vs : ℕ → ℕ) × ArePlayed k (λ i. false) opening (slice_index presets) (take n phases) is (take n parts) os vs
-      × ((m : ℕ) → m < k.mutexes → Run fresh (flat_map (λ q. q.points m) (take n parts)) (os m)) × (length phases ≤ n → (q : ℕ) → q < length k.conditions → slice_index counters q ≡ vs q)
+pub record StandInOrder (k : Layout') (phases : List (ℕ → List Op)) (presets : List ℕ)
+    (replies : List (Vec Reply Global)) (died : List Bool) (counters : List ℕ) (histories : List (List Point)) : Type 0
+  where
+    pub parts : List Part
+    pub are : AreParts k (λ i. false) (λ m. []) phases parts
+    pub history : (m : ℕ) → m < k.mutexes → at histories (cell_place k m) ≡ flat_map (λ q. q.points m) parts
+    pub answered : (i : ℕ) (r : Vec Reply Global) → slice_get replies i ≡ Some r
+        → r.items ≡ flat_map (λ q. q.replies i) parts
+    pub dead : (i : ℕ) (d : Bool) → slice_get died i ≡ Some d → d ≡ some_died i parts
+    pub lone : (n : ℕ) (is : List ℕ) → AreLone k.threads (take n phases) is
+        → (os : ℕ → Object) × (vs : ℕ → ℕ)
+        × ArePlayed k (λ i. false) opening (slice_index presets) (take n phases) is (take n parts) os vs
+        × ((m : ℕ) → m < k.mutexes → Run fresh (flat_map (λ q. q.points m) (take n parts)) (os m))
+        × (length phases ≤ n → (q : ℕ) → q < length k.conditions → slice_index counters q ≡ vs q)
 
 -- ---- all of it
 
@@ -110,10 +128,13 @@ pub record StandInOrder (k : Layout') (phases : List (ℕ → List Op)) (presets
 -- points of these threads, after which it is as its word says, and of each thread it has just the points of that
 -- thread's calls, and its death where it died as the owner. The counters count the signals and the broadcasts of these
 -- histories
-pub record StandTogether (k : Layout') (calls : ℕ → List Op) (phases : List (ℕ → List Op)) (presets : List ℕ) (replies : List (Vec Reply Global)) (died : List Bool) (cells counters : List ℕ) : Type 0 where
+pub record StandTogether (k : Layout') (calls : ℕ → List Op) (phases : List (ℕ → List Op)) (presets : List ℕ)
+    (replies : List (Vec Reply Global)) (died : List Bool) (cells counters : List ℕ) : Type 0 where
   pub histories : List (List Point)
-  pub legal : (m : ℕ) → m < k.mutexes → Leaves k.threads (cell_place k m) (at histories (cell_place k m)) (object_of (fields_of (slice_index cells m)))
-  pub told : (i : ℕ) (r : Vec Reply Global) (d : Bool) (m : ℕ) → slice_get replies i ≡ Some r → slice_get died i ≡ Some d → m < k.mutexes
+  pub legal : (m : ℕ) → m < k.mutexes
+      → Leaves k.threads (cell_place k m) (at histories (cell_place k m)) (object_of (fields_of (slice_index cells m)))
+  pub told : (i : ℕ) (r : Vec Reply Global) (d : Bool) (m : ℕ) → slice_get replies i ≡ Some r
+      → slice_get died i ≡ Some d → m < k.mutexes
       → ArePointsOf k (i + 1) m (calls (i + 1)) r.items d (by (i + 1) (at histories (cell_place k m)))
   pub counted : CountUp k presets counters histories
   pub in_order : StandInOrder k phases presets replies died counters histories

@@ -1,12 +1,15 @@
 -- What a thread is answered while no other thread is in a call, and what that leaves of the mutexes and of the counters
 -- of condition variables (pthread_mutex_lock, pthread_mutex_trylock, pthread_mutex_unlock, pthread_mutex_consistent,
 -- pthread_cond_wait(3p)).
-use Rattle.std.specs.Prelude.{ℕ, ◌≡◌, ◌≢◌, ◌+◌, ◌<◌, ◌==◌, ◌||◌, Bool, true, false, nat_le, Option, None, Some, List, [], ◌∷◌, length, slice_get, take, if◌then◌else◌}
+use Rattle.std.specs.Prelude.{ℕ, ◌≡◌, ◌≢◌, ◌+◌, ◌<◌, ◌==◌, ◌||◌, Bool, true, false, nat_le, Option}
+use Rattle.std.specs.Prelude.{None, Some, List, [], ◌∷◌, length, slice_get, take, if◌then◌else◌}
 use Rattle.lockword.specs.declared.reply.Reply.{Reply}
-use Rattle.lockword.specs.declared.reply.Reply.TheVariants.{OK, EPERM, EBUSY, EINVAL, EDEADLK, EOWNERDEAD, ENOTRECOVERABLE, XRACED, XHELD, XFULL, XSTATE}
+use Rattle.lockword.specs.declared.reply.Reply.TheVariants.{OK, EPERM, EBUSY, EINVAL, EDEADLK, EOWNERDEAD}
+use Rattle.lockword.specs.declared.reply.Reply.TheVariants.{ENOTRECOVERABLE, XRACED, XHELD, XFULL, XSTATE}
 use Rattle.posixmutex.specs.declared.object.Object.{Object}
 use Rattle.posixmutex.specs.declared.point.Operation.{Operation}
-use Rattle.posixmutex.specs.declared.point.Operation.TheVariants.{Lock, TryLock, Unlock, Consistent, Wait, Signal, Broadcast, Death, Reinit}
+use Rattle.posixmutex.specs.declared.point.Operation.TheVariants.{Lock, TryLock, Unlock, Consistent, Wait}
+use Rattle.posixmutex.specs.declared.point.Operation.TheVariants.{Signal, Broadcast, Death, Reinit}
 use Rattle.posixmutex.specs.Histories.{is_thread, held_by}
 use Rattle.memorymap.specs.Layouts.{Layout', cell_place}
 use Rattle.posixmutex.specs.Objects.{acquires, held_limit, bereaved, stepped, Does, Run}
@@ -46,9 +49,11 @@ counting v = if v == largest_counter then XFULL else OK
 -- changes the cell)
 abbrev pub answer : ℕ → ℕ → ℕ → Operation → Object → Option Reply
 answer held t v Lock o = taking t (nat_le held_limit held) o.unusable o.owner o.inconsistent (Some EDEADLK) None
-answer held t v TryLock o = taking t (nat_le held_limit held) o.unusable o.owner o.inconsistent (Some EBUSY) (Some EBUSY)
+answer held t v TryLock o =
+    taking t (nat_le held_limit held) o.unusable o.owner o.inconsistent (Some EBUSY) (Some EBUSY)
 answer held t v Unlock o = by_owner t o.owner (Some EPERM) (Some OK) (Some EPERM)
-answer held t v Consistent o = by_owner t o.owner (Some EPERM) (Some (if o.inconsistent then OK else EINVAL)) (Some EPERM)
+answer held t v Consistent o =
+    by_owner t o.owner (Some EPERM) (Some (if o.inconsistent then OK else EINVAL)) (Some EPERM)
 answer held t v Wait o = by_owner t o.owner (Some EPERM) (Some (if o.inconsistent then XSTATE else OK)) (Some EPERM)
 answer held t v Signal o = by_owner t o.owner (Some EPERM) (Some (counting v)) (Some EPERM)
 answer held t v Broadcast o = by_owner t o.owner (Some EPERM) (Some (counting v)) (Some EPERM)
@@ -75,8 +80,10 @@ AreByCounter v (a ∷ acts) = IsByCounter v a.0 a.1 × AreByCounter v acts
 -- all that a step of the mutex may reply, and the counter too, is that, but for X_RACED; and the step leaves the mutex
 -- so. (An unusable mutex has no owner)
 abbrev pub MutexesPermitOnlyAnswers : Type 0
-MutexesPermitOnlyAnswers = (held t v : ℕ) (o n : Object) (op : Operation) (r : Reply) → (o.unusable ≡ true → o.owner ≡ None)
-    → op ≢ Death → r ≢ XRACED → IsByCounter v op r → Does held o t op r n → IsAnswer held t v op o r × (n ≡ stepped o t op r)
+MutexesPermitOnlyAnswers =
+    (held t v : ℕ) (o n : Object) (op : Operation) (r : Reply) → (o.unusable ≡ true → o.owner ≡ None)
+    → op ≢ Death → r ≢ XRACED → IsByCounter v op r → Does held o t op r n
+    → IsAnswer held t v op o r × (n ≡ stepped o t op r)
 
 -- ---- counters
 
@@ -102,7 +109,8 @@ behind k t os c r m = if m == mutex_of k c then stepped (os m) t (operation_of c
 
 -- what thread t is answered, where mutexes and counters are so
 abbrev pub answer_to : Layout' → ℕ → (ℕ → Object) → (ℕ → ℕ) → Op → Option Reply
-answer_to k t os vs c = answer (held_by t os k.mutexes) t (counter_of vs (condition_of c)) (operation_of c) (os (mutex_of k c))
+answer_to k t os vs c =
+    answer (held_by t os k.mutexes) t (counter_of vs (condition_of c)) (operation_of c) (os (mutex_of k c))
 
 -- thread t made these calls, one after the other, and was answered so; where the mutexes were os and the counters vs,
 -- they are os' and vs' behind them
@@ -121,7 +129,8 @@ bereft t o = if is_thread t o.owner then bereaved o else o
 -- its release and its lock. Then each mutex that it owned is told that its owner died. A signal or a broadcast that had
 -- taken effect has counted, at a counter that wasn't full. In a lock or a trylock it dies only if it held fewer mutexes
 -- than it may: else the call is refused X_HELD before its first access
-pub record DiesAmong (k : Layout') (t : ℕ) (os : ℕ → Object) (vs : ℕ → ℕ) (calls : List Op) (replies : List Reply) (os' : ℕ → Object) (vs' : ℕ → ℕ) : Type 0 where
+pub record DiesAmong (k : Layout') (t : ℕ) (os : ℕ → Object) (vs : ℕ → ℕ) (calls : List Op) (replies : List Reply)
+    (os' : ℕ → Object) (vs' : ℕ → ℕ) : Type 0 where
   pub call : Op
   pub next : slice_get calls (length replies) ≡ Some call
   pub before : ℕ → Object
@@ -137,7 +146,8 @@ pub record DiesAmong (k : Layout') (t : ℕ) (os : ℕ → Object) (vs : ℕ →
   pub counted : vs' ≡ raised counters (condition_of call) (count_acts acts)
 
 -- what a thread does in a phase in which no other has calls. One that had died does nothing
-abbrev pub PlaysAlone : Layout' → ℕ → Bool → (ℕ → Object) → (ℕ → ℕ) → List Op → List Reply → Bool → (ℕ → Object) → (ℕ → ℕ) → Type 0
+abbrev pub PlaysAlone : Layout' → ℕ → Bool → (ℕ → Object) → (ℕ → ℕ) → List Op → List Reply → Bool → (ℕ → Object)
+    → (ℕ → ℕ) → Type 0
 PlaysAlone k t true os vs calls replies died os' vs' = (replies ≡ []) × (died ≡ false) × (os' ≡ os) × (vs' ≡ vs)
 PlaysAlone k t false os vs calls replies true os' vs' = DiesAmong k t os vs calls replies os' vs'
 PlaysAlone k t false os vs calls replies false os' vs' = AreAnswered k t os vs calls replies os' vs'
@@ -162,7 +172,8 @@ Rest n i q = (j : ℕ) → j < n → j ≢ i → (q.replies j ≡ []) × (q.died
 
 -- in each phase its one thread does what it does alone, from the mutexes and the counters on as the phase before left
 -- them. Some threads had died before
-abbrev pub ArePlayed : Layout' → (ℕ → Bool) → (ℕ → Object) → (ℕ → ℕ) → List (ℕ → List Op) → List ℕ → List Part → (ℕ → Object) → (ℕ → ℕ) → Type 0
+abbrev pub ArePlayed : Layout' → (ℕ → Bool) → (ℕ → Object) → (ℕ → ℕ) → List (ℕ → List Op) → List ℕ → List Part
+    → (ℕ → Object) → (ℕ → ℕ) → Type 0
 ArePlayed k gone os vs [] [] [] os' vs' = (os' ≡ os) × (vs' ≡ vs)
 ArePlayed k gone os vs (calls ∷ phases) (i ∷ is) (q ∷ parts) os' vs' =
     Rest k.threads i q
@@ -205,7 +216,8 @@ counters_alone k t os vs (c ∷ cs) =
 abbrev pub played : Layout' → (ℕ → Object) → (ℕ → ℕ) → List (ℕ → List Op) → List ℕ → List (List Reply)
 played k os vs (calls ∷ phases) (i ∷ is) =
     replies_alone k (i + 1) os vs (calls (i + 1))
-    ∷ played k (mutexes_alone k (i + 1) os vs (calls (i + 1))) (counters_alone k (i + 1) os vs (calls (i + 1))) phases is
+    ∷ played k (mutexes_alone k (i + 1) os vs (calls (i + 1))) (counters_alone k (i + 1) os vs (calls (i + 1))) phases
+    is
 played k os vs phases is = []
 
 -- what the one thread of each phase was replied

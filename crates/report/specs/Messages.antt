@@ -4,11 +4,13 @@ use Rattle.std.specs.List.{concat}
 use Rattle.script.specs.Faults as script_faults
 use Rattle.verdict.specs.Faults as trace_faults
 use Rattle.report.specs.declared.messages.Failure.{Failure}
-use Rattle.report.specs.declared.messages.Failure.TheVariants.{Usage, CannotRead, CannotWrite, OutOfMemory, Script, Trace}
+use Rattle.report.specs.declared.messages.Failure.TheVariants.{Usage, CannotRead, CannotWrite}
+use Rattle.report.specs.declared.messages.Failure.TheVariants.{OutOfMemory, Script, Trace}
 
 -- a fault with its line and its number
 abbrev pub fault_text : ℕ → ℕ → List ℕ → List ℕ
-fault_text line number words = concat (codes "rfx: line " ∷ decimal line ∷ codes ": fault " ∷ decimal number ∷ codes ": " ∷ words ∷ codes "\n" ∷ [])
+fault_text line number words = concat
+    (codes "rfx: line " ∷ decimal line ∷ codes ": fault " ∷ decimal number ∷ codes ": " ∷ words ∷ codes "\n" ∷ [])
 
 -- why a file of this name wasn't served
 abbrev pub failure_text : List ℕ → Failure → List ℕ

@@ -36,17 +36,24 @@ IsUnopened Opens a g = (a ≢ usage) × (k : ErrorKind) × Opens (file_asked a) 
 
 -- how a form ended: one that asks for the same was served, from what opening its file gave; or the file couldn't be
 -- opened, nothing was written, and that is told, or a beginning of it
-abbrev pub NamedEnds : (List ℕ → Result (Option (List ℕ)) ErrorKind → Type 0) → Asked → Option (List ℕ) → Option (List ℕ) → Type 0 → Type 0 → Option (List ℕ) → Option (List ℕ) → ℕ → Type 0
+abbrev pub NamedEnds : (List ℕ → Result (Option (List ℕ)) ErrorKind → Type 0) → Asked → Option (List ℕ)
+    → Option (List ℕ) → Type 0 → Type 0 → Option (List ℕ) → Option (List ℕ) → ℕ → Type 0
 NamedEnds Opens a old new LetGo Quiet told told' status =
-    ((f : Form) × (asked_by f ≡ a) × (had : Option (List ℕ)) × (a ≢ usage → Opens (file_asked a) (Ok had)) × (left : Option (List ℕ)) × Ends f had left old new LetGo Quiet told told' status)
-    ⊎ ((g : Failure) × IsUnopened Opens a g × (new ≡ old) × AppendsFront told told' (failure_text (file_asked a) g) × (status ≡ failure_status g))
+    ((f : Form) × (asked_by f ≡ a) × (had : Option (List ℕ)) × (a ≢ usage → Opens (file_asked a) (Ok had))
+    × (left : Option (List ℕ)) × Ends f had left old new LetGo Quiet told told' status)
+    ⊎
+    ((g : Failure) × IsUnopened Opens a g × (new ≡ old) × AppendsFront told told' (failure_text (file_asked a) g)
+    × (status ≡ failure_status g))
 
 -- memory for the words of the command line was wanted, which names no file: nothing was written, and that is told, or a
 -- beginning of it. That memory was refused for them no contract of the library says: an error for want of memory is one
 -- that anybody can make
 abbrev pub IsUnserved : Option (List ℕ) → Option (List ℕ) → Option (List ℕ) → Option (List ℕ) → ℕ → Type 0
-IsUnserved old new told told' status = (new ≡ old) × AppendsFront told told' (failure_text [] OutOfMemory) × (status ≡ failure_status OutOfMemory)
+IsUnserved old new told told' status =
+    (new ≡ old) × AppendsFront told told' (failure_text [] OutOfMemory) × (status ≡ failure_status OutOfMemory)
 
 -- how the program ended
-abbrev pub RunEnds : (List ℕ → Result (Option (List ℕ)) ErrorKind → Type 0) → Asked → Option (List ℕ) → Option (List ℕ) → Type 0 → Type 0 → Option (List ℕ) → Option (List ℕ) → ℕ → Type 0
-RunEnds Opens a old new LetGo Quiet told told' status = NamedEnds Opens a old new LetGo Quiet told told' status ⊎ IsUnserved old new told told' status
+abbrev pub RunEnds : (List ℕ → Result (Option (List ℕ)) ErrorKind → Type 0) → Asked → Option (List ℕ) → Option (List ℕ)
+    → Type 0 → Type 0 → Option (List ℕ) → Option (List ℕ) → ℕ → Type 0
+RunEnds Opens a old new LetGo Quiet told told' status =
+    NamedEnds Opens a old new LetGo Quiet told told' status ⊎ IsUnserved old new told told' status

@@ -36,7 +36,8 @@ meaning s = run_text (length s.threads) (length s.mutexes) (length s.conditions)
 
 -- the lines tell of the script's threads, mutexes and condition variables, by their names, what they were answered, who
 -- died, and what is left
-pub record AreLines (s : Scope) (a : Answers) (threads : List ThreadReplies) (mutexes : List MutexWord) (conditions : List ConditionWord) : Type 0 where
+pub record AreLines (s : Scope) (a : Answers) (threads : List ThreadReplies) (mutexes : List MutexWord)
+    (conditions : List ConditionWord) : Type 0 where
   pub thread_names : map (λ t. t.name.now) threads ≡ s.threads
   pub replies : map (λ t. t.replies.now) threads ≡ map (λ r. r.items) a.replies.items
   pub died : map (λ t. t.died) threads ≡ a.died.items
@@ -50,7 +51,8 @@ pub record AreLines (s : Scope) (a : Answers) (threads : List ThreadReplies) (mu
 pub record Answer (s : Scope) (a : Answers) : Type 0 where
   pub phases : List Phase
   pub asked : map jobs_seen phases ≡ jobs_of s
-  pub answered : HaveAnswered (layout_of s) (counters_of s) phases (dies_of s) a.replies.items a.died.items a.cells.items a.counters.items
+  pub answered : HaveAnswered (layout_of s) (counters_of s) phases (dies_of s) a.replies.items a.died.items
+      a.cells.items a.counters.items
 
 -- how a script's events leave its threads, mutexes and condition variables
 abbrev pub meant_table : Scope → List ℕ
@@ -82,22 +84,28 @@ IsFoundLegal s = IsJudgedLegal (script_head s) (told_of s)
 abbrev pub Means : Report → Scope → List ℕ → Type 0
 Means trace s text = (overlong s ≡ None) × RunsLegally s × IsFoundLegal s × (text ≡ meaning s)
 Means table s text = (overlong s ≡ None) × RunsLegally s × (text ≡ meant_table s)
-Means replies s text = (a : Answers) × Answer s a × (threads : List ThreadReplies) × (mutexes : List MutexWord) × (conditions : List ConditionWord) × AreLines s a threads mutexes conditions × (text ≡ replies_text threads mutexes conditions)
+Means replies s text = (a : Answers) × Answer s a × (threads : List ThreadReplies) × (mutexes : List MutexWord)
+    × (conditions : List ConditionWord) × AreLines s a threads mutexes conditions
+    × (text ≡ replies_text threads mutexes conditions)
 
 -- these lines were written, or a beginning of them
 abbrev pub Tells : Option (List ℕ) → Option (List ℕ) → Scope → Answers → Type 0
-Tells old new s a = (threads : List ThreadReplies) × (mutexes : List MutexWord) × (conditions : List ConditionWord) × AreLines s a threads mutexes conditions × Appends old new (replies_text threads mutexes conditions)
+Tells old new s a = (threads : List ThreadReplies) × (mutexes : List MutexWord) × (conditions : List ConditionWord)
+    × AreLines s a threads mutexes conditions × Appends old new (replies_text threads mutexes conditions)
 
 abbrev pub TellsFront : Option (List ℕ) → Option (List ℕ) → Scope → Answers → Type 0
-TellsFront old new s a = (threads : List ThreadReplies) × (mutexes : List MutexWord) × (conditions : List ConditionWord) × AreLines s a threads mutexes conditions × AppendsFront old new (replies_text threads mutexes conditions)
+TellsFront old new s a = (threads : List ThreadReplies) × (mutexes : List MutexWord) × (conditions : List ConditionWord)
+    × AreLines s a threads mutexes conditions × AppendsFront old new (replies_text threads mutexes conditions)
 
 -- these bytes are a script, and all of what is told of it was written
 abbrev pub Written : Report → Option (List ℕ) → Option (List ℕ) → List ℕ → Type 0
-Written k old new bytes = MatchResult (script_read (mode_of k) bytes) (λ s. (text : List ℕ) × Means k s text × Appends old new text) (λ e. ⊥)
+Written k old new bytes =
+    MatchResult (script_read (mode_of k) bytes) (λ s. (text : List ℕ) × Means k s text × Appends old new text) (λ e. ⊥)
 
 -- the same, but that writing stopped somewhere
 abbrev pub WrittenFront : Report → Option (List ℕ) → Option (List ℕ) → List ℕ → Type 0
-WrittenFront k old new bytes = MatchResult (script_read (mode_of k) bytes) (λ s. (text : List ℕ) × Means k s text × AppendsFront old new text) (λ e. ⊥)
+WrittenFront k old new bytes = MatchResult (script_read (mode_of k) bytes)
+    (λ s. (text : List ℕ) × Means k s text × AppendsFront old new text) (λ e. ⊥)
 
 -- all that the reader had, up to its end, is a script, and what is told of it was written
 abbrev pub Served : Report → Option (List ℕ) → Option (List ℕ) → Option (List ℕ) → Option (List ℕ) → Type 0
@@ -105,7 +113,8 @@ Served k had left old new = (bytes : List ℕ) × Consumes had left bytes × IsA
 
 -- nothing was written; or a beginning of what all that the reader had means
 abbrev pub ServedFront : Report → Option (List ℕ) → Option (List ℕ) → Option (List ℕ) → Option (List ℕ) → Type 0
-ServedFront k had left old new = (new ≡ old) ⊎ ((bytes : List ℕ) × Consumes had left bytes × IsAtEnd left × WrittenFront k old new bytes)
+ServedFront k had left old new =
+    (new ≡ old) ⊎ ((bytes : List ℕ) × Consumes had left bytes × IsAtEnd left × WrittenFront k old new bytes)
 
 -- the same for each form of a command line; the usage is no success, and writes nothing
 abbrev pub ServedAs : Form → Option (List ℕ) → Option (List ℕ) → Option (List ℕ) → Option (List ℕ) → Type 0

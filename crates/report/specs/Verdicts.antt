@@ -24,7 +24,8 @@ IsVerdictOn bytes v = (t : Trace) × (trace_read bytes ≡ Ok t) × IsJudged t v
 
 -- these bytes are a legal trace, and that was written
 abbrev pub FoundLegal : Option (List ℕ) → Option (List ℕ) → List ℕ → Type 0
-FoundLegal old new bytes = (points : ℕ) × IsVerdictOn bytes (Legal points) × Appends old new (verdict_text (Legal points))
+FoundLegal old new bytes =
+    (points : ℕ) × IsVerdictOn bytes (Legal points) × Appends old new (verdict_text (Legal points))
 
 -- these bytes are a trace, and the verdict on it was written, or a beginning of it
 abbrev pub JudgedFront : Option (List ℕ) → Option (List ℕ) → List ℕ → Type 0
@@ -36,11 +37,13 @@ Checked had left old new = (bytes : List ℕ) × Consumes had left bytes × IsAt
 
 -- nothing was written; or a beginning of the verdict on all that the reader had
 abbrev pub CheckedFront : Option (List ℕ) → Option (List ℕ) → Option (List ℕ) → Option (List ℕ) → Type 0
-CheckedFront had left old new = (new ≡ old) ⊎ ((bytes : List ℕ) × Consumes had left bytes × IsAtEnd left × JudgedFront old new bytes)
+CheckedFront had left old new =
+    (new ≡ old) ⊎ ((bytes : List ℕ) × Consumes had left bytes × IsAtEnd left × JudgedFront old new bytes)
 
 -- these bytes are a trace, the verdict on it was written, and this is its status
 abbrev pub Finds : Option (List ℕ) → Option (List ℕ) → List ℕ → ℕ → Type 0
-Finds old new bytes status = (v : Verdict) × IsVerdictOn bytes v × Appends old new (verdict_text v) × (status ≡ verdict_status v)
+Finds old new bytes status =
+    (v : Verdict) × IsVerdictOn bytes v × Appends old new (verdict_text v) × (status ≡ verdict_status v)
 
 -- the same of all that the reader had, up to its end
 abbrev pub Judged : Option (List ℕ) → Option (List ℕ) → Option (List ℕ) → Option (List ℕ) → ℕ → Type 0

@@ -16,7 +16,8 @@ pub fn thread_replies<'a>(
     requires replies { length answers.now.replies.items ≡ length script.now.threads }
     requires died { length answers.now.died.items ≡ length script.now.threads }
     ensures names { IfOk result (λ v. map (λ t. t.name.now) v.items ≡ script.now.threads) }
-    ensures replies { IfOk result (λ v. map (λ t. t.replies.now) v.items ≡ map (λ r. r.items) answers.now.replies.items) }
+    ensures replies { IfOk result
+        (λ v. map (λ t. t.replies.now) v.items ≡ map (λ r. r.items) answers.now.replies.items) }
     ensures died { IfOk result (λ v. map (λ t. t.died) v.items ≡ answers.now.died.items) }
 {
     let mut lines = Vec::new(alloc);

@@ -47,7 +47,8 @@ fn serve_named<T: Threads + Wait + Sync, F: Opener, W: Output, E: Write>(
     err: &mut E,
 ) -> u8
     ensures usage { form.now ≡ Usage → result ≡ 2 }
-    ensures ends { NamedEnds (F.opens files.now) (asked_by form.now) (W.contents out.old) (W.contents out.new) (W.is_let_go out.new) (err.new ≡ err.old) (E.contents err.old) (E.contents err.new) result }
+    ensures ends { NamedEnds (F.opens files.now) (asked_by form.now) (W.contents out.old) (W.contents out.new)
+        (W.is_let_go out.new) (err.new ≡ err.old) (E.contents err.old) (E.contents err.new) result }
 {
     match form {
         Form::Run(file) | Form::Table(file) | Form::Threads(file) | Form::Check(file) => {
@@ -71,9 +72,12 @@ pub fn run<T: Threads + Wait + Sync, F: Opener, W: Output, E: Write>(
     out: &mut W,
     err: &mut E,
 ) -> u8
-    ensures ends { RunEnds (F.opens files.now) (asked_in words) (W.contents out.old) (W.contents out.new) (W.is_let_go out.new) (err.new ≡ err.old) (E.contents err.old) (E.contents err.new) result }
+    ensures ends { RunEnds (F.opens files.now) (asked_in words) (W.contents out.old) (W.contents out.new)
+        (W.is_let_go out.new) (err.new ≡ err.old) (E.contents err.old) (E.contents err.new) result }
     ensures no_text { IfErr words (λ e. error_kind e ≢ OutOfMemory → result ≡ 2) }
-    ensures no_memory { IfErr words (λ e. error_kind e ≡ OutOfMemory → IsUnserved (W.contents out.old) (W.contents out.new) (E.contents err.old) (E.contents err.new) result) }
+    ensures no_memory { IfErr words
+        (λ e. error_kind e ≡ OutOfMemory
+        → IsUnserved (W.contents out.old) (W.contents out.new) (E.contents err.old) (E.contents err.new) result) }
 {
     let words = match words {
         Ok(words) => words,

@@ -10,9 +10,11 @@ ghost use Rattle.streams.specs.Leaves.{Leaves};
 ghost use Rattle.texts.specs.Text.{trace_text};
 ghost use Rattle.texts.specs.Tables.{table_text};
 ghost use Rattle.texts.specs.Replies.{replies_text};
-ghost use Rattle.report.specs.Served.{trace, table, replies, bytes_at_most, Written, Tells, TellsFront, Served, ServedAs, ServedFrontAs};
+ghost use Rattle.report.specs.Served.{trace, table, replies, bytes_at_most, Written};
+ghost use Rattle.report.specs.Served.{Tells, TellsFront, Served, ServedAs, ServedFrontAs};
 ghost use Rattle.streams.specs.Taken.{TakesAtMost};
-ghost use Rattle.report.specs.Failed.{failed_by, file_of, IsUnread, IsFaultOf, Fails, FailsTrace, FailsAt, FailsAs, FailsTelling, EndsAs, Ends};
+ghost use Rattle.report.specs.Failed.{failed_by, file_of, IsUnread, IsFaultOf, Fails};
+ghost use Rattle.report.specs.Failed.{FailsTrace, FailsAt, FailsAs, FailsTelling, EndsAs, Ends};
 ghost use Rattle.report.specs.Verdicts.{Judged};
 ghost use Rattle.verdict.specs.Limits as traces;
 ghost use Rattle.cmdline.specs.declared.form.Form.TheVariants.{Usage};
@@ -97,7 +99,8 @@ fn write_out<W: Output>(trace: &Trace, out: &mut W) -> io::Result<()>
 
 /// Reads a script's bytes, plays them, and writes their trace.
 fn trace_bytes<W: Output>(alloc: Global, bytes: &[u8], out: &mut W) -> Result<u8, Failure>
-    ensures ends { IfOk result (λ status. (status ≡ 0) × Written trace (W.contents out.old) (W.contents out.new) bytes.now) }
+    ensures ends { IfOk result
+        (λ status. (status ≡ 0) × Written trace (W.contents out.old) (W.contents out.new) bytes.now) }
     ensures let_go { OnOk result (W.is_let_go out.new) }
     ensures fails { IfErr result (Fails trace bytes.now (W.contents out.old) (W.contents out.new)) }
 {
@@ -121,7 +124,8 @@ fn write_table_out<W: Output>(
     requires threads { machine.now.layout.threads ≡ length script.now.threads }
     requires mutexes { machine.now.layout.mutexes ≡ length script.now.mutexes }
     requires conditions { length machine.now.layout.conditions ≡ length script.now.conditions }
-    ensures text { Leaves (W.contents out.old) (W.contents out.new) result (table_text script.now (state_of machine.now) trace.now.notes.items) }
+    ensures text { Leaves (W.contents out.old) (W.contents out.new) result
+        (table_text script.now (state_of machine.now) trace.now.notes.items) }
     ensures let_go { OnOk result (W.is_let_go out.new) }
 {
     write_table(script, trace, machine, out)?;
@@ -130,7 +134,8 @@ fn write_table_out<W: Output>(
 
 /// Reads a script's bytes, plays them, and writes how they left its threads, mutexes and condition variables.
 fn table_bytes<W: Output>(alloc: Global, bytes: &[u8], out: &mut W) -> Result<u8, Failure>
-    ensures ends { IfOk result (λ status. (status ≡ 0) × Written table (W.contents out.old) (W.contents out.new) bytes.now) }
+    ensures ends { IfOk result
+        (λ status. (status ≡ 0) × Written table (W.contents out.old) (W.contents out.new) bytes.now) }
     ensures let_go { OnOk result (W.is_let_go out.new) }
     ensures fails { IfErr result (Fails table bytes.now (W.contents out.old) (W.contents out.new)) }
 {
@@ -155,7 +160,8 @@ fn write_told<W: Output>(
     conditions: &[ConditionWord<'_>],
     out: &mut W,
 ) -> io::Result<()>
-    ensures text { Leaves (W.contents out.old) (W.contents out.new) result (replies_text threads.now mutexes.now conditions.now) }
+    ensures text { Leaves (W.contents out.old) (W.contents out.new) result
+        (replies_text threads.now mutexes.now conditions.now) }
     ensures let_go { OnOk result (W.is_let_go out.new) }
 {
     write_replies(threads, mutexes, conditions, out)?;
@@ -173,7 +179,8 @@ fn tell_answers<W: Output>(
     requires died { length answers.now.died.items ≡ length script.now.threads }
     requires cells { length answers.now.cells.items ≡ length script.now.mutexes }
     requires counters { length answers.now.counters.items ≡ length script.now.conditions }
-    ensures ends { IfOk result (λ status. (status ≡ 0) × Tells (W.contents out.old) (W.contents out.new) script.now answers.now) }
+    ensures ends { IfOk result
+        (λ status. (status ≡ 0) × Tells (W.contents out.old) (W.contents out.new) script.now answers.now) }
     ensures let_go { OnOk result (W.is_let_go out.new) }
     ensures fails { IfErr result (FailsTelling script.now answers.now (W.contents out.old) (W.contents out.new)) }
 {
@@ -199,7 +206,8 @@ fn thread_bytes<T: Threads + Wait + Sync, W: Output>(
     bytes: &[u8],
     out: &mut W,
 ) -> Result<u8, Failure>
-    ensures ends { IfOk result (λ status. (status ≡ 0) × Written replies (W.contents out.old) (W.contents out.new) bytes.now) }
+    ensures ends { IfOk result
+        (λ status. (status ≡ 0) × Written replies (W.contents out.old) (W.contents out.new) bytes.now) }
     ensures let_go { OnOk result (W.is_let_go out.new) }
     ensures fails { IfErr result (Fails replies bytes.now (W.contents out.old) (W.contents out.new)) }
 {
@@ -219,9 +227,13 @@ fn thread_bytes<T: Threads + Wait + Sync, W: Output>(
 
 /// `rfx run FILE`.
 fn serve_trace<R: Read, W: Output>(alloc: Global, input: &mut R, out: &mut W) -> Result<u8, Failure>
-    ensures ends { IfOk result (λ status. (status ≡ 0) × Served trace (R.remaining input.old) (R.remaining input.new) (W.contents out.old) (W.contents out.new)) }
+    ensures ends { IfOk result
+        (λ status. (status ≡ 0)
+        × Served trace (R.remaining input.old) (R.remaining input.new) (W.contents out.old) (W.contents out.new)) }
     ensures let_go { OnOk result (W.is_let_go out.new) }
-    ensures fails { IfErr result (FailsAt max_bytes (λ bytes f. Fails trace bytes (W.contents out.old) (W.contents out.new) f) (R.remaining input.old) (R.remaining input.new) (W.contents out.old) (W.contents out.new)) }
+    ensures fails { IfErr result
+        (FailsAt max_bytes (λ bytes f. Fails trace bytes (W.contents out.old) (W.contents out.new) f)
+        (R.remaining input.old) (R.remaining input.new) (W.contents out.old) (W.contents out.new)) }
     ensures limit { TakesAtMost (max_bytes + 1) (R.remaining input.old) (R.remaining input.new) }
 {
     match read_file(alloc, MAX_BYTES, input) {
@@ -232,9 +244,13 @@ fn serve_trace<R: Read, W: Output>(alloc: Global, input: &mut R, out: &mut W) ->
 
 /// `rfx run --table FILE`.
 fn serve_table<R: Read, W: Output>(alloc: Global, input: &mut R, out: &mut W) -> Result<u8, Failure>
-    ensures ends { IfOk result (λ status. (status ≡ 0) × Served table (R.remaining input.old) (R.remaining input.new) (W.contents out.old) (W.contents out.new)) }
+    ensures ends { IfOk result
+        (λ status. (status ≡ 0)
+        × Served table (R.remaining input.old) (R.remaining input.new) (W.contents out.old) (W.contents out.new)) }
     ensures let_go { OnOk result (W.is_let_go out.new) }
-    ensures fails { IfErr result (FailsAt max_bytes (λ bytes f. Fails table bytes (W.contents out.old) (W.contents out.new) f) (R.remaining input.old) (R.remaining input.new) (W.contents out.old) (W.contents out.new)) }
+    ensures fails { IfErr result
+        (FailsAt max_bytes (λ bytes f. Fails table bytes (W.contents out.old) (W.contents out.new) f)
+        (R.remaining input.old) (R.remaining input.new) (W.contents out.old) (W.contents out.new)) }
     ensures limit { TakesAtMost (max_bytes + 1) (R.remaining input.old) (R.remaining input.new) }
 {
     match read_file(alloc, MAX_BYTES, input) {
@@ -250,9 +266,13 @@ fn serve_threads<T: Threads + Wait + Sync, R: Read, W: Output>(
     input: &mut R,
     out: &mut W,
 ) -> Result<u8, Failure>
-    ensures ends { IfOk result (λ status. (status ≡ 0) × Served replies (R.remaining input.old) (R.remaining input.new) (W.contents out.old) (W.contents out.new)) }
+    ensures ends { IfOk result
+        (λ status. (status ≡ 0)
+        × Served replies (R.remaining input.old) (R.remaining input.new) (W.contents out.old) (W.contents out.new)) }
     ensures let_go { OnOk result (W.is_let_go out.new) }
-    ensures fails { IfErr result (FailsAt max_bytes (λ bytes f. Fails replies bytes (W.contents out.old) (W.contents out.new) f) (R.remaining input.old) (R.remaining input.new) (W.contents out.old) (W.contents out.new)) }
+    ensures fails { IfErr result
+        (FailsAt max_bytes (λ bytes f. Fails replies bytes (W.contents out.old) (W.contents out.new) f)
+        (R.remaining input.old) (R.remaining input.new) (W.contents out.old) (W.contents out.new)) }
     ensures limit { TakesAtMost (max_bytes + 1) (R.remaining input.old) (R.remaining input.new) }
 {
     match read_file(alloc, MAX_BYTES, input) {
@@ -263,9 +283,12 @@ fn serve_threads<T: Threads + Wait + Sync, R: Read, W: Output>(
 
 /// `rfx check FILE`.
 fn serve_check<R: Read, W: Output>(alloc: Global, input: &mut R, out: &mut W) -> Result<u8, Failure>
-    ensures ends { IfOk result (Judged (R.remaining input.old) (R.remaining input.new) (W.contents out.old) (W.contents out.new)) }
+    ensures ends { IfOk result
+        (Judged (R.remaining input.old) (R.remaining input.new) (W.contents out.old) (W.contents out.new)) }
     ensures let_go { OnOk result (W.is_let_go out.new) }
-    ensures fails { IfErr result (FailsAt traces.max_bytes (λ bytes f. FailsTrace bytes (W.contents out.old) (W.contents out.new) f) (R.remaining input.old) (R.remaining input.new) (W.contents out.old) (W.contents out.new)) }
+    ensures fails { IfErr result
+        (FailsAt traces.max_bytes (λ bytes f. FailsTrace bytes (W.contents out.old) (W.contents out.new) f)
+        (R.remaining input.old) (R.remaining input.new) (W.contents out.old) (W.contents out.new)) }
     ensures limit { TakesAtMost (traces.max_bytes + 1) (R.remaining input.old) (R.remaining input.new) }
 {
     match read_file(alloc, verdict::MAX_BYTES, input) {
@@ -282,9 +305,11 @@ fn serve_form<T: Threads + Wait + Sync, R: Read, W: Output>(
     input: &mut R,
     out: &mut W,
 ) -> Result<u8, Failure>
-    ensures ends { IfOk result (EndsAs form.now (R.remaining input.old) (R.remaining input.new) (W.contents out.old) (W.contents out.new)) }
+    ensures ends { IfOk result
+        (EndsAs form.now (R.remaining input.old) (R.remaining input.new) (W.contents out.old) (W.contents out.new)) }
     ensures let_go { OnOk result (W.is_let_go out.new) }
-    ensures fails { IfErr result (FailsAs form.now (R.remaining input.old) (R.remaining input.new) (W.contents out.old) (W.contents out.new)) }
+    ensures fails { IfErr result
+        (FailsAs form.now (R.remaining input.old) (R.remaining input.new) (W.contents out.old) (W.contents out.new)) }
     ensures limit { TakesAtMost (bytes_at_most form.now) (R.remaining input.old) (R.remaining input.new) }
 {
     match form {
@@ -320,14 +345,18 @@ pub fn serve<T: Threads + Wait + Sync, R: Read, W: Output, E: Write>(
     out: &mut W,
     err: &mut E,
 ) -> u8
-    ensures done { result ≡ 0 → ServedAs form.now (R.remaining input.old) (R.remaining input.new) (W.contents out.old) (W.contents out.new) }
-    ensures front { ServedFrontAs form.now (R.remaining input.old) (R.remaining input.new) (W.contents out.old) (W.contents out.new) }
+    ensures done { result ≡ 0
+        → ServedAs form.now (R.remaining input.old) (R.remaining input.new) (W.contents out.old) (W.contents out.new) }
+    ensures front { ServedFrontAs form.now (R.remaining input.old) (R.remaining input.new) (W.contents out.old)
+        (W.contents out.new) }
     ensures usage { (result ≡ 2) ↔ (form.now ≡ Usage) }
     ensures last { result ≤ 2 }
     ensures limit { TakesAtMost (bytes_at_most form.now) (R.remaining input.old) (R.remaining input.new) }
     ensures quiet { result ≡ 0 → err.new ≡ err.old }
     ensures let_go { result ≡ 0 → W.is_let_go out.new }
-    ensures told { Ends form.now (R.remaining input.old) (R.remaining input.new) (W.contents out.old) (W.contents out.new) (W.is_let_go out.new) (err.new ≡ err.old) (E.contents err.old) (E.contents err.new) result }
+    ensures told { Ends form.now (R.remaining input.old) (R.remaining input.new) (W.contents out.old)
+        (W.contents out.new) (W.is_let_go out.new) (err.new ≡ err.old) (E.contents err.old) (E.contents err.new)
+        result }
 {
     match serve_form(rt, alloc, form, input, out) {
         Ok(status) => status,

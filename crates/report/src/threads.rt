@@ -5,7 +5,9 @@ ghost use Rattle.script.specs.Playing.{counters_of, layout_of as layout_in};
 ghost use Rattle.threadbench.specs.Answered.{card_in, IsWorkerOf};
 ghost use Rattle.threadbench.specs.Jobs.{LivesOn};
 ghost use Rattle.report.specs.Meetings.{is_reaped};
-ghost use Rattle.report.specs.Threads.{IsRightPhase, AreRightPhases, calls_in, AreFirst, AreAssigned, AreGathered, AreCells, AreCounters, HaveWorked, HasPassed, HaveMade, HasEnded, HaveAnswered, HaveReplies};
+ghost use Rattle.report.specs.Threads.{IsRightPhase, AreRightPhases, calls_in, AreFirst};
+ghost use Rattle.report.specs.Threads.{AreAssigned, AreGathered, AreCells, AreCounters, HaveWorked};
+ghost use Rattle.report.specs.Threads.{HasPassed, HaveMade, HasEnded, HaveAnswered, HaveReplies};
 
 use crate::meeting::meet;
 use condvar::Op;
@@ -114,7 +116,8 @@ fn run_phase<R: Threads + Wait + Sync>(
     requires possible { IsRightPhase (layout_of bench.now) phase.now }
     requires right { All (λ v. IsWorkerOf bench.now v.pass) workers.items }
     requires as_many { length replies.old.items ≡ length workers.items }
-    ensures { IfOk result (λ after. HaveWorked bench.now phase.now workers.items after.items replies.old.items replies.new.items) }
+    ensures { IfOk result
+        (λ after. HaveWorked bench.now phase.now workers.items after.items replies.old.items replies.new.items) }
 {
     let Ok(jobs) = assign(alloc, workers, phase) else {
         return Err(NoMem);
@@ -140,7 +143,8 @@ fn pass_phase<R: Threads + Wait + Sync>(
     requires possible { IsRightPhase (layout_of bench.now) phase.now }
     requires right { All (λ v. IsWorkerOf bench.now v.pass) workers.items }
     requires as_many { length replies.old.items ≡ length workers.items }
-    ensures { IfOk result (λ met. HasPassed bench.now phase.now workers.items met.items replies.old.items replies.new.items) }
+    ensures { IfOk result
+        (λ met. HasPassed bench.now phase.now workers.items met.items replies.old.items replies.new.items) }
 {
     let worked = run_phase(rt, alloc, bench, phase, workers, replies)?;
     match meet(alloc, bench, worked) {
@@ -303,7 +307,9 @@ pub(crate) fn answers_of<R: Threads + Wait + Sync>(
     ensures died { IfOk result (λ a. length a.died.items ≡ length script.now.threads) }
     ensures cells { IfOk result (λ a. length a.cells.items ≡ length script.now.mutexes) }
     ensures counters { IfOk result (λ a. length a.counters.items ≡ length script.now.conditions) }
-    ensures answered { IfOk result (λ a. HaveAnswered (layout_in script.now) (counters_of script.now) jobs.phases.items jobs.dies.items a.replies.items a.died.items a.cells.items a.counters.items) }
+    ensures answered { IfOk result
+        (λ a. HaveAnswered (layout_in script.now) (counters_of script.now) jobs.phases.items jobs.dies.items
+        a.replies.items a.died.items a.cells.items a.counters.items) }
     ensures each { IfOk result (λ a. HaveReplies jobs.phases.items a.replies.items a.died.items) }
 {
     let Ok(presets) = presets_of(alloc, script) else {

@@ -19,7 +19,8 @@ use Rattle.stepprograms.specs.declared.program.Progress.{Progress}
 use Rattle.stepprograms.specs.declared.program.Progress.TheVariants.{Goes, Returns}
 use Rattle.memorymap.specs.Chains.{previous_place}
 use Rattle.robustlist.specs.declared.link.LinkRow.{LinkRow}
-use Rattle.robustlist.specs.declared.link.LinkRow.TheVariants.{LoadFirst, StoreNext, StorePrevious, StoreBehind, StoreFirst, Ended}
+use Rattle.robustlist.specs.declared.link.LinkRow.TheVariants.{LoadFirst, StoreNext, StorePrevious}
+use Rattle.robustlist.specs.declared.link.LinkRow.TheVariants.{StoreBehind, StoreFirst, Ended}
 use Rattle.robustlist.specs.Standings.{LinkStanding}
 
 -- (after its return it makes none: any will do)

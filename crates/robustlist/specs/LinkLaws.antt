@@ -6,7 +6,8 @@ use Rattle.stepprograms.specs.declared.access.Answer.{Answer}
 use Rattle.stepprograms.specs.Accesses.{address_of}
 use Rattle.memorymap.specs.Chains.{previous_place, IsApart, AreDifferent, places_of, IsChain, IsChainBothWays}
 use Rattle.robustlist.specs.declared.link.LinkRow.{LinkRow}
-use Rattle.robustlist.specs.declared.link.LinkRow.TheVariants.{LoadFirst, StoreNext, StorePrevious, StoreBehind, StoreFirst, Ended}
+use Rattle.robustlist.specs.declared.link.LinkRow.TheVariants.{LoadFirst, StoreNext, StorePrevious}
+use Rattle.robustlist.specs.declared.link.LinkRow.TheVariants.{StoreBehind, StoreFirst, Ended}
 use Rattle.robustlist.specs.Words.{put, answer_on, after, IsAnswerOf, IsOn, Agree, Makes}
 use Rattle.robustlist.specs.Link.{link_access, link_resume, LinkGoes}
 
@@ -65,24 +66,31 @@ link_left (Ended x) = 0
 -- a link of an entry that lies apart from a chain both ways, whatever others write elsewhere and wherever it stops
 pub record LinksAreRight : Type 0 where
   -- it begins rightly
-  pub begins : (h e : ℕ) (es : List ℕ) (w : ℕ → ℕ) → IsChainBothWays w h es → LiesApart h e es → Linking h e es LoadFirst w
+  pub begins : (h e : ℕ) (es : List ℕ) (w : ℕ → ℕ) → IsChainBothWays w h es → LiesApart h e es
+      → Linking h e es LoadFirst w
   -- each access leads from row to row
-  pub steps : (h e : ℕ) (es : List ℕ) (r : LinkRow) (v w : ℕ → ℕ) → LinkGoes r → Linking h e es r v → Makes (link_access h e r) h (e ∷ es) v w →
+  pub steps : (h e : ℕ) (es : List ℕ) (r : LinkRow) (v w : ℕ → ℕ) → LinkGoes r → Linking h e es r v
+      → Makes (link_access h e r) h (e ∷ es) v w →
       Linking h e es (link_resume h r (answer_on (link_access h e r) v)) w
   -- at its return it has put the entry in front
-  pub ends : (h e : ℕ) (es : List ℕ) (x : Reply) (w : ℕ → ℕ) → Linking h e es (Ended x) w → (x ≡ OK) × IsChainBothWays w h (e ∷ es)
+  pub ends : (h e : ℕ) (es : List ℕ) (x : Reply) (w : ℕ → ℕ) → Linking h e es (Ended x) w
+      → (x ≡ OK) × IsChainBothWays w h (e ∷ es)
   -- between any two accesses, and wherever it is stopped, the words are a chain of the old list or of the new one: its
   -- row says which
   pub leads : (h e : ℕ) (es : List ℕ) (r : LinkRow) (w : ℕ → ℕ) → Linking h e es r w → IsChain w h (link_list e es r)
   -- its accesses are at the list's places and the entry's
-  pub near : (h e : ℕ) (es : List ℕ) (r : LinkRow) (w : ℕ → ℕ) → Linking h e es r w → IsOn h (e ∷ es) (address_of (link_access h e r))
+  pub near : (h e : ℕ) (es : List ℕ) (r : LinkRow) (w : ℕ → ℕ) → Linking h e es r w
+      → IsOn h (e ∷ es) (address_of (link_access h e r))
   -- what others write elsewhere doesn't matter
-  pub others : (h e : ℕ) (es : List ℕ) (r : LinkRow) (v w : ℕ → ℕ) → Agree h (e ∷ es) v w → Linking h e es r v → Linking h e es r w
+  pub others : (h e : ℕ) (es : List ℕ) (r : LinkRow) (v w : ℕ → ℕ) → Agree h (e ∷ es) v w → Linking h e es r v
+      → Linking h e es r w
   -- whatever it is answered, it makes 5 accesses at most
   pub falls : (h : ℕ) (r : LinkRow) (a : Answer) → LinkGoes r → link_left (link_resume h r a) < link_left r
   -- it returns EFAULT exactly after an answer that its access doesn't have, and else OK
-  pub faults : (h e : ℕ) (r : LinkRow) (a : Answer) → LinkGoes r → (IsAnswerOf (link_access h e r) a → ⊥) → link_resume h r a ≡ Ended EFAULT
-  pub replies : (h e : ℕ) (r : LinkRow) (a : Answer) (x : Reply) → LinkGoes r → IsAnswerOf (link_access h e r) a → link_resume h r a ≡ Ended x → x ≡ OK
+  pub faults : (h e : ℕ) (r : LinkRow) (a : Answer) → LinkGoes r → (IsAnswerOf (link_access h e r) a → ⊥)
+      → link_resume h r a ≡ Ended EFAULT
+  pub replies : (h e : ℕ) (r : LinkRow) (a : Answer) (x : Reply) → LinkGoes r → IsAnswerOf (link_access h e r) a
+      → link_resume h r a ≡ Ended x → x ≡ OK
 
 -- where a link stands after some accesses on words that nobody else writes, and those words then
 pub record LinkRun : Type 0 where

@@ -18,7 +18,8 @@ use Rattle.stepprograms.specs.declared.program.Progress.{Progress}
 use Rattle.stepprograms.specs.declared.program.Progress.TheVariants.{Goes, Returns}
 use Rattle.memorymap.specs.Chains.{previous_place}
 use Rattle.robustlist.specs.declared.unlink.UnlinkRow.{UnlinkRow}
-use Rattle.robustlist.specs.declared.unlink.UnlinkRow.TheVariants.{LoadNext, LoadPrevious, StoreNext, StorePrevious, Ended}
+use Rattle.robustlist.specs.declared.unlink.UnlinkRow.TheVariants.{LoadNext, LoadPrevious}
+use Rattle.robustlist.specs.declared.unlink.UnlinkRow.TheVariants.{StoreNext, StorePrevious, Ended}
 use Rattle.robustlist.specs.Standings.{UnlinkStanding}
 
 -- (after its return it makes none: any will do)

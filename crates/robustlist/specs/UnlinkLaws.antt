@@ -6,7 +6,8 @@ use Rattle.stepprograms.specs.declared.access.Answer.{Answer}
 use Rattle.stepprograms.specs.Accesses.{address_of}
 use Rattle.memorymap.specs.Chains.{previous_place, IsAmong, AreDifferent, places_of, IsChain, IsChainBothWays, without}
 use Rattle.robustlist.specs.declared.unlink.UnlinkRow.{UnlinkRow}
-use Rattle.robustlist.specs.declared.unlink.UnlinkRow.TheVariants.{LoadNext, LoadPrevious, StoreNext, StorePrevious, Ended}
+use Rattle.robustlist.specs.declared.unlink.UnlinkRow.TheVariants.{LoadNext, LoadPrevious}
+use Rattle.robustlist.specs.declared.unlink.UnlinkRow.TheVariants.{StoreNext, StorePrevious, Ended}
 use Rattle.robustlist.specs.Words.{put, answer_on, after, IsAnswerOf, IsOn, Agree, Makes}
 use Rattle.robustlist.specs.Unlink.{unlink_access, unlink_resume, UnlinkGoes}
 
@@ -22,7 +23,8 @@ abbrev pub UnlinkKnows : ℕ → ℕ → List ℕ → UnlinkRow → (ℕ → ℕ
 UnlinkKnows h e es LoadNext w = IsChainBothWays w h es
 UnlinkKnows h e es (LoadPrevious n) w = IsChainBothWays w h es × (n ≡ w e)
 UnlinkKnows h e es (StoreNext n p) w = IsChainBothWays w h es × (n ≡ w e) × (p ≡ w (previous_place e))
-UnlinkKnows h e es (StorePrevious n p) w = IsChainBothWays (put w (previous_place n) p) h (without e es) × IsAmong n (without e es)
+UnlinkKnows h e es (StorePrevious n p) w =
+    IsChainBothWays (put w (previous_place n) p) h (without e es) × IsAmong n (without e es)
 UnlinkKnows h e es (Ended x) w = IsChainBothWays w h (without e es) × (x ≡ OK)
 
 -- what is so at a row of an unlink of the entry e from the list es: as they are, the words are a chain of the old list
@@ -46,22 +48,29 @@ pub record UnlinksAreRight : Type 0 where
   -- it begins rightly
   pub begins : (h e : ℕ) (es : List ℕ) (w : ℕ → ℕ) → IsChainBothWays w h es → IsAmong e es → Unlinking h e es LoadNext w
   -- each access leads from row to row
-  pub steps : (h e : ℕ) (es : List ℕ) (r : UnlinkRow) (v w : ℕ → ℕ) → UnlinkGoes r → Unlinking h e es r v → Makes (unlink_access h e r) h es v w →
+  pub steps : (h e : ℕ) (es : List ℕ) (r : UnlinkRow) (v w : ℕ → ℕ) → UnlinkGoes r → Unlinking h e es r v
+      → Makes (unlink_access h e r) h es v w →
       Unlinking h e es (unlink_resume h r (answer_on (unlink_access h e r) v)) w
   -- at its return it has taken the entry out
-  pub ends : (h e : ℕ) (es : List ℕ) (x : Reply) (w : ℕ → ℕ) → Unlinking h e es (Ended x) w → (x ≡ OK) × IsChainBothWays w h (without e es)
+  pub ends : (h e : ℕ) (es : List ℕ) (x : Reply) (w : ℕ → ℕ) → Unlinking h e es (Ended x) w
+      → (x ≡ OK) × IsChainBothWays w h (without e es)
   -- between any two accesses, and wherever it is stopped, the words are a chain of the old list or of the new one: its
   -- row says which
-  pub leads : (h e : ℕ) (es : List ℕ) (r : UnlinkRow) (w : ℕ → ℕ) → Unlinking h e es r w → IsChain w h (unlink_list e es r)
+  pub leads : (h e : ℕ) (es : List ℕ) (r : UnlinkRow) (w : ℕ → ℕ) → Unlinking h e es r w
+      → IsChain w h (unlink_list e es r)
   -- its accesses are at the list's places
-  pub near : (h e : ℕ) (es : List ℕ) (r : UnlinkRow) (w : ℕ → ℕ) → Unlinking h e es r w → IsOn h es (address_of (unlink_access h e r))
+  pub near : (h e : ℕ) (es : List ℕ) (r : UnlinkRow) (w : ℕ → ℕ) → Unlinking h e es r w
+      → IsOn h es (address_of (unlink_access h e r))
   -- what others write elsewhere doesn't matter
-  pub others : (h e : ℕ) (es : List ℕ) (r : UnlinkRow) (v w : ℕ → ℕ) → Agree h es v w → Unlinking h e es r v → Unlinking h e es r w
+  pub others : (h e : ℕ) (es : List ℕ) (r : UnlinkRow) (v w : ℕ → ℕ) → Agree h es v w → Unlinking h e es r v
+      → Unlinking h e es r w
   -- whatever it is answered, it makes 4 accesses at most
   pub falls : (h : ℕ) (r : UnlinkRow) (a : Answer) → UnlinkGoes r → unlink_left (unlink_resume h r a) < unlink_left r
   -- it returns EFAULT exactly after an answer that its access doesn't have, and else OK
-  pub faults : (h e : ℕ) (r : UnlinkRow) (a : Answer) → UnlinkGoes r → (IsAnswerOf (unlink_access h e r) a → ⊥) → unlink_resume h r a ≡ Ended EFAULT
-  pub replies : (h e : ℕ) (r : UnlinkRow) (a : Answer) (x : Reply) → UnlinkGoes r → IsAnswerOf (unlink_access h e r) a → unlink_resume h r a ≡ Ended x → x ≡ OK
+  pub faults : (h e : ℕ) (r : UnlinkRow) (a : Answer) → UnlinkGoes r → (IsAnswerOf (unlink_access h e r) a → ⊥)
+      → unlink_resume h r a ≡ Ended EFAULT
+  pub replies : (h e : ℕ) (r : UnlinkRow) (a : Answer) (x : Reply) → UnlinkGoes r → IsAnswerOf (unlink_access h e r) a
+      → unlink_resume h r a ≡ Ended x → x ≡ OK
 
 -- where an unlink stands after some accesses on words that nobody else writes, and those words then
 pub record UnlinkRun : Type 0 where

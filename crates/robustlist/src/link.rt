@@ -47,7 +47,8 @@ impl Model for Link {
 }
 
 impl Link {
-    ghost use Rattle.robustlist.specs.Link.{link_started, link_at, link_access_of, link_moved, link_resume, link_after_both, LinkGoes};
+    ghost use Rattle.robustlist.specs.Link.{link_started, link_at, link_access_of};
+    ghost use Rattle.robustlist.specs.Link.{link_moved, link_resume, link_after_both, LinkGoes};
 
     /// The link of an entry, by its address, into the list whose head is at an address. Addresses count 64-bit words.
     #[inline(always)]

@@ -44,7 +44,8 @@ impl Model for Unlink {
 }
 
 impl Unlink {
-    ghost use Rattle.robustlist.specs.Unlink.{unlink_started, unlink_at, unlink_access_of, unlink_moved, unlink_resume, unlink_after_next, UnlinkGoes};
+    ghost use Rattle.robustlist.specs.Unlink.{unlink_started, unlink_at, unlink_access_of};
+    ghost use Rattle.robustlist.specs.Unlink.{unlink_moved, unlink_resume, unlink_after_next, UnlinkGoes};
 
     /// The unlink of an entry, by its address, from the list whose head is at an address. Addresses count 64-bit words.
     #[inline(always)]

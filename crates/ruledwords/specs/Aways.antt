@@ -21,4 +21,5 @@ kind_of a = a.is_first
 
 -- each of these cards is of the thread that is away
 abbrev pub AreTheirs : List Away → List Card → Type 0
-AreTheirs aways cards = (i : ℕ) (a : Away) (c : Card) → slice_get aways i ≡ Some a → slice_get cards i ≡ Some c → (c.thread ≡ a.thread) × (a.held ≡ held c)
+AreTheirs aways cards = (i : ℕ) (a : Away) (c : Card) → slice_get aways i ≡ Some a → slice_get cards i ≡ Some c
+    → (c.thread ≡ a.thread) × (a.held ≡ held c)

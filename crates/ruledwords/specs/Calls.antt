@@ -70,11 +70,14 @@ IsInLayout k p = (m : ℕ) × IsOnMutex k p m
 
 -- it is a call of the card's thread, and what its row needs of the mutex is so, as far as that thread has seen it
 abbrev pub Ready : Standing → Card → Type 0
-Ready p c = (p.thread ≡ c.thread) × Knows p.row × ((q : ℕ) (o : Object) → q < 2 ^ 64 → p.cell ≡ address_at c q → Run fresh (at c.seen q) o → Expects c.thread p.row o)
+Ready p c = (p.thread ≡ c.thread) × Knows p.row
+    × ((q : ℕ) (o : Object) → q < 2 ^ 64 → p.cell ≡ address_at c q → Run fresh (at c.seen q) o
+    → Expects c.thread p.row o)
 
 -- an access of a call, at the cell at q, whose word was n: its point, if it is one, is what the thread sees anew
 pub record Made (p : Standing) (q : ℕ) (c : Card) (n : ℕ) (d : Card) : Type 0 where
-  pub sees : Sees c q (points (point_of c.thread q (row_operation p.row) (led_at p n).point)) (object_of (fields_of (changed (access_of p) n))) d
+  pub sees : Sees c q (points (point_of c.thread q (row_operation p.row) (led_at p n).point))
+      (object_of (fields_of (changed (access_of p) n))) d
   pub misses : d.misses ≡ c.misses + fails (access_of p) n
   pub last : d.last ≡ n
   pub counted : d.counted ≡ c.counted

@@ -1,6 +1,7 @@
 -- Which words the cells of mutexes and the counters of condition variables had, one after the other, and who wrote
 -- each.
-use Rattle.std.specs.Prelude.{◌≡◌, ◌≢◌, ℕ, zero, suc, ◌+◌, ◌<◌, ◌≤◌, ◌==◌, not, List, [], ◌∷◌, ◌++◌, filter, length, map, slice_index, if◌then◌else◌}
+use Rattle.std.specs.Prelude.{◌≡◌, ◌≢◌, ℕ, zero, suc, ◌+◌, ◌<◌, ◌≤◌, ◌==◌, not, List, []}
+use Rattle.std.specs.Prelude.{◌∷◌, ◌++◌, filter, length, map, slice_index, if◌then◌else◌}
 use mathlib.Core.Option.{some}
 use mathlib.Core.List.{IsPrefix}
 use lib.ListN.{get_elem?}
@@ -69,7 +70,8 @@ AreBehindFirst n (x ∷ xs) = AreBy n xs
 -- what a thread knew of each word's changes begins what it knows of them, and those that it came to know of since are
 -- by threads
 abbrev pub KnowsOn : Card → Card → Type 0
-KnowsOn c d = (p : ℕ) → (since : List Change) × (changes_at c.changes p ++ since ≡ changes_at d.changes p) × AreBy c.threads since
+KnowsOn c d =
+    (p : ℕ) → (since : List Change) × (changes_at c.changes p ++ since ≡ changes_at d.changes p) × AreBy c.threads since
 
 -- ---- what holds
 
@@ -92,7 +94,8 @@ AllTied n xs (c ∷ cs) = Tied n xs c.thread c.changes × AllTied n xs cs
 pub record Recorded (k : Layout') (ws : List ℕ) (vs : List (List Card)) : Type 0 where
   pub changes : List (List Change)
   pub leave : (m : ℕ) → m < k.mutexes → left_by (changes_at changes (cell_place k m)) ≡ slice_index ws (cell_place k m)
-  pub count : (q : ℕ) → q < length k.conditions → left_by (changes_at changes (counter_place k q)) ≡ slice_index ws (counter_place k q)
+  pub count : (q : ℕ) → q < length k.conditions
+      → left_by (changes_at changes (counter_place k q)) ≡ slice_index ws (counter_place k q)
   pub authors : (p : ℕ) → AreBehindFirst k.threads (changes_at changes p)
   pub tied : (id : ℕ) (v : List Card) → get_elem? vs id ≡ some v → AllTied k.threads changes v
 
@@ -116,14 +119,16 @@ pub record ChangedNothing (c : Card) (p : ℕ) (d : Card) : Type 0 where
 
 -- a thread has changed none of these words: of each, all that it knows more of are others' changes
 abbrev pub ChangedNone : (ℕ → Type 0) → Card → Card → Type 0
-ChangedNone P c d = (p : ℕ) → P p → made_by c.thread (changes_at d.changes p) ≡ made_by c.thread (changes_at c.changes p)
+ChangedNone P c d =
+    (p : ℕ) → P p → made_by c.thread (changes_at d.changes p) ≡ made_by c.thread (changes_at c.changes p)
 
 -- a thread has counted once at p, the counter of a condition variable whose mutex's cell is at z: it left one more than
 -- what it found there, which is what it loaded last. Of other words, but for the cell, it has changed none
 pub record CountedOnce (c : Card) (z p : ℕ) (d : Card) : Type 0 where
   pub since : List Change
   pub others : made_by c.thread since ≡ []
-  pub grows : changes_at d.changes p ≡ (changes_at c.changes p ++ since) ++ record { thread = c.thread; word = d.counted + 1 } ∷ []
+  pub grows : changes_at d.changes p
+      ≡ (changes_at c.changes p ++ since) ++ record { thread = c.thread; word = d.counted + 1 } ∷ []
   pub found : left_by (changes_at c.changes p ++ since) ≡ d.counted
   pub elsewhere : ChangedNone (λ x. (x ≢ z) × (x ≢ p)) c d
 
@@ -132,7 +137,8 @@ pub record ChangedOnce (c : Card) (p : ℕ) (d : Card) : Type 0 where
   pub since : List Change
   pub others : made_by c.thread since ≡ []
   pub word : ℕ
-  pub grows : changes_at d.changes p ≡ (changes_at c.changes p ++ since) ++ record { thread = c.thread; word = word } ∷ []
+  pub grows : changes_at d.changes p
+      ≡ (changes_at c.changes p ++ since) ++ record { thread = c.thread; word = word } ∷ []
   pub found : left_by (changes_at c.changes p ++ since) ≡ d.last
 
 -- ---- of calls

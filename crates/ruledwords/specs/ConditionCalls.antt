@@ -19,7 +19,8 @@ use Rattle.ruledwords.specs.declared.turn.CondTurn.TheVariants.{Goes, Locks, Liv
 use Rattle.ruledwords.specs.declared.pass.Words.{Words}
 use Rattle.ruledwords.specs.declared.pass.Pass.{Pass}
 use Rattle.ruledwords.specs.declared.pass.Live.{Live}
-use Rattle.ruledwords.specs.Conditions.{access_at, cond_row_in, cond_standing, condition_at, unlock_of, Acted, CondReady, CondStanding, IsAtCondition, IsOnCondition}
+use Rattle.ruledwords.specs.Conditions.{access_at, cond_row_in, cond_standing, condition_at, unlock_of}
+use Rattle.ruledwords.specs.Conditions.{Acted, CondReady, CondStanding, IsAtCondition, IsOnCondition}
 use Rattle.ruledwords.specs.Counts.{mutex_at}
 use Rattle.ruledwords.specs.Lists.{known, IsInCall}
 use Rattle.ruledwords.specs.Looks.{noted}
@@ -70,7 +71,8 @@ IsCondRunningOf w r = IsPassOf w (cond_pass r) × IsInCondCall (layout_of w) (ca
 -- ---- an access at a seat
 
 -- the seat of thread t, whose call makes the access a: it stands at z, on condition variable q
-pub record CanAct (w : Words) (s : Seat (Unit {0}) (List Card)) (t : ℕ) (k : Layout') (q : ℕ) (z : CondStanding) (a : Access) : Type 0 where
+pub record CanAct (w : Words) (s : Seat (Unit {0}) (List Card)) (t : ℕ) (k : Layout') (q : ℕ) (z : CondStanding)
+    (a : Access) : Type 0 where
   pub table : s.table_id ≡ w.places.table.shared.table_id
   pub one : IsOne s.me
   pub is : t ≡ (card_of s.me.0).thread
@@ -84,7 +86,8 @@ pub record CanAct (w : Words) (s : Seat (Unit {0}) (List Card)) (t : ℕ) (k : L
   pub access : a ≡ access_at z
 
 abbrev pub HasActed : Words → Seat (Unit {0}) (List Card) → Seat (Unit {0}) (List Card) → ℕ → CondStanding → ℕ → Type 0
-HasActed w s s' q z n = (s'.table_id ≡ s.table_id) × IsOne s'.me × Acted (layout_of w) q z z.row (card_of s.me.0) n (card_of s'.me.0)
+HasActed w s s' q z n =
+    (s'.table_id ≡ s.table_id) × IsOne s'.me × Acted (layout_of w) q z z.row (card_of s.me.0) n (card_of s'.me.0)
 
 -- the seat of thread t, whose call stands at p
 pub record IsSeatedCondCall (w : Words) (s : Seat (Unit {0}) (List Card)) (t : ℕ) (p : CondWhole) : Type 0 where
@@ -99,10 +102,12 @@ pub record IsSeatedCondCall (w : Words) (s : Seat (Unit {0}) (List Card)) (t : �
 -- word
 abbrev pub CondFound : Layout' → CondWhole → CondPhase → Card → ℕ → Card → Type 0
 CondFound k p (condition.AtWords r) c n d = Acted k (condition_at k p) (cond_standing p) r c n d
-CondFound k p f c n d = (d ≡ own_after k c (cond_access p)) × (answer_at (cond_access p) n ≡ answer_on (cond_access p) (known k c))
+CondFound k p f c n d =
+    (d ≡ own_after k c (cond_access p)) × (answer_at (cond_access p) n ≡ answer_on (cond_access p) (known k c))
 
 abbrev pub FindsCondWord : Words → Seat (Unit {0}) (List Card) → Seat (Unit {0}) (List Card) → CondWhole → ℕ → Type 0
-FindsCondWord w s s' p n = (s'.table_id ≡ s.table_id) × IsOne s'.me × CondFound (layout_of w) p p.phase (card_of s.me.0) n (card_of s'.me.0)
+FindsCondWord w s s' p n =
+    (s'.table_id ≡ s.table_id) × IsOne s'.me × CondFound (layout_of w) p p.phase (card_of s.me.0) n (card_of s'.me.0)
 
 -- ---- turns
 
@@ -113,9 +118,11 @@ IsCondTurnOf w (Lives b x) = IsLive w b
 
 -- the access was made, and the call went on with what it found. No step leads to a wait's lock
 abbrev pub CondTurned : Layout' → CondWhole → Pass Live → CondTurn → Type 0
-CondTurned k p a (Goes r) = (n : ℕ) × CondFound k p p.phase (card a) n (card (cond_pass r)) × (cond_call r ≡ cond_moved p (cond_led p (answer_at (cond_access p) n)))
+CondTurned k p a (Goes r) = (n : ℕ) × CondFound k p p.phase (card a) n (card (cond_pass r))
+    × (cond_call r ≡ cond_moved p (cond_led p (answer_at (cond_access p) n)))
 CondTurned k p a (Locks r) = ⊥
-CondTurned k p a (Lives b y) = (n : ℕ) × CondFound k p p.phase (card a) n (card b) × ((cond_led p (answer_at (cond_access p) n)).phase ≡ condition.Ended y)
+CondTurned k p a (Lives b y) = (n : ℕ) × CondFound k p p.phase (card a) n (card b)
+    × ((cond_led p (answer_at (cond_access p) n)).phase ≡ condition.Ended y)
 
 -- the call went on with this answer, its pass as it was
 abbrev pub CondOnward : CondWhole → Answer → Pass Live → CondTurn → Type 0
@@ -125,4 +132,6 @@ CondOnward p x a (Lives b y) = (b ≡ a) × ((cond_led p x).phase ≡ condition.
 
 -- the call is where it was, and its pass knows what it knew, but for the word that it found last
 abbrev pub CondUnmoved : Words → CondRunning → CondRunning → Type 0
-CondUnmoved w r r' = IsCondRunningOf w r' × (cond_call r' ≡ cond_call r) × (card (cond_pass r') ≡ noted (card (cond_pass r)) (card (cond_pass r')).last (card (cond_pass r')).trims (card (cond_pass r)).changes)
+CondUnmoved w r r' = IsCondRunningOf w r' × (cond_call r' ≡ cond_call r)
+    × (card (cond_pass r')
+    ≡ noted (card (cond_pass r)) (card (cond_pass r')).last (card (cond_pass r')).trims (card (cond_pass r)).changes)

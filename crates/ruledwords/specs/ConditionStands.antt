@@ -1,6 +1,7 @@
 -- What a call on a condition variable has decided, wherever it stands, and how it ends (pthread_cond_wait(3p),
 -- pthread_cond_signal(3p), pthread_cond_broadcast(3p)).
-use Rattle.std.specs.Prelude.{◌≡◌, ◌≢◌, ℕ, ◌+◌, ◌^◌, ◌%◌, ◌==◌, Bool, true, false, Option, Some, List, [], ◌∷◌, if◌then◌else◌}
+use Rattle.std.specs.Prelude.{◌≡◌, ◌≢◌, ℕ, ◌+◌, ◌^◌, ◌%◌, ◌==◌, Bool, true}
+use Rattle.std.specs.Prelude.{false, Option, Some, List, [], ◌∷◌, if◌then◌else◌}
 use Rattle.lockword.specs.declared.reply.Reply.{Reply}
 use Rattle.lockword.specs.declared.reply.Reply.TheVariants.{OK, EPERM, XFULL, XSTATE}
 use Rattle.posixmutex.specs.declared.object.Object.{Object}
@@ -139,7 +140,8 @@ pub record CondEnded (k : Layout') (q : ℕ) (op : Operation) (x : Reply) (c d :
 abbrev pub IsCondUnderWay : Words → Pass Live → CondCall → CondRunning → Type 0
 IsCondUnderWay w a c r =
     IsCondRunningOf w r × (condition_at (layout_of w) (cond_call r) ≡ condition_of c)
-    × CondStands (layout_of w) (condition_of c) (operation_of c) (card a) (cond_row_in (cond_call r).phase) (card (cond_pass r))
+    × CondStands (layout_of w) (condition_of c) (operation_of c) (card a) (cond_row_in (cond_call r).phase)
+    (card (cond_pass r))
 
 -- a wait has released its mutex, which is usable then, and takes it by a lock that begins now: of the two points the
 -- first is the last that its thread has seen. It has loaded the counter of its own condition variable
@@ -153,8 +155,10 @@ pub record HasReleased (w : Words) (a : Pass Live) (c : CondCall) (b : Pass Live
 -- it is under way still; or it is a wait that takes its mutex again; or it has replied
 abbrev pub CondGoesOn : Words → Pass Live → CondCall → CondTurn → Type 0
 CondGoesOn w a c (Goes r) = IsCondUnderWay w a c r
-CondGoesOn w a c (Locks r) = HasReleased w a c (running_pass r) × IsUnderWay w (running_pass r) (call.Lock (mutex_at (layout_of w) (condition_of c))) r
-CondGoesOn w a c (Lives b x) = IsLive w b × CondEnded (layout_of w) (condition_of c) (operation_of c) x (card a) (card b)
+CondGoesOn w a c (Locks r) = HasReleased w a c (running_pass r)
+    × IsUnderWay w (running_pass r) (call.Lock (mutex_at (layout_of w) (condition_of c))) r
+CondGoesOn w a c (Lives b x) =
+    IsLive w b × CondEnded (layout_of w) (condition_of c) (operation_of c) x (card a) (card b)
 
 -- wherever the call began, it goes on
 abbrev pub CondKeeps : Words → CondRunning → CondTurn → Type 0

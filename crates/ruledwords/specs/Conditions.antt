@@ -102,7 +102,14 @@ list_phase (condition.Locking w) = w.phase
 list_phase (condition.Ended x) = phase.Ended x
 
 abbrev pub unlock_of : CondWhole → Whole
-unlock_of p = record { thread = p.thread; operation = operation.Unlock; head = p.head; entry = p.entry; cell = p.cell; phase = list_phase p.phase }
+unlock_of p = record {
+  thread = p.thread;
+  operation = operation.Unlock;
+  head = p.head;
+  entry = p.entry;
+  cell = p.cell;
+  phase = list_phase p.phase;
+}
 
 -- ---- what it needs
 
@@ -121,7 +128,8 @@ Needs t r o v b = Unit {0}
 
 -- it is so, as far as the card's thread has seen the mutex
 abbrev pub CondReady : Layout' → ℕ → CondRow → Card → Type 0
-CondReady k q r c = (o : Object) → Run fresh (at c.seen (cell_at k q)) o → Needs c.thread r o (value_at c.values (counter_place k q)) (mark_at c.marks (cell_at k q))
+CondReady k q r c = (o : Object) → Run fresh (at c.seen (cell_at k q)) o
+    → Needs c.thread r o (value_at c.values (counter_place k q)) (mark_at c.marks (cell_at k q))
 
 -- ---- its accesses
 
@@ -177,7 +185,8 @@ Acted k q p (cond.Signal signal.LoadCounter) c n d = Counts k q p c n d
 Acted k q p (cond.Signal signal.Count) c n d = Counts k q p c n d
 Acted k q p (cond.Broadcast broadcast.LoadCounter) c n d = Counts k q p c n d
 Acted k q p (cond.Broadcast (broadcast.Count seen)) c n d = Counts k q p c n d
-Acted k q p (cond.Broadcast (broadcast.SetWaiters seen)) c n d = (d ≡ having_set c (cell_at k q) n d.changes) × Finds c (cell_at k q) n × Writes c (cell_at k q) n (bit_or n waiters_bit) d
+Acted k q p (cond.Broadcast (broadcast.SetWaiters seen)) c n d = (d ≡ having_set c (cell_at k q) n d.changes)
+    × Finds c (cell_at k q) n × Writes c (cell_at k q) n (bit_or n waiters_bit) d
 Acted k q p r c n d = Meets k q p c n d
 
 abbrev pub acted : Layout' → ℕ → CondStanding → At → Sat → ℕ → Sat → Type 0
@@ -187,7 +196,9 @@ acted k q p st me r me' = Turns me me' (λ c d. Acted k q p p.row c r d)
 
 -- the word was r. Nothing is seen anew
 abbrev pub looked_at_counter : At → Sat → ℕ → Sat → Type 0
-looked_at_counter st me r me' = Turns me me' (λ c d. (d ≡ noted c r c.trims c.changes) × (r ≤ largest_counter) × ((x : ℕ) → value_at c.values st.word ≡ Some x → r ≡ x))
+looked_at_counter st me r me' = Turns me me'
+    (λ c d. (d ≡ noted c r c.trims c.changes) × (r ≤ largest_counter)
+    × ((x : ℕ) → value_at c.values st.word ≡ Some x → r ≡ x))
 
 -- a section that compares a counter
 abbrev pub Compares : Access → Type 0

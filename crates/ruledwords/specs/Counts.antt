@@ -30,5 +30,8 @@ cell_at k q = cell_place k (mutex_at k q)
 -- the counters of each mutex's condition variables, added up, are what they were at first, and one more for each point
 -- of its history that counts. Where none counts, each is what it was
 pub record Counted (k : Layout') (presets ws : List ℕ) (js : List (List Point)) : Type 0 where
-  pub sums : (m : ℕ) → m < k.mutexes → total_of m k.conditions (counter_in k ws) 0 ≡ total_of m k.conditions (slice_index presets) 0 + counts_in (at js (cell_place k m))
-  pub still : (q : ℕ) → q < length k.conditions → counts_in (at js (cell_at k q)) ≡ 0 → counter_in k ws q ≡ slice_index presets q
+  pub sums : (m : ℕ) → m < k.mutexes
+      → total_of m k.conditions (counter_in k ws) 0
+      ≡ total_of m k.conditions (slice_index presets) 0 + counts_in (at js (cell_place k m))
+  pub still : (q : ℕ) → q < length k.conditions → counts_in (at js (cell_at k q)) ≡ 0
+      → counter_in k ws q ≡ slice_index presets q

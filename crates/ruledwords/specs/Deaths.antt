@@ -53,7 +53,8 @@ remembering c q n = record c { last = n; marks = put_mark c.marks q (fields_of n
 
 -- it has looked at a cell, whose word was r. Nothing is seen anew
 abbrev pub examined : At → Sat → ℕ → Sat → Type 0
-examined st me r me' = Turns me me' (λ c d. (d ≡ remembering c st.word r) × Finds c st.word r × MindsWaiters c st.word r)
+examined st me r me' =
+    Turns me me' (λ c d. (d ≡ remembering c st.word r) × Finds c st.word r × MindsWaiters c st.word r)
 
 -- what an exchange of a word for the same one marked leaves
 abbrev pub left_by_mark : ℕ → ℕ → ℕ
@@ -119,7 +120,8 @@ pub record HasWalked (k : Layout') (c d : Card) : Type 0 where
   pub thread : d.thread ≡ c.thread
   pub threads : d.threads ≡ c.threads
   pub base : d.base ≡ c.base
-  pub told : (m : ℕ) → m < k.mutexes → owns_in k c m ≡ true → ((owns_in k d m ≡ true) × SawThere c (cell_place k m) [] d) ⊎ TellsDeath c (cell_place k m) d
+  pub told : (m : ℕ) → m < k.mutexes → owns_in k c m ≡ true
+      → ((owns_in k d m ≡ true) × SawThere c (cell_place k m) [] d) ⊎ TellsDeath c (cell_place k m) d
   pub stays : (m : ℕ) → m < k.mutexes → owns_in k c m ≡ false → at d.seen (cell_place k m) ≡ at c.seen (cell_place k m)
   pub changes : KnowsOn c d
   pub still : ChangedNone (IsNoCell k) c d
@@ -150,12 +152,14 @@ pub record IsSeatedWalk (w : Words) (z : Seat (Unit {0}) (List Card)) (t : ℕ) 
 
 -- what was found at a row: a word of a cell, or what the thread knew of its own word
 abbrev pub FoundAt : Layout' → Standing → Row → Card → ℕ → Card → Type 0
-FoundAt k s (row.LoadWord at rest) c n d = (d ≡ remembering c (place_in k c.thread at) n) × Finds c (place_in k c.thread at) n × MindsWaiters c (place_in k c.thread at) n
+FoundAt k s (row.LoadWord at rest) c n d = (d ≡ remembering c (place_in k c.thread at) n)
+    × Finds c (place_in k c.thread at) n × MindsWaiters c (place_in k c.thread at) n
 FoundAt k s (row.Mark at v again rest) c n d = Marks k (place_in k c.thread at) v c n d
 FoundAt k s r c n d = (d ≡ c) × (n ≡ known k c (address_of (access_of s)))
 
 abbrev pub FoundByWalk : Words → Seat (Unit {0}) (List Card) → Seat (Unit {0}) (List Card) → Standing → ℕ → Type 0
-FoundByWalk w z z' s n = (z'.table_id ≡ z.table_id) × IsOne z'.me × FoundAt (layout_of w) s s.row (card_of z.me.0) n (card_of z'.me.0)
+FoundByWalk w z z' s n =
+    (z'.table_id ≡ z.table_id) × IsOne z'.me × FoundAt (layout_of w) s s.row (card_of z.me.0) n (card_of z'.me.0)
 
 -- ---- walks in progress
 
@@ -203,7 +207,9 @@ card_after (walked.Reaped p) = card p
 
 -- its access was made, and the walk went on with what that found
 abbrev pub WentOnFound : Layout' → Reaping → Walked → Type 0
-WentOnFound k r turn = (n : ℕ) × FoundAt k (reaping_walk r) (reaping_walk r).row (card (reaping_pass r)) n (card_after turn) × WentOn (reaping_walk r) (answer_at (access_of (reaping_walk r)) n) turn
+WentOnFound k r turn = (n : ℕ)
+    × FoundAt k (reaping_walk r) (reaping_walk r).row (card (reaping_pass r)) n (card_after turn)
+    × WentOn (reaping_walk r) (answer_at (access_of (reaping_walk r)) n) turn
 
 -- what a wake is answered
 abbrev pub IsCount : Answer → Type 0

@@ -13,7 +13,8 @@ use Rattle.ruledwords.specs.Rules.{Sat, At, Turns}
 -- the word n of the cell at p is that after a legal list of the mutex's points, which begins with what the card has
 -- seen and then has other threads' points alone; no bits above its flags are set
 abbrev pub Finds : Card → ℕ → ℕ → Type 0
-Finds c p n = (since : List Point) × Leaves c.threads p (at c.seen p ++ since) (object_of (fields_of n)) × (by c.thread since ≡ []) × ((fields_of n).rest ≡ 0)
+Finds c p n = (since : List Point) × Leaves c.threads p (at c.seen p ++ since) (object_of (fields_of n))
+    × (by c.thread since ≡ []) × ((fields_of n).rest ≡ 0)
 
 -- a thread that found the word n last, has made so many trims, and knows of these changes of cells, knows else what it
 -- knew
@@ -31,4 +32,6 @@ looked st me r me' = Turns me me' (λ c d. (d ≡ noted c r c.trims c.changes) �
 
 -- it has exchanged 0x80000000 for 0 there, if that was the word: a trim
 abbrev pub trimmed : At → Sat → ℕ → Sat → Type 0
-trimmed st me r me' = Turns me me' (λ c d. (st.first ≡ 0x8000_0000) × (st.second ≡ 0) × (d ≡ noted c r (c.trims + 1) d.changes) × Finds c st.word r × Writes c st.word r (if r == 0x8000_0000 then 0 else r) d)
+trimmed st me r me' = Turns me me'
+    (λ c d. (st.first ≡ 0x8000_0000) × (st.second ≡ 0) × (d ≡ noted c r (c.trims + 1) d.changes) × Finds c st.word r
+    × Writes c st.word r (if r == 0x8000_0000 then 0 else r) d)

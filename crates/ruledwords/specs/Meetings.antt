@@ -60,7 +60,8 @@ module _ {A B : Type 0} where
     pub kinds : map is_first qs ≡ map is_first ps
     pub know : KnowAll (map card_in ps) (map card_in qs)
     pub of : All (IsEitherOf w) qs
-    pub lists : (i : ℕ) (c d : Card) → slice_get (map card_in ps) i ≡ Some c → slice_get (map card_in qs) i ≡ Some d → StaysSo (layout_of w) c d
+    pub lists : (i : ℕ) (c d : Card) → slice_get (map card_in ps) i ≡ Some c → slice_get (map card_in qs) i ≡ Some d
+        → StaysSo (layout_of w) c d
 
 -- ---- calls behind a meeting
 
@@ -75,4 +76,5 @@ pub record StandsBehind (c : Card) (t p : ℕ) (acts : List Act) (e : Card) : Ty
 
 -- where two have met, each call that one of them makes then stands behind all calls that the other had made
 abbrev pub MeetingsOrderCalls : Type 0
-MeetingsOrderCalls = (c d c' d' e : Card) (p : ℕ) (acts : List Act) → Joined c d c' d' → (Saw d' p acts e → StandsBehind c d.thread p acts e) × (Saw c' p acts e → StandsBehind d c.thread p acts e)
+MeetingsOrderCalls = (c d c' d' e : Card) (p : ℕ) (acts : List Act) → Joined c d c' d'
+    → (Saw d' p acts e → StandsBehind c d.thread p acts e) × (Saw c' p acts e → StandsBehind d c.thread p acts e)

@@ -1,5 +1,6 @@
 -- What the calls of a pass answer.
-use Rattle.std.specs.Prelude.{◌≡◌, ℕ, ◌+◌, ◌≤◌, nat_le, Bool, true, false, MatchBool, Result, Ok, Err, [], ◌∷◌, if◌then◌else◌}
+use Rattle.std.specs.Prelude.{◌≡◌, ℕ, ◌+◌, ◌≤◌, nat_le, Bool, true, false}
+use Rattle.std.specs.Prelude.{MatchBool, Result, Ok, Err, [], ◌∷◌, if◌then◌else◌}
 use Rattle.posixmutex.specs.declared.object.Object.{Object}
 use Rattle.posixmutex.specs.Objects.{fresh, held_limit, Run}
 use Rattle.lockword.specs.declared.reply.Reply.{Reply}
@@ -35,7 +36,8 @@ use Rattle.ruledwords.specs.Turns.{running_program, GoesOn, HasDied, HasSeenTheS
 -- a call that may take mutex m replied so: by a thread that holds 2,048 mutexes it is refused, with nothing seen anew.
 -- Otherwise it is decided by one point, whose reply it is
 abbrev pub Takes : Layout' → ℕ → Operation → Card → Reply → Card → Type 0
-Takes k m op c r d = MatchBool (nat_le held_limit (held c)) ((r ≡ XHELD) × (d ≡ c)) (Called c (cell_place k m) ((op, r) ∷ []) d)
+Takes k m op c r d =
+    MatchBool (nat_le held_limit (held c)) ((r ≡ XHELD) × (d ≡ c)) (Called c (cell_place k m) ((op, r) ∷ []) d)
 
 -- its thread died in it: it wasn't refused
 abbrev pub DiesTaking : Layout' → ℕ → Operation → Card → Card → Type 0
@@ -44,13 +46,16 @@ DiesTaking k m op c d = (nat_le held_limit (held c) ≡ false) × Died c (cell_p
 -- a trylock of mutex m gives up only after four exchanges that each found a changed cell, as the pass counts them, and
 -- as often others have changed it
 abbrev pub Tried : Words → ℕ → Pass Live → Outcome → Type 0
-Tried w m a (outcome.Lives b r) = IsLive w b × Takes (layout_of w) m TryLock (card a) r (card b) × (r ≡ XRACED → ((card a).misses + 4 ≤ (card b).misses) × OthersChanged 4 (card a) (cell_place (layout_of w) m) (card b))
+Tried w m a (outcome.Lives b r) = IsLive w b × Takes (layout_of w) m TryLock (card a) r (card b)
+    × (r ≡ XRACED
+    → ((card a).misses + 4 ≤ (card b).misses) × OthersChanged 4 (card a) (cell_place (layout_of w) m) (card b))
 Tried w m a (outcome.Dead d) = IsDying w d × DiesTaking (layout_of w) m TryLock (card a) (card d)
 
 -- a declaration that mutex m is consistent: the reply is that of its point. So it is OK, EINVAL or EPERM, as the thread
 -- owned the mutex and found it inconsistent, owned it, or didn't own it
 abbrev pub Declared : Words → ℕ → Pass Live → Outcome → Type 0
-Declared w m a (outcome.Lives b r) = IsLive w b × Called (card a) (cell_place (layout_of w) m) ((Consistent, r) ∷ []) (card b)
+Declared w m a (outcome.Lives b r) =
+    IsLive w b × Called (card a) (cell_place (layout_of w) m) ((Consistent, r) ∷ []) (card b)
 Declared w m a (outcome.Dead d) = IsDying w d × Died (card a) (cell_place (layout_of w) m) Consistent (card d)
 
 -- a call that stands at p with the pass a ends so, wherever it began
@@ -101,10 +106,15 @@ IsOwedOf w o = IsRunningOf w (owed_running o)
 abbrev pub Frees : Words → ℕ → Pass Live → Released → Type 0
 Frees w m a (released.Owes o) =
     IsOwedOf w o × Called (card a) (cell_place (layout_of w) m) ((Unlock, OK) ∷ []) (card (owed_pass o))
-    × ((fields_of (card (owed_pass o)).last).owner ≡ (card a).thread) × (owed_wakes o ≡ wakes_of (card (owed_pass o)).last) × IsOnMutex (layout_of w) (running_program (owed_running o)) m
+    × ((fields_of (card (owed_pass o)).last).owner ≡ (card a).thread)
+    × (owed_wakes o ≡ wakes_of (card (owed_pass o)).last)
+    × IsOnMutex (layout_of w) (running_program (owed_running o)) m
     × ChangedOnce (card a) (cell_place (layout_of w) m) (card (owed_pass o))
-    × ((x : Object) → Run fresh (at (card (owed_pass o)).seen (cell_place (layout_of w) m)) x → OwesAsLeft (owed_wakes o) (fields_of (card (owed_pass o)).last).waiters x)
-Frees w m a (released.Refused b r) = IsLive w b × (r ≡ EPERM) × Called (card a) (cell_place (layout_of w) m) ((Unlock, EPERM) ∷ []) (card b)
+    ×
+    ((x : Object) → Run fresh (at (card (owed_pass o)).seen (cell_place (layout_of w) m)) x
+    → OwesAsLeft (owed_wakes o) (fields_of (card (owed_pass o)).last).waiters x)
+Frees w m a (released.Refused b r) =
+    IsLive w b × (r ≡ EPERM) × Called (card a) (cell_place (layout_of w) m) ((Unlock, EPERM) ∷ []) (card b)
 Frees w m a (released.Dead d) = IsDying w d × Died (card a) (cell_place (layout_of w) m) Unlock (card d)
 
 -- an unlock that stands at p with the pass a frees its mutex so, wherever it began
@@ -113,7 +123,8 @@ FreesFrom w a p o = (x : Pass Live) (m : ℕ) → IsReleasing w x m a p → Free
 
 -- its thread, whose card is d now, has seen no more of any mutex
 abbrev pub SeesNoMore : Words → Owed → Card → Type 0
-SeesNoMore w o d = (m : ℕ) → IsOnMutex (layout_of w) (running_program (owed_running o)) m → HasSeenTheSame (cell_place (layout_of w) m) (card (owed_pass o)) d
+SeesNoMore w o d = (m : ℕ) → IsOnMutex (layout_of w) (running_program (owed_running o)) m
+    → HasSeenTheSame (cell_place (layout_of w) m) (card (owed_pass o)) d
 
 -- an unlock ends exactly where nobody is to be woken: then its entry is pending no more. Nothing is seen anew
 abbrev pub Settles : Words → Owed → Result (Pass Live) Owed → Type 0

@@ -37,4 +37,5 @@ stored st me r me' = Turns me me' (λ c d. d ≡ knowing c st.word st.first)
 
 -- it has loaded the word there, which is the one that it knows, if it knows one
 abbrev pub recalled : At → Sat → ℕ → Sat → Type 0
-recalled st me r me' = (c : Card) → me ≡ (c ∷ [], []) → (me' ≡ (c ∷ [], [])) × ((x : ℕ) → value_at c.values st.word ≡ Some x → r ≡ x)
+recalled st me r me' =
+    (c : Card) → me ≡ (c ∷ [], []) → (me' ≡ (c ∷ [], [])) × ((x : ℕ) → value_at c.values st.word ≡ Some x → r ≡ x)

@@ -39,7 +39,8 @@ StaysReleasing w a p b q = (x : Pass Live) (m : ℕ) → IsReleasing w x m a p �
 
 -- an unlock of mutex m that began at the pass x is refused
 abbrev pub Refuses : Words → Pass Live → ℕ → Pass Live → Reply → Type 0
-Refuses w x m b y = IsLive w b × (y ≡ EPERM) × Called (card x) (cell_place (layout_of w) m) ((Unlock, EPERM) ∷ []) (card b)
+Refuses w x m b y =
+    IsLive w b × (y ≡ EPERM) × Called (card x) (cell_place (layout_of w) m) ((Unlock, EPERM) ∷ []) (card b)
 
 -- its thread died in it, or it was refused
 abbrev pub ReleaseEnds : Words → Pass Live → Whole → Pass Live → End → Type 0
@@ -55,7 +56,9 @@ ReleaseSteps w a p b q (Err e) = ReleaseEnds w a p b e
 abbrev pub ReleasesOnce : Words → Pass Live → Whole → Pass Live → Whole → Result Unit End → Type 0
 ReleasesOnce w a p b q (Ok u) =
     IsInRelease w b q
-    × (((v : Wakes) → p.phase ≢ owing_at v) → (of : IsCallOf w a p) → (on : IsCallOf w b q) × Turned (layout_of w) p a (Goes (running_of w b q on)))
+    ×
+    (((v : Wakes) → p.phase ≢ owing_at v) → (of : IsCallOf w a p)
+    → (on : IsCallOf w b q) × Turned (layout_of w) p a (Goes (running_of w b q on)))
 ReleasesOnce w a p b q (Err e) = Unit {0}
 
 -- so many accesses were made

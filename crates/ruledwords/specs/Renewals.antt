@@ -16,4 +16,5 @@ IsGone w p = IsPassOf w p × KnowsOwn (layout_of w) (card p) × OwnsNothing (lay
 -- what it knows once it lives anew: its head leads to itself, so its list is empty, and nothing is pending. All that it
 -- has seen is as it was
 abbrev pub renewed : Layout' → Card → Card
-renewed k c = knowing (knowing c (head_place c.thread) (address_in k c.thread (head_place c.thread))) (head_place c.thread + 2) 0
+renewed k c =
+    knowing (knowing c (head_place c.thread) (address_in k c.thread (head_place c.thread))) (head_place c.thread + 2) 0

@@ -6,7 +6,8 @@
 -- saw WAITERS, that stays set. Counters count the signals and the broadcasts that were answered OK. Changes: each
 -- cell's words and each counter's, one after the other, and who wrote each. What a pass knows of them begins them, and
 -- has all that its thread wrote; all others are by threads.
-use Rattle.std.specs.Prelude.{◌≡◌, ℕ, zero, suc, ◌+◌, ◌-◌, ◌/◌, ◌%◌, ◌<◌, ◌≤◌, ◌==◌, ◌&&◌, nat_lt, true, Option, Some, List, [], ◌∷◌, All, length, drop, slice_index, if◌then◌else◌}
+use Rattle.std.specs.Prelude.{◌≡◌, ℕ, zero, suc, ◌+◌, ◌-◌, ◌/◌, ◌%◌, ◌<◌, ◌≤◌, ◌==◌, ◌&&◌, nat_lt, true}
+use Rattle.std.specs.Prelude.{Option, Some, List, [], ◌∷◌, All, length, drop, slice_index, if◌then◌else◌}
 use mathlib.Core.Option.{some}
 use mathlib.Core.List.{IsPrefix}
 use lib.ListN.{get_elem?}
@@ -14,13 +15,15 @@ use Rattle.atomic_table.specs.Table.{State, Me, Step}
 use Rattle.lockword.specs.Cells.{fields_of}
 use Rattle.posixmutex.specs.declared.point.Point.{Point}
 use Rattle.posixmutex.specs.declared.object.Object.{Object}
-use Rattle.memorymap.specs.Layouts.{Layout', IsLayout, head_place, cell_place, counter_place, words_of, base_of, address_in, cell_offset, first_word}
+use Rattle.memorymap.specs.Layouts.{Layout', IsLayout, head_place, cell_place, counter_place}
+use Rattle.memorymap.specs.Layouts.{words_of, base_of, address_in, cell_offset, first_word}
 use Rattle.posixmutex.specs.Objects.{object_of}
 use Rattle.ruledwords.specs.declared.pass.Card.{Card}
 use Rattle.ruledwords.specs.declared.pass.Change.{Change}
 use Rattle.ruledwords.specs.declared.pass.Opening.{Opening}
 use Rattle.ruledwords.specs.Cards.{at, value_at, put_value, mark_at}
-use Rattle.ruledwords.specs.Changes.{behind_unknown, changes_at, first_changes, left_by, AllTied, AreBehindFirst, Recorded}
+use Rattle.ruledwords.specs.Changes.{behind_unknown, changes_at, first_changes}
+use Rattle.ruledwords.specs.Changes.{left_by, AllTied, AreBehindFirst, Recorded}
 use Rattle.ruledwords.specs.Counts.{Counted}
 use Rattle.ruledwords.specs.Seen.{by, Leaves, Joined}
 
@@ -32,7 +35,9 @@ opening_word k counters = first_word k (slice_index counters)
 
 -- a thread knows its head, whose first word is the head's own address in the thread's process
 abbrev pub first_values : Layout' → ℕ → List (Option ℕ)
-first_values k t = put_value (put_value (put_value [] (head_place t) (Some (address_in k t (head_place t)))) (head_place t + 1) (Some cell_offset)) (head_place t + 2) (Some 0)
+first_values k t = put_value
+    (put_value (put_value [] (head_place t) (Some (address_in k t (head_place t)))) (head_place t + 1)
+    (Some cell_offset)) (head_place t + 2) (Some 0)
 
 -- a thread knows what the counters begin with, and nothing of the cells' words
 abbrev pub first_known : Layout' → List ℕ → List (List Change)
@@ -41,7 +46,19 @@ first_known k counters = behind_unknown (counter_place k 0) (first_changes count
 -- what thread t of a layout knows at first, whose counters begin with these values: its own head, these values, and
 -- nothing of any mutex
 abbrev pub first_card : Layout' → List ℕ → ℕ → Card
-first_card k counters t = record { threads = k.threads; thread = t; base = base_of k t; seen = []; misses = 0; last = 0; trims = 0; counted = 0; values = first_values k t; marks = []; changes = first_known k counters }
+first_card k counters t = record {
+  threads = k.threads;
+  thread = t;
+  base = base_of k t;
+  seen = [];
+  misses = 0;
+  last = 0;
+  trims = 0;
+  counted = 0;
+  values = first_values k t;
+  marks = [];
+  changes = first_known k counters;
+}
 
 -- the cards of so many threads from t on
 abbrev pub hand : Layout' → List ℕ → ℕ → ℕ → List Card
@@ -58,7 +75,8 @@ presets_in o = drop (counter_place o.layout 0) o.words.items
 
 -- the mutex whose owner alone writes at p, the place of a link or a counter
 abbrev pub guard : Layout' → ℕ → ℕ
-guard k p = if nat_lt p (counter_place k 0) then (p - cell_place k 0) / 3 else slice_index k.conditions (p - counter_place k 0)
+guard k p =
+    if nat_lt p (counter_place k 0) then (p - cell_place k 0) / 3 else slice_index k.conditions (p - counter_place k 0)
 
 abbrev pub owner_at : Layout' → List ℕ → ℕ → ℕ
 owner_at k ws m = (fields_of (slice_index ws (cell_place k m))).owner
@@ -79,7 +97,8 @@ pub record Fits (k : Layout') (ws : List ℕ) (js : List (List Point)) (c : Card
   pub begins : (p : ℕ) → IsPrefix (at c.seen p) (at js p)
   pub own : (p : ℕ) → by c.thread (at c.seen p) ≡ by c.thread (at js p)
   pub values : (p x : ℕ) → value_at c.values p ≡ Some x → (slice_index ws p ≡ x) × (keeper k ws p ≡ c.thread)
-  pub marks : (m : ℕ) → m < k.mutexes → mark_at c.marks (cell_place k m) ≡ true → owner_at k ws m ≡ c.thread → (fields_of (slice_index ws (cell_place k m))).waiters ≡ true
+  pub marks : (m : ℕ) → m < k.mutexes → mark_at c.marks (cell_place k m) ≡ true → owner_at k ws m ≡ c.thread
+      → (fields_of (slice_index ws (cell_place k m))).waiters ≡ true
 
 abbrev pub AllFit : Layout' → List ℕ → List (List Point) → List Card → Type 0
 AllFit k ws js [] = Unit {0}
@@ -99,7 +118,9 @@ pub record Kept (k : Layout') (presets : List ℕ) (s : State (Unit {0}) (List C
   pub layout : IsLayout k
   pub wide : length s.words ≡ words_of k
   pub histories : List (List Point)
-  pub leaves : (m : ℕ) → m < k.mutexes → Leaves k.threads (cell_place k m) (at histories (cell_place k m)) (object_of (fields_of (slice_index s.words (cell_place k m))))
+  pub leaves : (m : ℕ) → m < k.mutexes
+      → Leaves k.threads (cell_place k m) (at histories (cell_place k m))
+      (object_of (fields_of (slice_index s.words (cell_place k m))))
   pub legal : (p : ℕ) → (o : Object) × Leaves k.threads p (at histories p) o
   pub narrow : (m : ℕ) → m < k.mutexes → (fields_of (slice_index s.words (cell_place k m))).rest ≡ 0
   pub counters : (q : ℕ) → q < length k.conditions → slice_index s.words (counter_place k q) < 4294967296
@@ -118,7 +139,19 @@ At = Step (Unit {0})
 
 -- the one card of a pass
 abbrev pub card_of : List Card → Card
-card_of [] = record { threads = 0; thread = 0; base = 0; seen = []; misses = 0; last = 0; trims = 0; counted = 0; values = []; marks = []; changes = [] }
+card_of [] = record {
+  threads = 0;
+  thread = 0;
+  base = 0;
+  seen = [];
+  misses = 0;
+  last = 0;
+  trims = 0;
+  counted = 0;
+  values = [];
+  marks = [];
+  changes = [];
+}
 card_of (c ∷ cs) = c
 
 abbrev pub IsOne : Sat → Type 0
@@ -139,7 +172,8 @@ rest_of (c ∷ cs) = cs
 
 -- a load by a seat that has two cards
 abbrev pub met : At → Sat → ℕ → Sat → Type 0
-met st me r me' = (c d : Card) → me ≡ (c ∷ d ∷ [], []) → (c' : Card) × (d' : Card) × (me' ≡ (c' ∷ d' ∷ [], [])) × Joined c d c' d'
+met st me r me' =
+    (c d : Card) → me ≡ (c ∷ d ∷ [], []) → (c' : Card) × (d' : Card) × (me' ≡ (c' ∷ d' ∷ [], [])) × Joined c d c' d'
 
 -- what a pass saw begins these lists, which have just its thread's points of its own
 pub record IsAmong (histories : List (List Point)) (c : Card) : Type 0 where
@@ -152,11 +186,14 @@ pub record IsAmong (histories : List (List Point)) (c : Card) : Type 0 where
 -- know of are by threads that there are
 pub record Ends (k : Layout') (presets : List ℕ) (cards : List Card) (words : List ℕ) : Type 0 where
   pub histories : List (List Point)
-  pub leaves : (m : ℕ) → m < k.mutexes → Leaves k.threads (cell_place k m) (at histories (cell_place k m)) (object_of (fields_of (slice_index words (cell_place k m))))
+  pub leaves : (m : ℕ) → m < k.mutexes
+      → Leaves k.threads (cell_place k m) (at histories (cell_place k m))
+      (object_of (fields_of (slice_index words (cell_place k m))))
   pub narrow : (m : ℕ) → m < k.mutexes → (fields_of (slice_index words (cell_place k m))).rest ≡ 0
   pub counted : Counted k presets words histories
   pub changes : List (List Change)
-  pub count : (q : ℕ) → q < length k.conditions → left_by (changes_at changes (counter_place k q)) ≡ slice_index words (counter_place k q)
+  pub count : (q : ℕ) → q < length k.conditions
+      → left_by (changes_at changes (counter_place k q)) ≡ slice_index words (counter_place k q)
   pub authors : (p : ℕ) → AreBehindFirst k.threads (changes_at changes p)
   pub tied : AllTied k.threads changes cards
   pub among : All (IsAmong histories) cards

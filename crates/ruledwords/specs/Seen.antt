@@ -2,7 +2,8 @@
 --
 -- What is seen of a mutex is a legal list of its points: from a mutex that nobody has locked yet, each is a step of the
 -- mutex as POSIX has it. Between passes that never met, no order is claimed.
-use Rattle.std.specs.Prelude.{◌≡◌, ◌≢◌, ℕ, ◌+◌, ◌≤◌, ◌==◌, Bool, true, false, List, [], ◌∷◌, ◌++◌, filter, map, if◌then◌else◌}
+use Rattle.std.specs.Prelude.{◌≡◌, ◌≢◌, ℕ, ◌+◌, ◌≤◌, ◌==◌, Bool, true, false}
+use Rattle.std.specs.Prelude.{List, [], ◌∷◌, ◌++◌, filter, map, if◌then◌else◌}
 use mathlib.Core.List.{IsPrefix}
 use Rattle.lockword.specs.declared.reply.Reply.{Reply}
 use Rattle.lockword.specs.declared.reply.Reply.TheVariants.{OK, EOWNERDEAD}
@@ -124,7 +125,8 @@ pub record Joined (c d c' d' : Card) : Type 0 where
   pub second : d' ≡ record d { seen = seen }
   pub legal : (p : ℕ) → (o : Object) × Leaves c.threads p (at seen p) o
   pub begins : (p : ℕ) → IsPrefix (at c.seen p) (at seen p) × IsPrefix (at d.seen p) (at seen p)
-  pub own : (p : ℕ) → (by c.thread (at seen p) ≡ by c.thread (at c.seen p)) × (by d.thread (at seen p) ≡ by d.thread (at d.seen p))
+  pub own : (p : ℕ)
+      → (by c.thread (at seen p) ≡ by c.thread (at c.seen p)) × (by d.thread (at seen p) ≡ by d.thread (at d.seen p))
 
 -- no mutex is held by both threads
 abbrev pub AreExclusive : Card → Card → Type 0

@@ -16,7 +16,8 @@ use Rattle.ruledwords.specs.declared.turn.Stretch.{Stretch}
 use Rattle.ruledwords.specs.declared.turn.Stretch.TheVariants as stretch
 use Rattle.ruledwords.specs.declared.turn.Turn.TheVariants.{Goes, Lives}
 use Rattle.ruledwords.specs.Passes.{card, layout_of, IsDying}
-use Rattle.ruledwords.specs.Turns.{running_of, EndsIn, GoesOn, GoesOnDecided, HasDied, HasSeenTheSame, IsCallOf, IsDecided, IsOneStep, IsRunningOf, IsUnderWay, StaysIn, Turned}
+use Rattle.ruledwords.specs.Turns.{running_of, EndsIn, GoesOn, GoesOnDecided, HasDied, HasSeenTheSame}
+use Rattle.ruledwords.specs.Turns.{IsCallOf, IsDecided, IsOneStep, IsRunningOf, IsUnderWay, StaysIn, Turned}
 
 -- a call on mutex m that was decided, with the reply x at the card c, stands at p, with the pass a
 abbrev pub IsDecidedIn : Words → ℕ → Card → Reply → Pass Live → Whole → Type 0
@@ -33,7 +34,8 @@ ComesOn w a p b q = IsCallOf w b q × StaysIn w a p b q × StaysDecided w a p b 
 -- its thread died in it, or it replied
 abbrev pub ComesToEnd : Words → Pass Live → Whole → Pass Live → End → Type 0
 ComesToEnd w a p b end.Stopped = (q : Whole) × ComesOn w a p b q
-ComesToEnd w a p b (end.Replied y) = EndsIn w a p b (end.Replied y) × ((m : ℕ) (c : Card) (x : Reply) → IsDecidedIn w m c x a p → GoesOnDecided w m c x (Lives b y))
+ComesToEnd w a p b (end.Replied y) = EndsIn w a p b (end.Replied y)
+    × ((m : ℕ) (c : Card) (x : Reply) → IsDecidedIn w m c x a p → GoesOnDecided w m c x (Lives b y))
 
 -- an access was made, or the call stays at its section, or it ended
 abbrev pub StepsOn : Words → Pass Live → Whole → Pass Live → Whole → Result Unit End → Type 0
@@ -42,7 +44,8 @@ StepsOn w a p b q (Err e) = ComesToEnd w a p b e
 
 -- where it goes on and wasn't at a section, it went one access on
 abbrev pub StepsOnce : Words → Pass Live → Whole → Pass Live → Whole → Result Unit End → Type 0
-StepsOnce w a p b q (Ok u) = IsOneStep (whole_access p) → (of : IsCallOf w a p) → (on : IsCallOf w b q) × Turned (layout_of w) p a (Goes (running_of w b q on))
+StepsOnce w a p b q (Ok u) = IsOneStep (whole_access p) → (of : IsCallOf w a p)
+    → (on : IsCallOf w b q) × Turned (layout_of w) p a (Goes (running_of w b q on))
 StepsOnce w a p b q (Err e) = Unit {0}
 
 -- so many accesses were made
@@ -73,7 +76,8 @@ GoesOnThere w s = Unit {0}
 -- was decided
 abbrev pub Stretches : Words → Running → Stretch → Type 0
 Stretches w r s =
-    GoesOnThere w s × ((a : Pass Live) (call : Call) → IsUnderWay w a call r → StretchesFrom w a call s) × ((m : ℕ) (c : Card) (x : Reply) → IsDecided w m c x r → StretchesDecided w m c x s)
+    GoesOnThere w s × ((a : Pass Live) (call : Call) → IsUnderWay w a call r → StretchesFrom w a call s)
+    × ((m : ℕ) (c : Card) (x : Reply) → IsDecided w m c x r → StretchesDecided w m c x s)
 
 -- how often its thread was told to stop
 abbrev pub stops_stretching : Stretch → ℕ

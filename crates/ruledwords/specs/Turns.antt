@@ -79,7 +79,8 @@ IsAtCell f = ⊥
 -- it is a call on these words: its pass is theirs, its mutex one of their layout, and its thread's own words are a list
 -- of what the thread holds, whole or in change
 abbrev pub IsRunningOf : Words → Running → Type 0
-IsRunningOf w r = IsPassOf w (running_pass r) × ((m : ℕ) × IsInCall (layout_of w) (card (running_pass r)) m (running_call r))
+IsRunningOf w r =
+    IsPassOf w (running_pass r) × ((m : ℕ) × IsInCall (layout_of w) (card (running_pass r)) m (running_call r))
 
 -- a call that stands at p goes on with the pass a, as a running call on these words does
 pub record IsCallOf (w : Words) (a : Pass Live) (p : Whole) : Type 0 where
@@ -100,11 +101,14 @@ pub record IsSeatedCall (w : Words) (s : Seat (Unit {0}) (List Card)) (t : ℕ) 
 
 -- what an access found that comes in a phase: a word of its mutex's cell, or what the thread knew of its own word
 abbrev pub Found : Layout' → Whole → Phase → Card → ℕ → Card → Type 0
-Found k p (phase.AtCell r) c n d = OwnKept k c d × ((m : ℕ) × IsOnMutex k (standing_of p) m × Made (standing_of p) (cell_place k m) c n d)
-Found k p f c n d = (d ≡ own_after k c (whole_access p)) × (answer_at (whole_access p) n ≡ answer_on (whole_access p) (known k c))
+Found k p (phase.AtCell r) c n d =
+    OwnKept k c d × ((m : ℕ) × IsOnMutex k (standing_of p) m × Made (standing_of p) (cell_place k m) c n d)
+Found k p f c n d =
+    (d ≡ own_after k c (whole_access p)) × (answer_at (whole_access p) n ≡ answer_on (whole_access p) (known k c))
 
 abbrev pub FindsWord : Words → Seat (Unit {0}) (List Card) → Seat (Unit {0}) (List Card) → Whole → ℕ → Type 0
-FindsWord w s s' p n = (s'.table_id ≡ s.table_id) × IsOne s'.me × Found (layout_of w) p p.phase (card_of s.me.0) n (card_of s'.me.0)
+FindsWord w s s' p n =
+    (s'.table_id ≡ s.table_id) × IsOne s'.me × Found (layout_of w) p p.phase (card_of s.me.0) n (card_of s'.me.0)
 
 -- the running call of such a pass and such a call
 abbrev pub running_of : (w : Words) (a : Pass Live) (p : Whole) → IsCallOf w a p → Running
@@ -115,11 +119,13 @@ running_of w a p of = record { pass = a; program = p; ready = of.ready; room = o
 abbrev pub IsUnderWay : Words → Pass Live → Call → Running → Type 0
 IsUnderWay w a call r =
     IsRunningOf w r × IsOnMutex (layout_of w) (running_program r) (mutex_of call)
-    × Stands (operation_of call) (first_row call) (cell_place (layout_of w) (mutex_of call)) (card a) (running_program r) (card (running_pass r))
+    × Stands (operation_of call) (first_row call) (cell_place (layout_of w) (mutex_of call)) (card a)
+    (running_program r) (card (running_pass r))
 
 -- a call begins, or is refused with no access
 abbrev pub Begun : Words → Pass Live → Call → Result Running (Pass Live × Reply) → Type 0
-Begun w a call (Ok r) = (whole_started (layout_of w) (card a).thread (held (card a)) call ≡ Ok (running_call r)) × (running_pass r ≡ a) × IsUnderWay w a call r
+Begun w a call (Ok r) = (whole_started (layout_of w) (card a).thread (held (card a)) call ≡ Ok (running_call r))
+    × (running_pass r ≡ a) × IsUnderWay w a call r
 Begun w a call (Err e) = (whole_started (layout_of w) (card a).thread (held (card a)) call ≡ Err e.1) × (e.0 ≡ a)
 
 abbrev pub IsTurnOf : Words → Turn → Type 0
@@ -129,13 +135,16 @@ IsTurnOf w (Lives b x) = IsLive w b
 -- the access that comes in a phase was made, and answered so: at its mutex's cell, or at one of its thread's own words,
 -- where the answer is what the thread knew
 abbrev pub Answers : Layout' → Whole → Phase → Card → Card → Answer → Type 0
-Answers k p (phase.AtCell r) c d x = (m : ℕ) × (n : ℕ) × IsOnMutex k (standing_of p) m × Made (standing_of p) (cell_place k m) c n d × (x ≡ answer_at (whole_access p) n)
+Answers k p (phase.AtCell r) c d x = (m : ℕ) × (n : ℕ) × IsOnMutex k (standing_of p) m
+    × Made (standing_of p) (cell_place k m) c n d × (x ≡ answer_at (whole_access p) n)
 Answers k p f c d x = (d ≡ own_after k c (whole_access p)) × (x ≡ answer_on (whole_access p) (known k c))
 
 -- the access was made, and the call went on with its answer
 abbrev pub Turned : Layout' → Whole → Pass Live → Turn → Type 0
-Turned k p a (Goes r) = (x : Answer) × Answers k p p.phase (card a) (card (running_pass r)) x × (running_call r ≡ whole_moved p (whole_led p x))
-Turned k p a (Lives b y) = (x : Answer) × Answers k p p.phase (card a) (card b) x × ((whole_led p x).phase ≡ phase.Ended y)
+Turned k p a (Goes r) = (x : Answer) × Answers k p p.phase (card a) (card (running_pass r)) x
+    × (running_call r ≡ whole_moved p (whole_led p x))
+Turned k p a (Lives b y) =
+    (x : Answer) × Answers k p p.phase (card a) (card b) x × ((whole_led p x).phase ≡ phase.Ended y)
 
 -- what a section answers: a wait that the word differed, or that it slept and was woken; a wake, how many it woke; a
 -- trim, whether it cleared the word
@@ -155,8 +164,11 @@ Onward p x a (Lives b y) = (b ≡ a) × ((whole_led p x).phase ≡ phase.Ended y
 -- trims that it made, and changes of its mutex's cell
 abbrev pub Unmoved : Words → Running → Running → Type 0
 Unmoved w r r' =
-    IsRunningOf w r' × (running_call r' ≡ running_call r) × KnowsTheSame (card (running_pass r)) (card (running_pass r')) × ¬ IsOneStep (access_in r)
-    × ((m : ℕ) → IsOnMutex (layout_of w) (running_program r) m → KnowsMoreAt (card (running_pass r)) (cell_place (layout_of w) m) (card (running_pass r')))
+    IsRunningOf w r' × (running_call r' ≡ running_call r)
+    × KnowsTheSame (card (running_pass r)) (card (running_pass r')) × ¬ IsOneStep (access_in r)
+    ×
+    ((m : ℕ) → IsOnMutex (layout_of w) (running_program r) m
+    → KnowsMoreAt (card (running_pass r)) (cell_place (layout_of w) m) (card (running_pass r')))
 
 -- a trylock of the mutex whose cell is at p gives up only after four exchanges that each found a changed cell, as the
 -- pass counts them; and others have changed it as often, as the record of its changes tells
@@ -168,11 +180,15 @@ IsRaced op x c p d = Unit {0}
 -- its one point, which has the reply, and others' points before
 abbrev pub GoesOn : Words → Pass Live → Call → Turn → Type 0
 GoesOn w a call (Goes r) = IsUnderWay w a call r
-GoesOn w a call (Lives b x) = IsLive w b × Called (card a) (cell_place (layout_of w) (mutex_of call)) ((operation_of call, x) ∷ []) (card b) × IsRaced (operation_of call) x (card a) (cell_place (layout_of w) (mutex_of call)) (card b) × KnowsMoreAt (card a) (cell_place (layout_of w) (mutex_of call)) (card b)
+GoesOn w a call (Lives b x) = IsLive w b
+    × Called (card a) (cell_place (layout_of w) (mutex_of call)) ((operation_of call, x) ∷ []) (card b)
+    × IsRaced (operation_of call) x (card a) (cell_place (layout_of w) (mutex_of call)) (card b)
+    × KnowsMoreAt (card a) (cell_place (layout_of w) (mutex_of call)) (card b)
 
 -- a thread died in a call that began at the pass a
 abbrev pub HasDied : Words → Pass Live → Call → Pass Dead → Type 0
-HasDied w a call d = IsDying w d × Died (card a) (cell_place (layout_of w) (mutex_of call)) (operation_of call) (card d) × KnowsMoreAt (card a) (cell_place (layout_of w) (mutex_of call)) (card d)
+HasDied w a call d = IsDying w d × Died (card a) (cell_place (layout_of w) (mutex_of call)) (operation_of call) (card d)
+    × KnowsMoreAt (card a) (cell_place (layout_of w) (mutex_of call)) (card d)
 
 -- wherever the call began, it goes on
 abbrev pub Keeps : Words → Running → Turn → Type 0
@@ -183,12 +199,15 @@ Keeps w r turn = (a : Pass Live) (call : Call) → IsUnderWay w a call r → Goe
 -- the thread has seen no more of any mutex: what else it knows is of its own words, of the word that it found last, or
 -- of changes of the cell at p, of which it knows what it knew, and maybe more
 abbrev pub HasSeenTheSame : ℕ → Card → Card → Type 0
-HasSeenTheSame p c d = (d ≡ record c { last = d.last; trims = d.trims; values = d.values; changes = d.changes }) × KnowsMoreAt c p d
+HasSeenTheSame p c d =
+    (d ≡ record c { last = d.last; trims = d.trims; values = d.values; changes = d.changes }) × KnowsMoreAt c p d
 
 -- a call on mutex m is decided, with this reply, by what its thread has seen at the card c: it has only to wake, to
 -- trim and to end its list's change
 abbrev pub IsDecided : Words → ℕ → Card → Reply → Running → Type 0
-IsDecided w m c x r = IsRunningOf w r × (decided (running_program r).row ≡ Some x) × IsOnMutex (layout_of w) (running_program r) m × HasSeenTheSame (cell_place (layout_of w) m) c (card (running_pass r))
+IsDecided w m c x r = IsRunningOf w r × (decided (running_program r).row ≡ Some x)
+    × IsOnMutex (layout_of w) (running_program r) m
+    × HasSeenTheSame (cell_place (layout_of w) m) c (card (running_pass r))
 
 abbrev pub GoesOnDecided : Words → ℕ → Card → Reply → Turn → Type 0
 GoesOnDecided w m c x (Goes r) = IsDecided w m c x r
@@ -202,12 +221,14 @@ KeepsDecided w r turn = (m : ℕ) (c : Card) (x : Reply) → IsDecided w m c x r
 
 -- a running call came to this turn by the access that was next
 abbrev pub ComesTo : Words → Running → Turn → Type 0
-ComesTo w r turn = IsTurnOf w turn × Turned (layout_of w) (running_call r) (running_pass r) turn × Keeps w r turn × KeepsDecided w r turn
+ComesTo w r turn = IsTurnOf w turn × Turned (layout_of w) (running_call r) (running_pass r) turn × Keeps w r turn
+    × KeepsDecided w r turn
 
 -- the access was made that was next in the call p with the pass a: they are q and b now, and the call goes on or has
 -- replied
 abbrev pub Advances : Words → Pass Live → Whole → Pass Live → Whole → Option Reply → Type 0
-Advances w a p b q None = (of : IsCallOf w a p) → (on : IsCallOf w b q) × ComesTo w (running_of w a p of) (Goes (running_of w b q on))
+Advances w a p b q None =
+    (of : IsCallOf w a p) → (on : IsCallOf w b q) × ComesTo w (running_of w a p of) (Goes (running_of w b q on))
 Advances w a p b q (Some x) = (of : IsCallOf w a p) → ComesTo w (running_of w a p of) (Lives b x)
 
 -- ---- calls that wait for nobody, run to their end

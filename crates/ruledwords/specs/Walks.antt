@@ -18,16 +18,20 @@ use Rattle.mutex.specs.WholeLists.{head_in, entry_in}
 
 -- from e next words lead over these entries, of mutexes that the thread owns still, and back to its head; each mutex
 -- that it owns is one of them, or the pending one p, or is being treated
-pub record Left (l : Layout') (t : ℕ) (owns : ℕ → Bool) (w : ℕ → ℕ) (e p : ℕ) (es : List ℕ) (treated : Option ℕ) : Type 0 where
+pub record Left (l : Layout') (t : ℕ) (owns : ℕ → Bool) (w : ℕ → ℕ) (e p : ℕ) (es : List ℕ) (treated : Option ℕ) : Type
+    0 where
   pub leads : Leads w (head_in l t) e es
   pub different : AreDifferent (head_in l t ∷ es)
-  pub entries : (x : ℕ) → IsAmong x es → (m : ℕ) × (m < l.mutexes) × (x ≡ entry_in l t m) × (owns m ≡ true) × (treated ≢ Some m)
-  pub all : (m : ℕ) → m < l.mutexes → owns m ≡ true → IsAmong (entry_in l t m) es ⊎ ((p ≡ entry_in l t m) ⊎ (treated ≡ Some m))
+  pub entries : (x : ℕ) → IsAmong x es
+      → (m : ℕ) × (m < l.mutexes) × (x ≡ entry_in l t m) × (owns m ≡ true) × (treated ≢ Some m)
+  pub all : (m : ℕ) → m < l.mutexes → owns m ≡ true
+      → IsAmong (entry_in l t m) es ⊎ ((p ≡ entry_in l t m) ⊎ (treated ≡ Some m))
   pub pending : (p ≡ 0) ⊎ (m : ℕ) × (m < l.mutexes) × (p ≡ entry_in l t m)
 
 -- the rest of a walk, after so many entries
 abbrev pub LeftOf : Layout' → ℕ → (ℕ → Bool) → (ℕ → ℕ) → Rest → Option ℕ → Type 0
-LeftOf l t owns w r treated = (es : List ℕ) × Left l t owns w r.entry r.pending es treated × (r.offset ≡ cell_offset) × (length es + r.loaded ≤ held_limit)
+LeftOf l t owns w r treated = (es : List ℕ) × Left l t owns w r.entry r.pending es treated × (r.offset ≡ cell_offset)
+    × (length es + r.loaded ≤ held_limit)
 
 -- behind the list only the pending mutex is left
 abbrev pub LeftIn : Layout' → ℕ → (ℕ → Bool) → (ℕ → ℕ) → Part → Option ℕ → Type 0
@@ -36,7 +40,8 @@ LeftIn l t owns w part.Pending treated = (m : ℕ) → m < l.mutexes → owns m 
 
 -- the head's words, as the walk will find them
 abbrev pub LeftFrom : Layout' → ℕ → (ℕ → Bool) → (ℕ → ℕ) → ℕ → Type 0
-LeftFrom l t owns w first = (es : List ℕ) × Left l t owns w first (w (address_sum (head_in l t) 2)) es None × (w (address_sum (head_in l t) 1) ≡ cell_offset) × (length es ≤ held_limit)
+LeftFrom l t owns w first = (es : List ℕ) × Left l t owns w first (w (address_sum (head_in l t) 2)) es None
+    × (w (address_sum (head_in l t) 1) ≡ cell_offset) × (length es ≤ held_limit)
 
 -- a mutex that is treated, by its cell's address
 abbrev pub IsTreated : Layout' → ℕ → ℕ → ℕ → Type 0
@@ -52,7 +57,8 @@ LeftAt l t owns w seen (row.LoadOffset first) = LeftFrom l t owns w first
 LeftAt l t owns w seen (row.LoadPending first offset) = LeftFrom l t owns w first × (offset ≡ cell_offset)
 LeftAt l t owns w seen (row.LoadNext r) = LeftOf l t owns w r None
 LeftAt l t owns w seen (row.LoadWord at rest) = (m : ℕ) × IsTreated l t at m × LeftIn l t owns w rest (Some m)
-LeftAt l t owns w seen (row.Mark at v again rest) = (m : ℕ) × IsTreated l t at m × LeftIn l t owns w rest (Some m) × seen (cell_place l m) v again
+LeftAt l t owns w seen (row.Mark at v again rest) =
+    (m : ℕ) × IsTreated l t at m × LeftIn l t owns w rest (Some m) × seen (cell_place l m) v again
 LeftAt l t owns w seen (row.WakeOne at rest) = (m : ℕ) × IsTreated l t at m × LeftIn l t owns w rest None
 LeftAt l t owns w seen row.Ended = OwnsNothing l owns
 

@@ -39,9 +39,11 @@ impl Words {
         requires table { seat.old.table_id ≡ self.now.places.table.shared.table_id }
         requires one { IsOne seat.old.me }
         requires is { thread ≡ (card_of seat.old.me.0).thread }
-        requires thread { (1 ≤ (card_of seat.old.me.0).thread) × ((card_of seat.old.me.0).thread ≤ self.now.layout.threads) }
+        requires thread { (1 ≤ (card_of seat.old.me.0).thread)
+            × ((card_of seat.old.me.0).thread ≤ self.now.layout.threads) }
         requires kind { IsLoadOrStore access }
-        requires own { IsOwn self.now.layout (card_of seat.old.me.0) (place_in self.now.layout (card_of seat.old.me.0).thread (address_of access)) }
+        requires own { IsOwn self.now.layout (card_of seat.old.me.0)
+            (place_in self.now.layout (card_of seat.old.me.0).thread (address_of access)) }
         requires knows { KnowsOwn self.now.layout (card_of seat.old.me.0) }
         requires address { address_of access < 0x1_0000_0000_0000_0000 }
         ensures table { seat.new.table_id ≡ seat.old.table_id }
@@ -81,7 +83,8 @@ impl Words {
     pub(crate) fn store(&self, seat: &mut Seat<(), View>, at: u64, value: u64)
         requires table { seat.old.table_id ≡ self.now.places.table.shared.table_id }
         requires one { IsOne seat.old.me }
-        requires thread { (1 ≤ (card_of seat.old.me.0).thread) × ((card_of seat.old.me.0).thread ≤ self.now.layout.threads) }
+        requires thread { (1 ≤ (card_of seat.old.me.0).thread)
+            × ((card_of seat.old.me.0).thread ≤ self.now.layout.threads) }
         requires own { IsOwn self.now.layout (card_of seat.old.me.0) at }
         ensures table { seat.new.table_id ≡ seat.old.table_id }
         ensures one { IsOne seat.new.me }
@@ -155,7 +158,8 @@ impl Words {
         ensures table { seat.new.table_id ≡ seat.old.table_id }
         ensures one { IsOne seat.new.me }
         ensures own { OwnKept self.now.layout (card_of seat.old.me.0) (card_of seat.new.me.0) }
-        ensures made { (m : ℕ) × IsOnMutex self.now.layout M.program m × Made M.program (cell_place self.now.layout m) (card_of seat.old.me.0) result (card_of seat.new.me.0) }
+        ensures made { (m : ℕ) × IsOnMutex self.now.layout M.program m
+            × Made M.program (cell_place self.now.layout m) (card_of seat.old.me.0) result (card_of seat.new.me.0) }
     {
         let places = &self.places;
         match program.next() {
@@ -272,7 +276,9 @@ impl Words {
         requires table { pass.old.seat.table_id ≡ self.now.places.table.shared.table_id }
         requires place { (m : ℕ) × (m < self.now.layout.mutexes) × (at ≡ cell_place self.now.layout m) }
         ensures table { pass.new.seat.table_id ≡ pass.old.seat.table_id }
-        ensures card { card_of pass.new.seat.me.0 ≡ noted (card_of pass.old.seat.me.0) result (card_of pass.old.seat.me.0).trims (card_of pass.old.seat.me.0).changes }
+        ensures card { card_of pass.new.seat.me.0
+            ≡ noted (card_of pass.old.seat.me.0) result (card_of pass.old.seat.me.0).trims
+            (card_of pass.old.seat.me.0).changes }
         ensures held { pass.new.held ≡ pass.old.held }
         ensures finds { Finds (card_of pass.old.seat.me.0) at result }
     {
@@ -286,7 +292,9 @@ impl Words {
         requires place { (q : ℕ) × (q < length self.now.layout.conditions) × (at ≡ counter_place self.now.layout q) }
         ensures table { pass.new.seat.table_id ≡ pass.old.seat.table_id }
         ensures place { place_found result ≡ at }
-        ensures card { card_of pass.new.seat.me.0 ≡ noted (card_of pass.old.seat.me.0) (word_found result) (card_of pass.old.seat.me.0).trims (card_of pass.old.seat.me.0).changes }
+        ensures card { card_of pass.new.seat.me.0
+            ≡ noted (card_of pass.old.seat.me.0) (word_found result) (card_of pass.old.seat.me.0).trims
+            (card_of pass.old.seat.me.0).changes }
         ensures held { pass.new.held ≡ pass.old.held }
         ensures small { word_found result ≤ largest_counter }
         ensures known { (x : ℕ) → value_at (card_of pass.old.seat.me.0).values at ≡ Some x → word_found result ≡ x }
@@ -305,10 +313,13 @@ impl Words {
         requires table { pass.old.seat.table_id ≡ self.now.places.table.shared.table_id }
         requires place { (m : ℕ) × (m < self.now.layout.mutexes) × (at ≡ cell_place self.now.layout m) }
         ensures table { pass.new.seat.table_id ≡ pass.old.seat.table_id }
-        ensures card { card_of pass.new.seat.me.0 ≡ noted (card_of pass.old.seat.me.0) result ((card_of pass.old.seat.me.0).trims + 1) (card_of pass.new.seat.me.0).changes }
+        ensures card { card_of pass.new.seat.me.0
+            ≡ noted (card_of pass.old.seat.me.0) result ((card_of pass.old.seat.me.0).trims + 1)
+            (card_of pass.new.seat.me.0).changes }
         ensures held { pass.new.held ≡ pass.old.held }
         ensures finds { Finds (card_of pass.old.seat.me.0) at result }
-        ensures writes { Writes (card_of pass.old.seat.me.0) at result (if result == 0x8000_0000 then 0 else result) (card_of pass.new.seat.me.0) }
+        ensures writes { Writes (card_of pass.old.seat.me.0) at result (if result == 0x8000_0000 then 0 else result)
+            (card_of pass.new.seat.me.0) }
     {
         let _thread = pass.thread;
         self.places

@@ -2,7 +2,8 @@
 ghost use Rattle.std.specs.Prelude.{◌≡◌, ◌<◌, ◌+◌, ℕ};
 ghost use Rattle.ruledwords.specs.Calls.{IsOnMutex};
 ghost use Rattle.lockword.specs.declared.reply.Reply.TheVariants.{OK};
-ghost use Rattle.ruledwords.specs.Outcomes.{Tried, Frees, Declared, stops_in, stops_releasing, FreesFrom, owed_pass, owed_running, owed_wakes, IsOwedOf, Settles, Abandons};
+ghost use Rattle.ruledwords.specs.Outcomes.{Tried, Frees, Declared, stops_in, stops_releasing, FreesFrom};
+ghost use Rattle.ruledwords.specs.Outcomes.{owed_pass, owed_running, owed_wakes, IsOwedOf, Settles, Abandons};
 ghost use Rattle.ruledwords.specs.Passes.{layout_of, IsLive, card};
 ghost use Rattle.ruledwords.specs.declared.pass.Live.{Live};
 ghost use Rattle.ruledwords.specs.declared.pass.Pass.{Pass};
@@ -248,7 +249,9 @@ impl Running {
     /// be woken, clears the thread's pending entry.
     pub fn owed(owed: Owed) -> Running
         ensures value { result ≡ owed_running owed }
-        ensures decided { (w : Words) (m : ℕ) → IsOwedOf w owed → IsOnMutex (layout_of w) (running_program (owed_running owed)) m → IsDecided w m (card (owed_pass owed)) OK result }
+        ensures decided { (w : Words) (m : ℕ) → IsOwedOf w owed
+            → IsOnMutex (layout_of w) (running_program (owed_running owed)) m
+            → IsDecided w m (card (owed_pass owed)) OK result }
     {
         let Owed { running, wakes: _ } = owed;
         running

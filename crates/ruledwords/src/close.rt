@@ -20,7 +20,8 @@ impl Words {
         requires first { IsPassOf self.now first }
         requires second { IsPassOf self.now second }
         ensures passes { IsPassOf self.now result.0 × IsPassOf self.now result.1 }
-        ensures lists { StaysSo (layout_of self.now) (card first) (card result.0) × StaysSo (layout_of self.now) (card second) (card result.1) }
+        ensures lists { StaysSo (layout_of self.now) (card first) (card result.0)
+            × StaysSo (layout_of self.now) (card second) (card result.1) }
         ensures joined { Joined (card first) (card second) (card result.0) (card result.1) }
         ensures exclusive { AreExclusive (card result.0) (card result.1) }
     {
@@ -152,7 +153,8 @@ impl Words {
     pub(crate) fn joined<A>(&self, seat: Option<Seat<(), View>>, pass: Pass<A>) -> Seat<(), View>
         requires seat { IfSome seat (λ s. s.table_id ≡ self.now.places.table.shared.table_id) }
         requires pass { IsPassOf self.now pass }
-        ensures { (cards : List Card) → HaveCome self.now cards seat → HaveCome self.now (cards ++ card pass ∷ []) (Some result) }
+        ensures { (cards : List Card) → HaveCome self.now cards seat
+            → HaveCome self.now (cards ++ card pass ∷ []) (Some result) }
     {
         let Pass {
             seat: other,

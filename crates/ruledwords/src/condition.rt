@@ -9,7 +9,9 @@ ghost use Rattle.ruledwords.specs.declared.pass.Live.{Live};
 ghost use Rattle.ruledwords.specs.declared.pass.Pass.{Pass};
 ghost use Rattle.ruledwords.specs.declared.pass.Words.{Words};
 ghost use Rattle.ruledwords.specs.Cards.{value_at};
-ghost use Rattle.ruledwords.specs.ConditionCalls.{cond_access_in, cond_call, cond_pass, cond_place_at, CondOnward, CondTurned, CondUnmoved, IsCondAnswerOf, IsCondRunningOf, IsCondStep, IsCondTurnOf};
+ghost use Rattle.ruledwords.specs.ConditionCalls.{cond_access_in, cond_call, cond_pass, cond_place_at};
+ghost use Rattle.ruledwords.specs.ConditionCalls.{CondOnward, CondTurned, CondUnmoved};
+ghost use Rattle.ruledwords.specs.ConditionCalls.{IsCondAnswerOf, IsCondRunningOf, IsCondStep, IsCondTurnOf};
 ghost use Rattle.ruledwords.specs.Conditions.{condition_at, Compares, IsMove};
 ghost use Rattle.ruledwords.specs.ConditionStands.{CondKeeps, HasDiedInCondition, IsCondUnderWay};
 ghost use Rattle.ruledwords.specs.Counts.{cell_at};
@@ -106,10 +108,15 @@ impl CondRunning {
         requires words { IsCondRunningOf words.now self.old }
         requires section { Compares (cond_access_in self.old) }
         ensures unmoved { CondUnmoved words.now self.old self.new }
-        ensures counter { place_found result ≡ counter_place (layout_of words.now) (condition_at (layout_of words.now) (cond_call self.old)) }
-        ensures last { ((card (cond_pass self.new)).last ≡ word_found result) × ((card (cond_pass self.new)).trims ≡ (card (cond_pass self.old)).trims) }
+        ensures counter { place_found result
+            ≡ counter_place (layout_of words.now) (condition_at (layout_of words.now) (cond_call self.old)) }
+        ensures last { ((card (cond_pass self.new)).last ≡ word_found result)
+            × ((card (cond_pass self.new)).trims ≡ (card (cond_pass self.old)).trims) }
         ensures small { word_found result ≤ largest_counter }
-        ensures known { (x : ℕ) → value_at (card (cond_pass self.old)).values (counter_place (layout_of words.now) (condition_at (layout_of words.now) (cond_call self.old))) ≡ Some x → word_found result ≡ x }
+        ensures known { (x : ℕ)
+            → value_at (card (cond_pass self.old)).values
+            (counter_place (layout_of words.now) (condition_at (layout_of words.now) (cond_call self.old))) ≡ Some x
+            → word_found result ≡ x }
     {
         let at = self.place(words);
         words.look_at_counter(&mut self.pass, at)
@@ -140,7 +147,8 @@ impl CondRunning {
     pub fn die(self) -> Pass<Dead>
         ensures card { card result ≡ card (cond_pass self) }
         ensures words { (w : Words) → IsCondRunningOf w self → IsDying w result }
-        ensures died { (w : Words) (a : Pass Live) (call : CondCall) → IsCondUnderWay w a call self → HasDiedInCondition w a call result }
+        ensures died { (w : Words) (a : Pass Live) (call : CondCall) → IsCondUnderWay w a call self
+            → HasDiedInCondition w a call result }
     {
         let CondRunning { pass, program: _ } = self;
         pass.died()

@@ -27,7 +27,8 @@ impl Fate for Never {
 /// the thread stops.
 #[inline(always)]
 pub fn either_stops<F: Fate, N: Fate>(fate: &mut F, note: &mut N) -> bool
-    ensures { Heeds (F.stopped fate.old) (F.stopped fate.new) (N.stopped note.old) (N.stopped note.new) (if result then 1 else 0) }
+    ensures { Heeds (F.stopped fate.old) (F.stopped fate.new) (N.stopped note.old) (N.stopped note.new)
+        (if result then 1 else 0) }
 {
     fate.stops() || note.stops()
 }

@@ -117,7 +117,8 @@ impl Words {
     fn come<A, B>(&self, seat: Option<Seat<(), View>>, pass: EitherPass<A, B>) -> Seat<(), View>
         requires seat { IfSome seat (λ s. s.table_id ≡ self.now.places.table.shared.table_id) }
         requires pass { IsEitherOf self.now pass }
-        ensures { (cards : List Card) → HaveCome self.now cards seat → HaveCome self.now (cards ++ card_in pass ∷ []) (Some result) }
+        ensures { (cards : List Card) → HaveCome self.now cards seat
+            → HaveCome self.now (cards ++ card_in pass ∷ []) (Some result) }
     {
         match pass {
             EitherPass::First(pass) => self.joined(seat, pass),

@@ -25,7 +25,8 @@ impl Words {
         ensures presets { IfOk result (λ r. presets_of r.0 ≡ presets.now) }
         ensures passes { IfOk result (λ r. length r.1.items ≡ layout.threads) }
         ensures each { IfOk result (λ r. All (λ p. IsLive r.0 p) r.1.items) }
-        ensures cards { IfOk result (λ r. (i : ℕ) (p : _) → slice_get r.1.items i ≡ Some p → card p ≡ first_card layout presets.now (i + 1)) }
+        ensures cards { IfOk result
+            (λ r. (i : ℕ) (p : _) → slice_get r.1.items i ≡ Some p → card p ≡ first_card layout presets.now (i + 1)) }
     {
         match Words::made(alloc, layout, presets) {
             Ok(made) => Ok(made),
@@ -50,7 +51,8 @@ impl Words {
         ensures presets { IfOk result (λ r. presets_of r.0 ≡ presets.now) }
         ensures passes { IfOk result (λ r. length r.1.items ≡ layout.threads) }
         ensures each { IfOk result (λ r. All (λ p. IsLive r.0 p) r.1.items) }
-        ensures cards { IfOk result (λ r. (i : ℕ) (p : _) → slice_get r.1.items i ≡ Some p → card p ≡ first_card layout presets.now (i + 1)) }
+        ensures cards { IfOk result
+            (λ r. (i : ℕ) (p : _) → slice_get r.1.items i ≡ Some p → card p ≡ first_card layout presets.now (i + 1)) }
     {
         let words = first_words(alloc, &layout, presets)?;
         let threads = layout.threads();
@@ -87,7 +89,9 @@ fn thread_after(before: u8) -> Tid
 fn first_words(alloc: Global, layout: &Layout, presets: &[u32]) -> Result<Vec<u64>, AllocError>
     requires { length presets.now ≡ length layout.now.conditions }
     ensures count { IfOk result (λ words. length words.items ≡ words_of layout.now) }
-    ensures each { IfOk result (λ words. (p : ℕ) → p < words_of layout.now → slice_index words.items p ≡ opening_word layout.now presets.now p) }
+    ensures each { IfOk result
+        (λ words. (p : ℕ) → p < words_of layout.now
+        → slice_index words.items p ≡ opening_word layout.now presets.now p) }
     ensures layout { IsLayout layout.now }
 {
     let count = layout.words();

@@ -10,7 +10,10 @@ ghost use Rattle.mutex.specs.Whole.{whole_access};
 ghost use Rattle.mutex.specs.declared.call.Call.{Call};
 ghost use Rattle.ruledwords.specs.Calls.{count_after, count_by as count_after_by, IsOnMutex};
 ghost use Rattle.ruledwords.specs.Passes.{layout_of, IsLive, card, IsDying, IsPassOf};
-ghost use Rattle.ruledwords.specs.Turns.{access_in, running_call, running_pass, Begun, IsCallOf, IsOneStep, IsRunningOf, IsSeatedCall, IsTurnOf, Advances, FindsWord, Turned, Keeps, KeepsDecided, place_at, running_program, IsAnswerOf, Unmoved, Onward, IsUnderWay, HasDied};
+ghost use Rattle.ruledwords.specs.Turns.{access_in, running_call, running_pass, Begun, IsCallOf, IsOneStep};
+ghost use Rattle.ruledwords.specs.Turns.{IsRunningOf, IsSeatedCall, IsTurnOf, Advances, FindsWord, Turned, Keeps};
+ghost use Rattle.ruledwords.specs.Turns.{KeepsDecided, place_at, running_program, IsAnswerOf, Unmoved, Onward};
+ghost use Rattle.ruledwords.specs.Turns.{IsUnderWay, HasDied};
 ghost use Rattle.ruledwords.specs.declared.pass.Words.{Words};
 ghost use Rattle.ruledwords.specs.Changes.{Writes};
 ghost use Rattle.ruledwords.specs.Looks.{Finds};
@@ -178,8 +181,10 @@ impl Running {
         requires words { IsRunningOf words.now self.old }
         requires section { ¬ IsOneStep (access_in self.old) }
         ensures unmoved { Unmoved words.now self.old self.new }
-        ensures finds { (m : ℕ) → IsOnMutex (layout_of words.now) (running_program self.old) m → Finds (card (running_pass self.old)) (cell_place (layout_of words.now) m) result }
-        ensures last { ((card (running_pass self.new)).last ≡ result) × ((card (running_pass self.new)).trims ≡ (card (running_pass self.old)).trims) }
+        ensures finds { (m : ℕ) → IsOnMutex (layout_of words.now) (running_program self.old) m
+            → Finds (card (running_pass self.old)) (cell_place (layout_of words.now) m) result }
+        ensures last { ((card (running_pass self.new)).last ≡ result)
+            × ((card (running_pass self.new)).trims ≡ (card (running_pass self.old)).trims) }
     {
         let at = self.place(words);
         words.look(&mut self.pass, at)
@@ -192,9 +197,16 @@ impl Running {
         requires words { IsRunningOf words.now self.old }
         requires trim { (at : ℕ) × (access_in self.old ≡ AtTrim at) }
         ensures unmoved { Unmoved words.now self.old self.new }
-        ensures finds { (m : ℕ) → IsOnMutex (layout_of words.now) (running_program self.old) m → Finds (card (running_pass self.old)) (cell_place (layout_of words.now) m) (card (running_pass self.new)).last }
-        ensures leaves { (m : ℕ) → IsOnMutex (layout_of words.now) (running_program self.old) m → Writes (card (running_pass self.old)) (cell_place (layout_of words.now) m) (card (running_pass self.new)).last (if (card (running_pass self.new)).last == 0x8000_0000 then 0 else (card (running_pass self.new)).last) (card (running_pass self.new)) }
-        ensures trims { (result ≡ ((card (running_pass self.new)).last == 0x8000_0000)) × ((card (running_pass self.new)).trims ≡ (card (running_pass self.old)).trims + 1) }
+        ensures finds { (m : ℕ) → IsOnMutex (layout_of words.now) (running_program self.old) m
+            → Finds (card (running_pass self.old)) (cell_place (layout_of words.now) m)
+            (card (running_pass self.new)).last }
+        ensures leaves { (m : ℕ) → IsOnMutex (layout_of words.now) (running_program self.old) m
+            → Writes (card (running_pass self.old)) (cell_place (layout_of words.now) m)
+            (card (running_pass self.new)).last
+            (if (card (running_pass self.new)).last == 0x8000_0000 then 0 else (card (running_pass self.new)).last)
+            (card (running_pass self.new)) }
+        ensures trims { (result ≡ ((card (running_pass self.new)).last == 0x8000_0000))
+            × ((card (running_pass self.new)).trims ≡ (card (running_pass self.old)).trims + 1) }
     {
         let at = self.place(words);
         words.trim_cell(&mut self.pass, at) == WAITERS

@@ -6,7 +6,8 @@ ghost use Rattle.ruledwords.specs.declared.pass.Pass.{Pass};
 ghost use Rattle.ruledwords.specs.Fates.{Heeds};
 ghost use Rattle.ruledwords.specs.Outcomes.{Finishes, stops_in};
 ghost use Rattle.ruledwords.specs.Stretches.{StepsOn, StepsOnce, StepsTo, Stretches, stops_stretching};
-ghost use Rattle.ruledwords.specs.Turns.{EndsIn, IsCallOf, IsInNonblocking, IsOneStep, IsRunningOf, running_call, running_pass, stops_with, stops_within};
+ghost use Rattle.ruledwords.specs.Turns.{EndsIn, IsCallOf, IsInNonblocking, IsOneStep, IsRunningOf};
+ghost use Rattle.ruledwords.specs.Turns.{running_call, running_pass, stops_with, stops_within};
 
 use crate::fate::{Fate, Never, either_stops};
 use crate::pass::{Live, Pass, Words};
@@ -92,7 +93,8 @@ impl Words {
         requires { IsCallOf self.now pass.old program.old }
         ensures steps { StepsOn self.now pass.old program.old pass.new program.new result }
         ensures once { StepsOnce self.now pass.old program.old pass.new program.new result }
-        ensures fate { Heeds (F.stopped fate.old) (F.stopped fate.new) (N.stopped note.old) (N.stopped note.new) (stops_within result) }
+        ensures fate { Heeds (F.stopped fate.old) (F.stopped fate.new) (N.stopped note.old) (N.stopped note.new)
+            (stops_within result) }
     {
         if !is_step(program.next()) {
             return Ok(());
@@ -119,7 +121,8 @@ impl Words {
     ) -> Result<Program, End>
         requires { IsCallOf self.now pass.old begun }
         ensures steps { StepsTo self.now pass.old begun pass.new result }
-        ensures fate { Heeds (F.stopped fate.old) (F.stopped fate.new) (N.stopped note.old) (N.stopped note.new) (stops_within result) }
+        ensures fate { Heeds (F.stopped fate.old) (F.stopped fate.new) (N.stopped note.old) (N.stopped note.new)
+            (stops_within result) }
     {
         let mut program = begun;
         if !B::begins(program.phase()) {
@@ -200,7 +203,8 @@ impl Words {
     ) -> Result<Program, End>
         requires { IsCallOf self.now pass.old begun }
         ensures steps { StepsTo self.now pass.old begun pass.new result }
-        ensures fate { Heeds (F.stopped fate.old) (F.stopped fate.new) (N.stopped note.old) (N.stopped note.new) (stops_within result) }
+        ensures fate { Heeds (F.stopped fate.old) (F.stopped fate.new) (N.stopped note.old) (N.stopped note.new)
+            (stops_within result) }
     {
         let mut program = begun;
         for _ in 0..STRETCH {
@@ -223,7 +227,8 @@ impl Words {
     ) -> Result<Program, End>
         requires { IsCallOf self.now pass.old begun }
         ensures steps { StepsTo self.now pass.old begun pass.new result }
-        ensures fate { Heeds (F.stopped fate.old) (F.stopped fate.new) (N.stopped note.old) (N.stopped note.new) (stops_within result) }
+        ensures fate { Heeds (F.stopped fate.old) (F.stopped fate.new) (N.stopped note.old) (N.stopped note.new)
+            (stops_within result) }
     {
         let program = self.first_steps::<Locks, F, N>(pass, begun, fate, note)?;
         self.more_steps(pass, program, fate, note)
@@ -240,7 +245,8 @@ impl Running {
     pub fn stretch<F: Fate, N: Fate>(self, words: &Words, fate: &mut F, note: &mut N) -> Stretch
         requires words { IsRunningOf words.now self }
         ensures stretches { Stretches words.now self result }
-        ensures fate { Heeds (F.stopped fate.old) (F.stopped fate.new) (N.stopped note.old) (N.stopped note.new) (stops_stretching result) }
+        ensures fate { Heeds (F.stopped fate.old) (F.stopped fate.new) (N.stopped note.old) (N.stopped note.new)
+            (stops_stretching result) }
     {
         let Running { mut pass, program } = self;
         match words.stretch(&mut pass, program, fate, note) {
@@ -257,7 +263,8 @@ impl Running {
     pub fn more<F: Fate, N: Fate>(self, words: &Words, fate: &mut F, note: &mut N) -> Stretch
         requires words { IsRunningOf words.now self }
         ensures stretches { Stretches words.now self result }
-        ensures fate { Heeds (F.stopped fate.old) (F.stopped fate.new) (N.stopped note.old) (N.stopped note.new) (stops_stretching result) }
+        ensures fate { Heeds (F.stopped fate.old) (F.stopped fate.new) (N.stopped note.old) (N.stopped note.new)
+            (stops_stretching result) }
     {
         let Running { mut pass, program } = self;
         match words.more_steps(&mut pass, program, fate, note) {

@@ -3,7 +3,9 @@ ghost use Rattle.std.specs.Prelude.{◌≡◌, ◌<◌, ◌≤◌, ℕ};
 ghost use Rattle.lockword.specs.Cells.{fields_of};
 ghost use Rattle.memorymap.specs.Layouts.{cell_place};
 ghost use Rattle.exitwalk.specs.Walks.{access_of, marked_word};
-ghost use Rattle.ruledwords.specs.Deaths.{card_after, reaping_access, reaping_pass, reaping_place, reaping_walk, remembering, FoundByWalk, HasWalked, IsCount, IsReapingOf, IsSeatedWalk, IsWake, KeepsWalking, Marks, MindsWaiters, WentOn, WentOnFound};
+ghost use Rattle.ruledwords.specs.Deaths.{card_after, reaping_access, reaping_pass, reaping_place, reaping_walk};
+ghost use Rattle.ruledwords.specs.Deaths.{remembering, FoundByWalk, HasWalked, IsCount, IsReapingOf};
+ghost use Rattle.ruledwords.specs.Deaths.{IsSeatedWalk, IsWake, KeepsWalking, Marks, MindsWaiters, WentOn, WentOnFound};
 ghost use Rattle.ruledwords.specs.Looks.{Finds};
 ghost use Rattle.ruledwords.specs.Passes.{card, layout_of, IsDying, IsPassOf};
 ghost use Rattle.ruledwords.specs.Rules.{card_of, IsOne};
@@ -151,7 +153,8 @@ impl Words {
         requires table { seat.old.table_id ≡ self.now.places.table.shared.table_id }
         requires one { IsOne seat.old.me }
         requires place { (m : ℕ) × (m < self.now.layout.mutexes) × (at ≡ cell_place self.now.layout m) }
-        requires thread { (1 ≤ (card_of seat.old.me.0).thread) × ((card_of seat.old.me.0).thread ≤ self.now.layout.threads) }
+        requires thread { (1 ≤ (card_of seat.old.me.0).thread)
+            × ((card_of seat.old.me.0).thread ≤ self.now.layout.threads) }
         requires owner { (fields_of expected).owner ≡ (card_of seat.old.me.0).thread }
         requires new { new ≡ marked_word expected }
         requires layout { L.layout ≡ self.now.layout }

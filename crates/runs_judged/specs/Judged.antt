@@ -27,7 +27,8 @@ use Rattle.verdict.specs.Verdicts.{IsLegal, Answers}
 -- what is printed of a run with these notes: so many threads, mutexes and condition variables, then each event's lines,
 -- then the number of events
 abbrev pub run_text : ℕ → ℕ → ℕ → List Note → List ℕ
-run_text threads mutexes conditions ns = head_line threads mutexes conditions ++ (concat (map line_text (lines_from 1 ns)) ++ end_line (length ns))
+run_text threads mutexes conditions ns =
+    head_line threads mutexes conditions ++ (concat (map line_text (lines_from 1 ns)) ++ end_line (length ns))
 
 -- and the trace that this is
 abbrev pub run_trace : Head → List Note → Trace
@@ -48,7 +49,8 @@ IsVerdict v r = (r ≡ Ok v) ⊎ (r ≡ Err (fault_at 1 OutOfMemory))
 pub record IsJudgedLegal (h : Head) (ns : List Note) : Type 0 where
   pub reads : trace_read (run_text h.threads h.mutexes h.conditions ns) ≡ Ok (run_trace h ns)
   pub legal : IsLegal (run_trace h ns)
-  pub verdict : (r : Result Verdict TraceFault) → Answers (trace_read (run_text h.threads h.mutexes h.conditions ns)) r → IsVerdict (Legal (points_told ns)) r
+  pub verdict : (r : Result Verdict TraceFault) → Answers (trace_read (run_text h.threads h.mutexes h.conditions ns)) r
+      → IsVerdict (Legal (points_told ns)) r
 
 -- how many threads, mutexes and condition variables a layout has, and a script
 abbrev pub head_of : Layout' → Head
@@ -59,12 +61,16 @@ script_head s = record { threads = length s.threads; mutexes = length s.mutexes;
 
 -- whatever happens, with any values of the counters at the beginning, in at most as many events as a trace may have
 abbrev pub RunsAreJudgedLegal : Type 0
-RunsAreJudgedLegal = (l : Layout') (counters : ℕ → ℕ) (events : List Event) → IsLayout l → length events ≤ max_events → IsJudgedLegal (head_of l) (notes (start l counters) events)
+RunsAreJudgedLegal = (l : Layout') (counters : ℕ → ℕ) (events : List Event) → IsLayout l → length events ≤ max_events
+    → IsJudgedLegal (head_of l) (notes (start l counters) events)
 
 -- so it is of every script that isn't too long to play
 abbrev pub ScriptsAreJudgedLegal : Type 0
-ScriptsAreJudgedLegal = (s : Scope) → IsWellFormed s → overlong s ≡ None → IsJudgedLegal (script_head s) (notes (first_state s) (events_in s))
+ScriptsAreJudgedLegal = (s : Scope) → IsWellFormed s → overlong s ≡ None
+    → IsJudgedLegal (script_head s) (notes (first_state s) (events_in s))
 
 -- whatever bytes: where they are a script that isn't too long to play, so it is of that
 abbrev pub PrintedRunsAreLegal : Type 0
-PrintedRunsAreLegal = (k : Mode) (bytes : List ℕ) → IfOk (script_read k bytes) (λ s. overlong s ≡ None → IsJudgedLegal (script_head s) (notes (first_state s) (events_in s)))
+PrintedRunsAreLegal = (k : Mode) (bytes : List ℕ)
+    → IfOk (script_read k bytes)
+    (λ s. overlong s ≡ None → IsJudgedLegal (script_head s) (notes (first_state s) (events_in s)))

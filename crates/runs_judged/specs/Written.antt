@@ -1,7 +1,8 @@
 -- Which lines a trace may have, and that each is read as what was written.
 use Rattle.std.specs.Prelude.{ℕ, ◌≡◌, ◌<◌, ◌≤◌, Option, Some, None, List, ◌∷◌, ◌++◌, Ok}
 use Rattle.posixmutex.specs.declared.point.Operation.{Operation}
-use Rattle.posixmutex.specs.declared.point.Operation.TheVariants.{Lock, TryLock, Unlock, Consistent, Wait, Signal, Broadcast, Death, Reinit}
+use Rattle.posixmutex.specs.declared.point.Operation.TheVariants.{Lock, TryLock, Unlock, Consistent, Wait}
+use Rattle.posixmutex.specs.declared.point.Operation.TheVariants.{Signal, Broadcast, Death, Reinit}
 use Rattle.facts.specs.declared.fact.Queue.{Queue}
 use Rattle.facts.specs.declared.fact.Queue.TheVariants.{Mutex, Condition}
 use Rattle.facts.specs.declared.fact.Fact.{Fact}
@@ -62,7 +63,8 @@ pub record IsLineOf (h : Head) (l : Line) : Type 0 where
 
 -- whatever stands behind it, what is written is one line, of which this holds without its line feed
 abbrev pub IsLine : List ℕ → (List ℕ → Type 0) → Type 0
-IsLine written Holds = (text : List ℕ) × ((behind : List ℕ) → lines_of (written ++ behind) ≡ text ∷ lines_of behind) × Holds text
+IsLine written Holds =
+    (text : List ℕ) × ((behind : List ℕ) → lines_of (written ++ behind) ≡ text ∷ lines_of behind) × Holds text
 
 -- its numbers, that of its condition variables too, are in their ranges
 abbrev pub IsWhole : Head → Type 0
@@ -70,6 +72,8 @@ IsWhole h = IsHead h × (h.conditions ≤ max_conditions)
 
 -- the first line, each line behind it and the last one are read as what they were written of
 pub record LinesAreReadBack : Type 0 where
-  pub head : (h : Head) → IsWhole h → IsLine (head_line h.threads h.mutexes h.conditions) (λ text. head_read text ≡ Ok h)
-  pub line : (h : Head) (l : Line) → IsWhole h → IsLineOf h l → IsLine (line_text l) (λ text. line_read h text ≡ Ok (Told l))
+  pub head : (h : Head) → IsWhole h
+      → IsLine (head_line h.threads h.mutexes h.conditions) (λ text. head_read text ≡ Ok h)
+  pub line : (h : Head) (l : Line) → IsWhole h → IsLineOf h l
+      → IsLine (line_text l) (λ text. line_read h text ≡ Ok (Told l))
   pub end : (h : Head) (n : ℕ) → n ≤ max_events → IsLine (end_line n) (λ text. line_read h text ≡ Ok (End n))

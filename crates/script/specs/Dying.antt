@@ -52,4 +52,7 @@ deaths_asked cs = flat_map (λ c. death_asked c.action) cs
 -- of every script that is read: the deaths that its commands ask for, one command after the other, are those that its
 -- `die` lines say, each of the thread that the line names, before the access that it gives
 abbrev pub DeathsAreAsTold : Type 0
-DeathsAreAsTold = (k : Mode) (bytes : List ℕ) → IfOk (script_read k bytes) (λ s. deaths_asked s.commands ≡ flat_map (λ text. die_in (threads_in (lines_of bytes)) (said text)) (lines_of bytes))
+DeathsAreAsTold = (k : Mode) (bytes : List ℕ)
+    → IfOk (script_read k bytes)
+    (λ s. deaths_asked s.commands
+    ≡ flat_map (λ text. die_in (threads_in (lines_of bytes)) (said text)) (lines_of bytes))

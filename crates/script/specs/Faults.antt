@@ -1,7 +1,8 @@
 -- The numbers of faults, and their words.
 use Rattle.std.specs.Prelude.{ℕ, List, codes}
 use Rattle.script.specs.declared.fault.Fault.{Fault}
-use Rattle.script.specs.declared.fault.Fault.TheVariants.{NotUtf8, UnknownWord, OutOfRange, NoSuchName, TooLong, OutOfMemory}
+use Rattle.script.specs.declared.fault.Fault.TheVariants.{NotUtf8, UnknownWord, OutOfRange}
+use Rattle.script.specs.declared.fault.Fault.TheVariants.{NoSuchName, TooLong, OutOfMemory}
 
 -- the number that a fault is told by
 abbrev pub number_of : Fault → ℕ

@@ -1,5 +1,6 @@
 -- Lines, words, names and numbers, and the kinds of line.
-use Rattle.std.specs.Prelude.{ℕ, Bool, true, false, not, ◌&&◌, ◌||◌, ◌==◌, nat_le, nat_lt, List, [], ◌∷◌, length, Option, Some, None, option_and_then, if◌then◌else◌, codes}
+use Rattle.std.specs.Prelude.{ℕ, Bool, true, false, not, ◌&&◌, ◌||◌, ◌==◌, nat_le, nat_lt, List, []}
+use Rattle.std.specs.Prelude.{◌∷◌, length, Option, Some, None, option_and_then, if◌then◌else◌, codes}
 use Rattle.lines.specs.Lines.{words_of}
 use Rattle.lines.specs.Numbers.{is_number, within}
 use Rattle.std.specs.List.{list_all}
@@ -7,7 +8,8 @@ use Rattle.std.specs.Str.{bytes_eq}
 use Rattle.std.specs.Char.{is_ascii_digit}
 use Rattle.std.specs.Str.Parse.{digits_value}
 use Rattle.posixmutex.specs.declared.point.Operation.{Operation}
-use Rattle.posixmutex.specs.declared.point.Operation.TheVariants.{Lock, TryLock, Unlock, Consistent, Wait, Signal, Broadcast, Death, Reinit}
+use Rattle.posixmutex.specs.declared.point.Operation.TheVariants.{Lock, TryLock, Unlock, Consistent, Wait}
+use Rattle.posixmutex.specs.declared.point.Operation.TheVariants.{Signal, Broadcast, Death, Reinit}
 use Rattle.posixmutex.specs.Words.{operation_of}
 use Rattle.script.specs.declared.command.Mode.{Mode}
 use Rattle.script.specs.declared.command.Mode.TheVariants as mode
@@ -159,8 +161,11 @@ phase_form w = if bytes_eq w (codes "phase") then Some phase else None
 abbrev pub words_form : List (List ℕ) → Option Form
 words_form (w ∷ []) = phase_form w
 words_form (w ∷ a ∷ []) = name_form w a
-words_form (w ∷ a ∷ n ∷ []) = or_else (step_form w a n) (or_else (die_form w a n) (or_else (mutexes_form w a n) (or_else (process_form w a n) (or_else (member_form w a n) (reinit_form w a n)))))
-words_form (w ∷ t ∷ c ∷ m ∷ []) = or_else (locks_form w t c m) (or_else (cond_form w t c m) (option_and_then (calling_form w t) (call_form c m)))
+words_form (w ∷ a ∷ n ∷ []) = or_else (step_form w a n)
+    (or_else (die_form w a n)
+    (or_else (mutexes_form w a n) (or_else (process_form w a n) (or_else (member_form w a n) (reinit_form w a n)))))
+words_form (w ∷ t ∷ c ∷ m ∷ []) =
+    or_else (locks_form w t c m) (or_else (cond_form w t c m) (option_and_then (calling_form w t) (call_form c m)))
 words_form _ = None
 
 -- whether scripts of real threads have lines of this form: events are the machine's alone

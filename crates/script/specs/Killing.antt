@@ -22,4 +22,5 @@ pub record KillsProcess (s : Scope) (p : ℕ) (es : List Event) : Type 0 where
 
 -- whatever happened before
 abbrev pub KillallKillsOneProcess : Type 0
-KillallKillsOneProcess = (s : Scope) (before : List Event) (p : ℕ) → IsWellFormed s → KillsProcess s p (events_of (run (first_state s) before) (KillAll p))
+KillallKillsOneProcess = (s : Scope) (before : List Event) (p : ℕ) → IsWellFormed s
+    → KillsProcess s p (events_of (run (first_state s) before) (KillAll p))

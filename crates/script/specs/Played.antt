@@ -42,7 +42,8 @@ RefusesCommand s line f = ⊥
 
 -- the commands ran on a new machine, which is as they leave it, and each event was noted; or one of them was refused
 abbrev pub PlaysOn : Scope → State → List Note → Result (Unit {0}) ScriptFault → Type 0
-PlaysOn s now ns (Ok u) = (overlong s ≡ None) × (ns ≡ notes (first_state s) (events_in s)) × (now ≡ run (first_state s) (events_in s))
+PlaysOn s now ns (Ok u) =
+    (overlong s ≡ None) × (ns ≡ notes (first_state s) (events_in s)) × (now ≡ run (first_state s) (events_in s))
 PlaysOn s now ns (Err e) = RefusesCommand s e.line e.fault
 
 -- all of it, on the first machine; or a command is refused

@@ -1,5 +1,7 @@
 -- The events that a script stands for, and what it means to play them.
-use Rattle.std.specs.Prelude.{ℕ, zero, suc, Bool, not, ◌&&◌, ◌||◌, ◌≡◌, ◌==◌, ◌+◌, ◌-◌, ◌<◌, ◌≤◌, nat_lt, List, [], ◌∷◌, ◌++◌, length, map, filter, replicate, slice_index, slice_index_or, Option, Some, None, Result, Ok, Err, if◌then◌else◌}
+use Rattle.std.specs.Prelude.{ℕ, zero, suc, Bool, not, ◌&&◌, ◌||◌, ◌≡◌, ◌==◌, ◌+◌, ◌-◌, ◌<◌, ◌≤◌}
+use Rattle.std.specs.Prelude.{nat_lt, List, [], ◌∷◌, ◌++◌, length, map, filter, replicate, slice_index}
+use Rattle.std.specs.Prelude.{slice_index_or, Option, Some, None, Result, Ok, Err, if◌then◌else◌}
 use Rattle.std.specs.List.{range_with_len}
 use Rattle.memorymap.specs.Layouts.{Layout'}
 use Rattle.condvar.specs.declared.op.Op.{Op}
@@ -10,7 +12,8 @@ use Rattle.protocol.specs.declared.event.Event.TheVariants as event
 use Rattle.protocol.specs.declared.note.Note.{Note}
 use Rattle.protocol.specs.Machine.{State, start, happens, run, notes, is_busy, is_dying, is_asleep}
 use Rattle.script.specs.declared.command.Action.{Action}
-use Rattle.script.specs.declared.command.Action.TheVariants.{Begin, Step, Kill, KillAll, Leave, Decline, Renew, Reinit, Go, Call, Locks, Phase, Die}
+use Rattle.script.specs.declared.command.Action.TheVariants.{Begin, Step, Kill, KillAll, Leave, Decline}
+use Rattle.script.specs.declared.command.Action.TheVariants.{Renew, Reinit, Go, Call, Locks, Phase, Die}
 use Rattle.script.specs.declared.command.Command.{Command}
 use Rattle.script.specs.declared.fault.Fault.{Fault}
 use Rattle.script.specs.declared.fault.Fault.TheVariants.{TooLong, OutOfMemory}
@@ -103,7 +106,10 @@ events_in s = events_from (first_state s) s.commands
 -- the line of the first command that would run one event too many, where n events ran before
 abbrev pub overlong_from : ℕ → State → List Command → Option ℕ
 overlong_from n s [] = None
-overlong_from n s (c ∷ cs) = if nat_lt max_events (n + length (events_of s c.action)) then Some c.line else overlong_from (n + length (events_of s c.action)) (run s (events_of s c.action)) cs
+overlong_from n s (c ∷ cs) =
+    if nat_lt max_events (n + length (events_of s c.action))
+    then Some c.line
+    else overlong_from (n + length (events_of s c.action)) (run s (events_of s c.action)) cs
 
 abbrev pub overlong : Scope → Option ℕ
 overlong s = overlong_from 0 (first_state s) s.commands

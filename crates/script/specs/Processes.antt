@@ -76,4 +76,5 @@ ProcessesAreAsTold = (k : Mode) (bytes : List ℕ) → IfOk (script_read k bytes
 
 -- a script that declares no process is of one process, which maps the words at 0: addresses are places
 abbrev pub OneProcessWithoutALine : Type 0
-OneProcessWithoutALine = (s : Scope) → IsWellFormed s → s.processes ≡ [] → (first_state s).layout ≡ one_process (length s.threads) (length s.mutexes) (map (λ c. c.1.mutex) s.conditions)
+OneProcessWithoutALine = (s : Scope) → IsWellFormed s → s.processes ≡ []
+    → (first_state s).layout ≡ one_process (length s.threads) (length s.mutexes) (map (λ c. c.1.mutex) s.conditions)

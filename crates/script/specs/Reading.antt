@@ -1,5 +1,6 @@
 -- What a script says, and its first fault: each line in turn, after those before it.
-use Rattle.std.specs.Prelude.{ℕ, map, zero, suc, ◌+◌, Bool, not, ◌&&◌, ◌||◌, ◌==◌, nat_le, nat_lt, List, [], ◌∷◌, ◌++◌, length, take, drop, position, Option, Result, Ok, Err, if◌then◌else◌, decimal}
+use Rattle.std.specs.Prelude.{ℕ, map, zero, suc, ◌+◌, Bool, not, ◌&&◌, ◌||◌, ◌==◌, nat_le, nat_lt, List, [], ◌∷◌}
+use Rattle.std.specs.Prelude.{◌++◌, length, take, drop, position, Option, Result, Ok, Err, if◌then◌else◌, decimal}
 use Rattle.std.specs.Option.{ok_or, is_some}
 use Rattle.std.specs.List.{list_any}
 use Rattle.std.specs.Str.{bytes_eq, is_utf8}
@@ -8,7 +9,9 @@ use Rattle.mutex.specs.declared.call.Call.TheVariants as call
 use Rattle.condvar.specs.declared.call.CondCall.TheVariants as on
 use Rattle.condvar.specs.declared.op.Op.{Op}
 use Rattle.condvar.specs.declared.op.Op.TheVariants.{OnMutex, OnCondition}
-use Rattle.script.specs.Forms.{CallForm, lock, trylock, unlock, consistent, wait, signal, broadcast, Form, silent, process, thread, member, mutex, mutexes, cond, begins, steps, kills, kills_all, goes, leaves, declines, renews, reinits, calls, locks, phase, dies, form_of}
+use Rattle.script.specs.Forms.{CallForm, lock, trylock, unlock, consistent, wait, signal, broadcast, Form, silent}
+use Rattle.script.specs.Forms.{process, thread, member, mutex, mutexes, cond, begins, steps, kills, kills_all}
+use Rattle.script.specs.Forms.{goes, leaves, declines, renews, reinits, calls, locks, phase, dies, form_of}
 use Rattle.lines.specs.Numbers.{is_number}
 use Rattle.lines.specs.Lines.{lines_of, bad_line}
 use Rattle.lines.specs.Faults.{◌>>=◌}
@@ -24,7 +27,8 @@ use Rattle.script.specs.Limits.{max_bytes, max_lines, max_processes, max_threads
 
 -- before the first line
 abbrev pub nothing : Mode → Scope
-nothing k = record { mode = k; processes = []; threads = []; members = []; mutexes = []; conditions = []; commands = [] }
+nothing k =
+    record { mode = k; processes = []; threads = []; members = []; mutexes = []; conditions = []; commands = [] }
 
 -- the fault where the test holds, and else what follows
 abbrev pub refuse : {A : Type 0} → Bool → Fault → Result A Fault → Result A Fault
@@ -104,7 +108,8 @@ with_entry things w v = refuse (is_declared w (names_of things)) NoSuchName (Ok 
 -- a process that maps the words at this base, unless there are as many as may be, or there is one of this name
 abbrev pub process_declared : Scope → List ℕ → Option ℕ → Result Scope Fault
 process_declared s w base = declares s >>= λ _. ok_or base OutOfRange >>= λ b.
-    refuse (nat_le max_processes (length s.processes)) OutOfRange (with_entry s.processes w b >>= λ ps. Ok (record s { processes = ps }))
+    refuse (nat_le max_processes (length s.processes)) OutOfRange
+    (with_entry s.processes w b >>= λ ps. Ok (record s { processes = ps }))
 
 -- a thread of the process with this number, unless there is one of this name
 abbrev pub with_thread : Scope → List ℕ → ℕ → Result Scope Fault
@@ -112,23 +117,27 @@ with_thread s w p = with_name s.threads w >>= λ names. Ok (record s { threads =
 
 -- a thread, unless there are as many as may be; its process is the one that the line names, where it names one
 abbrev pub thread_declared : Scope → List ℕ → Result ℕ Fault → Result Scope Fault
-thread_declared s w its = declares s >>= λ _. refuse (nat_le max_threads (length s.threads)) OutOfRange (its >>= λ p. with_thread s w p)
+thread_declared s w its =
+    declares s >>= λ _. refuse (nat_le max_threads (length s.threads)) OutOfRange (its >>= λ p. with_thread s w p)
 
 abbrev pub mutex_declared : Scope → List ℕ → Result Scope Fault
 mutex_declared s w = declares s >>= λ _. added max_mutexes s.mutexes w >>= λ names. Ok (record s { mutexes = names })
 
 abbrev pub mutexes_declared : Scope → List ℕ → Option ℕ → Result Scope Fault
-mutexes_declared s w count = declares s >>= λ _. ok_or count OutOfRange >>= λ k. several max_mutexes s.mutexes w k >>= λ names.
+mutexes_declared s w count =
+    declares s >>= λ _. ok_or count OutOfRange >>= λ k. several max_mutexes s.mutexes w k >>= λ names.
     Ok (record s { mutexes = names })
 
 -- a condition variable of the mutex with this number, whose counter begins at this value, unless there is one of this
 -- name
 abbrev pub with_condition : Scope → List ℕ → ℕ → ℕ → Result Scope Fault
-with_condition s w m counter = with_entry s.conditions w (record { mutex = m; counter = counter }) >>= λ cs. Ok (record s { conditions = cs })
+with_condition s w m counter =
+    with_entry s.conditions w (record { mutex = m; counter = counter }) >>= λ cs. Ok (record s { conditions = cs })
 
 abbrev pub condition_declared : Scope → List ℕ → List ℕ → Option ℕ → Result Scope Fault
 condition_declared s w m counter = declares s >>= λ _. ok_or counter OutOfRange >>= λ n.
-    refuse (nat_le max_conditions (length s.conditions)) OutOfRange (place_of m s.mutexes >>= λ j. with_condition s w j n)
+    refuse (nat_le max_conditions (length s.conditions)) OutOfRange
+    (place_of m s.mutexes >>= λ j. with_condition s w j n)
 
 -- ---- what commands ask for
 
@@ -163,11 +172,14 @@ abbrev pub made : Scope → List ℕ → CallForm → Result Action Fault
 made s t c = thread_of s t >>= λ i. call_of s c >>= λ k. Ok (action.Call i k)
 
 abbrev pub locked : Scope → List ℕ → List ℕ → Option ℕ → Result Action Fault
-locked s t m count = ok_or count OutOfRange >>= λ k. first_of s m k >>= λ j. thread_of s t >>= λ i. Ok (action.Locks i j k)
+locked s t m count =
+    ok_or count OutOfRange >>= λ k. first_of s m k >>= λ j. thread_of s t >>= λ i. Ok (action.Locks i j k)
 
 -- a thread dies once at most: a second death of it is refused
 abbrev pub died : Scope → List ℕ → Option ℕ → Result Action Fault
-died s t access = ok_or access OutOfRange >>= λ k. thread_of s t >>= λ i. refuse (is_some (death_of i s.commands)) NoSuchName (Ok (action.Die i k))
+died s t access = ok_or access OutOfRange >>= λ k.
+    thread_of s t >>= λ i.
+    refuse (is_some (death_of i s.commands)) NoSuchName (Ok (action.Die i k))
 
 -- one more command, which stands at line n
 abbrev pub with_action : ℕ → Scope → Action → Scope

@@ -6,11 +6,13 @@ use Rattle.condvar.specs.declared.op.Op.{Op}
 use Rattle.condvar.specs.declared.op.Op.TheVariants.{OnMutex, OnCondition}
 use Rattle.script.specs.declared.command.Mode.{Mode}
 use Rattle.script.specs.declared.command.Action.{Action}
-use Rattle.script.specs.declared.command.Action.TheVariants.{Begin, Step, Kill, KillAll, Leave, Decline, Renew, Reinit, Go, Call, Locks, Phase, Die}
+use Rattle.script.specs.declared.command.Action.TheVariants.{Begin, Step, Kill, KillAll, Leave, Decline}
+use Rattle.script.specs.declared.command.Action.TheVariants.{Renew, Reinit, Go, Call, Locks, Phase, Die}
 use Rattle.script.specs.declared.command.Command.{Command}
 use Rattle.script.specs.declared.command.Condition.{Condition}
 use Rattle.script.specs.Deaths.{deaths_by}
-use Rattle.script.specs.Limits.{max_processes, max_base, max_threads, max_mutexes, max_conditions, max_counter, max_steps, max_access}
+use Rattle.script.specs.Limits.{max_processes, max_base, max_threads, max_mutexes}
+use Rattle.script.specs.Limits.{max_conditions, max_counter, max_steps, max_access}
 
 -- what it is written for, the names in the order of declaration, each as its bytes, of processes each with its base, of
 -- condition variables each with what it was declared with; of each thread the number of its process; and the commands
@@ -63,7 +65,9 @@ pub record IsWithinLimits (s : Scope) : Type 0 where
   pub mutexes_at_most : length s.mutexes ≤ max_mutexes
   pub conditions_at_most : length s.conditions ≤ max_conditions
   pub conditions_possible : All (λ c. IsCondition (length s.mutexes) c.1) s.conditions
-  pub commands_possible : All (λ c. IsPossible (length s.processes) (length s.threads) (length s.mutexes) (length s.conditions) c.action) s.commands
+  pub commands_possible : All
+      (λ c. IsPossible (length s.processes) (length s.threads) (length s.mutexes) (length s.conditions) c.action)
+      s.commands
   pub dies_once : (t : ℕ) → length (deaths_by t s.commands) ≤ 1
 
 -- what a whole script is: it has a thread and a mutex too

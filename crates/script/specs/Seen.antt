@@ -1,7 +1,9 @@
 -- Values of the code as the definitions see them.
 use Rattle.std.specs.Prelude.{ℕ, List, map, String, string_bytes}
 use Rattle.std.specs.declared.alloc.Global.{Global}
-use Rattle.script.specs.Forms.{CallForm, lock, trylock, unlock, consistent, wait, signal, broadcast, Form, process, thread, member, mutex, mutexes, cond, begins, steps, kills, kills_all, goes, leaves, declines, renews, reinits, calls, locks, phase, dies}
+use Rattle.script.specs.Forms.{CallForm, lock, trylock, unlock, consistent, wait, signal, broadcast, Form}
+use Rattle.script.specs.Forms.{process, thread, member, mutex, mutexes, cond, begins, steps, kills}
+use Rattle.script.specs.Forms.{kills_all, goes, leaves, declines, renews, reinits, calls, locks, phase, dies}
 use Rattle.script.specs.Scope.{Scope}
 use Rattle.script.specs.declared.draft.Draft.{Draft}
 use Rattle.script.specs.declared.line.NamedCall.{NamedCall}

@@ -4,7 +4,11 @@ ghost use Rattle.std.specs.Prelude.{◌≡◌, ◌^◌, ◌<◌, ◌≤◌, fals
 ghost use Rattle.script.specs.Forms.{is_silent};
 ghost use Rattle.script.specs.Limits.{max_conditions, max_lines, max_mutexes, max_processes, max_threads};
 ghost use Rattle.script.specs.Outcome.{Gives};
-ghost use Rattle.script.specs.Reading.{all_killed, asked, begun, call_of, condition_declared, condition_names, declares, declined, died, enter, first_of, gone, killed, left, line_read, locked, made, mutex_declared, mutexes_declared, nothing, place_of, process_declared, process_of, reinited, renewed, stepped, thread_declared, thread_of, with_action, with_thread};
+ghost use Rattle.script.specs.Reading.{all_killed, asked, begun, call_of, condition_declared};
+ghost use Rattle.script.specs.Reading.{condition_names, declares, declined, died, enter, first_of, gone, killed};
+ghost use Rattle.script.specs.Reading.{left, line_read, locked, made, mutex_declared, mutexes_declared};
+ghost use Rattle.script.specs.Reading.{nothing, place_of, process_declared, process_of, reinited, renewed};
+ghost use Rattle.script.specs.Reading.{stepped, thread_declared, thread_of, with_action, with_thread};
 ghost use Rattle.script.specs.Scope.{IsWithinLimits};
 
 use crate::command::{Action, Command, Condition, Mode};
@@ -155,7 +159,8 @@ impl Draft {
     /// A thread of a named process.
     fn declare_member(&mut self, alloc: Global, word: &str, process: &str) -> Result<(), Fault>
         requires { IsWithinLimits (scope_of self.old) }
-        ensures gives { Gives (λ _. scope_of self.new) result (thread_declared (scope_of self.old) word.now (process_of (scope_of self.old) process.now)) }
+        ensures gives { Gives (λ _. scope_of self.new) result
+            (thread_declared (scope_of self.old) word.now (process_of (scope_of self.old) process.now)) }
         ensures mode { self.new.mode ≡ self.old.mode }
     {
         self.declares()?;
@@ -197,7 +202,8 @@ impl Draft {
         counter: Option<u32>,
     ) -> Result<(), Fault>
         requires { IsWithinLimits (scope_of self.old) }
-        ensures gives { Gives (λ _. scope_of self.new) result (condition_declared (scope_of self.old) name.now mutex.now counter) }
+        ensures gives { Gives (λ _. scope_of self.new) result
+            (condition_declared (scope_of self.old) name.now mutex.now counter) }
         ensures mode { self.new.mode ≡ self.old.mode }
     {
         self.declares()?;
@@ -228,7 +234,8 @@ impl Draft {
 
     fn begin(&mut self, number: usize, thread: &str, call: NamedCall<'_>) -> Result<(), Fault>
         requires { IsWithinLimits (scope_of self.old) }
-        ensures gives { Gives (λ _. scope_of self.new) result (asked number (scope_of self.old) (begun (scope_of self.old) thread.now (call_seen call.entry))) }
+        ensures gives { Gives (λ _. scope_of self.new) result
+            (asked number (scope_of self.old) (begun (scope_of self.old) thread.now (call_seen call.entry))) }
         ensures mode { self.new.mode ≡ self.old.mode }
     {
         let action = Action::Begin(self.thread(thread)?, self.call(call)?);
@@ -237,7 +244,8 @@ impl Draft {
 
     fn step(&mut self, number: usize, thread: &str, count: Option<u32>) -> Result<(), Fault>
         requires { IsWithinLimits (scope_of self.old) }
-        ensures gives { Gives (λ _. scope_of self.new) result (asked number (scope_of self.old) (stepped (scope_of self.old) thread.now count)) }
+        ensures gives { Gives (λ _. scope_of self.new) result
+            (asked number (scope_of self.old) (stepped (scope_of self.old) thread.now count)) }
         ensures mode { self.new.mode ≡ self.old.mode }
     {
         let count = count.ok_or(Fault::OutOfRange)?;
@@ -247,7 +255,8 @@ impl Draft {
 
     fn kill(&mut self, number: usize, thread: &str) -> Result<(), Fault>
         requires { IsWithinLimits (scope_of self.old) }
-        ensures gives { Gives (λ _. scope_of self.new) result (asked number (scope_of self.old) (killed (scope_of self.old) thread.now)) }
+        ensures gives { Gives (λ _. scope_of self.new) result
+            (asked number (scope_of self.old) (killed (scope_of self.old) thread.now)) }
         ensures mode { self.new.mode ≡ self.old.mode }
     {
         let thread = self.thread(thread)?;
@@ -256,7 +265,8 @@ impl Draft {
 
     fn kill_all(&mut self, number: usize, process: &str) -> Result<(), Fault>
         requires { IsWithinLimits (scope_of self.old) }
-        ensures gives { Gives (λ _. scope_of self.new) result (asked number (scope_of self.old) (all_killed (scope_of self.old) process.now)) }
+        ensures gives { Gives (λ _. scope_of self.new) result
+            (asked number (scope_of self.old) (all_killed (scope_of self.old) process.now)) }
         ensures mode { self.new.mode ≡ self.old.mode }
     {
         let process = self.process(process)?;
@@ -265,7 +275,8 @@ impl Draft {
 
     fn leave(&mut self, number: usize, thread: &str) -> Result<(), Fault>
         requires { IsWithinLimits (scope_of self.old) }
-        ensures gives { Gives (λ _. scope_of self.new) result (asked number (scope_of self.old) (left (scope_of self.old) thread.now)) }
+        ensures gives { Gives (λ _. scope_of self.new) result
+            (asked number (scope_of self.old) (left (scope_of self.old) thread.now)) }
         ensures mode { self.new.mode ≡ self.old.mode }
     {
         let thread = self.thread(thread)?;
@@ -274,7 +285,8 @@ impl Draft {
 
     fn decline(&mut self, number: usize, thread: &str) -> Result<(), Fault>
         requires { IsWithinLimits (scope_of self.old) }
-        ensures gives { Gives (λ _. scope_of self.new) result (asked number (scope_of self.old) (declined (scope_of self.old) thread.now)) }
+        ensures gives { Gives (λ _. scope_of self.new) result
+            (asked number (scope_of self.old) (declined (scope_of self.old) thread.now)) }
         ensures mode { self.new.mode ≡ self.old.mode }
     {
         let thread = self.thread(thread)?;
@@ -283,7 +295,8 @@ impl Draft {
 
     fn renew(&mut self, number: usize, thread: &str) -> Result<(), Fault>
         requires { IsWithinLimits (scope_of self.old) }
-        ensures gives { Gives (λ _. scope_of self.new) result (asked number (scope_of self.old) (renewed (scope_of self.old) thread.now)) }
+        ensures gives { Gives (λ _. scope_of self.new) result
+            (asked number (scope_of self.old) (renewed (scope_of self.old) thread.now)) }
         ensures mode { self.new.mode ≡ self.old.mode }
     {
         let thread = self.thread(thread)?;
@@ -292,7 +305,8 @@ impl Draft {
 
     fn reinit(&mut self, number: usize, thread: &str, mutex: &str) -> Result<(), Fault>
         requires { IsWithinLimits (scope_of self.old) }
-        ensures gives { Gives (λ _. scope_of self.new) result (asked number (scope_of self.old) (reinited (scope_of self.old) thread.now mutex.now)) }
+        ensures gives { Gives (λ _. scope_of self.new) result
+            (asked number (scope_of self.old) (reinited (scope_of self.old) thread.now mutex.now)) }
         ensures mode { self.new.mode ≡ self.old.mode }
     {
         let action = Action::Reinit(self.thread(thread)?, self.mutex(mutex)?);
@@ -301,7 +315,8 @@ impl Draft {
 
     fn go(&mut self, number: usize, thread: &str) -> Result<(), Fault>
         requires { IsWithinLimits (scope_of self.old) }
-        ensures gives { Gives (λ _. scope_of self.new) result (asked number (scope_of self.old) (gone (scope_of self.old) thread.now)) }
+        ensures gives { Gives (λ _. scope_of self.new) result
+            (asked number (scope_of self.old) (gone (scope_of self.old) thread.now)) }
         ensures mode { self.new.mode ≡ self.old.mode }
     {
         let thread = self.thread(thread)?;
@@ -310,7 +325,8 @@ impl Draft {
 
     fn make(&mut self, number: usize, thread: &str, call: NamedCall<'_>) -> Result<(), Fault>
         requires { IsWithinLimits (scope_of self.old) }
-        ensures gives { Gives (λ _. scope_of self.new) result (asked number (scope_of self.old) (made (scope_of self.old) thread.now (call_seen call.entry))) }
+        ensures gives { Gives (λ _. scope_of self.new) result
+            (asked number (scope_of self.old) (made (scope_of self.old) thread.now (call_seen call.entry))) }
         ensures mode { self.new.mode ≡ self.old.mode }
     {
         let action = Action::Call(self.thread(thread)?, self.call(call)?);
@@ -325,7 +341,8 @@ impl Draft {
         count: Option<u32>,
     ) -> Result<(), Fault>
         requires { IsWithinLimits (scope_of self.old) }
-        ensures gives { Gives (λ _. scope_of self.new) result (asked number (scope_of self.old) (locked (scope_of self.old) thread.now mutex.now count)) }
+        ensures gives { Gives (λ _. scope_of self.new) result
+            (asked number (scope_of self.old) (locked (scope_of self.old) thread.now mutex.now count)) }
         ensures mode { self.new.mode ≡ self.old.mode }
     {
         let count = count.ok_or(Fault::OutOfRange)?;
@@ -345,7 +362,8 @@ impl Draft {
     /// A thread dies once: a second such line of it is refused.
     fn die(&mut self, number: usize, thread: &str, access: Option<u32>) -> Result<(), Fault>
         requires { IsWithinLimits (scope_of self.old) }
-        ensures gives { Gives (λ _. scope_of self.new) result (asked number (scope_of self.old) (died (scope_of self.old) thread.now access)) }
+        ensures gives { Gives (λ _. scope_of self.new) result
+            (asked number (scope_of self.old) (died (scope_of self.old) thread.now access)) }
         ensures mode { self.new.mode ≡ self.old.mode }
     {
         let access = access.ok_or(Fault::OutOfRange)?;

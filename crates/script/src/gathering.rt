@@ -1,6 +1,7 @@
 //! What a script asks of real threads.
 
-ghost use Rattle.std.specs.Prelude.{◌≡◌, ◌<◌, ◌≤◌, ℕ, List, [], ◌∷◌, ◌++◌, length, OnOk, map, position, IfOk, IfErr, IfSome, MatchOption};
+ghost use Rattle.std.specs.Prelude.{◌≡◌, ◌<◌, ◌≤◌, ℕ, List, [], ◌∷◌, ◌++◌, length, OnOk};
+ghost use Rattle.std.specs.Prelude.{map, position, IfOk, IfErr, IfSome, MatchOption};
 ghost use Rattle.script.specs.declared.command.Command.{Command};
 ghost use Rattle.std.specs.List.{slice_split, range_with_len};
 ghost use Rattle.script.specs.Deaths.{death_of};
@@ -49,7 +50,9 @@ fn no_calls(alloc: Global, threads: u8) -> Result<Vec<Vec<Op>>, AllocError>
 
 /// Adds a command's call to the list of its thread, where that has one.
 fn add_call(calls: &mut Vec<Vec<Op>>, command: &Command) -> Result<(), AllocError>
-    ensures { OnOk result ((n : ℕ) (cs : List Command) → AreCalls n cs (lists_seen calls.old.items) → AreCalls n (cs ++ command.now ∷ []) (lists_seen calls.new.items)) }
+    ensures { OnOk result
+        ((n : ℕ) (cs : List Command) → AreCalls n cs (lists_seen calls.old.items)
+        → AreCalls n (cs ++ command.now ∷ []) (lists_seen calls.new.items)) }
 {
     let Action::Call(thread, call) = command.action else {
         return Ok(());
@@ -64,7 +67,9 @@ fn add_call(calls: &mut Vec<Vec<Op>>, command: &Command) -> Result<(), AllocErro
 /// A job of each thread that has calls.
 fn jobs_with(alloc: Global, calls: Vec<Vec<Op>>) -> Result<Phase, AllocError>
     requires { length calls.items ≤ max_threads }
-    ensures { IfOk result (λ phase. (n : ℕ) (cs : List Command) → AreCalls n cs (lists_seen calls.items) → jobs_seen phase ≡ jobs_up_to n cs) }
+    ensures { IfOk result
+        (λ phase. (n : ℕ) (cs : List Command) → AreCalls n cs (lists_seen calls.items)
+        → jobs_seen phase ≡ jobs_up_to n cs) }
 {
     let mut jobs = Vec::new(alloc);
     let mut id = 0;
@@ -93,7 +98,8 @@ fn phase_of(alloc: Global, threads: u8, commands: &[Command]) -> Result<Phase, A
 /// The phases of all the commands.
 fn phases_of(alloc: Global, threads: u8, commands: &[Command]) -> Result<Vec<Phase>, AllocError>
     requires { threads ≤ max_threads }
-    ensures { IfOk result (λ phases. map jobs_seen phases.items ≡ map (jobs_up_to threads) (slice_split ends_phase commands.now)) }
+    ensures { IfOk result
+        (λ phases. map jobs_seen phases.items ≡ map (jobs_up_to threads) (slice_split ends_phase commands.now)) }
 {
     let mut phases = Vec::new(alloc);
     let mut rest = commands;

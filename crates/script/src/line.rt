@@ -1,7 +1,9 @@
 //! The kinds of line of a script.
 
 ghost use Rattle.std.specs.Prelude.{◌≡◌, true, false, option_map, option_and_then};
-ghost use Rattle.script.specs.Forms.{call_form, calling_form, cond_form, die_form, form_of, has, is_silent, is_stem, locks_form, member_form, mutexes_form, name_form, or_else, phase_form, process_form, reinit_form, run_has, step_form, threads_have};
+ghost use Rattle.script.specs.Forms.{call_form, calling_form, cond_form, die_form, form_of, has, is_silent};
+ghost use Rattle.script.specs.Forms.{is_stem, locks_form, member_form, mutexes_form, name_form, or_else};
+ghost use Rattle.script.specs.Forms.{phase_form, process_form, reinit_form, run_has, step_form, threads_have};
 ghost use Rattle.lines.specs.Numbers.{is_number, within};
 ghost use Rattle.script.specs.Seen.{call_seen, form_seen};
 

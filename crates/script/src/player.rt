@@ -4,7 +4,8 @@ ghost use Rattle.protocol.specs.declared.event.Event.TheVariants.{Step};
 ghost use Rattle.protocol.specs.Machine.{start};
 ghost use Rattle.interleave.specs.Shown.{state_of};
 ghost use Rattle.script.specs.Limits.{max_events, max_mutexes};
-ghost use Rattle.script.specs.Playing.{Adds, AddsAt, HasMutexes, calling, events_of, first_state, going_on, is_going, killing, layout_of, locking};
+ghost use Rattle.script.specs.Playing.{Adds, AddsAt, HasMutexes, calling, events_of};
+ghost use Rattle.script.specs.Playing.{first_state, going_on, is_going, killing, layout_of, locking};
 ghost use Rattle.script.specs.Played.{PlaysOn, PlaysTo};
 
 use crate::command::{Action, Command};
@@ -47,7 +48,8 @@ fn play_steps(
     count: u32,
 ) -> Result<(), Fault>
     requires { length notes.old.items ≤ max_events }
-    ensures { Adds (state_of machine.old) (state_of machine.new) notes.old.items notes.new.items (replicate count (Step thread)) result }
+    ensures { Adds (state_of machine.old) (state_of machine.new) notes.old.items notes.new.items
+        (replicate count (Step thread)) result }
 {
     for _done in 0..count {
         play_event(machine, notes, Event::Step(thread))?;
@@ -65,7 +67,8 @@ fn is_going(machine: &Machine, thread: Tid) -> bool
 /// Steps of a thread until it is in no call and not dying, or sleeps.
 fn play_to_rest(machine: &mut Machine, notes: &mut Vec<Note>, thread: Tid) -> Result<(), Fault>
     requires { length notes.old.items ≤ max_events }
-    ensures { Adds (state_of machine.old) (state_of machine.new) notes.old.items notes.new.items (going_on (state_of machine.old) thread) result }
+    ensures { Adds (state_of machine.old) (state_of machine.new) notes.old.items notes.new.items
+        (going_on (state_of machine.old) thread) result }
 {
     for _done in 0..REST_STEPS {
         if !is_going(machine, thread) {
@@ -79,7 +82,8 @@ fn play_to_rest(machine: &mut Machine, notes: &mut Vec<Note>, thread: Tid) -> Re
 /// A call, until its thread rests.
 fn play_call(machine: &mut Machine, notes: &mut Vec<Note>, thread: Tid, op: Op) -> Result<(), Fault>
     requires { length notes.old.items ≤ max_events }
-    ensures { Adds (state_of machine.old) (state_of machine.new) notes.old.items notes.new.items (calling (state_of machine.old) thread op) result }
+    ensures { Adds (state_of machine.old) (state_of machine.new) notes.old.items notes.new.items
+        (calling (state_of machine.old) thread op) result }
 {
     play_event(machine, notes, Event::Begin(thread, op))?;
     play_to_rest(machine, notes, thread)
@@ -95,7 +99,8 @@ fn play_locks(
 ) -> Result<(), Fault>
     requires few { length notes.old.items ≤ max_events }
     requires small { mutex + count ≤ max_mutexes }
-    ensures { Adds (state_of machine.old) (state_of machine.new) notes.old.items notes.new.items (locking (state_of machine.old) thread mutex count) result }
+    ensures { Adds (state_of machine.old) (state_of machine.new) notes.old.items notes.new.items
+        (locking (state_of machine.old) thread mutex count) result }
 {
     for next in 0..count {
         play_call(
@@ -111,7 +116,8 @@ fn play_locks(
 /// A kill of each thread of a process, in the order of ids.
 fn play_kills(machine: &mut Machine, notes: &mut Vec<Note>, process: u8) -> Result<(), Fault>
     requires { length notes.old.items ≤ max_events }
-    ensures { Adds (state_of machine.old) (state_of machine.new) notes.old.items notes.new.items (killing (state_of machine.old).layout process) result }
+    ensures { Adds (state_of machine.old) (state_of machine.new) notes.old.items notes.new.items
+        (killing (state_of machine.old).layout process) result }
 {
     for earlier in 0..machine.layout().threads() {
         let thread = Tid::new(earlier + 1).unwrap();
@@ -126,7 +132,8 @@ fn play_kills(machine: &mut Machine, notes: &mut Vec<Note>, process: u8) -> Resu
 fn play_action(machine: &mut Machine, notes: &mut Vec<Note>, action: Action) -> Result<(), Fault>
     requires few { length notes.old.items ≤ max_events }
     requires locks { HasMutexes action }
-    ensures { Adds (state_of machine.old) (state_of machine.new) notes.old.items notes.new.items (events_of (state_of machine.old) action) result }
+    ensures { Adds (state_of machine.old) (state_of machine.new) notes.old.items notes.new.items
+        (events_of (state_of machine.old) action) result }
 {
     match action {
         Action::Begin(thread, op) => play_event(machine, notes, Event::Begin(thread, op)),
@@ -159,7 +166,8 @@ fn play_command(
 ) -> Result<(), ScriptFault>
     requires few { length notes.old.items ≤ max_events }
     requires locks { HasMutexes command.now.action }
-    ensures { AddsAt command.now.line (state_of machine.old) (state_of machine.new) notes.old.items notes.new.items (events_of (state_of machine.old) command.now.action) result }
+    ensures { AddsAt command.now.line (state_of machine.old) (state_of machine.new) notes.old.items notes.new.items
+        (events_of (state_of machine.old) command.now.action) result }
 {
     match play_action(machine, notes, command.action) {
         Ok(()) => Ok(()),

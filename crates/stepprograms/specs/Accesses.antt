@@ -1,11 +1,14 @@
 -- What an access does to the word that it meets, and what it answers. Of the futex sections a trim alone changes a
 -- word.
-use Rattle.std.specs.Prelude.{ℕ, ◌≡◌, ◌==◌, ◌+◌, ◌%◌, ◌^◌, ◌&&◌, ◌↔◌, Bool, true, false, List, [], ◌∷◌, length, take, drop, bit_or, bit_and, bit_xor, if◌then◌else◌}
+use Rattle.std.specs.Prelude.{ℕ, ◌≡◌, ◌==◌, ◌+◌, ◌%◌, ◌^◌, ◌&&◌, ◌↔◌, Bool, true, false, List, []}
+use Rattle.std.specs.Prelude.{◌∷◌, length, take, drop, bit_or, bit_and, bit_xor, if◌then◌else◌}
 use Rattle.lockword.specs.Cells.{waiters_alone}
 use Rattle.stepprograms.specs.declared.access.Access.{Access}
-use Rattle.stepprograms.specs.declared.access.Access.TheVariants.{Load, Store, Exchange, FetchXor, FetchOr, FetchAnd, FetchAdd, Wait, Wake, Requeue, CmpRequeue, Trim}
+use Rattle.stepprograms.specs.declared.access.Access.TheVariants.{Load, Store, Exchange, FetchXor, FetchOr, FetchAnd}
+use Rattle.stepprograms.specs.declared.access.Access.TheVariants.{FetchAdd, Wait, Wake, Requeue, CmpRequeue, Trim}
 use Rattle.stepprograms.specs.declared.access.Answer.{Answer}
-use Rattle.stepprograms.specs.declared.access.Answer.TheVariants.{Value, Stored, Exchanged, Changed, Again, Woken, Count, Counts, Trimmed}
+use Rattle.stepprograms.specs.declared.access.Answer.TheVariants.{Value, Stored, Exchanged, Changed}
+use Rattle.stepprograms.specs.declared.access.Answer.TheVariants.{Again, Woken, Count, Counts, Trimmed}
 
 -- the address of the word that it reads or changes
 abbrev pub address_of : Access → ℕ
@@ -71,7 +74,8 @@ abbrev pub answer_among : Access → ℕ → List ℕ → Answer
 answer_among (Wait at e) w q = if w % 2 ^ 32 == e then Woken else Again
 answer_among (Wake at n) w q = Count (length (take n q))
 answer_among (Requeue from n to k) w q = Counts (length (take n q)) (length (take k (drop n q)))
-answer_among (CmpRequeue from e n to k) w q = if w % 2 ^ 32 == e then Counts (length (take n q)) (length (take k (drop n q))) else Again
+answer_among (CmpRequeue from e n to k) w q =
+    if w % 2 ^ 32 == e then Counts (length (take n q)) (length (take k (drop n q))) else Again
 answer_among (Trim at) w q = Trimmed (is_trimmed w q)
 answer_among a w q = answer_at a w
 
@@ -89,7 +93,9 @@ pub record Trims (w : ℕ) (queue : List ℕ) (after : ℕ) (trimmed : Bool) : T
 
 -- a trim's word, and its answer, are so
 abbrev pub TrimsAreRight : Type 0
-TrimsAreRight = (at w : ℕ) (queue : List ℕ) → (trimmed : Bool) × (answer_among (Trim at) w queue ≡ Trimmed trimmed) × Trims w queue (word_among (Trim at) w queue) trimmed
+TrimsAreRight = (at w : ℕ) (queue : List ℕ)
+    → (trimmed : Bool) × (answer_among (Trim at) w queue ≡ Trimmed trimmed)
+    × Trims w queue (word_among (Trim at) w queue) trimmed
 
 -- what such an access is answered, but for a fault (futex(2))
 abbrev pub IsAnswerOf : Access → Answer → Type 0

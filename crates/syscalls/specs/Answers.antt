@@ -1,5 +1,6 @@
 -- When a call is refused, and how.
-use Rattle.std.specs.Prelude.{ℕ, ◌≡◌, ◌≢◌, ◌≤◌, ◌%◌, ◌^◌, Bool, List, slice_index, slice_set, Result, Ok, Err, IsTrue, IsFalse}
+use Rattle.std.specs.Prelude.{ℕ, ◌≡◌, ◌≢◌, ◌≤◌, ◌%◌, ◌^◌, Bool, List, slice_index}
+use Rattle.std.specs.Prelude.{slice_set, Result, Ok, Err, IsTrue, IsFalse}
 use Rattle.lockword.specs.declared.reply.Reply.{Reply}
 use Rattle.lockword.specs.declared.reply.Reply.TheVariants.{ESRCH, EAGAIN, EFAULT, EINVAL}
 use Rattle.stepprograms.specs.Accesses.{Trims}
@@ -49,8 +50,10 @@ RequeueAnswers words from to (Err r) = ⊥
 
 -- the same, and else it is refused where the futex word at the first place isn't the expected one, which EAGAIN tells
 abbrev pub CmpRequeueAnswers : {X : Type 0} → List ℕ → ℕ → ℕ → ℕ → Result X Reply → Type 0
-CmpRequeueAnswers words from expected to (Ok x) = (from ≢ to) × BothValid words from to × (futex_word words from ≡ expected)
-CmpRequeueAnswers words from expected to (Err EAGAIN) = (from ≢ to) × BothValid words from to × (futex_word words from ≢ expected)
+CmpRequeueAnswers words from expected to (Ok x) =
+    (from ≢ to) × BothValid words from to × (futex_word words from ≡ expected)
+CmpRequeueAnswers words from expected to (Err EAGAIN) =
+    (from ≢ to) × BothValid words from to × (futex_word words from ≢ expected)
 CmpRequeueAnswers words from expected to (Err EINVAL) = from ≡ to
 CmpRequeueAnswers words from expected to (Err EFAULT) = (from ≢ to) × ¬ BothValid words from to
 CmpRequeueAnswers words from expected to (Err r) = ⊥

@@ -1,6 +1,8 @@
 -- The sleepers of every key and the robust list's head of every thread, as a kernel keeps them (futex(2),
 -- get_robust_list(2)).
-use Rattle.std.specs.Prelude.{ℕ, ◌≡◌, ◌≢◌, ◌<◌, ◌≤◌, ◌%◌, ◌-◌, ◌==◌, Bool, List, [], ◌∷◌, ◌++◌, length, take, drop, slice_index, slice_index_or, slice_get, Some, if◌then◌else◌, AllPairs, Contains, MatchBool}
+use Rattle.std.specs.Prelude.{ℕ, ◌≡◌, ◌≢◌, ◌<◌, ◌≤◌, ◌%◌, ◌-◌, ◌==◌, Bool, List, [], ◌∷◌, ◌++◌, length, take, drop}
+use Rattle.std.specs.Prelude.{slice_index, slice_index_or, slice_get, Some, if◌then◌else◌, AllPairs, Contains}
+use Rattle.std.specs.Prelude.{MatchBool}
 use Rattle.buckets.specs.BucketCount.{bucket_count}
 use Rattle.buckets.specs.Queues.{Sleepers, queue, without, IsOrderly}
 
@@ -64,7 +66,8 @@ pub record HasQueuesOf (k : Kernel') (i : ℕ) (b : Sleepers) : Type 0 where
 
 -- whoever stands in a bucket stands in that whose number is told of the thread
 abbrev pub StandWhereTold : List ℕ → List Sleepers → Type 0
-StandWhereTold told buckets = (i key t : ℕ) → i < length buckets → Contains (queue (bucket_at buckets i) key) t → slice_get told (t - 1) ≡ Some i
+StandWhereTold told buckets =
+    (i key t : ℕ) → i < length buckets → Contains (queue (bucket_at buckets i) key) t → slice_get told (t - 1) ≡ Some i
 
 -- the number of a bucket is told of each of so many threads, and whoever stands stands there
 pub record Remembers (told : List ℕ) (threads : ℕ) (buckets : List Sleepers) : Type 0 where

@@ -1,5 +1,6 @@
 -- The words of a memory, and what an access does to them.
-use Rattle.std.specs.Prelude.{ℕ, ◌&&◌, Bool, nat_le, nat_lt, List, [], length, slice_index, slice_set, Option, Some, None, if◌then◌else◌}
+use Rattle.std.specs.Prelude.{ℕ, ◌&&◌, Bool, nat_le, nat_lt, List, [], length}
+use Rattle.std.specs.Prelude.{slice_index, slice_set, Option, Some, None, if◌then◌else◌}
 use Rattle.stepprograms.specs.declared.access.Access.{Access}
 use Rattle.stepprograms.specs.Accesses.{address_of, word_among}
 
@@ -14,4 +15,7 @@ word_at words at = if is_valid words at then Some (slice_index words at) else No
 -- the words after an access of a memory, which knows of no sleepers: the one at its address, which is a place here, is
 -- changed, where that is valid, and all others stay
 abbrev pub words_after : Access → List ℕ → List ℕ
-words_after a words = if is_valid words (address_of a) then slice_set words (address_of a) (word_among a (slice_index words (address_of a)) []) else words
+words_after a words =
+    if is_valid words (address_of a)
+    then slice_set words (address_of a) (word_among a (slice_index words (address_of a)) [])
+    else words

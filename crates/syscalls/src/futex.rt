@@ -2,7 +2,8 @@
 ghost use Rattle.std.specs.Prelude.{◌≡◌, ◌≤◌, MatchResult};
 ghost use Rattle.memorymap.specs.Addresses.{seen_at};
 ghost use Rattle.syscalls.specs.Kernels.{queue_of, IsAwake, IsKernel, FallsAsleep, Wakes, Requeues};
-ghost use Rattle.syscalls.specs.Answers.{WaitAnswers, WakeAnswers, TrimAnswers, TrimsAt, RequeueAnswers, CmpRequeueAnswers};
+ghost use Rattle.syscalls.specs.Answers.{WaitAnswers, WakeAnswers, TrimAnswers};
+ghost use Rattle.syscalls.specs.Answers.{TrimsAt, RequeueAnswers, CmpRequeueAnswers};
 
 use crate::kernel::Kernel;
 use crate::memory::Memory;
@@ -27,7 +28,8 @@ impl Kernel {
         requires known { thread ≤ self.old.threads }
         requires awake { IsAwake self.old thread }
         ensures answer { WaitAnswers (M.words memory.now) (seen_at base at) expected result }
-        ensures changes { MatchResult result (λ _. FallsAsleep self.old self.new thread (seen_at base at)) (λ _. self.new ≡ self.old) }
+        ensures changes { MatchResult result (λ _. FallsAsleep self.old self.new thread (seen_at base at))
+            (λ _. self.new ≡ self.old) }
         ensures sound { IsKernel self.new }
     {
         self.wait_at(memory, thread, seen_at(base, at), expected)
@@ -63,7 +65,9 @@ impl Kernel {
         moves: u32,
     ) -> Result<(Batch, Batch), Reply>
         ensures answer { RequeueAnswers (M.words memory.now) (seen_at base from) (seen_at base to) result }
-        ensures changes { MatchResult result (λ r. Requeues self.old self.new (seen_at base from) wake (seen_at base to) moves r.0 r.1) (λ _. self.new ≡ self.old) }
+        ensures changes { MatchResult result
+            (λ r. Requeues self.old self.new (seen_at base from) wake (seen_at base to) moves r.0 r.1)
+            (λ _. self.new ≡ self.old) }
         ensures sound { IsKernel self.new }
     {
         self.requeue_at(memory, seen_at(base, from), wake, seen_at(base, to), moves)
@@ -83,7 +87,9 @@ impl Kernel {
         moves: u32,
     ) -> Result<(Batch, Batch), Reply>
         ensures answer { CmpRequeueAnswers (M.words memory.now) (seen_at base from) expected (seen_at base to) result }
-        ensures changes { MatchResult result (λ r. Requeues self.old self.new (seen_at base from) wake (seen_at base to) moves r.0 r.1) (λ _. self.new ≡ self.old) }
+        ensures changes { MatchResult result
+            (λ r. Requeues self.old self.new (seen_at base from) wake (seen_at base to) moves r.0 r.1)
+            (λ _. self.new ≡ self.old) }
         ensures sound { IsKernel self.new }
     {
         self.cmp_requeue_at(
@@ -101,7 +107,9 @@ impl Kernel {
     /// cleared it; no queue changes. Refused with EFAULT where the address is invalid, and then no word changes.
     pub fn trim<M: Memory>(&self, base: u64, memory: &mut M, at: u64) -> Result<bool, Reply>
         ensures answer { TrimAnswers (M.words memory.old) (seen_at base at) result }
-        ensures changes { MatchResult result (TrimsAt (M.words memory.old) (M.words memory.new) (seen_at base at) (queue_of self.now (seen_at base at))) (λ _. M.words memory.new ≡ M.words memory.old) }
+        ensures changes { MatchResult result
+            (TrimsAt (M.words memory.old) (M.words memory.new) (seen_at base at) (queue_of self.now (seen_at base at)))
+            (λ _. M.words memory.new ≡ M.words memory.old) }
         ensures sound { IsKernel self.now }
     {
         self.trim_at(memory, seen_at(base, at))

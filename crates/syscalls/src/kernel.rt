@@ -1,11 +1,14 @@
 //! The sleepers of every word, by its place, and the robust list's head of every thread.
-ghost use Rattle.std.specs.Prelude.{◌≡◌, ◌≢◌, ◌<◌, ◌≤◌, ◌-◌, ◌%◌, ℕ, not, length, slice_index, slice_get, Contains, Some, MatchOption, MatchResult, MatchBool, IfOk};
+ghost use Rattle.std.specs.Prelude.{◌≡◌, ◌≢◌, ◌<◌, ◌≤◌, ◌-◌, ◌%◌, ℕ, not, length, slice_index};
+ghost use Rattle.std.specs.Prelude.{slice_get, Contains, Some, MatchOption, MatchResult, MatchBool, IfOk};
 ghost use Rattle.stepprograms.specs.Accesses.{is_nobody};
 ghost use Rattle.std.specs.List.{All};
 ghost use Rattle.buckets.specs.Queues.{Stands, StandsNowhere, IsOrderly, IsEmptied, Fits, MovesTo};
 ghost use Rattle.buckets.specs.BucketCount.{bucket_count};
-ghost use Rattle.syscalls.specs.Kernels.{bucket_at, queue_of, StandWhereTold, HasQueuesOf, IsAsleep, IsAwake, IsKernel, IsIdle, FallsAsleep, Wakes, Moves, Requeues, Leaves, SetsHead};
-ghost use Rattle.syscalls.specs.Answers.{WaitAnswers, WakeAnswers, TrimAnswers, TrimsAt, RequeueAnswers, CmpRequeueAnswers, SetHeadAnswers, GetHeadAnswers};
+ghost use Rattle.syscalls.specs.Kernels.{bucket_at, queue_of, StandWhereTold, HasQueuesOf, IsAsleep, IsAwake};
+ghost use Rattle.syscalls.specs.Kernels.{IsKernel, IsIdle, FallsAsleep, Wakes, Moves, Requeues, Leaves, SetsHead};
+ghost use Rattle.syscalls.specs.Answers.{WaitAnswers, WakeAnswers, TrimAnswers, TrimsAt};
+ghost use Rattle.syscalls.specs.Answers.{RequeueAnswers, CmpRequeueAnswers, SetHeadAnswers, GetHeadAnswers};
 
 use crate::memory::Memory;
 use buckets::{BUCKETS, Batch, Bucket};
@@ -35,7 +38,12 @@ impl Model for Kernel {
 
     ghost view = { λ k. record { threads = k.threads; buckets = k.buckets.items; heads = k.heads.items } };
 
-    ghost invariant = { λ k. (IsKernel (record { threads = k.threads; buckets = k.buckets.items; heads = k.heads.items }) × HasBuckets (record { threads = k.threads; buckets = k.buckets.items; heads = k.heads.items }))
+    ghost invariant = { λ k. (IsKernel (record {
+      threads = k.threads;
+      buckets = k.buckets.items;
+      heads = k.heads.items;
+    })
+        × HasBuckets (record { threads = k.threads; buckets = k.buckets.items; heads = k.heads.items }))
         × Remembers k.stood_in.items k.threads k.buckets.items };
 }
 
@@ -92,7 +100,8 @@ fn bucket_with(buckets: &[Bucket], stood_in: &[u8], thread: Tid) -> Option<usize
 fn remember(stood_in: &mut [u8], threads: &Batch, number: u8)
     requires known { All (λ t. (1 ≤ t) × (t ≤ length stood_in.old)) threads.now }
     ensures came { (t : ℕ) → Contains threads.now t → slice_get stood_in.new (t - 1) ≡ Some number }
-    ensures others { (t : ℕ) → 1 ≤ t → ¬ Contains threads.now t → slice_get stood_in.new (t - 1) ≡ slice_get stood_in.old (t - 1) }
+    ensures others { (t : ℕ) → 1 ≤ t → ¬ Contains threads.now t
+        → slice_get stood_in.new (t - 1) ≡ slice_get stood_in.old (t - 1) }
     ensures long { length stood_in.new ≡ length stood_in.old }
 {
     for place in 0..threads.len() {
@@ -131,7 +140,8 @@ fn move_between(
     requires second { into < length buckets.old }
     requires apart { from ≢ into }
     requires fits { Fits (bucket_at buckets.old from) (bucket_at buckets.old into) key.0 n }
-    ensures changes { MovesTo (bucket_at buckets.old from) (bucket_at buckets.new from) (bucket_at buckets.old into) (bucket_at buckets.new into) key.0 n to.0 result }
+    ensures changes { MovesTo (bucket_at buckets.old from) (bucket_at buckets.new from) (bucket_at buckets.old into)
+        (bucket_at buckets.new into) key.0 n to.0 result }
     ensures others { (i : ℕ) → i ≢ from → i ≢ into → bucket_at buckets.new i ≡ bucket_at buckets.old i }
     ensures long { length buckets.new ≡ length buckets.old }
     ensures left { IsOrderly (bucket_at buckets.new from) }
@@ -231,7 +241,8 @@ impl Kernel {
         moves: u32,
     ) -> Result<(Batch, Batch), Reply>
         ensures answer { RequeueAnswers (M.words memory.now) from to result }
-        ensures changes { MatchResult result (λ r. Requeues self.old self.new from wake to moves r.0 r.1) (λ _. self.new ≡ self.old) }
+        ensures changes { MatchResult result (λ r. Requeues self.old self.new from wake to moves r.0 r.1)
+            (λ _. self.new ≡ self.old) }
         ensures sound { IsKernel self.new }
     {
         // What a kernel always keeps is known once a field of it is read.
@@ -255,7 +266,8 @@ impl Kernel {
         moves: u32,
     ) -> Result<(Batch, Batch), Reply>
         ensures answer { CmpRequeueAnswers (M.words memory.now) from expected to result }
-        ensures changes { MatchResult result (λ r. Requeues self.old self.new from wake to moves r.0 r.1) (λ _. self.new ≡ self.old) }
+        ensures changes { MatchResult result (λ r. Requeues self.old self.new from wake to moves r.0 r.1)
+            (λ _. self.new ≡ self.old) }
         ensures sound { IsKernel self.new }
     {
         // The same, for where it is refused.
@@ -293,7 +305,9 @@ impl Kernel {
     /// cleared it; no queue changes. Refused with EFAULT where there is no such place, and then no word changes.
     pub(crate) fn trim_at<M: Memory>(&self, memory: &mut M, at: u64) -> Result<bool, Reply>
         ensures answer { TrimAnswers (M.words memory.old) at result }
-        ensures changes { MatchResult result (TrimsAt (M.words memory.old) (M.words memory.new) at (queue_of self.now at)) (λ _. M.words memory.new ≡ M.words memory.old) }
+        ensures changes { MatchResult result
+            (TrimsAt (M.words memory.old) (M.words memory.new) at (queue_of self.now at))
+            (λ _. M.words memory.new ≡ M.words memory.old) }
         ensures sound { IsKernel self.now }
     {
         if self.is_slept_on(at) {

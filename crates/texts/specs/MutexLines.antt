@@ -10,4 +10,5 @@ word_digits w = encode_lower (to_be_bytes w64 w)
 
 -- mutex NAME CELL OWNER and a space: its sleepers come then
 abbrev pub mutex_start : List ℕ → ℕ → List ℕ → List ℕ
-mutex_start name cell owner = concat (codes "mutex " ∷ name ∷ codes " " ∷ []) ++ (word_digits cell ++ concat (codes " " ∷ owner ∷ codes " " ∷ []))
+mutex_start name cell owner =
+    concat (codes "mutex " ∷ name ∷ codes " " ∷ []) ++ (word_digits cell ++ concat (codes " " ∷ owner ∷ codes " " ∷ []))

@@ -1,5 +1,6 @@
 -- The text that tells of real threads: the replies of each, then each mutex, and then each condition variable.
-use Rattle.std.specs.Prelude.{ℕ, zero, suc, Bool, List, [], ◌∷◌, ◌++◌, map, codes, decimal, slice_get, Option, Some, None, if◌then◌else◌}
+use Rattle.std.specs.Prelude.{ℕ, zero, suc, Bool, List, [], ◌∷◌, ◌++◌, map, codes}
+use Rattle.std.specs.Prelude.{decimal, slice_get, Option, Some, None, if◌then◌else◌}
 use Rattle.std.specs.List.{concat}
 use Rattle.lockword.specs.declared.reply.Reply.{Reply}
 use Rattle.lockword.specs.Replies.{reply_word}
@@ -21,7 +22,8 @@ ending died = if died then codes " dead\n" else codes "\n"
 
 -- replies NAME and what it was answered; ` dead` at the end if the thread died
 abbrev pub replies_line : ThreadReplies → List ℕ
-replies_line t = concat (codes "replies " ∷ t.name.now ∷ []) ++ (reply_texts t.replies.now ++ concat (ending t.died ∷ []))
+replies_line t =
+    concat (codes "replies " ∷ t.name.now ∷ []) ++ (reply_texts t.replies.now ++ concat (ending t.died ∷ []))
 
 abbrev pub name_in : Option ThreadReplies → List ℕ
 name_in None = codes "-"
@@ -34,7 +36,8 @@ owner_name threads (suc i) = name_in (slice_get threads i)
 
 -- mutex NAME CELL OWNER SLEEPERS: when all threads have ended nobody sleeps
 abbrev pub mutex_line : List ThreadReplies → MutexWord → List ℕ
-mutex_line threads m = mutex_start m.name.now m.cell (owner_name threads (fields_of m.cell).owner) ++ concat (codes "-\n" ∷ [])
+mutex_line threads m =
+    mutex_start m.name.now m.cell (owner_name threads (fields_of m.cell).owner) ++ concat (codes "-\n" ∷ [])
 
 -- cond NAME COUNTER SLEEPERS
 abbrev pub condition_line : ConditionWord → List ℕ

@@ -1,5 +1,6 @@
 -- The text of a table: how a run left each thread, each mutex and each condition variable.
-use Rattle.std.specs.Prelude.{ℕ, zero, suc, ◌==◌, Bool, false, List, [], ◌∷◌, ◌++◌, length, map, filter, drop, slice_get, codes, decimal, Option, Some, None, if◌then◌else◌}
+use Rattle.std.specs.Prelude.{ℕ, zero, suc, ◌==◌, Bool, false, List, [], ◌∷◌, ◌++◌, length, map, filter}
+use Rattle.std.specs.Prelude.{drop, slice_get, codes, decimal, Option, Some, None, if◌then◌else◌}
 use Rattle.std.specs.List.{concat, flat_map, last_or, join_by, range_with_len}
 use Rattle.lockword.specs.declared.reply.Reply.{Reply}
 use Rattle.lockword.specs.Replies.{reply_word}
@@ -60,7 +61,9 @@ reply_or_hyphen (Some x) = reply_word x
 abbrev pub thread_line : List (List ℕ) → State → List Note → ℕ → List ℕ
 thread_line names s ns t =
     concat (codes "thread " ∷ name_of names t ∷ codes " " ∷ [])
-    ++ concat (state_word s t (s.threads t).stage ∷ codes " " ∷ decimal (held_by s t) ∷ codes " " ∷ reply_or_hyphen (last_reply t ns) ∷ codes "\n" ∷ [])
+    ++ concat
+    (state_word s t (s.threads t).stage ∷ codes " " ∷ decimal (held_by s t) ∷ codes " "
+    ∷ reply_or_hyphen (last_reply t ns) ∷ codes "\n" ∷ [])
 
 -- ---- a mutex
 
@@ -82,7 +85,8 @@ others_names names ids = concat (map (comma_name names) (drop 1 ids))
 
 -- mutex NAME CELL OWNER SLEEPERS
 abbrev pub mutex_line : Scope → State → ℕ → List ℕ
-mutex_line sc s m = mutex_start (name_in (slice_get sc.mutexes m)) (s.words (cell_place s.layout m)) (owner_word sc.threads (seen s m).owner) ++ (queue_names sc.threads (sleepers s m) ++ concat (codes "\n" ∷ []))
+mutex_line sc s m = mutex_start (name_in (slice_get sc.mutexes m)) (s.words (cell_place s.layout m))
+    (owner_word sc.threads (seen s m).owner) ++ (queue_names sc.threads (sleepers s m) ++ concat (codes "\n" ∷ []))
 
 -- ---- a condition variable
 
@@ -93,7 +97,9 @@ condition_name sc k = name_in (slice_get (map (λ c. c.0) sc.conditions) k)
 -- cond NAME COUNTER SLEEPERS
 abbrev pub condition_line : Scope → State → ℕ → List ℕ
 condition_line sc s k =
-    concat (codes "cond " ∷ condition_name sc k ∷ codes " " ∷ decimal (s.words (counter_place s.layout k)) ∷ codes " " ∷ [])
+    concat
+    (codes "cond " ∷ condition_name sc k ∷ codes " " ∷ decimal (s.words (counter_place s.layout k)) ∷ codes " "
+    ∷ [])
     ++ (queue_names sc.threads (s.queues (counter_place s.layout k)) ++ concat (codes "\n" ∷ []))
 
 -- ---- a table

@@ -10,7 +10,8 @@ use Rattle.protocol.specs.declared.note.Note.{Note}
 use Rattle.facts.specs.declared.fact.Queue.{Queue}
 use Rattle.facts.specs.declared.fact.Queue.TheVariants.{Mutex, Condition}
 use Rattle.facts.specs.declared.fact.Fact.{Fact}
-use Rattle.facts.specs.declared.fact.Fact.TheVariants.{Begin, Point, Death, Sleep, Wake, Move, Return, Kill, Reap, Renew}
+use Rattle.facts.specs.declared.fact.Fact.TheVariants.{Begin, Point, Death, Sleep, Wake}
+use Rattle.facts.specs.declared.fact.Fact.TheVariants.{Move, Return, Kill, Reap, Renew}
 use Rattle.facts.specs.declared.fact.Line.{Line}
 use Rattle.protocol.specs.Notes.{line_of, lines_from}
 use Rattle.interleave.specs.declared.trace.Trace.{Trace}
@@ -19,15 +20,20 @@ use Rattle.interleave.specs.declared.trace.Trace.{Trace}
 
 -- trace T M C: how many threads, mutexes and condition variables there are
 abbrev pub head_line : ℕ → ℕ → ℕ → List ℕ
-head_line threads mutexes conditions = concat (codes "trace " ∷ decimal threads ∷ codes " " ∷ decimal mutexes ∷ codes " " ∷ decimal conditions ∷ codes "\n" ∷ [])
+head_line threads mutexes conditions = concat
+    (codes "trace " ∷ decimal threads ∷ codes " " ∷ decimal mutexes ∷ codes " " ∷ decimal conditions ∷ codes "\n" ∷ [])
 
 -- i begin tT OP mM: the thread began a call on the mutex
 abbrev pub begin_line : ℕ → ℕ → Operation → ℕ → List ℕ
-begin_line i t op m = concat (decimal i ∷ codes " begin t" ∷ decimal t ∷ codes " " ∷ operation_word op ∷ codes " m" ∷ decimal m ∷ codes "\n" ∷ [])
+begin_line i t op m = concat
+    (decimal i ∷ codes " begin t" ∷ decimal t ∷ codes " " ∷ operation_word op ∷ codes " m" ∷ decimal m ∷ codes "\n"
+    ∷ [])
 
 -- i begin tT OP cC mM: the thread began a call on the condition variable, with the mutex
 abbrev pub begin_on_line : ℕ → ℕ → Operation → ℕ → ℕ → List ℕ
-begin_on_line i t op k m = concat (decimal i ∷ codes " begin t" ∷ decimal t ∷ codes " " ∷ operation_word op ∷ codes " c" ∷ decimal k ∷ codes " m" ∷ decimal m ∷ codes "\n" ∷ [])
+begin_on_line i t op k m = concat
+    (decimal i ∷ codes " begin t" ∷ decimal t ∷ codes " " ∷ operation_word op ∷ codes " c" ∷ decimal k ∷ codes " m"
+    ∷ decimal m ∷ codes "\n" ∷ [])
 
 abbrev pub begin_line_of : ℕ → ℕ → Operation → Option ℕ → ℕ → List ℕ
 begin_line_of i t op None m = begin_line i t op m
@@ -35,7 +41,9 @@ begin_line_of i t op (Some k) m = begin_on_line i t op k m
 
 -- i point tT mM OP REPLY: the thread's operation on the mutex was decided
 abbrev pub point_line : ℕ → Decision → List ℕ
-point_line i d = concat (decimal i ∷ codes " point t" ∷ decimal d.thread ∷ codes " m" ∷ decimal d.mutex ∷ codes " " ∷ operation_word d.operation ∷ codes " " ∷ reply_word d.reply ∷ codes "\n" ∷ [])
+point_line i d = concat
+    (decimal i ∷ codes " point t" ∷ decimal d.thread ∷ codes " m" ∷ decimal d.mutex ∷ codes " "
+    ∷ operation_word d.operation ∷ codes " " ∷ reply_word d.reply ∷ codes "\n" ∷ [])
 
 -- i sleep tT mM: the thread fell asleep on the mutex
 abbrev pub sleep_line : ℕ → ℕ → ℕ → List ℕ
@@ -113,4 +121,5 @@ notes_text i notes = lines_text (lines_from i notes)
 
 -- the numbers of all things, then each event's lines, then the number of events
 abbrev pub trace_text : Trace → List ℕ
-trace_text t = head_line t.threads t.mutexes t.conditions ++ (concat (map line_text (lines_from 1 t.notes.items)) ++ end_line (length t.notes.items))
+trace_text t = head_line t.threads t.mutexes t.conditions
+    ++ (concat (map line_text (lines_from 1 t.notes.items)) ++ end_line (length t.notes.items))

@@ -3,7 +3,8 @@
 
 ghost use Rattle.std.specs.Prelude.{◌≡◌};
 ghost use Rattle.streams.specs.Leaves.{Leaves};
-ghost use Rattle.texts.specs.Replies.{reply_texts, ending, replies_line, owner_name, mutex_line, condition_line, threads_text, mutexes_text, conditions_text, objects_text, replies_text};
+ghost use Rattle.texts.specs.Replies.{reply_texts, ending, replies_line, owner_name, mutex_line, condition_line};
+ghost use Rattle.texts.specs.Replies.{threads_text, mutexes_text, conditions_text, objects_text, replies_text};
 
 use crate::mutex_start::write_mutex_start;
 use itoa::Buffer;
@@ -135,7 +136,8 @@ fn write_objects<W: Write>(
     mutexes: &[MutexWord<'_>],
     conditions: &[ConditionWord<'_>],
 ) -> io::Result<()>
-    ensures { Leaves (W.contents out.old) (W.contents out.new) result (objects_text threads.now mutexes.now conditions.now) }
+    ensures { Leaves (W.contents out.old) (W.contents out.new) result
+        (objects_text threads.now mutexes.now conditions.now) }
 {
     write_mutexes(out, threads, mutexes)?;
     write_conditions(out, conditions)
@@ -150,7 +152,8 @@ pub fn write_replies<W: Write>(
     conditions: &[ConditionWord<'_>],
     out: &mut W,
 ) -> io::Result<()>
-    ensures { Leaves (W.contents out.old) (W.contents out.new) result (replies_text threads.now mutexes.now conditions.now) }
+    ensures { Leaves (W.contents out.old) (W.contents out.new) result
+        (replies_text threads.now mutexes.now conditions.now) }
 {
     write_threads(out, threads)?;
     write_objects(out, threads, mutexes, conditions)

@@ -5,7 +5,10 @@ ghost use Rattle.std.specs.List.{concat, flat_map};
 ghost use Rattle.protocol.specs.Notes.{facts_of, return_facts};
 ghost use Rattle.interleave.specs.Shown.{state_of};
 ghost use Rattle.streams.specs.Leaves.{Leaves};
-ghost use Rattle.texts.specs.Tables.{name_in, name_of, state_word, held_by, told_to, last_reply, reply_or_hyphen, owner_word, others_names, queue_names, thread_line, mutex_line, condition_line, thread_lines, mutex_lines, condition_lines, object_lines, table_text};
+ghost use Rattle.texts.specs.Tables.{name_in, name_of, state_word, held_by, told_to, last_reply, reply_or_hyphen};
+ghost use Rattle.texts.specs.Tables.{owner_word, others_names, queue_names, thread_line, mutex_line};
+ghost use Rattle.texts.specs.Tables.{condition_line, thread_lines, mutex_lines, condition_lines, object_lines};
+ghost use Rattle.texts.specs.Tables.{table_text};
 
 use crate::mutex_start::write_mutex_start;
 use buckets::Batch;
@@ -117,7 +120,8 @@ fn write_thread<W: Write>(
     thread: Tid,
 ) -> io::Result<()>
     requires { thread ≤ machine.now.layout.threads }
-    ensures { Leaves (W.contents out.old) (W.contents out.new) result (thread_line script.now.threads (state_of machine.now) notes.now thread) }
+    ensures { Leaves (W.contents out.old) (W.contents out.new) result
+        (thread_line script.now.threads (state_of machine.now) notes.now thread) }
 {
     let mut digits = Buffer::new();
     put(out, &["thread ", name(script, thread), " "])?;
@@ -173,7 +177,8 @@ fn write_mutex<W: Write>(
 ) -> io::Result<()>
     requires known { mutex < machine.now.layout.mutexes }
     requires named { mutex < length script.now.mutexes }
-    ensures { Leaves (W.contents out.old) (W.contents out.new) result (mutex_line script.now (state_of machine.now) mutex) }
+    ensures { Leaves (W.contents out.old) (W.contents out.new) result
+        (mutex_line script.now (state_of machine.now) mutex) }
 {
     let place = machine.layout().cell(mutex);
     let cell = machine.word(place).unwrap();
@@ -190,7 +195,8 @@ fn write_threads<W: Write>(
     machine: &Machine,
 ) -> io::Result<()>
     requires { machine.now.layout.threads ≡ length script.now.threads }
-    ensures { Leaves (W.contents out.old) (W.contents out.new) result (thread_lines script.now (state_of machine.now) notes.now) }
+    ensures { Leaves (W.contents out.old) (W.contents out.new) result
+        (thread_lines script.now (state_of machine.now) notes.now) }
 {
     let threads = script.threads();
     for index in 0..threads {
@@ -219,7 +225,8 @@ fn write_condition<W: Write>(
 ) -> io::Result<()>
     requires known { condition < length machine.now.layout.conditions }
     requires named { condition < length script.now.conditions }
-    ensures { Leaves (W.contents out.old) (W.contents out.new) result (condition_line script.now (state_of machine.now) condition) }
+    ensures { Leaves (W.contents out.old) (W.contents out.new) result
+        (condition_line script.now (state_of machine.now) condition) }
 {
     let mut digits = Buffer::new();
     let place = machine.layout().counter(condition);
@@ -234,7 +241,8 @@ fn write_condition<W: Write>(
 
 fn write_conditions<W: Write>(out: &mut W, script: &Script, machine: &Machine) -> io::Result<()>
     requires { length machine.now.layout.conditions ≡ length script.now.conditions }
-    ensures { Leaves (W.contents out.old) (W.contents out.new) result (condition_lines script.now (state_of machine.now)) }
+    ensures { Leaves (W.contents out.old) (W.contents out.new) result
+        (condition_lines script.now (state_of machine.now)) }
 {
     for condition in 0..script.conditions() {
         write_condition(out, script, machine, condition)?;
@@ -264,7 +272,8 @@ pub fn write_table<W: Write>(
     requires threads { machine.now.layout.threads ≡ length script.now.threads }
     requires mutexes { machine.now.layout.mutexes ≡ length script.now.mutexes }
     requires conditions { length machine.now.layout.conditions ≡ length script.now.conditions }
-    ensures { Leaves (W.contents out.old) (W.contents out.new) result (table_text script.now (state_of machine.now) trace.now.notes.items) }
+    ensures { Leaves (W.contents out.old) (W.contents out.new) result
+        (table_text script.now (state_of machine.now) trace.now.notes.items) }
 {
     write_threads(out, script, &trace.notes, machine)?;
     write_objects(out, script, machine)

@@ -3,7 +3,8 @@
 ghost use Rattle.std.specs.Prelude.{codes, decimal, [], ◌∷◌};
 ghost use Rattle.std.specs.List.{concat};
 ghost use Rattle.streams.specs.Leaves.{Leaves};
-ghost use Rattle.texts.specs.Text.{head_line, begin_line_of, point_line, sleep_line_of, return_line, end_line, fact_text};
+ghost use Rattle.texts.specs.Text.{head_line, begin_line_of, point_line};
+ghost use Rattle.texts.specs.Text.{sleep_line_of, return_line, end_line, fact_text};
 
 use facts::{Begun, Fact, Queue};
 use lockword::{Reply, Tid};
@@ -37,7 +38,8 @@ pub fn write_head<W: Write>(
 
 /// `i WHAT tT`: what befell the thread. `what` ends with the `t`.
 fn write_alone<W: Write>(out: &mut W, event: usize, what: &str, thread: Tid) -> io::Result<()>
-    ensures { Leaves (W.contents out.old) (W.contents out.new) result (concat (decimal event ∷ what.now ∷ decimal thread ∷ codes "\n" ∷ [])) }
+    ensures { Leaves (W.contents out.old) (W.contents out.new) result
+        (concat (decimal event ∷ what.now ∷ decimal thread ∷ codes "\n" ∷ [])) }
 {
     put_pieces(
         out,
@@ -60,7 +62,8 @@ fn write_at<'a, W: Write>(
     of: &'a str,
     number: u16,
 ) -> io::Result<()>
-    ensures { Leaves (W.contents out.old) (W.contents out.new) result (concat (decimal event ∷ what.now ∷ decimal thread ∷ of.now ∷ decimal number ∷ codes "\n" ∷ [])) }
+    ensures { Leaves (W.contents out.old) (W.contents out.new) result
+        (concat (decimal event ∷ what.now ∷ decimal thread ∷ of.now ∷ decimal number ∷ codes "\n" ∷ [])) }
 {
     put_pieces(
         out,
@@ -77,7 +80,8 @@ fn write_at<'a, W: Write>(
 
 /// `i begin tT OP mM`, or `i begin tT OP cC mM` of a call on a condition variable: the thread began a call.
 fn write_begin<W: Write>(out: &mut W, event: usize, thread: Tid, call: Begun) -> io::Result<()>
-    ensures { Leaves (W.contents out.old) (W.contents out.new) result (begin_line_of event thread call.operation call.condition call.mutex) }
+    ensures { Leaves (W.contents out.old) (W.contents out.new) result
+        (begin_line_of event thread call.operation call.condition call.mutex) }
 {
     let event = Number(event as u64);
     let thread = Number(thread.get().into());

@@ -25,7 +25,8 @@ use Rattle.threadbench.specs.Conditions.{CondReplied, CondDies}
 -- thread has seen of the mutex. Of a wait that took its mutex again it is the second of two
 abbrev pub Replied : Layout' → Card → Op → Reply → Card → Type 0
 Replied k c (OnMutex (Lock m)) r d = Takes k m operation.Lock c r d
-Replied k c (OnMutex (TryLock m)) r d = Takes k m operation.TryLock c r d × (r ≡ XRACED → (c.misses + 4 ≤ d.misses) × OthersChanged 4 c (cell_place k m) d)
+Replied k c (OnMutex (TryLock m)) r d =
+    Takes k m operation.TryLock c r d × (r ≡ XRACED → (c.misses + 4 ≤ d.misses) × OthersChanged 4 c (cell_place k m) d)
 Replied k c (OnMutex (Unlock m)) r d = Called c (cell_place k m) ((operation.Unlock, r) ∷ []) d
 Replied k c (OnMutex (Consistent m)) r d = Called c (cell_place k m) ((operation.Consistent, r) ∷ []) d
 Replied k c (OnCondition call) r d = CondReplied k c call r d

@@ -43,7 +43,8 @@ RanOutDecided w m c x (outcome.Dead d) = IsDying w d × HasSeenTheSame (cell_pla
 
 -- wherever the call began, and whatever it was decided
 abbrev pub Runs : Words → Running → Outcome → Type 0
-Runs w r end = ((a : Pass Live) (call : Call) → IsUnderWay w a call r → RanOut w a call end) × ((m : ℕ) (c : Card) (x : Reply) → IsDecided w m c x r → RanOutDecided w m c x end)
+Runs w r end = ((a : Pass Live) (call : Call) → IsUnderWay w a call r → RanOut w a call end)
+    × ((m : ℕ) (c : Card) (x : Reply) → IsDecided w m c x r → RanOutDecided w m c x end)
 
 -- a call by the bench ended so, whose fate had said f times that the thread stops and has said it f' times now: the
 -- thread lives where the fate didn't say so, and dies where it did, or where the thread was killed

@@ -1,6 +1,7 @@
 -- What calls on condition variables answer that may sleep or wake (pthread_cond_wait(3p), pthread_cond_signal(3p),
 -- pthread_cond_broadcast(3p)).
-use Rattle.std.specs.Prelude.{ℕ, ◌≡◌, ◌≢◌, ◌%◌, ◌^◌, ◌⊎◌, true, Option, None, Some, Result, Ok, Err, List, [], ◌∷◌, ◌++◌}
+use Rattle.std.specs.Prelude.{ℕ, ◌≡◌, ◌≢◌, ◌%◌, ◌^◌, ◌⊎◌, true, Option, None}
+use Rattle.std.specs.Prelude.{Some, Result, Ok, Err, List, [], ◌∷◌, ◌++◌}
 use Rattle.lockword.specs.declared.reply.Reply.{Reply}
 use Rattle.lockword.specs.declared.reply.Reply.TheVariants.{OK}
 use Rattle.stepprograms.specs.declared.access.Access.{Access}
@@ -24,7 +25,8 @@ use Rattle.ruledwords.specs.declared.pass.Live.{Live}
 use Rattle.ruledwords.specs.declared.pass.Dead.{Dead}
 use Rattle.ruledwords.specs.Cards.{value_at}
 use Rattle.ruledwords.specs.ConditionCalls.{cond_call, cond_pass, IsCondTurnOf}
-use Rattle.ruledwords.specs.ConditionStands.{CondEnded, CondKeeps, DiesOn, HasDiedInCondition, IsCondUnderWay, LeftUsable}
+use Rattle.ruledwords.specs.ConditionStands.{CondEnded, CondKeeps, DiesOn}
+use Rattle.ruledwords.specs.ConditionStands.{HasDiedInCondition, IsCondUnderWay, LeftUsable}
 use Rattle.ruledwords.specs.Conditions.{condition_at}
 use Rattle.ruledwords.specs.Counts.{cell_at, mutex_at}
 use Rattle.ruledwords.specs.OwnWords.{owns_in}
@@ -102,7 +104,9 @@ IsMoveOf a e m = (from to : ℕ) × (a ≡ CmpRequeue from e 0 to m)
 
 -- the counter was found as the call's thread knew it, if it knew it
 abbrev pub FindsKnown : Layout' → CondRunning → CondRunning → Type 0
-FindsKnown k r r' = (x : ℕ) → value_at (card (cond_pass r)).values (counter_place k (condition_at k (cond_call r))) ≡ Some x → (card (cond_pass r')).last ≡ x
+FindsKnown k r r' = (x : ℕ)
+    → value_at (card (cond_pass r)).values (counter_place k (condition_at k (cond_call r))) ≡ Some x
+    → (card (cond_pass r')).last ≡ x
 
 -- a requeue within a bucket that saw the word n: where its low half is the expected one, at most m of the first threads
 -- of key k move to the end of key j's queue, and nobody is woken. Else nothing changes
@@ -114,7 +118,8 @@ MovesInside old new k n e j m None = (n % 2 ^ 32 ≢ e) × (new ≡ old)
 -- there
 abbrev pub MovesAcross : Sleepers → Sleepers → Sleepers → Sleepers → ℕ → ℕ → ℕ → ℕ → ℕ → Option (List ℕ) → Type 0
 MovesAcross old new other other' k n e j m (Some moved) = (n % 2 ^ 32 ≡ e) × MovesTo old new other other' k m j moved
-MovesAcross old new other other' k n e j m None = ((n % 2 ^ 32 ≢ e) ⊎ (¬ Fits old other k m)) × (new ≡ old) × (other' ≡ other)
+MovesAcross old new other other' k n e j m None =
+    ((n % 2 ^ 32 ≢ e) ⊎ (¬ Fits old other k m)) × (new ≡ old) × (other' ≡ other)
 
 -- a broadcast's move from key k's queue to the end of key j's, which may be in another bucket: where it is made, nobody
 -- is left on k, and those that stood there stand, in their order, behind those that stood on j

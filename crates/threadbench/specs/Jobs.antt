@@ -1,5 +1,6 @@
 -- Jobs and what came of them.
-use Rattle.std.specs.Prelude.{ℕ, ◌≡◌, ◌<◌, ◌≤◌, ◌+◌, ◌≢◌, ◌⊎◌, Bool, true, false, Option, None, Some, List, [], All, length, slice_get, take}
+use Rattle.std.specs.Prelude.{ℕ, ◌≡◌, ◌<◌, ◌≤◌, ◌+◌, ◌≢◌, ◌⊎◌, Bool, true, false, Option}
+use Rattle.std.specs.Prelude.{None, Some, List, [], All, length, slice_get, take}
 use Rattle.lockword.specs.declared.reply.Reply.{Reply}
 use Rattle.memorymap.specs.Layouts.{Layout'}
 use Rattle.condvar.specs.declared.op.Op.{Op}
@@ -35,17 +36,22 @@ pub record WasLost (k : Layout') (c : Card) (call : Op) (d : Card) : Type 0 wher
 -- calls are answered, or the gate may have refused the next. Or it died in the next call, which the gate doesn't surely
 -- refuse
 abbrev pub StopsAs : Words → (ℕ → Op → Option Bool) → List Op → ℕ → Card → WorkerPass → Type 0
-StopsAs w says calls n c (Lives p) = IsLive w p × (card p ≡ c) × ((n ≡ length calls) ⊎ ((call : Op) × (slice_get calls n ≡ Some call) × (says (n + 1) call ≢ Some true)))
-StopsAs w says calls n c (Reaped p) = IsPassOf w p × ((call : Op) × (slice_get calls n ≡ Some call) × (says (n + 1) call ≢ Some false) × WasLost (layout_of w) c call (card p))
+StopsAs w says calls n c (Lives p) = IsLive w p × (card p ≡ c)
+    × ((n ≡ length calls) ⊎ ((call : Op) × (slice_get calls n ≡ Some call) × (says (n + 1) call ≢ Some true)))
+StopsAs w says calls n c (Reaped p) = IsPassOf w p
+    × ((call : Op) × (slice_get calls n ≡ Some call) × (says (n + 1) call ≢ Some false)
+    × WasLost (layout_of w) c call (card p))
 
 -- the thread whose card was a made these calls up to one, in their order, and they were answered so: all calls, or
 -- those before the one that the gate may have refused or in which the thread died. Of none that was made does the gate
 -- surely say no. (It says so of a thread's call by its number, from 1, and by what is called.)
-pub record Worked (w : Words) (says : ℕ → ℕ → Op → Option Bool) (a : Card) (calls : List Op) (replies : List Reply) (pass : WorkerPass) : Type 0 where
+pub record Worked (w : Words) (says : ℕ → ℕ → Op → Option Bool) (a : Card) (calls : List Op) (replies : List Reply)
+    (pass : WorkerPass) : Type 0 where
   pub few : length replies ≤ length calls
   pub last : Card
   pub answered : Answered (layout_of w) a (take (length replies) calls) replies last
-  pub let_through : (i : ℕ) (call : Op) → i < length replies → slice_get calls i ≡ Some call → says a.thread (i + 1) call ≢ Some false
+  pub let_through : (i : ℕ) (call : Op) → i < length replies → slice_get calls i ≡ Some call
+      → says a.thread (i + 1) call ≢ Some false
   pub stops : StopsAs w (says a.thread) calls (length replies) last pass
 
 -- where a thread with a number lives, some of the number is left. Nothing is left where it died, by its number or by a
@@ -58,7 +64,8 @@ IsLeftOf (Some n) (Reaped p) left = left ≡ None
 -- what came of a job with this pass: the calls of a thread that lived were made and answered so. One that had died
 -- makes none
 abbrev pub IsDoneFrom : Words → (ℕ → ℕ → Op → Option Bool) → Job → WorkerPass → Record → Type 0
-IsDoneFrom w says j (Lives a) r = Worked w says (card a) j.calls.items r.replies.items r.pass × IsLeftOf j.die r.pass r.die
+IsDoneFrom w says j (Lives a) r =
+    Worked w says (card a) j.calls.items r.replies.items r.pass × IsLeftOf j.die r.pass r.die
 IsDoneFrom w says j (Reaped d) r = (r.pass ≡ Reaped d) × (r.replies.items ≡ []) × (r.die ≡ None)
 
 abbrev pub IsDone : Words → (ℕ → ℕ → Op → Option Bool) → Job → Record → Type 0

@@ -49,7 +49,8 @@ impl Model for Bench {
 
     ghost view = { λ b. b.words };
 
-    ghost invariant = { λ b. (length b.buckets.items ≡ 256) × AreNumbered b.buckets.items × (length b.notes.items ≡ 64) × AreNotes b.notes.items × (length b.parkers.items ≡ 64) × AreParkers b.parkers.items };
+    ghost invariant = { λ b. (length b.buckets.items ≡ 256) × AreNumbered b.buckets.items × (length b.notes.items ≡ 64)
+        × AreNotes b.notes.items × (length b.parkers.items ≡ 64) × AreParkers b.parkers.items };
 }
 
 impl Bench {
@@ -66,7 +67,8 @@ impl Bench {
         ensures presets { IfOk result (λ r. presets_of r.0 ≡ presets.now) }
         ensures passes { IfOk result (λ r. length r.1.items ≡ layout.threads) }
         ensures each { IfOk result (λ r. All (λ p. IsLive r.0 p) r.1.items) }
-        ensures cards { IfOk result (λ r. (i : ℕ) (p : _) → slice_get r.1.items i ≡ Some p → card p ≡ first_card layout presets.now (i + 1)) }
+        ensures cards { IfOk result
+            (λ r. (i : ℕ) (p : _) → slice_get r.1.items i ≡ Some p → card p ≡ first_card layout presets.now (i + 1)) }
     {
         let parkers = parkers(alloc)?;
         let buckets = buckets(alloc, layout.threads())?;
@@ -120,7 +122,9 @@ impl Bench {
             gate,
             |scope| -> Result<Vec<Record>, (Vec<Job>, NoMem)>
                 requires { All (IsJobOf shared.now.bench.now) jobs.items }
-                ensures done { IfOk result (λ rs. AreDone shared.entry.now.bench.now (G.says shared.entry.now.gate.now) jobs.entry.items rs.items) }
+                ensures done { IfOk result
+                    (λ rs. AreDone shared.entry.now.bench.now (G.says shared.entry.now.gate.now) jobs.entry.items
+                    rs.items) }
                 ensures refused { IfErr result (λ e. e.0.items ≡ jobs.entry.items) }
             { work_on(rt, alloc, scope, shared, &mut jobs) },
         )

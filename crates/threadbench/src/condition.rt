@@ -1,7 +1,8 @@
 //! Calls on condition variables.
 ghost use Rattle.std.specs.Prelude.{◌≡◌, ◌+◌, ◌<◌, ℕ, Ok, length};
 ghost use Rattle.condvar.specs.Calls.{condition_of};
-ghost use Rattle.condvar.specs.declared.call.CondCall.TheVariants.{Wait as WaitOf, Signal as SignalOf, Broadcast as BroadcastOf};
+ghost use Rattle.condvar.specs.declared.call.CondCall.TheVariants.{Wait as WaitOf};
+ghost use Rattle.condvar.specs.declared.call.CondCall.TheVariants.{Signal as SignalOf, Broadcast as BroadcastOf};
 ghost use Rattle.stepprograms.specs.declared.access.Access.TheVariants.{Wait as AtWait, Wake as AtWake};
 ghost use Rattle.ruledwords.specs.ConditionCalls.{cond_access_in, cond_place_at, CondUnmoved, IsCondRunningOf};
 ghost use Rattle.ruledwords.specs.Counts.{cell_at};
@@ -112,7 +113,8 @@ impl Bench {
         requires words { IsCondRunningOf self.now running }
         requires cell { IsCellOf self.now running cell.0 }
         ensures runs { CondRuns self.now running result }
-        ensures fate { Heeds (F.stopped fate.old) (F.stopped fate.new) (N.stopped note.old) (N.stopped note.new) (stops_in result) }
+        ensures fate { Heeds (F.stopped fate.old) (F.stopped fate.new) (N.stopped note.old) (N.stopped note.new)
+            (stops_in result) }
     {
         let mut running = running;
         for _ in rt.forever() {

@@ -2,7 +2,8 @@
 ghost use Rattle.std.specs.Prelude.{◌≡◌, ℕ};
 ghost use Rattle.buckets.specs.Queues.{IsOrderly, Takes};
 ghost use Rattle.stepprograms.specs.declared.access.Access.TheVariants.{Wake as AtWake};
-ghost use Rattle.ruledwords.specs.ConditionCalls.{cond_access_in, cond_call, cond_pass, cond_place_at, CondUnmoved, IsCondRunningOf};
+ghost use Rattle.ruledwords.specs.ConditionCalls.{cond_access_in, cond_call, cond_pass};
+ghost use Rattle.ruledwords.specs.ConditionCalls.{cond_place_at, CondUnmoved, IsCondRunningOf};
 ghost use Rattle.ruledwords.specs.Passes.{card, layout_of};
 ghost use Rattle.threadbench.specs.Conditions.{FindsKnown, IsCellOf, IsMoveOf, MovesAcross, MovesAll, MovesInside};
 
@@ -46,7 +47,8 @@ pub(crate) fn move_within_in(
     requires to { IsCellOf words.now running.old to.0 }
     ensures unmoved { CondUnmoved words.now running.old running.new }
     ensures known { FindsKnown (layout_of words.now) running.old running.new }
-    ensures moves { MovesInside bucket.old bucket.new key.0 (card (cond_pass running.new)).last expected to.0 moves result }
+    ensures moves { MovesInside bucket.old bucket.new key.0 (card (cond_pass running.new)).last expected to.0 moves
+        result }
     ensures all { MovesAll bucket.old bucket.new bucket.old bucket.new key.0 to.0 result }
 {
     // What a bucket always is, as that it has at most 64 sleepers, is known once it is asked for one.
@@ -76,7 +78,8 @@ pub(crate) fn move_to_in(
     requires to { IsCellOf words.now running.old to.0 }
     ensures unmoved { CondUnmoved words.now running.old running.new }
     ensures known { FindsKnown (layout_of words.now) running.old running.new }
-    ensures moves { MovesAcross bucket.old bucket.new other.old other.new key.0 (card (cond_pass running.new)).last expected to.0 moves result }
+    ensures moves { MovesAcross bucket.old bucket.new other.old other.new key.0 (card (cond_pass running.new)).last
+        expected to.0 moves result }
     ensures all { MovesAll bucket.old bucket.new other.old other.new key.0 to.0 result }
 {
     // As in `move_within_in`.

@@ -21,7 +21,8 @@ impl<'a, G> Drop for Promised<'a, G> {
 impl<'a, G: Gate> Promise<End<'a>> for Promised<'a, G> {
     ghost use Rattle.threadbench.specs.Ends.{HasEnded};
 
-    ghost kept_by = { λ p e. HasEnded p.phase.now.bench.now (G.says p.phase.now.gate.now) p.phase.now.begins.now.id p.job.value e };
+    ghost kept_by = { λ p e. HasEnded p.phase.now.bench.now (G.says p.phase.now.gate.now) p.phase.now.begins.now.id
+        p.job.value e };
 }
 
 /// A job in the hands of a thread, or of none.

@@ -50,7 +50,9 @@ impl Search {
     pub(crate) fn look(&mut self, held: &mut Held<'_>)
         requires few { self.old.looked < 256 }
         requires next { held.old.number ≡ self.old.looked }
-        ensures removes { (stood : _) × Removes (mutex_guard_value held.old.bucket) (mutex_guard_value held.new.bucket) self.old.killed.thread stood }
+        ensures removes { (stood : _)
+            × Removes (mutex_guard_value held.old.bucket) (mutex_guard_value held.new.bucket) self.old.killed.thread
+            stood }
         ensures orderly { IsOrderly (mutex_guard_value held.new.bucket) }
         ensures looked { self.new.looked ≡ self.old.looked + 1 }
         ensures same { self.new.killed ≡ self.old.killed }

@@ -7,13 +7,16 @@ ghost use Rattle.stepprograms.specs.declared.access.Access.TheVariants.{Wait as 
 ghost use Rattle.stepprograms.specs.declared.access.Answer.TheVariants.{Woken, Trimmed as AnsweredTrim};
 ghost use Rattle.ruledwords.specs.declared.pass.Words.{Words};
 ghost use Rattle.ruledwords.specs.Calls.{IsOnMutex};
-ghost use Rattle.ruledwords.specs.ConditionCalls.{cond_access_in, cond_call, cond_pass, cond_place_at, CondOnward, CondUnmoved, IsCondAnswerOf, IsCondRunningOf, IsCondTurnOf};
+ghost use Rattle.ruledwords.specs.ConditionCalls.{cond_access_in, cond_call, cond_pass, cond_place_at, CondOnward};
+ghost use Rattle.ruledwords.specs.ConditionCalls.{CondUnmoved, IsCondAnswerOf, IsCondRunningOf, IsCondTurnOf};
 ghost use Rattle.ruledwords.specs.ConditionStands.{CondKeeps};
 ghost use Rattle.ruledwords.specs.Deaths.{reaping_access, reaping_place};
 ghost use Rattle.ruledwords.specs.Passes.{card, layout_of};
-ghost use Rattle.ruledwords.specs.Turns.{access_in, place_at, running_call, running_pass, running_program, IsAnswerOf, IsRunningOf, IsTurnOf, Keeps, KeepsDecided, Onward, Unmoved};
+ghost use Rattle.ruledwords.specs.Turns.{access_in, place_at, running_call, running_pass, running_program};
+ghost use Rattle.ruledwords.specs.Turns.{IsAnswerOf, IsRunningOf, IsTurnOf, Keeps, KeepsDecided, Onward, Unmoved};
 ghost use Rattle.threadbench.specs.Conditions.{StaysCondIfStopped};
-ghost use Rattle.threadbench.specs.Sections.{FindsUnlessStopped, StaysIfStopped, TrimLeaves, TrimsNobodys, TrimsThere, Waits, WaitsUnlessStopped, WakesFirsts, stops_waiting};
+ghost use Rattle.threadbench.specs.Sections.{FindsUnlessStopped, StaysIfStopped, TrimLeaves, TrimsNobodys};
+ghost use Rattle.threadbench.specs.Sections.{TrimsThere, Waits, WaitsUnlessStopped, WakesFirsts, stops_waiting};
 
 use crate::note::{ByOthers, Killed, Spared, ask};
 use buckets::{Batch, Bucket};
@@ -92,8 +95,11 @@ pub(crate) fn wait_in<N: ByOthers>(
     requires wait { (at : ℕ) × (access_in running.old ≡ AtWait at expected) }
     requires key { key.0 ≡ place_at (layout_of words.now) running.old }
     ensures unmoved { Unmoved words.now running.old running.new }
-    ensures finds { (m : ℕ) → IsOnMutex (layout_of words.now) (running_program running.old) m → FindsUnlessStopped (card (running_pass running.old)) (cell_place (layout_of words.now) m) (card (running_pass running.new)).last result }
-    ensures waits { WaitsUnlessStopped bucket.old bucket.new (running_program running.old).thread key.0 (card (running_pass running.new)).last expected result }
+    ensures finds { (m : ℕ) → IsOnMutex (layout_of words.now) (running_program running.old) m
+        → FindsUnlessStopped (card (running_pass running.old)) (cell_place (layout_of words.now) m)
+        (card (running_pass running.new)).last result }
+    ensures waits { WaitsUnlessStopped bucket.old bucket.new (running_program running.old).thread key.0
+        (card (running_pass running.new)).last expected result }
     ensures untrimmed { (card (running_pass running.new)).trims ≡ (card (running_pass running.old)).trims }
     ensures stays { StaysIfStopped running.old running.new result }
     ensures note { N.stopped note.new ≡ N.stopped note.old + stops_waiting result }
@@ -126,7 +132,8 @@ pub(crate) fn wait_on_counter_in<N: ByOthers>(
     requires wait { (at : ℕ) × (cond_access_in running.old ≡ AtWait at expected) }
     requires key { key.0 ≡ cond_place_at (layout_of words.now) running.old }
     ensures unmoved { CondUnmoved words.now running.old running.new }
-    ensures waits { WaitsUnlessStopped bucket.old bucket.new (card (cond_pass running.old)).thread key.0 (card (cond_pass running.new)).last expected result }
+    ensures waits { WaitsUnlessStopped bucket.old bucket.new (card (cond_pass running.old)).thread key.0
+        (card (cond_pass running.new)).last expected result }
     ensures untrimmed { (card (cond_pass running.new)).trims ≡ (card (cond_pass running.old)).trims }
     ensures stays { StaysCondIfStopped running.old running.new result }
     ensures note { N.stopped note.new ≡ N.stopped note.old + stops_waiting result }
@@ -227,9 +234,13 @@ pub(crate) fn trim_in(bucket: &Bucket, running: &mut Running, words: &Words, key
     requires trim { (at : ℕ) × (access_in running.old ≡ AtTrim at) }
     requires key { key.0 ≡ place_at (layout_of words.now) running.old }
     ensures unmoved { Unmoved words.now running.old running.new }
-    ensures trims { TrimsThere (queue bucket.now key.0) (card (running_pass running.old)) (card (running_pass running.new)) result.cleared }
-    ensures nobodys { TrimsNobodys (queue bucket.now key.0) (card (running_pass running.old)) (card (running_pass running.new)) result.cleared }
-    ensures leaves { (m : ℕ) → IsOnMutex (layout_of words.now) (running_program running.old) m → TrimLeaves (queue bucket.now key.0) (card (running_pass running.old)) (cell_place (layout_of words.now) m) (card (running_pass running.new)) }
+    ensures trims { TrimsThere (queue bucket.now key.0) (card (running_pass running.old))
+        (card (running_pass running.new)) result.cleared }
+    ensures nobodys { TrimsNobodys (queue bucket.now key.0) (card (running_pass running.old))
+        (card (running_pass running.new)) result.cleared }
+    ensures leaves { (m : ℕ) → IsOnMutex (layout_of words.now) (running_program running.old) m
+        → TrimLeaves (queue bucket.now key.0) (card (running_pass running.old)) (cell_place (layout_of words.now) m)
+        (card (running_pass running.new)) }
 {
     if bucket.count(key) != 0 {
         return Trimmed { cleared: false };

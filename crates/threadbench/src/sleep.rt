@@ -70,7 +70,8 @@ impl Bench {
     ) -> Outcome
         requires { IsOwedOf self.now owed }
         ensures paid { Paid self.now owed result }
-        ensures fate { Heeds (F.stopped fate.old) (F.stopped fate.new) (N.stopped note.old) (N.stopped note.new) (stops_in result) }
+        ensures fate { Heeds (F.stopped fate.old) (F.stopped fate.new) (N.stopped note.old) (N.stopped note.new)
+            (stops_in result) }
     {
         if owed.wakes() != Wakes::Nobody {
             return self.run_on(rt, Running::owed(owed), fate, note);
@@ -111,7 +112,8 @@ impl Bench {
     ) -> Outcome
         requires { IsRunningOf self.now running }
         ensures runs { Runs self.now running result }
-        ensures fate { Heeds (F.stopped fate.old) (F.stopped fate.new) (N.stopped note.old) (N.stopped note.new) (stops_in result) }
+        ensures fate { Heeds (F.stopped fate.old) (F.stopped fate.new) (N.stopped note.old) (N.stopped note.new)
+            (stops_in result) }
     {
         match running.stretch(&self.words, fate, note) {
             Stretch::Goes(next) => self.run_on(rt, next, fate, note),
@@ -132,7 +134,8 @@ impl Bench {
     ) -> Outcome
         requires { IsRunningOf self.now running }
         ensures runs { Runs self.now running result }
-        ensures fate { Heeds (F.stopped fate.old) (F.stopped fate.new) (N.stopped note.old) (N.stopped note.new) (stops_in result) }
+        ensures fate { Heeds (F.stopped fate.old) (F.stopped fate.new) (N.stopped note.old) (N.stopped note.new)
+            (stops_in result) }
     {
         let mut running = running;
         for _ in rt.forever() {
@@ -155,7 +158,8 @@ impl Bench {
     ) -> Stretch
         requires { IsRunningOf self.now running }
         ensures stretches { Stretches self.now running result }
-        ensures fate { Heeds (F.stopped fate.old) (F.stopped fate.new) (N.stopped note.old) (N.stopped note.new) (stops_stretching result) }
+        ensures fate { Heeds (F.stopped fate.old) (F.stopped fate.new) (N.stopped note.old) (N.stopped note.new)
+            (stops_stretching result) }
     {
         match running.more(&self.words, fate, note) {
             Stretch::Goes(next) => self.heeded_turn(rt, next, fate, note),
@@ -174,7 +178,8 @@ impl Bench {
     ) -> Stretch
         requires { IsRunningOf self.now running }
         ensures stretches { Stretches self.now running result }
-        ensures fate { Heeds (F.stopped fate.old) (F.stopped fate.new) (N.stopped note.old) (N.stopped note.new) (stops_stretching result) }
+        ensures fate { Heeds (F.stopped fate.old) (F.stopped fate.new) (N.stopped note.old) (N.stopped note.new)
+            (stops_stretching result) }
     {
         if either_stops(fate, note) {
             return Stretch::Dead(running.die());

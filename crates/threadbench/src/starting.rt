@@ -64,7 +64,8 @@ fn start<'a, E, R: Threads + Wait + Sync, G: Gate + Sync>(
     let mut post = Post::Manned(worker);
     let run = move || -> End<'_>
         requires { IsMannedFor phase.now.bench.now post }
-        ensures { HasLeft phase.entry.now.bench.now (G.says phase.entry.now.gate.now) phase.entry.now.begins.now.id post.entry result }
+        ensures { HasLeft phase.entry.now.bench.now (G.says phase.entry.now.gate.now) phase.entry.now.begins.now.id
+            post.entry result }
     { post.run(rt, phase) };
     match spawn(rt, phase.gate, scope, promised, run) {
         Ok(handle) => Ok(handle),

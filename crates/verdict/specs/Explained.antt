@@ -1,6 +1,7 @@
 -- What a legal trace means: its points and deaths are one legal history, which explains what its threads were told
 -- (POSIX robust mutexes).
-use Rattle.std.specs.Prelude.{ℕ, ◌≡◌, ◌≢◌, ◌+◌, ◌<◌, ◌≤◌, ◌==◌, ◌&&◌, Bool, true, false, Option, Some, None, List, [], ◌∷◌, ◌++◌, reverse, if◌then◌else◌}
+use Rattle.std.specs.Prelude.{ℕ, ◌≡◌, ◌≢◌, ◌+◌, ◌<◌, ◌≤◌, ◌==◌, ◌&&◌, Bool, true, false}
+use Rattle.std.specs.Prelude.{Option, Some, None, List, [], ◌∷◌, ◌++◌, reverse, if◌then◌else◌}
 use Rattle.posixmutex.specs.declared.object.Object.{Object}
 use Rattle.posixmutex.specs.declared.point.Decision.{Decision}
 use Rattle.posixmutex.specs.Histories.{Legal, opening}
@@ -99,5 +100,6 @@ pub record Explains (n : ℕ) (told : List Line) : Type 0 where
   -- nobody sleeps but in a call, until it is woken or killed
   pub sleeps : (t : ℕ) → Alternates Idle (told_of t (reverse told))
   -- at each kill, until the thread lives anew
-  pub deaths_told : (newer earlier : List Line) (i t : ℕ) → told ≡ newer ++ (record { event = i; fact = Kill t }) ∷ earlier →
+  pub deaths_told : (newer earlier : List Line) (i t : ℕ)
+      → told ≡ newer ++ (record { event = i; fact = Kill t }) ∷ earlier →
       (held : ℕ → Object) × Legal n opening (decisions (reverse earlier)) held × Buries t n held (in_this_life t newer)

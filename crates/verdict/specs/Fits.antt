@@ -6,7 +6,8 @@ use Rattle.posixmutex.specs.Objects.{Does}
 use Rattle.posixmutex.specs.Histories.{held_by}
 use Rattle.facts.specs.declared.fact.Begun.{Begun}
 use Rattle.facts.specs.declared.fact.Fact.{Fact}
-use Rattle.facts.specs.declared.fact.Fact.TheVariants.{Begin, Kill, Point, Death, Sleep, Wake, Move, Return, Reap, Renew}
+use Rattle.facts.specs.declared.fact.Fact.TheVariants.{Begin, Kill, Point, Death, Sleep}
+use Rattle.facts.specs.declared.fact.Fact.TheVariants.{Wake, Move, Return, Reap, Renew}
 use Rattle.facts.specs.declared.fact.Line.{Line}
 use Rattle.facts.specs.Lives.{Complete, Beginning}
 use Rattle.facts.specs.Facts.{thread_of, decision_of}
@@ -17,12 +18,15 @@ use Rattle.verdict.specs.Earlier.{told_of, call_in, points_in, is_asleep, is_kil
 abbrev pub FitsThread : List Fact → Fact → Type 0
 FitsThread fs (Begin t c) = (call_in fs ≡ None) × (is_killed fs ≡ false)
 FitsThread fs (Kill t) = is_killed fs ≡ false
-FitsThread fs (Point d) = (is_asleep fs ≡ false) × ((k : Begun) × (call_in fs ≡ Some k) × (d.mutex ≡ k.mutex) × Beginning k.operation (points_in fs ++ (d.operation, d.reply) ∷ []))
+FitsThread fs (Point d) = (is_asleep fs ≡ false)
+    × ((k : Begun) × (call_in fs ≡ Some k) × (d.mutex ≡ k.mutex)
+    × Beginning k.operation (points_in fs ++ (d.operation, d.reply) ∷ []))
 FitsThread fs (Death t m) = (is_killed fs ≡ true) × (is_reaped fs ≡ false)
 FitsThread fs (Sleep t q) = (is_asleep fs ≡ false) × ((k : Begun) × (call_in fs ≡ Some k))
 FitsThread fs (Wake t) = is_asleep fs ≡ true
 FitsThread fs (Move t m) = is_asleep fs ≡ true
-FitsThread fs (Return t x) = (is_asleep fs ≡ false) × ((k : Begun) × (call_in fs ≡ Some k) × Complete k.operation (points_in fs) x)
+FitsThread fs (Return t x) =
+    (is_asleep fs ≡ false) × ((k : Begun) × (call_in fs ≡ Some k) × Complete k.operation (points_in fs) x)
 FitsThread fs (Reap t) = (is_killed fs ≡ true) × (is_reaped fs ≡ false)
 FitsThread fs (Renew t) = is_reaped fs ≡ true
 

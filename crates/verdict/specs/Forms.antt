@@ -6,7 +6,8 @@ use Rattle.lockword.specs.Replies.{reply_of}
 use Rattle.lines.specs.Numbers.{is_number, within}
 use Rattle.lines.specs.Lines.{words_of}
 use Rattle.posixmutex.specs.declared.point.Operation.{Operation}
-use Rattle.posixmutex.specs.declared.point.Operation.TheVariants.{Lock, TryLock, Unlock, Consistent, Wait, Signal, Broadcast, Death, Reinit}
+use Rattle.posixmutex.specs.declared.point.Operation.TheVariants.{Lock, TryLock, Unlock, Consistent, Wait}
+use Rattle.posixmutex.specs.declared.point.Operation.TheVariants.{Signal, Broadcast, Death, Reinit}
 use Rattle.posixmutex.specs.Words.{operation_of}
 use Rattle.verdict.specs.declared.form.Said.{Said}
 use Rattle.verdict.specs.declared.form.Said.TheVariants as said
@@ -72,7 +73,11 @@ call_operation w = operation_of w >>= of_call
 -- `trace T M C`
 abbrev pub head_form : List (List ℕ) → Option HeadForm
 head_form (w ∷ t ∷ m ∷ c ∷ []) = if bytes_eq w (codes "trace")
-    then (number_of t >>= λ threads. number_of m >>= λ mutexes. number_of c >>= λ conditions. Some (record { threads = threads; mutexes = mutexes; conditions = conditions }))
+    then
+    (number_of t >>= λ threads.
+    number_of m >>= λ mutexes.
+    number_of c >>= λ conditions.
+    Some (record { threads = threads; mutexes = mutexes; conditions = conditions }))
     else None
 head_form _ = None
 
@@ -108,16 +113,23 @@ object_form e w t o = number_of e >>= λ i. thread_word t >>= λ u. object_said 
 
 -- `i begin tT OP mM`
 abbrev pub begin_form : List ℕ → List ℕ → List ℕ → List ℕ → List ℕ → Option Form
-begin_form e w t a m = number_of e >>= λ i. thread_word t >>= λ u. mutex_operation a >>= λ operation. mutex_word m >>= λ mutex.
+begin_form e w t a m =
+    number_of e >>= λ i. thread_word t >>= λ u. mutex_operation a >>= λ operation. mutex_word m >>= λ mutex.
     if bytes_eq w (codes "begin") then Some (Told i (said.Begin u operation mutex)) else None
 
 -- `begin tT OP cC mM`
 abbrev pub begin_on_said : Option ℕ → List ℕ → List ℕ → List ℕ → Option Said
-begin_on_said u a c m = condition_operation a >>= λ operation. condition_word c >>= λ condition. mutex_word m >>= λ mutex. Some (said.BeginOn u operation condition mutex)
+begin_on_said u a c m = condition_operation a >>= λ operation.
+    condition_word c >>= λ condition.
+    mutex_word m >>= λ mutex.
+    Some (said.BeginOn u operation condition mutex)
 
 -- `point tT mM OP REPLY`
 abbrev pub point_said : Option ℕ → List ℕ → List ℕ → List ℕ → Option Said
-point_said u m a x = mutex_word m >>= λ mutex. call_operation a >>= λ operation. reply_of x >>= λ reply. Some (said.Point u mutex operation reply)
+point_said u m a x = mutex_word m >>= λ mutex.
+    call_operation a >>= λ operation.
+    reply_of x >>= λ reply.
+    Some (said.Point u mutex operation reply)
 
 abbrev pub many_form : List ℕ → List ℕ → List ℕ → List ℕ → List ℕ → List ℕ → Option Form
 many_form e w t a b c = number_of e >>= λ i. thread_word t >>= λ u.

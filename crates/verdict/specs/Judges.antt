@@ -1,5 +1,6 @@
 -- What the checker keeps of the lines so far.
-use Rattle.std.specs.Prelude.{ℕ, ◌≡◌, ◌+◌, ◌<◌, ◌≤◌, ◌⊎◌, Bool, true, false, List, length, slice_index_or, slice_index, slice_set}
+use Rattle.std.specs.Prelude.{ℕ, ◌≡◌, ◌+◌, ◌<◌, ◌≤◌, ◌⊎◌, Bool, true, false, List}
+use Rattle.std.specs.Prelude.{length, slice_index_or, slice_index, slice_set}
 use Rattle.posixmutex.specs.declared.object.Object.{Object}
 use Rattle.posixmutex.specs.Objects.{fresh}
 use Rattle.posixmutex.specs.Histories.{held_by}
@@ -67,13 +68,15 @@ abbrev pub Rejects : Misfit → Judge → Line → Type 0
 Rejects m j e =
     Clashes m j.place e
     ⊎ (Stands j.place e × (Forbids m (stage_at j.stages.items (thread_of e.fact)) e.fact
-    ⊎ (May (stage_at j.stages.items (thread_of e.fact)) e.fact × (Refuses m (length j.objects.items) (object_at j.objects.items) (decision_of e.fact)
+    ⊎ (May (stage_at j.stages.items (thread_of e.fact)) e.fact
+    × (Refuses m (length j.objects.items) (object_at j.objects.items) (decision_of e.fact)
     ⊎ OwnsSome m (length j.objects.items) (object_at j.objects.items) e.fact))))
 
 -- an entry that does is kept
 pub record Moves (j : Judge) (e : Line) (k : Judge) : Type 0 where
   pub place : k.place ≡ placed j.place e
-  pub stages : k.stages.items ≡ slice_set j.stages.items (thread_of e.fact) (next (stage_at j.stages.items (thread_of e.fact)) e.fact)
+  pub stages : k.stages.items
+      ≡ slice_set j.stages.items (thread_of e.fact) (next (stage_at j.stages.items (thread_of e.fact)) e.fact)
   pub objects : object_at k.objects.items ≡ moved (object_at j.objects.items) (decision_of e.fact)
 
 -- before the first line behind the head

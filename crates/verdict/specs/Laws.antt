@@ -13,9 +13,11 @@ use Rattle.verdict.specs.Explained.{decisions, Buries, Explains}
 -- and n is the number of mutexes
 pub record LivesOnce (n : ℕ) (told : List Line) : Type 0 where
   pub one_life : (t : ℕ) → Life t (own t (reverse told))
-  pub deaths_told : (newer earlier : List Line) (i t : ℕ) → told ≡ newer ++ (record { event = i; fact = Kill t }) ∷ earlier →
+  pub deaths_told : (newer earlier : List Line) (i t : ℕ)
+      → told ≡ newer ++ (record { event = i; fact = Kill t }) ∷ earlier →
       (held : ℕ → Object) × Legal n opening (decisions (reverse earlier)) held × Buries t n held newer
 
 -- lines that explain themselves, of which none tells that a thread lives anew
 abbrev pub WithoutRenewalsAsBefore : Type 0
-WithoutRenewalsAsBefore = (n : ℕ) (told : List Line) → Explains n told → Each (λ e. is_renewal e.fact ≡ false) told → LivesOnce n told
+WithoutRenewalsAsBefore =
+    (n : ℕ) (told : List Line) → Explains n told → Each (λ e. is_renewal e.fact ≡ false) told → LivesOnce n told

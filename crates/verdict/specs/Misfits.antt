@@ -15,7 +15,11 @@ use Rattle.facts.specs.Lives.{Complete, Beginning}
 use Rattle.facts.specs.Facts.{thread_of, decision_of, decides, is_passive, is_kill, is_renewal}
 use Rattle.facts.specs.Orders.{Later, Each}
 use Rattle.verdict.specs.declared.misfit.Misfit.{Misfit}
-use Rattle.verdict.specs.declared.misfit.Misfit.TheVariants.{EventFalls, AnothersEvent, EventDecided, KillShares, EventKilled, InCall, NoCall, Asleep, Awake, Killed, NotReaped, Reaped, Alive, OtherMutex, OtherOperation, ReleaseRefused, Released, Decided, Undecided, OtherReply, NotAllowed, AtLimit, NotOwner, StillOwns}
+use Rattle.verdict.specs.declared.misfit.Misfit.TheVariants.{EventFalls, AnothersEvent, EventDecided, KillShares}
+use Rattle.verdict.specs.declared.misfit.Misfit.TheVariants.{EventKilled, InCall, NoCall, Asleep, Awake, Killed}
+use Rattle.verdict.specs.declared.misfit.Misfit.TheVariants.{NotReaped, Reaped, Alive, OtherMutex, OtherOperation}
+use Rattle.verdict.specs.declared.misfit.Misfit.TheVariants.{ReleaseRefused, Released, Decided, Undecided}
+use Rattle.verdict.specs.declared.misfit.Misfit.TheVariants.{OtherReply, NotAllowed, AtLimit, NotOwner, StillOwns}
 use Rattle.verdict.specs.Earlier.{told_of, call_in, points_in, is_asleep, is_killed, is_reaped, objects_after, latest}
 use Rattle.verdict.specs.Fits.{FitsThread, Allows, OwnsNothing}
 
@@ -34,7 +38,8 @@ IsDoneBy t f = (is_passive f ≡ false) × (thread_of f ≡ t)
 -- kill: EventKilled is of the one, KillShares of the other
 abbrev pub IsOutOfOrder : Misfit → List Line → Line → Type 0
 IsOutOfOrder (EventFalls i) earlier e = (i ≡ latest earlier) × (e.event < i)
-IsOutOfOrder (AnothersEvent t) earlier e = Told (IsDoneBy t) e.event earlier × (is_passive e.fact ≡ false) × (thread_of e.fact ≢ t)
+IsOutOfOrder (AnothersEvent t) earlier e =
+    Told (IsDoneBy t) e.event earlier × (is_passive e.fact ≡ false) × (thread_of e.fact ≢ t)
 IsOutOfOrder EventDecided earlier e = Told (λ f. decides f ≡ true) e.event earlier × (decides e.fact ≡ true)
 IsOutOfOrder KillShares earlier e = Told (λ f. is_kill f ≡ false) e.event earlier × (is_kill e.fact ≡ true)
 IsOutOfOrder EventKilled earlier e = Told (λ f. is_kill f ≡ true) e.event earlier
@@ -82,13 +87,18 @@ IsOutOfLife NotReaped fs f = (is_renewal f ≡ true) × IsEnded fs × (is_reaped
 IsOutOfLife Reaped fs f = (is_renewal f ≡ false) × IsEnded fs × (is_reaped fs ≡ true)
 IsOutOfLife Alive fs f = (needs_kill f ≡ true) × (is_killed fs ≡ false) × (is_reaped fs ≡ false)
 IsOutOfLife (OtherMutex m) fs (Point d) = (c : Begun) × IsAwakeIn fs c × (m ≡ c.mutex) × (d.mutex ≢ m)
-IsOutOfLife (OtherOperation op) fs (Point d) = (c : Begun) × IsAwakeIn fs c × (op ≡ c.operation) × (points_in fs ≡ []) × ((x : Reply) → Beginning op ((d.operation, x) ∷ []) → ⊥)
-IsOutOfLife ReleaseRefused fs (Point d) = (c : Begun) × IsAwakeIn fs c × (c.operation ≡ operation.Wait) × (points_in fs ≡ []) × (d.operation ≡ operation.Unlock) × (d.reply ≢ OK)
-IsOutOfLife Released fs (Point d) = (c : Begun) × IsAwakeIn fs c × (c.operation ≡ operation.Wait) × (points_in fs ≡ (operation.Unlock, OK) ∷ []) × (d.operation ≢ operation.Lock)
-IsOutOfLife Released fs (Return t x) = (c : Begun) × IsAwakeIn fs c × (c.operation ≡ operation.Wait) × (points_in fs ≡ (operation.Unlock, OK) ∷ [])
+IsOutOfLife (OtherOperation op) fs (Point d) = (c : Begun) × IsAwakeIn fs c × (op ≡ c.operation) × (points_in fs ≡ [])
+    × ((x : Reply) → Beginning op ((d.operation, x) ∷ []) → ⊥)
+IsOutOfLife ReleaseRefused fs (Point d) = (c : Begun) × IsAwakeIn fs c × (c.operation ≡ operation.Wait)
+    × (points_in fs ≡ []) × (d.operation ≡ operation.Unlock) × (d.reply ≢ OK)
+IsOutOfLife Released fs (Point d) = (c : Begun) × IsAwakeIn fs c × (c.operation ≡ operation.Wait)
+    × (points_in fs ≡ (operation.Unlock, OK) ∷ []) × (d.operation ≢ operation.Lock)
+IsOutOfLife Released fs (Return t x) =
+    (c : Begun) × IsAwakeIn fs c × (c.operation ≡ operation.Wait) × (points_in fs ≡ (operation.Unlock, OK) ∷ [])
 IsOutOfLife (Decided x) fs (Point d) = (c : Begun) × IsAwakeIn fs c × Complete c.operation (points_in fs) x
 IsOutOfLife Undecided fs (Return t x) = (c : Begun) × IsAwakeIn fs c × (points_in fs ≡ [])
-IsOutOfLife (OtherReply y) fs (Return t x) = (c : Begun) × IsAwakeIn fs c × Complete c.operation (points_in fs) y × (x ≢ y)
+IsOutOfLife (OtherReply y) fs (Return t x) =
+    (c : Begun) × IsAwakeIn fs c × Complete c.operation (points_in fs) y × (x ≢ y)
 IsOutOfLife m fs f = ⊥
 
 -- ---- the mutexes
@@ -96,7 +106,8 @@ IsOutOfLife m fs f = ⊥
 -- the mutex's object doesn't allow the step of a thread that owns so many mutexes: it is a lock or trylock of a thread
 -- that owns as many as it may, a death of one that isn't the owner, or neither. A death replies OK
 abbrev pub RefusesStep : Misfit → ℕ → Object → Decision → Type 0
-RefusesStep (NotAllowed p x) held o d = (p ≡ o) × (x ≡ d.reply) × (acquires d.operation ≡ true → held < held_limit) × (d.operation ≡ operation.Death → x ≢ OK) × ((new : Object) → Permits o d.thread d.operation x new → ⊥)
+RefusesStep (NotAllowed p x) held o d = (p ≡ o) × (x ≡ d.reply) × (acquires d.operation ≡ true → held < held_limit)
+    × (d.operation ≡ operation.Death → x ≢ OK) × ((new : Object) → Permits o d.thread d.operation x new → ⊥)
 RefusesStep (AtLimit k) held o d = (k ≡ held) × (held_limit ≤ held) × (acquires d.operation ≡ true) × (d.reply ≢ XHELD)
 RefusesStep (NotOwner p) held o d = (p ≡ o) × (d.operation ≡ operation.Death) × (o.owner ≢ Some d.thread)
 RefusesStep m held o d = ⊥
@@ -117,6 +128,10 @@ OwnsSome m n os f = ⊥
 abbrev pub IsMisfit : Misfit → ℕ → List Line → Line → Type 0
 IsMisfit m n earlier e =
     (IsOutOfOrder m earlier e × (Each (λ a. Later a e) earlier → ⊥))
-    ⊎ ((Each (λ a. Later a e) earlier × IsOutOfLife m (told_of (thread_of e.fact) earlier) e.fact × (FitsThread (told_of (thread_of e.fact) earlier) e.fact → ⊥))
-    ⊎ ((Each (λ a. Later a e) earlier × FitsThread (told_of (thread_of e.fact) earlier) e.fact × Refuses m n (objects_after earlier) (decision_of e.fact) × (Allows n (objects_after earlier) (decision_of e.fact) → ⊥))
-    ⊎ (Each (λ a. Later a e) earlier × FitsThread (told_of (thread_of e.fact) earlier) e.fact × OwnsSome m n (objects_after earlier) e.fact × (OwnsNothing n (objects_after earlier) e.fact → ⊥))))
+    ⊎ ((Each (λ a. Later a e) earlier × IsOutOfLife m (told_of (thread_of e.fact) earlier) e.fact
+    × (FitsThread (told_of (thread_of e.fact) earlier) e.fact → ⊥))
+    ⊎ ((Each (λ a. Later a e) earlier × FitsThread (told_of (thread_of e.fact) earlier) e.fact
+    × Refuses m n (objects_after earlier) (decision_of e.fact)
+    × (Allows n (objects_after earlier) (decision_of e.fact) → ⊥))
+    ⊎ (Each (λ a. Later a e) earlier × FitsThread (told_of (thread_of e.fact) earlier) e.fact
+    × OwnsSome m n (objects_after earlier) e.fact × (OwnsNothing n (objects_after earlier) e.fact → ⊥))))

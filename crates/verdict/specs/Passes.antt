@@ -1,5 +1,6 @@
 -- How a pass over the lines goes on.
-use Rattle.std.specs.Prelude.{ℕ, ◌≡◌, ◌+◌, ◌⊎◌, Bool, Option, Some, None, MatchOption, Result, Ok, Err, IsOk, if◌then◌else◌}
+use Rattle.std.specs.Prelude.{ℕ, ◌≡◌, ◌+◌, ◌⊎◌, Bool, Option, Some, None}
+use Rattle.std.specs.Prelude.{MatchOption, Result, Ok, Err, IsOk, if◌then◌else◌}
 use Rattle.facts.specs.declared.fact.Line.{Line}
 use Rattle.verdict.specs.declared.checking.Pass.{Pass}
 use Rattle.verdict.specs.declared.checking.Finding.{Finding}
@@ -23,7 +24,8 @@ misfit_at n m = record { line = n; misfit = m }
 -- the entry at line n is kept and counted, or it is the first that isn't accepted
 abbrev pub Decides : Pass → ℕ → Line → Pass → Type 0
 Decides p n e q =
-    (Accepts p.judge e × Moves p.judge e q.judge × (q.illegal ≡ None) × (q.points ≡ (if is_point e.fact then 1 + p.points else p.points)))
+    (Accepts p.judge e × Moves p.judge e q.judge × (q.illegal ≡ None)
+    × (q.points ≡ (if is_point e.fact then 1 + p.points else p.points)))
     ⊎ ((m : Misfit) × Rejects m p.judge e × (q.illegal ≡ Some (misfit_at n m)))
 
 -- behind such an entry nothing is judged

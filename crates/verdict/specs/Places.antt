@@ -1,11 +1,13 @@
 -- What the checker keeps of the newest event.
-use Rattle.std.specs.Prelude.{ℕ, ◌≡◌, ◌≢◌, ◌<◌, ◌==◌, ◌⊎◌, Bool, true, false, ◌&&◌, ◌||◌, Option, Some, None, if◌then◌else◌}
+use Rattle.std.specs.Prelude.{ℕ, ◌≡◌, ◌≢◌, ◌<◌, ◌==◌, ◌⊎◌, Bool, true, false}
+use Rattle.std.specs.Prelude.{◌&&◌, ◌||◌, Option, Some, None, if◌then◌else◌}
 use Rattle.facts.specs.declared.fact.Fact.{Fact}
 use Rattle.facts.specs.declared.fact.Line.{Line}
 use Rattle.verdict.specs.declared.place.Place.{Place}
 use Rattle.facts.specs.Facts.{thread_of, decides, is_passive, is_kill}
 use Rattle.verdict.specs.declared.misfit.Misfit.{Misfit}
-use Rattle.verdict.specs.declared.misfit.Misfit.TheVariants.{EventFalls, AnothersEvent, EventDecided, KillShares, EventKilled}
+use Rattle.verdict.specs.declared.misfit.Misfit.TheVariants.{EventFalls, AnothersEvent}
+use Rattle.verdict.specs.declared.misfit.Misfit.TheVariants.{EventDecided, KillShares, EventKilled}
 
 -- before the first line
 abbrev pub nowhere : Place

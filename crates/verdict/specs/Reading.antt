@@ -1,5 +1,6 @@
 -- What a trace says, and its first fault: each line in turn.
-use Rattle.std.specs.Prelude.{ℕ, ◌+◌, ◌≤◌, nat_lt, List, [], ◌∷◌, length, Option, Some, None, Result, Ok, Err, if◌then◌else◌}
+use Rattle.std.specs.Prelude.{ℕ, ◌+◌, ◌≤◌, nat_lt, List, [], ◌∷◌, length, Option}
+use Rattle.std.specs.Prelude.{Some, None, Result, Ok, Err, if◌then◌else◌}
 use Rattle.std.specs.Option.{ok_or}
 use Rattle.std.specs.Str.{is_utf8}
 use Rattle.lines.specs.Numbers.{within}
@@ -53,7 +54,9 @@ abbrev pub below_in : ℕ → Option ℕ → Option ℕ
 below_in count n = n >>? below count
 
 abbrev pub head_in : HeadForm → Option Head
-head_in f = number_in 1 max_threads f.threads >>? λ t. number_in 1 max_mutexes f.mutexes >>? λ m. number_in 0 max_conditions f.conditions >>? λ c. Some (record { threads = t; mutexes = m; conditions = c })
+head_in f = number_in 1 max_threads f.threads >>?
+    λ t. number_in 1 max_mutexes f.mutexes >>?
+    λ m. number_in 0 max_conditions f.conditions >>? λ c. Some (record { threads = t; mutexes = m; conditions = c })
 
 abbrev pub thread_in : Head → Option ℕ → Option ℕ
 thread_in h n = number_in 1 h.threads n
@@ -62,13 +65,17 @@ thread_in h n = number_in 1 h.threads n
 
 -- threads are numbered from 1, mutexes and condition variables from 0
 abbrev pub begin_in : Head → Option ℕ → Operation → Option ℕ → Option Fact
-begin_in h t op m = thread_in h t >>? λ u. below_in h.mutexes m >>? λ n. Some (fact.Begin u (record { operation = op; mutex = n; condition = None }))
+begin_in h t op m = thread_in h t >>?
+    λ u. below_in h.mutexes m >>? λ n. Some (fact.Begin u (record { operation = op; mutex = n; condition = None }))
 
 abbrev pub begin_on_in : Head → Option ℕ → Operation → Option ℕ → Option ℕ → Option Fact
-begin_on_in h t op k m = thread_in h t >>? λ u. below_in h.conditions k >>? λ c. below_in h.mutexes m >>? λ n. Some (fact.Begin u (record { operation = op; mutex = n; condition = Some c }))
+begin_on_in h t op k m = thread_in h t >>?
+    λ u. below_in h.conditions k >>?
+    λ c. below_in h.mutexes m >>? λ n. Some (fact.Begin u (record { operation = op; mutex = n; condition = Some c }))
 
 abbrev pub point_in : Head → Option ℕ → Option ℕ → Operation → Reply → Option Fact
-point_in h t m op x = thread_in h t >>? λ u. below_in h.mutexes m >>? λ n. Some (fact.Point (record { thread = u; mutex = n; operation = op; reply = x }))
+point_in h t m op x = thread_in h t >>?
+    λ u. below_in h.mutexes m >>? λ n. Some (fact.Point (record { thread = u; mutex = n; operation = op; reply = x }))
 
 abbrev pub death_in : Head → Option ℕ → Option ℕ → Option Fact
 death_in h t m = thread_in h t >>? λ u. below_in h.mutexes m >>? λ n. Some (fact.Death u n)
@@ -97,7 +104,8 @@ fact_in h (said.Reap t) = thread_in h t >>? λ u. Some (fact.Reap u)
 fact_in h (said.Renew t) = thread_in h t >>? λ u. Some (fact.Renew u)
 
 abbrev pub line_in : Head → Form → Option Read
-line_in h (form.Told n s) = number_in 1 max_events n >>? λ i. fact_in h s >>? λ f. Some (read.Told (record { event = i; fact = f }))
+line_in h (form.Told n s) =
+    number_in 1 max_events n >>? λ i. fact_in h s >>? λ f. Some (read.Told (record { event = i; fact = f }))
 line_in h (form.End n) = n >>? λ i. Some (read.End i)
 
 -- ---- line after line
@@ -129,7 +137,8 @@ ended n h told i ([] ∷ []) = Ok (record { head = h; told = told; last = i })
 ended n h told i _ = Err (fault_at n Cut)
 
 -- what follows a line: the lines behind it, the first of which is line n
-abbrev pub goes_on : ℕ → Head → List Line → List (List ℕ) → (Line → Result Trace TraceFault) → Read → Result Trace TraceFault
+abbrev pub goes_on : ℕ → Head → List Line → List (List ℕ) → (Line → Result Trace TraceFault) → Read
+    → Result Trace TraceFault
 goes_on n h told ls more (read.Told e) = more e
 goes_on n h told ls more (read.End i) = ended n h told i ls
 
@@ -138,7 +147,8 @@ goes_on n h told ls more (read.End i) = ended n h told i ls
 unfoldable pub lines_read : ℕ → Head → List Line → List (List ℕ) → Result Trace TraceFault
 lines_read n h told [] = Err (fault_at n Cut)
 lines_read n h told (text ∷ []) = Err (fault_at n (unended text))
-lines_read n h told (text ∷ next ∷ more) = met_at n (line_read h text) >>= goes_on (n + 1) h told (next ∷ more) (λ e. lines_read (n + 1) h (e ∷ told) (next ∷ more))
+lines_read n h told (text ∷ next ∷ more) = met_at n (line_read h text)
+    >>= goes_on (n + 1) h told (next ∷ more) (λ e. lines_read (n + 1) h (e ∷ told) (next ∷ more))
 
 -- a text from its first line to its last
 abbrev pub text_read : List (List ℕ) → Result Trace TraceFault

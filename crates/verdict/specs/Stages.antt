@@ -5,7 +5,8 @@ use Rattle.lockword.specs.declared.reply.Reply.TheVariants.{OK}
 use Rattle.posixmutex.specs.declared.point.Operation.{Operation}
 use Rattle.posixmutex.specs.declared.point.Operation.TheVariants.{Lock, Unlock, Wait}
 use Rattle.facts.specs.declared.fact.Fact.{Fact}
-use Rattle.facts.specs.declared.fact.Fact.TheVariants.{Begin, Kill, Point, Death, Sleep, Wake, Move, Return, Reap, Renew}
+use Rattle.facts.specs.declared.fact.Fact.TheVariants.{Begin, Kill, Point, Death, Sleep}
+use Rattle.facts.specs.declared.fact.Fact.TheVariants.{Wake, Move, Return, Reap, Renew}
 use Rattle.verdict.specs.declared.stage.Made.{Made}
 use Rattle.verdict.specs.declared.stage.Made.TheVariants.{Nothing, Released, Decided}
 use Rattle.verdict.specs.declared.stage.Stage.{Stage}
@@ -41,7 +42,8 @@ abbrev pub May : Stage → Fact → Type 0
 May Resting (Begin t c) = Unit {0}
 May Resting (Kill t) = Unit {0}
 May (Calling c made asleep) (Kill t) = Unit {0}
-May (Calling c made asleep) (Point d) = (asleep ≡ false) × (d.mutex ≡ c.mutex) × MayPoint c.operation made d.operation d.reply
+May (Calling c made asleep) (Point d) =
+    (asleep ≡ false) × (d.mutex ≡ c.mutex) × MayPoint c.operation made d.operation d.reply
 May (Calling c made asleep) (Sleep t q) = asleep ≡ false
 May (Calling c made asleep) (Wake t) = asleep ≡ true
 May (Calling c made asleep) (Move t m) = asleep ≡ true
@@ -67,7 +69,8 @@ Forbids (misfit.OtherMutex n) (Calling c made asleep) (Point d) = (asleep ≡ fa
 Forbids misfit.Undecided (Calling c made asleep) (Return t x) = (asleep ≡ false) × (made ≡ Nothing)
 Forbids misfit.Released (Calling c made asleep) (Return t x) = (asleep ≡ false) × (made ≡ Released)
 Forbids (misfit.OtherReply y) (Calling c made asleep) (Return t x) = (asleep ≡ false) × (made ≡ Decided y) × (x ≢ y)
-Forbids m (Calling c made asleep) (Point d) = (asleep ≡ false) × (d.mutex ≡ c.mutex) × ForbidsPoint m c.operation made d.operation d.reply
+Forbids m (Calling c made asleep) (Point d) =
+    (asleep ≡ false) × (d.mutex ≡ c.mutex) × ForbidsPoint m c.operation made d.operation d.reply
 Forbids m stage f = ⊥
 
 -- and where it leaves the thread

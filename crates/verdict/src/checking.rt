@@ -83,7 +83,8 @@ impl Pass {
     /// Judges the entry at this line, unless a line before it didn't fit.
     fn take(&mut self, line: usize, entry: &Line)
         requires sound { IsSound self.old.judge }
-        requires inside { IsInside (length self.old.judge.stages.items) (length self.old.judge.objects.items) entry.now.fact }
+        requires inside { IsInside (length self.old.judge.stages.items) (length self.old.judge.objects.items)
+            entry.now.fact }
         requires room { self.old.points < max_bytes }
         ensures takes { Takes self.old line entry.now self.new }
         ensures sound { IsSound self.new.judge }
@@ -106,7 +107,9 @@ impl Pass {
 
     /// What is found at the last line, which has this number of events.
     fn finding(&self, line: usize, last: u32) -> Finding
-        ensures { result ≡ found_at self.now.illegal self.now.points line self.now.judge.place.event (nat_lt last self.now.judge.place.event) }
+        ensures { result
+            ≡ found_at self.now.illegal self.now.points line self.now.judge.place.event
+            (nat_lt last self.now.judge.place.event) }
     {
         let latest = self.judge.place.event;
         match self.illegal {

@@ -1,7 +1,9 @@
 //! The kinds of line of a trace.
 
 ghost use Rattle.std.specs.Prelude.{◌≡◌, [], ◌∷◌};
-ghost use Rattle.verdict.specs.Forms.{call_operation, condition_operation, end_form, form_of, head_form, mark_form, mutex_operation, object_said, object_form, point_said, begin_on_said, begin_form, many_form, sleep_said};
+ghost use Rattle.verdict.specs.Forms.{call_operation, condition_operation, end_form, form_of};
+ghost use Rattle.verdict.specs.Forms.{head_form, mark_form, mutex_operation, object_said, object_form};
+ghost use Rattle.verdict.specs.Forms.{point_said, begin_on_said, begin_form, many_form, sleep_said};
 ghost use Rattle.posixmutex.specs.Words.{operation_of};
 ghost use Rattle.lockword.specs.Replies.{reply_of};
 ghost use Rattle.lines.specs.Lines.{words_of};

@@ -58,7 +58,8 @@ fn is_owner(thread: Tid, object: &Object) -> bool
 /// The first of the mutexes that the thread owns.
 fn first_owned(objects: &[Object], thread: Tid) -> Option<u16>
     requires { length objects.now ≤ 4096 }
-    ensures { MatchOption result (OwnsNothing (length objects.now) (object_at objects.now) (Fact.Reap thread)) (λ m. OwnsSome (Misfit.StillOwns m) (length objects.now) (object_at objects.now) (Fact.Reap thread)) }
+    ensures { MatchOption result (OwnsNothing (length objects.now) (object_at objects.now) (Fact.Reap thread))
+        (λ m. OwnsSome (Misfit.StillOwns m) (length objects.now) (object_at objects.now) (Fact.Reap thread)) }
 {
     for (mutex, object) in objects.iter().enumerate() {
         if is_owner(thread, object) {
@@ -99,9 +100,12 @@ fn decide(objects: &mut Vec<Object>, held: &mut Vec<u16>, decision: &Decision) -
     requires thread { decision.now.thread < length held.old.items }
     requires few { length objects.old.items ≤ 4096 }
     requires counted { AreCounted held.old.items objects.old.items }
-    ensures allowed { IfOk result (λ _. Allows (length objects.old.items) (object_at objects.old.items) (Some decision.now)) }
-    ensures refused { IfErr result (λ m. Refuses m (length objects.old.items) (object_at objects.old.items) (Some decision.now)) }
-    ensures moved { IfOk result (λ _. object_at objects.new.items ≡ moved (object_at objects.old.items) (Some decision.now)) }
+    ensures allowed { IfOk result
+        (λ _. Allows (length objects.old.items) (object_at objects.old.items) (Some decision.now)) }
+    ensures refused { IfErr result
+        (λ m. Refuses m (length objects.old.items) (object_at objects.old.items) (Some decision.now)) }
+    ensures moved { IfOk result
+        (λ _. object_at objects.new.items ≡ moved (object_at objects.old.items) (Some decision.now)) }
     ensures counted { AreCounted held.new.items objects.new.items }
     ensures objects { length objects.new.items ≡ length objects.old.items }
     ensures held { length held.new.items ≡ length held.old.items }
@@ -126,9 +130,14 @@ fn change(objects: &mut Vec<Object>, held: &mut Vec<u16>, fact: &Fact) -> Result
     requires inside { IsInside (length held.old.items) (length objects.old.items) fact.now }
     requires few { length objects.old.items ≤ 4096 }
     requires counted { AreCounted held.old.items objects.old.items }
-    ensures allowed { IfOk result (λ _. Allows (length objects.old.items) (object_at objects.old.items) (decision_of fact.now) × OwnsNothing (length objects.old.items) (object_at objects.old.items) fact.now) }
-    ensures refused { IfErr result (λ m. Refuses m (length objects.old.items) (object_at objects.old.items) (decision_of fact.now) ⊎ OwnsSome m (length objects.old.items) (object_at objects.old.items) fact.now) }
-    ensures moved { IfOk result (λ _. object_at objects.new.items ≡ moved (object_at objects.old.items) (decision_of fact.now)) }
+    ensures allowed { IfOk result
+        (λ _. Allows (length objects.old.items) (object_at objects.old.items) (decision_of fact.now)
+        × OwnsNothing (length objects.old.items) (object_at objects.old.items) fact.now) }
+    ensures refused { IfErr result
+        (λ m. Refuses m (length objects.old.items) (object_at objects.old.items) (decision_of fact.now)
+        ⊎ OwnsSome m (length objects.old.items) (object_at objects.old.items) fact.now) }
+    ensures moved { IfOk result
+        (λ _. object_at objects.new.items ≡ moved (object_at objects.old.items) (decision_of fact.now)) }
     ensures counted { AreCounted held.new.items objects.new.items }
     ensures objects { length objects.new.items ≡ length objects.old.items }
     ensures held { length held.new.items ≡ length held.old.items }

@@ -1,6 +1,7 @@
 //! How far the lines of a trace have come in the newest event.
 ghost use Rattle.std.specs.Prelude.{◌≡◌, MatchResult};
-ghost use Rattle.verdict.specs.Places.{Admits, Clashes, ClashesHere, IsAnothers, Shares, Stands, caller, nowhere, placed};
+ghost use Rattle.verdict.specs.Places.{Admits, Clashes, ClashesHere, IsAnothers};
+ghost use Rattle.verdict.specs.Places.{Shares, Stands, caller, nowhere, placed};
 
 use crate::misfit::Misfit;
 use facts::{Fact, Line};
@@ -64,7 +65,8 @@ impl Place {
 
     /// That the fact may be of the newest event by its thread; or why not.
     fn admits(&self, fact: &Fact) -> Result<(), Misfit>
-        ensures { MatchResult result (λ _. Admits self.now.thread fact.now) (λ m. IsAnothers m self.now.thread fact.now) }
+        ensures { MatchResult result (λ _. Admits self.now.thread fact.now)
+            (λ m. IsAnothers m self.now.thread fact.now) }
     {
         if fact.is_passive() {
             return Ok(());

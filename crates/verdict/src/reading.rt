@@ -3,7 +3,9 @@
 ghost use Rattle.std.specs.Prelude.{◌≡◌, ◌+◌, ◌<◌, ◌≤◌, IfOk, IfSome};
 ghost use Rattle.verdict.specs.Limits.{max_threads};
 ghost use Rattle.verdict.specs.Judges.{IsInside, IsRead};
-ghost use Rattle.verdict.specs.Reading.{IsHead, begin_in, begin_on_in, below_in, death_in, fact_in, head_in, head_read, line_in, line_read, move_in, number_in, point_in, sleep_in, sleep_on_in, thread_in};
+ghost use Rattle.verdict.specs.Reading.{IsHead, begin_in, begin_on_in, below_in, death_in};
+ghost use Rattle.verdict.specs.Reading.{fact_in, head_in, head_read, line_in, line_read, move_in};
+ghost use Rattle.verdict.specs.Reading.{number_in, point_in, sleep_in, sleep_on_in, thread_in};
 
 use crate::fault::Fault;
 use crate::form::{Form, HeadForm, Said, Spelled, read_form, read_head};

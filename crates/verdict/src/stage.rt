@@ -31,7 +31,9 @@ pub enum Stage {
 
 /// How far its first point brings a call.
 fn begun(call: Operation, operation: Operation, reply: Reply) -> Result<Made, Misfit>
-    ensures { MatchResult result (λ after. MayPoint call Made.Nothing operation reply × (after ≡ pointed call operation reply)) (λ m. ForbidsPoint m call Made.Nothing operation reply) }
+    ensures { MatchResult result
+        (λ after. MayPoint call Made.Nothing operation reply × (after ≡ pointed call operation reply))
+        (λ m. ForbidsPoint m call Made.Nothing operation reply) }
 {
     match call {
         Operation::Wait => match operation {
@@ -57,7 +59,8 @@ fn begun(call: Operation, operation: Operation, reply: Reply) -> Result<Made, Mi
 
 /// How far a point brings a call of which these are made.
 fn made_by(call: Operation, made: Made, operation: Operation, reply: Reply) -> Result<Made, Misfit>
-    ensures { MatchResult result (λ after. MayPoint call made operation reply × (after ≡ pointed call operation reply)) (λ m. ForbidsPoint m call made operation reply) }
+    ensures { MatchResult result (λ after. MayPoint call made operation reply × (after ≡ pointed call operation reply))
+        (λ m. ForbidsPoint m call made operation reply) }
 {
     match made {
         Made::Nothing => begun(call, operation, reply),
@@ -75,7 +78,8 @@ fn made_by(call: Operation, made: Made, operation: Operation, reply: Reply) -> R
 impl Stage {
     /// Where a fact leaves the thread, or why it may not be told of it.
     pub fn after(self, fact: &Fact) -> Result<Stage, Misfit>
-        ensures { MatchResult result (λ after. May self fact.now × (after ≡ next self fact.now)) (λ m. Forbids m self fact.now) }
+        ensures { MatchResult result (λ after. May self fact.now × (after ≡ next self fact.now))
+            (λ m. Forbids m self fact.now) }
     {
         match self {
             Stage::Resting => resting(fact),
@@ -96,7 +100,8 @@ impl Stage {
 
 /// The same of a thread in no call.
 fn resting(fact: &Fact) -> Result<Stage, Misfit>
-    ensures { MatchResult result (λ after. May Stage.Resting fact.now × (after ≡ next Stage.Resting fact.now)) (λ m. Forbids m Stage.Resting fact.now) }
+    ensures { MatchResult result (λ after. May Stage.Resting fact.now × (after ≡ next Stage.Resting fact.now))
+        (λ m. Forbids m Stage.Resting fact.now) }
 {
     match *fact {
         Fact::Begin(_, call) => Ok(Stage::Calling(call, Made::Nothing, false)),
@@ -109,7 +114,10 @@ fn resting(fact: &Fact) -> Result<Stage, Misfit>
 
 /// The same of a thread in a call.
 fn called(call: Begun, made: Made, asleep: bool, fact: &Fact) -> Result<Stage, Misfit>
-    ensures { MatchResult result (λ after. May (Stage.Calling call made asleep) fact.now × (after ≡ next (Stage.Calling call made asleep) fact.now)) (λ m. Forbids m (Stage.Calling call made asleep) fact.now) }
+    ensures { MatchResult result
+        (λ after. May (Stage.Calling call made asleep) fact.now
+        × (after ≡ next (Stage.Calling call made asleep) fact.now))
+        (λ m. Forbids m (Stage.Calling call made asleep) fact.now) }
 {
     if asleep {
         sleeping(call, made, fact)
@@ -120,7 +128,9 @@ fn called(call: Begun, made: Made, asleep: bool, fact: &Fact) -> Result<Stage, M
 
 /// The same of a thread asleep in a call.
 fn sleeping(call: Begun, made: Made, fact: &Fact) -> Result<Stage, Misfit>
-    ensures { MatchResult result (λ after. May (Stage.Calling call made true) fact.now × (after ≡ next (Stage.Calling call made true) fact.now)) (λ m. Forbids m (Stage.Calling call made true) fact.now) }
+    ensures { MatchResult result
+        (λ after. May (Stage.Calling call made true) fact.now × (after ≡ next (Stage.Calling call made true) fact.now))
+        (λ m. Forbids m (Stage.Calling call made true) fact.now) }
 {
     match *fact {
         Fact::Begin(..) => Err(Misfit::InCall { call }),
@@ -134,7 +144,10 @@ fn sleeping(call: Begun, made: Made, fact: &Fact) -> Result<Stage, Misfit>
 
 /// The same of a thread awake in a call.
 fn awake(call: Begun, made: Made, fact: &Fact) -> Result<Stage, Misfit>
-    ensures { MatchResult result (λ after. May (Stage.Calling call made false) fact.now × (after ≡ next (Stage.Calling call made false) fact.now)) (λ m. Forbids m (Stage.Calling call made false) fact.now) }
+    ensures { MatchResult result
+        (λ after. May (Stage.Calling call made false) fact.now
+        × (after ≡ next (Stage.Calling call made false) fact.now))
+        (λ m. Forbids m (Stage.Calling call made false) fact.now) }
 {
     match *fact {
         Fact::Begin(..) => Err(Misfit::InCall { call }),

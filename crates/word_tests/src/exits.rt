@@ -28,7 +28,8 @@ fn die(words: &Words, pass: Pass<Live>) -> Pass<Dead>
 /// One access of the walk. Nobody sleeps, so a wake wakes nobody.
 fn step(words: &Words, reaping: Reaping) -> Walked
     requires { IsReapingOf words.now reaping }
-    ensures { (c : Card) → HasWalked (layout_of words.now) c (card (reaping_pass reaping)) → WalksOn words.now c result }
+    ensures { (c : Card) → HasWalked (layout_of words.now) c (card (reaping_pass reaping))
+        → WalksOn words.now c result }
 {
     match reaping.next() {
         Access::Wake { .. } => reaping.answer(Answer::Count(0)),
