@@ -13,7 +13,7 @@ use Rattle.wording.specs.declared.wrong.Wrong.{Wrong}
 use Rattle.wording.specs.Nexts.{after, is_over}
 use Rattle.wording.specs.Wrongs.{Awaits, CanGoOn, IsFirstWrong, ends_at, first_of, offset_of, met, wrong_at, wrong_in, wrong_last}
 use Rattle.wording.proofs.Running.{ends, finish, finishes, run, run-append}
-use Rattle.wording.proofs.Laws.{lines_are_run}
+use Rattle.wording.proofs.AllKinds.{lines_are_run}
 
 -- ---- what can go on
 

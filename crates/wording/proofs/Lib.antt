@@ -3,8 +3,9 @@ pub mod Words
 pub mod Fitting
 pub mod Scripts
 pub mod Traces
-pub mod Laws
+pub mod AllKinds
 pub mod Scanning
 pub mod Firsts
 pub mod Told
 pub mod Nearness
+pub mod Listed

@@ -6,7 +6,7 @@ use Rattle.lines.specs.Lines.{words_of}
 use Rattle.wording.specs.declared.wrong.Kind.{Kind}
 use Rattle.wording.specs.declared.wrong.Wrong.{Wrong}
 use Rattle.wording.specs.Wrongs.{Awaits, IsFirstWrong, ends_at, first_of, is_line, offset_of, wrong_in}
-use Rattle.wording.proofs.Laws.{lines_are_run}
+use Rattle.wording.proofs.AllKinds.{lines_are_run}
 use Rattle.wording.proofs.Scanning.{some_word}
 use Rattle.wording.proofs.Firsts.{Found, awaits, first, found, right, unended}
 

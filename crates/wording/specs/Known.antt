@@ -1,6 +1,7 @@
 -- The words that may stand at a place.
 use Rattle.std.specs.Prelude.{ℕ, List, [], ◌∷◌, map, codes}
-use Rattle.posixmutex.specs.declared.point.Operation.TheVariants.{Lock, TryLock, Unlock, Consistent, Wait, Signal, Broadcast, Reinit}
+use Rattle.posixmutex.specs.declared.point.Operation.TheVariants.{Lock, TryLock, Unlock, Consistent}
+use Rattle.posixmutex.specs.declared.point.Operation.TheVariants.{Wait, Signal, Broadcast, Reinit}
 use Rattle.posixmutex.specs.Words.{operation_word}
 use Rattle.lockword.specs.Replies.{all_replies, reply_word}
 use Rattle.script.specs.declared.command.Mode.{Mode}
@@ -21,12 +22,16 @@ reply_words = map reply_word all_replies
 
 -- of a script's lines, those first that scripts of both modes have
 abbrev pub keywords : Mode → List (List ℕ)
-keywords Run = codes "process" ∷ codes "thread" ∷ codes "mutex" ∷ codes "mutexes" ∷ codes "cond" ∷ codes "call" ∷ codes "begin" ∷ codes "step" ∷ codes "kill" ∷ codes "killall" ∷ codes "renew" ∷ codes "reinit" ∷ codes "leave" ∷ codes "decline" ∷ codes "go" ∷ codes "locks" ∷ []
-keywords Threads = codes "process" ∷ codes "thread" ∷ codes "mutex" ∷ codes "mutexes" ∷ codes "cond" ∷ codes "call" ∷ codes "phase" ∷ codes "die" ∷ []
+keywords Run = codes "process" ∷ codes "thread" ∷ codes "mutex" ∷ codes "mutexes" ∷ codes "cond" ∷ codes "call"
+    ∷ codes "begin" ∷ codes "step" ∷ codes "kill" ∷ codes "killall" ∷ codes "renew" ∷ codes "reinit" ∷ codes "leave"
+    ∷ codes "decline" ∷ codes "go" ∷ codes "locks" ∷ []
+keywords Threads = codes "process" ∷ codes "thread" ∷ codes "mutex" ∷ codes "mutexes" ∷ codes "cond" ∷ codes "call"
+    ∷ codes "phase" ∷ codes "die" ∷ []
 
 -- of what events do
 abbrev pub deeds : List (List ℕ)
-deeds = codes "begin" ∷ codes "kill" ∷ codes "point" ∷ codes "death" ∷ codes "sleep" ∷ codes "wake" ∷ codes "move" ∷ codes "return" ∷ codes "reaped" ∷ codes "renew" ∷ []
+deeds = codes "begin" ∷ codes "kill" ∷ codes "point" ∷ codes "death" ∷ codes "sleep" ∷ codes "wake" ∷ codes "move"
+    ∷ codes "return" ∷ codes "reaped" ∷ codes "renew" ∷ []
 
 -- the words that can stand there, but for names, numbers, and numbers behind a letter
 abbrev pub known_words : Next → List (List ℕ)

@@ -1,4 +1,5 @@
 pub mod Nexts
 pub mod Wrongs
 pub mod Known
+pub mod Laws
 pub mod Near

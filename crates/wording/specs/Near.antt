@@ -8,7 +8,7 @@ use Rattle.strsim.specs.Edits.{osa_table}
 abbrev pub edits : List ℕ → List ℕ → ℕ
 edits w v = (osa_table (chars w) (chars v)).last_row (length (chars v))
 
--- how many edits a misspelt word has at most: a third of its letters, and one at least
+-- how many edits a misspelt word has at most: a third of its bytes, and one at least
 abbrev pub most_edits : List ℕ → ℕ
 most_edits w = max (length w) 3 / 3
 

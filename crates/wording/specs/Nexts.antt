@@ -1,5 +1,6 @@
 -- How a line goes on behind each of its words.
-use Rattle.std.specs.Prelude.{ℕ, Bool, true, false, ◌||◌, List, Option, Some, None, option_and_then, if◌then◌else◌, codes}
+use Rattle.std.specs.Prelude.{ℕ, Bool, true, false, ◌||◌, List, Option, Some}
+use Rattle.std.specs.Prelude.{None, option_and_then, if◌then◌else◌, codes}
 use Rattle.std.specs.Option.{is_some}
 use Rattle.std.specs.Str.{bytes_eq}
 use Rattle.lines.specs.Numbers.{is_number}
@@ -12,7 +13,12 @@ use Rattle.script.specs.declared.command.Mode.TheVariants as mode
 use Rattle.script.specs.Forms.{is_name, is_stem}
 use Rattle.verdict.specs.Forms.{call_operation, numbered}
 use Rattle.wording.specs.declared.next.Next.{Next}
-use Rattle.wording.specs.declared.next.Next.TheVariants.{End, Keyword, Name, NewThread, ProcessOrEnd, NameNumber, NameNameNumber, NameName, StemNumber, Number, NameCall, Call, Head, ThreeNumbers, TwoNumbers, Event, Deed, Thread, ThreadMutex, ThreadPlace, ThreadReply, ThreadCall, ThreadPoint, Mutex, Place, Reply, Operation, ConditionMutex, MutexCallReply, CallReply}
+use Rattle.wording.specs.declared.next.Next.TheVariants.{End, Keyword, Name, NewThread, ProcessOrEnd}
+use Rattle.wording.specs.declared.next.Next.TheVariants.{NameNumber, NameNameNumber, NameName, StemNumber, Number}
+use Rattle.wording.specs.declared.next.Next.TheVariants.{NameCall, Call, Head, ThreeNumbers, TwoNumbers, Event}
+use Rattle.wording.specs.declared.next.Next.TheVariants.{Deed, Thread, ThreadMutex, ThreadPlace, ThreadReply}
+use Rattle.wording.specs.declared.next.Next.TheVariants.{ThreadCall, ThreadPoint, Mutex, Place, Reply}
+use Rattle.wording.specs.declared.next.Next.TheVariants.{Operation, ConditionMutex, MutexCallReply, CallReply}
 
 -- ---- the words
 
@@ -159,4 +165,5 @@ is_over n = false
 
 -- the mode whose scripts alone have lines with this first word
 abbrev pub mode_of_word : List ℕ → Option Mode
-mode_of_word w = if is_some (of_run w) then Some mode.Run else (if is_some (of_threads w) then Some mode.Threads else None)
+mode_of_word w =
+    if is_some (of_run w) then Some mode.Run else (if is_some (of_threads w) then Some mode.Threads else None)

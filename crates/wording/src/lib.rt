@@ -3,8 +3,8 @@
 //!
 //! [`Next`] says what the next word of a line has to be. [`first_wrong`] gives the first word at which no line of a
 //! kind can go on, behind words that one begins with ([`Kind`]): proved of the kinds of line as the readers of scripts
-//! and traces have them. [`known_words`] has the words that may stand at a place, and [`nearest`] the one of several
-//! words that a misspelt one is next to.
+//! and traces have them. [`known_words`] has the words that may stand at a place, which is proved too
+//! ([`known_words_are_those_that_fit`]), and [`nearest`] the one of several words that a misspelt one is next to.
 //!
 //! Stands on `script` and `verdict`, for their kinds of line, on `lines`, for words and numbers, on `posixmutex` and
 //! `lockword`, for the words of operations and replies, and on `strsim`, for how far words are apart.
@@ -21,12 +21,14 @@
 #![tactic(auto)]
 
 mod known;
+mod laws;
 mod near;
 mod next;
 mod place;
 mod wrong;
 
 pub use known::known_words;
+pub use laws::known_words_are_those_that_fit;
 pub use near::nearest;
 pub use next::{Next, mode_of_word};
 pub use place::{place_of, word_at};

@@ -14,7 +14,7 @@ fn most_edits(word: &str) -> usize
 }
 
 /// The first of these words that is as near to the word as any, by letters that are more, less, others or swapped; None
-/// where all are too far: more than a third of its letters, and more than one.
+/// where all are too far: more than a third of its bytes, and more than one.
 pub fn nearest<'a>(
     alloc: Global,
     word: &str,

@@ -3,7 +3,8 @@
 ghost use Rattle.std.specs.Prelude.{◌≡◌, ◌<◌};
 ghost use Rattle.std.specs.List.{list_all};
 ghost use Rattle.script.specs.Forms.{is_name, is_name_byte, is_stem};
-ghost use Rattle.wording.specs.Nexts.{deed, event, fitting, is_call, is_lettered, is_reply, is_scripted, keyword, mode_of_word, of_run, of_threads, operation, shared};
+ghost use Rattle.wording.specs.Nexts.{deed, event, fitting, is_call, is_lettered, is_reply, is_scripted};
+ghost use Rattle.wording.specs.Nexts.{keyword, mode_of_word, of_run, of_threads, operation, shared};
 
 use lines::is_number_word;
 use lockword::Reply as ReplyName;

@@ -3,7 +3,8 @@
 ghost use Rattle.std.specs.Prelude.{◌≡◌, ◌+◌, ◌<◌, ◌^◌, true, length, take, IfSome, IfNone};
 ghost use Rattle.lines.specs.Lines.{words_of};
 ghost use Rattle.wording.specs.Nexts.{after};
-ghost use Rattle.wording.specs.Wrongs.{Awaits, IsFirstWrong, ends_at, first_of, is_line, offset_of, wrong_at, wrong_in, wrong_last};
+ghost use Rattle.wording.specs.Wrongs.{Awaits, IsFirstWrong, ends_at, first_of, is_line};
+ghost use Rattle.wording.specs.Wrongs.{offset_of, wrong_at, wrong_in, wrong_last};
 
 use crate::next::Next;
 use lines::cut;
