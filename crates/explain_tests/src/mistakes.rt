@@ -1,10 +1,12 @@
 //! What is told of each mistake.
 
 use crate::answers::answer_of;
+use std::alloc::{AllocError, Global};
+use std::test::Fail;
 use text_fixtures::words;
 
 /// Bytes of a file, and what is told of them.
-static MISTAKES: [(&[u8], u8, &str); 46] = [
+static MISTAKES: [(&[u8], u8, &str); 50] = [
     // scripts and traces without fault
     (
         b"thread a\nmutex m\ncall a lock m\n",
@@ -36,6 +38,26 @@ static MISTAKES: [(&[u8], u8, &str); 46] = [
         b"thread a\nmutex m\nphase\ncall a trylok m\n",
         1,
         "f: line 4: fault 2: unknown word (a script for `rfx threads`)\n  | call a trylok m\n  |        ^^^^^^\n  = expected one of `lock` `trylock` `unlock` `consistent` `wait` `signal` `broadcast`\n  = did you mean `trylock`?\n",
+    ),
+    (
+        b"thread a\nmutex m\nphase\nphas\n",
+        1,
+        "f: line 4: fault 2: unknown word (a script for `rfx threads`)\n  | phas\n  | ^^^^\n  = expected one of `process` `thread` `mutex` `mutexes` `cond` `call` `phase` `die`\n  = did you mean `phase`?\n",
+    ),
+    (
+        b"trace 1 1 0\n1 begn t1 lock m0\nend 1\n",
+        1,
+        "f: line 2: fault 2: unknown word (a trace)\n  | 1 begn t1 lock m0\n  |   ^^^^\n  = expected one of `begin` `kill` `point` `death` `sleep` `wake` `move` `return` `reaped` `renew`\n  = did you mean `begin`?\n",
+    ),
+    (
+        b"trace 1 1 0\n1 begin t1 lock m0\n2 point t1 m0 lok OK\nend 2\n",
+        1,
+        "f: line 3: fault 2: unknown word (a trace)\n  | 2 point t1 m0 lok OK\n  |               ^^^\n  = expected one of `lock` `trylock` `unlock` `consistent` `wait` `signal` `broadcast` `reinit`\n  = did you mean `lock`?\n",
+    ),
+    (
+        b"trace 1 1 0\n1 begin t1 lock m0\n2 point t1 m0 lock EPRM\nend 2\n",
+        1,
+        "f: line 3: fault 2: unknown word (a trace)\n  | 2 point t1 m0 lock EPRM\n  |                    ^^^^\n  = expected one of `OK` `EPERM` `ESRCH` `EAGAIN` `EFAULT` `EBUSY` `EINVAL` `EDEADLK` `EOWNERDEAD` `ENOTRECOVERABLE` `X_NOMEM` `X_RACED` `X_HELD` `X_FULL` `X_STATE`\n  = did you mean `EPERM`?\n",
     ),
     // a word that is missing, and one too many
     (
@@ -258,4 +280,89 @@ fn mistakes_are_told(rt: HostRuntime) {
         let answered = answer_of(rt.alloc(), words(rt.alloc(), &["rfx-explain", "f"]), *file);
         assert!(rt; answered.is(*status, *printed, ""));
     }
+}
+
+/// One thing of each kind.
+const DECLARED: &str =
+    "process server 1000\nthread writer server\nmutex table\ncond space table 0\n";
+
+/// A line that names `x`, as which nothing is declared; where that is marked; and of what kind it should be.
+type Undeclared = (&'static str, &'static str, &'static str);
+
+/// They may stand in scripts for a run.
+static FOR_A_RUN: [Undeclared; 16] = [
+    ("thread reader x", "              ^", "process"),
+    ("cond items x 0", "           ^", "mutex"),
+    ("call x lock table", "     ^", "thread"),
+    ("call writer lock x", "                 ^", "mutex"),
+    (
+        "call writer wait x",
+        "                 ^",
+        "condition variable",
+    ),
+    ("begin x signal space", "      ^", "thread"),
+    (
+        "begin writer signal x",
+        "                    ^",
+        "condition variable",
+    ),
+    (
+        "begin writer broadcast x",
+        "                       ^",
+        "condition variable",
+    ),
+    ("step x 1", "     ^", "thread"),
+    ("kill x", "     ^", "thread"),
+    ("killall x", "        ^", "process"),
+    ("leave x", "      ^", "thread"),
+    ("decline x", "        ^", "thread"),
+    ("go x", "   ^", "thread"),
+    ("locks x table 1", "      ^", "thread"),
+    ("locks writer x 1", "             ^", "mutex"),
+];
+
+/// They may stand in scripts for real threads.
+static FOR_THREADS: [Undeclared; 2] = [
+    ("die x 1", "    ^", "thread"),
+    ("call writer unlock x", "                   ^", "mutex"),
+];
+
+/// Whether a script of these declarations, these lines and this one is told so, at line `at`.
+fn is_undeclared(
+    alloc: Global,
+    lines: &str,
+    at: usize,
+    mode: &str,
+    undeclared: Undeclared,
+) -> Result<bool, AllocError> {
+    let (line, marks, kind) = undeclared;
+    let script = format!(in alloc; "{}{lines}{line}\n", DECLARED)?;
+    let told = format!(in alloc;
+        "f: line {at}: fault 4: no such name (a script for `rfx {mode}`)\n  | {line}\n  | {marks}\n  = no line before declares a {kind} of this name\n"
+    )?;
+    let answered = answer_of(
+        alloc,
+        words(alloc, &["rfx-explain", "f"]),
+        script.as_bytes(),
+    );
+    Ok(answered.is(1, told.as_str(), ""))
+}
+
+#[test]
+fn names_that_no_line_declares_are_told(rt: HostRuntime) -> Result<(), Fail> {
+    for row in &FOR_A_RUN {
+        let line = row.0;
+        assert!(rt;
+            is_undeclared(rt.alloc(), "", 5, "run", *row)?,
+            "not {line}"
+        );
+    }
+    for row in &FOR_THREADS {
+        let line = row.0;
+        assert!(rt;
+            is_undeclared(rt.alloc(), "phase\n", 6, "threads", *row)?,
+            "not {line}"
+        );
+    }
+    Ok(())
 }

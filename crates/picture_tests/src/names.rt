@@ -22,6 +22,13 @@ static DRAWN: [(&[u8], &[&str], &str); 3] = [
     ),
 ];
 
+/// A script with a condition variable, a trace, and its picture with the script's names.
+const WITH_A_CONDITION: (&[u8], &[u8], &str) = (
+    b"thread t\nmutex m\ncond q m 0\n",
+    b"trace 1 1 1\n1 begin t1 wait c0 m0\nend 1\n",
+    " event  m    t\n     1  -    ┌ wait q m\n     1  end\n",
+);
+
 /// Other command lines.
 static OTHERS: [&[&str]; 9] = [
     &["rfx-draw", "--script"],
@@ -116,6 +123,10 @@ fn scripts_give_names(rt: HostRuntime) {
             "not {printed}"
         );
     }
+    let (script, trace, printed) = WITH_A_CONDITION;
+    let folder = Folder::with_script(script, trace);
+    let wanted = Wanted::printed(printed, 2);
+    assert!(rt; wanted.comes_of(rt.alloc(), &["rfx-draw", "--script", "s"], &folder));
     for line in &OTHERS {
         assert!(rt;
             are_answered(rt.alloc(), SCRIPT, *line, Wanted::usage()),

@@ -180,8 +180,8 @@ fn the_longest_script_is_run(rt: HostRuntime) -> Result<(), AllocError> {
 /// One thread is refused.
 const REFUSED_CALL: &str = "thread a\nmutex m\ncall a unlock m\n";
 
-/// A script for each form, and what is printed of it.
-static PRINTED: [(Form<'static>, &str, &str); 3] = [
+/// A file for each form, and what is printed of it.
+static PRINTED: [(Form<'static>, &str, &str); 4] = [
     (Form::Run("f"), ROW, ROW_TEXT),
     (
         Form::Table("f"),
@@ -189,6 +189,7 @@ static PRINTED: [(Form<'static>, &str, &str); 3] = [
         "thread a idle 0 EPERM\nmutex m 0000000000000000 - -\n",
     ),
     (Form::Threads("f"), PHASES, PHASES_TEXT),
+    (Form::Check("f"), ROW_TEXT, "legal 4 points\n"),
 ];
 
 #[test]

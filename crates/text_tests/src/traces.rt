@@ -170,6 +170,29 @@ static DEATHS: Traces = Traces {
     ],
 };
 
+/// A thread that was reaped lives anew.
+static RENEWALS: Traces = Traces {
+    frame: BEHIND_THE_FIRST,
+    answers: &[
+        (
+            Legal(2),
+            &[
+                "1 begin t1 lock m0\n2 point t1 m0 lock OK\n3 kill t1\n4 death t1 m0\n4 reaped t1\n5 renew t1\n6 begin t1 trylock m0\n7 point t1 m0 trylock EOWNERDEAD\n8 return t1 EOWNERDEAD\nend 8",
+            ],
+        ),
+        (Illegal(2), &["1 renew t1\nend 1"]),
+        (Illegal(3), &["1 kill t1\n2 renew t1\nend 2"]),
+        (
+            Illegal(4),
+            &["1 kill t1\n2 reaped t1\n3 begin t1 lock m0\nend 3"],
+        ),
+        (
+            Illegal(5),
+            &["1 kill t1\n2 reaped t1\n3 renew t1\n4 renew t1\nend 4"],
+        ),
+    ],
+};
+
 /// A mutex is made anew that is free, or that its own thread owns.
 static REINITS: Traces = Traces {
     frame: BEHIND_THE_FIRST,
@@ -342,6 +365,7 @@ fn traces_are_judged(rt: HostRuntime) {
     for traces in [
         &WORKED_TRACES,
         &DEATHS,
+        &RENEWALS,
         &REINITS,
         &REINITS_OF_AN_UNUSABLE,
         &WAITS,

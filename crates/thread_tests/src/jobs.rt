@@ -108,7 +108,8 @@ fn both<R: Threads + Wait + Sync, G: Gate + Sync>(
 ) -> Result<(Record, Record), NoMem>
     requires first { IsJobOf bench.now first }
     requires second { IsJobOf bench.now second }
-    ensures { IfOk result (λ r. IsDone bench.now (G.says gate.now) first r.0 × IsDone bench.now (G.says gate.now) second r.1) }
+    ensures { IfOk result
+        (λ r. IsDone bench.now (G.says gate.now) first r.0 × IsDone bench.now (G.says gate.now) second r.1) }
 {
     let Ok(jobs) = Vec::from_array(alloc, [first, second]) else {
         return Err(NoMem);
