@@ -152,13 +152,19 @@ static void renew(pz *p, const char boot[40])
     memcpy(p->header->boot, boot, sizeof p->header->boot);
 }
 
+/* With as many of each, and with each condition variable of the mutex that was asked for. */
 static int is_as_asked(const pz *p, const struct asked *a)
 {
     const struct header *h = p->header;
-    return h->mutexes == a->mutexes && h->conds == a->conds && h->data == a->data && h->size == p->size;
+    if (h->mutexes != a->mutexes || h->conds != a->conds || h->data != a->data || h->size != p->size)
+        return 0;
+    for (unsigned c = 0; c < a->conds; c++)
+        if (atomic_load(&p->words[counter_place(p, c) + 2]) != cell_asked(a, c))
+            return 0;
+    return 1;
 }
 
-/* Whole, of this boot, and with each condition variable of the mutex that was asked for. */
+/* Whole, as it was asked for, and of this boot. */
 static int ready(pz *p, const struct asked *a, int whole)
 {
     char boot[40];
@@ -171,11 +177,8 @@ static int ready(pz *p, const struct asked *a, int whole)
         return EINVAL;
     else if (memcmp(p->header->boot, boot, sizeof boot))
         renew(p, boot);
-    for (unsigned c = 0; c < a->conds; c++) {
+    for (unsigned c = 0; c < a->conds; c++)
         p->cell_of[c] = cell_asked(a, c);
-        if (atomic_load(&p->words[counter_place(p, c) + 2]) != p->cell_of[c])
-            return EINVAL;
-    }
     return 0;
 }
 

@@ -1,5 +1,6 @@
-/* Robust mutexes and condition variables in a file that processes share. A thread that dies at any moment, by SIGKILL too, leaves
- * what it owned to the next one, which is told EOWNERDEAD. No daemon: whoever waits for a dead thread cleans up after it. */
+/* Robust mutexes and condition variables in a file that processes share. A thread that dies at any moment, by SIGKILL
+ * too, leaves what it owned to the next one, which is told EOWNERDEAD. No daemon: whoever waits for a dead thread
+ * cleans up after it. Each answer, and what a program does behind it: docs/C.md. */
 #ifndef PAZDRIG_H
 #define PAZDRIG_H
 #include <stdint.h>
@@ -10,29 +11,34 @@ extern "C" {
 #endif
 typedef struct pz pz;
 
-/* Opens or makes the file. Its mutexes are 0 to mutexes-1; condition variable c is of mutex mutex_of[c] for good (NULL: c % mutexes).
- * data bytes of it are the program's own (pz_data). 0, or an errno; EINVAL where the file is of another layout. */
-int pz_open(const char *path, mode_t mode, unsigned mutexes, unsigned conds, const uint16_t *mutex_of, size_t data, pz **out);
-/* The same of a file that is open for reading and writing, which stays the caller's to close. */
+/* Opens or makes the file. Its mutexes are 0 to mutexes-1; condition variable c is of mutex mutex_of[c] for good (NULL:
+ * c % mutexes). data bytes of it are the program's own (pz_data). 0, or an errno; EINVAL where the file was made with
+ * other numbers. */
+int pz_open(const char *path, mode_t mode, unsigned mutexes, unsigned conds, const uint16_t *mutex_of, size_t data,
+            pz **out);
+/* The same of the file that fd is of. It is opened anew, with the caller's permissions; fd stays the caller's. */
 int pz_open_fd(int fd, unsigned mutexes, unsigned conds, const uint16_t *mutex_of, size_t data, pz **out);
-/* The calling thread leaves. Other threads that take part may go on; the file stays mapped until the last of them has left. */
+/* The calling thread leaves. Others that take part may go on; the file stays mapped until the last of them has left. */
 void pz_close(pz *);
 void *pz_data(pz *);
 
-/* The calling thread takes part from here, till it leaves or dies: at most 64 threads at a time. EAGAIN where there are as many.
- * A thread's first call does this by itself, and its end leaves. */
+/* The calling thread takes part from here, till it leaves or dies: at most 64 threads at a time, else EAGAIN. EBUSY: it
+ * does already. A thread's first call does this by itself, and its end leaves. */
 int pz_thread_begin(pz *);
-int pz_thread_end(pz *);
-unsigned pz_thread_id(pz *);
+int pz_thread_end(pz *);         /* 0; EPERM: it doesn't take part */
+unsigned pz_thread_id(pz *);     /* 1 to 64; 0: it doesn't take part */
 
-int pz_mutex_lock(pz *, unsigned m);        /* 0, EOWNERDEAD, ENOTRECOVERABLE, EDEADLK, EAGAIN (2,048 held) */
-int pz_mutex_trylock(pz *, unsigned m);     /* 0, EOWNERDEAD, ENOTRECOVERABLE, EBUSY, EAGAIN (2,048 held) */
-int pz_mutex_unlock(pz *, unsigned m);      /* 0, EPERM */
-int pz_mutex_consistent(pz *, unsigned m);  /* 0, EPERM, EINVAL */
-int pz_mutex_renew(pz *, unsigned m);       /* 0: free again, unusable or not; EBUSY: somebody owns it, or sleeps on it */
-int pz_cond_wait(pz *, unsigned c);         /* as lock; EPERM; EINVAL: the mutex is to be declared consistent first */
-int pz_cond_signal(pz *, unsigned c);       /* 0, EPERM, EOVERFLOW */
-int pz_cond_broadcast(pz *, unsigned c);
+/* 0, or an errno. Each may also be EINVAL (no such number), EAGAIN or ENOMEM (the thread can't take part), and EFAULT
+ * or EINVAL where somebody wrote stray values into the file. EOWNERDEAD: the thread owns the mutex; it repairs what
+ * that guards, and calls pz_mutex_consistent. */
+int pz_mutex_lock(pz *, unsigned m);        /* EOWNERDEAD, ENOTRECOVERABLE, EDEADLK, EAGAIN (2,048 held) */
+int pz_mutex_trylock(pz *, unsigned m);     /* EOWNERDEAD, ENOTRECOVERABLE, EBUSY, EAGAIN (2,048 held) */
+int pz_mutex_unlock(pz *, unsigned m);      /* EPERM */
+int pz_mutex_consistent(pz *, unsigned m);  /* EPERM, EINVAL: there is nothing to declare */
+int pz_mutex_renew(pz *, unsigned m);       /* 0: free again, unusable or not; EBUSY: owned or slept on; EAGAIN */
+int pz_cond_wait(pz *, unsigned c);         /* EOWNERDEAD, ENOTRECOVERABLE, EPERM, EINVAL: declare consistent first */
+int pz_cond_signal(pz *, unsigned c);       /* EPERM, EOVERFLOW: it had 2^32 - 1 of them */
+int pz_cond_broadcast(pz *, unsigned c);    /* the same */
 
 /* Cleans up after threads that died, without waiting for anything: how many. */
 int pz_reap(pz *);

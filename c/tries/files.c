@@ -254,6 +254,20 @@ static void sixteen_files(void)
     unlink(path);
 }
 
+/* Refused, as its condition variable is to be of another mutex than it is, and left as it was. */
+static void is_left_as_it_is(const char *path)
+{
+    static char before[1 << 16], after[1 << 16];
+    pz *p;
+    uint16_t other[1] = {1};
+    int fd = open(path, O_RDONLY);
+    ssize_t n = read(fd, before, sizeof before);
+    CHECK(n > 0 && n < (ssize_t)sizeof before);
+    SAME(pz_open(path, 0600, 2, 1, other, 8, &p), EINVAL);
+    CHECK(pread(fd, after, sizeof after, 0) == n && !memcmp(before, after, (size_t)n));
+    close(fd);
+}
+
 /* The system was started anew, with the file on disk: no kernel told these deaths. (The driver takes PZ_BOOT for the
  * boot's id.) */
 static void a_reboot(void)
@@ -264,7 +278,7 @@ static void a_reboot(void)
     setenv("PZ_BOOT", "the first boot", 1);
     pid_t child = fork();
     if (!child) {
-        if (pz_open(path, 0600, 2, 0, NULL, 8, &p) || pz_mutex_lock(p, 1))
+        if (pz_open(path, 0600, 2, 1, NULL, 8, &p) || pz_mutex_lock(p, 1))
             _exit(1);
         *(long *)pz_data(p) = 42;
         _exit(0);
@@ -272,12 +286,13 @@ static void a_reboot(void)
     int status;
     CHECK(waitpid(child, &status, 0) == child && status == 0);
     setenv("PZ_BOOT", "the second boot", 1);
-    SAME(pz_open(path, 0600, 2, 0, NULL, 8, &p), 0);
+    is_left_as_it_is(path);
+    SAME(pz_open(path, 0600, 2, 1, NULL, 8, &p), 0);
     CHECK(*(long *)pz_data(p) == 42);
     SAME(pz_mutex_lock(p, 0), 0);
     child = fork(); /* who opens it behind the first one leaves that one its mutex */
     if (!child)
-        _exit(pz_open(path, 0600, 2, 0, NULL, 8, &p) || pz_mutex_trylock(p, 0) != EBUSY);
+        _exit(pz_open(path, 0600, 2, 1, NULL, 8, &p) || pz_mutex_trylock(p, 0) != EBUSY);
     CHECK(waitpid(child, &status, 0) == child && status == 0);
     SAME(pz_mutex_lock(p, 1), EOWNERDEAD);
     SAME(pz_mutex_consistent(p, 1), 0);

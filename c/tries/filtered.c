@@ -1,4 +1,5 @@
-/* A kernel, or a container's filter of system calls, without futex_waitv: a sleeper looks by itself, and is told. */
+/* Sleepers that look by themselves: on a mutex where a kernel, or a container's filter of system calls, has no
+ * futex_waitv, and on a condition variable. */
 #include "try.h"
 #include <linux/filter.h>
 #include <linux/seccomp.h>
@@ -47,12 +48,40 @@ static void without_futex_waitv(int error)
     munmap(is_held, sizeof *is_held);
 }
 
+static pid_t waiter_of(pz *p)
+{
+    pid_t waiter = fork();
+    if (!waiter)
+        _exit(pz_mutex_lock(p, 0) || pz_cond_wait(p, 0) || pz_mutex_unlock(p, 0));
+    until_asleep(waiter);
+    return waiter;
+}
+
+/* The signal wakes one of them; the other looks. */
+static void one_signal_for_two_waiters(void)
+{
+    const char *path = a_file("two");
+    pz *p;
+    SAME(pz_open(path, 0600, 1, 1, NULL, 0, &p), 0);
+    pid_t waiters[] = {waiter_of(p), waiter_of(p)};
+    SAME(pz_mutex_lock(p, 0), 0);
+    SAME(pz_cond_signal(p, 0), 0);
+    SAME(pz_mutex_unlock(p, 0), 0);
+    for (int i = 0; i < 2; i++) {
+        int status;
+        CHECK(waitpid(waiters[i], &status, 0) == waiters[i] && status == 0);
+    }
+    pz_close(p);
+    unlink(path);
+}
+
 int main(void)
 {
     alarm(120);
     without_futex_waitv(ENOSYS);
     without_futex_waitv(EPERM);
     without_futex_waitv(ENOMEM);
-    puts("filtered: told without futex_waitv");
+    one_signal_for_two_waiters();
+    puts("filtered: told without futex_waitv; each waiter returns after a signal");
     return 0;
 }

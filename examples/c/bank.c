@@ -17,6 +17,7 @@
 #include <stdio.h>
 #include <stdlib.h>
 #include <string.h>
+#include <sys/prctl.h>
 #include <sys/wait.h>
 #include <time.h>
 #include <unistd.h>
@@ -35,7 +36,7 @@ struct bank {
     bool is_open;
     long cents[ACCOUNTS];
     struct undo_log log;
-    long transfers, undone;
+    long transfers, undone; /* not in the log: a death between may leave one uncounted */
 };
 
 static bool careless;
@@ -43,7 +44,7 @@ static bool careless;
 static void end(int error)
 {
     fprintf(stderr, "bank: %s\n", strerror(error));
-    exit(2);
+    _exit(2);
 }
 
 /* A death leaves the stores that stand before it and none of those behind. So the compiler has to keep their order; the
@@ -66,7 +67,7 @@ static void undo(struct bank *b)
 }
 
 /* EOWNERDEAD: the mutex is this thread's, and what it guards is as its dead owner left it. Only pz_mutex_consistent,
- * behind the repair, makes it a mutex like any other; an unlock without it makes it unusable for good. */
+ * behind the repair, makes it a mutex like any other; an unlock without it makes it unusable, until pz_mutex_renew. */
 static void lock(pz *p, struct bank *b)
 {
     int r = pz_mutex_lock(p, 0);
@@ -134,11 +135,15 @@ static _Noreturn void work(pz *p, struct bank *b, int last)
 /* A child is none of its parent's threads: its first call on a mutex takes part by itself. */
 static pid_t hire(pz *p, struct bank *b, int last)
 {
-    pid_t teller = fork();
+    pid_t bank = getpid(), teller = fork();
     if (teller < 0)
         end(errno);
-    if (teller == 0)
-        work(p, b, last);
+    if (teller == 0) {
+        prctl(PR_SET_PDEATHSIG, SIGKILL); /* without its bank it ends too */
+        if (getppid() == bank)
+            work(p, b, last);
+        _exit(2);
+    }
     return teller;
 }
 
@@ -148,7 +153,7 @@ static void bury(pid_t teller)
     if (waitpid(teller, &status, 0) != teller)
         end(errno);
     if (!WIFSIGNALED(status))
-        exit(2); /* it has said why */
+        _exit(2); /* it has said why */
 }
 
 static void fire(pid_t teller)
