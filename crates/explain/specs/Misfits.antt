@@ -1,5 +1,6 @@
 -- The words for why a line of a trace doesn't fit.
 use Rattle.std.specs.Prelude.{ℕ, Bool, true, false, List, [], ◌∷◌, ◌++◌, Option, Some, None, codes, decimal}
+use Rattle.std.specs.Prelude.{if◌then◌else◌}
 use Rattle.std.specs.List.{concat}
 use Rattle.lockword.specs.Replies.{reply_word}
 use Rattle.posixmutex.specs.declared.object.Object.{Object}
@@ -14,13 +15,15 @@ use Rattle.verdict.specs.declared.misfit.Misfit.TheVariants.{NotAllowed, AtLimit
 abbrev pub with_number : List ℕ → ℕ → List ℕ → List ℕ
 with_number before n behind = concat (before ∷ decimal n ∷ behind ∷ [])
 
+-- a mutex that is free, or owned: an owner died, and nobody has declared it consistent since; or not so
 abbrev pub owner_text : Option ℕ → Bool → List ℕ
-owner_text o true = concat (codes "it is unusable" ∷ [])
 owner_text None false = concat (codes "nobody owns it" ∷ [])
+owner_text None true = concat (codes "nobody owns it, since its owner died" ∷ [])
 owner_text (Some t) false = with_number (codes "t") t (codes " owns it")
+owner_text (Some t) true = with_number (codes "t") t (codes " owns it, and has not declared it consistent")
 
 abbrev pub object_text : Object → List ℕ
-object_text o = owner_text o.owner o.unusable
+object_text o = if o.unusable then concat (codes "it is unusable" ∷ []) else owner_text o.owner o.inconsistent
 
 abbrev pub misfit_text : Misfit → List ℕ
 misfit_text (EventFalls i) = with_number (codes "its event is before event ") i (codes ", of which a line was told")

@@ -4,8 +4,9 @@ use Rattle.std.specs.List.{concat}
 use Rattle.explain.specs.declared.explanation.Things.{Things}
 use Rattle.explain.specs.declared.explanation.Note.{Note}
 use Rattle.explain.specs.declared.explanation.Note.TheVariants.{NoLineFeed, CarriageReturn, LeadingBlank, TwoBlanks}
-use Rattle.explain.specs.declared.explanation.Note.TheVariants.{TrailingBlank, Tab, Remark, OtherMode, OfTrace}
-use Rattle.explain.specs.declared.explanation.Note.TheVariants.{OfScript, BehindCommand, Range, TooMany, PastLast}
+use Rattle.explain.specs.declared.explanation.Note.TheVariants.{TrailingBlank, Tab, Remark, EmptyLine, NoRemarks}
+use Rattle.explain.specs.declared.explanation.Note.TheVariants.{OtherMode, OfTrace, OfScript}
+use Rattle.explain.specs.declared.explanation.Note.TheVariants.{BehindCommand, Range, TooMany, PastLast}
 use Rattle.explain.specs.declared.explanation.Note.TheVariants.{NothingDeclared, Undeclared, DeclaredTwice, DiesTwice}
 use Rattle.explain.specs.declared.explanation.Note.TheVariants.{Bytes, Lines, Events, Uncounted, NoEnd, BehindEnd}
 use Rattle.explain.specs.Words.{mode_words, things_words}
@@ -33,6 +34,8 @@ said_text TwoBlanks = codes "two blanks stand here: words have one between them"
 said_text TrailingBlank = codes "a blank stands behind the last word"
 said_text Tab = codes "a tab stands here: words have one blank between them"
 said_text Remark = codes "a remark is a line of its own"
+said_text EmptyLine = codes "a trace has no empty lines"
+said_text NoRemarks = codes "a trace has no remarks"
 said_text OfTrace = codes "this is a line of a trace, which begins with `trace T M C`"
 said_text OfScript = codes "this is a line of a script, which doesn't begin with `trace `"
 said_text BehindCommand = codes "declarations stand before the first command"
@@ -72,6 +75,8 @@ one_note TwoBlanks = said TwoBlanks
 one_note TrailingBlank = said TrailingBlank
 one_note Tab = said Tab
 one_note Remark = said Remark
+one_note EmptyLine = said EmptyLine
+one_note NoRemarks = said NoRemarks
 one_note OfTrace = said OfTrace
 one_note OfScript = said OfScript
 one_note BehindCommand = said BehindCommand

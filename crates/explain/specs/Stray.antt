@@ -17,15 +17,16 @@ use Rattle.wording.specs.Wrongs.{Awaits, IsFirstWrong, ends_at, is_line}
 use Rattle.explain.specs.declared.explanation.Mark.{Mark}
 use Rattle.explain.specs.declared.explanation.Note.{Note}
 use Rattle.explain.specs.declared.explanation.Note.TheVariants.{CarriageReturn, LeadingBlank, TwoBlanks}
-use Rattle.explain.specs.declared.explanation.Note.TheVariants.{TrailingBlank, Tab, Remark, OtherMode, OfTrace}
-use Rattle.explain.specs.declared.explanation.Note.TheVariants.{OfScript}
+use Rattle.explain.specs.declared.explanation.Note.TheVariants.{TrailingBlank, Tab, Remark, EmptyLine, NoRemarks}
+use Rattle.explain.specs.declared.explanation.Note.TheVariants.{OtherMode, OfTrace, OfScript}
 
 -- ---- what is said
 
--- a word without a letter stands before the first blank, behind the last one, or between two
+-- a word without a letter is all of its line, or stands before the first blank, behind the last one, or between two
 abbrev pub blank_note : List ℕ → ℕ → Note
-blank_note text i =
-    if i == 0 then LeadingBlank else (if ends_at i (words_of text) == length text then TrailingBlank else TwoBlanks)
+blank_note text i = if length text == 0 then EmptyLine
+    else (if i == 0 then LeadingBlank
+    else (if ends_at i (words_of text) == length text then TrailingBlank else TwoBlanks))
 
 abbrev pub is_return : Option ℕ → Bool
 is_return None = false
@@ -42,6 +43,12 @@ abbrev pub is_remark : List ℕ → Bool
 is_remark [] = false
 is_remark (b ∷ bs) = b == 35
 
+-- scripts have remarks, and traces don't
+abbrev pub remark_note : Kind → Note
+remark_note (Script k) = Remark
+remark_note Head = NoRemarks
+remark_note Trace = NoRemarks
+
 abbrev pub mode_note : Option Mode → Option Note → Option Note
 mode_note (Some k) n = Some (OtherMode k)
 mode_note None n = n
@@ -56,7 +63,7 @@ kind_note Trace ws w = if is_line (Script Run) ws || is_line (Script Threads) ws
 abbrev pub word_note : Kind → List ℕ → ℕ → List ℕ → Option Note
 word_note k text i w = if ends_in_return text then Some CarriageReturn
     else (if has_tab w then Some Tab
-    else (if is_remark w then Some Remark
+    else (if is_remark w then Some (remark_note k)
     else (if i == 0 then kind_note k (words_of text) w else None)))
 
 abbrev pub note_of : Kind → List ℕ → ℕ → Option (List ℕ) → Option Note

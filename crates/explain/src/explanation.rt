@@ -47,6 +47,10 @@ pub enum Note {
     Tab,
     /// A remark stands behind words.
     Remark,
+    /// A line of a trace is empty.
+    EmptyLine,
+    /// A remark stands in a trace.
+    NoRemarks,
     /// The line is one of scripts of this mode alone.
     OtherMode(Mode),
     /// The line is one of traces.

@@ -21,10 +21,17 @@ fn add_number(text: &mut Vec<u8>, before: &str, number: u32, behind: &str) -> Re
 fn add_object(text: &mut Vec<u8>, object: &Object) -> Result<(), AllocError>
     ensures { OnOk result (text.new.items ≡ text.old.items ++ object_text object.now) }
 {
-    match (object.owner, object.unusable) {
-        (_, true) => add(text, &["it is unusable"]),
-        (None, false) => add(text, &["nobody owns it"]),
-        (Some(owner), false) => add_number(text, "t", u32::from(owner.get()), " owns it"),
+    match (object.owner, object.inconsistent, object.unusable) {
+        (_, _, true) => add(text, &["it is unusable"]),
+        (None, false, false) => add(text, &["nobody owns it"]),
+        (None, true, false) => add(text, &["nobody owns it, since its owner died"]),
+        (Some(owner), false, false) => add_number(text, "t", u32::from(owner.get()), " owns it"),
+        (Some(owner), true, false) => add_number(
+            text,
+            "t",
+            u32::from(owner.get()),
+            " owns it, and has not declared it consistent",
+        ),
     }
 }
 

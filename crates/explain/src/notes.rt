@@ -70,6 +70,8 @@ fn said_of(note: &Note) -> &'static str
         Note::TrailingBlank => "a blank stands behind the last word",
         Note::Tab => "a tab stands here: words have one blank between them",
         Note::Remark => "a remark is a line of its own",
+        Note::EmptyLine => "a trace has no empty lines",
+        Note::NoRemarks => "a trace has no remarks",
         Note::OfTrace => "this is a line of a trace, which begins with `trace T M C`",
         Note::OfScript => "this is a line of a script, which doesn't begin with `trace `",
         Note::BehindCommand => "declarations stand before the first command",

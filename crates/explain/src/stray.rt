@@ -4,7 +4,7 @@ ghost use Rattle.std.specs.Prelude.{◌≡◌, IfOk};
 ghost use Rattle.lines.specs.Lines.{words_of};
 ghost use Rattle.explain.specs.Advised.{IsStray};
 ghost use Rattle.explain.specs.Stray.{IsMarked, blank_note, ends_in_return, has_tab};
-ghost use Rattle.explain.specs.Stray.{is_remark, kind_note, stray_note, word_note};
+ghost use Rattle.explain.specs.Stray.{is_remark, kind_note, remark_note, stray_note, word_note};
 
 use crate::explanation::{Advice, Mark, Note};
 use crate::quoting::{is_last, line_of};
@@ -12,10 +12,14 @@ use script::Mode;
 use std::alloc::{AllocError, Global};
 use wording::{Kind, first_wrong, is_line, known_words, mode_of_word, nearest, place_of, word_at};
 
-/// What is said of a word without a letter: a blank too many.
+/// What is said of a word without a letter: a blank too many, or nothing at all on a line of a trace (an empty line of a
+/// script is one of its lines).
 fn blank_note(text: &str, word: usize) -> Note
     ensures { result ≡ blank_note text.now word }
 {
+    if text.is_empty() {
+        return Note::EmptyLine;
+    }
     if word == 0 {
         return Note::LeadingBlank;
     }
@@ -49,6 +53,16 @@ fn is_remark(word: &str) -> bool
     match word.as_bytes() {
         [first, ..] => *first == b'#',
         [] => false,
+    }
+}
+
+/// What is said of a remark.
+fn remark_note(kind: Kind) -> Note
+    ensures { result ≡ remark_note kind }
+{
+    match kind {
+        Kind::Script(_) => Note::Remark,
+        Kind::Head | Kind::Trace => Note::NoRemarks,
     }
 }
 
@@ -88,7 +102,7 @@ fn word_note(kind: Kind, text: &str, index: usize, word: &str) -> Option<Note>
         return Some(Note::Tab);
     }
     if is_remark(word) {
-        return Some(Note::Remark);
+        return Some(remark_note(kind));
     }
     if index == 0 {
         kind_note(kind, text, word)

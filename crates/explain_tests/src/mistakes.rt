@@ -6,7 +6,7 @@ use std::test::Fail;
 use text_fixtures::words;
 
 /// Bytes of a file, and what is told of them.
-static MISTAKES: [(&[u8], u8, &str); 50] = [
+static MISTAKES: [(&[u8], u8, &str); 54] = [
     // scripts and traces without fault
     (
         b"thread a\nmutex m\ncall a lock m\n",
@@ -134,6 +134,17 @@ static MISTAKES: [(&[u8], u8, &str); 50] = [
         1,
         "f: line 2: fault 2: unknown word (a trace)\n  | thread a\n  | ^^^^^^\n  = expected the number of an event, or `end`\n  = this is a line of a script, which doesn't begin with `trace `\n",
     ),
+    // what a script may have and a trace mayn't
+    (
+        b"trace 1 1 0\n\nend 1\n",
+        1,
+        "f: line 2: fault 2: unknown word (a trace)\n  = a trace has no empty lines\n",
+    ),
+    (
+        b"trace 1 1 0\n# a dies\nend 1\n",
+        1,
+        "f: line 2: fault 2: unknown word (a trace)\n  | # a dies\n  | ^\n  = expected the number of an event, or `end`\n  = a trace has no remarks\n",
+    ),
     // a declaration behind a command
     (
         b"thread a\nmutex m\ngo a\nthread b\n",
@@ -209,6 +220,16 @@ static MISTAKES: [(&[u8], u8, &str); 50] = [
         b"trace 2 1 0\n1 begin t1 lock m0\n2 point t1 m0 lock OK\n3 begin t2 lock m0\n4 point t2 m0 lock OK\nend 4\n",
         1,
         "f: line 5: illegal: the mutex doesn't allow the reply OK: t1 owns it\n  | 4 point t2 m0 lock OK\n  = see line 3:\n  | 2 point t1 m0 lock OK\n",
+    ),
+    (
+        b"trace 2 1 0\n1 begin t1 lock m0\n2 point t1 m0 lock OK\n3 kill t1\n4 death t1 m0\n5 begin t2 lock m0\n6 point t2 m0 lock OK\nend 6\n",
+        1,
+        "f: line 7: illegal: the mutex doesn't allow the reply OK: nobody owns it, since its owner died\n  | 6 point t2 m0 lock OK\n  = see line 5:\n  | 4 death t1 m0\n",
+    ),
+    (
+        b"trace 3 1 0\n1 begin t1 lock m0\n2 point t1 m0 lock OK\n3 kill t1\n4 death t1 m0\n5 begin t2 lock m0\n6 point t2 m0 lock EOWNERDEAD\n7 begin t3 trylock m0\n8 point t3 m0 trylock OK\nend 8\n",
+        1,
+        "f: line 9: illegal: the mutex doesn't allow the reply OK: t2 owns it, and has not declared it consistent\n  | 8 point t3 m0 trylock OK\n  = see line 7:\n  | 6 point t2 m0 lock EOWNERDEAD\n",
     ),
     (
         b"trace 1 1 0\n1 begin t1 lock m0\n2 begin t1 lock m0\nend 2\n",
