@@ -2,7 +2,9 @@
 #include "driver.h"
 #include <errno.h>
 #include <string.h>
+#include <sys/syscall.h>
 #include <time.h>
+#include <unistd.h>
 
 /* Where a call goes on by its steps whose access at the cell was made by a plan (crates/mutex/specs/Codings.antt). */
 enum { AT_LOCK_TAKE = 17, AT_TRYLOCK_TAKE = 22, AT_RELEASE = 24 };
@@ -201,11 +203,12 @@ int pz_mutex_lock(pz *p, unsigned m) { return on_mutex(p, m, PZ_OP_LOCK); }
 int pz_mutex_unlock(pz *p, unsigned m) { return on_mutex(p, m, PZ_OP_UNLOCK); }
 int pz_mutex_consistent(pz *p, unsigned m) { return on_mutex(p, m, PZ_OP_CONSISTENT); }
 
-/* A dead thread is reaped, by this one or by whoever is at it. */
+/* A dead thread is reaped, by this one or by whoever is at it. (nanosleep(2) itself: the C library's is a cancellation
+ * point, and pthread_mutex_trylock is none.) */
 static void wait_for_its_walk(pz *p, unsigned owner)
 {
     if (pz_reap_one(p, owner) == DYING)
-        nanosleep(&(struct timespec){.tv_nsec = 50000}, NULL);
+        syscall(SYS_nanosleep, &(struct timespec){.tv_nsec = 50000}, NULL);
 }
 
 /* It is busy only where an owner lives: a dead one's walk is waited for; and where the word was marked meanwhile, or
@@ -322,8 +325,8 @@ int pz_thread_begin(pz *p)
     if (pz_self[p->number].id)
         return EBUSY;
     pthread_once(&once, make_key);
-    int r = no_key ? no_key
-                   : pthread_setspecific(at_end, p); /* any value: a thread that has one is looked at when it ends */
+    /* any value: a thread that has one is looked at when it ends */
+    int r = no_key ? ENOMEM : pthread_setspecific(at_end, p);
     return r ? r : pz_take_part(p);
 }
 

@@ -79,14 +79,27 @@ static int boot_id(char id[40])
 /* ---- Making it, with the file's lock in hand. A maker that is killed leaves MAKING, and the next opener makes it
  * anew. */
 
+/* A piece of the file that a handler can interrupt, which some kernels undo then: so pieces are small. */
+static int allocate(int fd, size_t at, size_t size)
+{
+    int r;
+    while ((r = posix_fallocate(fd, (off_t)at, (off_t)size)) == EINTR)
+        continue;
+    return r;
+}
+
 /* Room for all of it, so that no store meets a full disk. */
 static int make_room(int fd, size_t size)
 {
+    const size_t piece = 1 << 20;
     if (ftruncate(fd, 0) < 0)
         return errno;
     if (pwrite(fd, &MAKING, sizeof MAKING, 0) != (ssize_t)sizeof MAKING)
         return errno ? errno : ENOSPC;
-    return posix_fallocate(fd, 0, (off_t)size);
+    int r = 0;
+    for (size_t at = 0; at < size && !r; at += piece)
+        r = allocate(fd, at, size - at < piece ? size - at : piece);
+    return r;
 }
 
 /* Whether it is whole, is to be made, or isn't such a file (EINVAL). */
@@ -255,6 +268,10 @@ int pz_ready_for_forks(void)
     return no_forks;
 }
 
+/* So early that handlers of the program's own are called behind this one in the child. (Who opens asks whether it went
+ * well.) */
+static __attribute__((constructor)) void loaded(void) { pz_ready_for_forks(); }
+
 /* Memory that is mapped already: its caller has seen to it that nobody else makes it now. */
 static int open_memory(void *memory, const struct asked *a, int whole, pz *p)
 {
@@ -294,10 +311,20 @@ static int open_one(int fd, void *memory, int whole, const struct asked *a, pz *
     return r;
 }
 
+/* One that is there is opened without O_CREAT, with which Linux refuses another user's file in a folder like /dev/shm
+ * (fs.protected_regular). */
+static int open_or_make(const char *path, int flags, mode_t mode)
+{
+    int fd = open(path, O_RDWR | O_CLOEXEC);
+    if (fd < 0 && errno == ENOENT && flags)
+        fd = open(path, flags | O_RDWR | O_CLOEXEC, mode);
+    return fd < 0 && errno == EACCES && flags ? open(path, O_RDWR | O_CLOEXEC) : fd; /* another user has just made it */
+}
+
 static int begin_opening(struct opening *o, const char *path, int flags, mode_t mode)
 {
     pthread_mutex_lock(&table);
-    o->fd = open(path, flags | O_RDWR | O_CLOEXEC, mode);
+    o->fd = open_or_make(path, flags, mode);
     int r = o->fd < 0 ? errno : 0;
     if (!r) {
         o->next = openings;
@@ -346,7 +373,7 @@ int pz_open_fd(int fd, unsigned mutexes, unsigned conds, const uint16_t *mutex_o
 {
     struct asked a = {mutexes, conds, mutex_of, data};
     char path[32];
-    snprintf(path, sizeof path, "/proc/self/fd/%d", fd);
+    snprintf(path, sizeof path, "/proc/thread-self/fd/%d", fd);
     return open_then_close(path, 0, 0, &a, out);
 }
 

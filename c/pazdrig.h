@@ -28,9 +28,9 @@ int pz_thread_begin(pz *);
 int pz_thread_end(pz *);         /* 0; EPERM: it doesn't take part */
 unsigned pz_thread_id(pz *);     /* 1 to 64; 0: it doesn't take part */
 
-/* 0, or an errno. Each may also be EINVAL (no such number), EAGAIN or ENOMEM (the thread can't take part), and EFAULT
- * or EINVAL where somebody wrote stray values into the file. EOWNERDEAD: the thread owns the mutex; it repairs what
- * that guards, and calls pz_mutex_consistent. */
+/* 0, or an errno. Each may also be EINVAL (no such number), EAGAIN or ENOMEM (the thread can't take part), and EFAULT,
+ * EINVAL or EBUSY where somebody wrote stray values into the file. EOWNERDEAD: the thread owns the mutex; it repairs
+ * what that guards, and calls pz_mutex_consistent. */
 int pz_mutex_lock(pz *, unsigned m);        /* EOWNERDEAD, ENOTRECOVERABLE, EDEADLK, EAGAIN (2,048 held) */
 int pz_mutex_trylock(pz *, unsigned m);     /* EOWNERDEAD, ENOTRECOVERABLE, EBUSY, EAGAIN (2,048 held) */
 int pz_mutex_unlock(pz *, unsigned m);      /* EPERM */

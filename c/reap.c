@@ -86,9 +86,19 @@ static void bury(pz *p, unsigned t)
     pthread_mutex_consistent(&p->life[t].token);
 }
 
+/* Whether it is tried: never while its holder lives. Who is killed in a trylock of it is taken for its holder by the
+ * kernel if they have the same TID, each in a PID namespace of its own. */
+static int is_held(pz *p, unsigned t)
+{
+    uint32_t token = __atomic_load_n(pz_token_word(p, t), __ATOMIC_SEQ_CST);
+    return (token & FUTEX_TID_MASK) && !(token & FUTEX_OWNER_DIED);
+}
+
 /* 0: its id is free; EOWNERDEAD: it had died, and is reaped now. */
 static int try_to_reap(pz *p, unsigned t)
 {
+    if (is_held(p, t))
+        return EBUSY;
     int r = pthread_mutex_trylock(&p->life[t].token);
     if (r == EOWNERDEAD)
         bury(p, t);
@@ -135,7 +145,7 @@ static void begin_life(pz *p, unsigned t)
 /* Whether the calling thread lives by it from here. */
 static int live_by(pz *p, unsigned t)
 {
-    int r = pthread_mutex_trylock(&p->life[t].token);
+    int r = is_held(p, t) ? EBUSY : pthread_mutex_trylock(&p->life[t].token);
     if (r == EOWNERDEAD)
         bury(p, t);
     else if (r)

@@ -134,11 +134,10 @@ static uint32_t ended(const struct sleeper *s, unsigned owner, int error)
     case EAGAIN: /* the word differs, or a token does */
         return unless_changed(s, PZ_WOKEN);
     case ETIMEDOUT:
+    case EINTR: /* it looks here too: handlers may come more often than time runs out */
         if (owner)
             pz_reap_one(s->p, owner);
         return unless_changed(s, ASLEEP);
-    case EINTR:
-        return ASLEEP;
     default:
         return PZ_FAULT;
     }

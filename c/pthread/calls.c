@@ -216,8 +216,8 @@ static int init(pthread_mutex_t *m, const struct object *o, int type)
     if (!c)
         return why == EPERM || why == ENOMEM ? why : EAGAIN;
     sh_lock_table(c);
-    if (!o->anonymous && strcmp(c->table->path, o->path) && strlen(o->path) < PATHS)
-        strcpy(c->table->path, o->path);
+    if (!o->anonymous && (strcmp(c->table->path, o->path) || !c->table->namespace))
+        sh_name(c->table, o);
     int r = sh_number_for(c, o, &number);
     if (!r)
         write_bytes(m, c, number, type);
@@ -233,9 +233,7 @@ static int destroy(struct ours *o)
         return r;
     pthread_setcancelstate(PTHREAD_CANCEL_DISABLE, &state);
     sh_lock_table(x.c);
-    r = sh_give_number(x.c, o->number);
-    if (!r)
-        atomic_store(&o->kind, (uint32_t)-1);
+    r = sh_give_number(x.c, o);
     sh_unlock_table(x.c);
     pthread_setcancelstate(state, NULL);
     return r;

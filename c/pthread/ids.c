@@ -43,15 +43,18 @@ int sh_borrow_slowly(struct companion *c, unsigned bank, pz *p)
     return r;
 }
 
-/* errno stays what it was. */
+/* errno stays what it was. (The companion stays mapped meanwhile: by now another thread may have unmapped the object.)
+ */
 void sh_give_back(struct companion *c, unsigned bank, pz *p)
 {
     int saved = errno;
+    atomic_fetch_add(&p->users, 1);
     _Atomic uint32_t *wanted = &c->table->ids[bank].wanted, *returned = &c->table->ids[bank].returned;
     pz_give_back(p);
     if (atomic_load(wanted) && atomic_exchange(wanted, 0)) {
         atomic_fetch_add(returned, 1);
         syscall(SYS_futex, returned, FUTEX_WAKE, 1, NULL, NULL, 0);
     }
+    pz_let_go(p);
     errno = saved;
 }

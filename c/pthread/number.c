@@ -138,11 +138,14 @@ int sh_number_for(struct companion *c, const struct object *o, uint32_t *number)
     }
 }
 
-/* EBUSY: somebody owns it, or sleeps on it. */
-int sh_give_number(struct companion *c, uint32_t number)
+/* EBUSY: somebody owns it, or sleeps on it. The bytes name nothing any more before another mutex may have it. */
+int sh_give_number(struct companion *c, struct ours *o)
 {
+    uint32_t number = o->number;
     int r = renew(c, bank_of(number), number - first_of(bank_of(number)));
-    if (!r)
-        atomic_store(&slot_of(c, number)->offset, 0);
-    return r;
+    if (r)
+        return r;
+    atomic_store(&o->kind, (uint32_t)-1);
+    atomic_store(&slot_of(c, number)->offset, 0);
+    return 0;
 }

@@ -64,7 +64,7 @@ static int read_line(const char *line, struct region *r)
 /* The region that `fits` says, among all. */
 static int among_all(int (*fits)(const struct region *, const void *), const void *what, struct region *r)
 {
-    FILE *f = fopen("/proc/self/maps", "re");
+    FILE *f = fopen("/proc/thread-self/maps", "re");
     char *line = NULL;
     size_t room = 0;
     int found = 0;
@@ -83,7 +83,7 @@ static int has_address(const struct region *r, const void *at)
 
 static int region_of(const void *at, struct region *r)
 {
-    int answer = ENOTTY, fd = open("/proc/self/maps", O_RDONLY | O_CLOEXEC);
+    int answer = ENOTTY, fd = open("/proc/thread-self/maps", O_RDONLY | O_CLOEXEC);
     if (fd >= 0) {
         answer = asked(fd, (uintptr_t)at, r);
         close(fd);

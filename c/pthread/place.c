@@ -30,20 +30,22 @@ size_t sh_bank_at(unsigned bank)
 
 size_t sh_size(void) { return sh_bank_at(BANKS); }
 
-static void read_boot_id(char id[40])
+static int read_boot_id(char id[40])
 {
     memset(id, 0, 40);
     int fd = open("/proc/sys/kernel/random/boot_id", O_RDONLY | O_CLOEXEC);
-    if (fd >= 0 && read(fd, id, 36) < 0)
-        id[0] = 0;
-    if (fd >= 0)
-        close(fd);
+    if (fd < 0)
+        return errno;
+    ssize_t n = read(fd, id, 36);
+    int r = n == 36 ? 0 : n < 0 ? errno : EIO;
+    close(fd);
+    return r;
 }
 
 static uint64_t namespace(void)
 {
     struct stat st;
-    return stat("/proc/self/ns/mnt", &st) ? 0 : st.st_ino;
+    return stat("/proc/thread-self/ns/mnt", &st) ? 0 : st.st_ino;
 }
 
 static uint64_t new_nonce(void)
@@ -69,14 +71,17 @@ int sh_make_table(struct table *t)
     return r;
 }
 
-static void name(struct table *t, const struct object *o)
+/* Where the object is. Of one whose namespace isn't there nobody says that it is gone: so who is killed in here does no
+ * harm. */
+void sh_name(struct table *t, const struct object *o)
 {
-    t->dev = o->dev;
-    t->ino = o->ino;
+    if (strlen(o->path) >= sizeof t->path)
+        return;
+    t->namespace = 0;
+    atomic_signal_fence(memory_order_seq_cst);
+    strcpy(t->path, o->path);
+    atomic_signal_fence(memory_order_seq_cst);
     t->namespace = namespace();
-    read_boot_id(t->boot);
-    if (strlen(o->path) < sizeof t->path)
-        strcpy(t->path, o->path);
 }
 
 /* ---- The folder: the one that is given, or the one for all users, or the one of the object's owner. */
@@ -119,23 +124,37 @@ static int find_place(const struct object *o, int make, char folder[PATHS], char
 
 /* ---- Making one: without a name until it is whole. */
 
+/* Of the object's owner, where it can be; and of its group, whose members couldn't open it otherwise. */
+static int give_to_owner(int fd, const struct object *o)
+{
+    int root = geteuid() == 0;
+    return fchown(fd, root ? o->uid : (uid_t)-1, o->gid) < 0 && (root || (o->mode & 020)) ? errno : 0;
+}
+
+/* Who may write the object may read and write it, and nobody else may lock it (flock(2)). */
+static mode_t mode_for(const struct object *o) { return 0600 | (o->mode & 022) | (o->mode & 022) << 1; }
+
 static int fill(int fd, const struct object *o)
 {
-    if (geteuid() == 0 || o->uid == geteuid()) {
-        if (fchown(fd, o->uid, o->gid) < 0)
-            return errno;
-    } else if (fchown(fd, (uid_t)-1, o->gid) < 0 && (o->mode & 060))
-        return errno; /* others of the object's group couldn't open it */
-    if (fchmod(fd, o->mode) < 0 || ftruncate(fd, (off_t)sh_size()) < 0)
+    int denied = give_to_owner(fd, o);
+    if (denied)
+        return denied;
+    if (fchmod(fd, mode_for(o)) < 0 || ftruncate(fd, (off_t)sh_size()) < 0)
         return errno;
-    int r = posix_fallocate(fd, 0, PAGE);
+    int r;
+    while ((r = posix_fallocate(fd, 0, PAGE)) == EINTR)
+        continue;
     if (r)
         return r;
     struct table *t = mmap(NULL, PAGE, PROT_READ | PROT_WRITE, MAP_SHARED, fd, 0);
     if (t == MAP_FAILED)
         return errno;
     r = sh_make_table(t);
-    name(t, o);
+    if (!r)
+        r = read_boot_id(t->boot);
+    t->dev = o->dev;
+    t->ino = o->ino;
+    sh_name(t, o);
     munmap(t, PAGE);
     return r;
 }
@@ -146,9 +165,9 @@ static int make_one(const char *folder, const char *path, const struct object *o
     char by[32];
     int fd = open(folder, O_TMPFILE | O_RDWR | O_CLOEXEC, 0600);
     if (fd < 0)
-        return errno;
+        return errno == EACCES ? EPERM : errno;
     int r = fill(fd, o);
-    snprintf(by, sizeof by, "/proc/self/fd/%d", fd);
+    snprintf(by, sizeof by, "/proc/thread-self/fd/%d", fd);
     if (!r && linkat(AT_FDCWD, by, AT_FDCWD, path, AT_SYMLINK_FOLLOW) < 0)
         r = errno;
     close(fd);
@@ -165,11 +184,12 @@ static int lock_shared(int fd)
     return 0;
 }
 
-static int is_of_this_boot(const struct table *t)
+/* 0: of this boot; EINVAL: of an earlier one; else why that can't be told. */
+static int look_at_boot(const struct table *t)
 {
     char boot[40];
-    read_boot_id(boot);
-    return !memcmp(t->boot, boot, sizeof boot);
+    int r = read_boot_id(boot);
+    return r ? r : memcmp(t->boot, boot, sizeof boot) ? EINVAL : 0;
 }
 
 /* Whoever may write the object could spoil its mutexes anyway. */
@@ -179,23 +199,39 @@ static int is_trusted(const struct stat *st, const struct object *o)
            ((o->mode & 020) && st->st_gid == o->gid);
 }
 
+/* Waits for its lock, which nobody has for long who may write it; so not for a stranger's. */
+static int lock_trusted(int fd, const struct object *o, struct stat *st)
+{
+    if (fstat(fd, st) < 0)
+        return errno;
+    if (!S_ISREG(st->st_mode) || (size_t)st->st_size != sh_size() || !is_trusted(st, o))
+        return EPERM;
+    int r = lock_shared(fd);
+    return r ? r : fstat(fd, st) < 0 ? errno : 0;
+}
+
+/* A companion, and of this object: another's may have been linked here. */
+static int is_of_object(const struct table *t, const struct object *o)
+{
+    return t->magic == MAGIC && t->nonce && t->dev == o->dev && t->ino == o->ino;
+}
+
 /* EAGAIN: it was removed meanwhile, or is of an earlier boot, where nobody lives any more. */
 static int look_at(int fd, const char *path, const struct object *o, uint64_t nonce, struct companion *c)
 {
     struct stat st;
     struct table t;
-    int r = lock_shared(fd);
+    int r = lock_trusted(fd, o, &st);
     if (r)
         return r;
-    if (fstat(fd, &st) < 0)
-        return errno;
     if (st.st_nlink == 0)
         return EAGAIN;
-    if (!S_ISREG(st.st_mode) || (size_t)st.st_size != sh_size() || !is_trusted(&st, o))
+    if (pread(fd, &t, sizeof t, 0) != sizeof t || !is_of_object(&t, o))
         return EPERM;
-    if (pread(fd, &t, sizeof t, 0) != sizeof t || t.magic != MAGIC || !t.nonce)
-        return EPERM;
-    if (!is_of_this_boot(&t)) {
+    r = look_at_boot(&t);
+    if (r && r != EINVAL)
+        return r;
+    if (r) {
         if (!nonce && flock(fd, LOCK_EX | LOCK_NB) == 0 && fstat(fd, &st) == 0 && st.st_nlink)
             unlink(path);
         return nonce ? EINVAL : EAGAIN;
@@ -211,7 +247,7 @@ static int look_at(int fd, const char *path, const struct object *o, uint64_t no
 static int map(int fd, struct companion *c)
 {
     char by[32];
-    snprintf(by, sizeof by, "/proc/self/fd/%d", fd);
+    snprintf(by, sizeof by, "/proc/thread-self/fd/%d", fd);
     int other = open(by, O_RDWR | O_CLOEXEC);
     if (other < 0)
         return errno;
@@ -281,8 +317,9 @@ static int is_gone(const struct table *t)
 {
     struct stat st;
     struct shmid_ds ds;
-    if (!is_of_this_boot(t))
-        return 1;
+    int r = look_at_boot(t);
+    if (r)
+        return r == EINVAL;
     if (t->namespace != namespace() || t->path[0] != '/')
         return 0;
     if (!strncmp(t->path, "/SYSV", 5))

@@ -81,6 +81,7 @@ int sh_is_mapped(uint64_t dev, uint64_t ino);
 size_t sh_size(void);
 size_t sh_bank_at(unsigned bank);
 int sh_make_table(struct table *t);
+void sh_name(struct table *t, const struct object *o);
 int sh_open_place(const struct object *o, uint64_t nonce, struct companion *c);
 int sh_is_in_place(const struct object *o, const struct companion *c);
 void sh_sweep(const char *directory);
@@ -110,7 +111,7 @@ static inline pz *bank_in(struct companion *c, unsigned bank)
 void sh_lock_table(struct companion *c);
 void sh_unlock_table(struct companion *c);
 int sh_number_for(struct companion *c, const struct object *o, uint32_t *number);
-int sh_give_number(struct companion *c, uint32_t number);
+int sh_give_number(struct companion *c, struct ours *o);
 
 /* ---- ids.c */
 int sh_borrow_now(pz *p);

@@ -226,17 +226,28 @@ static void a_thread_ends_alone(void)
     pz_close(p);
 }
 
+/* What a handler of the program's own finds in a child (pthread_atfork(3)), though it was there before any file was
+ * open. */
+static pz *forked;
+static int right_of_child;
+static void in_the_child(void)
+{
+    if (forked)
+        right_of_child = pz_mutex_unlock(forked, 0);
+}
+
 /* A child owns nothing of its parent's, and a parent keeps what it had. */
 static void a_fork(void)
 {
-    pz *p = open_new("fork", 1, 0);
+    pz *p = forked = open_new("fork", 1, 0);
     SAME(pz_mutex_lock(p, 0), 0);
     pid_t child = fork();
     if (!child)
-        _exit(pz_mutex_unlock(p, 0) != EPERM || pz_mutex_trylock(p, 0) != EBUSY);
+        _exit(right_of_child != EPERM || pz_mutex_unlock(p, 0) != EPERM || pz_mutex_trylock(p, 0) != EBUSY);
     int status;
     CHECK(waitpid(child, &status, 0) == child && status == 0);
     SAME(pz_mutex_unlock(p, 0), 0);
+    forked = NULL;
     pz_close(p);
 }
 
@@ -402,6 +413,7 @@ static void two_reapers(void)
 int main(void)
 {
     alarm(120);
+    CHECK(!pthread_atfork(NULL, NULL, in_the_child));
     calls_and_refusals();
     an_owner_dies();
     a_renewal();

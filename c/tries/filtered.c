@@ -5,10 +5,13 @@
 #include <linux/seccomp.h>
 #include <stddef.h>
 #include <sys/prctl.h>
+#include <sys/time.h>
 
-/* The calling process has no futex_waitv any more: it fails so. */
+/* The calling process has no futex_waitv any more: it fails so. (It ends with its parent, which may have waited long
+ * enough.) */
 static void lose_futex_waitv(int error)
 {
+    CHECK(prctl(PR_SET_PDEATHSIG, SIGKILL) == 0);
     struct sock_filter rules[] = {BPF_STMT(BPF_LD | BPF_W | BPF_ABS, offsetof(struct seccomp_data, nr)),
                                   BPF_JUMP(BPF_JMP | BPF_JEQ | BPF_K, 449, 0, 1),
                                   BPF_STMT(BPF_RET | BPF_K, SECCOMP_RET_ERRNO | (unsigned)error),
@@ -18,8 +21,18 @@ static void lose_futex_waitv(int error)
     CHECK(prctl(PR_SET_SECCOMP, SECCOMP_MODE_FILTER, &program) == 0);
 }
 
+static void handler(int number) { (void)number; }
+
+/* A signal comes to the calling process each five milliseconds, before any time that it waits for runs out. */
+static void be_interrupted(void)
+{
+    struct itimerval often = {{0, 5000}, {0, 5000}};
+    CHECK(sigaction(SIGALRM, &(struct sigaction){.sa_handler = handler}, NULL) == 0);
+    CHECK(setitimer(ITIMER_REAL, &often, NULL) == 0);
+}
+
 /* An older kernel, and a container whose filter doesn't know the call: then a sleeper looks by itself. */
-static void without_futex_waitv(int error)
+static void without_futex_waitv(int error, int is_interrupted)
 {
     const char *path = a_file("waitv");
     _Atomic int *is_held = shared(sizeof *is_held);
@@ -37,6 +50,8 @@ static void without_futex_waitv(int error)
     pid_t sleeper = fork();
     if (!sleeper) {
         lose_futex_waitv(error);
+        if (is_interrupted)
+            be_interrupted();
         _exit(pz_mutex_lock(p, 0) != EOWNERDEAD);
     }
     until_asleep(sleeper);
@@ -52,7 +67,7 @@ static pid_t waiter_of(pz *p)
 {
     pid_t waiter = fork();
     if (!waiter)
-        _exit(pz_mutex_lock(p, 0) || pz_cond_wait(p, 0) || pz_mutex_unlock(p, 0));
+        _exit(prctl(PR_SET_PDEATHSIG, SIGKILL) || pz_mutex_lock(p, 0) || pz_cond_wait(p, 0) || pz_mutex_unlock(p, 0));
     until_asleep(waiter);
     return waiter;
 }
@@ -78,9 +93,10 @@ static void one_signal_for_two_waiters(void)
 int main(void)
 {
     alarm(120);
-    without_futex_waitv(ENOSYS);
-    without_futex_waitv(EPERM);
-    without_futex_waitv(ENOMEM);
+    without_futex_waitv(ENOSYS, 0);
+    without_futex_waitv(EPERM, 0);
+    without_futex_waitv(ENOMEM, 0);
+    without_futex_waitv(ENOSYS, 1);
     one_signal_for_two_waiters();
     puts("filtered: told without futex_waitv; each waiter returns after a signal");
     return 0;

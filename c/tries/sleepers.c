@@ -25,7 +25,7 @@ static uint32_t *asleep_on; /* the one futex queue with somebody in it */
 _Thread_local struct self pz_self[FILES];
 uint32_t *pz_token_word(pz *p, unsigned t) { return (void)p, &tokens[t]; }
 enum fate pz_fate(pz *p, unsigned t) { return (void)p, (void)t, LIVES; }
-enum fate pz_reap_one(pz *p, unsigned t) { return (void)p, (void)t, fail(__FILE__, __LINE__, "nobody died"), GONE; }
+enum fate pz_reap_one(pz *p, unsigned t) { return (void)p, (void)t, LIVES; }
 int pz_reap(pz *p) { return (void)p, 0; }
 int pz_take_part(pz *p) { return (void)p, 0; }
 void pz_leave(pz *p) { (void)p; }

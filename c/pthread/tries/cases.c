@@ -87,12 +87,12 @@ static const char *companion_of(const char *path)
     return at;
 }
 
-/* It has the owner and the mode of its object. */
-static void looks_like(const char *path)
+/* It has the owner of its object, and this mode. */
+static void looks_like(const char *path, mode_t mode)
 {
     struct stat a, b;
     CHECK(stat(path, &a) == 0 && stat(companion_of(path), &b) == 0);
-    CHECK(a.st_mode == b.st_mode && a.st_uid == b.st_uid && a.st_gid == b.st_gid);
+    CHECK(b.st_mode == (S_IFREG | mode) && a.st_uid == b.st_uid && a.st_gid == b.st_gid);
 }
 
 /* ---- Another process, which comes by exec: what its call answers. */
@@ -170,7 +170,7 @@ static void newcomers(void)
     pthread_mutex_t *m = map(path, 2);
     SAME(init(m), 0);
     CHECK(is_ours(m));
-    looks_like(path);
+    looks_like(path, 0600);
     SAME(comes(path, 0, "lock", 1), 0);
     SAME(comes(path, 0, "die", 1), 0);
     SAME(comes(path, 0, "trylock", 1), EOWNERDEAD);
@@ -555,6 +555,33 @@ static void no_room(void)
     SAME(pthread_mutex_unlock(m), 0);
 }
 
+/* Who may only read an object has no part in its companion. */
+static void a_reader(void)
+{
+    const char *path = file("read");
+    pthread_mutex_t *m = map(path, 1);
+    CHECK(chmod(path, 0644) == 0);
+    SAME(init(m), 0);
+    looks_like(path, 0600);
+    unlink(path);
+}
+
+/* Another object's companion, linked to where this one's would be. */
+static void a_linked_companion(void)
+{
+    const char *path = file("linked"), *other = file("other");
+    char of_other[600];
+    pthread_mutex_t *m = map(path, 1);
+    SAME(init(map(other, 1)), 0);
+    strcpy(of_other, companion_of(other));
+    CHECK(link(of_other, companion_of(path)) == 0);
+    SAME(init(m), EPERM);
+    CHECK(unlink(companion_of(path)) == 0);
+    SAME(init(m), 0);
+    unlink(other);
+    unlink(path);
+}
+
 /* Another user, who may write the object, comes to its companion. */
 static void another_user(void)
 {
@@ -578,8 +605,8 @@ static void another_user(void)
     }
     CHECK(waitpid(it, &status, 0) == it && status == 0);
     SAME(comes(file("own"), 0, "lock", 1), EOWNERDEAD);
-    looks_like(path);
-    looks_like(file("own"));
+    looks_like(path, 0666);
+    looks_like(file("own"), 0600);
     unlink(file("own"));
     unlink(path);
 }
@@ -610,6 +637,8 @@ int main(int argc, char **argv)
     in_child(made_over_one_that_is_owned);
     in_child(forks_meanwhile);
     in_child(no_room);
+    in_child(a_reader);
+    in_child(a_linked_companion);
     in_child(another_user);
     puts("cases: each told what it should be");
     return 0;
