@@ -127,6 +127,7 @@ void pz_give_back(pz *p);
 uint32_t *pz_token_word(pz *p, unsigned t);
 
 /* ---- file.c */
+int pz_boot_id(char id[40]);
 void pz_let_go(pz *p);
 pz *pz_opened(unsigned number);
 int pz_ready_for_forks(void);

@@ -60,7 +60,7 @@ static struct layout layout_of(const struct asked *a)
 }
 
 /* Which start of the system this is. Where that can't be read nothing is taken for a new one: that would end lives. */
-static int boot_id(char id[40])
+int pz_boot_id(char id[40])
 {
     memset(id, 0, 40);
 #ifdef PZ_TRY_BOOT
@@ -181,7 +181,7 @@ static int is_as_asked(const pz *p, const struct asked *a)
 static int ready(pz *p, const struct asked *a, int whole)
 {
     char boot[40];
-    int r = boot_id(boot);
+    int r = pz_boot_id(boot);
     if (r)
         return r;
     if (!whole)

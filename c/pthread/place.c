@@ -30,18 +30,6 @@ size_t sh_bank_at(unsigned bank)
 
 size_t sh_size(void) { return sh_bank_at(BANKS); }
 
-static int read_boot_id(char id[40])
-{
-    memset(id, 0, 40);
-    int fd = open("/proc/sys/kernel/random/boot_id", O_RDONLY | O_CLOEXEC);
-    if (fd < 0)
-        return errno;
-    ssize_t n = read(fd, id, 36);
-    int r = n == 36 ? 0 : n < 0 ? errno : EIO;
-    close(fd);
-    return r;
-}
-
 static uint64_t namespace(void)
 {
     struct stat st;
@@ -151,7 +139,7 @@ static int fill(int fd, const struct object *o)
         return errno;
     r = sh_make_table(t);
     if (!r)
-        r = read_boot_id(t->boot);
+        r = pz_boot_id(t->boot);
     t->dev = o->dev;
     t->ino = o->ino;
     sh_name(t, o);
@@ -188,7 +176,7 @@ static int lock_shared(int fd)
 static int look_at_boot(const struct table *t)
 {
     char boot[40];
-    int r = read_boot_id(boot);
+    int r = pz_boot_id(boot);
     return r ? r : memcmp(t->boot, boot, sizeof boot) ? EINVAL : 0;
 }
 
