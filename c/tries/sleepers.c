@@ -25,7 +25,6 @@ static uint32_t *asleep_on; /* the one futex queue with somebody in it */
 _Thread_local struct self pz_self[FILES];
 uint32_t *pz_token_word(pz *p, unsigned t) { return (void)p, &tokens[t]; }
 enum fate pz_fate(pz *p, unsigned t) { return (void)p, (void)t, LIVES; }
-enum fate pz_reap_one(pz *p, unsigned t) { return (void)p, (void)t, LIVES; }
 int pz_reap(pz *p) { return (void)p, 0; }
 int pz_take_part(pz *p) { return (void)p, 0; }
 void pz_leave(pz *p) { (void)p; }
@@ -36,13 +35,22 @@ pz *pz_opened(unsigned number) { return (void)number, &file; }
 static long refused(int why) { return errno = why, -1; }
 static int is_awake(void) { return !asleep_on; }
 
-/* How many of the next sleeps a signal's handler ends (EINTR). */
-static int interruptions;
+/* How many of the next sleeps a signal's handler ends (EINTR); and whether one has just ended so: then, and only then,
+ * the sleeper asks whether the owner, who lives, has died. */
+static int interruptions, is_interrupted;
+
+enum fate pz_reap_one(pz *p, unsigned t)
+{
+    (void)p, (void)t;
+    CHECK(is_interrupted);
+    is_interrupted = 0;
+    return LIVES;
+}
 
 static long fall_asleep(uint32_t *on)
 {
     if (interruptions-- > 0)
-        return refused(EINTR);
+        return is_interrupted = 1, refused(EINTR);
     asleep_on = on;
     wait_until(is_awake);
     return 0;
