@@ -1,5 +1,5 @@
 /* The calls: each runs its step program, or a plan of it where nobody is in the way. */
-#include "driver.h"
+#include "plans.h"
 #include <errno.h>
 #include <string.h>
 #include <sys/syscall.h>
@@ -8,9 +8,6 @@
 
 /* Where a call goes on by its steps whose access at the cell was made by a plan (crates/mutex/specs/Codings.antt). */
 enum { AT_LOCK_TAKE = 17, AT_TRYLOCK_TAKE = 22, AT_RELEASE = 24 };
-enum { NO_PLAN = 0xffff };
-
-static const uint64_t WAITERS = 0x80000000, UNUSABLE = 0x100000000;
 
 static int number_of(uint32_t reply)
 {
@@ -97,71 +94,6 @@ static struct pz_call call_of(unsigned t, uint64_t cell)
     return (struct pz_call){.head = head_place(t), .entry = cell + 1, .cell = cell, .thread = (uint8_t)t};
 }
 
-/* ---- By plan. The thread's own words are stored by it alone; what it loads of them may have been spoiled, so nothing
- * is stored where it doesn't lie in the file. */
-
-/* (How many there are is read before the first of them: for the compiler any may change it.) */
-static inline void store(word *words, const struct pz_plan *plan, unsigned i)
-{
-    STORE(&words[plan->at[i]], plan->value[i]);
-}
-
-static uint64_t own(const pz *p, uint64_t at) { return atomic_load_explicit(&p->words[at], memory_order_relaxed); }
-static int is_entry(const pz *p, uint64_t at) { return at >= LINE && at < p->places - 2; }
-
-static inline uint32_t planned_lock(pz *p, unsigned t, uint64_t cell, unsigned operation)
-{
-    struct pz_plan plan;
-    word *words = p->words, *w = &words[cell];
-    uint64_t seen = atomic_load_explicit(w, memory_order_acquire), found = seen, first = own(p, head_place(t));
-    if (!is_entry(p, first) || !pz_plan_lock(&plan, (uint8_t)t, head_place(t), cell + 1, seen, first))
-        return NO_PLAN;
-    store(words, &plan, 0); /* the pending entry, before the cell is taken */
-    if (!EXCHANGE(w, &found, plan.operand)) {
-        struct pz_call call = call_of(t, cell);
-        call.program = (uint8_t)operation;
-        call.phase.lock =
-            (struct pz_phase){.kind = operation == PZ_OP_LOCK ? AT_LOCK_TAKE : AT_TRYLOCK_TAKE, .x = seen};
-        return run_on(p, t, &call, PZ_CHANGED, found);
-    }
-    for (unsigned i = 1, n = plan.stores; i < n; i++)
-        store(words, &plan, i);
-    return plan.reply;
-}
-
-static inline uint32_t planned_unlock(pz *p, unsigned t, uint64_t cell)
-{
-    struct pz_plan plan;
-    word *words = p->words, *w = &words[cell];
-    uint64_t seen = atomic_load_explicit(w, memory_order_acquire), next = own(p, cell + 1), previous = own(p, cell + 2);
-    if (!is_entry(p, next) || !is_entry(p, previous) ||
-        !pz_plan_unlock(&plan, (uint8_t)t, head_place(t), cell + 1, seen, next, previous))
-        return NO_PLAN;
-    for (unsigned i = 0, n = plan.before; i < n; i++)
-        store(words, &plan, i);
-    uint64_t found = XOR(w, plan.operand);
-    /* WAITERS alone is no sleeper: where none has a bit, the wake of nobody and the trim that is declined are left out.
-     */
-    if ((found & WAITERS) && SEE(sleepers(p, cell))) {
-        struct pz_call call = call_of(t, cell);
-        call.program = PZ_OP_UNLOCK;
-        call.phase.lock = (struct pz_phase){.kind = AT_RELEASE};
-        return run_on(p, t, &call, PZ_VALUE, found);
-    }
-    for (unsigned i = plan.before, n = plan.stores; i < n; i++)
-        store(words, &plan, i);
-    return plan.reply;
-}
-
-static inline uint32_t planned(pz *p, unsigned t, uint64_t cell, unsigned operation)
-{
-    if (PZ_TRACE)
-        return NO_PLAN; /* a trace tells each step */
-    if (operation == PZ_OP_LOCK || operation == PZ_OP_TRYLOCK)
-        return planned_lock(p, t, cell, operation);
-    return operation == PZ_OP_UNLOCK ? planned_unlock(p, t, cell) : NO_PLAN;
-}
-
 /* ---- The calls. */
 
 /* The calling thread's id, taking part if it doesn't yet. 0, and why not. */
@@ -174,8 +106,18 @@ static unsigned self_in(pz *p, int *why)
     return pz_self[p->number].id;
 }
 
-/* Each call by itself, its operation known. */
-static inline __attribute__((always_inline)) int on_mutex(pz *p, unsigned m, unsigned operation)
+/* What its reply does to how many it holds. */
+static int counted(uint16_t *held, unsigned operation, uint32_t reply)
+{
+    if ((operation == PZ_OP_LOCK || operation == PZ_OP_TRYLOCK) && (reply == 0 || reply == EOWNERDEAD))
+        ++*held;
+    else if (operation == PZ_OP_UNLOCK && reply == 0)
+        --*held;
+    return number_of(reply);
+}
+
+/* By its steps: what isn't as the ways below want it. */
+int pz_by_steps(pz *p, unsigned m, unsigned operation)
 {
     int why = 0;
     if (m >= p->mutexes)
@@ -187,21 +129,35 @@ static inline __attribute__((always_inline)) int on_mutex(pz *p, unsigned m, uns
     int takes = operation == PZ_OP_LOCK || operation == PZ_OP_TRYLOCK;
     if (takes && *held >= HELD)
         return EAGAIN; /* the walk goes over so many */
-    uint32_t reply = planned(p, t, cell_place(m), operation);
-    if (reply == NO_PLAN) {
-        struct pz_call call = call_of(t, cell_place(m));
-        reply = run(p, &call, operation, -1);
-    }
-    if (takes && (reply == 0 || reply == EOWNERDEAD))
-        ++*held;
-    else if (operation == PZ_OP_UNLOCK && reply == 0)
-        --*held;
-    return number_of(reply);
+    struct pz_call call = call_of(t, cell_place(m));
+    return counted(held, operation, run(p, &call, operation, -1));
 }
 
-int pz_mutex_lock(pz *p, unsigned m) { return on_mutex(p, m, PZ_OP_LOCK); }
-int pz_mutex_unlock(pz *p, unsigned m) { return on_mutex(p, m, PZ_OP_UNLOCK); }
-int pz_mutex_consistent(pz *p, unsigned m) { return on_mutex(p, m, PZ_OP_CONSISTENT); }
+/* Whose exchange failed, or whose release found that somebody sleeps: it goes on by its steps from there. */
+int pz_lost(pz *p, unsigned m, unsigned operation, uint64_t seen, uint64_t found)
+{
+    struct self *self = &pz_self[p->number];
+    struct pz_call call = call_of(self->id, cell_place(m));
+    call.program = (uint8_t)operation;
+    call.phase.lock =
+        (struct pz_phase){.kind = operation == PZ_OP_LOCK ? AT_LOCK_TAKE : AT_TRYLOCK_TAKE, .x = seen};
+    return counted(&self->held, operation, run_on(p, self->id, &call, PZ_CHANGED, found));
+}
+
+int pz_released(pz *p, unsigned m, uint64_t found)
+{
+    struct self *self = &pz_self[p->number];
+    struct pz_call call = call_of(self->id, cell_place(m));
+    call.program = PZ_OP_UNLOCK;
+    call.phase.lock = (struct pz_phase){.kind = AT_RELEASE};
+    return counted(&self->held, PZ_OP_UNLOCK, run_on(p, self->id, &call, PZ_VALUE, found));
+}
+
+/* ---- The calls. */
+
+int pz_mutex_lock(pz *p, unsigned m) { return pz_take(p, m, PZ_OP_LOCK); }
+int pz_mutex_unlock(pz *p, unsigned m) { return pz_give(p, m); }
+int pz_mutex_consistent(pz *p, unsigned m) { return pz_by_steps(p, m, PZ_OP_CONSISTENT); }
 
 /* A dead thread is reaped, by this one or by whoever is at it. (nanosleep(2) itself: the C library's is a cancellation
  * point, and pthread_mutex_trylock is none.) */
@@ -216,7 +172,7 @@ static void wait_for_its_walk(pz *p, unsigned owner)
 int pz_mutex_trylock(pz *p, unsigned m)
 {
     for (;;) {
-        int r = on_mutex(p, m, PZ_OP_TRYLOCK);
+        int r = pz_take(p, m, PZ_OP_TRYLOCK);
         if (r != EBUSY)
             return r;
         uint64_t seen = atomic_load(&p->words[cell_place(m)]);
@@ -263,7 +219,7 @@ static int is_freed(pz *p, unsigned m, uint64_t seen)
 /* The word is looked at before the sleepers are: nobody comes to sleep on a mutex that is unusable, as long as nobody
  * makes it free (the law nobody_joins_an_unusable_mutex in crates/protocol). What a dead owner left is taken and
  * declared. */
-int pz_mutex_renew(pz *p, unsigned m)
+int pz_mutex_reinit(pz *p, unsigned m)
 {
     if (m >= p->mutexes)
         return EINVAL;

@@ -155,7 +155,7 @@ static void make(pz *p, const struct asked *a, const char boot[40])
 }
 
 /* The system was started anew: whoever lived by a token died with the old one, and no kernel told it. */
-static void renew(pz *p, const char boot[40])
+static void begin_boot(pz *p, const char boot[40])
 {
     make_tokens(p);
     for (unsigned t = 1; t <= THREADS; t++)
@@ -189,7 +189,7 @@ static int ready(pz *p, const struct asked *a, int whole)
     else if (!is_as_asked(p, a))
         return EINVAL;
     else if (memcmp(p->header->boot, boot, sizeof boot))
-        renew(p, boot);
+        begin_boot(p, boot);
     for (unsigned c = 0; c < a->conds; c++)
         p->cell_of[c] = cell_asked(a, c);
     return 0;

@@ -1,5 +1,6 @@
 /* The functions that programs call. A mutex that isn't libpazdrig's goes to the C library's. */
 #include "shim.h"
+#include "../plans.h"
 #include <errno.h>
 #include <string.h>
 
@@ -306,7 +307,7 @@ SHOWN int pthread_mutex_lock(pthread_mutex_t *m)
     struct mutex x;
     if (!at_hand(o, &x))
         return kept(lock, o);
-    int r = pz_mutex_lock(x.p, x.m);
+    int r = pz_take(x.p, x.m, PZ_OP_LOCK);
     return __builtin_expect(r == 0, 1) ? 0 : locked(o, x.c, x.p, r);
 }
 
@@ -318,7 +319,7 @@ SHOWN int pthread_mutex_unlock(pthread_mutex_t *m)
     struct mutex x;
     if (o->count || !at_hand(o, &x))
         return kept(unlock, o);
-    int r = pz_mutex_unlock(x.p, x.m); /* from here on others may unmap its bytes */
+    int r = pz_give(x.p, x.m); /* from here on others may unmap its bytes */
     sh_give(x.c, x.bank, x.p);
     return r;
 }

@@ -48,13 +48,13 @@ static int grow(struct companion *c)
 }
 
 /* A dead owner's is taken and declared, so an id may be needed. */
-static int renew(struct companion *c, unsigned bank, unsigned m)
+static int reinit(struct companion *c, unsigned bank, unsigned m)
 {
     pz *p = bank_in(c, bank);
     int r = p ? sh_borrow(c, bank, p) : EAGAIN;
     if (r)
         return r;
-    r = pz_mutex_renew(p, m);
+    r = pz_mutex_reinit(p, m);
     sh_give(c, bank, p);
     return r;
 }
@@ -64,7 +64,7 @@ static int is_free(struct companion *c, unsigned bank, unsigned m, const struct 
 {
     if (!atomic_load(&s->offset))
         return 1;
-    return atomic_load(&s->memory) == LOST && renew(c, bank, m) == 0;
+    return atomic_load(&s->memory) == LOST && reinit(c, bank, m) == 0;
 }
 
 struct found {
@@ -131,7 +131,7 @@ int sh_number_for(struct companion *c, const struct object *o, uint32_t *number)
         *number = f.same ? f.number : f.free;
         if (!f.same)
             take_slot(c, *number, memory, o->offset);
-        r = renew(c, bank_of(*number), *number - first_of(bank_of(*number)));
+        r = reinit(c, bank_of(*number), *number - first_of(bank_of(*number)));
         if (r != EBUSY)
             return r;
         atomic_store(&slot_of(c, *number)->memory, LOST);
@@ -142,7 +142,7 @@ int sh_number_for(struct companion *c, const struct object *o, uint32_t *number)
 int sh_give_number(struct companion *c, struct ours *o)
 {
     uint32_t number = o->number;
-    int r = renew(c, bank_of(number), number - first_of(bank_of(number)));
+    int r = reinit(c, bank_of(number), number - first_of(bank_of(number)));
     if (r)
         return r;
     atomic_store(&o->kind, (uint32_t)-1);

@@ -76,31 +76,31 @@ static void an_owner_dies(void)
 }
 
 /* An unusable mutex is made free again, and one whose owner died; not while somebody has it or sleeps on it. */
-static void a_renewal(void)
+static void a_reinit(void)
 {
-    pz *p = open_new("renewal", 2, 0);
-    SAME(pz_mutex_renew(p, 2), EINVAL);
-    SAME(pz_mutex_renew(p, 0), 0);
+    pz *p = open_new("reinit", 2, 0);
+    SAME(pz_mutex_reinit(p, 2), EINVAL);
+    SAME(pz_mutex_reinit(p, 0), 0);
     SAME(pz_mutex_lock(p, 0), 0);
-    SAME(pz_mutex_renew(p, 0), EBUSY);
+    SAME(pz_mutex_reinit(p, 0), EBUSY);
     SAME(pz_mutex_unlock(p, 0), 0);
     pid_t owner = holder(p, 0);
-    SAME(pz_mutex_renew(p, 0), EBUSY);
+    SAME(pz_mutex_reinit(p, 0), EBUSY);
     kill_and_wait(owner);
-    SAME(pz_mutex_renew(p, 0), 0);
+    SAME(pz_mutex_reinit(p, 0), 0);
     SAME(pz_mutex_trylock(p, 0), 0);
     pid_t sleeper = fork();
     if (!sleeper)
         _exit(pz_mutex_lock(p, 0));
     until_asleep(sleeper);
-    SAME(pz_mutex_renew(p, 0), EBUSY);
+    SAME(pz_mutex_reinit(p, 0), EBUSY);
     kill_and_wait(sleeper);
     SAME(pz_mutex_unlock(p, 0), 0);
     kill_and_wait(holder(p, 0));
     SAME(pz_mutex_lock(p, 0), EOWNERDEAD);
     SAME(pz_mutex_unlock(p, 0), 0);
     SAME(pz_mutex_lock(p, 0), ENOTRECOVERABLE);
-    SAME(pz_mutex_renew(p, 0), 0);
+    SAME(pz_mutex_reinit(p, 0), 0);
     SAME(pz_mutex_lock(p, 0), 0);
     kill_and_wait(holder(p, 1));
     SAME(pz_mutex_unlock(p, 0), 0);
@@ -108,8 +108,8 @@ static void a_renewal(void)
     pz_close(p);
 }
 
-/* Whoever sleeps while it becomes unusable, and is stopped there, is told so: until then it isn't renewed. */
-static void a_renewal_waits_for_sleepers(void)
+/* Whoever sleeps while it becomes unusable, and is stopped there, is told so: until then it isn't made anew. */
+static void a_reinit_waits_for_sleepers(void)
 {
     pz *p = open_new("stopped", 1, 0);
     kill_and_wait(holder(p, 0));
@@ -122,10 +122,10 @@ static void a_renewal_waits_for_sleepers(void)
     kill(sleeper, SIGSTOP);
     CHECK(waitpid(sleeper, &status, WUNTRACED) == sleeper && WIFSTOPPED(status));
     SAME(pz_mutex_unlock(p, 0), 0);
-    SAME(pz_mutex_renew(p, 0), EBUSY);
+    SAME(pz_mutex_reinit(p, 0), EBUSY);
     kill(sleeper, SIGCONT);
     CHECK(waitpid(sleeper, &status, 0) == sleeper && status == 0);
-    SAME(pz_mutex_renew(p, 0), 0);
+    SAME(pz_mutex_reinit(p, 0), 0);
     SAME(pz_mutex_lock(p, 0), 0);
     pz_close(p);
 }
@@ -150,7 +150,7 @@ static void spoiled_with_sleepers(void)
     pz_close(p);
 }
 
-/* Woken and at work again it sleeps nowhere, so what it waited for can be renewed. */
+/* Woken and at work again it sleeps nowhere, so what it waited for can be made anew. */
 static void a_waiter_that_was_moved(void)
 {
     pz *p = open_new("moved", 1, 1);
@@ -170,7 +170,7 @@ static void a_waiter_that_was_moved(void)
     SAME(pz_mutex_unlock(p, 0), 0);
     while (!atomic_load(is_back))
         rest(100);
-    SAME(pz_mutex_renew(p, 0), 0);
+    SAME(pz_mutex_reinit(p, 0), 0);
     kill_and_wait(waiter);
     pz_close(p);
     munmap(is_back, sizeof *is_back);
@@ -416,8 +416,8 @@ int main(void)
     CHECK(!pthread_atfork(NULL, NULL, in_the_child));
     calls_and_refusals();
     an_owner_dies();
-    a_renewal();
-    a_renewal_waits_for_sleepers();
+    a_reinit();
+    a_reinit_waits_for_sleepers();
     spoiled_with_sleepers();
     a_waiter_that_was_moved();
     a_sleeper_is_told_of_a_death();

@@ -32,7 +32,7 @@ static void work(int slot)
         if (r == EBUSY)
             continue;
         if (r == ENOTRECOVERABLE) {
-            r = pz_mutex_renew(p, m);
+            r = pz_mutex_reinit(p, m);
             CHECK(r == 0 || r == EBUSY);
             continue;
         }
@@ -77,7 +77,7 @@ int main(int argc, char **argv)
         end(child[i], i);
     pz_reap(p);
     SAME(pz_thread_begin(p), 0);
-    SAME(pz_mutex_renew(p, 1), 0);
+    SAME(pz_mutex_reinit(p, 1), 0);
     SAME(pz_mutex_lock(p, 1), 0);
     SAME(pz_thread_end(p), 0); /* as its owner: by a death */
     pz_trace_write(stdout, MUTEXES, CONDS);

@@ -67,7 +67,7 @@ static void undo(struct bank *b)
 }
 
 /* EOWNERDEAD: the mutex is this thread's, and what it guards is as its dead owner left it. Only pz_mutex_consistent,
- * behind the repair, makes it a mutex like any other; an unlock without it makes it unusable, until pz_mutex_renew. */
+ * behind the repair, makes it a mutex like any other; an unlock without it makes it unusable, until pz_mutex_reinit. */
 static void lock(pz *p, struct bank *b)
 {
     int r = pz_mutex_lock(p, 0);

@@ -1,0 +1,69 @@
+/* A lock and an unlock in one go, where nobody is in the way: the stores of a plan written out, in its order (lock_plan
+ * and unlock_plan in crates/pazdrig_c/specs/Plans.antt; tries/plans compares them with pz_plan_lock and
+ * pz_plan_unlock). The thread's own words are stored by it alone; what it loads of them may have been spoiled, so
+ * nothing is stored where it doesn't lie in the file. */
+#ifndef PZ_PLANS_H
+#define PZ_PLANS_H
+#include "driver.h"
+#include <errno.h>
+
+static const uint64_t OWNED = 0x3fffffff, DIED = 0x40000000, WAITERS = 0x80000000, UNUSABLE = 0x100000000;
+
+/* ---- calls.c: what isn't as the ways below want it goes by its steps; so does, from there on, whose exchange failed,
+ * and whose release found that somebody may sleep. */
+int pz_by_steps(pz *p, unsigned m, unsigned operation);
+int pz_lost(pz *p, unsigned m, unsigned operation, uint64_t seen, uint64_t found);
+int pz_released(pz *p, unsigned m, uint64_t found);
+
+static inline uint64_t own(const word *w) { return atomic_load_explicit(w, memory_order_relaxed); }
+static inline int is_entry(const pz *p, uint64_t at) { return at - LINE < p->places - 2 - LINE; }
+
+/* The cell is free, and the thread may hold one more. */
+static inline __attribute__((always_inline)) int pz_take(pz *p, unsigned m, unsigned operation)
+{
+    struct self *self = &pz_self[p->number];
+    uint64_t t = self->id, head = head_place(self->id), cell = cell_place(m), entry = cell + 1;
+    if (PZ_TRACE || m >= p->mutexes || !t || self->held >= HELD)
+        return pz_by_steps(p, m, operation);
+    word *words = p->words, *h = &words[head], *w = &words[cell];
+    uint64_t seen = atomic_load_explicit(w, memory_order_acquire), found = seen, first = own(h);
+    if ((seen & (OWNED | UNUSABLE)) || !is_entry(p, first))
+        return pz_by_steps(p, m, operation);
+    STORE(h + 2, entry); /* pending, before the cell is taken */
+    if (!EXCHANGE(w, &found, seen | t))
+        return pz_lost(p, m, operation, seen, found);
+    STORE(w + 1, first);
+    STORE(w + 2, head);
+    if (first != head)
+        STORE(&words[first + 1], entry);
+    STORE(h, entry);
+    STORE(h + 2, 0);
+    self->held++;
+    return seen & DIED ? EOWNERDEAD : 0;
+}
+
+/* The cell is the thread's, and consistent. */
+static inline __attribute__((always_inline)) int pz_give(pz *p, unsigned m)
+{
+    struct self *self = &pz_self[p->number];
+    uint64_t t = self->id, head = head_place(self->id), cell = cell_place(m), entry = cell + 1;
+    if (PZ_TRACE || m >= p->mutexes || !t)
+        return pz_by_steps(p, m, PZ_OP_UNLOCK);
+    word *words = p->words, *h = &words[head], *w = &words[cell];
+    uint64_t seen = atomic_load_explicit(w, memory_order_acquire), next = own(w + 1), previous = own(w + 2);
+    if ((seen & (OWNED | DIED)) != t || !is_entry(p, next) || !is_entry(p, previous))
+        return pz_by_steps(p, m, PZ_OP_UNLOCK);
+    STORE(h + 2, entry);
+    STORE(&words[previous], next);
+    if (next != head)
+        STORE(&words[next + 1], previous);
+    uint64_t found = XOR(w, t);
+    /* WAITERS alone is no sleeper: where none has a bit, the wake of nobody and the trim that is declined are left out.
+     */
+    if ((found & WAITERS) && SEE(w + 3))
+        return pz_released(p, m, found);
+    STORE(h + 2, 0);
+    self->held--;
+    return 0;
+}
+#endif

@@ -1,0 +1,237 @@
+/* A lock, a trylock and an unlock in one go are compared with the proved plans: for each thread, each cell that it may
+ * find and each neighbour, the memory is looked at before each instruction and at the end. What changed is what the plan
+ * says, in its order; what a plan refuses goes by its steps; and where the exchange fails, or somebody is to be woken,
+ * the call goes on where the proved program stands. */
+static void pz_look(void);
+#define PZ_BETWEEN() pz_look()
+#define pz_begin     begun
+#define pz_step      stepped
+#include "../calls.c"
+#undef pz_begin
+#undef pz_step
+#include "try.h"
+
+uint32_t pz_begin(struct pz_call *call, struct pz_access *access, uint32_t operation);
+uint32_t pz_step(struct pz_call *call, struct pz_access *access, uint32_t answer, uint64_t value);
+
+enum { MUTEXES = 3, PLACES = LINE * (1 + THREADS + MUTEXES), MOST = 16 };
+
+/* ---- What a call does, seen from outside. */
+
+static struct {
+    uint64_t at, value;
+} made[MOST];
+static unsigned looks, changes, begins, steps;
+static struct pz_call stands; /* where it goes on by its steps, and with what */
+static uint32_t answered;
+static uint64_t with, changed_to;
+static int changes_meanwhile; /* another changes the cell before the exchange */
+static uint64_t is[PLACES], was[PLACES], cell;
+
+static void look_at(uint64_t at)
+{
+    if (is[at] == was[at])
+        return;
+    CHECK(changes < MOST);
+    made[changes].at = at;
+    made[changes++].value = was[at] = is[at];
+}
+static void pz_look(void)
+{
+    unsigned before = changes;
+    for (uint64_t at = 0; at < PLACES; at++)
+        look_at(at);
+    CHECK(changes <= before + 1); /* one instruction each */
+    if (changes_meanwhile && ++looks == 2)
+        is[cell] = was[cell] = changed_to;
+}
+
+uint32_t begun(struct pz_call *call, struct pz_access *access, uint32_t operation)
+{
+    (void)call, (void)access, (void)operation;
+    begins++;
+    return PZ_NO_SUCH;
+}
+uint32_t stepped(struct pz_call *call, struct pz_access *access, uint32_t answer, uint64_t value)
+{
+    (void)access;
+    steps++;
+    stands = *call;
+    answered = answer;
+    with = value;
+    return PZ_NO_SUCH;
+}
+
+/* ---- A file of words that are all different, so that each store is seen. */
+
+static pz file;
+static uint64_t state = 88172645463325252u;
+static uint64_t any(void)
+{
+    state ^= state << 13;
+    state ^= state >> 7;
+    return state ^= state << 17;
+}
+
+static void begin(unsigned t, unsigned m)
+{
+    for (uint64_t at = 0; at < PLACES; at++)
+        is[at] = any() | 1ull << 63;
+    cell = cell_place(m);
+    pz_self[0] = (struct self){.id = (uint8_t)t, .held = 7};
+    looks = changes = begins = steps = 0;
+}
+static void go(void) { memcpy(was, is, sizeof is); }
+
+/* The rest of what it did, behind the last instruction. */
+static void end(void)
+{
+    unsigned saved = looks;
+    changes_meanwhile = 0;
+    pz_look();
+    looks = saved;
+}
+
+static void same_change(unsigned i, uint64_t at, uint64_t value)
+{
+    CHECK(i < changes && made[i].at == at && made[i].value == value);
+}
+
+/* ---- Cases. */
+
+static const uint64_t ABOVE[] = {0, 1ull << 33, 0xdeadbeeull << 33};
+
+/* What stands in a cell: each owner that there may be, with each of the three marks. */
+static uint64_t cell_of_case(unsigned k, unsigned t)
+{
+    static const uint64_t owners[] = {0, 1, 2, 63, 64, 65, 0x3fffffff};
+    uint64_t owner = k % 8 < 7 ? owners[k % 8] : t;
+    return owner | (uint64_t)(k / 8 % 2) << 30 | (uint64_t)(k / 16 % 2) << 31 | (uint64_t)(k / 32 % 2) << 32 |
+           ABOVE[k / 64];
+}
+enum { CELLS = 3 * 64, LINKS = 6 };
+
+/* What stands in a link: the thread's own head, another mutex's entry, strays at both ends of the file and beyond it. */
+static uint64_t link_of_case(unsigned k, unsigned t, unsigned m)
+{
+    const uint64_t links[LINKS] = {head_place(t), cell_place((m + 1) % MUTEXES) + 1, LINE - 1, PLACES - 2, PLACES - 3,
+                                   any()};
+    return links[k];
+}
+
+/* The program itself, up to where a call stands whose exchange is made, or whose cell is released. */
+static struct pz_call proved(unsigned t, unsigned operation, const uint64_t *loaded, unsigned until)
+{
+    struct pz_call call = call_of(t, cell);
+    struct pz_access x;
+    uint32_t kind;
+    SAME((int)pz_begin(&call, &x, operation), PZ_GOES);
+    while ((kind = x.kind) != until) {
+        uint64_t value = kind == PZ_LOAD ? *loaded++ : 0;
+        SAME((int)pz_step(&call, &x, kind == PZ_LOAD ? PZ_VALUE : PZ_STORED, value), PZ_GOES);
+    }
+    return call;
+}
+static int same_call(const struct pz_call *a, const struct pz_call *b)
+{
+    const struct pz_phase *p = &a->phase.lock, *q = &b->phase.lock;
+    return a->head == b->head && a->entry == b->entry && a->cell == b->cell && a->counter == b->counter &&
+           a->program == b->program && a->thread == b->thread && p->x == q->x && p->y == q->y && p->kind == q->kind &&
+           p->flag == q->flag && a->phase.seen == b->phase.seen && a->phase.kind == b->phase.kind;
+}
+
+static long planned, refused, went_on;
+
+static void a_lock(unsigned t, unsigned m, unsigned operation, uint64_t seen, uint64_t first, int meanwhile)
+{
+    struct pz_plan plan;
+    begin(t, m);
+    is[cell] = seen;
+    is[head_place(t)] = first;
+    go();
+    changes_meanwhile = meanwhile;
+    changed_to = seen ^ 1ull << 31;
+    int fits = first >= LINE && first < PLACES - 2;
+    int may = fits && pz_plan_lock(&plan, (uint8_t)t, head_place(t), cell + 1, seen, first);
+    int r = pz_take(&file, m, operation);
+    end();
+    if (!may) {
+        CHECK(begins == 1 && changes == 0 && r == EINVAL && pz_self[0].held == 7);
+        refused++;
+        return;
+    }
+    CHECK(begins == 0);
+    same_change(0, plan.at[0], plan.value[0]);
+    SAME((int)plan.before, 1);
+    if (meanwhile) {
+        struct pz_call call = proved(t, operation, &seen, PZ_EXCHANGE);
+        CHECK(steps == 1 && changes == 1 && answered == PZ_CHANGED && with == changed_to && same_call(&stands, &call));
+        went_on++;
+        return;
+    }
+    same_change(1, cell, plan.operand);
+    for (unsigned i = 1; i < plan.stores; i++)
+        same_change(i + 1, plan.at[i], plan.value[i]);
+    CHECK(steps == 0 && changes == plan.stores + 1 && pz_self[0].held == 8);
+    SAME(r, (int)plan.reply);
+    planned++;
+}
+
+static void an_unlock(unsigned t, unsigned m, uint64_t seen, uint64_t next, uint64_t previous, int sleeps)
+{
+    struct pz_plan plan;
+    begin(t, m);
+    is[cell] = seen;
+    is[cell + 1] = next;
+    is[cell + 2] = previous;
+    if (!sleeps)
+        is[cell + 3] = 0;
+    go();
+    int fits = next >= LINE && next < PLACES - 2 && previous >= LINE && previous < PLACES - 2;
+    int may = fits && pz_plan_unlock(&plan, (uint8_t)t, head_place(t), cell + 1, seen, next, previous);
+    int r = pz_give(&file, m);
+    end();
+    if (!may) {
+        CHECK(begins == 1 && changes == 0 && r == EINVAL && pz_self[0].held == 7);
+        refused++;
+        return;
+    }
+    CHECK(begins == 0);
+    for (unsigned i = 0; i < plan.before; i++)
+        same_change(i, plan.at[i], plan.value[i]);
+    same_change(plan.before, cell, seen ^ plan.operand);
+    if (sleeps && (seen & WAITERS)) {
+        uint64_t loaded[] = {seen, next, previous};
+        struct pz_call call = proved(t, PZ_OP_UNLOCK, loaded, PZ_XOR);
+        CHECK(steps == 1 && changes == plan.before + 1 && answered == PZ_VALUE && with == seen &&
+              same_call(&stands, &call));
+        went_on++;
+        return;
+    }
+    for (unsigned i = plan.before; i < plan.stores; i++)
+        same_change(i + 1, plan.at[i], plan.value[i]);
+    CHECK(steps == 0 && changes == plan.stores + 1 && pz_self[0].held == 6);
+    SAME(r, (int)plan.reply);
+    planned++;
+}
+
+int main(void)
+{
+    file = (pz){.words = (word *)is, .places = PLACES, .mutexes = MUTEXES};
+    for (unsigned t = 1; t <= THREADS; t++)
+        for (unsigned m = 0; m < MUTEXES; m++)
+            for (unsigned k = 0; k < CELLS; k++)
+                for (unsigned i = 0; i < LINKS; i++) {
+                    uint64_t seen = cell_of_case(k, t), link = link_of_case(i, t, m);
+                    for (int meanwhile = 0; meanwhile < 2; meanwhile++) {
+                        a_lock(t, m, PZ_OP_LOCK, seen, link, meanwhile);
+                        a_lock(t, m, PZ_OP_TRYLOCK, seen, link, meanwhile);
+                    }
+                    for (unsigned j = 0; j < LINKS; j++)
+                        for (int sleeps = 0; sleeps < 2; sleeps++)
+                            an_unlock(t, m, seen, link, link_of_case(j, t, m), sleeps);
+                }
+    printf("plans: %ld calls as their plan, %ld by steps, %ld gone on with\n", planned, refused, went_on);
+    CHECK(planned > 1000 && refused > 1000 && went_on > 1000);
+    return 0;
+}
