@@ -6,8 +6,10 @@
 #include <time.h>
 #include <unistd.h>
 
-/* Where a call goes on by its steps whose access at the cell was made by a plan (crates/mutex/specs/Codings.antt). */
+/* Where a call goes on by its steps whose last access was made by a plan (Codings.antt in crates/mutex/specs and
+ * crates/condvar/specs). */
 enum { AT_LOCK_TAKE = 17, AT_TRYLOCK_TAKE = 22, AT_RELEASE = 24 };
+enum { ON_CONDITION = 4, AT_SIGNAL_COUNT = 8, AT_BROADCAST_SET_WAITERS = 13 };
 
 static int number_of(uint32_t reply)
 {
@@ -153,11 +155,29 @@ int pz_released(pz *p, unsigned m, uint64_t found)
     return counted(&self->held, PZ_OP_UNLOCK, run_on(p, self->id, &call, PZ_VALUE, found));
 }
 
+/* The cell was seen owned, or unusable. A lock that isn't the owner's waits, and one that finds sleepers of an unusable
+ * mutex wakes them: by their steps. */
+int pz_refused(pz *p, unsigned m, unsigned operation, uint64_t seen)
+{
+    unsigned t = pz_self[p->number].id;
+    int is_lock = operation == PZ_OP_LOCK, reply = EBUSY;
+    if (seen & UNUSABLE)
+        reply = ENOTRECOVERABLE;
+    else if (is_lock)
+        reply = EDEADLK;
+    if (is_lock && (seen & UNUSABLE ? seen & WAITERS : owner_of(seen) != t))
+        return pz_by_steps(p, m, operation);
+    word *pending = &p->words[head_place(t) + 2];
+    STORE(pending, cell_place(m) + 1);
+    STORE(pending, 0);
+    return reply;
+}
+
 /* ---- The calls. */
 
 int pz_mutex_lock(pz *p, unsigned m) { return pz_take(p, m, PZ_OP_LOCK); }
 int pz_mutex_unlock(pz *p, unsigned m) { return pz_give(p, m); }
-int pz_mutex_consistent(pz *p, unsigned m) { return pz_by_steps(p, m, PZ_OP_CONSISTENT); }
+int pz_mutex_consistent(pz *p, unsigned m) { return pz_declare(p, m); }
 
 /* A dead thread is reaped, by this one or by whoever is at it. (nanosleep(2) itself: the C library's is a cancellation
  * point, and pthread_mutex_trylock is none.) */
@@ -236,7 +256,16 @@ int pz_mutex_reinit(pz *p, unsigned m)
     return r ? r : pz_mutex_unlock(p, m);
 }
 
-static int on_condition(pz *p, unsigned c, unsigned operation)
+/* ---- Condition variables. */
+
+static struct pz_call cond_call_of(const pz *p, unsigned t, unsigned c)
+{
+    struct pz_call call = call_of(t, p->cell_of[c]);
+    call.counter = counter_place(p, c);
+    return call;
+}
+
+int pz_cond_by_steps(pz *p, unsigned c, unsigned operation)
 {
     int why = 0;
     if (c >= p->conds)
@@ -244,8 +273,7 @@ static int on_condition(pz *p, unsigned c, unsigned operation)
     unsigned t = self_in(p, &why);
     if (!t)
         return why;
-    struct pz_call call = call_of(t, p->cell_of[c]);
-    call.counter = counter_place(p, c);
+    struct pz_call call = cond_call_of(p, t, c);
     word *w = &p->words[p->cell_of[c]];
     int owned = owner_of(atomic_load(w)) == t;
     uint32_t reply = run(p, &call, operation, (int)c);
@@ -256,9 +284,20 @@ static int on_condition(pz *p, unsigned c, unsigned operation)
     return number_of(reply);
 }
 
-int pz_cond_wait(pz *p, unsigned c) { return on_condition(p, c, PZ_OP_WAIT); }
-int pz_cond_signal(pz *p, unsigned c) { return on_condition(p, c, PZ_OP_SIGNAL); }
-int pz_cond_broadcast(pz *p, unsigned c) { return on_condition(p, c, PZ_OP_BROADCAST); }
+/* Whose count, and a broadcast's WAITERS, are made, and who found that somebody may sleep. */
+int pz_counted(pz *p, unsigned c, unsigned operation, uint64_t count, uint64_t found)
+{
+    unsigned t = pz_self[p->number].id;
+    struct pz_call call = cond_call_of(p, t, c);
+    call.program = ON_CONDITION;
+    call.phase.kind = operation == PZ_OP_SIGNAL ? AT_SIGNAL_COUNT : AT_BROADCAST_SET_WAITERS;
+    call.phase.seen = operation == PZ_OP_SIGNAL ? 0 : (uint32_t)count;
+    return number_of(run_on(p, t, &call, PZ_VALUE, found));
+}
+
+int pz_cond_wait(pz *p, unsigned c) { return pz_cond_by_steps(p, c, PZ_OP_WAIT); }
+int pz_cond_signal(pz *p, unsigned c) { return pz_count(p, c, PZ_OP_SIGNAL); }
+int pz_cond_broadcast(pz *p, unsigned c) { return pz_count(p, c, PZ_OP_BROADCAST); }
 
 /* ---- Threads take part and leave. */
 

@@ -1,7 +1,7 @@
-/* A lock and an unlock in one go, where nobody is in the way: the stores of a plan written out, in its order (lock_plan
- * and unlock_plan in crates/pazdrig_c/specs/Plans.antt; tries/plans compares them with pz_plan_lock and
- * pz_plan_unlock). The thread's own words are stored by it alone; what it loads of them may have been spoiled, so
- * nothing is stored where it doesn't lie in the file. */
+/* Calls in one go, where nobody is in the way, and refusals at the first look: the changes of a plan written out, in its
+ * order (crates/pazdrig_c/specs/Plans.antt; tries/plans compares them with the functions pz_plan_*). The thread's own
+ * words are stored by it alone; what it loads of them may have been spoiled, so nothing is stored where it doesn't lie
+ * in the file. */
 #ifndef PZ_PLANS_H
 #define PZ_PLANS_H
 #include "driver.h"
@@ -9,11 +9,17 @@
 
 static const uint64_t OWNED = 0x3fffffff, DIED = 0x40000000, WAITERS = 0x80000000, UNUSABLE = 0x100000000;
 
+/* What a counter stays at: who would count on is refused. */
+static const uint64_t FULL = 0xffffffff;
+
 /* ---- calls.c: what isn't as the ways below want it goes by its steps; so does, from there on, whose exchange failed,
- * and whose release found that somebody may sleep. */
+ * whose release found that somebody may sleep, and whose signal did. */
 int pz_by_steps(pz *p, unsigned m, unsigned operation);
+int pz_refused(pz *p, unsigned m, unsigned operation, uint64_t seen);
 int pz_lost(pz *p, unsigned m, unsigned operation, uint64_t seen, uint64_t found);
 int pz_released(pz *p, unsigned m, uint64_t found);
+int pz_cond_by_steps(pz *p, unsigned c, unsigned operation);
+int pz_counted(pz *p, unsigned c, unsigned operation, uint64_t count, uint64_t found);
 
 static inline uint64_t own(const word *w) { return atomic_load_explicit(w, memory_order_relaxed); }
 static inline int is_entry(const pz *p, uint64_t at) { return at - LINE < p->places - 2 - LINE; }
@@ -27,7 +33,9 @@ static inline __attribute__((always_inline)) int pz_take(pz *p, unsigned m, unsi
         return pz_by_steps(p, m, operation);
     word *words = p->words, *h = &words[head], *w = &words[cell];
     uint64_t seen = atomic_load_explicit(w, memory_order_acquire), found = seen, first = own(h);
-    if ((seen & (OWNED | UNUSABLE)) || !is_entry(p, first))
+    if (seen & (OWNED | UNUSABLE))
+        return pz_refused(p, m, operation, seen);
+    if (!is_entry(p, first))
         return pz_by_steps(p, m, operation);
     STORE(h + 2, entry); /* pending, before the cell is taken */
     if (!EXCHANGE(w, &found, seen | t))
@@ -51,7 +59,9 @@ static inline __attribute__((always_inline)) int pz_give(pz *p, unsigned m)
         return pz_by_steps(p, m, PZ_OP_UNLOCK);
     word *words = p->words, *h = &words[head], *w = &words[cell];
     uint64_t seen = atomic_load_explicit(w, memory_order_acquire), next = own(w + 1), previous = own(w + 2);
-    if ((seen & (OWNED | DIED)) != t || !is_entry(p, next) || !is_entry(p, previous))
+    if ((seen & OWNED) != t)
+        return EPERM; /* refused before it stores anything */
+    if ((seen & DIED) || !is_entry(p, next) || !is_entry(p, previous))
         return pz_by_steps(p, m, PZ_OP_UNLOCK);
     STORE(h + 2, entry);
     STORE(&words[previous], next);
@@ -65,5 +75,41 @@ static inline __attribute__((always_inline)) int pz_give(pz *p, unsigned m)
     STORE(h + 2, 0);
     self->held--;
     return 0;
+}
+
+/* The cell is the thread's, or else nothing is stored. */
+static inline int pz_declare(pz *p, unsigned m)
+{
+    uint64_t t = pz_self[p->number].id;
+    if (PZ_TRACE || m >= p->mutexes || !t)
+        return pz_by_steps(p, m, PZ_OP_CONSISTENT);
+    word *w = &p->words[cell_place(m)];
+    uint64_t seen = atomic_load_explicit(w, memory_order_acquire);
+    if ((seen & OWNED) != t)
+        return EPERM;
+    if (!(seen & DIED))
+        return EINVAL;
+    AND(w, ~DIED);
+    return 0;
+}
+
+/* A signal or a broadcast by the mutex's owner, over a counter that goes up once more. Whoever is about to sleep finds it
+ * changed: so where nobody has a bit behind that, there is nobody to wake, and nobody to move. */
+static inline int pz_count(pz *p, unsigned c, unsigned operation)
+{
+    uint64_t t = pz_self[p->number].id;
+    if (PZ_TRACE || c >= p->conds || !t)
+        return pz_cond_by_steps(p, c, operation);
+    word *w = &p->words[p->cell_of[c]], *counter = &p->words[counter_place(p, c)];
+    uint64_t seen = atomic_load_explicit(w, memory_order_acquire);
+    if ((seen & OWNED) != t)
+        return EPERM;
+    uint64_t count = atomic_load_explicit(counter, memory_order_acquire);
+    if (count == FULL)
+        return EOVERFLOW;
+    uint64_t found = ADD(counter, 1);
+    if (operation == PZ_OP_BROADCAST)
+        found = OR(w, WAITERS); /* before anybody is moved there */
+    return SEE(counter + 3) ? pz_counted(p, c, operation, count, found) : 0;
 }
 #endif

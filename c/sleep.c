@@ -195,12 +195,22 @@ static void see_to_owner(const struct sleeper *s)
         pz_reap_one(s->p, owner);
 }
 
+/* Its owner is dead already, so no pause pays: whether this thread has reaped it, or found it reaped. */
+static int is_reaped(const struct sleeper *s)
+{
+    unsigned owner = owner_of(s->expected);
+    return owner && owner <= THREADS && owner != s->thread && has_died(s->p, owner) &&
+           pz_reap_one(s->p, owner) == GONE;
+}
+
 uint32_t pz_sleep(pz *p, unsigned t, uint64_t at, uint32_t expected)
 {
     int counter = is_counter(p, at);
+    struct sleeper s = {.p = p, .thread = t, .at = at, .expected = expected, .look_ms = FIRST_LOOK_MS};
+    if (!counter && is_reaped(&s))
+        return unless_changed(&s, PZ_WOKEN);
     if (!counter && changes_soon(&p->words[at], expected))
         return PZ_AGAIN;
-    struct sleeper s = {.p = p, .thread = t, .at = at, .expected = expected, .look_ms = FIRST_LOOK_MS};
     OR(sleepers(p, at), bit_of(t));
     uint32_t answer;
     do

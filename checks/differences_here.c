@@ -76,6 +76,7 @@ static const struct row {
     { "several threads sleep on a mutex that becomes unusable", sleepers_of_a_spoiled_mutex, "3 told ENOTRECOVERABLE, 0 sleep on" },
     { "a second trylock of an unusable mutex", trylock_of_a_spoiled_mutex,
       "ENOTRECOVERABLE, then ENOTRECOVERABLE, of another ENOTRECOVERABLE, its lock ENOTRECOVERABLE, unlock EPERM" },
+    { "a thread is killed inside a lock of an unusable mutex", killed_in_a_lock_of_a_spoiled_mutex, "lock ENOTRECOVERABLE" },
     { "consistent by a thread that doesn't own the mutex", consistent_of_another, "EPERM, then lock ENOTRECOVERABLE" },
     { "the 2,049th mutex of a thread", one_mutex_too_many, "EAGAIN, 2048 tell the death" },
     { "a wait on a condition variable whose mutex is inconsistent", wait_with_an_inconsistent_mutex, "EINVAL, trylock of another EBUSY" },

@@ -57,6 +57,29 @@ static void trylock_of_a_spoiled_mutex(void)
     say("%s", name(unlock()));
 }
 
+static int lock_again_and_again(void)
+{
+    while (lock() == ENOTRECOVERABLE)
+        ;
+    return 1;
+}
+
+/* Others are killed while they lock it, until a lock is told something else: within 5,000 kills, or never. */
+static void killed_in_a_lock_of_a_spoiled_mutex(void)
+{
+    int answer = ENOTRECOVERABLE;
+    spoil();
+    for (int kills = 0; kills < 5000 && answer == ENOTRECOVERABLE; kills++) {
+        pid_t locker = begin(lock_again_and_again);
+        usleep(100 + kills % 200); /* anywhere in a call, or between two */
+        kill_it(locker);
+        answer = lock();
+    }
+    say("lock %s", name(answer));
+    if (answer == EOWNERDEAD)
+        say(", then repaired and locked again %s", name(consistent() ?: unlock() ?: lock()));
+}
+
 /* A waiter of a condition variable is killed; then one after the other waits there and is signalled. */
 static void signals_behind_a_killed_waiter(int (*signal_once)(void))
 {

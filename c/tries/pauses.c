@@ -1,5 +1,6 @@
 /* How long a thread pauses before it sleeps on a word, by a clock that is played: PZ_SPIN microseconds at most, half as
- * long after each time that it didn't pay, twice as long after each that it did, and now and then PZ_SPIN again. */
+ * long after each time that it didn't pay, twice as long after each that it did, and now and then PZ_SPIN again; not at
+ * all where the word's owner is dead. */
 #include <time.h>
 
 static int played_clock(clockid_t clock, struct timespec *now);
@@ -13,9 +14,22 @@ enum { STEP_US = 100 };
 static word at;
 static int reads;
 
-/* Nobody sleeps here, and nobody dies. */
-uint32_t *pz_token_word(pz *p, unsigned t) { return (void)p, (void)t, NULL; }
-enum fate pz_reap_one(pz *p, unsigned t) { return (void)p, (void)t, GONE; }
+/* Nobody sleeps here. Thread 2 is dead, and its walk marks the one mutex. */
+enum { DEAD = 2, SELF = 1 };
+static struct pz file;
+static word words[80 * LINE];
+uint32_t *pz_token_word(pz *p, unsigned t)
+{
+    static uint32_t token = FUTEX_OWNER_DIED;
+    CHECK(p == &file && t == DEAD);
+    return &token;
+}
+enum fate pz_reap_one(pz *p, unsigned t)
+{
+    CHECK(p == &file && t == DEAD);
+    atomic_store(&words[cell_place(0)], FUTEX_OWNER_DIED);
+    return GONE;
+}
 
 /* Each look at it takes STEP_US; a second begins soon after the first. */
 static int played_clock(clockid_t clock, struct timespec *now)
@@ -57,9 +71,19 @@ static void a_word_that_changes(void)
     CHECK(patience.us == PZ_SPIN);
 }
 
+static void a_dead_owner(void)
+{
+    file = (struct pz){.words = words, .places = 80 * LINE, .mutexes = 8};
+    atomic_store(&words[cell_place(0)], DEAD);
+    reads = 0;
+    SAME((int)pz_sleep(&file, SELF, cell_place(0), DEAD), PZ_AGAIN);
+    CHECK(reads == 0 && !atomic_load(sleepers(&file, cell_place(0))));
+}
+
 int main(void)
 {
     a_word_that_stays();
     a_word_that_changes();
+    a_dead_owner();
     return 0;
 }

@@ -1,6 +1,7 @@
-/* Locks and unlocks beside the C library's robust, process-shared, error-checking mutex, in one run and in turn: alone,
- * by 2 and by 4 processes; and the time from a SIGKILL until a sleeper has EOWNERDEAD. Prints a row a case: ours, the C
- * library's, the quotient, in ns or us, the middle of RUNS. usage: speed RUNS */
+/* Calls beside the C library's robust, process-shared, error-checking mutex, in one run and in turn: locks and unlocks
+ * alone, by 2 and by 4 processes; a lock, a signal to nobody and an unlock; refusals; and the time from a SIGKILL until
+ * a sleeper has EOWNERDEAD. Prints a row a case: ours, the C library's, the quotient, in ns or us, the middle of RUNS.
+ * (Work inside and outside the mutex, and more processes: load.c.) usage: speed RUNS */
 #include "try.h"
 #include <pthread.h>
 
@@ -8,6 +9,7 @@ enum { MOST_RUNS = 101, PAIRS = 200000 };
 
 struct both {
     pthread_mutex_t libc;
+    pthread_cond_t told;
     long padding[64];
     _Atomic int go, ready;
     _Atomic long at; /* when the sleeper had it */
@@ -24,6 +26,14 @@ static void make_libc(pthread_mutex_t *m)
     pthread_mutexattr_setrobust(&a, PTHREAD_MUTEX_ROBUST);
     pthread_mutexattr_settype(&a, PTHREAD_MUTEX_ERRORCHECK);
     pthread_mutex_init(m, &a);
+}
+
+static void make_libc_condition(pthread_cond_t *c)
+{
+    pthread_condattr_t a;
+    pthread_condattr_init(&a);
+    pthread_condattr_setpshared(&a, PTHREAD_PROCESS_SHARED);
+    pthread_cond_init(c, &a);
 }
 
 static void pairs(int ours, long n)
@@ -61,6 +71,64 @@ static double contended(int processes, int ours)
         CHECK(waitpid(child[i], &status, 0) == child[i] && status == 0);
     }
     return (now() - since) * 1e9 / ((double)PAIRS * processes);
+}
+
+/* ns a round: a lock, a signal or a broadcast that nobody waits for, an unlock. */
+static double notified(int broadcast, int ours)
+{
+    double since = now();
+    for (long i = 0; i < PAIRS; i++) {
+        CHECK((ours ? pz_mutex_lock(p, 0) : pthread_mutex_lock(&b->libc)) == 0);
+        if (broadcast)
+            CHECK((ours ? pz_cond_broadcast(p, 0) : pthread_cond_broadcast(&b->told)) == 0);
+        else
+            CHECK((ours ? pz_cond_signal(p, 0) : pthread_cond_signal(&b->told)) == 0);
+        CHECK((ours ? pz_mutex_unlock(p, 0) : pthread_mutex_unlock(&b->libc)) == 0);
+    }
+    return (now() - since) * 1e9 / PAIRS;
+}
+
+/* ns a call that is refused: a lock by the owner, which both answer with EDEADLK, or an unlock by another, EPERM. */
+static double refused(int unlocks, int ours)
+{
+    if (!unlocks)
+        CHECK((ours ? pz_mutex_lock(p, 0) : pthread_mutex_lock(&b->libc)) == 0);
+    double since = now();
+    for (long i = 0; i < PAIRS; i++)
+        if (unlocks)
+            SAME(ours ? pz_mutex_unlock(p, 0) : pthread_mutex_unlock(&b->libc), EPERM);
+        else
+            SAME(ours ? pz_mutex_lock(p, 0) : pthread_mutex_lock(&b->libc), EDEADLK);
+    double until = now();
+    if (!unlocks)
+        CHECK((ours ? pz_mutex_unlock(p, 0) : pthread_mutex_unlock(&b->libc)) == 0);
+    return (until - since) * 1e9 / PAIRS;
+}
+
+/* ns a trylock of a mutex that another process owns. */
+static double busy(int unused, int ours)
+{
+    (void)unused;
+    atomic_store(&b->ready, 0);
+    pid_t owner = fork();
+    if (!owner) {
+        if (ours ? pz_mutex_lock(p, 1) : pthread_mutex_lock(&b->libc))
+            _exit(1);
+        atomic_store(&b->ready, 1);
+        for (;;)
+            pause();
+    }
+    while (!atomic_load(&b->ready))
+        rest(50);
+    double since = now();
+    for (long i = 0; i < PAIRS; i++)
+        SAME(ours ? pz_mutex_trylock(p, 1) : pthread_mutex_trylock(&b->libc), EBUSY);
+    double until = now();
+    kill_and_wait(owner);
+    SAME(ours ? pz_mutex_lock(p, 1) : pthread_mutex_lock(&b->libc), EOWNERDEAD);
+    SAME(ours ? pz_mutex_consistent(p, 1) : pthread_mutex_consistent(&b->libc), 0);
+    SAME(ours ? pz_mutex_unlock(p, 1) : pthread_mutex_unlock(&b->libc), 0);
+    return (until - since) * 1e9 / PAIRS;
 }
 
 /* us from the kill of an owner to its sleeper's EOWNERDEAD. */
@@ -118,13 +186,19 @@ int main(int argc, char **argv)
     int runs = argc > 1 ? atoi(argv[1]) : 9;
     const char *path = a_file("speed");
     CHECK(runs >= 1 && runs <= MOST_RUNS);
-    SAME(pz_open(path, 0600, 2, 0, NULL, sizeof *b, &p), 0);
+    SAME(pz_open(path, 0600, 2, 1, NULL, sizeof *b, &p), 0);
     b = pz_data(p);
     make_libc(&b->libc);
+    make_libc_condition(&b->told);
     puts("                                        ours   libc's  times");
-    row("lock and unlock alone, ns", contended, 1, runs, 1.8);
-    row("one mutex, 2 processes, ns", contended, 2, runs, 2.2);
-    row("one mutex, 4 processes, ns", contended, 4, runs, 2.2);
+    row("lock and unlock alone, ns", contended, 1, runs, 1.1);
+    row("one mutex, 2 processes, ns", contended, 2, runs, 1.1);
+    row("one mutex, 4 processes, ns", contended, 4, runs, 1.1);
+    row("lock, signal, unlock, ns", notified, 0, runs, 1.5);
+    row("lock, broadcast, unlock, ns", notified, 1, runs, 1.7);
+    row("trylock of another's, ns", busy, 0, runs, 1.5);
+    row("lock by the owner (EDEADLK), ns", refused, 0, runs, 1.5);
+    row("unlock by another (EPERM), ns", refused, 1, runs, 1.5);
     row("SIGKILL to EOWNERDEAD, us", death, 0, runs * 3, 0);
     pz_close(p);
     unlink(path);

@@ -257,7 +257,7 @@ fn a_moved_waiter_is_killed(rt: HostRuntime) -> Result<(), Fail> {
 #[test]
 fn a_waiter_is_killed_about_to_sleep(rt: HostRuntime) -> Result<(), Fail> {
     for place in &PLACES {
-        for _ in 0..40_u32 {
+        for _ in 0..10_u32 {
             assert!(rt; dies_by(&rt, rt.alloc(), place, WaitsAtOnce, KillsAfter(1, 8))?);
         }
     }
@@ -294,7 +294,7 @@ fn a_waiter_is_killed_while_it_is_moved(rt: HostRuntime) -> Result<(), Fail> {
     let buckets = FAR.buckets()?;
     assert!(rt; buckets.0 < 20 && buckets.1 > 220);
     for asked in 1..=BROADCAST {
-        for _ in 0..20_u32 {
+        for _ in 0..5_u32 {
             let kills = KillsBesideAMove(1, asked);
             assert!(rt; dies_beside_a_move(&rt, rt.alloc(), FAR.layout()?, kills)?);
         }
@@ -306,7 +306,7 @@ fn a_waiter_is_killed_while_it_is_moved(rt: HostRuntime) -> Result<(), Fail> {
 #[test]
 fn a_process_is_killed_while_its_thread_is_moved(rt: HostRuntime) -> Result<(), Fail> {
     for asked in 1..=BROADCAST {
-        for _ in 0..20_u32 {
+        for _ in 0..5_u32 {
             let layout = Layout::with_processes(
                 &[1, 0, 0, 0, 0],
                 &[0, 1000],

@@ -107,7 +107,7 @@ fn run_until_killed<R: Wait>(rt: &R, bench: &Bench, first: Pass<Live>, rounds: &
 /// A thread is killed at work. What it owns is marked, and the mutex on which it works can be had.
 #[test]
 fn a_running_thread_is_killed(rt: HostRuntime) -> Result<(), Fail> {
-    for _ in 0..20_u32 {
+    for _ in 0..5_u32 {
         let (bench, first, second, _, _, _) = team(rt.alloc(), Layout::new(5, 2, &[])?, &[])?;
         let owner = makes(&rt, &bench, first, OnMutex(Lock(0)), &mut Never).expect(&rt, "it lives");
         let rounds = AtomicU64::new(0);

@@ -194,7 +194,7 @@ fn sleeper_died(cell: u64) -> Story {
 /// unlock found nobody to wake, and trimmed the cell: WAITERS isn't there any more.
 #[test]
 fn a_sleeper_is_killed(rt: HostRuntime) -> Result<(), Fail> {
-    for _ in 0..20_u32 {
+    for _ in 0..5_u32 {
         let found = played(&rt, rt.alloc(), Layout::new(5, 1, &[])?, 0, Act::Kills)?;
         assert!(rt; found == sleeper_died(3));
     }
@@ -204,7 +204,7 @@ fn a_sleeper_is_killed(rt: HostRuntime) -> Result<(), Fail> {
 /// A process is killed while its only thread sleeps on a mutex that a thread of another process owns.
 #[test]
 fn a_process_is_killed_asleep(rt: HostRuntime) -> Result<(), Fail> {
-    for _ in 0..20_u32 {
+    for _ in 0..5_u32 {
         let layout = Layout::with_processes(&[0, 0, 0, 0, 1], &[0, 1000], 1, &[])?;
         let found = played(&rt, rt.alloc(), layout, 0, Act::KillsItsProcess)?;
         assert!(rt; found == sleeper_died(3));
@@ -216,7 +216,7 @@ fn a_process_is_killed_asleep(rt: HostRuntime) -> Result<(), Fail> {
 #[test]
 fn whoever_is_about_to_sleep_is_killed(rt: HostRuntime) -> Result<(), Fail> {
     for asked in 0..=ASLEEP {
-        for _ in 0..40_u32 {
+        for _ in 0..10_u32 {
             let act = Act::KillsAfter(asked);
             let found = played(&rt, rt.alloc(), Layout::new(5, 1, &[])?, 0, act)?;
             assert!(rt; found == sleeper_died(3));
@@ -276,7 +276,7 @@ fn always<R: Threads + Wait + Clock + Sync>(
         next: Some(Reply::EBUSY),
         cell,
     };
-    for _ in 0..20_u32 {
+    for _ in 0..5_u32 {
         if played(rt, alloc, Layout::new(5, 1, &[])?, 0, act)? != want {
             return Ok(false);
         }

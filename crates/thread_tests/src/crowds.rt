@@ -22,7 +22,7 @@ const APART: u16 = 256;
 const PAIRS: u8 = 16;
 
 /// How often each thread locks and unlocks its pair's mutex.
-const ROUNDS: usize = 1_000;
+const ROUNDS: usize = 200;
 
 /// The calls of a thread that locks and unlocks a mutex again and again.
 fn rounds(alloc: Global, mutex: u16) -> Result<Vec<Op>, NoMem> {

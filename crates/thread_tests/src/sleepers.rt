@@ -19,7 +19,7 @@ use std::time::{Clock, Duration};
 use thread_fixtures::{Asked, Left, are_asleep, ends_unless, fall_asleep, makes, team};
 use threadbench::Bench;
 
-const ROUNDS: u32 = 5_000;
+const ROUNDS: u32 = 500;
 
 /// Locks and unlocks: how many calls were told OK.
 fn rounds<R: Wait>(rt: &R, bench: &Bench, first: Pass<Live>) -> u32
@@ -163,7 +163,7 @@ fn one_sleeps<R: Threads + Wait + Clock + Sync>(
 /// WAITERS stays, since the wake found somebody.
 #[test]
 fn a_sleeper_makes_no_access(rt: HostRuntime) -> Result<(), Fail> {
-    for _ in 0..20_u32 {
+    for _ in 0..5_u32 {
         let Some(counted) = one_sleeps(&rt, rt.alloc())? else {
             return Err(Fail::new("all are told OK"));
         };
