@@ -36,7 +36,11 @@
 #define PZ_BETWEEN() ((void)0)
 #endif
 
-enum { THREADS = 64, LINE = 8, HELD = 2048, FILES = PZ_FILES, MOST_MUTEXES = 4096, MOST_CONDS = 256 };
+enum { THREADS = PZ_THREADS, LINE = 8, HELD = 2048, FILES = PZ_FILES, MOST_MUTEXES = 4096, MOST_CONDS = 256 };
+
+/* Of files, and of the companions of libpazdrig_pthread.so: another number for each other layout, and for each change
+ * after which old and new drivers may not share one. */
+enum { FORMAT = 1 };
 
 typedef _Atomic uint64_t word;
 
@@ -83,6 +87,7 @@ struct pz {
     size_t mapped; /* what the last user unmaps: 0 of memory that its caller mapped */
     pz *next;      /* of those of such memory that are closed, and are used again */
     void *data;
+    size_t data_size;
     uint64_t cell_of[MOST_CONDS]; /* of condition variables: kept here, as the file's words may be spoiled */
 };
 

@@ -10,9 +10,9 @@
 #include <sys/stat.h>
 #include <unistd.h>
 
-/* The first word of a file: while it is made, and once it is whole. One of another's program has neither, and is left
- * alone. */
-static const uint64_t MAKING = 0x30676972647a6170ull, WHOLE = 0x31676972647a6170ull;
+/* The first word of a file: seven letters, and the digit of its format; 0 while it is made. One of another program has
+ * other letters. That one and those of other formats are left alone. */
+static const uint64_t MAKING = 0x30676972647a6170ull, WHOLE = 0x30676972647a6170ull + ((uint64_t)FORMAT << 56);
 
 /* What an opener asks for, and where it stands in the file, in bytes. */
 struct asked {
@@ -102,7 +102,7 @@ static int make_room(int fd, size_t size)
     return r;
 }
 
-/* Whether it is whole, is to be made, or isn't such a file (EINVAL). */
+/* Whether it is whole, is to be made, or is neither: of another format (EPROTO), or not such a file (EINVAL). */
 static int look_at(int fd, size_t size, int *whole)
 {
     struct stat st;
@@ -114,7 +114,9 @@ static int look_at(int fd, size_t size, int *whole)
     *whole = magic == WHOLE;
     if (*whole)
         return (size_t)st.st_size == size ? 0 : EINVAL;
-    return st.st_size == 0 || magic == MAKING ? 0 : EINVAL;
+    if (st.st_size == 0 || magic == MAKING)
+        return 0;
+    return (magic ^ WHOLE) << 8 ? EINVAL : EPROTO;
 }
 
 /* Made in memory of this thread's own, and copied: so they are the C library's beside libpazdrig_pthread.so too. */
@@ -203,6 +205,7 @@ static void lay_out(char *base, const struct asked *a, const struct layout *l, p
     p->life = (struct life *)(base + l->life);
     p->words = (word *)(base + l->words);
     p->data = base + l->data;
+    p->data_size = a->data;
     p->places = l->places;
     p->size = l->size;
     p->mutexes = a->mutexes;

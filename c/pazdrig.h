@@ -9,11 +9,14 @@
 #ifdef __cplusplus
 extern "C" {
 #endif
+#pragma GCC visibility push(default)
+#define PZ_VERSION "0.1"
+enum { PZ_THREADS = 64 }; /* take part in a file at a time; their ids begin at 1 */
 typedef struct pz pz;
 
 /* Opens or makes the file. Its mutexes are 0 to mutexes-1; condition variable c is of mutex mutex_of[c] for good (NULL:
  * c % mutexes). data bytes of it are the program's own (pz_data). 0, or an errno; EINVAL where the file was made with
- * other numbers. */
+ * other numbers, EPROTO where it is of another format. */
 int pz_open(const char *path, mode_t mode, unsigned mutexes, unsigned conds, const uint16_t *mutex_of, size_t data,
             pz **out);
 /* The same of the file that fd is of. It is opened anew, with the caller's permissions; fd stays the caller's. */
@@ -35,13 +38,34 @@ int pz_mutex_lock(pz *, unsigned m);        /* EOWNERDEAD, ENOTRECOVERABLE, EDEA
 int pz_mutex_trylock(pz *, unsigned m);     /* EOWNERDEAD, ENOTRECOVERABLE, EBUSY, EAGAIN (2,048 held) */
 int pz_mutex_unlock(pz *, unsigned m);      /* EPERM */
 int pz_mutex_consistent(pz *, unsigned m);  /* EPERM, EINVAL: there is nothing to declare */
-int pz_mutex_reinit(pz *, unsigned m);       /* 0: free again, unusable or not; EBUSY: owned or slept on; EAGAIN */
+int pz_mutex_reinit(pz *, unsigned m);      /* 0: free again, unusable or not; EBUSY: owned or slept on; EAGAIN */
 int pz_cond_wait(pz *, unsigned c);         /* EOWNERDEAD, ENOTRECOVERABLE, EPERM, EINVAL: declare consistent first */
 int pz_cond_signal(pz *, unsigned c);       /* EPERM, EOVERFLOW: it had 2^32 - 1 of them */
 int pz_cond_broadcast(pz *, unsigned c);    /* the same */
 
 /* Cleans up after threads that died, without waiting for anything: how many. */
 int pz_reap(pz *);
+
+/* What can be asked, without taking part. All but pz_version and pz_strerror may be old once they are read. */
+unsigned pz_mutex_owner(pz *, unsigned m);  /* its owner's id; 0: nobody's, or there is no such mutex */
+
+/* Of an id. A dead thread's stays PZ_ID_DIED until somebody has cleaned up after it. */
+enum pz_life { PZ_ID_FREE, PZ_ID_LIVES, PZ_ID_DIED };
+struct pz_thread {
+    pid_t tid; /* in the thread's own PID namespace; 0 of a free id, and while somebody cleans up */
+    enum pz_life life;
+};
+struct pz_info {
+    unsigned format, mutexes, conds;
+    size_t data, size;                         /* bytes: the program's own, and the whole file's */
+    struct pz_thread thread[PZ_THREADS + 1];   /* by id */
+};
+int pz_info(pz *, struct pz_info *);
+
+/* What an answer of a call means: pz_strerror("pz_cond_wait", EINVAL). Else strerror(3)'s text. Never NULL. */
+const char *pz_strerror(const char *call, int answer);
+const char *pz_version(void);               /* the library's; PZ_VERSION is the header's */
+#pragma GCC visibility pop
 #ifdef __cplusplus
 }
 #endif

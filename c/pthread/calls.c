@@ -236,7 +236,7 @@ static int init(pthread_mutex_t *m, const struct object *o, int type)
     uint32_t number;
     struct companion *c = sh_attach_object(o, &why);
     if (!c)
-        return why == EPERM || why == ENOMEM ? why : EAGAIN;
+        return why == EPERM || why == EPROTO || why == ENOMEM ? why : EAGAIN;
     sh_lock_table(c);
     if (!o->anonymous && (strcmp(c->table->path, o->path) || !c->table->namespace))
         sh_name(c->table, o);

@@ -14,7 +14,8 @@
 #include <sys/syscall.h>
 #include <unistd.h>
 
-static const uint64_t MAGIC = 0x31737a6170616e;
+/* Six letters, and the digit of the format. */
+static const uint64_t MAGIC = 0x30737a6170616e + ((uint64_t)FORMAT << 48), DIGIT = (uint64_t)0xff << 48;
 static const char COMMON[] = "/run/pazdrig", DELETED[] = " (deleted)";
 
 /* The folder that was used last: it is looked over at the process's end. */
@@ -192,16 +193,21 @@ static int lock_trusted(int fd, const struct object *o, struct stat *st)
 {
     if (fstat(fd, st) < 0)
         return errno;
-    if (!S_ISREG(st->st_mode) || (size_t)st->st_size != sh_size() || !is_trusted(st, o))
+    if (!S_ISREG(st->st_mode) || !is_trusted(st, o))
         return EPERM;
     int r = lock_shared(fd);
     return r ? r : fstat(fd, st) < 0 ? errno : 0;
 }
 
-/* A companion, and of this object: another's may have been linked here. */
-static int is_of_object(const struct table *t, const struct object *o)
+/* A companion, of this format (else EPROTO), and of this object: another's may have been linked here. */
+static int look_at_table(const struct table *t, const struct stat *st, const struct object *o)
 {
-    return t->magic == MAGIC && t->nonce && t->dev == o->dev && t->ino == o->ino;
+    if ((t->magic ^ MAGIC) & ~DIGIT)
+        return EPERM;
+    if (t->magic != MAGIC)
+        return EPROTO;
+    int is_whole = t->nonce && (size_t)st->st_size == sh_size();
+    return is_whole && t->dev == o->dev && t->ino == o->ino ? 0 : EPERM;
 }
 
 /* EAGAIN: it was removed meanwhile, or is of an earlier boot, where nobody lives any more. */
@@ -214,8 +220,11 @@ static int look_at(int fd, const char *path, const struct object *o, uint64_t no
         return r;
     if (st.st_nlink == 0)
         return EAGAIN;
-    if (pread(fd, &t, sizeof t, 0) != sizeof t || !is_of_object(&t, o))
+    if (pread(fd, &t, sizeof t, 0) != sizeof t)
         return EPERM;
+    r = look_at_table(&t, &st, o);
+    if (r)
+        return r;
     r = look_at_boot(&t);
     if (r && r != EINVAL)
         return r;

@@ -75,6 +75,72 @@ static void an_owner_dies(void)
     pz_close(p);
 }
 
+/* What is told of a thread, whichever has the id. */
+static void is_told(pz *p, unsigned id, enum pz_life life, pid_t tid)
+{
+    struct pz_info info;
+    SAME(pz_info(p, &info), 0);
+    for (unsigned t = 1; t <= PZ_THREADS; t++) {
+        SAME(info.thread[t].life, t == id ? life : PZ_ID_FREE);
+        SAME(info.thread[t].tid, t == id ? tid : 0);
+    }
+}
+
+/* Who owns a mutex and who takes part, asked by who takes none: also of a thread that is stopped, one that died, and
+ * one that was cleaned up after. */
+static void who_owns_and_who_lives(void)
+{
+    pz *p = open_new("info", 3, 1);
+    int status;
+    pid_t owner = holder(p, 1);
+    unsigned id = pz_mutex_owner(p, 1);
+    CHECK(id >= 1 && id <= PZ_THREADS);
+    SAME(pz_mutex_owner(p, 0), 0);
+    SAME(pz_mutex_owner(p, 3), 0);
+    is_told(p, id, PZ_ID_LIVES, owner);
+    kill(owner, SIGSTOP);
+    CHECK(waitpid(owner, &status, WUNTRACED) == owner && WIFSTOPPED(status));
+    is_told(p, id, PZ_ID_LIVES, owner);
+    kill_and_wait(owner);
+    SAME(pz_mutex_owner(p, 1), id);
+    is_told(p, id, PZ_ID_DIED, owner);
+    SAME(pz_thread_id(p), 0);
+    SAME(pz_reap(p), 1);
+    SAME(pz_mutex_owner(p, 1), 0);
+    is_told(p, 0, PZ_ID_FREE, 0);
+    SAME(pz_mutex_lock(p, 1), EOWNERDEAD);
+    SAME(pz_mutex_owner(p, 1), pz_thread_id(p));
+    is_told(p, pz_thread_id(p), PZ_ID_LIVES, getpid());
+    SAME(pz_mutex_unlock(p, 1), 0);
+    SAME(pz_mutex_owner(p, 1), 0);
+    pz_close(p);
+}
+
+static int says(const char *call, int answer, const char *what)
+{
+    return strstr(pz_strerror(call, answer), what) != NULL;
+}
+
+/* The same number is told by its call; one that a call doesn't have, as strerror(3) tells it. */
+static void what_answers_mean(void)
+{
+    CHECK(says("pz_cond_wait", EINVAL, "to be declared consistent first"));
+    CHECK(says("pz_cond_wait", EINVAL, "no such mutex or condition variable"));
+    CHECK(!says("pz_mutex_lock", EINVAL, "consistent first"));
+    CHECK(says("pz_mutex_lock", EINVAL, "no such mutex"));
+    CHECK(says("pz_mutex_consistent", EINVAL, "nothing was to be repaired"));
+    CHECK(says("pz_open", EINVAL, "4,096") && says("pz_open_fd", EPROTO, "another format"));
+    CHECK(says("pz_mutex_trylock", EBUSY, "lives owns it") &&
+          !strcmp(pz_strerror("pz_mutex_lock", EBUSY), strerror(EBUSY)));
+    CHECK(says("pz_mutex_lock", EDEADLK, "owns the mutex already"));
+    CHECK(says("pz_mutex_lock", EOWNERDEAD, "owner died") && says("pz_mutex_lock", 0, "owns the mutex"));
+    CHECK(!strcmp(pz_strerror("pz_open", ENOENT), strerror(ENOENT)));
+    CHECK(!strcmp(pz_strerror("pz_no_call", EPERM), strerror(EPERM)) &&
+          !strcmp(pz_strerror(NULL, EPERM), strerror(EPERM)));
+    CHECK(pz_strerror("pz_open", 123456)[0] && pz_strerror(NULL, -1)[0]);
+    CHECK(!strcmp(pz_version(), PZ_VERSION));
+}
+
 /* An unusable mutex is made free again, and one whose owner died; not while somebody has it or sleeps on it. */
 static void a_reinit(void)
 {
@@ -416,6 +482,8 @@ int main(void)
     CHECK(!pthread_atfork(NULL, NULL, in_the_child));
     calls_and_refusals();
     an_owner_dies();
+    who_owns_and_who_lives();
+    what_answers_mean();
     a_reinit();
     a_reinit_waits_for_sleepers();
     spoiled_with_sleepers();

@@ -48,6 +48,48 @@ static void a_file_of_another_program(void)
     SAME(pz_open_fd(-1, 1, 0, NULL, 0, &p), ENOENT);
 }
 
+/* Whole, but of another format: the digit that a file begins with, behind seven letters. It is left as it is; with its
+ * own digit again it is opened. */
+static void a_file_of_another_format(void)
+{
+    const char *path = a_file("format");
+    static char before[1 << 16], after[1 << 16];
+    pz *p;
+    SAME(pz_open(path, 0600, 2, 1, NULL, 8, &p), 0);
+    SAME(pz_mutex_lock(p, 1), 0);
+    pz_close(p);
+    int fd = open(path, O_RDWR);
+    CHECK(fd >= 0 && pread(fd, before, 8, 0) == 8 && !memcmp(before, "pazdrig1", 8));
+    for (const char *digit = "2/9\xff"; *digit; digit++) {
+        CHECK(pwrite(fd, digit, 1, 7) == 1);
+        ssize_t n = pread(fd, before, sizeof before, 0);
+        SAME(pz_open(path, 0600, 2, 1, NULL, 8, &p), EPROTO);
+        SAME(pz_open(path, 0600, 3, 1, NULL, 8, &p), EPROTO); /* another one's numbers may stand elsewhere */
+        CHECK(n > 0 && pread(fd, after, sizeof after, 0) == n && !memcmp(before, after, (size_t)n));
+    }
+    CHECK(pwrite(fd, "1", 1, 7) == 1);
+    SAME(pz_open(path, 0600, 2, 1, NULL, 8, &p), 0);
+    SAME(pz_mutex_lock(p, 1), EOWNERDEAD);
+    pz_close(p);
+    close(fd);
+    unlink(path);
+}
+
+/* What a file says of itself. */
+static void the_numbers_of_a_file(void)
+{
+    const char *path = a_file("numbers");
+    struct pz_info info;
+    struct stat st;
+    pz *p;
+    SAME(pz_open(path, 0600, 30, 4, NULL, 10000, &p), 0);
+    SAME(pz_info(p, &info), 0);
+    CHECK(stat(path, &st) == 0 && (size_t)st.st_size == info.size);
+    CHECK(info.format == 1 && info.mutexes == 30 && info.conds == 4 && info.data == 10000);
+    pz_close(p);
+    unlink(path);
+}
+
 static void a_file_that_cannot_be_written(void)
 {
     const char *path = a_file("readonly");
@@ -307,6 +349,8 @@ int main(void)
     alarm(120);
     a_file_of_another_layout();
     a_file_of_another_program();
+    a_file_of_another_format();
+    the_numbers_of_a_file();
     a_file_that_cannot_be_written();
     no_room();
     a_truncated_file();

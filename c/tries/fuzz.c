@@ -98,6 +98,10 @@ static void round_of(int k)
         CHECK(WIFSIGNALED(status) && WTERMSIG(status) == SIGKILL);
     }
     pz_reap(p);
+    for (uint64_t owner = 0; owner < 1 << 30; owner = 3 * owner + 1) {
+        atomic_store(&p->words[cell_place(0)], owner);
+        CHECK(pz_mutex_owner(p, 0) == (owner <= PZ_THREADS ? owner : 0));
+    }
     CHECK(!memcmp(&before, p->header, sizeof before));
     for (int i = 0; i < DATA; i++)
         CHECK(data[i] == 0xa5);

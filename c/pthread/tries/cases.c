@@ -233,6 +233,25 @@ static void an_earlier_boot(void)
     unlink(path);
 }
 
+/* Its companion is of another format, as the digit in it says: it is left as it is, and nobody comes to it. */
+static void another_format(void)
+{
+    const char *path = file("format");
+    struct stat before, after;
+    SAME(comes(path, 0, "init", 1), 0);
+    int fd = open(companion_of(path), O_RDWR);
+    CHECK(fd >= 0 && pwrite(fd, "2", 1, 6) == 1 && fstat(fd, &before) == 0);
+    SAME(comes(path, 0, "lock", 1), EINVAL);
+    SAME(comes(path, 0, "init", 1), EPROTO);
+    CHECK(ftruncate(fd, before.st_size * 2) == 0 && fstat(fd, &before) == 0);
+    SAME(comes(path, 0, "init", 1), EPROTO);
+    CHECK(stat(companion_of(path), &after) == 0 && after.st_ino == before.st_ino && after.st_size == before.st_size);
+    CHECK(unlink(companion_of(path)) == 0 && close(fd) == 0);
+    SAME(comes(path, 0, "init", 1), 0);
+    SAME(comes(path, 0, "lock", 1), 0);
+    unlink(path);
+}
+
 /* ---- Descriptors are closed: nothing depends on one. */
 static void closes_all(void)
 {
@@ -624,6 +643,7 @@ int main(int argc, char **argv)
     in_child(without_it);
     in_child(a_companion_is_removed);
     in_child(an_earlier_boot);
+    in_child(another_format);
     in_child(closes_all);
     in_child(memory_without_a_name);
     in_child(private_memory);

@@ -1,0 +1,143 @@
+/* Made by c/man/pages from docs/C.md: nobody edits it. */
+static const struct {
+    const char *call;
+    int answer;
+    const char *says;
+} answers[] = {
+    {"pz_open", EINVAL, "not 1 to 4,096 mutexes, or more than 256 condition variables, or one of a mutex that isn't "
+     "there, or too much data; or the file was made with other numbers, or isn't such a file: it is left as it is"},
+    {"pz_open", EPROTO, "the file is of another format, as an older or newer version of the library makes it: it is "
+     "left as it is"},
+    {"pz_open", EMFILE, "this process has 16 files open, those that it closed and a thread hasn't left yet among "
+     "them (a file that wasn't there may be made); or it has no descriptor left"},
+    {"pz_open", ENOSPC, "there is no room for all of it, which is taken here: so no later store meets a full disk"},
+    {"pz_open", EFBIG, "there is no room for all of it, which is taken here: so no later store meets a full disk"},
+    {"pz_open", ENOMEM, "no memory, or no room to map it"},
+    {"pz_open_fd", EINVAL, "not 1 to 4,096 mutexes, or more than 256 condition variables, or one of a mutex that "
+     "isn't there, or too much data; or the file was made with other numbers, or isn't such a file: it is left as it "
+     "is"},
+    {"pz_open_fd", EPROTO, "the file is of another format, as an older or newer version of the library makes it: it "
+     "is left as it is"},
+    {"pz_open_fd", EMFILE, "this process has 16 files open, those that it closed and a thread hasn't left yet among "
+     "them (a file that wasn't there may be made); or it has no descriptor left"},
+    {"pz_open_fd", ENOSPC, "there is no room for all of it, which is taken here: so no later store meets a full disk"},
+    {"pz_open_fd", EFBIG, "there is no room for all of it, which is taken here: so no later store meets a full disk"},
+    {"pz_open_fd", ENOMEM, "no memory, or no room to map it"},
+    {"pz_thread_begin", EBUSY, "it takes part already"},
+    {"pz_thread_begin", EAGAIN, "64 threads take part; dead ones count while somebody goes over what they owned"},
+    {"pz_thread_begin", ENOMEM, "pthread_setspecific(3) has no memory; or the process has no pthread_key_create(3) "
+     "key left, so then for all its threads and for good"},
+    {"pz_thread_end", EPERM, "it doesn't take part"},
+    {"pz_mutex_lock", 0, "the thread owns the mutex"},
+    {"pz_mutex_lock", EOWNERDEAD, "it owns the mutex; an owner died, and nobody has declared the state consistent "
+     "since"},
+    {"pz_mutex_lock", ENOTRECOVERABLE, "an owner unlocked it without declaring it consistent: nobody owns it again "
+     "before pz_mutex_reinit"},
+    {"pz_mutex_lock", EDEADLK, "it owns the mutex already"},
+    {"pz_mutex_lock", EAGAIN, "it holds 2,048 mutexes of this file already, be this one of them; or it is the "
+     "thread's first call, and 64 threads take part already (pz_thread_begin); nothing was done"},
+    {"pz_mutex_lock", EINVAL, "there is no such mutex or condition variable; nothing was done; or somebody wrote "
+     "stray values into the library's words, and the call was stopped there: nobody knows who owns what, so end all "
+     "who use the file and delete it"},
+    {"pz_mutex_lock", ENOMEM, "it is the thread's first call, and there is no room to take part (pz_thread_begin); "
+     "nothing was done"},
+    {"pz_mutex_lock", EFAULT, "somebody wrote stray values into the library's words, and the call was stopped there: "
+     "nobody knows who owns what, so end all who use the file and delete it"},
+    {"pz_mutex_trylock", 0, "the thread owns the mutex"},
+    {"pz_mutex_trylock", EOWNERDEAD, "it owns the mutex; an owner died, and nobody has declared the state consistent "
+     "since"},
+    {"pz_mutex_trylock", ENOTRECOVERABLE, "an owner unlocked it without declaring it consistent: nobody owns it "
+     "again before pz_mutex_reinit"},
+    {"pz_mutex_trylock", EBUSY, "a thread that lives owns it, be it the caller"},
+    {"pz_mutex_trylock", EAGAIN, "it holds 2,048 mutexes of this file already, be this one of them; or it is the "
+     "thread's first call, and 64 threads take part already (pz_thread_begin); nothing was done"},
+    {"pz_mutex_trylock", EINVAL, "there is no such mutex or condition variable; nothing was done; or somebody wrote "
+     "stray values into the library's words, and the call was stopped there: nobody knows who owns what, so end all "
+     "who use the file and delete it"},
+    {"pz_mutex_trylock", ENOMEM, "it is the thread's first call, and there is no room to take part "
+     "(pz_thread_begin); nothing was done"},
+    {"pz_mutex_trylock", EFAULT, "somebody wrote stray values into the library's words, and the call was stopped "
+     "there: nobody knows who owns what, so end all who use the file and delete it"},
+    {"pz_mutex_unlock", 0, "the mutex is free. After EOWNERDEAD, where pz_mutex_consistent wasn't called, it is "
+     "unusable instead, until pz_mutex_reinit, and all who sleep on it are woken, and told ENOTRECOVERABLE if they "
+     "find it so"},
+    {"pz_mutex_unlock", EPERM, "the thread doesn't own it"},
+    {"pz_mutex_unlock", EINVAL, "there is no such mutex or condition variable; nothing was done; or somebody wrote "
+     "stray values into the library's words, and the call was stopped there: nobody knows who owns what, so end all "
+     "who use the file and delete it"},
+    {"pz_mutex_unlock", EAGAIN, "it is the thread's first call, and 64 threads take part already (pz_thread_begin); "
+     "nothing was done"},
+    {"pz_mutex_unlock", ENOMEM, "it is the thread's first call, and there is no room to take part (pz_thread_begin); "
+     "nothing was done"},
+    {"pz_mutex_unlock", EFAULT, "somebody wrote stray values into the library's words, and the call was stopped "
+     "there: nobody knows who owns what, so end all who use the file and delete it"},
+    {"pz_mutex_consistent", 0, "what the mutex guards is repaired: it is a mutex like any other"},
+    {"pz_mutex_consistent", EPERM, "the thread doesn't own it"},
+    {"pz_mutex_consistent", EINVAL, "it owns the mutex, and nothing was to be repaired; or there is no such mutex or "
+     "condition variable; nothing was done; or somebody wrote stray values into the library's words, and the call "
+     "was stopped there: nobody knows who owns what, so end all who use the file and delete it"},
+    {"pz_mutex_consistent", EAGAIN, "it is the thread's first call, and 64 threads take part already "
+     "(pz_thread_begin); nothing was done"},
+    {"pz_mutex_consistent", ENOMEM, "it is the thread's first call, and there is no room to take part "
+     "(pz_thread_begin); nothing was done"},
+    {"pz_mutex_consistent", EFAULT, "somebody wrote stray values into the library's words, and the call was stopped "
+     "there: nobody knows who owns what, so end all who use the file and delete it"},
+    {"pz_mutex_reinit", 0, "the mutex is free: an unusable one is usable again, and what a dead owner left is "
+     "declared consistent"},
+    {"pz_mutex_reinit", EBUSY, "a living thread owns it or sleeps on it; or it became unusable just now, or another "
+     "thread is cleaning up after one that died asleep on it: try again; or rarely though nobody sleeps on it: a "
+     "waiter was killed in the middle of a broadcast, and its id was used again. That ends once the id's new thread "
+     "sleeps on this mutex, waits on a condition variable of it, or leaves"},
+    {"pz_mutex_reinit", EAGAIN, "it isn't unusable, and the thread holds 2,048 mutexes of this file; or it is the "
+     "thread's first call, and 64 threads take part already (pz_thread_begin); nothing was done"},
+    {"pz_mutex_reinit", EINVAL, "there is no such mutex or condition variable; nothing was done; or somebody wrote "
+     "stray values into the library's words, and the call was stopped there: nobody knows who owns what, so end all "
+     "who use the file and delete it"},
+    {"pz_mutex_reinit", ENOMEM, "it is the thread's first call, and there is no room to take part (pz_thread_begin); "
+     "nothing was done"},
+    {"pz_mutex_reinit", EFAULT, "somebody wrote stray values into the library's words, and the call was stopped "
+     "there: nobody knows who owns what, so end all who use the file and delete it"},
+    {"pz_cond_wait", 0, "the thread owns the mutex again"},
+    {"pz_cond_wait", EOWNERDEAD, "so it does, but an owner died meanwhile: repair, as after pz_mutex_lock"},
+    {"pz_cond_wait", ENOTRECOVERABLE, "the mutex became unusable meanwhile: the thread doesn't own it"},
+    {"pz_cond_wait", EPERM, "the thread doesn't own the mutex"},
+    {"pz_cond_wait", EINVAL, "the mutex is to be declared consistent first: the thread still owns it; or there is no "
+     "such mutex or condition variable; nothing was done; or somebody wrote stray values into the library's words, "
+     "and the call was stopped there: nobody knows who owns what, so end all who use the file and delete it"},
+    {"pz_cond_wait", EAGAIN, "it is the thread's first call, and 64 threads take part already (pz_thread_begin); "
+     "nothing was done"},
+    {"pz_cond_wait", ENOMEM, "it is the thread's first call, and there is no room to take part (pz_thread_begin); "
+     "nothing was done"},
+    {"pz_cond_wait", EFAULT, "somebody wrote stray values into the library's words, and the call was stopped there: "
+     "nobody knows who owns what, so end all who use the file and delete it"},
+    {"pz_cond_signal", 0, "it took effect: a signal wakes one waiter, if there is any; a broadcast has all take the "
+     "mutex in turn"},
+    {"pz_cond_signal", EPERM, "the thread doesn't own the mutex"},
+    {"pz_cond_signal", EOVERFLOW, "this condition variable had 2^32 - 1 signals and broadcasts, those counted that "
+     "nobody waited for: it is refused from then on, and only a new file helps. A million a second are so many in 72 "
+     "minutes, so signal where somebody may wait"},
+    {"pz_cond_signal", EINVAL, "there is no such mutex or condition variable; nothing was done; or somebody wrote "
+     "stray values into the library's words, and the call was stopped there: nobody knows who owns what, so end all "
+     "who use the file and delete it"},
+    {"pz_cond_signal", EAGAIN, "it is the thread's first call, and 64 threads take part already (pz_thread_begin); "
+     "nothing was done"},
+    {"pz_cond_signal", ENOMEM, "it is the thread's first call, and there is no room to take part (pz_thread_begin); "
+     "nothing was done"},
+    {"pz_cond_signal", EFAULT, "somebody wrote stray values into the library's words, and the call was stopped "
+     "there: nobody knows who owns what, so end all who use the file and delete it"},
+    {"pz_cond_broadcast", 0, "it took effect: a signal wakes one waiter, if there is any; a broadcast has all take "
+     "the mutex in turn"},
+    {"pz_cond_broadcast", EPERM, "the thread doesn't own the mutex"},
+    {"pz_cond_broadcast", EOVERFLOW, "this condition variable had 2^32 - 1 signals and broadcasts, those counted "
+     "that nobody waited for: it is refused from then on, and only a new file helps. A million a second are so many "
+     "in 72 minutes, so signal where somebody may wait"},
+    {"pz_cond_broadcast", EINVAL, "there is no such mutex or condition variable; nothing was done; or somebody wrote "
+     "stray values into the library's words, and the call was stopped there: nobody knows who owns what, so end all "
+     "who use the file and delete it"},
+    {"pz_cond_broadcast", EAGAIN, "it is the thread's first call, and 64 threads take part already "
+     "(pz_thread_begin); nothing was done"},
+    {"pz_cond_broadcast", ENOMEM, "it is the thread's first call, and there is no room to take part "
+     "(pz_thread_begin); nothing was done"},
+    {"pz_cond_broadcast", EFAULT, "somebody wrote stray values into the library's words, and the call was stopped "
+     "there: nobody knows who owns what, so end all who use the file and delete it"},
+};
