@@ -170,6 +170,7 @@ static __attribute__((noinline)) int kept(int (*call)(struct mutex *), struct ou
     struct mutex x;
     int saved = errno, r = find(o, &x);
     if (!r) {
+        PZ_FOUND();
         r = call(&x);
         sh_leave(x.c);
     }

@@ -58,12 +58,13 @@ static void unmap(struct companion *c)
  * again by now.) */
 static int let_go(struct companion *c)
 {
-    uint64_t nonce = atomic_exchange(&c->nonce, 0);
     PZ_LETTING_GO();
+    uint64_t nonce = atomic_exchange(&c->nonce, 0);
     if (atomic_load(&c->calls) || !is_idle(c)) {
         atomic_store(&c->nonce, nonce);
         return 0;
     }
+    PZ_LETTING_GO();
     atomic_fetch_add(&c->turns, 1);
     for (unsigned k = 0; k < BANKS; k++) {
         pz *p = atomic_exchange(&c->bank[k], NULL);
@@ -83,7 +84,8 @@ static void see_mapped(uint64_t dev, uint64_t ino)
             mapped[i] = 1;
 }
 
-/* What is mapped is read once for all. Where threads keep ids of some that isn't, they are asked to give them back. */
+/* What is mapped is read once for all. Where threads keep ids of some that isn't, they are asked to give them back, and
+ * it is looked for soon again; else once there are twice as many. */
 static void let_go_of_unused(void)
 {
     int kept = 0;
@@ -95,16 +97,16 @@ static void let_go_of_unused(void)
             kept |= !let_go(&sh_all[i]);
     if (kept)
         atomic_fetch_add(&sh_wishes, 1);
+    look_at = how_many + (kept ? FEW / 4 : how_many);
+    look_at = look_at < FEW ? FEW : look_at > COMPANIONS ? COMPANIONS : look_at;
 }
 
 /* ---- Adding. */
 
 static struct companion *place_for(uint64_t nonce)
 {
-    if (how_many >= look_at) {
+    if (how_many >= look_at)
         let_go_of_unused();
-        look_at = how_many < FEW / 2 ? FEW : how_many < COMPANIONS / 2 ? 2 * how_many : COMPANIONS;
-    }
     return free_place(nonce);
 }
 

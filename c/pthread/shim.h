@@ -7,9 +7,12 @@
 #include <sys/types.h>
 #include <time.h>
 
-/* Tries stop who lets a companion go where this stands. */
+/* Tries stop who lets a companion go, and who has found one, where these stand. */
 #ifndef PZ_LETTING_GO
 #define PZ_LETTING_GO() ((void)0)
+#endif
+#ifndef PZ_FOUND
+#define PZ_FOUND() ((void)0)
 #endif
 
 /* ---- The 40 bytes of a mutex name it. `kind` stands where the C library has the type, and is none of its types, so a

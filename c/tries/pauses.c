@@ -17,6 +17,7 @@ static int reads;
 /* Nobody sleeps here. Thread 2 is dead, and its walk marks the one mutex. */
 enum { DEAD = 2, SELF = 1 };
 static struct pz file;
+_Thread_local struct self pz_self[FILES];
 static word words[80 * LINE];
 uint32_t *pz_token_word(pz *p, unsigned t)
 {

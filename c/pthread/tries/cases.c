@@ -406,8 +406,52 @@ static void *owns_one(void *m)
     return NULL;
 }
 
-/* All ids are had by threads that own: who comes is told what is busy, and waits for what is free. Of the mutexes that
- * it may lock each is in the second bank, where there are as many ids. */
+/* How often those have slept and been woken, by the kernel's count (proc_pid_status(5)). */
+static long sleeps_of(const pid_t *it, int n)
+{
+    long all = 0, one;
+    for (int i = 0; i < n; i++) {
+        char path[64], line[128];
+        snprintf(path, sizeof path, "/proc/%d/status", (int)it[i]);
+        FILE *f = fopen(path, "r");
+        CHECK(f);
+        while (fgets(line, sizeof line, f))
+            if (sscanf(line, "voluntary_ctxt_switches: %ld", &one) == 1)
+                all += one;
+        fclose(f);
+    }
+    return all;
+}
+
+enum { WAITERS = 50 };
+
+/* Who waits for an id sleeps until one is given back: looks in between would be 20 a waiter and more. One that has an id
+ * and dies is noticed too. */
+static void waits_for_ids(pid_t it[WAITERS])
+{
+    for (int i = 0; i < WAITERS; i++)
+        if (!(it[i] = fork())) {
+            SAME(pthread_mutex_lock(&crowd[96]), 0);
+            SAME(pthread_mutex_unlock(&crowd[96]), 0);
+            _exit(0);
+        }
+    for (int i = 0; i < WAITERS; i++)
+        until_asleep(it[i]);
+    long before = sleeps_of(it, WAITERS);
+    rest(500000);
+    CHECK(sleeps_of(it, WAITERS) - before < 8 * WAITERS);
+}
+
+static void all_end_well(const pid_t *it, int n)
+{
+    for (int i = 0; i < n; i++) {
+        int status;
+        CHECK(waitpid(it[i], &status, 0) == it[i] && status == 0);
+    }
+}
+
+/* All ids are had by threads that own: who comes is told what is busy, and waits for what is free, but for a trylock. Of
+ * the mutexes that it may lock each is in the second bank, where there are as many ids. */
 static void all_ids_are_had(void)
 {
     pthread_t t[IDS];
@@ -418,16 +462,85 @@ static void all_ids_are_had(void)
     SAME(comes(file("crowd"), 31, "trylock", 1), EBUSY);
     SAME(comes(file("crowd"), 31, "timedlock", 1), ETIMEDOUT);
     SAME(comes(file("crowd"), 96, "timedlock", 1), ETIMEDOUT);
-    pid_t it = fork();
-    if (!it)
-        _exit(comes(file("crowd"), 96, "lock", 1));
-    until_asleep(it);
+    SAME(comes(file("crowd"), 96, "trylock", 1), EAGAIN);
+    pid_t it[WAITERS];
+    waits_for_ids(it);
     atomic_store(&let_go, 1);
-    int status;
-    CHECK(waitpid(it, &status, 0) == it && status == 0);
+    all_end_well(it, WAITERS);
     for (int i = 0; i < IDS; i++)
         CHECK(!pthread_join(t[i], NULL));
     unlink(file("crowd"));
+}
+
+/* All ids are had by processes that own, and all of these die. */
+static void all_owners_die(void)
+{
+    pid_t owner[IDS], it[WAITERS];
+    _Atomic int *owned = shared(sizeof *owned);
+    crowd = map(file("dying"), 100);
+    in_child(make_crowd);
+    for (int i = 0; i < IDS; i++)
+        if (!(owner[i] = fork())) {
+            SAME(pthread_mutex_lock(&crowd[30 + i]), 0);
+            atomic_fetch_add(owned, 1);
+            for (;;)
+                pause();
+        }
+    while (atomic_load(owned) < IDS)
+        rest(1000);
+    waits_for_ids(it);
+    for (int i = 0; i < IDS; i++)
+        kill_and_wait(owner[i]);
+    all_end_well(it, WAITERS);
+    SAME(comes(file("dying"), 31, "lock", 1), EOWNERDEAD);
+    unlink(file("dying"));
+}
+
+/* Two mutexes of two objects each, taken in one order by half of them and in the other by the rest, no two the same. All
+ * ids of each object are had by those who want one of the other's: who is told EAGAIN gives way. */
+static void nests(pthread_mutex_t *outer, pthread_mutex_t *inner, _Atomic int outside[2], int side)
+{
+    int r;
+    for (int k = 0; k < 20;) {
+        SAME(pthread_mutex_lock(outer), 0);
+        atomic_fetch_add(&outside[side], 1);
+        while (atomic_load(&outside[0]) < IDS || atomic_load(&outside[1]) < IDS)
+            rest(1000);
+        r = pthread_mutex_lock(inner);
+        CHECK(r == 0 || r == EAGAIN);
+        if (!r)
+            SAME(pthread_mutex_unlock(inner), 0);
+        SAME(pthread_mutex_unlock(outer), 0);
+        k += !r;
+    }
+    _exit(0);
+}
+
+enum { NESTED = 200 };
+static pthread_mutex_t *nested[2];
+static void make_nested(void)
+{
+    for (int i = 0; i < 2 * NESTED; i++)
+        SAME(init(&nested[i / NESTED][i % NESTED]), 0);
+}
+
+static void nested_crowds(void)
+{
+    enum { EACH = 70 };
+    pid_t it[2 * EACH];
+    _Atomic int *outside = shared(2 * sizeof *outside);
+    const char *one = file("one"), *two = file("two");
+    pthread_mutex_t *a = nested[0] = map(one, NESTED), *b = nested[1] = map(two, NESTED);
+    in_child(make_nested); /* so that this process has no id */
+    for (int i = 0; i < 2 * EACH; i++)
+        if (!(it[i] = fork())) {
+            if (i % 2)
+                nests(&a[20 + i], &b[20 + i], outside, 0);
+            nests(&b[20 + i], &a[20 + i], outside, 1);
+        }
+    all_end_well(it, 2 * EACH);
+    unlink(one);
+    unlink(two);
 }
 
 /* ---- First openers are killed while they make mutexes: the next one makes them all. */
@@ -494,6 +607,62 @@ static void many_objects(void)
             SAME(pthread_mutex_unlock(&m[k]), 0);
         }
         munmap(m, 20 * sizeof *m);
+        unlink(file(name));
+    }
+}
+
+/* So many are mapped at once. */
+static void many_objects_at_once(void)
+{
+    enum { OBJECTS = 200 };
+    pthread_mutex_t *m[OBJECTS];
+    char name[32];
+    for (int i = 0; i < OBJECTS; i++) {
+        snprintf(name, sizeof name, "at-once%d", i);
+        m[i] = map(file(name), 1);
+        SAME(init(m[i]), 0);
+        SAME(pthread_mutex_lock(m[i]), 0);
+    }
+    for (int i = 0; i < OBJECTS; i++) {
+        SAME(pthread_mutex_unlock(m[i]), 0);
+        snprintf(name, sizeof name, "at-once%d", i);
+        SAME(comes(file(name), 0, "lock", 1), 0);
+        unlink(file(name));
+    }
+}
+
+/* Threads come to object after object, each of which they unmap again, and keep ids there. */
+static void *changes_objects(void *which)
+{
+    for (int i = 0; i < 500; i++) {
+        char path[512];
+        snprintf(path, sizeof path, "%s/changing%d", folder, (i + *(int *)which) % 100);
+        pthread_mutex_t *m = map(path, 1);
+        SAME(pthread_mutex_lock(m), 0);
+        SAME(pthread_mutex_unlock(m), 0);
+        munmap(m, sizeof *m);
+    }
+    return NULL;
+}
+
+/* (The gap of whoever lets go is widened for it, by another build: run.) */
+static void changing_objects(void)
+{
+    int which[3] = {0, 33, 66};
+    pthread_t t[3];
+    for (int i = 0; i < 100; i++) {
+        char name[32];
+        snprintf(name, sizeof name, "changing%d", i);
+        SAME(comes(file(name), 0, "init", 1), 0);
+    }
+    alarm(300);
+    for (int i = 0; i < 3; i++)
+        CHECK(!pthread_create(&t[i], NULL, changes_objects, &which[i]));
+    for (int i = 0; i < 3; i++)
+        CHECK(!pthread_join(t[i], NULL));
+    for (int i = 0; i < 100; i++) {
+        char name[32];
+        snprintf(name, sizeof name, "changing%d", i);
         unlink(file(name));
     }
 }
@@ -639,6 +808,8 @@ int main(int argc, char **argv)
     alarm(1800);
     self = argv[0];
     folder = argv[1];
+    if (argc > 2 && !strcmp(argv[2], "changing"))
+        return changing_objects(), 0;
     in_child(newcomers);
     in_child(without_it);
     in_child(a_companion_is_removed);
@@ -651,9 +822,13 @@ int main(int argc, char **argv)
     many_threads();
     many_processes();
     all_ids_are_had();
+    in_child(all_owners_die);
+    in_child(nested_crowds);
     in_child(first_openers_are_killed);
     in_child(as_many_as_there_are);
     in_child(many_objects);
+    in_child(many_objects_at_once);
+    changing_objects();
     in_child(made_over_one_that_is_owned);
     in_child(forks_meanwhile);
     in_child(no_room);
