@@ -85,6 +85,7 @@ struct pz {
     _Atomic unsigned users; /* its opener, and each thread of the process that takes part */
     size_t size;
     size_t mapped; /* what the last user unmaps: 0 of memory that its caller mapped */
+    pz *next;      /* of those of such memory that are closed, and are used again */
     void *data;
     size_t data_size;
     uint64_t cell_of[MOST_CONDS]; /* of condition variables: kept here, as the file's words may be spoiled */
@@ -120,6 +121,8 @@ uint32_t pz_make(pz *p, const struct pz_access *x, uint64_t *value);
 /* ---- sleep.c */
 uint32_t pz_sleep(pz *p, unsigned t, uint64_t at, uint32_t expected);
 void pz_awake(pz *p, unsigned t, uint64_t cell);
+void pz_sleep_for_id(pz *p, _Atomic uint32_t *given, uint32_t seen);
+void pz_watch_me(pz *p);
 
 /* ---- reap.c */
 enum fate { LIVES, DYING, GONE };

@@ -231,12 +231,7 @@ static int open_locked(int fd, const struct asked *a, pz *p)
         r = make_room(fd, l.size);
     if (!r)
         r = map(fd, a, &l, p);
-    if (r)
-        return r;
-    r = ready(p, a, whole);
-    if (r)
-        munmap(p->header, p->mapped);
-    return r;
+    return r ? r : ready(p, a, whole);
 }
 
 /* One opener at a time, of all processes by the file's lock, which a maker that dies lets go of. */
@@ -298,17 +293,47 @@ static int enter(pz *p)
     return number < FILES ? 0 : EMFILE;
 }
 
+/* Those of memory that are closed: somebody may look at one still, and finds out that it isn't the right one any more.
+ * So they are used again, and never freed. */
+static pz *closed;
+
+static pz *new_one(int of_memory)
+{
+    pthread_mutex_lock(&table);
+    pz *p = of_memory ? closed : NULL;
+    if (p)
+        closed = p->next;
+    pthread_mutex_unlock(&table);
+    if (!p)
+        return calloc(1, sizeof *p);
+    memset(p, 0, sizeof *p);
+    return p;
+}
+
+static void free_one(pz *p)
+{
+    if (p->mapped) {
+        munmap(p->header, p->mapped);
+        free(p);
+        return;
+    }
+    pthread_mutex_lock(&table);
+    p->next = closed;
+    closed = p;
+    pthread_mutex_unlock(&table);
+}
+
 /* By a file, or where fd is -1 in memory. Others may fork meanwhile, so nothing of the process's is locked. */
 static int open_one(int fd, void *memory, int whole, const struct asked *a, pz **out)
 {
-    pz *p = calloc(1, sizeof *p);
+    pz *p = new_one(fd < 0);
     if (!p)
         return ENOMEM;
     int r = fd < 0 ? open_memory(memory, a, whole, p) : open_alone(fd, a, p);
-    if (!r && (r = enter(p)) && p->mapped)
-        munmap(p->header, p->mapped);
+    if (!r)
+        r = enter(p);
     if (r)
-        free(p);
+        free_one(p);
     else
         *out = p;
     return r;
@@ -400,9 +425,7 @@ void pz_let_go(pz *p)
     pthread_mutex_lock(&table);
     opened[p->number] = NULL;
     pthread_mutex_unlock(&table);
-    if (p->mapped)
-        munmap(p->header, p->mapped);
-    free(p);
+    free_one(p);
 }
 
 void pz_close(pz *p)

@@ -76,9 +76,10 @@ static int has_died(pz *p, unsigned t)
 }
 
 /* What a sleeper waits for: the word first, then the ends of threads. */
+enum { MOST_WATCHED = 1 + (THREADS > 1 + PZ_WATCH ? THREADS : 1 + PZ_WATCH) };
 struct watched {
-    struct futex_waitv v[2 + PZ_WATCH];
-    unsigned thread[2 + PZ_WATCH];
+    struct futex_waitv v[MOST_WATCHED];
+    unsigned thread[MOST_WATCHED];
     unsigned n;
 };
 
@@ -230,4 +231,33 @@ void pz_awake(pz *p, unsigned t, uint64_t cell)
 {
     if (SEE(sleepers(p, cell)) & bit_of(t))
         AND(sleepers(p, cell), ~bit_of(t));
+}
+
+/* ---- A thread that waits for an id. */
+
+/* The kernel tells who waits for an id of this thread's death. */
+void pz_watch_me(pz *p)
+{
+    __atomic_fetch_or(pz_token_word(p, pz_self[p->number].id), FUTEX_WAITERS, __ATOMIC_SEQ_CST);
+}
+
+/* Until `given` differs, or a thread that has an id dies: else for PZ_POLL_S, as one that was woken may be killed. */
+void pz_sleep_for_id(pz *p, _Atomic uint32_t *given, uint32_t seen)
+{
+    static _Thread_local long look_ms = FIRST_LOOK_MS;
+    struct watched all = {.n = 1};
+    all.v[0] = (struct futex_waitv){.val = seen, .uaddr = (uintptr_t)given, .flags = FUTEX_32};
+    for (unsigned t = 1; t <= THREADS; t++)
+        if (!watch(p, t, &all))
+            return; /* dead: its id can be had */
+    if (all.n < 1 + THREADS)
+        return; /* one is free */
+    struct timespec until = from_now(PZ_POLL_S * 1000l);
+    if (!atomic_load(&no_waitv) &&
+        (syscall(SYS_futex_waitv, all.v, all.n, 0, &until, CLOCK_MONOTONIC) >= 0 || is_known(errno)))
+        return;
+    struct timespec most = {.tv_nsec = look_ms * 1000000};
+    look_ms = look_ms < LAST_LOOK_MS ? 2 * look_ms : look_ms;
+    if (syscall(SYS_futex, (uint32_t *)given, FUTEX_WAIT, seen, &most, NULL, 0) == 0)
+        look_ms = FIRST_LOOK_MS;
 }

@@ -21,21 +21,38 @@ static inline struct ours *ours(pthread_mutex_t *m)
     return __builtin_expect(atomic_load_explicit(&o->kind, memory_order_acquire) == KIND, 0) ? o : NULL;
 }
 
-/* What files and folders are opened in may be cancelled, and these functions aren't. */
-static __attribute__((noinline)) int find_first(struct mutex *x)
+/* Where it is the one still, behind what says that a call is on it. */
+static struct companion *entered(uint64_t nonce)
 {
-    int state;
-    pthread_setcancelstate(PTHREAD_CANCEL_DISABLE, &state);
-    sh_begin();
-    x->c = sh_find(x->bytes->nonce);
-    if (!x->c)
-        x->c = sh_attach(x->bytes, x->bytes->nonce);
-    x->p = x->c ? bank_in(x->c, x->bank) : NULL;
-    pthread_setcancelstate(state, NULL);
-    return x->p ? 0 : EINVAL;
+    struct companion *c = sh_find(nonce);
+    if (!c)
+        return NULL;
+    sh_enter(c);
+    if (atomic_load(&c->nonce) == nonce)
+        return c;
+    sh_leave(c);
+    return NULL;
 }
 
-static inline int find(struct ours *o, struct mutex *x)
+/* What files and folders are opened in may be cancelled, and these functions aren't. */
+static int find_first(struct mutex *x)
+{
+    int state, why = EINVAL;
+    pthread_setcancelstate(PTHREAD_CANCEL_DISABLE, &state);
+    sh_begin();
+    if (!x->c)
+        x->c = sh_attach(x->bytes, x->bytes->nonce, &why);
+    x->p = x->c ? sh_open_bank(x->c, x->bank, 1) : NULL;
+    if (x->c && !x->p) {
+        why = x->bank < atomic_load(&x->c->table->banks) ? EAGAIN : EINVAL;
+        sh_leave(x->c);
+    }
+    pthread_setcancelstate(state, NULL);
+    return x->p ? 0 : why == EAGAIN || why == ENOMEM ? why : EINVAL;
+}
+
+/* A call on it is under way from here on, until sh_leave. */
+static int find(struct ours *o, struct mutex *x)
 {
     uint32_t number = o->number;
     x->bytes = o;
@@ -43,9 +60,9 @@ static inline int find(struct ours *o, struct mutex *x)
     if (x->bank >= BANKS)
         return EINVAL;
     x->m = number - first_of(x->bank);
-    x->c = had(o->nonce);
+    x->c = entered(o->nonce);
     x->p = x->c ? atomic_load_explicit(&x->c->bank[x->bank], memory_order_acquire) : NULL;
-    return __builtin_expect(x->p != NULL, 1) ? 0 : find_first(x);
+    return x->p ? 0 : find_first(x);
 }
 
 static unsigned owner(const struct mutex *x) { return owner_of(atomic_load(&x->p->words[cell_place(x->m)])); }
@@ -77,16 +94,12 @@ static int taken(const struct mutex *x, int r)
     return r;
 }
 
-static int lock(struct ours *o)
+static int lock(struct mutex *x)
 {
-    struct mutex x;
-    int r = find(o, &x);
-    if (r || (r = sh_borrow(x.c, x.bank, x.p)))
+    int r = sh_borrow(x->c, x->bank, x->p);
+    if (r || !(r = pz_mutex_lock(x->p, x->m)))
         return r;
-    r = pz_mutex_lock(x.p, x.m);
-    if (__builtin_expect(r == 0, 1))
-        return 0;
-    return r == EDEADLK ? again(o, EDEADLK) : taken(&x, r);
+    return r == EDEADLK ? again(x->bytes, EDEADLK) : taken(x, r);
 }
 
 /* Without an id a thread can't try; but where somebody lives and owns it the answer is there. */
@@ -96,67 +109,72 @@ static int is_owned(const struct mutex *x)
     return w && w <= THREADS && pz_fate(x->p, w) == LIVES && owner(x) == w;
 }
 
-/* Without an id. `waits`: it may sleep until one is free. EAGAIN: it is to try again. */
-static int without_id(const struct mutex *x, int waits)
+/* It waits for nothing. EAGAIN: the mutex is free, and no id is. (libpazdrig's is busy too where others changed the word
+ * in between.) */
+static int try(struct mutex *x)
 {
-    if (is_owned(x))
+    int r = sh_borrow_now(x->p);
+    if (r == EAGAIN && is_owned(x))
         return EBUSY;
-    if (waits)
-        sh_wait_for_id(x->c, x->bank, x->p);
-    else
+    if (r == EAGAIN)
         sh_ask_for_id(x->c, x->bank);
-    return waits ? EAGAIN : EBUSY;
-}
-
-/* libpazdrig's is busy too where others changed the word in between. */
-static int try(struct ours *o, int waits)
-{
-    struct mutex x;
-    int r = find(o, &x);
-    if (r)
-        return r;
-    for (;;) {
-        r = sh_borrow_now(x.p);
-        if (r == EAGAIN && (r = without_id(&x, waits)) == EAGAIN)
-            continue;
-        if (r)
-            return r;
-        r = pz_mutex_trylock(x.p, x.m);
+    while (!r) {
+        r = pz_mutex_trylock(x->p, x->m);
+        if (!r)
+            return 0;
         if (r != EBUSY)
-            return r ? taken(&x, r) : 0;
-        if (owns(&x))
-            return again(o, EBUSY);
-        if (owner(&x))
-            return taken(&x, EBUSY);
+            return taken(x, r);
+        if (owns(x))
+            return again(x->bytes, EBUSY);
+        if (owner(x))
+            return taken(x, EBUSY);
+        r = 0;
     }
+    return r;
 }
-static int try_once(struct ours *o) { return try(o, 1); }
 
-static int unlock(struct ours *o)
+static int unlock(struct mutex *x)
 {
-    struct mutex x;
-    int r = find(o, &x);
-    if (r)
-        return r;
-    if (!pz_self[x.p->number].id)
+    if (!pz_self[x->p->number].id)
         return EPERM;
-    if (o->count && o->type == PTHREAD_MUTEX_RECURSIVE && owns(&x)) {
-        o->count--;
+    if (x->bytes->count && x->bytes->type == PTHREAD_MUTEX_RECURSIVE && owns(x)) {
+        x->bytes->count--;
         return 0;
     }
-    r = pz_mutex_unlock(x.p, x.m);
-    sh_give(x.c, x.bank, x.p);
+    int r = pz_mutex_unlock(x->p, x->m);
+    sh_give(x->c, x->bank, x->p);
     return r;
 }
 
 /* POSIX and the C library say EINVAL, whoever calls. */
-static int consistent(struct ours *o)
+static int consistent(struct mutex *x)
+{
+    int r = pz_self[x->p->number].id ? pz_mutex_consistent(x->p, x->m) : EINVAL;
+    return r == EPERM ? EINVAL : r;
+}
+
+static int destroy(struct mutex *x)
+{
+    int state;
+    pthread_setcancelstate(PTHREAD_CANCEL_DISABLE, &state);
+    sh_lock_table(x->c);
+    int r = sh_give_number(x->c, x->bytes);
+    sh_unlock_table(x->c);
+    pthread_setcancelstate(state, NULL);
+    return r;
+}
+
+/* errno stays what it was. */
+static __attribute__((noinline)) int kept(int (*call)(struct mutex *), struct ours *o)
 {
     struct mutex x;
-    int r = find(o, &x);
-    if (!r)
-        r = pz_self[x.p->number].id ? pz_mutex_consistent(x.p, x.m) : EINVAL;
-    return r == EPERM ? EINVAL : r;
+    int saved = errno, r = find(o, &x);
+    if (!r) {
+        r = call(&x);
+        sh_leave(x.c);
+    }
+    errno = saved;
+    return r;
 }
 
 static int is_past(clockid_t clock, const struct timespec *until)
@@ -166,6 +184,9 @@ static int is_past(clockid_t clock, const struct timespec *until)
     return now.tv_sec > until->tv_sec || (now.tv_sec == until->tv_sec && now.tv_nsec >= until->tv_nsec);
 }
 
+/* An id isn't there: whoever owns something might keep from the others what they wait for. */
+static int may_wait(int r) { return r == EBUSY || (r == EAGAIN && !sh_owns_any()); }
+
 /* libpazdrig has no time limits: it tries, and naps in between, each time longer. */
 static int timed(struct ours *o, clockid_t clock, const struct timespec *until)
 {
@@ -173,7 +194,7 @@ static int timed(struct ours *o, clockid_t clock, const struct timespec *until)
         return EINVAL;
     struct timespec nap = {.tv_nsec = FIRST_NAP_NS};
     int r, state;
-    while ((r = try(o, 0)) == EBUSY) {
+    while (may_wait(r = kept(try, o))) {
         if (until->tv_nsec < 0 || until->tv_nsec >= SECOND_NS)
             return EINVAL;
         if (is_past(clock, until))
@@ -223,24 +244,12 @@ static int init(pthread_mutex_t *m, const struct object *o, int type)
     if (!r)
         write_bytes(m, c, number, type);
     sh_unlock_table(c);
+    sh_leave(c);
     return r;
 }
 
-static int destroy(struct ours *o)
-{
-    struct mutex x;
-    int r = find(o, &x), state;
-    if (r)
-        return r;
-    pthread_setcancelstate(PTHREAD_CANCEL_DISABLE, &state);
-    sh_lock_table(x.c);
-    r = sh_give_number(x.c, o);
-    sh_unlock_table(x.c);
-    pthread_setcancelstate(state, NULL);
-    return r;
-}
-
-/* ---- The way of most calls: the bank is had, and the thread has an id. */
+/* ---- The way of most calls: the bank is had, and the thread has an id. That keeps it from being let go; so it stays, if
+ * none was let go here while it was looked at. (What is read of one that was let go is there, and wrong.) */
 
 static inline int at_hand(struct ours *o, struct mutex *x)
 {
@@ -249,25 +258,20 @@ static inline int at_hand(struct ours *o, struct mutex *x)
     x->bank = bank_of(number);
     x->m = number - first_of(x->bank);
     x->c = &sh_all[at_of(o->nonce)];
+    uint32_t turns = atomic_load_explicit(&x->c->turns, memory_order_acquire);
     if (x->bank >= BANKS || atomic_load_explicit(&x->c->nonce, memory_order_acquire) != o->nonce)
         return 0;
     x->p = atomic_load_explicit(&x->c->bank[x->bank], memory_order_acquire);
-    return x->p && pz_self[x->p->number].id;
+    if (!x->p || !pz_self[x->p->number].id)
+        return 0;
+    atomic_thread_fence(memory_order_acquire);
+    return atomic_load_explicit(&x->c->turns, memory_order_relaxed) == turns;
 }
 
 static __attribute__((noinline)) int locked(struct ours *o, struct companion *c, pz *p, int r)
 {
     struct mutex x = {.bytes = o, .c = c, .p = p, .bank = bank_of(o->number)};
     return r == EDEADLK ? again(o, EDEADLK) : taken(&x, r);
-}
-
-/* ---- Others, in which errno stays what it was too. */
-
-static __attribute__((noinline)) int kept(int (*call)(struct ours *), struct ours *o)
-{
-    int saved = errno, r = call(o);
-    errno = saved;
-    return r;
 }
 
 static __attribute__((noinline)) int kept_timed(struct ours *o, clockid_t clock, const struct timespec *until)
@@ -327,7 +331,7 @@ SHOWN int pthread_mutex_unlock(pthread_mutex_t *m)
 SHOWN int pthread_mutex_trylock(pthread_mutex_t *m)
 {
     struct ours *o = ours(m);
-    return o ? kept(try_once, o) : sh_real.trylock(m);
+    return o ? kept(try, o) : sh_real.trylock(m);
 }
 
 SHOWN int pthread_mutex_timedlock(pthread_mutex_t *m, const struct timespec *until)

@@ -4,9 +4,10 @@
 #include <string.h>
 #include <sys/mman.h>
 
-/* Under `adding` alone they change. */
+/* Under `adding` alone they change, but for `calls`. */
 struct companion sh_all[COMPANIONS];
 static struct companion *anonymous;
+static unsigned how_many, look_at = FEW; /* so many are had; and once so many are, those in no use are looked for */
 static pthread_mutex_t adding = PTHREAD_MUTEX_INITIALIZER;
 static pthread_once_t once = PTHREAD_ONCE_INIT;
 
@@ -16,6 +17,8 @@ struct companion *sh_find(uint64_t nonce)
         struct companion *c = &sh_all[(at_of(nonce) + i) % COMPANIONS];
         if (atomic_load_explicit(&c->nonce, memory_order_acquire) == nonce)
             return c;
+        if (!atomic_load_explicit(&c->used, memory_order_acquire))
+            return NULL;
     }
     return NULL;
 }
@@ -30,7 +33,7 @@ static struct companion *free_place(uint64_t nonce)
     return NULL;
 }
 
-/* ---- Letting go, where there is no room: of those whose object isn't mapped any more, so that no call is on them. */
+/* ---- Letting go, now and then: of those whose object isn't mapped any more. */
 
 /* No other thread of this process has an id there. */
 static int is_idle(struct companion *c)
@@ -51,31 +54,69 @@ static void unmap(struct companion *c)
     munmap(c->presence, PAGE);
 }
 
+/* Nobody finds it from here on; whoever had found it before has said so, or has an id there. (The object may be mapped
+ * again by now.) */
+static int let_go(struct companion *c)
+{
+    uint64_t nonce = atomic_exchange(&c->nonce, 0);
+    PZ_LETTING_GO();
+    if (atomic_load(&c->calls) || !is_idle(c)) {
+        atomic_store(&c->nonce, nonce);
+        return 0;
+    }
+    atomic_fetch_add(&c->turns, 1);
+    for (unsigned k = 0; k < BANKS; k++) {
+        pz *p = atomic_exchange(&c->bank[k], NULL);
+        if (p)
+            pz_close(p);
+    }
+    unmap(c);
+    how_many--;
+    return 1;
+}
+
+static char mapped[COMPANIONS];
+static void see_mapped(uint64_t dev, uint64_t ino)
+{
+    for (unsigned i = 0; i < COMPANIONS; i++)
+        if (atomic_load(&sh_all[i].nonce) && sh_all[i].table->dev == dev && sh_all[i].table->ino == ino)
+            mapped[i] = 1;
+}
+
+/* What is mapped is read once for all. Where threads keep ids of some that isn't, they are asked to give them back. */
 static void let_go_of_unused(void)
 {
-    for (unsigned i = 0; i < COMPANIONS; i++) {
-        struct companion *c = &sh_all[i];
-        if (!atomic_load(&c->nonce) || c == anonymous || sh_is_mapped(c->table->dev, c->table->ino) || !is_idle(c))
-            continue;
-        atomic_store(&c->nonce, 0);
-        for (unsigned k = 0; k < BANKS; k++) {
-            pz *p = atomic_exchange(&c->bank[k], NULL);
-            if (p)
-                pz_close(p);
-        }
-        unmap(c);
-    }
+    int kept = 0;
+    memset(mapped, 0, sizeof mapped);
+    if (sh_see_mapped(see_mapped))
+        return;
+    for (unsigned i = 0; i < COMPANIONS; i++)
+        if (atomic_load(&sh_all[i].nonce) && &sh_all[i] != anonymous && !mapped[i])
+            kept |= !let_go(&sh_all[i]);
+    if (kept)
+        atomic_fetch_add(&sh_wishes, 1);
 }
 
 /* ---- Adding. */
 
 static struct companion *place_for(uint64_t nonce)
 {
-    struct companion *c = free_place(nonce);
-    if (c)
-        return c;
-    let_go_of_unused();
+    if (how_many >= look_at) {
+        let_go_of_unused();
+        look_at = how_many < FEW / 2 ? FEW : how_many < COMPANIONS / 2 ? 2 * how_many : COMPANIONS;
+    }
     return free_place(nonce);
+}
+
+static void put(struct companion *c, const struct companion *new)
+{
+    c->dev = new->dev;
+    c->ino = new->ino;
+    c->table = new->table;
+    c->presence = new->presence;
+    atomic_store(&c->used, 1);
+    atomic_store_explicit(&c->nonce, atomic_load(&new->nonce), memory_order_release);
+    how_many++;
 }
 
 /* One that was had already may have been opened again: then that one stays. */
@@ -87,11 +128,7 @@ static struct companion *add(const struct object *o, uint64_t nonce, int *why)
         return NULL;
     struct companion *c = sh_find(atomic_load(&new.nonce));
     if (!c && (c = place_for(atomic_load(&new.nonce)))) {
-        c->dev = new.dev;
-        c->ino = new.ino;
-        c->table = new.table;
-        c->presence = new.presence;
-        atomic_store_explicit(&c->nonce, atomic_load(&new.nonce), memory_order_release);
+        put(c, &new);
         return c;
     }
     unmap(&new);
@@ -100,41 +137,50 @@ static struct companion *add(const struct object *o, uint64_t nonce, int *why)
     return c;
 }
 
-/* By a mutex of this nonce, which isn't among those had. */
-struct companion *sh_attach(const void *mutex, uint64_t nonce)
+/* By a mutex of this nonce, which isn't among those had. Whoever has one so leaves it, as behind sh_enter. */
+struct companion *sh_attach(const void *mutex, uint64_t nonce, int *why)
 {
     struct object o;
-    int why;
+    *why = EINVAL;
     if (!nonce || sh_object_at(mutex, &o) || o.anonymous)
         return NULL;
     sh_real_lock(&adding);
     struct companion *c = sh_find(nonce);
     if (!c)
-        c = add(&o, nonce, &why);
+        c = add(&o, nonce, why);
+    if (c)
+        sh_enter(c);
     sh_real_unlock(&adding);
     return c;
 }
 
+static int is_of(const struct companion *c, const struct object *o)
+{
+    return atomic_load(&c->nonce) && c->table->dev == o->dev && c->table->ino == o->ino && sh_is_in_place(o, c);
+}
+
+/* (A first opener makes many mutexes of one object.) */
 static struct companion *had_of(const struct object *o)
 {
-    for (unsigned i = 0; i < COMPANIONS; i++) {
-        struct companion *c = &sh_all[i];
-        if (atomic_load(&c->nonce) && c->table->dev == o->dev && c->table->ino == o->ino && sh_is_in_place(o, c))
-            return c;
+    static struct companion *last = sh_all;
+    for (unsigned i = 0; i <= COMPANIONS; i++) {
+        struct companion *c = i ? &sh_all[i - 1] : last;
+        if (is_of(c, o))
+            return last = c;
     }
     return NULL;
 }
 
-/* For a first opener: made where there is none. */
+/* For a first opener: made where there is none. It is left too. */
 struct companion *sh_attach_object(const struct object *o, int *why)
 {
     *why = EAGAIN;
-    if (o->anonymous)
-        return anonymous;
     sh_real_lock(&adding);
-    struct companion *c = had_of(o);
-    if (!c)
+    struct companion *c = o->anonymous ? anonymous : had_of(o);
+    if (!c && !o->anonymous)
         c = add(o, 0, why);
+    if (c)
+        sh_enter(c);
     sh_real_unlock(&adding);
     return c;
 }
@@ -163,7 +209,15 @@ pz *sh_open_bank(struct companion *c, unsigned bank, int whole)
 /* ---- Beginning and end. */
 
 static void before_fork(void) { sh_real_lock(&adding); }
-static void behind_fork(void) { sh_real_unlock(&adding); }
+static void in_parent(void) { sh_real_unlock(&adding); }
+
+/* The parent's other threads, and so their calls, aren't here. */
+static void in_child(void)
+{
+    for (unsigned i = 0; i < COMPANIONS; i++)
+        atomic_store(&sh_all[i].calls, 0);
+    sh_real_unlock(&adding);
+}
 
 /* Of shared memory without a name, which only forked children have too: mapped before any fork, and by no file, so that
  * who closes all descriptors does no harm. */
@@ -172,16 +226,17 @@ static void map_anonymous(void)
     struct table *t = mmap(NULL, sh_size(), PROT_READ | PROT_WRITE, MAP_SHARED | MAP_ANONYMOUS | MAP_NORESERVE, -1, 0);
     if (t == MAP_FAILED || sh_make_table(t))
         return;
+    struct companion new = {.table = t};
+    atomic_store(&new.nonce, t->nonce);
     anonymous = free_place(t->nonce);
-    anonymous->table = t;
-    atomic_store_explicit(&anonymous->nonce, t->nonce, memory_order_release);
+    put(anonymous, &new);
 }
 
 /* The driver's own lock is taken behind `adding`, by fork too: so its handlers are named first. */
 static void begin(void)
 {
     pz_ready_for_forks();
-    pthread_atfork(before_fork, behind_fork, behind_fork);
+    pthread_atfork(before_fork, in_parent, in_child);
     map_anonymous();
 }
 void sh_begin(void) { pthread_once(&once, begin); }

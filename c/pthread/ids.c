@@ -6,15 +6,29 @@
 #include <sys/syscall.h>
 #include <unistd.h>
 
-enum { FROM_THE_FIRST = 16, LOOK_NS = 10000000 };
+enum { FROM_THE_FIRST = 16 };
+
+_Atomic unsigned sh_wishes;
+
+/* Somebody lets go of companions, and this thread may have ids there that it doesn't need. It takes them anew. */
+static void give_back_all(void)
+{
+    for (unsigned n = 0; n < FILES; n++)
+        if (pz_self[n].id && !pz_self[n].held)
+            pz_give_back(pz_opened(n));
+}
 
 /* EAGAIN: none is free. Mostly the one that it had last; now and then the first that is free, so that it comes to one
  * that may be kept once the others have gone. */
 int sh_borrow_now(pz *p)
 {
-    static _Thread_local unsigned borrowed;
+    static _Thread_local unsigned borrowed, granted;
     if (__builtin_expect(pz_self[p->number].id != 0, 1))
         return 0;
+    if (granted != atomic_load(&sh_wishes)) {
+        granted = atomic_load(&sh_wishes);
+        give_back_all();
+    }
     if (++borrowed % FROM_THE_FIRST == 0)
         pz_self[p->number].last = 0;
     return pz_thread_begin(p);
@@ -22,24 +36,37 @@ int sh_borrow_now(pz *p)
 
 void sh_ask_for_id(struct companion *c, unsigned bank) { atomic_store(&c->table->ids[bank].wanted, 1); }
 
-/* Until one was given back, or for a while: nobody tells of the death of one who had one. */
-void sh_wait_for_id(struct companion *c, unsigned bank, pz *p)
+/* A mutex of libpazdrig's, in any object. */
+int sh_owns_any(void)
 {
-    _Atomic uint32_t *returned = &c->table->ids[bank].returned;
-    struct timespec most = {.tv_nsec = LOOK_NS};
-    uint32_t seen = atomic_load(returned);
-    sh_ask_for_id(c, bank);
-    if (sh_borrow_now(p) == EAGAIN)
-        syscall(SYS_futex, returned, FUTEX_WAIT, seen, &most, NULL, 0);
-    else
-        sh_ask_for_id(c, bank); /* others may wait still */
+    for (unsigned n = 0; n < FILES; n++)
+        if (pz_self[n].held)
+            return 1;
+    return 0;
 }
 
+/* Until one was given back, or who had one has died. Whoever has waited wakes the next one in turn. */
+static int wait_for_id(struct companion *c, unsigned bank, pz *p)
+{
+    _Atomic uint32_t *returned = &c->table->ids[bank].returned;
+    uint32_t seen = atomic_load(returned);
+    sh_ask_for_id(c, bank);
+    int r = sh_borrow_now(p);
+    if (r == EAGAIN)
+        pz_sleep_for_id(p, returned, seen);
+    else if (!r) {
+        sh_ask_for_id(c, bank); /* others may wait still, */
+        pz_watch_me(p);         /* and are to be told of this thread's death */
+    }
+    return r;
+}
+
+/* Who owns something doesn't wait: others may wait for that, and have the ids. */
 int sh_borrow_slowly(struct companion *c, unsigned bank, pz *p)
 {
-    int r;
-    while ((r = sh_borrow_now(p)) == EAGAIN)
-        sh_wait_for_id(c, bank, p);
+    int r = sh_borrow_now(p);
+    while (r == EAGAIN && !sh_owns_any())
+        r = wait_for_id(c, bank, p);
     return r;
 }
 

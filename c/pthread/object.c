@@ -61,19 +61,21 @@ static int read_line(const char *line, struct region *r)
     return 1;
 }
 
-/* The region that `fits` says, among all. */
+/* The region that `fits` says, among all. ENOENT: there is none; EIO: they can't be read. */
 static int among_all(int (*fits)(const struct region *, const void *), const void *what, struct region *r)
 {
     FILE *f = fopen("/proc/thread-self/maps", "re");
     char *line = NULL;
     size_t room = 0;
     int found = 0;
-    while (f && !found && getline(&line, &room, f) > 0)
+    if (!f)
+        return EIO;
+    while (!found && getline(&line, &room, f) > 0)
         found = read_line(line, r) && fits(r, what);
+    int whole = !ferror(f) && (found || feof(f));
     free(line);
-    if (f)
-        fclose(f);
-    return found ? 0 : ENOENT;
+    fclose(f);
+    return found ? 0 : whole ? ENOENT : EIO;
 }
 
 static int has_address(const struct region *r, const void *at)
@@ -118,14 +120,19 @@ int sh_object_at(const void *at, struct object *o)
     return 0;
 }
 
-static int is_of(const struct region *r, const void *what)
+typedef void seen(uint64_t dev, uint64_t ino);
+static int show(const struct region *r, const void *what)
 {
-    const uint64_t *id = what;
-    return r->shared && makedev(r->dev_major, r->dev_minor) == id[0] && r->ino == id[1];
+    seen *const *see = what;
+    if (r->shared)
+        (*see)(makedev(r->dev_major, r->dev_minor), r->ino);
+    return 0;
 }
 
-int sh_is_mapped(uint64_t dev, uint64_t ino)
+/* Each region of shared memory is shown to `see`; EIO: they can't be read. */
+int sh_see_mapped(seen *see)
 {
     struct region r;
-    return among_all(is_of, (uint64_t[]){dev, ino}, &r) == 0;
+    int answer = among_all(show, &see, &r);
+    return answer == ENOENT ? 0 : answer;
 }

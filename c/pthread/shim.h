@@ -7,6 +7,11 @@
 #include <sys/types.h>
 #include <time.h>
 
+/* Tries stop who lets a companion go where this stands. */
+#ifndef PZ_LETTING_GO
+#define PZ_LETTING_GO() ((void)0)
+#endif
+
 /* ---- The 40 bytes of a mutex name it. `kind` stands where the C library has the type, and is none of its types, so a
  * process without the shim is told EINVAL: its low 7 bits are none that it lists, and have neither the bit of a robust
  * nor of a priority's mutex. A nonce is even, and not 0 in its high half, so that its consistent and its destroy refuse
@@ -58,6 +63,9 @@ _Static_assert(sizeof(struct table) <= PAGE, "a page");
 /* A companion, as this process has it; of none while `nonce` is 0. It is used again, and never freed. */
 struct companion {
     _Atomic uint64_t nonce;
+    _Atomic uint32_t used;  /* some companion has stood here: who looks for one looks behind it too */
+    _Atomic uint32_t calls; /* that have found it, and aren't through: it isn't let go */
+    _Atomic uint32_t turns; /* how often one was let go here */
     dev_t dev; /* of the companion's file */
     ino_t ino;
     struct table *table; /* and the banks behind it */
@@ -75,7 +83,7 @@ struct object {
     char path[PATH_MAX + 16];
 };
 int sh_object_at(const void *at, struct object *o);
-int sh_is_mapped(uint64_t dev, uint64_t ino);
+int sh_see_mapped(void (*see)(uint64_t dev, uint64_t ino));
 
 /* ---- place.c */
 size_t sh_size(void);
@@ -87,19 +95,17 @@ int sh_is_in_place(const struct object *o, const struct companion *c);
 void sh_sweep(const char *directory);
 void sh_sweep_all(void);
 
-/* ---- companion.c: each stands at the place that its nonce says, or behind that. */
-enum { COMPANIONS = 64 };
+/* ---- companion.c: each stands at the place that its nonce says, or behind that. A call that has found one says so
+ * first, and then looks whether it is still the one: so it isn't let go under the call. */
+enum { COMPANIONS = 1024, FEW = 64 };
 extern struct companion sh_all[COMPANIONS];
 void sh_begin(void);
-struct companion *sh_attach(const void *mutex, uint64_t nonce);
+struct companion *sh_attach(const void *mutex, uint64_t nonce, int *why);
 struct companion *sh_attach_object(const struct object *o, int *why);
 struct companion *sh_find(uint64_t nonce);
-static inline unsigned at_of(uint64_t nonce) { return (unsigned)(nonce >> 58); }
-static inline struct companion *had(uint64_t nonce)
-{
-    struct companion *c = &sh_all[at_of(nonce)];
-    return atomic_load_explicit(&c->nonce, memory_order_acquire) == nonce ? c : sh_find(nonce);
-}
+static inline unsigned at_of(uint64_t nonce) { return (unsigned)(nonce >> 54); }
+static inline void sh_enter(struct companion *c) { atomic_fetch_add(&c->calls, 1); }
+static inline void sh_leave(struct companion *c) { atomic_fetch_sub(&c->calls, 1); }
 pz *sh_open_bank(struct companion *c, unsigned bank, int whole);
 static inline pz *bank_in(struct companion *c, unsigned bank)
 {
@@ -114,14 +120,15 @@ int sh_number_for(struct companion *c, const struct object *o, uint32_t *number)
 int sh_give_number(struct companion *c, struct ours *o);
 
 /* ---- ids.c */
+extern _Atomic unsigned sh_wishes; /* how often threads were asked to give back what they keep */
 int sh_borrow_now(pz *p);
 int sh_borrow_slowly(struct companion *c, unsigned bank, pz *p);
 static inline int sh_borrow(struct companion *c, unsigned bank, pz *p)
 {
     return __builtin_expect(pz_self[p->number].id != 0, 1) ? 0 : sh_borrow_slowly(c, bank, p);
 }
+int sh_owns_any(void);
 void sh_ask_for_id(struct companion *c, unsigned bank);
-void sh_wait_for_id(struct companion *c, unsigned bank, pz *p);
 void sh_give_back(struct companion *c, unsigned bank, pz *p);
 /* At the end of a call. */
 static inline void sh_give(struct companion *c, unsigned bank, pz *p)
