@@ -1,11 +1,26 @@
-"""A child that holds a mutex is killed; its parent is told so. python3 dead_owner.py c/libpazdrig.so FILE"""
-import ctypes, os, signal, sys
-lib, p = ctypes.CDLL(sys.argv[1]), ctypes.c_void_p()
-error = lib.pz_open(sys.argv[2].encode(), 0o600, 1, 0, None, ctypes.c_size_t(0), ctypes.byref(p))
-assert error == 0, os.strerror(error)
-reader, writer = os.pipe()
-if (child := os.fork()) == 0:
-    os.write(writer, bytes([lib.pz_mutex_lock(p, 0)])); signal.pause()
-assert os.read(reader, 1) == b"\0"; os.kill(child, signal.SIGKILL)
-for call in lib.pz_mutex_lock, lib.pz_mutex_consistent, lib.pz_mutex_unlock:
-    print(f"{call.__name__}: {os.strerror(call(p, 0))}")
+"""A child is killed between a count and its copy; its parent repairs the copy. python3 dead_owner.py FILE"""
+import os
+import signal
+import sys
+
+import pazdrig
+
+with pazdrig.File(sys.argv[1], data=16) as file:
+    count = file.data.cast("q")
+
+    def repair():
+        print(f"repaired: {count[0]} and {count[1]}")
+        count[1] = count[0]
+
+    mutex = file.mutex(0, repair)
+    reader, writer = os.pipe()
+    if (child := os.fork()) == 0:
+        with mutex:
+            count[0] += 1
+            os.write(writer, b"!")
+            signal.pause()
+            count[1] += 1
+    os.read(reader, 1)
+    os.kill(child, signal.SIGKILL)
+    with mutex:
+        print(f"{count[0]} and {count[1]}")

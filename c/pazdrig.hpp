@@ -1,0 +1,176 @@
+/* pazdrig.h for C++17: a file, a mutex that std::lock_guard, std::scoped_lock and std::unique_lock take, and a
+ * condition variable. Whatever isn't answered by 0 is thrown as pazdrig::error.
+ *
+ * A mutex is made with what repairs its data. So nobody comes to data that a dead owner left: a lock(), a try_lock() or
+ * a wait() that is told EOWNERDEAD repairs them and declares them consistent before it returns. A repair that throws
+ * says that they can't be repaired: the mutex becomes unusable, as by an unlock in C, and the call throws what that
+ * threw. */
+#ifndef PAZDRIG_HPP
+#define PAZDRIG_HPP
+#include "pazdrig.h"
+#include <cerrno>
+#include <functional>
+#include <mutex>
+#include <new>
+#include <stdexcept>
+#include <string>
+#include <system_error>
+#include <type_traits>
+#include <utility>
+
+namespace pazdrig
+{
+
+/* code() is a number of errno(3): it is equal to std::errc::state_not_recoverable, for instance. */
+class error : public std::system_error
+{
+  public:
+    error(const char *call, int answer)
+        : std::system_error(answer, std::generic_category(), std::string(call) + ": " + pz_strerror(call, answer))
+    {
+    }
+};
+
+inline void check(const char *call, int answer)
+{
+    if (answer != 0)
+        throw error(call, answer);
+}
+
+/* An open file: closed at its end, behind all that was made of it. */
+class file
+{
+  public:
+    explicit file(const char *path, unsigned mutexes = 1, unsigned conditions = 0, std::size_t data = 0,
+                  mode_t mode = 0600, const std::uint16_t *mutex_of = nullptr)
+    {
+        check("pz_open", pz_open(path, mode, mutexes, conditions, mutex_of, data, &opened));
+    }
+    /* The file that fd is of, as pz_open_fd. */
+    explicit file(int fd, unsigned mutexes = 1, unsigned conditions = 0, std::size_t data = 0,
+                  const std::uint16_t *mutex_of = nullptr)
+    {
+        check("pz_open_fd", pz_open_fd(fd, mutexes, conditions, mutex_of, data, &opened));
+    }
+    file(file &&other) noexcept : opened(std::exchange(other.opened, nullptr)) {}
+    file &operator=(file &&other) noexcept
+    {
+        std::swap(opened, other.opened);
+        return *this;
+    }
+    ~file()
+    {
+        if (opened)
+            pz_close(opened);
+    }
+
+    /* For the calls of pazdrig.h. */
+    pz *get() const noexcept { return opened; }
+    void *data() const noexcept { return pz_data(opened); }
+    struct pz_info info() const
+    {
+        struct pz_info now;
+        check("pz_info", pz_info(opened, &now));
+        return now;
+    }
+
+    /* The program's own bytes as a T, zeros in a new file. It has no pointers and no virtual functions, and any bytes
+     * are one: so a dead owner leaves it. */
+    template <class T> T &as() const
+    {
+        static_assert(std::is_trivially_copyable_v<T> && std::is_standard_layout_v<T>, "processes share its bytes");
+        static_assert(alignof(T) <= 64, "a file's data begin at a multiple of 64");
+        if (info().data < sizeof(T))
+            throw std::length_error("pazdrig::file::as: the file has less data than that");
+        return *std::launder(static_cast<T *>(data()));
+    }
+
+  private:
+    pz *opened = nullptr;
+};
+
+/* For data that one store changes, and which a death so leaves whole. */
+inline void nothing_to_repair() {}
+
+class mutex
+{
+  public:
+    mutex(const file &f, unsigned number, std::function<void()> repair)
+        : opened(f.get()), number(number), repair(std::move(repair))
+    {
+    }
+    mutex(const mutex &) = delete;
+    mutex &operator=(const mutex &) = delete;
+
+    void lock() { locked("pz_mutex_lock", pz_mutex_lock(opened, number)); }
+    /* false: a thread that lives has it. */
+    bool try_lock()
+    {
+        int answer = pz_mutex_trylock(opened, number);
+        if (answer != EBUSY)
+            locked("pz_mutex_trylock", answer);
+        return answer != EBUSY;
+    }
+    void unlock() { check("pz_mutex_unlock", pz_mutex_unlock(opened, number)); }
+    /* Usable again: whoever calls it has made anew what it guards. */
+    void reinit() { check("pz_mutex_reinit", pz_mutex_reinit(opened, number)); }
+    unsigned owner() const noexcept { return pz_mutex_owner(opened, number); }
+    bool is_mine() const noexcept { return owner() != 0 && owner() == pz_thread_id(opened); }
+
+  private:
+    friend class condition;
+    void locked(const char *call, int answer)
+    {
+        if (answer != EOWNERDEAD)
+            return check(call, answer);
+        try {
+            repair();
+        } catch (...) {
+            pz_mutex_unlock(opened, number);
+            throw;
+        }
+        check("pz_mutex_consistent", pz_mutex_consistent(opened, number));
+    }
+
+    pz *opened;
+    unsigned number;
+    std::function<void()> repair;
+};
+
+/* One of the file's condition variables, with the mutex that it is of. */
+class condition
+{
+  public:
+    condition(mutex &of, unsigned number) : of(of), number(number) {}
+    condition(const condition &) = delete;
+    condition &operator=(const condition &) = delete;
+
+    /* It may return without a notify. Where it throws, the lock owns what the thread still does. */
+    void wait(std::unique_lock<mutex> &lock)
+    {
+        if (lock.mutex() != &of)
+            throw error("pz_cond_wait", EPERM);
+        try {
+            of.locked("pz_cond_wait", pz_cond_wait(of.opened, number));
+        } catch (...) {
+            if (lock.owns_lock() && !of.is_mine())
+                lock.release();
+            throw;
+        }
+    }
+    template <class Predicate> void wait(std::unique_lock<mutex> &lock, Predicate is_so)
+    {
+        while (!is_so())
+            wait(lock);
+    }
+    /* By the mutex's owner. */
+    void notify_one() { check("pz_cond_signal", pz_cond_signal(of.opened, number)); }
+    void notify_all() { check("pz_cond_broadcast", pz_cond_broadcast(of.opened, number)); }
+
+  private:
+    mutex &of;
+    unsigned number;
+};
+
+} // namespace pazdrig
+#endif

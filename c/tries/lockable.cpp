@@ -1,0 +1,237 @@
+/* pazdrig.hpp: locks of the standard library over mutexes whose owners are killed, whose data can't be repaired, and
+ * which become unusable under a wait. */
+#include "pazdrig.hpp"
+#include <cstdio>
+#include <cstdlib>
+#include <cstring>
+#include <optional>
+#include <signal.h>
+#include <sys/mman.h>
+#include <sys/wait.h>
+#include <unistd.h>
+
+#define CHECK(what) ((what) ? (void)0 : fail(__LINE__, #what))
+
+[[noreturn]] static void fail(int line, const char *what)
+{
+    std::fprintf(stderr, "tries/lockable.cpp:%d: %s\n", line, what);
+    std::_Exit(1);
+}
+
+/* Its copy is the same, but amid a change. */
+struct counter {
+    long count, copy;
+    int is_locked, is_told;
+};
+
+static pazdrig::file a_file()
+{
+    int fd = memfd_create("lockable", MFD_CLOEXEC);
+    CHECK(fd >= 0);
+    pazdrig::file made(fd, 2, 1, sizeof(counter));
+    close(fd);
+    return made;
+}
+
+template <class Do> static pid_t child(Do what)
+{
+    pid_t it = fork();
+    CHECK(it >= 0);
+    if (it == 0) {
+        what();
+        std::_Exit(0);
+    }
+    return it;
+}
+
+static void ends_well(pid_t it)
+{
+    int status;
+    CHECK(waitpid(it, &status, 0) == it && status == 0);
+}
+
+/* As the kernel tells it, twenty times one after the other. */
+static void until_asleep(pid_t it)
+{
+    char path[64], state;
+    std::snprintf(path, sizeof path, "/proc/%d/stat", static_cast<int>(it));
+    for (int quiet = 0; quiet < 20; quiet = state == 'S' ? quiet + 1 : 0) {
+        std::FILE *f = std::fopen(path, "r");
+        CHECK(f && std::fscanf(f, "%*d %*[^)]) %c", &state) == 1);
+        std::fclose(f);
+        usleep(500);
+    }
+}
+
+/* An owner is killed amid a change: having told waiters, where it is asked to. */
+static void dies_amid_a_change(const pazdrig::file &f, bool broadcasts = false)
+{
+    counter &c = f.as<counter>();
+    __atomic_store_n(&c.is_locked, 0, __ATOMIC_SEQ_CST);
+    pid_t it = child([&] {
+        int r = pz_mutex_lock(f.get(), 0);
+        CHECK(r == 0 || r == EOWNERDEAD);
+        CHECK(!broadcasts || pz_cond_broadcast(f.get(), 0) == 0);
+        c.count++;
+        __atomic_store_n(&c.is_locked, 1, __ATOMIC_SEQ_CST);
+        for (;;)
+            pause();
+    });
+    while (!__atomic_load_n(&c.is_locked, __ATOMIC_SEQ_CST))
+        usleep(100);
+    CHECK(kill(it, SIGKILL) == 0 && waitpid(it, nullptr, 0) == it);
+}
+
+/* The number of what is thrown, or 0. */
+template <class Do> static int thrown(Do what)
+{
+    try {
+        what();
+    } catch (const pazdrig::error &e) {
+        return e.code().value();
+    }
+    return 0;
+}
+
+static void what_a_killed_owner_left_is_repaired()
+{
+    pazdrig::file f = a_file();
+    counter &c = f.as<counter>();
+    int repairs = 0;
+    pazdrig::mutex m(f, 0, [&] { c.copy = c.count, repairs++; }), other(f, 1, pazdrig::nothing_to_repair);
+    dies_amid_a_change(f);
+    {
+        std::lock_guard<pazdrig::mutex> guard(m);
+        CHECK(repairs == 1 && c.count == 1 && c.copy == 1);
+    }
+    dies_amid_a_change(f);
+    {
+        std::unique_lock<pazdrig::mutex> lock(m, std::try_to_lock);
+        CHECK(lock.owns_lock() && m.is_mine() && repairs == 2 && c.copy == 2);
+    }
+    std::scoped_lock both(m, other);
+    CHECK(repairs == 2 && m.is_mine() && other.is_mine());
+}
+
+static void one_that_lives_is_waited_for()
+{
+    pazdrig::file f = a_file();
+    pazdrig::mutex m(f, 0, pazdrig::nothing_to_repair);
+    std::unique_lock<pazdrig::mutex> lock(m);
+    ends_well(child([&] { CHECK(!m.try_lock() && !m.is_mine() && m.owner() != 0); }));
+    CHECK(thrown([&] { m.lock(); }) == EDEADLK);
+    lock.unlock();
+    CHECK(!m.is_mine() && m.owner() == 0);
+    CHECK(thrown([&] { m.unlock(); }) == EPERM);
+}
+
+static void what_cannot_be_repaired_is_lost()
+{
+    pazdrig::file f = a_file();
+    pazdrig::mutex m(f, 0, [] { throw std::domain_error("beyond repair"); });
+    dies_amid_a_change(f);
+    bool told = false;
+    try {
+        std::lock_guard<pazdrig::mutex> guard(m);
+    } catch (const std::domain_error &) {
+        told = true;
+    }
+    CHECK(told && !m.is_mine());
+    CHECK(thrown([&] { m.lock(); }) == ENOTRECOVERABLE);
+    CHECK(thrown([&] { m.try_lock(); }) == ENOTRECOVERABLE);
+    m.reinit();
+    std::lock_guard<pazdrig::mutex> guard(m);
+}
+
+static void who_waits_is_told()
+{
+    pazdrig::file f = a_file();
+    counter &c = f.as<counter>();
+    pazdrig::mutex m(f, 0, pazdrig::nothing_to_repair), other(f, 1, pazdrig::nothing_to_repair);
+    pazdrig::condition came(m, 0);
+    pid_t waiter = child([&] {
+        std::unique_lock<pazdrig::mutex> lock(m);
+        came.wait(lock, [&] { return c.is_told == 1; });
+        CHECK(lock.owns_lock() && m.is_mine());
+        c.is_told = 2;
+        came.notify_one();
+    });
+    until_asleep(waiter);
+    CHECK(thrown([&] { came.notify_all(); }) == EPERM);
+    std::unique_lock<pazdrig::mutex> lock(m);
+    c.is_told = 1;
+    came.notify_all();
+    came.wait(lock, [&] { return c.is_told == 2; });
+    ends_well(waiter);
+    std::unique_lock<pazdrig::mutex> another(other);
+    CHECK(thrown([&] { came.wait(another); }) == EPERM && another.owns_lock() && lock.owns_lock());
+}
+
+/* It is woken by one that dies before it has freed the mutex. */
+static void who_waits_repairs()
+{
+    pazdrig::file f = a_file();
+    counter &c = f.as<counter>();
+    pid_t waiter = child([&] {
+        int repairs = 0;
+        pazdrig::mutex m(f, 0, [&] { c.copy = c.count, repairs++; });
+        pazdrig::condition came(m, 0);
+        std::unique_lock<pazdrig::mutex> lock(m);
+        came.wait(lock, [&] { return repairs != 0; });
+        CHECK(lock.owns_lock() && c.count == 1 && c.copy == 1);
+    });
+    until_asleep(waiter);
+    dies_amid_a_change(f, true);
+    ends_well(waiter);
+}
+
+/* A lock whose mutex became unusable under its wait, or couldn't be repaired there, isn't its any more. */
+static void the_lock_is_lost_in_a_wait()
+{
+    pazdrig::file f = a_file();
+    pazdrig::mutex m(f, 0, pazdrig::nothing_to_repair);
+    pid_t waiter = child([&] {
+        pazdrig::condition came(m, 0);
+        std::unique_lock<pazdrig::mutex> lock(m);
+        CHECK(thrown([&] { came.wait(lock); }) == ENOTRECOVERABLE && !lock.owns_lock());
+    });
+    until_asleep(waiter);
+    dies_amid_a_change(f);
+    CHECK(pz_mutex_lock(f.get(), 0) == EOWNERDEAD && pz_cond_broadcast(f.get(), 0) == 0);
+    CHECK(pz_mutex_unlock(f.get(), 0) == 0);
+    ends_well(waiter);
+}
+
+static void files()
+{
+    pazdrig::file f = a_file(), moved = std::move(f);
+    f = std::move(moved);
+    CHECK(f.get() && !moved.get() && f.info().mutexes == 2 && f.info().conds == 1);
+    bool is_short = false;
+    try {
+        f.as<char[sizeof(counter) + 1]>();
+    } catch (const std::length_error &) {
+        is_short = true;
+    }
+    CHECK(is_short && thrown([] { pazdrig::file none("/no such folder/file"); }) == ENOENT);
+    try {
+        pazdrig::file none("/dev/shm", 0);
+    } catch (const pazdrig::error &e) {
+        CHECK(e.code() == std::errc::invalid_argument && std::strstr(e.what(), "pz_open: not 1 to 4,096 mutexes"));
+        is_short = false;
+    }
+    CHECK(!is_short);
+}
+
+int main()
+{
+    alarm(120);
+    what_a_killed_owner_left_is_repaired();
+    one_that_lives_is_waited_for();
+    what_cannot_be_repaired_is_lost();
+    who_waits_is_told();
+    who_waits_repairs();
+    the_lock_is_lost_in_a_wait();
+    files();
+    std::puts("lockable: each lock has what it should");
+}
