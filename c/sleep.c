@@ -40,10 +40,21 @@ static long now_us(void)
     return now.tv_sec * 1000000 + now.tv_nsec / 1000;
 }
 
+static void pause_once(void)
+{
+#if defined __x86_64__
+    __builtin_ia32_pause();
+#elif defined __aarch64__
+    __asm__ volatile("isb"); /* a yield is over at once there */
+#else
+    __asm__ volatile("" ::: "memory");
+#endif
+}
+
 static void pause_for(int pauses)
 {
     for (int i = 0; i < pauses; i++)
-        __builtin_ia32_pause();
+        pause_once();
 }
 
 /* Looks are few, each after twice as many pauses: one takes the word's line from its owner, who is about to change it.

@@ -1,5 +1,5 @@
-/* What the rooms of libpazdrig_pthread.so share: the 40 bytes of a mutex, the companions in which libpazdrig keeps what
- * it is, and the C library's own functions. */
+/* What the rooms of libpazdrig_pthread.so share: the bytes of a mutex, the companions in which libpazdrig keeps what it
+ * is, and the C library's own functions. */
 #ifndef PZ_SHIM_H
 #define PZ_SHIM_H
 #include "../driver.h"
@@ -15,19 +15,19 @@
 #define PZ_FOUND() ((void)0)
 #endif
 
-/* ---- The 40 bytes of a mutex name it. `kind` stands where the C library has the type, and is none of its types, so a
- * process without the shim is told EINVAL: its low 7 bits are none that it lists, and have neither the bit of a robust
- * nor of a priority's mutex. A nonce is even, and not 0 in its high half, so that its consistent and its destroy refuse
- * as well. */
+/* ---- The bytes of a mutex, 40 or 48, name it. `kind` stands where the C library has the type, and is none of its
+ * types, so a process without the shim is told EINVAL: its low 7 bits are none that it lists, and have neither the bit
+ * of a robust nor of a priority's mutex. A nonce is even, and not 0 in its high half, so that its consistent and its
+ * destroy refuse as well. */
 enum { KIND = 0x7a61700c };
 struct ours {
     uint32_t number, count; /* in its companion; how often its owner has it besides the first time */
     uint64_t nonce;         /* of its companion */
     _Atomic uint32_t kind;
     uint32_t type;
-    uint64_t unused[2];
+    uint64_t unused[(sizeof(pthread_mutex_t) - 24) / sizeof(uint64_t)];
 };
-_Static_assert(sizeof(struct ours) == sizeof(pthread_mutex_t), "a mutex has 40 bytes");
+_Static_assert(sizeof(struct ours) == sizeof(pthread_mutex_t), "all of its bytes");
 _Static_assert(offsetof(struct ours, kind) == offsetof(pthread_mutex_t, __data.__kind), "the type's place");
 
 /* ---- Banks: a companion has room for 32,768 mutexes, in files of libpazdrig one behind the other; of them as many are
