@@ -96,7 +96,7 @@ static void a_file_that_cannot_be_written(void)
     pz *p;
     SAME(pz_open(path, 0400, 1, 0, NULL, 0, &p), 0);
     pz_close(p);
-    pid_t child = fork();
+    pid_t child = a_child();
     if (!child) {
         if (setuid(65534))
             _exit(1);
@@ -112,7 +112,7 @@ static void a_file_that_cannot_be_written(void)
 static void no_room(void)
 {
     const char *path = a_file("room");
-    pid_t child = fork();
+    pid_t child = a_child();
     if (!child) {
         pz *p;
         struct rlimit most = {4096, 4096};
@@ -132,7 +132,7 @@ static void no_room(void)
 static void touches_what_is_gone(pz *p, int in_a_call)
 {
     int status;
-    pid_t child = fork();
+    pid_t child = a_child();
     if (!child) {
         if (in_a_call)
             pz_mutex_lock(p, 0);
@@ -148,7 +148,7 @@ static void a_truncated_file(void)
     const char *path = a_file("truncated");
     pz *p;
     int status;
-    pid_t child = fork();
+    pid_t child = a_child();
     if (!child) {
         signal(SIGBUS, SIG_DFL);
         SAME(pz_open(path, 0600, 1, 0, NULL, 1 << 16, &p), 0);
@@ -175,7 +175,7 @@ static void a_removed_file(void)
     SAME(pz_mutex_lock(p, 0), 0);
     SAME(pz_open(path, 0600, 1, 0, NULL, 0, &q), 0);
     SAME(pz_mutex_lock(q, 0), 0);
-    pid_t child = fork();
+    pid_t child = a_child();
     if (!child)
         _exit(pz_mutex_trylock(p, 0) != EBUSY);
     CHECK(waitpid(child, &status, 0) == child && status == 0);
@@ -191,7 +191,7 @@ static void a_memfd(void)
     pz *p, *q;
     CHECK(fd >= 0);
     SAME(pz_open_fd(fd, 2, 1, NULL, sizeof(long), &p), 0);
-    pid_t child = fork();
+    pid_t child = a_child();
     if (!child) {
         SAME(pz_open_fd(fd, 2, 1, NULL, sizeof(long), &q), 0);
         SAME(pz_mutex_lock(q, 1), 0);
@@ -212,7 +212,7 @@ static void no_descriptor_left(void)
     pz *p;
     SAME(pz_open(path, 0600, 1, 0, NULL, 0, &p), 0);
     SAME(pz_mutex_lock(p, 0), 0);
-    pid_t child = fork();
+    pid_t child = a_child();
     if (!child) {
         int next = dup(0);
         struct rlimit one_more = {(rlim_t)next + 1, (rlim_t)next + 1};
@@ -239,7 +239,7 @@ static void many_open_at_once(void)
         pz *p;
         atomic_store(go, 0);
         for (int i = 0; i < OPENERS; i++)
-            if (!(child[i] = fork())) {
+            if (!(child[i] = a_child())) {
                 while (!atomic_load(go))
                     ;
                 SAME(pz_open(path, 0600, 64, 4, NULL, sizeof(long), &p), 0);
@@ -265,7 +265,7 @@ static void makers_are_killed(void)
     for (int i = 0; i < 200; i++) {
         const char *path = a_file("maker");
         pz *p;
-        pid_t child = fork();
+        pid_t child = a_child();
         if (!child) {
             pz_open(path, 0600, 64, 4, NULL, 4096, &p);
             _exit(0);
@@ -318,7 +318,7 @@ static void a_reboot(void)
     pz *p;
     unlink(path);
     setenv("PZ_BOOT", "the first boot", 1);
-    pid_t child = fork();
+    pid_t child = a_child();
     if (!child) {
         if (pz_open(path, 0600, 2, 1, NULL, 8, &p) || pz_mutex_lock(p, 1))
             _exit(1);
@@ -332,7 +332,7 @@ static void a_reboot(void)
     SAME(pz_open(path, 0600, 2, 1, NULL, 8, &p), 0);
     CHECK(*(long *)pz_data(p) == 42);
     SAME(pz_mutex_lock(p, 0), 0);
-    child = fork(); /* who opens it behind the first one leaves that one its mutex */
+    child = a_child(); /* who opens it behind the first one leaves that one its mutex */
     if (!child)
         _exit(pz_open(path, 0600, 2, 1, NULL, 8, &p) || pz_mutex_trylock(p, 0) != EBUSY);
     CHECK(waitpid(child, &status, 0) == child && status == 0);
