@@ -1,2 +1,4 @@
 pub mod Locks
 pub mod Unlocks
+pub mod Signals
+pub mod Refusals

@@ -1,5 +1,6 @@
 //! What holds of the plans.
 ghost use Rattle.pazdrig_c.specs.Plans.{LocksByPlan, UnlocksByPlan};
+ghost use Rattle.pazdrig_c.specs.Shorts.{SignalsByPlan, BroadcastsByPlan, DeclaresByPlan, RefusalsByPlan};
 
 /// The lock, or the trylock, of a free mutex that is answered as it expects makes just the accesses of its plan,
 /// returns the reply of whoever takes such a cell, and makes its exchange where it takes.
@@ -12,4 +13,34 @@ pub fn locks_by_plan()
 /// OK, where somebody may wait and nobody was woken too.
 pub fn unlocks_by_plan()
     ensures { UnlocksByPlan }
+{}
+
+/// The signal of an owner whose counter isn't full loads the cell and the counter, counts, which is its point, and wakes
+/// one sleeper of the counter; it returns OK, however many were woken. Behind the count it stands at the row that wakes.
+pub fn signals_by_plan()
+    ensures { SignalsByPlan }
+{}
+
+/// The broadcast of an owner whose counter isn't full loads the cell and the counter, counts, which is its point, sets
+/// WAITERS in the cell, and moves all sleepers of the counter to it; it returns OK, also where the move found nobody, or
+/// found the counter changed. Behind the count it stands at the row that sets WAITERS, and behind that at the row that
+/// moves.
+pub fn broadcasts_by_plan()
+    ensures { BroadcastsByPlan }
+{}
+
+/// The declaration of its owner that an inconsistent mutex is consistent loads the cell and clears OWNER_DIED in it, which
+/// is its point, and returns OK.
+pub fn declares_by_plan()
+    ensures { DeclaresByPlan }
+{}
+
+/// A call that its look at the cell refuses, or a signal or broadcast that its look at the counter does, makes no
+/// further access but that a lock and a trylock store the entry as the pending one before, and 0 behind; that look is
+/// its point, and it returns what refused it. Refused are: a trylock of an owned mutex (EBUSY) and of an unusable one
+/// (ENOTRECOVERABLE), a lock of the thread's own mutex (EDEADLK) and of an unusable one without WAITERS
+/// (ENOTRECOVERABLE), each other call of who isn't the owner (EPERM), consistent of a consistent mutex (EINVAL), a wait
+/// of an inconsistent one (X_STATE), and a signal or broadcast whose counter is full (X_FULL).
+pub fn refusals_by_plan()
+    ensures { RefusalsByPlan }
 {}

@@ -1,0 +1,2 @@
+-- Signals, broadcasts and declarations of an owner.
+use Rattle.std.proofs.Common.{◌≡◌, ℕ, refl}

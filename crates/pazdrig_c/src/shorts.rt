@@ -1,0 +1,249 @@
+//! A call that what it loads decides, whole: the signal, the broadcast and the declaration of an owner, and each call that
+//! is refused. Its changes, in their order, and its reply.
+ghost use Rattle.std.specs.Prelude.{◌≡◌, ◌≢◌, ℕ, ◌&&◌, Some, IfSome};
+ghost use Rattle.std.specs.Bool.{OnTrue, OnFalse};
+ghost use Rattle.lockword.specs.Cells.{fields_of};
+ghost use Rattle.pazdrig_c.specs.Accesses.{operation_number, access_code};
+ghost use Rattle.pazdrig_c.specs.Plans.{changes_in, is_thread};
+ghost use Rattle.pazdrig_c.specs.Shorts.{counts, declares, refused, refused_of, signal_plan, broadcast_plan};
+ghost use Rattle.pazdrig_c.specs.Shorts.{declare_plan, refusal_plan, is_own, codes, told_changes, Refuses};
+ghost use Rattle.posixmutex.specs.declared.point.Operation.{Operation};
+ghost use Rattle.stepprograms.specs.declared.access.Access.TheVariants as access;
+ghost use Rattle.mutex.specs.Whole.{pending_place};
+
+use crate::access::{coded, no_access};
+use crate::structs::{PzAccess, PzShort};
+use lockword::{Cell, OWNER_DIED, Reply, Tid, WAITERS};
+use posixmutex::Operation;
+use stepprograms::{ALL, Access};
+
+/// The largest value of a counter: a signal or broadcast of it is refused.
+const FULL: u64 = 0xffff_ffff;
+
+/// The signal of a thread that found this cell and this count: the count, and the wake of one sleeper of the counter.
+/// Where nobody sleeps there the wake changes nothing; where somebody may, the call goes on by its steps, from where it
+/// wakes. False, and nothing is written, where the thread doesn't own the mutex or the counter is full: then it is
+/// refused.
+#[unsafe(no_mangle)]
+pub extern "C" fn pz_plan_signal(
+    plan: &mut PzShort,
+    thread: u8,
+    counter: u64,
+    cell: u64,
+    count: u64,
+) -> bool
+    ensures answers { result ≡ (is_thread thread && counts thread (fields_of cell) count) }
+    ensures accesses { OnTrue result
+        ((c : ℕ) → told_changes plan.new ≡ codes (changes_in (signal_plan c counter))) }
+    ensures reply { OnTrue result (plan.new.reply ≡ 0) }
+    ensures unchanged { OnFalse result (plan.new ≡ plan.old) }
+{
+    if !may_count(thread, cell, count) {
+        return false;
+    }
+    *plan = PzShort {
+        change: [
+            coded(Access::FetchAdd {
+                at: counter,
+                operand: 1,
+            }),
+            coded(Access::Wake {
+                at: counter,
+                most: 1,
+            }),
+            no_access(),
+        ],
+        changes: 2,
+        reply: 0,
+    };
+    true
+}
+
+/// The broadcast of a thread that found this cell, at this place, and this count: the count, WAITERS in the cell, and
+/// the move of all sleepers of the counter to it. Where nobody sleeps on the counter the move changes nothing; where
+/// somebody may, the call goes on by its steps, from where it sets WAITERS or from where it moves. False, and nothing is
+/// written, where the thread doesn't own the mutex or the counter is full: then it is refused.
+#[unsafe(no_mangle)]
+pub extern "C" fn pz_plan_broadcast(
+    plan: &mut PzShort,
+    thread: u8,
+    place: u64,
+    counter: u64,
+    cell: u64,
+    count: u64,
+) -> bool
+    ensures answers { result ≡ (is_thread thread && counts thread (fields_of cell) count) }
+    ensures accesses { OnTrue result
+        (told_changes plan.new ≡ codes (changes_in (broadcast_plan place counter count))) }
+    ensures reply { OnTrue result (plan.new.reply ≡ 0) }
+    ensures unchanged { OnFalse result (plan.new ≡ plan.old) }
+{
+    if !may_count(thread, cell, count) {
+        return false;
+    }
+    *plan = PzShort {
+        change: [
+            coded(Access::FetchAdd {
+                at: counter,
+                operand: 1,
+            }),
+            coded(Access::FetchOr {
+                at: place,
+                operand: WAITERS,
+            }),
+            coded(Access::CmpRequeue {
+                from: counter,
+                expected: ((count & 0xffff_ffff) as u32).wrapping_add(1),
+                wake: 0,
+                to: place,
+                moves: ALL,
+            }),
+        ],
+        changes: 3,
+        reply: 0,
+    };
+    true
+}
+
+/// The declaration that a mutex is consistent, by a thread that found this cell at this place: it clears OWNER_DIED.
+/// False, and nothing is written, where the thread doesn't own the mutex or it is consistent: then it is refused.
+#[unsafe(no_mangle)]
+pub extern "C" fn pz_plan_consistent(plan: &mut PzShort, thread: u8, place: u64, cell: u64) -> bool
+    ensures answers { result ≡ (is_thread thread && declares thread (fields_of cell)) }
+    ensures accesses { OnTrue result (told_changes plan.new ≡ codes (changes_in (declare_plan place))) }
+    ensures reply { OnTrue result (plan.new.reply ≡ 0) }
+    ensures unchanged { OnFalse result (plan.new ≡ plan.old) }
+{
+    let seen = Cell::new(cell);
+    if Tid::new(thread).is_none() || seen.owner() != u32::from(thread) || !seen.owner_died() {
+        return false;
+    }
+    *plan = PzShort {
+        change: [
+            coded(Access::FetchAnd {
+                at: place,
+                operand: !OWNER_DIED,
+            }),
+            no_access(),
+            no_access(),
+        ],
+        changes: 1,
+        reply: 0,
+    };
+    true
+}
+
+/// The call with an operation (0 lock, 1 trylock, 2 unlock, 3 consistent, 4 wait, 5 signal, 6 broadcast) of a thread
+/// that found this cell, and this count if it signals or broadcasts, where that refuses it: what it stores, and its
+/// reply. False, and nothing is written, where it isn't refused there: also a lock of an unusable mutex with WAITERS
+/// isn't, which first wakes all who sleep on it. False also where there is no such operation or thread.
+#[unsafe(no_mangle)]
+pub extern "C" fn pz_plan_refusal(
+    plan: &mut PzShort,
+    thread: u8,
+    head: u64,
+    entry: u64,
+    operation: u32,
+    cell: u64,
+    count: u64,
+) -> bool
+    ensures refuses { (op : Operation) (c q : ℕ) → operation_number op ≡ operation
+        → Refuses (refused_of op thread (fields_of cell) count)
+        (refusal_plan op (is_own thread cell) head entry c q) result plan.old plan.new }
+    ensures no_such { ((op : Operation) → operation_number op ≢ operation)
+        → (result ≡ false) × (plan.new ≡ plan.old) }
+{
+    let Some(taker) = Tid::new(thread) else {
+        return false;
+    };
+    let Some(operation) = numbered(operation) else {
+        return false;
+    };
+    let Some(reply) = refused(operation, taker, Cell::new(cell), count) else {
+        return false;
+    };
+    *plan = match operation {
+        Operation::Lock | Operation::TryLock => announced(head, entry, reply),
+        _ => unannounced(reply),
+    };
+    true
+}
+
+/// A signal or broadcast counts that found this cell and this count.
+fn may_count(thread: u8, cell: u64, count: u64) -> bool
+    ensures { result ≡ (is_thread thread && counts thread (fields_of cell) count) }
+{
+    Tid::new(thread).is_some() && Cell::new(cell).owner() == u32::from(thread) && count != FULL
+}
+
+/// The operation of a call.
+fn numbered(operation: u32) -> Option<Operation>
+    ensures has_this { IfSome result (λ op. operation_number op ≡ operation) }
+    ensures each { (op : Operation) → operation_number op ≡ operation → result ≡ Some op }
+{
+    match operation {
+        0 => Some(Operation::Lock),
+        1 => Some(Operation::TryLock),
+        2 => Some(Operation::Unlock),
+        3 => Some(Operation::Consistent),
+        4 => Some(Operation::Wait),
+        5 => Some(Operation::Signal),
+        6 => Some(Operation::Broadcast),
+        7 => Some(Operation::Death),
+        8 => Some(Operation::Reinit),
+        _ => None,
+    }
+}
+
+/// What refuses the thread's call.
+fn refused(operation: Operation, thread: Tid, cell: Cell, count: u64) -> Option<Reply>
+    ensures { result ≡ refused operation thread cell count }
+{
+    let own = cell.owner() == u32::from(thread.get());
+    match operation {
+        Operation::Lock if cell.unusable() && cell.waiters() => None,
+        Operation::Lock if cell.unusable() => Some(Reply::ENOTRECOVERABLE),
+        Operation::Lock if own => Some(Reply::EDEADLK),
+        Operation::TryLock if cell.unusable() => Some(Reply::ENOTRECOVERABLE),
+        Operation::TryLock if cell.owner() != 0 => Some(Reply::EBUSY),
+        Operation::Lock | Operation::TryLock | Operation::Death | Operation::Reinit => None,
+        _ if !own => Some(Reply::EPERM),
+        Operation::Consistent if !cell.owner_died() => Some(Reply::EINVAL),
+        Operation::Wait if cell.owner_died() => Some(Reply::XSTATE),
+        Operation::Signal | Operation::Broadcast if count == FULL => Some(Reply::XFULL),
+        _ => None,
+    }
+}
+
+/// The entry is the pending one until the call is refused.
+fn announced(head: u64, entry: u64, reply: Reply) -> PzShort
+    ensures { (c : ℕ) → Refuses (Some reply) (announced_plan head entry c) true result result }
+{
+    let pending = head.wrapping_add(2);
+    PzShort {
+        change: [
+            coded(Access::Store {
+                at: pending,
+                value: entry,
+            }),
+            coded(Access::Store {
+                at: pending,
+                value: 0,
+            }),
+            no_access(),
+        ],
+        changes: 2,
+        reply: u32::from(reply.number()),
+    }
+}
+
+/// It changes nothing.
+fn unannounced(reply: Reply) -> PzShort
+    ensures { Refuses (Some reply) [] true result result }
+{
+    PzShort {
+        change: [no_access(); 3],
+        changes: 0,
+        reply: u32::from(reply.number()),
+    }
+}
