@@ -1,4 +1,3 @@
 pub mod Locks
 pub mod Unlocks
-pub mod Signals
 pub mod Refusals

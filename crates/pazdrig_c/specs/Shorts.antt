@@ -87,10 +87,11 @@ abbrev pub SignalsByPlan : Type 0
 SignalsByPlan = (k : PzCall) (r : Running) (w s v n : ℕ) → begun (operation_number operation.Signal) k ≡ Some r
     → counts k.thread (fields_of w) s ≡ true → SignalByPlan k r w s v n
 
--- up to its move: the cell is w, and u when WAITERS is set in it
-abbrev pub broadcast_answers : ℕ → ℕ → ℕ → ℕ → List Answer
-broadcast_answers w s v u = Value w ∷ Value s ∷ Value v ∷ Value u ∷ []
+-- the same of a broadcast, whose cell is u when WAITERS is set in it, and whose move is answered a
+abbrev pub broadcast_answers : ℕ → ℕ → ℕ → ℕ → Answer → List Answer
+broadcast_answers w s v u a = Value w ∷ Value s ∷ Value v ∷ Value u ∷ a ∷ []
 
+-- where the counter's low half is one more than it was
 abbrev pub move_of : ℕ → ℕ → ℕ → Access
 move_of c q s = access.CmpRequeue q ((s % 2 ^ 32 + 1) % 2 ^ 32) 0 c 64
 
@@ -103,8 +104,8 @@ broadcast_plan c q s = access.Load c ∷ access.Load q ∷ access.FetchAdd q 1 �
 -- where it counts, and it returns OK. Behind the count it stands at the row that sets WAITERS, and behind that at the
 -- one that moves
 pub record BroadcastByPlan (k : PzCall) (r : Running) (w s v u : ℕ) (a : Answer) : Type 0 where
-  pub asks : accesses r (Value w ∷ Value s ∷ Value v ∷ Value u ∷ a ∷ []) ≡ broadcast_plan k.cell k.counter s
-  pub tells : progresses r (Value w ∷ Value s ∷ Value v ∷ Value u ∷ a ∷ [])
+  pub asks : accesses r (broadcast_answers w s v u a) ≡ broadcast_plan k.cell k.counter s
+  pub tells : progresses r (broadcast_answers w s v u a)
       ≡ Goes None ∷ Goes None ∷ Goes (Some (point_in k operation.Broadcast OK)) ∷ Goes None ∷ Returns OK None ∷ []
   pub counted : left r (Value w ∷ Value s ∷ Value v ∷ [])
       ≡ stands_at k (Broadcast (broadcast.SetWaiters (s % 2 ^ 32)))
@@ -152,7 +153,7 @@ refused operation.Lock t c s =
     then Some EDEADLK
     else None
 refused operation.TryLock t c s =
-    if c.unusable then Some ENOTRECOVERABLE else if c.owner == 0 then None else Some EBUSY
+    if c.unusable then Some ENOTRECOVERABLE else if not (c.owner == 0) then Some EBUSY else None
 refused operation.Unlock t c s = unless_owner t c None
 refused operation.Consistent t c s = unless_owner t c (if c.died then None else Some EINVAL)
 refused operation.Wait t c s = unless_owner t c (if c.died then Some XSTATE else None)
@@ -210,10 +211,32 @@ pub record RefusalByPlan (op : Operation) (k : PzCall) (r : Running) (w s : ℕ)
   pub tells : progresses r (refusal_answers op (is_own k.thread w) w s)
       ≡ refusal_tells op (is_own k.thread w) (point_in k op x) x
 
-abbrev pub RefusalsByPlan : Type 0
-RefusalsByPlan = (op : Operation) (k : PzCall) (r : Running) (w s : ℕ) (x : Reply)
-    → begun (operation_number op) k ≡ Some r → refused op k.thread (fields_of w) s ≡ Some x
-    → RefusalByPlan op k r w s x
+-- up to that look
+abbrev pub up_to_look : Operation → Bool → ℕ → ℕ → List Answer
+up_to_look operation.Lock own w s = Stored ∷ Value w ∷ []
+up_to_look operation.TryLock own w s = Stored ∷ Value w ∷ []
+up_to_look op own w s = look_answers (looks_at_counter op own) w s
+
+-- a call that goes on, and has no point so far
+abbrev pub GoesOnUndecided : List Progress → Type 0
+GoesOnUndecided [] = Unit {0}
+GoesOnUndecided (Goes None ∷ rest) = GoesOnUndecided rest
+GoesOnUndecided (p ∷ rest) = ⊥
+
+-- a lock wakes all who sleep on an unusable mutex
+abbrev pub wakes_all : Operation → Fields → Bool
+wakes_all operation.Lock c = c.unusable && c.waiters
+wakes_all op c = false
+
+-- and whatever doesn't refuse it leaves it undecided, but for a lock that wakes all
+pub record RefusalsByPlan : Type 0 where
+  pub refuses : (op : Operation) (k : PzCall) (r : Running) (w s : ℕ) (x : Reply)
+      → begun (operation_number op) k ≡ Some r → refused op k.thread (fields_of w) s ≡ Some x
+      → RefusalByPlan op k r w s x
+  pub else_goes_on : (op : Operation) (k : PzCall) (r : Running) (w s : ℕ)
+      → begun (operation_number op) k ≡ Some r → refused op k.thread (fields_of w) s ≡ None
+      → wakes_all op (fields_of w) ≡ false
+      → GoesOnUndecided (progresses r (up_to_look op (is_own k.thread w) w s))
 
 -- ---- what C is told
 

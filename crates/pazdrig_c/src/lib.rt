@@ -39,5 +39,6 @@ mod structs;
 mod walks;
 
 pub use laws::{
-    broadcasts_by_plan, declares_by_plan, locks_by_plan, refusals_by_plan, signals_by_plan, unlocks_by_plan,
+    broadcasts_by_plan, declares_by_plan, locks_by_plan, refusals_by_plan, signals_by_plan,
+    unlocks_by_plan,
 };

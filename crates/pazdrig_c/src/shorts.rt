@@ -1,12 +1,13 @@
 //! A call that what it loads decides, whole: the signal, the broadcast and the declaration of an owner, and each call that
 //! is refused. Its changes, in their order, and its reply.
-ghost use Rattle.std.specs.Prelude.{◌≡◌, ◌≢◌, ℕ, ◌&&◌, Some, IfSome};
+ghost use Rattle.std.specs.Prelude.{◌≡◌, ◌≢◌, ℕ, ◌&&◌, Bool, true, false, Some, IfSome};
 ghost use Rattle.std.specs.Bool.{OnTrue, OnFalse};
 ghost use Rattle.lockword.specs.Cells.{fields_of};
 ghost use Rattle.pazdrig_c.specs.Accesses.{operation_number, access_code};
 ghost use Rattle.pazdrig_c.specs.Plans.{changes_in, is_thread};
 ghost use Rattle.pazdrig_c.specs.Shorts.{counts, declares, refused, refused_of, signal_plan, broadcast_plan};
-ghost use Rattle.pazdrig_c.specs.Shorts.{declare_plan, refusal_plan, is_own, codes, told_changes, Refuses};
+ghost use Rattle.pazdrig_c.specs.Shorts.{declare_plan, refusal_plan, is_own, codes, told_changes};
+ghost use Rattle.pazdrig_c.specs.Shorts.{Refuses};
 ghost use Rattle.posixmutex.specs.declared.point.Operation.{Operation};
 ghost use Rattle.stepprograms.specs.declared.access.Access.TheVariants as access;
 ghost use Rattle.mutex.specs.Whole.{pending_place};
@@ -162,10 +163,7 @@ pub extern "C" fn pz_plan_refusal(
     let Some(reply) = refused(operation, taker, Cell::new(cell), count) else {
         return false;
     };
-    *plan = match operation {
-        Operation::Lock | Operation::TryLock => announced(head, entry, reply),
-        _ => unannounced(reply),
-    };
+    *plan = refusal(operation, head, entry, reply);
     true
 }
 
@@ -215,9 +213,10 @@ fn refused(operation: Operation, thread: Tid, cell: Cell, count: u64) -> Option<
     }
 }
 
-/// The entry is the pending one until the call is refused.
-fn announced(head: u64, entry: u64, reply: Reply) -> PzShort
-    ensures { (c : ℕ) → Refuses (Some reply) (announced_plan head entry c) true result result }
+/// A refused call of this operation: a lock and a trylock have their entry pending until the look that refuses them.
+fn refusal(operation: Operation, head: u64, entry: u64, reply: Reply) -> PzShort
+    ensures { (own : Bool) (c q : ℕ)
+        → Refuses (Some reply) (refusal_plan operation own head entry c q) true result result }
 {
     let pending = head.wrapping_add(2);
     PzShort {
@@ -232,18 +231,10 @@ fn announced(head: u64, entry: u64, reply: Reply) -> PzShort
             }),
             no_access(),
         ],
-        changes: 2,
-        reply: u32::from(reply.number()),
-    }
-}
-
-/// It changes nothing.
-fn unannounced(reply: Reply) -> PzShort
-    ensures { Refuses (Some reply) [] true result result }
-{
-    PzShort {
-        change: [no_access(); 3],
-        changes: 0,
+        changes: match operation {
+            Operation::Lock | Operation::TryLock => 2,
+            _ => 0,
+        },
         reply: u32::from(reply.number()),
     }
 }

@@ -1,2 +1,0 @@
--- Signals, broadcasts and declarations of an owner.
-use Rattle.std.proofs.Common.{◌≡◌, ℕ, refl}
