@@ -1,7 +1,7 @@
 -- A whole call that what it loads decides: a signal, a broadcast, a declaration that a mutex is consistent, and each
 -- call that is refused. Its accesses, one after the other, how far each answer brings it, and what C is told of it.
 use Rattle.std.specs.Prelude.{ℕ, ◌≡◌, ◌==◌, ◌+◌, ◌%◌, ◌^◌, ◌&&◌, Bool, true, false, not, Option, Some, None}
-use Rattle.std.specs.Prelude.{List, [], ◌∷◌, take, map, if◌then◌else◌}
+use Rattle.std.specs.Prelude.{List, [], ◌∷◌, ◌++◌, take, length, if◌then◌else◌}
 use Rattle.lockword.specs.Cells.{Fields, fields_of}
 use Rattle.lockword.specs.Replies.{number_of}
 use Rattle.lockword.specs.declared.reply.Reply.{Reply}
@@ -27,7 +27,7 @@ use Rattle.condvar.specs.declared.phase.CondPhase.TheVariants.{AtWords}
 use Rattle.condvar.specs.Broadcast.{waiters_bit}
 use Rattle.condvar.specs.Rows.{full}
 use Rattle.condvar.specs.Whole.{cond_at}
-use Rattle.pazdrig_c.specs.Accesses.{operation_number, access_code}
+use Rattle.pazdrig_c.specs.Accesses.{operation_number, access_code, no_access}
 use Rattle.pazdrig_c.specs.Running.{access_of, moved, progress_of, begun}
 use Rattle.pazdrig_c.specs.Plans.{is_thread, changes_in}
 use Rattle.pazdrig_c.specs.declared.structs.PzCall.{PzCall}
@@ -245,15 +245,18 @@ abbrev pub codes : List Access → List PzAccess
 codes [] = []
 codes (x ∷ rest) = access_code x ∷ codes rest
 
--- the changes that it is told
-abbrev pub told_changes : PzShort → List PzAccess
-told_changes p = take p.changes p.change
+-- a call with these accesses that returns this reply: its changes, and no access behind them
+abbrev pub short_code : List Access → Reply → PzShort
+short_code plan x = record {
+  change = take 3 (codes (changes_in plan) ++ no_access ∷ no_access ∷ no_access ∷ []);
+  changes = length (changes_in plan);
+  reply = number_of x;
+}
 
 -- a call with these accesses that is refused with a reply; or false, and nothing is written
 abbrev pub Refuses : Option Reply → List Access → Bool → PzShort → PzShort → Type 0
 Refuses None plan result old new = (result ≡ false) × (new ≡ old)
-Refuses (Some x) plan result old new =
-    (result ≡ true) × (told_changes new ≡ codes (changes_in plan)) × (new.reply ≡ number_of x)
+Refuses (Some x) plan result old new = (result ≡ true) × (new ≡ short_code plan x)
 
 abbrev pub refused_of : Operation → ℕ → Fields → ℕ → Option Reply
 refused_of op t c s = if is_thread t then refused op t c s else None

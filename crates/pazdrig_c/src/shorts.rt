@@ -1,19 +1,17 @@
 //! A call that what it loads decides, whole: the signal, the broadcast and the declaration of an owner, and each call that
 //! is refused. Its changes, in their order, and its reply.
-ghost use Rattle.std.specs.Prelude.{◌≡◌, ◌≢◌, ℕ, ◌&&◌, Bool, true, false, Some, IfSome};
+ghost use Rattle.std.specs.Prelude.{◌≡◌, ◌≢◌, ℕ, ◌&&◌, Bool, false, Some, IfSome};
 ghost use Rattle.std.specs.Bool.{OnTrue, OnFalse};
 ghost use Rattle.lockword.specs.Cells.{fields_of};
-ghost use Rattle.pazdrig_c.specs.Accesses.{operation_number, access_code};
-ghost use Rattle.pazdrig_c.specs.Plans.{changes_in, is_thread};
-ghost use Rattle.pazdrig_c.specs.Shorts.{counts, declares, refused, refused_of, signal_plan, broadcast_plan};
-ghost use Rattle.pazdrig_c.specs.Shorts.{declare_plan, refusal_plan, is_own, codes, told_changes};
-ghost use Rattle.pazdrig_c.specs.Shorts.{Refuses};
+ghost use Rattle.lockword.specs.declared.reply.Reply.TheVariants.{OK};
 ghost use Rattle.posixmutex.specs.declared.point.Operation.{Operation};
-ghost use Rattle.stepprograms.specs.declared.access.Access.TheVariants as access;
-ghost use Rattle.mutex.specs.Whole.{pending_place};
+ghost use Rattle.pazdrig_c.specs.Accesses.{operation_number};
+ghost use Rattle.pazdrig_c.specs.Plans.{is_thread};
+ghost use Rattle.pazdrig_c.specs.Shorts.{counts, declares, refused, refused_of, signal_plan, broadcast_plan, declare_plan};
+ghost use Rattle.pazdrig_c.specs.Shorts.{refusal_plan, is_own, short_code, Refuses};
 
 use crate::access::{coded, no_access};
-use crate::structs::{PzAccess, PzShort};
+use crate::structs::PzShort;
 use lockword::{Cell, OWNER_DIED, Reply, Tid, WAITERS};
 use posixmutex::Operation;
 use stepprograms::{ALL, Access};
@@ -34,9 +32,7 @@ pub extern "C" fn pz_plan_signal(
     count: u64,
 ) -> bool
     ensures answers { result ≡ (is_thread thread && counts thread (fields_of cell) count) }
-    ensures accesses { OnTrue result
-        ((c : ℕ) → told_changes plan.new ≡ codes (changes_in (signal_plan c counter))) }
-    ensures reply { OnTrue result (plan.new.reply ≡ 0) }
+    ensures plan { OnTrue result ((c : ℕ) → plan.new ≡ short_code (signal_plan c counter) OK) }
     ensures unchanged { OnFalse result (plan.new ≡ plan.old) }
 {
     if !may_count(thread, cell, count) {
@@ -74,9 +70,7 @@ pub extern "C" fn pz_plan_broadcast(
     count: u64,
 ) -> bool
     ensures answers { result ≡ (is_thread thread && counts thread (fields_of cell) count) }
-    ensures accesses { OnTrue result
-        (told_changes plan.new ≡ codes (changes_in (broadcast_plan place counter count))) }
-    ensures reply { OnTrue result (plan.new.reply ≡ 0) }
+    ensures plan { OnTrue result (plan.new ≡ short_code (broadcast_plan place counter count) OK) }
     ensures unchanged { OnFalse result (plan.new ≡ plan.old) }
 {
     if !may_count(thread, cell, count) {
@@ -111,8 +105,7 @@ pub extern "C" fn pz_plan_broadcast(
 #[unsafe(no_mangle)]
 pub extern "C" fn pz_plan_consistent(plan: &mut PzShort, thread: u8, place: u64, cell: u64) -> bool
     ensures answers { result ≡ (is_thread thread && declares thread (fields_of cell)) }
-    ensures accesses { OnTrue result (told_changes plan.new ≡ codes (changes_in (declare_plan place))) }
-    ensures reply { OnTrue result (plan.new.reply ≡ 0) }
+    ensures plan { OnTrue result (plan.new ≡ short_code (declare_plan place) OK) }
     ensures unchanged { OnFalse result (plan.new ≡ plan.old) }
 {
     let seen = Cell::new(cell);
@@ -215,26 +208,30 @@ fn refused(operation: Operation, thread: Tid, cell: Cell, count: u64) -> Option<
 
 /// A refused call of this operation: a lock and a trylock have their entry pending until the look that refuses them.
 fn refusal(operation: Operation, head: u64, entry: u64, reply: Reply) -> PzShort
-    ensures { (own : Bool) (c q : ℕ)
-        → Refuses (Some reply) (refusal_plan operation own head entry c q) true result result }
+    ensures { (own : Bool) (c q : ℕ) → result ≡ short_code (refusal_plan operation own head entry c q) reply }
 {
+    let reply = u32::from(reply.number());
     let pending = head.wrapping_add(2);
-    PzShort {
-        change: [
-            coded(Access::Store {
-                at: pending,
-                value: entry,
-            }),
-            coded(Access::Store {
-                at: pending,
-                value: 0,
-            }),
-            no_access(),
-        ],
-        changes: match operation {
-            Operation::Lock | Operation::TryLock => 2,
-            _ => 0,
+    match operation {
+        Operation::Lock | Operation::TryLock => PzShort {
+            change: [
+                coded(Access::Store {
+                    at: pending,
+                    value: entry,
+                }),
+                coded(Access::Store {
+                    at: pending,
+                    value: 0,
+                }),
+                no_access(),
+            ],
+            changes: 2,
+            reply,
         },
-        reply: u32::from(reply.number()),
+        _ => PzShort {
+            change: [no_access(); 3],
+            changes: 0,
+            reply,
+        },
     }
 }
