@@ -1,5 +1,6 @@
--- A whole call that what it loads decides: a signal, a broadcast, a declaration that a mutex is consistent, and each
--- call that is refused. Its accesses, one after the other, how far each answer brings it, and what C is told of it.
+-- Short calls, those that what they load decides, whole: a signal, a broadcast, a declaration that a mutex is
+-- consistent, and each call that is refused (pthread_cond_signal, pthread_cond_broadcast, pthread_mutex_consistent, and
+-- the errors of each call). Their accesses, one after the other, how far each answer brings them, and what C is told.
 use Rattle.std.specs.Prelude.{ℕ, ◌≡◌, ◌==◌, ◌+◌, ◌%◌, ◌^◌, ◌&&◌, Bool, true, false, not, Option, Some, None}
 use Rattle.std.specs.Prelude.{List, [], ◌∷◌, ◌++◌, take, length, if◌then◌else◌}
 use Rattle.lockword.specs.Cells.{Fields, fields_of}
@@ -95,7 +96,7 @@ broadcast_answers w s v u a = Value w ∷ Value s ∷ Value v ∷ Value u ∷ a 
 abbrev pub move_of : ℕ → ℕ → ℕ → Access
 move_of c q s = access.CmpRequeue q ((s % 2 ^ 32 + 1) % 2 ^ 32) 0 c 64
 
--- it looks at the cell and at the counter, counts, sets WAITERS in the cell, and moves all sleepers of the counter to it
+-- it looks at the cell and at the counter, counts, sets WAITERS in the cell, and moves the counter's sleepers there
 abbrev pub broadcast_plan : ℕ → ℕ → ℕ → List Access
 broadcast_plan c q s = access.Load c ∷ access.Load q ∷ access.FetchAdd q 1 ∷ access.FetchOr c waiters_bit
     ∷ move_of c q s ∷ []

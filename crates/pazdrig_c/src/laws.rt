@@ -15,32 +15,34 @@ pub fn unlocks_by_plan()
     ensures { UnlocksByPlan }
 {}
 
-/// The signal of an owner whose counter isn't full loads the cell and the counter, counts, which is its point, and wakes
-/// one sleeper of the counter; it returns OK, however many were woken. Behind the count it stands at the row that wakes.
+/// The signal (pthread_cond_signal) of an owner whose counter isn't full loads the cell and the counter, counts, which
+/// is its point, and wakes one sleeper of the counter; it returns OK, however many were woken. Behind the count it
+/// stands at the row that wakes.
 pub fn signals_by_plan()
     ensures { SignalsByPlan }
 {}
 
-/// The broadcast of an owner whose counter isn't full loads the cell and the counter, counts, which is its point, sets
-/// WAITERS in the cell, and moves all sleepers of the counter to it; it returns OK, also where the move found nobody, or
-/// found the counter changed. Behind the count it stands at the row that sets WAITERS, and behind that at the row that
-/// moves.
+/// The broadcast (pthread_cond_broadcast) of an owner whose counter isn't full loads the cell and the counter, counts,
+/// which is its point, sets WAITERS in the cell, and moves all sleepers of the counter to it; it returns OK, also where
+/// the move found nobody, or the counter changed. Behind the count it stands at the row that sets WAITERS, and behind
+/// that at the row that moves.
 pub fn broadcasts_by_plan()
     ensures { BroadcastsByPlan }
 {}
 
-/// The declaration of its owner that an inconsistent mutex is consistent loads the cell and clears OWNER_DIED in it, which
-/// is its point, and returns OK.
+/// The declaration (pthread_mutex_consistent) of its owner that an inconsistent mutex is consistent loads the cell and
+/// clears OWNER_DIED in it, which is its point, and returns OK.
 pub fn declares_by_plan()
     ensures { DeclaresByPlan }
 {}
 
-/// A call that its look at the cell refuses, or a signal or broadcast that its look at the counter does, makes no
-/// further access but that a lock and a trylock store the entry as the pending one before, and 0 behind; that look is
-/// its point, and it returns what refused it. Refused are: a trylock of an owned mutex (EBUSY) and of an unusable one
-/// (ENOTRECOVERABLE), a lock of the thread's own mutex (EDEADLK) and of an unusable one without WAITERS
-/// (ENOTRECOVERABLE), each other call of who isn't the owner (EPERM), consistent of a consistent mutex (EINVAL), a wait
-/// of an inconsistent one (X_STATE), and a signal or broadcast whose counter is full (X_FULL).
+/// A call that its look at the cell refuses, or of a signal or broadcast that at the counter, makes no access behind
+/// that look, and before it none but looks; but a lock and a trylock store the entry as the pending one before, and 0
+/// behind. The look is its point, and it returns what refuses it: a trylock of an owned mutex EBUSY, and of an unusable
+/// one ENOTRECOVERABLE; a lock of the thread's own mutex EDEADLK, and of an unusable one without WAITERS
+/// ENOTRECOVERABLE; each other call of who isn't the owner EPERM; consistent of a consistent mutex EINVAL; a wait of an
+/// inconsistent one X_STATE; a signal or broadcast whose counter is full X_FULL. What isn't refused so goes on
+/// undecided, but for a lock of an unusable mutex with WAITERS: that wakes all who sleep there, and isn't told here.
 pub fn refusals_by_plan()
     ensures { RefusalsByPlan }
 {}

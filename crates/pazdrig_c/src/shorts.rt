@@ -1,5 +1,5 @@
-//! A call that what it loads decides, whole: the signal, the broadcast and the declaration of an owner, and each call that
-//! is refused. Its changes, in their order, and its reply.
+//! Short calls, those that what they load decides, whole: the signal, the broadcast and the declaration of an owner,
+//! and each call that is refused. Their changes, in their order, and their reply.
 ghost use Rattle.std.specs.Prelude.{◌≡◌, ◌≢◌, ℕ, ◌&&◌, Bool, false, Some, IfSome};
 ghost use Rattle.std.specs.Bool.{OnTrue, OnFalse};
 ghost use Rattle.lockword.specs.Cells.{fields_of};
@@ -7,8 +7,8 @@ ghost use Rattle.lockword.specs.declared.reply.Reply.TheVariants.{OK};
 ghost use Rattle.posixmutex.specs.declared.point.Operation.{Operation};
 ghost use Rattle.pazdrig_c.specs.Accesses.{operation_number};
 ghost use Rattle.pazdrig_c.specs.Plans.{is_thread};
-ghost use Rattle.pazdrig_c.specs.Shorts.{counts, declares, refused, refused_of, signal_plan, broadcast_plan, declare_plan};
-ghost use Rattle.pazdrig_c.specs.Shorts.{refusal_plan, is_own, short_code, Refuses};
+ghost use Rattle.pazdrig_c.specs.Shorts.{counts, declares, refused, refused_of, is_own};
+ghost use Rattle.pazdrig_c.specs.Shorts.{signal_plan, broadcast_plan, declare_plan, refusal_plan, short_code, Refuses};
 
 use crate::access::{coded, no_access};
 use crate::structs::PzShort;
@@ -19,10 +19,9 @@ use stepprograms::{ALL, Access};
 /// The largest value of a counter: a signal or broadcast of it is refused.
 const FULL: u64 = 0xffff_ffff;
 
-/// The signal of a thread that found this cell and this count: the count, and the wake of one sleeper of the counter.
-/// Where nobody sleeps there the wake changes nothing; where somebody may, the call goes on by its steps, from where it
-/// wakes. False, and nothing is written, where the thread doesn't own the mutex or the counter is full: then it is
-/// refused.
+/// The signal (pthread_cond_signal) of a thread that found this cell and this count: the count, and the wake of one
+/// sleeper of the counter. Where somebody may sleep there, the call goes on by its steps from where it wakes. False,
+/// and nothing is written, where the thread doesn't own the mutex or the counter is full: then it is refused.
 #[unsafe(no_mangle)]
 pub extern "C" fn pz_plan_signal(
     plan: &mut PzShort,
@@ -56,10 +55,10 @@ pub extern "C" fn pz_plan_signal(
     true
 }
 
-/// The broadcast of a thread that found this cell, at this place, and this count: the count, WAITERS in the cell, and
-/// the move of all sleepers of the counter to it. Where nobody sleeps on the counter the move changes nothing; where
-/// somebody may, the call goes on by its steps, from where it sets WAITERS or from where it moves. False, and nothing is
-/// written, where the thread doesn't own the mutex or the counter is full: then it is refused.
+/// The broadcast (pthread_cond_broadcast) of a thread that found this cell, at this place, and this count: the count,
+/// WAITERS in the cell, and the move of all sleepers of the counter to it. Where somebody may sleep on the counter, the
+/// call goes on by its steps, from where it sets WAITERS or from where it moves. False, and nothing is written, where
+/// the thread doesn't own the mutex or the counter is full: then it is refused.
 #[unsafe(no_mangle)]
 pub extern "C" fn pz_plan_broadcast(
     plan: &mut PzShort,
@@ -100,8 +99,9 @@ pub extern "C" fn pz_plan_broadcast(
     true
 }
 
-/// The declaration that a mutex is consistent, by a thread that found this cell at this place: it clears OWNER_DIED.
-/// False, and nothing is written, where the thread doesn't own the mutex or it is consistent: then it is refused.
+/// The declaration that a mutex is consistent (pthread_mutex_consistent), by a thread that found this cell at this
+/// place: it clears OWNER_DIED. False, and nothing is written, where the thread doesn't own the mutex or it is
+/// consistent: then it is refused.
 #[unsafe(no_mangle)]
 pub extern "C" fn pz_plan_consistent(plan: &mut PzShort, thread: u8, place: u64, cell: u64) -> bool
     ensures answers { result ≡ (is_thread thread && declares thread (fields_of cell)) }
@@ -128,9 +128,10 @@ pub extern "C" fn pz_plan_consistent(plan: &mut PzShort, thread: u8, place: u64,
 }
 
 /// The call with an operation (0 lock, 1 trylock, 2 unlock, 3 consistent, 4 wait, 5 signal, 6 broadcast) of a thread
-/// that found this cell, and this count if it signals or broadcasts, where that refuses it: what it stores, and its
-/// reply. False, and nothing is written, where it isn't refused there: also a lock of an unusable mutex with WAITERS
-/// isn't, which first wakes all who sleep on it. False also where there is no such operation or thread.
+/// that found this cell, and this count if it signals or broadcasts, where that refuses it (the errors of
+/// pthread_mutex_lock and the others): what it stores, and its reply. False, and nothing is written, where it isn't
+/// refused so, or where there is no such operation or thread. (A lock of an unusable mutex with WAITERS wakes all who
+/// sleep there first: false.)
 #[unsafe(no_mangle)]
 pub extern "C" fn pz_plan_refusal(
     plan: &mut PzShort,
