@@ -1,8 +1,11 @@
 /* Each case of a file once: which are opened, made and refused, and what becomes of those who have it open. */
 #include "try.h"
 #include <fcntl.h>
+#include <sched.h>
+#include <sys/mount.h>
 #include <sys/resource.h>
 #include <sys/stat.h>
+#include <sys/statvfs.h>
 
 static void a_file_of_another_layout(void)
 {
@@ -126,6 +129,46 @@ static void no_room(void)
     SAME(pz_open(path, 0600, 1, 0, NULL, 1 << 20, &p), 0);
     pz_close(p);
     unlink(path);
+}
+
+/* A disk of 1 MB. Of what doesn't fit nothing is taken; and what fits is taken at once, so that no later store meets a
+ * full disk. */
+static void on_a_small_disk(const char *disk)
+{
+    char path[300], rest_of_it[300];
+    struct statvfs before, after;
+    static char page[4096];
+    pz *p;
+    snprintf(path, sizeof path, "%s/file", disk);
+    snprintf(rest_of_it, sizeof rest_of_it, "%s/rest", disk);
+    CHECK(statvfs(disk, &before) == 0);
+    SAME(pz_open(path, 0600, 1, 0, NULL, 64 << 20, &p), ENOSPC);
+    CHECK(statvfs(disk, &after) == 0 && after.f_bfree == before.f_bfree);
+    SAME(pz_open(path, 0600, 1, 0, NULL, 512 << 10, &p), 0);
+    int fd = open(rest_of_it, O_WRONLY | O_CREAT, 0600);
+    while (write(fd, page, sizeof page) > 0)
+        continue;
+    CHECK(fd >= 0 && errno == ENOSPC);
+    memset(pz_data(p), 1, 512 << 10);
+    SAME(pz_mutex_lock(p, 0), 0);
+}
+
+static void a_full_disk(void)
+{
+    char disk[256];
+    snprintf(disk, sizeof disk, "%s", a_file("disk"));
+    CHECK(mkdir(disk, 0700) == 0);
+    pid_t child = a_child();
+    if (!child) {
+        if (unshare(CLONE_NEWNS) < 0 || mount("none", "/", NULL, MS_REC | MS_PRIVATE, NULL) < 0 ||
+            mount("try", disk, "tmpfs", 0, "size=1m") < 0)
+            puts("files: a full disk isn't tried, as nothing may be mounted here");
+        else
+            on_a_small_disk(disk);
+        exit(0);
+    }
+    int status;
+    CHECK(waitpid(child, &status, 0) == child && status == 0 && rmdir(disk) == 0);
 }
 
 /* A file that is shorter than it was: whoever touches what is gone gets SIGBUS, in a call and in the data. */
@@ -353,6 +396,7 @@ int main(void)
     the_numbers_of_a_file();
     a_file_that_cannot_be_written();
     no_room();
+    a_full_disk();
     a_truncated_file();
     a_removed_file();
     a_memfd();
