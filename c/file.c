@@ -362,17 +362,30 @@ static int open_or_make(const char *path, int flags, mode_t mode)
     return fd < 0 && errno == EACCES && flags ? open(path, O_RDWR | O_CLOEXEC) : fd; /* another user has just made it */
 }
 
+/* Another description of the file that fd is of; fd itself where its maker may not open it a second time. */
+static int opened_again(int fd)
+{
+    char path[32];
+    snprintf(path, sizeof path, "/proc/thread-self/fd/%d", fd);
+    int again = open(path, O_RDWR | O_CLOEXEC);
+    if (again >= 0)
+        close(fd);
+    return again < 0 ? fd : again;
+}
+
+/* The open may last, as where another process has a lease (fcntl(2)), and keeps nobody from forking. The description
+ * that gets the lock is opened behind it, which doesn't last, and isn't in a child that doesn't know of it. */
 static int begin_opening(struct opening *o, const char *path, int flags, mode_t mode)
 {
+    int fd = open_or_make(path, flags, mode);
+    if (fd < 0)
+        return errno;
     pthread_mutex_lock(&table);
-    o->fd = open_or_make(path, flags, mode);
-    int r = o->fd < 0 ? errno : 0;
-    if (!r) {
-        o->next = openings;
-        openings = o;
-    }
+    o->fd = opened_again(fd);
+    o->next = openings;
+    openings = o;
     pthread_mutex_unlock(&table);
-    return r;
+    return 0;
 }
 
 static void end_opening(struct opening *o)

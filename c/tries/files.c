@@ -1,6 +1,7 @@
 /* Each case of a file once: which are opened, made and refused, and what becomes of those who have it open. */
 #include "try.h"
 #include <fcntl.h>
+#include <pthread.h>
 #include <sched.h>
 #include <sys/mount.h>
 #include <sys/resource.h>
@@ -129,6 +130,65 @@ static void no_room(void)
     SAME(pz_open(path, 0600, 1, 0, NULL, 1 << 20, &p), 0);
     pz_close(p);
     unlink(path);
+}
+
+/* Another process has a lease of the file, which it gives up once this one has forked: so an open that waits for it
+ * keeps nobody from forking. */
+static struct {
+    _Atomic int leased, forked;
+} *lease;
+static const char *leased_file;
+static void asked_for(int unused) { (void)unused; }
+static void has_the_lease(void)
+{
+    int fd = open(leased_file, O_RDWR);
+    signal(SIGIO, asked_for);
+    int r = fd < 0 ? -1 : fcntl(fd, F_SETLEASE, F_WRLCK);
+    atomic_store(&lease->leased, r < 0 ? -1 : 1);
+    while (r == 0 && !atomic_load(&lease->forked))
+        rest(1000);
+    fcntl(fd, F_SETLEASE, F_UNLCK);
+    _exit(0);
+}
+
+static _Atomic pid_t opener;
+static void *opens_it(void *p)
+{
+    atomic_store(&opener, gettid());
+    SAME(pz_open(leased_file, 0600, 1, 0, NULL, 0, p), 0);
+    return NULL;
+}
+
+static void a_lease(void)
+{
+    pz *first, *second;
+    pthread_t t;
+    leased_file = a_file("lease");
+    lease = shared(sizeof *lease);
+    SAME(pz_open(leased_file, 0600, 1, 0, NULL, 0, &first), 0);
+    pz_close(first);
+    pid_t holder = a_child();
+    if (!holder)
+        has_the_lease();
+    while (!atomic_load(&lease->leased))
+        rest(1000);
+    if (atomic_load(&lease->leased) < 0)
+        puts("files: a lease isn't tried, as there are none here");
+    alarm(30);
+    CHECK(!pthread_create(&t, NULL, opens_it, &second));
+    while (!atomic_load(&opener))
+        rest(1000);
+    if (atomic_load(&lease->leased) > 0)
+        until_asleep(atomic_load(&opener));
+    pid_t child = a_child();
+    if (!child)
+        _exit(0);
+    CHECK(waitpid(child, NULL, 0) == child);
+    atomic_store(&lease->forked, 1);
+    CHECK(!pthread_join(t, NULL) && waitpid(holder, NULL, 0) == holder);
+    alarm(0);
+    pz_close(second);
+    unlink(leased_file);
 }
 
 /* A disk of 1 MB. Of what doesn't fit nothing is taken; and what fits is taken at once, so that no later store meets a
@@ -395,6 +455,7 @@ int main(void)
     a_file_of_another_format();
     the_numbers_of_a_file();
     a_file_that_cannot_be_written();
+    a_lease();
     no_room();
     a_full_disk();
     a_truncated_file();
