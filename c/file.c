@@ -102,6 +102,13 @@ static int make_room(int fd, size_t size)
     return r;
 }
 
+/* What was taken for one that isn't made after all. */
+static void give_room_back(int fd)
+{
+    int unasked = ftruncate(fd, 0);
+    (void)unasked;
+}
+
 /* Whether it is whole, is to be made, or is neither: of another format (EPROTO), or not such a file (EINVAL). */
 static int look_at(int fd, size_t size, int *whole)
 {
@@ -227,11 +234,17 @@ static int open_locked(int fd, const struct asked *a, pz *p)
 {
     struct layout l = layout_of(a);
     int whole = 0, r = look_at(fd, l.size, &whole);
-    if (!r && !whole)
+    if (r)
+        return r;
+    if (!whole)
         r = make_room(fd, l.size);
     if (!r)
         r = map(fd, a, &l, p);
-    return r ? r : ready(p, a, whole);
+    if (!r)
+        r = ready(p, a, whole);
+    if (r && !whole)
+        give_room_back(fd);
+    return r;
 }
 
 /* One opener at a time, of all processes by the file's lock, which a maker that dies lets go of. */

@@ -82,6 +82,24 @@ static unsigned in_plan(const struct pz_plan *plan)
     return count;
 }
 
+static unsigned in_short(const struct pz_short *brief)
+{
+    unsigned count = 0;
+    for (int i = 0; i < 3; i++) {
+        FIELD(brief->change[i].at);
+        FIELD(brief->change[i].a);
+        FIELD(brief->change[i].b);
+        FIELD(brief->change[i].kind);
+        FIELD(brief->change[i].most);
+        FIELD(brief->change[i].wakes);
+        FIELD(brief->change[i].point);
+        FIELD(brief->change[i].operation);
+    }
+    FIELD(brief->changes);
+    FIELD(brief->reply);
+    return count;
+}
+
 /* A room around each, so that a struct that is larger there than here is seen: what lies behind it stays. */
 static struct {
     struct pz_call call;
@@ -92,18 +110,22 @@ static struct {
     uint64_t behind_access;
     struct pz_plan plan;
     uint64_t behind_plan;
+    struct pz_short brief;
+    uint64_t behind_short;
 } filled;
 
 int main(void)
 {
     const uint64_t kept = UINT64_C(0x5555555555555555);
     memset(&filled, 0x55, sizeof filled);
-    pz_fill(&filled.call, &filled.walk, &filled.access, &filled.plan);
-    unsigned count = in_call(&filled.call) + in_walk(&filled.walk) + in_access(&filled.access) + in_plan(&filled.plan);
+    pz_fill(&filled.call, &filled.walk, &filled.access, &filled.plan, &filled.brief);
+    unsigned count = in_call(&filled.call) + in_walk(&filled.walk) + in_access(&filled.access) + in_plan(&filled.plan) +
+                     in_short(&filled.brief);
     same("what lies behind a call", filled.behind_call, kept);
     same("what lies behind a walk", filled.behind_walk, kept);
     same("what lies behind an access", filled.behind_access, kept);
     same("what lies behind a plan", filled.behind_plan, kept);
+    same("what lies behind a short call", filled.behind_short, kept);
     printf("%u fields stand where the archive has them\n", failed ? 0 : count);
     return failed;
 }

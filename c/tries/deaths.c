@@ -117,7 +117,7 @@ static void *work(void *of)
 
 static pid_t begin(int slot, int stormy)
 {
-    pid_t child = fork();
+    pid_t child = a_child();
     if (child)
         return child;
     if (stormy) {

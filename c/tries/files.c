@@ -1,8 +1,11 @@
 /* Each case of a file once: which are opened, made and refused, and what becomes of those who have it open. */
 #include "try.h"
 #include <fcntl.h>
+#include <sched.h>
+#include <sys/mount.h>
 #include <sys/resource.h>
 #include <sys/stat.h>
+#include <sys/statvfs.h>
 
 static void a_file_of_another_layout(void)
 {
@@ -96,7 +99,7 @@ static void a_file_that_cannot_be_written(void)
     pz *p;
     SAME(pz_open(path, 0400, 1, 0, NULL, 0, &p), 0);
     pz_close(p);
-    pid_t child = fork();
+    pid_t child = a_child();
     if (!child) {
         if (setuid(65534))
             _exit(1);
@@ -112,7 +115,7 @@ static void a_file_that_cannot_be_written(void)
 static void no_room(void)
 {
     const char *path = a_file("room");
-    pid_t child = fork();
+    pid_t child = a_child();
     if (!child) {
         pz *p;
         struct rlimit most = {4096, 4096};
@@ -128,11 +131,51 @@ static void no_room(void)
     unlink(path);
 }
 
+/* A disk of 1 MB. Of what doesn't fit nothing is taken; and what fits is taken at once, so that no later store meets a
+ * full disk. */
+static void on_a_small_disk(const char *disk)
+{
+    char path[300], rest_of_it[300];
+    struct statvfs before, after;
+    static char page[4096];
+    pz *p;
+    snprintf(path, sizeof path, "%s/file", disk);
+    snprintf(rest_of_it, sizeof rest_of_it, "%s/rest", disk);
+    CHECK(statvfs(disk, &before) == 0);
+    SAME(pz_open(path, 0600, 1, 0, NULL, 64 << 20, &p), ENOSPC);
+    CHECK(statvfs(disk, &after) == 0 && after.f_bfree == before.f_bfree);
+    SAME(pz_open(path, 0600, 1, 0, NULL, 512 << 10, &p), 0);
+    int fd = open(rest_of_it, O_WRONLY | O_CREAT, 0600);
+    while (write(fd, page, sizeof page) > 0)
+        continue;
+    CHECK(fd >= 0 && errno == ENOSPC);
+    memset(pz_data(p), 1, 512 << 10);
+    SAME(pz_mutex_lock(p, 0), 0);
+}
+
+static void a_full_disk(void)
+{
+    char disk[256];
+    snprintf(disk, sizeof disk, "%s", a_file("disk"));
+    CHECK(mkdir(disk, 0700) == 0);
+    pid_t child = a_child();
+    if (!child) {
+        if (unshare(CLONE_NEWNS) < 0 || mount("none", "/", NULL, MS_REC | MS_PRIVATE, NULL) < 0 ||
+            mount("try", disk, "tmpfs", 0, "size=1m") < 0)
+            puts("files: a full disk isn't tried, as nothing may be mounted here");
+        else
+            on_a_small_disk(disk);
+        exit(0);
+    }
+    int status;
+    CHECK(waitpid(child, &status, 0) == child && status == 0 && rmdir(disk) == 0);
+}
+
 /* A file that is shorter than it was: whoever touches what is gone gets SIGBUS, in a call and in the data. */
 static void touches_what_is_gone(pz *p, int in_a_call)
 {
     int status;
-    pid_t child = fork();
+    pid_t child = a_child();
     if (!child) {
         if (in_a_call)
             pz_mutex_lock(p, 0);
@@ -148,7 +191,7 @@ static void a_truncated_file(void)
     const char *path = a_file("truncated");
     pz *p;
     int status;
-    pid_t child = fork();
+    pid_t child = a_child();
     if (!child) {
         signal(SIGBUS, SIG_DFL);
         SAME(pz_open(path, 0600, 1, 0, NULL, 1 << 16, &p), 0);
@@ -175,7 +218,7 @@ static void a_removed_file(void)
     SAME(pz_mutex_lock(p, 0), 0);
     SAME(pz_open(path, 0600, 1, 0, NULL, 0, &q), 0);
     SAME(pz_mutex_lock(q, 0), 0);
-    pid_t child = fork();
+    pid_t child = a_child();
     if (!child)
         _exit(pz_mutex_trylock(p, 0) != EBUSY);
     CHECK(waitpid(child, &status, 0) == child && status == 0);
@@ -191,7 +234,7 @@ static void a_memfd(void)
     pz *p, *q;
     CHECK(fd >= 0);
     SAME(pz_open_fd(fd, 2, 1, NULL, sizeof(long), &p), 0);
-    pid_t child = fork();
+    pid_t child = a_child();
     if (!child) {
         SAME(pz_open_fd(fd, 2, 1, NULL, sizeof(long), &q), 0);
         SAME(pz_mutex_lock(q, 1), 0);
@@ -212,7 +255,7 @@ static void no_descriptor_left(void)
     pz *p;
     SAME(pz_open(path, 0600, 1, 0, NULL, 0, &p), 0);
     SAME(pz_mutex_lock(p, 0), 0);
-    pid_t child = fork();
+    pid_t child = a_child();
     if (!child) {
         int next = dup(0);
         struct rlimit one_more = {(rlim_t)next + 1, (rlim_t)next + 1};
@@ -239,7 +282,7 @@ static void many_open_at_once(void)
         pz *p;
         atomic_store(go, 0);
         for (int i = 0; i < OPENERS; i++)
-            if (!(child[i] = fork())) {
+            if (!(child[i] = a_child())) {
                 while (!atomic_load(go))
                     ;
                 SAME(pz_open(path, 0600, 64, 4, NULL, sizeof(long), &p), 0);
@@ -265,7 +308,7 @@ static void makers_are_killed(void)
     for (int i = 0; i < 200; i++) {
         const char *path = a_file("maker");
         pz *p;
-        pid_t child = fork();
+        pid_t child = a_child();
         if (!child) {
             pz_open(path, 0600, 64, 4, NULL, 4096, &p);
             _exit(0);
@@ -318,7 +361,7 @@ static void a_reboot(void)
     pz *p;
     unlink(path);
     setenv("PZ_BOOT", "the first boot", 1);
-    pid_t child = fork();
+    pid_t child = a_child();
     if (!child) {
         if (pz_open(path, 0600, 2, 1, NULL, 8, &p) || pz_mutex_lock(p, 1))
             _exit(1);
@@ -332,7 +375,7 @@ static void a_reboot(void)
     SAME(pz_open(path, 0600, 2, 1, NULL, 8, &p), 0);
     CHECK(*(long *)pz_data(p) == 42);
     SAME(pz_mutex_lock(p, 0), 0);
-    child = fork(); /* who opens it behind the first one leaves that one its mutex */
+    child = a_child(); /* who opens it behind the first one leaves that one its mutex */
     if (!child)
         _exit(pz_open(path, 0600, 2, 1, NULL, 8, &p) || pz_mutex_trylock(p, 0) != EBUSY);
     CHECK(waitpid(child, &status, 0) == child && status == 0);
@@ -353,6 +396,7 @@ int main(void)
     the_numbers_of_a_file();
     a_file_that_cannot_be_written();
     no_room();
+    a_full_disk();
     a_truncated_file();
     a_removed_file();
     a_memfd();

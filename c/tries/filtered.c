@@ -38,7 +38,7 @@ static void without_futex_waitv(int error, int is_interrupted)
     _Atomic int *is_held = shared(sizeof *is_held);
     pz *p;
     SAME(pz_open(path, 0600, 1, 0, NULL, 0, &p), 0);
-    pid_t owner = fork();
+    pid_t owner = a_child();
     if (!owner) {
         SAME(pz_mutex_lock(p, 0), 0);
         atomic_store(is_held, 1);
@@ -47,7 +47,7 @@ static void without_futex_waitv(int error, int is_interrupted)
     }
     while (!atomic_load(is_held))
         rest(100);
-    pid_t sleeper = fork();
+    pid_t sleeper = a_child();
     if (!sleeper) {
         lose_futex_waitv(error);
         if (is_interrupted)
@@ -65,7 +65,7 @@ static void without_futex_waitv(int error, int is_interrupted)
 
 static pid_t waiter_of(pz *p)
 {
-    pid_t waiter = fork();
+    pid_t waiter = a_child();
     if (!waiter)
         _exit(prctl(PR_SET_PDEATHSIG, SIGKILL) || pz_mutex_lock(p, 0) || pz_cond_wait(p, 0) || pz_mutex_unlock(p, 0));
     until_asleep(waiter);

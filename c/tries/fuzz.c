@@ -87,7 +87,7 @@ static void round_of(int k)
     memset(data, 0xa5, DATA);
     memcpy(&before, p->header, sizeof before);
     for (int i = 0; i < CALLERS; i++)
-        if (!(caller[i] = fork()))
+        if (!(caller[i] = a_child()))
             call_at_random(p);
     for (double end = now() + ROUND_US * 1e-6; now() < end;)
         spoil(p, &random);

@@ -183,7 +183,7 @@ static void take(int ours, int processes, double inside, double outside, double 
     all->guarded.rounds = 0;
     all->guarded.owner = -1;
     for (int i = 0; i < processes; i++)
-        if (!(child[i] = fork()))
+        if (!(child[i] = a_child()))
             one_process(ours, i, inside, outside);
     while (atomic_load(&all->ready) < processes)
         rest(100);

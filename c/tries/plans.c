@@ -1,7 +1,7 @@
-/* A lock, a trylock and an unlock in one go are compared with the proved plans: for each thread, each cell that it may
- * find and each neighbour, the memory is looked at before each instruction and at the end. What changed is what the plan
- * says, in its order; what a plan refuses goes by its steps; and where the exchange fails, or somebody is to be woken,
- * the call goes on where the proved program stands. */
+/* Calls in one go, and refusals at the first look, are compared with the proved plans: for each thread, each cell and
+ * counter that it may find and each neighbour, the memory is looked at before each instruction and at the end. What
+ * changed is what the plan says, in its order; what has no plan goes by its steps; and where the exchange fails, or
+ * somebody is to be woken, the call goes on where the proved program stands. */
 static void pz_look(void);
 #define PZ_BETWEEN() pz_look()
 #define pz_begin     begun
@@ -14,7 +14,7 @@ static void pz_look(void);
 uint32_t pz_begin(struct pz_call *call, struct pz_access *access, uint32_t operation);
 uint32_t pz_step(struct pz_call *call, struct pz_access *access, uint32_t answer, uint64_t value);
 
-enum { MUTEXES = 3, PLACES = LINE * (1 + THREADS + MUTEXES), MOST = 16 };
+enum { MUTEXES = 3, PLACES = LINE * (1 + THREADS + MUTEXES + 1), MOST = 16 };
 
 /* ---- What a call does, seen from outside. */
 
@@ -26,7 +26,7 @@ static struct pz_call stands; /* where it goes on by its steps, and with what */
 static uint32_t answered;
 static uint64_t with, changed_to;
 static int changes_meanwhile; /* another changes the cell before the exchange */
-static uint64_t is[PLACES], was[PLACES], cell;
+static uint64_t is[PLACES], was[PLACES], first[PLACES], cell, counter;
 
 static void look_at(uint64_t at)
 {
@@ -78,10 +78,16 @@ static void begin(unsigned t, unsigned m)
     for (uint64_t at = 0; at < PLACES; at++)
         is[at] = any() | 1ull << 63;
     cell = cell_place(m);
+    counter = counter_place(&file, 0);
+    file.cell_of[0] = cell;
     pz_self[0] = (struct self){.id = (uint8_t)t, .held = 7};
     looks = changes = begins = steps = 0;
 }
-static void go(void) { memcpy(was, is, sizeof is); }
+static void go(void)
+{
+    memcpy(was, is, sizeof is);
+    memcpy(first, is, sizeof is);
+}
 
 /* The rest of what it did, behind the last instruction. */
 static void end(void)
@@ -95,6 +101,31 @@ static void end(void)
 static void same_change(unsigned i, uint64_t at, uint64_t value)
 {
     CHECK(i < changes && made[i].at == at && made[i].value == value);
+}
+
+/* What the changes of a plan make of the words as they were at first, one after the other. (One that leaves its word as
+ * it was isn't seen, nor is a wake.) */
+static void same_changes(const struct pz_short *plan, unsigned n)
+{
+    unsigned seen = 0;
+    for (unsigned i = 0; i < n; i++) {
+        const struct pz_access *x = &plan->change[i];
+        uint64_t before = first[x->at], after = before;
+        if (x->kind == PZ_STORE)
+            after = x->a;
+        else if (x->kind == PZ_ADD)
+            after += x->a;
+        else if (x->kind == PZ_OR)
+            after |= x->a;
+        else if (x->kind == PZ_AND)
+            after &= x->a;
+        else
+            CHECK(x->kind == PZ_WAKE || x->kind == PZ_CMP_REQUEUE);
+        first[x->at] = after;
+        if (after != before)
+            same_change(seen++, x->at, after);
+    }
+    CHECK(changes == seen);
 }
 
 /* ---- Cases. */
@@ -119,16 +150,17 @@ static uint64_t link_of_case(unsigned k, unsigned t, unsigned m)
     return links[k];
 }
 
-/* The program itself, up to where a call stands whose exchange is made, or whose cell is released. */
+/* The program itself, up to where a call stands that makes an access of this kind. */
 static struct pz_call proved(unsigned t, unsigned operation, const uint64_t *loaded, unsigned until)
 {
-    struct pz_call call = call_of(t, cell);
+    struct pz_call call = operation < PZ_OP_WAIT ? call_of(t, cell) : cond_call_of(&file, t, 0);
     struct pz_access x;
     uint32_t kind;
     SAME((int)pz_begin(&call, &x, operation), PZ_GOES);
     while ((kind = x.kind) != until) {
-        uint64_t value = kind == PZ_LOAD ? *loaded++ : 0;
-        SAME((int)pz_step(&call, &x, kind == PZ_LOAD ? PZ_VALUE : PZ_STORED, value), PZ_GOES);
+        int loads = kind == PZ_LOAD, counts = kind == PZ_ADD;
+        uint64_t value = loads ? *loaded++ : 0;
+        SAME((int)pz_step(&call, &x, loads || counts ? PZ_VALUE : PZ_STORED, value), PZ_GOES);
     }
     return call;
 }
@@ -140,7 +172,23 @@ static int same_call(const struct pz_call *a, const struct pz_call *b)
            p->flag == q->flag && a->phase.seen == b->phase.seen && a->phase.kind == b->phase.kind;
 }
 
-static long planned, refused, went_on;
+static long planned, refused, by_steps, went_on;
+
+/* A call that can't be made in one go: refused at its first look, or made by its steps. */
+static void isnt_planned(unsigned t, unsigned operation, uint64_t seen, uint64_t count, int r)
+{
+    struct pz_short plan;
+    CHECK(pz_self[0].held == 7 && steps == 0);
+    if (!pz_plan_refusal(&plan, (uint8_t)t, head_place(t), cell + 1, operation, seen, count)) {
+        CHECK(begins == 1 && changes == 0 && r == EINVAL);
+        by_steps++;
+        return;
+    }
+    CHECK(begins == 0);
+    same_changes(&plan, plan.changes);
+    SAME(r, number_of(plan.reply));
+    refused++;
+}
 
 static void a_lock(unsigned t, unsigned m, unsigned operation, uint64_t seen, uint64_t first, int meanwhile)
 {
@@ -155,11 +203,8 @@ static void a_lock(unsigned t, unsigned m, unsigned operation, uint64_t seen, ui
     int may = fits && pz_plan_lock(&plan, (uint8_t)t, head_place(t), cell + 1, seen, first);
     int r = pz_take(&file, m, operation);
     end();
-    if (!may) {
-        CHECK(begins == 1 && changes == 0 && r == EINVAL && pz_self[0].held == 7);
-        refused++;
-        return;
-    }
+    if (!may)
+        return isnt_planned(t, operation, seen, 0, r);
     CHECK(begins == 0);
     same_change(0, plan.at[0], plan.value[0]);
     SAME((int)plan.before, 1);
@@ -191,11 +236,8 @@ static void an_unlock(unsigned t, unsigned m, uint64_t seen, uint64_t next, uint
     int may = fits && pz_plan_unlock(&plan, (uint8_t)t, head_place(t), cell + 1, seen, next, previous);
     int r = pz_give(&file, m);
     end();
-    if (!may) {
-        CHECK(begins == 1 && changes == 0 && r == EINVAL && pz_self[0].held == 7);
-        refused++;
-        return;
-    }
+    if (!may)
+        return isnt_planned(t, PZ_OP_UNLOCK, seen, 0, r);
     CHECK(begins == 0);
     for (unsigned i = 0; i < plan.before; i++)
         same_change(i, plan.at[i], plan.value[i]);
@@ -215,23 +257,92 @@ static void an_unlock(unsigned t, unsigned m, uint64_t seen, uint64_t next, uint
     planned++;
 }
 
+static void a_declaration(unsigned t, unsigned m, uint64_t seen)
+{
+    struct pz_short plan;
+    begin(t, m);
+    is[cell] = seen;
+    go();
+    int r = pz_declare(&file, m);
+    end();
+    if (!pz_plan_consistent(&plan, (uint8_t)t, cell, seen))
+        return isnt_planned(t, PZ_OP_CONSISTENT, seen, 0, r);
+    CHECK(begins == 0 && steps == 0 && pz_self[0].held == 7);
+    same_changes(&plan, plan.changes);
+    SAME(r, (int)plan.reply);
+    planned++;
+}
+
+static int has_plan(struct pz_short *plan, unsigned t, unsigned operation, uint64_t seen, uint64_t count)
+{
+    return operation == PZ_OP_SIGNAL ? pz_plan_signal(plan, (uint8_t)t, counter, seen, count)
+                                     : pz_plan_broadcast(plan, (uint8_t)t, cell, counter, seen, count);
+}
+
+/* A signal or a broadcast. What it has to wake or move, its last change, is left to its steps where somebody sleeps. */
+static void a_count(unsigned t, unsigned m, unsigned operation, uint64_t seen, uint64_t count, int sleeps)
+{
+    struct pz_short plan;
+    begin(t, m);
+    is[cell] = seen;
+    is[counter] = count;
+    if (!sleeps)
+        is[counter + 3] = 0;
+    go();
+    int r = pz_count(&file, 0, operation), is_signal = operation == PZ_OP_SIGNAL;
+    end();
+    if (!has_plan(&plan, t, operation, seen, count))
+        return isnt_planned(t, operation, seen, count, r);
+    CHECK(begins == 0 && pz_self[0].held == 7);
+    same_changes(&plan, plan.changes - 1);
+    if (!sleeps) {
+        CHECK(steps == 0);
+        SAME(r, (int)plan.reply);
+        planned++;
+        return;
+    }
+    struct pz_call call = proved(t, operation, (uint64_t[]){seen, count}, is_signal ? PZ_ADD : PZ_OR);
+    CHECK(steps == 1 && answered == PZ_VALUE && with == (is_signal ? count : seen) && same_call(&stands, &call));
+    went_on++;
+}
+
+static void counts(unsigned t, unsigned m, uint64_t seen)
+{
+    static const uint64_t at[] = {0, 1, 0x7fffffff, 0xfffffffe, 0xffffffff, 0x100000000, UINT64_MAX};
+    for (unsigned k = 0; k < sizeof at / sizeof *at; k++)
+        for (int sleeps = 0; sleeps < 2; sleeps++) {
+            a_count(t, m, PZ_OP_SIGNAL, seen, at[k], sleeps);
+            a_count(t, m, PZ_OP_BROADCAST, seen, at[k], sleeps);
+        }
+}
+
+static void takes_and_gives(unsigned t, unsigned m, uint64_t seen)
+{
+    for (unsigned i = 0; i < LINKS; i++) {
+        uint64_t link = link_of_case(i, t, m);
+        for (int meanwhile = 0; meanwhile < 2; meanwhile++) {
+            a_lock(t, m, PZ_OP_LOCK, seen, link, meanwhile);
+            a_lock(t, m, PZ_OP_TRYLOCK, seen, link, meanwhile);
+        }
+        for (unsigned j = 0; j < LINKS; j++)
+            for (int sleeps = 0; sleeps < 2; sleeps++)
+                an_unlock(t, m, seen, link, link_of_case(j, t, m), sleeps);
+    }
+}
+
 int main(void)
 {
-    file = (pz){.words = (word *)is, .places = PLACES, .mutexes = MUTEXES};
+    file = (pz){.words = (word *)is, .places = PLACES, .mutexes = MUTEXES, .conds = 1};
     for (unsigned t = 1; t <= THREADS; t++)
         for (unsigned m = 0; m < MUTEXES; m++)
-            for (unsigned k = 0; k < CELLS; k++)
-                for (unsigned i = 0; i < LINKS; i++) {
-                    uint64_t seen = cell_of_case(k, t), link = link_of_case(i, t, m);
-                    for (int meanwhile = 0; meanwhile < 2; meanwhile++) {
-                        a_lock(t, m, PZ_OP_LOCK, seen, link, meanwhile);
-                        a_lock(t, m, PZ_OP_TRYLOCK, seen, link, meanwhile);
-                    }
-                    for (unsigned j = 0; j < LINKS; j++)
-                        for (int sleeps = 0; sleeps < 2; sleeps++)
-                            an_unlock(t, m, seen, link, link_of_case(j, t, m), sleeps);
-                }
-    printf("plans: %ld calls as their plan, %ld by steps, %ld gone on with\n", planned, refused, went_on);
-    CHECK(planned > 1000 && refused > 1000 && went_on > 1000);
+            for (unsigned k = 0; k < CELLS; k++) {
+                uint64_t seen = cell_of_case(k, t);
+                takes_and_gives(t, m, seen);
+                a_declaration(t, m, seen);
+                counts(t, m, seen);
+            }
+    printf("plans: %ld calls as their plan, %ld refused at the first look, %ld by steps, %ld gone on with\n", planned,
+           refused, by_steps, went_on);
+    CHECK(planned > 1000 && refused > 1000 && by_steps > 1000 && went_on > 1000);
     return 0;
 }

@@ -37,19 +37,19 @@ int main(int argc, char **argv)
     SAME(pz_open(path, 0600, 3, 2, NULL, 64, &p), 0);
     turn = pz_data(p);
     for (int i = 0; i < 2; i++, n++)
-        if (!(child[n] = fork())) {
+        if (!(child[n] = a_child())) {
             alarm(100);
             play(i, 2, turns, 0);
             _exit(0);
         }
     for (int i = 0; i < 3; i++, n++)
-        if (!(child[n] = fork())) {
+        if (!(child[n] = a_child())) {
             alarm(100);
             play(i, 3, turns, 1);
             _exit(0);
         }
     for (int i = 0; i < 4; i++, n++)
-        if (!(child[n] = fork())) {
+        if (!(child[n] = a_child())) {
             alarm(100);
             contend(contended);
             _exit(0);

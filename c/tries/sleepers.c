@@ -128,10 +128,22 @@ static void makes_them(void)
         pz_make(&file, x, &value);
 }
 
-/* The short way, without accesses of its own. */
+/* The short ways, without accesses of their own. */
 static void unlocks(void)
 {
     pz_self[0] = (struct self){.id = OWNER, .held = 1};
+    SAME(pz_give(&file, 0), 0);
+}
+static void signals(void)
+{
+    pz_self[0] = (struct self){.id = OWNER, .held = 1};
+    SAME(pz_count(&file, 0, PZ_OP_SIGNAL), 0);
+    SAME(pz_give(&file, 0), 0);
+}
+static void broadcasts(void)
+{
+    pz_self[0] = (struct self){.id = OWNER, .held = 1};
+    SAME(pz_count(&file, 0, PZ_OP_BROADCAST), 0);
     SAME(pz_give(&file, 0), 0);
 }
 
@@ -186,6 +198,8 @@ int main(void)
     struct pz_access move_all = {.kind = PZ_CMP_REQUEUE, .at = counter, .a = 8, .b = cell, .most = 64};
     nobody_is_left(counter, (struct pz_access[]){count, signal, release}, 3 * sizeof wake);
     nobody_is_left(counter, (struct pz_access[]){count, waiters, move_all, release, wake}, 5 * sizeof wake);
+    in_every_order(counter, signals, 0);
+    in_every_order(counter, broadcasts, 0);
     for (no_waitv = 0; no_waitv < 2; no_waitv++) {
         nobody_is_left(cell, (struct pz_access[]){release, wake}, 2 * sizeof wake);
         in_every_order(cell, unlocks, 0);

@@ -54,7 +54,7 @@ static double contended(int processes, int ours)
     atomic_store(&b->go, 0);
     atomic_store(&b->ready, 0);
     for (int i = 0; i < processes; i++)
-        if (!(child[i] = fork())) {
+        if (!(child[i] = a_child())) {
             pairs(ours, 1);
             atomic_fetch_add(&b->ready, 1);
             while (!atomic_load(&b->go))
@@ -110,7 +110,7 @@ static double busy(int unused, int ours)
 {
     (void)unused;
     atomic_store(&b->ready, 0);
-    pid_t owner = fork();
+    pid_t owner = a_child();
     if (!owner) {
         if (ours ? pz_mutex_lock(p, 1) : pthread_mutex_lock(&b->libc))
             _exit(1);
@@ -136,7 +136,7 @@ static double death(int unused, int ours)
 {
     (void)unused;
     atomic_store(&b->ready, 0);
-    pid_t owner = fork();
+    pid_t owner = a_child();
     if (!owner) {
         if (ours ? pz_mutex_lock(p, 1) : pthread_mutex_lock(&b->libc))
             _exit(1);
@@ -146,7 +146,7 @@ static double death(int unused, int ours)
     }
     while (!atomic_load(&b->ready))
         rest(50);
-    pid_t sleeper = fork();
+    pid_t sleeper = a_child();
     if (!sleeper) {
         int r = ours ? pz_mutex_lock(p, 1) : pthread_mutex_lock(&b->libc);
         atomic_store(&b->at, (long)(now() * 1e9));

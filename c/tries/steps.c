@@ -70,7 +70,7 @@ static void calls(int waits)
 
 static pid_t child(long before, long in_walk)
 {
-    pid_t is = fork();
+    pid_t is = a_child();
     dies_before = is ? 0 : before;
     dies_in_walk = is ? 0 : in_walk;
     return is;
@@ -160,20 +160,20 @@ static void woken_and_dead(void)
 static void a_trylock_beside_a_reaper(void)
 {
     int status;
-    pid_t owner = fork();
+    pid_t owner = a_child();
     if (!owner) {
         for (unsigned m = 0; m < MUTEXES; m++)
             pz_mutex_lock(p, m);
         kill(getpid(), SIGKILL);
     }
     CHECK(waitpid(owner, &status, 0) == owner && WIFSIGNALED(status));
-    pid_t reaper = fork();
+    pid_t reaper = a_child();
     if (!reaper) {
         stops_in_walk = 6;
         _exit(pz_reap(p) != 1);
     }
     CHECK(waitpid(reaper, &status, WUNTRACED) == reaper && WIFSTOPPED(status));
-    pid_t tries = fork();
+    pid_t tries = a_child();
     if (!tries) {
         is_counted = 1;
         _exit(pz_mutex_trylock(p, 0));

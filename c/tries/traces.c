@@ -63,7 +63,7 @@ int main(int argc, char **argv)
     ids = shared(IN_ALL * sizeof *ids);
     int n = 0;
     for (; n < IN_ALL && pz_trace_events() < ENOUGH; n++) {
-        if (!(child[n] = fork()))
+        if (!(child[n] = a_child()))
             work(n);
         while (!atomic_load(&ids[n]))
             rest(50);

@@ -10,6 +10,7 @@
 #include <stdlib.h>
 #include <string.h>
 #include <sys/mman.h>
+#include <sys/prctl.h>
 #include <sys/wait.h>
 #include <time.h>
 #include <unistd.h>
@@ -50,6 +51,15 @@ static inline const char *a_file(const char *name)
     char *p = path[next++ % 4];
     snprintf(p, sizeof path[0], "%s/%s.%d", folder ? folder : "/dev/shm", name, (int)getpid());
     return p;
+}
+
+/* A child that is killed where this process ends: so a try that fails leaves none. */
+static inline pid_t a_child(void)
+{
+    pid_t parent = getpid(), child = fork();
+    if (!child && (prctl(PR_SET_PDEATHSIG, SIGKILL) || getppid() != parent))
+        _exit(1);
+    return child;
 }
 
 static inline void kill_and_wait(pid_t child)

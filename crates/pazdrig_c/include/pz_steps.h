@@ -88,6 +88,27 @@ struct pz_plan {
 bool pz_plan_lock(struct pz_plan *plan, uint8_t thread, uint64_t head, uint64_t entry, uint64_t cell, uint64_t first);
 bool pz_plan_unlock(struct pz_plan *plan, uint8_t thread, uint64_t head, uint64_t entry, uint64_t cell, uint64_t next, uint64_t previous);
 
-/* A number of its own in each field, counted from 1 (a plan's arrays have one for each element). */
-void pz_fill(struct pz_call *call, struct pz_walk *walk, struct pz_access *access, struct pz_plan *plan);
+/* A short call: one that what it loads decides. Its changes, loads left out, in their order, as pz_begin and pz_step tell
+ * them but for their points; behind them PZ_NONE. `place` is the address of the mutex's cell and `counter` that of the
+ * condition variable's counter; `cell` and `count` are the words seen there. false, and nothing is written: not so. */
+struct pz_short {
+    struct pz_access change[3];
+    uint32_t changes, reply;
+};
+/* Of the owner, the counter not full: the count, and the wake of one. */
+bool pz_plan_signal(struct pz_short *plan, uint8_t thread, uint64_t counter, uint64_t cell, uint64_t count);
+/* Of the owner, the counter not full: the count, WAITERS in the cell, and the move of all who sleep on the counter. */
+bool pz_plan_broadcast(struct pz_short *plan, uint8_t thread, uint64_t place, uint64_t counter, uint64_t cell,
+                       uint64_t count);
+/* Of the owner of an inconsistent mutex: OWNER_DIED cleared. */
+bool pz_plan_consistent(struct pz_short *plan, uint8_t thread, uint64_t place, uint64_t cell);
+/* The call with this operation (enum pz_operation), where its look at the cell refuses it, or of a signal or broadcast that
+ * at the counter. A lock and a trylock store `entry` as the pending one before that look, and 0 behind it; the others change
+ * nothing. (A lock of an unusable mutex with WAITERS wakes all first: false.) */
+bool pz_plan_refusal(struct pz_short *plan, uint8_t thread, uint64_t head, uint64_t entry, uint32_t operation,
+                     uint64_t cell, uint64_t count);
+
+/* A number of its own in each field, counted from 1 (an array has one for each element, or for each field of each). */
+void pz_fill(struct pz_call *call, struct pz_walk *walk, struct pz_access *access, struct pz_plan *plan,
+             struct pz_short *brief);
 #endif

@@ -3,3 +3,4 @@ pub mod Accesses
 pub mod Running
 pub mod Walks
 pub mod Plans
+pub mod Shorts

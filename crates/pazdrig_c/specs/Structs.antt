@@ -4,6 +4,7 @@ use Rattle.pazdrig_c.specs.declared.structs.PzCall.{PzCall}
 use Rattle.pazdrig_c.specs.declared.structs.PzWalk.{PzWalk}
 use Rattle.pazdrig_c.specs.declared.structs.PzAccess.{PzAccess}
 use Rattle.pazdrig_c.specs.declared.structs.PzPlan.{PzPlan}
+use Rattle.pazdrig_c.specs.declared.structs.PzShort.{PzShort}
 
 abbrev pub filled_call : PzCall
 filled_call = record {
@@ -35,4 +36,13 @@ filled_plan = record {
   before = 14;
   stores = 15;
   reply = 16;
+}
+
+abbrev pub filled_short : PzShort
+filled_short = record {
+  change = record { at = 1; a = 2; b = 3; kind = 4; most = 5; wakes = 6; point = 7; operation = 8 }
+      ∷ record { at = 9; a = 10; b = 11; kind = 12; most = 13; wakes = 14; point = 15; operation = 16 }
+      ∷ record { at = 17; a = 18; b = 19; kind = 20; most = 21; wakes = 22; point = 23; operation = 24 } ∷ [];
+  changes = 25;
+  reply = 26;
 }

@@ -9,7 +9,10 @@
 //! are answered 2, and nothing is written then.
 //!
 //! A plan ([`pz_plan_lock`], [`pz_plan_unlock`]) is a whole call in one go, where nobody is in the way: the laws
-//! [`locks_by_plan`] and [`unlocks_by_plan`] say that it makes the accesses of the step program.
+//! [`locks_by_plan`] and [`unlocks_by_plan`] say that it makes the accesses of the step program. Of short calls, those
+//! that what they load decides ([`pz_plan_signal`], [`pz_plan_broadcast`], [`pz_plan_consistent`],
+//! [`pz_plan_refusal`]), [`signals_by_plan`], [`broadcasts_by_plan`], [`declares_by_plan`] and [`refusals_by_plan`] say
+//! so.
 //!
 //! Stands on `mutex`, `condvar` and `exitwalk`, whose programs these are, on `stepprograms` for accesses, on
 //! `memorymap` and `posixmutex` for addresses and points, and on `lockword` for replies.
@@ -32,7 +35,11 @@ mod calls;
 mod laws;
 mod plans;
 mod running;
+mod shorts;
 mod structs;
 mod walks;
 
-pub use laws::{locks_by_plan, unlocks_by_plan};
+pub use laws::{
+    broadcasts_by_plan, declares_by_plan, locks_by_plan, refusals_by_plan, signals_by_plan,
+    unlocks_by_plan,
+};

@@ -1,6 +1,6 @@
 //! What crosses to C, as `include/pz_steps.h` declares it.
 ghost use Rattle.std.specs.Prelude.{◌≡◌};
-ghost use Rattle.pazdrig_c.specs.Structs.{filled_call, filled_walk, filled_access, filled_plan};
+ghost use Rattle.pazdrig_c.specs.Structs.{filled_call, filled_walk, filled_access, filled_plan, filled_short};
 
 use condvar::CodedCondPhase;
 use exitwalk::CodedRow;
@@ -79,6 +79,18 @@ pub struct PzPlan {
     pub reply: u32,
 }
 
+/// A whole call that what it loads decides: its changes, in their order.
+#[repr(C)]
+#[derive(Clone, Copy, Debug, PartialEq, Eq)]
+pub struct PzShort {
+    /// Each change; their points aren't told.
+    pub change: [PzAccess; 3],
+    /// How many changes there are.
+    pub changes: u32,
+    /// The number of the reply.
+    pub reply: u32,
+}
+
 /// Writes a number of its own into each field: so C can tell whether its header has them where they are.
 #[unsafe(no_mangle)]
 pub extern "C" fn pz_fill(
@@ -86,11 +98,13 @@ pub extern "C" fn pz_fill(
     walk: &mut PzWalk,
     access: &mut PzAccess,
     plan: &mut PzPlan,
+    brief: &mut PzShort,
 )
     ensures call { call.new ≡ filled_call }
     ensures walk { walk.new ≡ filled_walk }
     ensures access { access.new ≡ filled_access }
     ensures plan { plan.new ≡ filled_plan }
+    ensures brief { brief.new ≡ filled_short }
 {
     let lock = CodedPhase {
         x: 5,
@@ -127,7 +141,7 @@ pub extern "C" fn pz_fill(
         },
         thread: 11,
     };
-    *access = PzAccess {
+    let first = PzAccess {
         at: 1,
         a: 2,
         b: 3,
@@ -137,6 +151,27 @@ pub extern "C" fn pz_fill(
         point: 7,
         operation: 8,
     };
+    let second = PzAccess {
+        at: 9,
+        a: 10,
+        b: 11,
+        kind: 12,
+        most: 13,
+        wakes: 14,
+        point: 15,
+        operation: 16,
+    };
+    let third = PzAccess {
+        at: 17,
+        a: 18,
+        b: 19,
+        kind: 20,
+        most: 21,
+        wakes: 22,
+        point: 23,
+        operation: 24,
+    };
+    *access = first;
     *plan = PzPlan {
         at: [1, 2, 3, 4, 5, 6],
         value: [7, 8, 9, 10, 11, 12],
@@ -144,5 +179,10 @@ pub extern "C" fn pz_fill(
         before: 14,
         stores: 15,
         reply: 16,
+    };
+    *brief = PzShort {
+        change: [first, second, third],
+        changes: 25,
+        reply: 26,
     };
 }
