@@ -4,9 +4,9 @@
 #include <cstdio>
 #include <cstdlib>
 #include <cstring>
-#include <optional>
 #include <signal.h>
 #include <sys/mman.h>
+#include <sys/prctl.h>
 #include <sys/wait.h>
 #include <unistd.h>
 
@@ -33,11 +33,13 @@ static pazdrig::file a_file()
     return made;
 }
 
+/* It is killed where this process ends: so a try that fails leaves none. */
 template <class Do> static pid_t child(Do what)
 {
-    pid_t it = fork();
+    pid_t parent = getpid(), it = fork();
     CHECK(it >= 0);
     if (it == 0) {
+        CHECK(prctl(PR_SET_PDEATHSIG, SIGKILL) == 0 && getppid() == parent);
         what();
         std::_Exit(0);
     }

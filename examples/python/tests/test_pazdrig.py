@@ -32,7 +32,8 @@ class Owners(unittest.TestCase):
         self.path = os.path.join(self.enterContext(tempfile.TemporaryDirectory()), "file")
         self.file = self.open()
         self.count = self.file.data.cast("q")
-        self.repairs = 0
+        self.repairs, self.children = 0, set()
+        self.addCleanup(self.kill_children)
         self.mutex = self.file.mutex(0, self.repair)
         signal.alarm(120)
 
@@ -60,14 +61,24 @@ class Owners(unittest.TestCase):
                 os._exit(status)
         os.close(writer)
         self.addCleanup(os.close, reader)
+        self.children.add(pid)
         return pid, lambda: os.read(reader, 1)
+
+    def ended(self, pid):
+        self.children.remove(pid)
+        return os.waitpid(pid, 0)[1]
 
     def kill(self, pid):
         os.kill(pid, signal.SIGKILL)
-        os.waitpid(pid, 0)
+        self.ended(pid)
+
+    def kill_children(self):
+        """Those that a test which failed has left."""
+        for pid in list(self.children):
+            self.kill(pid)
 
     def ends_well(self, pid):
-        self.assertEqual(os.waitpid(pid, 0)[1], 0)
+        self.assertEqual(self.ended(pid), 0)
 
     def kill_amid_a_change(self):
         def change(tell):
@@ -178,7 +189,7 @@ class Owners(unittest.TestCase):
         if not is_lost:
             self.kill(last)
         else:
-            os.waitpid(last, 0)
+            self.ended(last)
         self.ends_well(pid)
 
     def end(self, came, is_lost, tell):
