@@ -137,7 +137,7 @@ static void make_tokens(pz *p)
     pthread_mutex_init(&token, &a);
     for (unsigned t = 1; t <= THREADS; t++) {
         p->life[t].token = token;
-        atomic_store(&p->life[t].tid, 0);
+        STORE(&p->life[t].tid, 0);
     }
     pthread_mutexattr_destroy(&a);
 }
@@ -157,10 +157,10 @@ static void make(pz *p, const struct asked *a, const char boot[40])
     memcpy(h->boot, boot, sizeof h->boot);
     make_tokens(p);
     for (unsigned t = 1; t <= THREADS; t++)
-        atomic_store(&p->life[t].valid, WALK_ENDED);
+        STORE(&p->life[t].valid, WALK_ENDED);
     for (unsigned c = 0; c < a->conds; c++)
-        atomic_store(&p->words[counter_place(p, c) + 2], cell_asked(a, c));
-    atomic_store(&h->magic, WHOLE);
+        STORE(&p->words[counter_place(p, c) + 2], cell_asked(a, c));
+    STORE(&h->magic, WHOLE);
 }
 
 /* The system was started anew: whoever lived by a token died with the old one, and no kernel told it. */
@@ -323,10 +323,11 @@ static pz *new_one(int of_memory)
     return p;
 }
 
-static void free_one(pz *p)
+static void free_one(pz *p, int of_memory)
 {
-    if (p->mapped) {
-        munmap(p->header, p->mapped);
+    if (!of_memory) {
+        if (p->mapped)
+            munmap(p->header, p->mapped);
         free(p);
         return;
     }
@@ -346,20 +347,29 @@ static int open_one(int fd, void *memory, int whole, const struct asked *a, pz *
     if (!r)
         r = enter(p);
     if (r)
-        free_one(p);
+        free_one(p, fd < 0);
     else
         *out = p;
     return r;
+}
+
+/* A handler may interrupt it, where it lasts. */
+static int open_uninterrupted(const char *path, int flags, mode_t mode)
+{
+    int fd;
+    while ((fd = open(path, flags | O_RDWR | O_CLOEXEC, mode)) < 0 && errno == EINTR)
+        continue;
+    return fd;
 }
 
 /* One that is there is opened without O_CREAT, with which Linux refuses another user's file in a folder like /dev/shm
  * (fs.protected_regular). */
 static int open_or_make(const char *path, int flags, mode_t mode)
 {
-    int fd = open(path, O_RDWR | O_CLOEXEC);
+    int fd = open_uninterrupted(path, 0, 0);
     if (fd < 0 && errno == ENOENT && flags)
-        fd = open(path, flags | O_RDWR | O_CLOEXEC, mode);
-    return fd < 0 && errno == EACCES && flags ? open(path, O_RDWR | O_CLOEXEC) : fd; /* another user has just made it */
+        fd = open_uninterrupted(path, flags, mode);
+    return fd < 0 && errno == EACCES && flags ? open_uninterrupted(path, 0, 0) : fd; /* another user has just made it */
 }
 
 /* Another description of the file that fd is of; fd itself where its maker may not open it a second time. */
@@ -367,7 +377,7 @@ static int opened_again(int fd)
 {
     char path[32];
     snprintf(path, sizeof path, "/proc/thread-self/fd/%d", fd);
-    int again = open(path, O_RDWR | O_CLOEXEC);
+    int again = open_uninterrupted(path, 0, 0);
     if (again >= 0)
         close(fd);
     return again < 0 ? fd : again;
@@ -451,7 +461,7 @@ void pz_let_go(pz *p)
     pthread_mutex_lock(&table);
     opened[p->number] = NULL;
     pthread_mutex_unlock(&table);
-    free_one(p);
+    free_one(p, !p->mapped);
 }
 
 void pz_close(pz *p)

@@ -242,6 +242,65 @@ static void a_waiter_that_was_moved(void)
     munmap(is_back, sizeof *is_back);
 }
 
+/* A wait that ends without its mutex doesn't count it as held: another one may be taken in its place. */
+static void a_wait_of_a_mutex_that_becomes_unusable(void)
+{
+    pz *p = open_new("unusable", 2100, 1);
+    pid_t waiter = a_child();
+    int status;
+    if (!waiter) {
+        for (unsigned m = 0; m < 2048; m++)
+            SAME(pz_mutex_lock(p, m), 0);
+        SAME(pz_cond_wait(p, 0), ENOTRECOVERABLE);
+        SAME(pz_mutex_unlock(p, 0), EPERM);
+        SAME(pz_mutex_lock(p, 2048), 0);
+        SAME(pz_mutex_lock(p, 2049), EAGAIN);
+        _exit(0);
+    }
+    until_asleep(waiter);
+    kill_and_wait(holder(p, 0));
+    SAME(pz_mutex_lock(p, 0), EOWNERDEAD);
+    SAME(pz_cond_broadcast(p, 0), 0);
+    SAME(pz_mutex_unlock(p, 0), 0);
+    CHECK(waitpid(waiter, &status, 0) == waiter && status == 0);
+    pz_close(p);
+}
+
+/* A child that takes part, and then sleeps on the mutex, or only lives. */
+static pid_t takes_part(pz *p, int sleeps_there, unsigned *id)
+{
+    _Atomic unsigned *its = shared(sizeof *its);
+    pid_t child = a_child();
+    if (!child) {
+        SAME(pz_thread_begin(p), 0);
+        atomic_store(its, pz_thread_id(p));
+        _exit(sleeps_there ? pz_mutex_lock(p, 0) : pause());
+    }
+    while (!atomic_load(its))
+        rest(100);
+    if (sleeps_there)
+        until_asleep(child);
+    *id = atomic_load(its);
+    munmap(its, sizeof *its);
+    return child;
+}
+
+/* It sleeps there no more, whoever has its id next: so the mutex is made anew. */
+static void a_killed_sleepers_id(void)
+{
+    pz *p = open_new("bit", 1, 0);
+    unsigned id, next_id;
+    SAME(pz_mutex_lock(p, 0), 0);
+    kill_and_wait(takes_part(p, 1, &id));
+    SAME(pz_reap(p), 1);
+    pid_t next = takes_part(p, 0, &next_id);
+    CHECK(next_id == id);
+    SAME(pz_mutex_unlock(p, 0), 0);
+    SAME(pz_mutex_reinit(p, 0), 0);
+    kill_and_wait(next);
+    pz_close(p);
+}
+
 static void a_sleeper_is_told_of_a_death(void)
 {
     pz *p = open_new("sleeper", 1, 0);
@@ -488,6 +547,8 @@ int main(void)
     a_reinit_waits_for_sleepers();
     spoiled_with_sleepers();
     a_waiter_that_was_moved();
+    a_wait_of_a_mutex_that_becomes_unusable();
+    a_killed_sleepers_id();
     a_sleeper_is_told_of_a_death();
     a_first_sleeper_is_killed();
     a_thread_ends_alone();

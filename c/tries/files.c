@@ -1,19 +1,36 @@
 /* Each case of a file once: which are opened, made and refused, and what becomes of those who have it open. */
 #include "try.h"
+#include <dirent.h>
 #include <fcntl.h>
+#include <malloc.h>
 #include <pthread.h>
 #include <sched.h>
+#include <sys/file.h>
 #include <sys/mount.h>
 #include <sys/resource.h>
 #include <sys/stat.h>
 #include <sys/statvfs.h>
 
+/* The C library's, but that a handler interrupts the first of these pieces, and that a maker stops at its first one. */
+static _Atomic int interrupted_pieces;
+static _Atomic int *maker_stops; /* 1: at its next piece; 2: it has */
+int posix_fallocate(int fd, off_t at, off_t size)
+{
+    if (maker_stops && atomic_load(maker_stops))
+        for (atomic_store(maker_stops, 2);;)
+            pause();
+    if (atomic_load(&interrupted_pieces) && atomic_fetch_sub(&interrupted_pieces, 1))
+        return EINTR;
+    return fallocate(fd, 0, at, size) < 0 ? errno : 0;
+}
+
 static void a_file_of_another_layout(void)
 {
     const char *path = a_file("layout");
     pz *p, *q;
-    uint16_t other[1] = {1};
+    uint16_t other[1] = {1}, of_none[1] = {2};
     unlink(path);
+    SAME(pz_open(path, 0600, 2, 1, of_none, 8, &q), EINVAL);
     SAME(pz_open(path, 0600, 2, 1, NULL, 8, &p), 0);
     SAME(pz_open(path, 0600, 3, 1, NULL, 8, &q), EINVAL);
     SAME(pz_open(path, 0600, 2, 1, NULL, 9, &q), EINVAL);
@@ -32,17 +49,19 @@ static void a_file_of_another_layout(void)
     unlink(path);
 }
 
-/* A file that isn't one is left alone. */
+/* A file that isn't one is left alone, be it shorter than the library's first word. */
 static void a_file_of_another_program(void)
 {
     const char *path = a_file("foreign");
     char text[] = "not ours, and not to be overwritten", is[sizeof text];
     int fd = open(path, O_RDWR | O_CREAT | O_TRUNC, 0600);
     pz *p;
-    CHECK(fd >= 0 && write(fd, text, sizeof text) == sizeof text);
-    SAME(pz_open(path, 0600, 1, 0, NULL, 0, &p), EINVAL);
-    SAME(pz_open_fd(fd, 1, 0, NULL, 0, &p), EINVAL);
-    CHECK(pread(fd, is, sizeof is, 0) == sizeof is && !memcmp(is, text, sizeof is));
+    for (ssize_t n = 1; n <= (ssize_t)sizeof text; n++) {
+        CHECK(fd >= 0 && ftruncate(fd, 0) == 0 && pwrite(fd, text, (size_t)n, 0) == n);
+        SAME(pz_open(path, 0600, 1, 0, NULL, 0, &p), EINVAL);
+        SAME(pz_open_fd(fd, 1, 0, NULL, 0, &p), EINVAL);
+        CHECK(pread(fd, is, sizeof is, 0) == n && !memcmp(is, text, (size_t)n));
+    }
     CHECK(ftruncate(fd, 0) == 0);
     SAME(pz_open_fd(fd, 1, 0, NULL, 0, &p), 0);
     pz_close(p);
@@ -94,6 +113,72 @@ static void the_numbers_of_a_file(void)
     unlink(path);
 }
 
+/* As with open(2): the mode that was asked for, but for what the umask takes away. */
+static void whose_file_it_is(void)
+{
+    static const mode_t of[][3] = {{0, 0604, 0604}, {027, 0666, 0640}};
+    const char *path = a_file("mode");
+    struct stat st;
+    pz *p;
+    for (int i = 0; i < 2; i++) {
+        mode_t was = umask(of[i][0]);
+        SAME(pz_open(path, of[i][1], 1, 0, NULL, 0, &p), 0);
+        CHECK(stat(path, &st) == 0 && (st.st_mode & 07777) == of[i][2]);
+        umask(was);
+        pz_close(p);
+        unlink(path);
+    }
+}
+
+static int descriptors(void)
+{
+    DIR *all = opendir("/proc/self/fd");
+    int n = 0;
+    while (all && readdir(all))
+        n++;
+    closedir(all);
+    return n;
+}
+
+static int is_mapped(const char *path)
+{
+    char line[512];
+    FILE *all = fopen("/proc/self/maps", "r");
+    int found = 0;
+    while (all && fgets(line, sizeof line, all))
+        found |= strstr(line, path) != NULL;
+    fclose(all);
+    return found;
+}
+
+/* Opened and closed, and refused: as another layout, as the boot's id can't be told, and as no room is left. */
+static void opens_and_refusals(const char *path)
+{
+    pz *p;
+    SAME(pz_open(path, 0600, 2, 1, NULL, 8, &p), 0);
+    SAME(pz_mutex_lock(p, 1), 0);
+    pz_close(p);
+    CHECK(!is_mapped(path));
+    SAME(pz_open(path, 0600, 3, 1, NULL, 8, &p), EINVAL);
+    SAME(pz_open(path, 0600, 2, 1, (uint16_t[]){1}, 8, &p), EINVAL);
+    CHECK(!is_mapped(path));
+    CHECK(unlink(path) == 0);
+    SAME(pz_open("/dev/null", 0600, 2, 1, NULL, 8, &p), EINVAL);
+}
+
+/* However often: no descriptor is lost, no mapping and no memory. */
+static void nothing_is_lost(void)
+{
+    const char *path = a_file("lost");
+    opens_and_refusals(path);
+    int n = descriptors();
+    size_t memory = mallinfo2().uordblks;
+    for (int i = 0; i < 50; i++)
+        opens_and_refusals(path);
+    CHECK(descriptors() == n);
+    CHECK(mallinfo2().uordblks == memory);
+}
+
 static void a_file_that_cannot_be_written(void)
 {
     const char *path = a_file("readonly");
@@ -132,6 +217,24 @@ static void no_room(void)
     unlink(path);
 }
 
+/* A handler comes to who sleeps in an open, which goes on. */
+static _Atomic int handled;
+static void handler(int unused)
+{
+    (void)unused;
+    atomic_store(&handled, 1);
+}
+static void interrupt(pthread_t thread, pid_t tid)
+{
+    until_asleep(tid);
+    atomic_store(&handled, 0);
+    CHECK(sigaction(SIGUSR1, &(struct sigaction){.sa_handler = handler}, NULL) == 0);
+    CHECK(pthread_kill(thread, SIGUSR1) == 0);
+    while (!atomic_load(&handled))
+        rest(100);
+    until_asleep(tid);
+}
+
 /* Another process has a lease of the file, which it gives up once this one has forked: so an open that waits for it
  * keeps nobody from forking. */
 static struct {
@@ -151,18 +254,28 @@ static void has_the_lease(void)
     _exit(0);
 }
 
+static const char *its_file;
 static _Atomic pid_t opener;
 static void *opens_it(void *p)
 {
     atomic_store(&opener, gettid());
-    SAME(pz_open(leased_file, 0600, 1, 0, NULL, 0, p), 0);
+    SAME(pz_open(its_file, 0600, 1, 0, NULL, 0, p), 0);
     return NULL;
+}
+static pthread_t an_opener(const char *path, pz **out)
+{
+    pthread_t thread;
+    its_file = path;
+    atomic_store(&opener, 0);
+    CHECK(!pthread_create(&thread, NULL, opens_it, out));
+    while (!atomic_load(&opener))
+        rest(1000);
+    return thread;
 }
 
 static void a_lease(void)
 {
     pz *first, *second;
-    pthread_t t;
     leased_file = a_file("lease");
     lease = shared(sizeof *lease);
     SAME(pz_open(leased_file, 0600, 1, 0, NULL, 0, &first), 0);
@@ -175,11 +288,9 @@ static void a_lease(void)
     if (atomic_load(&lease->leased) < 0)
         puts("files: a lease isn't tried, as there are none here");
     alarm(30);
-    CHECK(!pthread_create(&t, NULL, opens_it, &second));
-    while (!atomic_load(&opener))
-        rest(1000);
+    pthread_t t = an_opener(leased_file, &second);
     if (atomic_load(&lease->leased) > 0)
-        until_asleep(atomic_load(&opener));
+        interrupt(t, atomic_load(&opener));
     pid_t child = a_child();
     if (!child)
         _exit(0);
@@ -189,6 +300,62 @@ static void a_lease(void)
     alarm(0);
     pz_close(second);
     unlink(leased_file);
+}
+
+/* Neither one that waits for another opener is given up for a handler, nor one that takes room. */
+static void an_interrupted_open(void)
+{
+    const char *path = a_file("interrupted");
+    pz *p;
+    int fd = open(path, O_RDWR | O_CREAT, 0600);
+    CHECK(fd >= 0 && flock(fd, LOCK_EX) == 0);
+    atomic_store(&interrupted_pieces, 3);
+    pthread_t t = an_opener(path, &p);
+    interrupt(t, atomic_load(&opener));
+    CHECK(flock(fd, LOCK_UN) == 0 && !pthread_join(t, NULL) && close(fd) == 0);
+    pz_close(p);
+    unlink(path);
+}
+
+/* A process that is killed in the middle of an open leaves a child, which another of its threads forked meanwhile: the
+ * child hasn't the file's lock. It ends with this process, whose end of a pipe it waits for. */
+static void forks_amid_an_open(const char *path, _Atomic int *has_forked, const int *ends)
+{
+    char none;
+    pz *p;
+    atomic_store(maker_stops, 1);
+    an_opener(path, &p);
+    while (atomic_load(maker_stops) != 2)
+        rest(100);
+    if (fork())
+        for (;;)
+            pause();
+    close(ends[1]);
+    atomic_store(has_forked, 1);
+    _exit(read(ends[0], &none, 1) != 0);
+}
+
+static void a_child_of_an_opener(void)
+{
+    const char *path = a_file("opener");
+    _Atomic int *has_forked = shared(sizeof *has_forked);
+    int ends[2];
+    pz *p;
+    CHECK(pipe(ends) == 0);
+    maker_stops = shared(sizeof *maker_stops);
+    pid_t maker = a_child();
+    if (!maker)
+        forks_amid_an_open(path, has_forked, ends);
+    while (!atomic_load(has_forked))
+        rest(100);
+    kill_and_wait(maker);
+    atomic_store(maker_stops, 0);
+    int fd = open(path, O_RDWR);
+    CHECK(fd >= 0 && flock(fd, LOCK_EX | LOCK_NB) == 0 && close(fd) == 0);
+    SAME(pz_open(path, 0600, 1, 0, NULL, 0, &p), 0);
+    pz_close(p);
+    CHECK(close(ends[0]) == 0 && close(ends[1]) == 0);
+    unlink(path);
 }
 
 /* A disk of 1 MB. Of what doesn't fit nothing is taken; and what fits is taken at once, so that no later store meets a
@@ -447,6 +614,62 @@ static void a_reboot(void)
     unlink(path);
 }
 
+/* A process that has the mutex, or sleeps on it, and is stopped there: what it left when the system was started anew,
+ * as no kernel told its death. */
+static pid_t of_the_first_boot(const char *path, int sleeps_there)
+{
+    _Atomic int *parts = shared(sizeof *parts);
+    int status;
+    pid_t child = a_child();
+    if (!child) {
+        pz *p;
+        SAME(pz_open(path, 0600, 1, 0, NULL, 0, &p), 0);
+        SAME(sleeps_there ? pz_thread_begin(p) : pz_mutex_lock(p, 0), 0);
+        atomic_store(parts, 1);
+        _exit(sleeps_there ? pz_mutex_lock(p, 0) : pause());
+    }
+    while (!atomic_load(parts))
+        rest(100);
+    if (sleeps_there)
+        until_asleep(child);
+    kill(child, SIGSTOP);
+    CHECK(waitpid(child, &status, WUNTRACED) == child && WIFSTOPPED(status));
+    munmap(parts, sizeof *parts);
+    return child;
+}
+
+/* Whoever took part before is dead, whatever its token says, and sleeps nowhere: so its id is free, its mutex is
+ * another's, and is made anew though its id is another's too. */
+static void a_reboot_that_no_token_tells(void)
+{
+    const char *path = a_file("reboot");
+    struct pz_info info;
+    pz *p;
+    setenv("PZ_BOOT", "the first boot", 1);
+    pid_t owner = of_the_first_boot(path, 0), sleeper = of_the_first_boot(path, 1);
+    setenv("PZ_BOOT", "the second boot", 1);
+    SAME(pz_open(path, 0600, 1, 0, NULL, 0, &p), 0);
+    SAME(pz_info(p, &info), 0);
+    for (unsigned t = 1; t <= PZ_THREADS; t++)
+        SAME(info.thread[t].life, PZ_ID_FREE);
+    SAME(pz_mutex_trylock(p, 0), EOWNERDEAD);
+    SAME(pz_mutex_consistent(p, 0), 0);
+    pid_t second = a_child();
+    if (!second)
+        _exit(pz_thread_begin(p) ? 1 : pause());
+    do
+        SAME(pz_info(p, &info), 0);
+    while (info.thread[2].life != PZ_ID_LIVES);
+    SAME(pz_mutex_unlock(p, 0), 0);
+    SAME(pz_mutex_reinit(p, 0), 0);
+    kill_and_wait(second);
+    kill_and_wait(sleeper);
+    kill_and_wait(owner);
+    pz_close(p);
+    unsetenv("PZ_BOOT");
+    unlink(path);
+}
+
 int main(void)
 {
     alarm(120);
@@ -454,8 +677,12 @@ int main(void)
     a_file_of_another_program();
     a_file_of_another_format();
     the_numbers_of_a_file();
+    whose_file_it_is();
+    nothing_is_lost();
     a_file_that_cannot_be_written();
     a_lease();
+    an_interrupted_open();
+    a_child_of_an_opener();
     no_room();
     a_full_disk();
     a_truncated_file();
@@ -466,6 +693,7 @@ int main(void)
     makers_are_killed();
     sixteen_files();
     a_reboot();
+    a_reboot_that_no_token_tells();
     puts("files: each opened, made or refused as it should be");
     return 0;
 }

@@ -109,10 +109,35 @@ static void round_of(int k)
     unlink(path);
 }
 
+/* A walk that was kept before a mark, of a word far behind the file: who goes on with it doesn't look there. */
+static void a_walk_that_points_out(void)
+{
+    const char *path = a_file("walk");
+    pz *p;
+    SAME(pz_open(path, 0600, 1, 0, NULL, 0, &p), 0);
+    pid_t dead = a_child();
+    if (!dead) {
+        SAME(pz_mutex_lock(p, 0), 0);
+        for (;;)
+            pause();
+    }
+    unsigned t;
+    while (!(t = pz_mutex_owner(p, 0)))
+        rest(100);
+    kill_and_wait(dead);
+    p->life[t].record[0] = (struct pz_walk){
+        .head = head_place(t), .thread = (uint8_t)t, .row = {.kind = 6, .at = 1ull << 40, .seen = t, .of_pending = 1}};
+    atomic_store(&p->life[t].valid, 0);
+    SAME(pz_reap(p), 1);
+    pz_close(p);
+    unlink(path);
+}
+
 int main(int argc, char **argv)
 {
     int rounds = argc > 1 ? atoi(argv[1]) : 150;
     alarm(120);
+    a_walk_that_points_out();
     for (int k = 0; k < rounds; k++)
         round_of(k);
     printf("fuzz: %d rounds, nothing written elsewhere\n", rounds);

@@ -1,10 +1,14 @@
 /* A walk whose walker dies behind each of its accesses, before the record of it and behind that, and which is gone on
  * with: each mutex that the dead thread owned is marked once, and behind each mark of one with WAITERS somebody is
  * woken on it. The accesses are made on an array, and told; a death is a jump. */
+#include <pthread.h>
 #include <setjmp.h>
 static void maybe_die(void);
+static int tried(pthread_mutex_t *token);
 #define PZ_AT_WALK() maybe_die()
+#define pthread_mutex_trylock tried
 #include "../reap.c"
+#undef pthread_mutex_trylock
 #include "try.h"
 
 enum { DEAD = 7, MUTEXES = 4, NEVER = 1 << 20 };
@@ -108,9 +112,33 @@ static void look(void)
     CHECK(lives[DEAD].valid == WALK_ENDED);
 }
 
+/* The token of a thread that lives is never tried, neither by who reaps nor by who wants an id: the kernel might take
+ * who is killed in that for its holder. */
+static int tries;
+static int tried(pthread_mutex_t *token)
+{
+    (void)token;
+    tries++;
+    return EBUSY;
+}
+
+static void tokens_of_the_living(void)
+{
+    enum { ITS_TID = 4711 };
+    begin();
+    for (unsigned t = 1; t <= THREADS; t++) {
+        *pz_token_word(&file, t) = ITS_TID;
+        lives[t].tid = ITS_TID;
+    }
+    CHECK(pz_reap_one(&file, DEAD) == LIVES && pz_take_part(&file) == EAGAIN && tries == 0);
+    *pz_token_word(&file, DEAD) |= FUTEX_OWNER_DIED;
+    CHECK(pz_reap_one(&file, DEAD) == DYING && tries == 1);
+}
+
 int main(void)
 {
     int deaths = 0;
+    tokens_of_the_living();
     for (int first = 1;; first++) {
         begin();
         if (!walk_until(first))

@@ -1,13 +1,18 @@
 /* How long a thread pauses before it sleeps on a word, by a clock that is played: PZ_SPIN microseconds at most, half as
  * long after each time that it didn't pay, twice as long after each that it did, and now and then PZ_SPIN again; not at
- * all where the word's owner is dead. */
+ * all where the word's owner is dead. And how long a waiter sleeps until it looks by itself. */
 #include <time.h>
+#include <unistd.h>
 
 static int played_clock(clockid_t clock, struct timespec *now);
+static long played_call(long number, ...);
 #define clock_gettime played_clock
+#define syscall played_call
 #include "../sleep.c"
 #undef clock_gettime
+#undef syscall
 #include "try.h"
+#include <stdarg.h>
 
 enum { STEP_US = 100 };
 
@@ -81,10 +86,36 @@ static void a_dead_owner(void)
     CHECK(reads == 0 && !atomic_load(sleepers(&file, cell_place(0))));
 }
 
+/* Each sleep lasts its time; the last one ends by a wake. */
+static const long look_after_ms[] = {20, 40, 80, 160, 320, 640, 640, 640};
+enum { LOOKS = sizeof look_after_ms / sizeof look_after_ms[0] };
+static int slept;
+static long played_call(long number, ...)
+{
+    va_list all;
+    va_start(all, number);
+    (void)va_arg(all, uint32_t *);
+    int operation = va_arg(all, int);
+    (void)va_arg(all, uint32_t);
+    const struct timespec *most = va_arg(all, const struct timespec *);
+    va_end(all);
+    CHECK(number == SYS_futex && operation == FUTEX_WAIT && slept < LOOKS);
+    CHECK(most->tv_sec * 1000 + most->tv_nsec / 1000000 == look_after_ms[slept]);
+    errno = ETIMEDOUT;
+    return ++slept < LOOKS ? -1 : 0;
+}
+
+static void a_waiter_looks(void)
+{
+    SAME((int)pz_sleep(&file, SELF, counter_place(&file, 0), 0), PZ_WOKEN);
+    CHECK(slept == LOOKS);
+}
+
 int main(void)
 {
     a_word_that_stays();
     a_word_that_changes();
     a_dead_owner();
+    a_waiter_looks();
     return 0;
 }

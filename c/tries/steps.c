@@ -186,6 +186,95 @@ static void a_trylock_beside_a_reaper(void)
     SAME(WEXITSTATUS(status), EOWNERDEAD);
 }
 
+/* Each mutex is a dead owner's. (Its walk is ended here, and in no child that is to die amid its own.) */
+static void all_are_told(pz *of)
+{
+    pz_reap(of);
+    for (unsigned m = 0; m < MUTEXES; m++) {
+        SAME(pz_mutex_trylock(of, m), EOWNERDEAD);
+        SAME(pz_mutex_consistent(of, m), 0);
+        SAME(pz_mutex_unlock(of, m), 0);
+    }
+}
+
+static void lock_all(pz *of)
+{
+    for (unsigned m = 0; m < MUTEXES; m++)
+        SAME(pz_mutex_lock(of, m), 0);
+}
+
+/* Whether it was killed, or came to its end. */
+static int was_killed(pid_t is)
+{
+    int status;
+    CHECK(waitpid(is, &status, 0) == is && (WIFSIGNALED(status) || status == 0));
+    return WIFSIGNALED(status);
+}
+
+/* Killed amid the walk over what it owned itself, a thread that leaves is a dead one until that has ended. */
+static void leavers_die(void)
+{
+    long k = 0;
+    for (int died = 1; died; k++) {
+        pid_t leaver = child(0, k + 1);
+        if (!leaver) {
+            lock_all(p);
+            _exit(pz_thread_end(p));
+        }
+        died = was_killed(leaver);
+        all_are_told(p);
+    }
+    CHECK(k > 10);
+}
+
+/* Killed amid the clean-up, the first opener after a reboot leaves it to the next one. */
+static void openers_die_after_a_reboot(void)
+{
+    const char *path = a_file("reboot");
+    long k = 0;
+    pz *of;
+    for (int died = 1; died; k++) {
+        setenv("PZ_BOOT", k % 2 ? "a boot" : "another boot", 1);
+        pid_t owner = a_child();
+        if (!owner) {
+            SAME(pz_open(path, 0600, MUTEXES, 0, NULL, 0, &of), 0);
+            lock_all(of);
+            _exit(0);
+        }
+        CHECK(!was_killed(owner));
+        setenv("PZ_BOOT", "the next boot", 1);
+        pid_t opener = child(0, k + 1);
+        if (!opener)
+            _exit(pz_open(path, 0600, MUTEXES, 0, NULL, 0, &of));
+        died = was_killed(opener);
+        SAME(pz_open(path, 0600, MUTEXES, 0, NULL, 0, &of), 0);
+        all_are_told(of);
+        pz_close(of);
+    }
+    unsetenv("PZ_BOOT");
+    unlink(path);
+    CHECK(k > 10);
+}
+
+/* Killed before each store to a new file, a maker leaves it to the next one. */
+static void makers_die(void)
+{
+    const char *path = a_file("made");
+    long n = 0;
+    pz *of;
+    for (int died = 1; died; n++) {
+        pid_t maker = child(n + 1, 0);
+        if (!maker)
+            _exit(pz_open(path, 0600, MUTEXES, 2, NULL, 0, &of));
+        died = was_killed(maker);
+        SAME(pz_open(path, 0600, MUTEXES, 2, NULL, 0, &of), 0);
+        lock_all(of);
+        pz_close(of);
+        unlink(path);
+    }
+    CHECK(n > 100);
+}
+
 int main(void)
 {
     const char *path = a_file("steps");
@@ -208,6 +297,9 @@ int main(void)
                 break; /* it had ended before */
         }
     a_trylock_beside_a_reaper();
+    leavers_die();
+    openers_die_after_a_reboot();
+    makers_die();
     printf("steps: dead before each of %ld instructions, and %ld times amid the walk\n", instructions, walks);
     CHECK(instructions >= 50 && walks > 500);
     pz_close(p);
