@@ -108,10 +108,14 @@ static unsigned self_in(pz *p, int *why)
     return pz_self[p->number].id;
 }
 
-/* What its reply does to how many it holds. */
-static int counted(uint16_t *held, unsigned operation, uint32_t reply)
+/* What its reply does to how many it holds. An unusable mutex tells of what its last owner did. */
+static int counted(pz *p, unsigned m, unsigned operation, uint32_t reply)
 {
-    if ((operation == PZ_OP_LOCK || operation == PZ_OP_TRYLOCK) && (reply == 0 || reply == EOWNERDEAD))
+    uint16_t *held = &pz_self[p->number].held;
+    int takes = operation == PZ_OP_LOCK || operation == PZ_OP_TRYLOCK;
+    if (takes && (reply == 0 || reply == EOWNERDEAD || reply == ENOTRECOVERABLE))
+        tell_taken(&p->words[cell_place(m)]);
+    if (takes && (reply == 0 || reply == EOWNERDEAD))
         ++*held;
     else if (operation == PZ_OP_UNLOCK && reply == 0)
         --*held;
@@ -127,12 +131,14 @@ int pz_by_steps(pz *p, unsigned m, unsigned operation)
     unsigned t = self_in(p, &why);
     if (!t)
         return why;
-    uint16_t *held = &pz_self[p->number].held;
     int takes = operation == PZ_OP_LOCK || operation == PZ_OP_TRYLOCK;
-    if (takes && *held >= HELD)
+    if (takes && pz_self[p->number].held >= HELD)
         return EAGAIN; /* the walk goes over so many */
     struct pz_call call = call_of(t, cell_place(m));
-    return counted(held, operation, run(p, &call, operation, -1));
+    word *w = &p->words[call.cell];
+    if (operation == PZ_OP_UNLOCK && owner_of(atomic_load(w)) == t)
+        tell_given(w);
+    return counted(p, m, operation, run(p, &call, operation, -1));
 }
 
 /* Whose exchange failed, or whose release found that somebody sleeps: it goes on by its steps from there. */
@@ -143,7 +149,7 @@ int pz_lost(pz *p, unsigned m, unsigned operation, uint64_t seen, uint64_t found
     call.program = (uint8_t)operation;
     call.phase.lock =
         (struct pz_phase){.kind = operation == PZ_OP_LOCK ? AT_LOCK_TAKE : AT_TRYLOCK_TAKE, .x = seen};
-    return counted(&self->held, operation, run_on(p, self->id, &call, PZ_CHANGED, found));
+    return counted(p, m, operation, run_on(p, self->id, &call, PZ_CHANGED, found));
 }
 
 int pz_released(pz *p, unsigned m, uint64_t found)
@@ -152,7 +158,7 @@ int pz_released(pz *p, unsigned m, uint64_t found)
     struct pz_call call = call_of(self->id, cell_place(m));
     call.program = PZ_OP_UNLOCK;
     call.phase.lock = (struct pz_phase){.kind = AT_RELEASE};
-    return counted(&self->held, PZ_OP_UNLOCK, run_on(p, self->id, &call, PZ_VALUE, found));
+    return counted(p, m, PZ_OP_UNLOCK, run_on(p, self->id, &call, PZ_VALUE, found));
 }
 
 /* The cell was seen owned, or unusable. A lock that isn't the owner's waits, and one that finds sleepers of an unusable
@@ -161,9 +167,10 @@ int pz_refused(pz *p, unsigned m, unsigned operation, uint64_t seen)
 {
     unsigned t = pz_self[p->number].id;
     int is_lock = operation == PZ_OP_LOCK, reply = EBUSY;
-    if (seen & UNUSABLE)
+    if (seen & UNUSABLE) {
+        tell_taken(&p->words[cell_place(m)]);
         reply = ENOTRECOVERABLE;
-    else if (is_lock)
+    } else if (is_lock)
         reply = EDEADLK;
     if (is_lock && (seen & UNUSABLE ? seen & WAITERS : owner_of(seen) != t))
         return pz_by_steps(p, m, operation);
@@ -229,6 +236,7 @@ static int is_freed(pz *p, unsigned m, uint64_t seen)
     if (why)
         return 0;
     pz_trace_lock();
+    tell_given(&p->words[cell_place(m)]);
     int freed = atomic_compare_exchange_strong(&p->words[cell_place(m)], &seen, 0);
     if (freed)
         PZ_TELL(pz_trace_reinit(t, m));
@@ -276,7 +284,11 @@ int pz_cond_by_steps(pz *p, unsigned c, unsigned operation)
     struct pz_call call = cond_call_of(p, t, c);
     word *w = &p->words[p->cell_of[c]];
     int owned = owner_of(atomic_load(w)) == t;
+    if (owned)
+        tell_given(w);
     uint32_t reply = run(p, &call, operation, (int)c);
+    if (owned)
+        tell_taken(w);
     if (owned && owner_of(atomic_load(w)) != t)
         pz_self[p->number].held--; /* a wait released it, and hasn't it again */
     if (operation == PZ_OP_WAIT)

@@ -115,6 +115,21 @@ static inline word *sleepers(const pz *p, uint64_t at) { return &p->words[(at | 
 static inline uint64_t bit_of(unsigned t) { return 1ull << (t - 1); }
 static inline uint32_t owner_of(uint64_t cell) { return (uint32_t)cell & 0x3fffffff; }
 
+/* A program that is built with the thread sanitizer is told what a mutex orders: it doesn't see the accesses of this
+ * library, which isn't built so. (Others haven't these functions.) */
+extern void __tsan_acquire(void *) __attribute__((weak));
+extern void __tsan_release(void *) __attribute__((weak));
+static inline void tell_taken(word *cell)
+{
+    if (__builtin_expect(__tsan_acquire != NULL, 0))
+        __tsan_acquire(cell);
+}
+static inline void tell_given(word *cell)
+{
+    if (__builtin_expect(__tsan_release != NULL, 0))
+        __tsan_release(cell);
+}
+
 /* ---- access.c */
 uint32_t pz_make(pz *p, const struct pz_access *x, uint64_t *value);
 

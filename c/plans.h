@@ -46,6 +46,7 @@ static inline __attribute__((always_inline)) int pz_take(pz *p, unsigned m, unsi
         STORE(&words[first + 1], entry);
     STORE(h, entry);
     STORE(h + 2, 0);
+    tell_taken(w);
     self->held++;
     return seen & DIED ? EOWNERDEAD : 0;
 }
@@ -63,6 +64,7 @@ static inline __attribute__((always_inline)) int pz_give(pz *p, unsigned m)
         return EPERM; /* refused before it stores anything */
     if ((seen & DIED) || !is_entry(p, next) || !is_entry(p, previous))
         return pz_by_steps(p, m, PZ_OP_UNLOCK);
+    tell_given(w);
     STORE(h + 2, entry);
     STORE(&words[previous], next);
     if (next != head)
