@@ -331,6 +331,7 @@ int pz_thread_begin(pz *p)
 {
     if (pz_self[p->number].id)
         return EBUSY;
+    pz_leave_closed();
     pthread_once(&once, make_key);
     /* any value: a thread that has one is looked at when it ends */
     int r = no_key ? ENOMEM : pthread_setspecific(at_end, p);

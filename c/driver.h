@@ -83,6 +83,7 @@ struct pz {
     unsigned mutexes, conds;
     unsigned number;        /* its place in `opened`, and in each thread's `pz_self` */
     _Atomic unsigned users; /* its opener, and each thread of the process that takes part */
+    _Atomic int is_closed;  /* by its opener */
     size_t size;
     size_t mapped; /* what the last user unmaps: 0 of memory that its caller mapped */
     pz *next;      /* of those of such memory that are closed, and are used again */
@@ -152,6 +153,7 @@ uint32_t *pz_token_word(pz *p, unsigned t);
 /* ---- file.c */
 int pz_boot_id(char id[40]);
 void pz_let_go(pz *p);
+void pz_leave_closed(void);
 pz *pz_opened(unsigned number);
 int pz_ready_for_forks(void);
 size_t pz_size_in(unsigned mutexes);

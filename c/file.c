@@ -258,7 +258,7 @@ static int open_alone(int fd, const struct asked *a, pz *p)
     return r;
 }
 
-/* Threads of the child are none of the parent's: each takes part anew. */
+/* Threads of the child are none of the parent's: each takes part anew. So nobody may use here what is closed. */
 static void in_child(void)
 {
     for (unsigned n = 0; n < FILES; n++) {
@@ -269,6 +269,9 @@ static void in_child(void)
     for (; openings; openings = openings->next)
         close(openings->fd);
     pthread_mutex_unlock(&table);
+    for (unsigned n = 0; n < FILES; n++)
+        if (opened[n] && atomic_load(&opened[n]->is_closed))
+            pz_let_go(opened[n]);
 }
 static void before_fork(void) { pthread_mutex_lock(&table); }
 static void in_parent(void) { pthread_mutex_unlock(&table); }
@@ -414,6 +417,7 @@ static int open_then_close(const char *path, int flags, mode_t mode, const struc
     struct opening o;
     if (!is_asked_well(a))
         return EINVAL;
+    pz_leave_closed();
     int r = pz_ready_for_forks();
     if (!r)
         r = begin_opening(&o, path, flags, mode);
@@ -464,9 +468,32 @@ void pz_let_go(pz *p)
     free_one(p, !p->mapped);
 }
 
+/* How often a file was closed that other threads of the process take part in. */
+static _Atomic unsigned closings;
+
+/* The calling thread is in no call, and leaves what is closed, where it owns nothing: else a thread that lives long
+ * would keep the place of each file that it ever took part in. */
+void pz_leave_closed(void)
+{
+    static _Thread_local unsigned seen;
+    unsigned is = atomic_load(&closings), owns_some = 0;
+    for (unsigned n = 0; seen != is && n < FILES; n++)
+        if (pz_self[n].id && atomic_load(&opened[n]->is_closed)) {
+            if (pz_self[n].held)
+                owns_some = 1;
+            else
+                pz_leave(opened[n]);
+        }
+    if (!owns_some)
+        seen = is;
+}
+
 void pz_close(pz *p)
 {
     if (pz_self[p->number].id)
         pz_leave(p);
+    atomic_store(&p->is_closed, 1);
+    if (atomic_load(&p->users) > 1)
+        atomic_fetch_add(&closings, 1);
     pz_let_go(p);
 }

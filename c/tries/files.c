@@ -566,6 +566,70 @@ static void sixteen_files(void)
     unlink(path);
 }
 
+/* A thread of a pool, which takes part in each file that it is given. It owns a mutex of the first one all the time. */
+static pz *_Atomic given;
+static _Atomic int works_on, is_done;
+static void *pools_thread(void *unused)
+{
+    pz *first = NULL, *p;
+    for (int i = 1;; i++) {
+        while (atomic_load(&works_on) != i)
+            rest(10);
+        if (!(p = atomic_load(&given)))
+            break;
+        SAME(pz_mutex_lock(p, 0), 0);
+        if (first)
+            SAME(pz_mutex_unlock(p, 0), 0);
+        else
+            first = p;
+        atomic_store(&is_done, i);
+    }
+    SAME(pz_mutex_unlock(first, 0), 0);
+    SAME(pz_mutex_trylock(first, 0), 0);
+    SAME(pz_mutex_unlock(first, 0), 0);
+    return unused;
+}
+static void gives(pz *p)
+{
+    atomic_store(&given, p);
+    atomic_fetch_add(&works_on, 1);
+    while (p && atomic_load(&is_done) != atomic_load(&works_on))
+        rest(10);
+}
+
+/* As many as a child may have, which has none of those that its parent closed. */
+static void opens_sixteen(const char *path)
+{
+    for (int i = 0; i < 16; i++) {
+        pz *p;
+        SAME(pz_open(path, 0600, 1, 0, NULL, 0, &p), 0);
+    }
+    _exit(0);
+}
+
+/* Each file is closed before the next one is opened, by another thread than takes part in it. */
+static void a_pool(void)
+{
+    const char *path = a_file("pool"), *another = a_file("another");
+    pthread_t thread;
+    int status;
+    pz *p;
+    CHECK(!pthread_create(&thread, NULL, pools_thread, NULL));
+    for (int i = 0; i < 40; i++) {
+        SAME(pz_open(path, 0600, 1, 0, NULL, 0, &p), 0);
+        gives(p);
+        pz_close(p);
+        CHECK(unlink(path) == 0);
+    }
+    pid_t child = a_child();
+    if (!child)
+        opens_sixteen(another);
+    CHECK(waitpid(child, &status, 0) == child && status == 0);
+    gives(NULL);
+    CHECK(!pthread_join(thread, NULL) && !is_mapped(path));
+    unlink(another);
+}
+
 /* Refused, as its condition variable is to be of another mutex than it is, and left as it was. */
 static void is_left_as_it_is(const char *path)
 {
@@ -692,6 +756,7 @@ int main(void)
     many_open_at_once();
     makers_are_killed();
     sixteen_files();
+    a_pool();
     a_reboot();
     a_reboot_that_no_token_tells();
     puts("files: each opened, made or refused as it should be");
