@@ -236,8 +236,11 @@ static int init(pthread_mutex_t *m, const struct object *o, int type)
     int why;
     uint32_t number;
     struct companion *c = sh_attach_object(o, &why);
-    if (!c)
-        return why == EPERM || why == EPROTO || why == ENOMEM ? why : EAGAIN;
+    if (!c) {
+        why = why == EPERM || why == EACCES || why == EPROTO || why == ENOMEM ? why : EAGAIN;
+        sh_tell(o, why);
+        return why;
+    }
     sh_lock_table(c);
     if (!o->anonymous && (strcmp(c->table->path, o->path) || !c->table->namespace))
         sh_name(c->table, o);
@@ -246,6 +249,8 @@ static int init(pthread_mutex_t *m, const struct object *o, int type)
         write_bytes(m, c, number, type);
     sh_unlock_table(c);
     sh_leave(c);
+    if (r)
+        sh_tell(o, r);
     return r;
 }
 

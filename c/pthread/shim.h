@@ -88,6 +88,9 @@ struct object {
 int sh_object_at(const void *at, struct object *o);
 int sh_see_mapped(void (*see)(uint64_t dev, uint64_t ino));
 
+/* ---- tell.c */
+void sh_tell(const struct object *o, int why);
+
 /* ---- place.c */
 size_t sh_size(void);
 size_t sh_bank_at(unsigned bank);

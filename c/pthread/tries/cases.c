@@ -220,6 +220,45 @@ static void a_companion_is_removed(void)
     unlink(path);
 }
 
+/* What a process writes on standard error meanwhile: how many lines have these words. */
+static int lines_of(const char *path, const char *words)
+{
+    char line[1024];
+    int n = 0;
+    FILE *f = fopen(path, "r");
+    CHECK(f);
+    while (fgets(line, sizeof line, f))
+        n += strstr(line, words) != NULL;
+    fclose(f);
+    return n;
+}
+
+/* The reason is told, once. */
+static const char *refused_path;
+static void is_refused_twice(void)
+{
+    int fd = open(file("told"), O_WRONLY | O_CREAT | O_TRUNC, 0600);
+    CHECK(fd >= 0 && dup2(fd, 2) == 2);
+    pthread_mutex_t *m = map(refused_path, 2);
+    SAME(pthread_mutex_lock(m), EINVAL);
+    SAME(pthread_mutex_lock(m), EINVAL);
+}
+
+static void a_reason_is_told(void)
+{
+    const char *path = refused_path = file("refused");
+    SAME(comes(path, 0, "init", 1), 0);
+    remove_companions();
+    unsetenv("PAZDRIG_QUIET");
+    in_child(is_refused_twice);
+    SAME(lines_of(file("told"), "has no companion here"), 1);
+    setenv("PAZDRIG_QUIET", "1", 1);
+    in_child(is_refused_twice);
+    SAME(lines_of(file("told"), "libpazdrig"), 0);
+    unlink(file("told"));
+    unlink(path);
+}
+
 /* The system was started anew, as its companion says: nobody lives by it. */
 static void an_earlier_boot(void)
 {
@@ -813,6 +852,7 @@ int main(int argc, char **argv)
     in_child(newcomers);
     in_child(without_it);
     in_child(a_companion_is_removed);
+    in_child(a_reason_is_told);
     in_child(an_earlier_boot);
     in_child(another_format);
     in_child(closes_all);
