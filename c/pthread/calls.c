@@ -109,8 +109,8 @@ static int is_owned(const struct mutex *x)
     return w && w <= THREADS && pz_fate(x->p, w) == LIVES && owner(x) == w;
 }
 
-/* It waits for nothing. EAGAIN: the mutex is free, and no id is. (libpazdrig's is busy too where others changed the word
- * in between.) */
+/* It waits for nothing. EAGAIN: the mutex is free, and no id is. (libpazdrig's is busy too where others changed the
+ * word in between.) */
 static int try(struct mutex *x)
 {
     int r = sh_borrow_now(x->p);
@@ -254,8 +254,8 @@ static int init(pthread_mutex_t *m, const struct object *o, int type)
     return r;
 }
 
-/* ---- The way of most calls: the bank is had, and the thread has an id. That keeps it from being let go; so it stays, if
- * none was let go here while it was looked at. (What is read of one that was let go is there, and wrong.) */
+/* ---- The way of most calls: the bank is had, and the thread has an id. That keeps it from being let go; so it stays,
+ * if none was let go here while it was looked at. (What is read of one that was let go is there, and wrong.) */
 
 static inline int at_hand(struct ours *o, struct mutex *x)
 {

@@ -69,7 +69,7 @@ struct companion {
     _Atomic uint32_t used;  /* some companion has stood here: who looks for one looks behind it too */
     _Atomic uint32_t calls; /* that have found it, and aren't through: it isn't let go */
     _Atomic uint32_t turns; /* how often one was let go here */
-    dev_t dev; /* of the companion's file */
+    dev_t dev;              /* of the companion's file */
     ino_t ino;
     struct table *table; /* and the banks behind it */
     void *presence;      /* a page mapped by the description that has the shared lock, which stays as long as it */

@@ -1,5 +1,5 @@
-/* Why a mutex can't be used: told once on standard error, since a program that is answered what the C library would never
- * answer mostly doesn't say more than that. */
+/* Why a mutex can't be used: told once on standard error, since a program that is answered what the C library would
+ * never answer mostly doesn't say more than that. */
 #include "shim.h"
 #include <errno.h>
 #include <stdio.h>
@@ -11,7 +11,8 @@ static const char *reason(int why)
 {
     switch (why) {
     case EINVAL:
-        return "it has no companion here (another PAZDRIG_DIR, or an earlier boot?), and only pthread_mutex_init makes one";
+        return "it has no companion here (another PAZDRIG_DIR, or an earlier boot?), and only pthread_mutex_init makes "
+               "one";
     case EPERM:
         return "its companion may not be opened, or somebody else has made it";
     case EACCES:

@@ -464,8 +464,8 @@ static long sleeps_of(const pid_t *it, int n)
 
 enum { WAITERS = 50 };
 
-/* Who waits for an id sleeps until one is given back: looks in between would be 20 a waiter and more. One that has an id
- * and dies is noticed too. */
+/* Who waits for an id sleeps until one is given back: looks in between would be 20 a waiter and more. One that has an
+ * id and dies is noticed too. */
 static void waits_for_ids(pid_t it[WAITERS])
 {
     for (int i = 0; i < WAITERS; i++)
@@ -489,8 +489,8 @@ static void all_end_well(const pid_t *it, int n)
     }
 }
 
-/* All ids are had by threads that own: who comes is told what is busy, and waits for what is free, but for a trylock. Of
- * the mutexes that it may lock each is in the second bank, where there are as many ids. */
+/* All ids are had by threads that own: who comes is told what is busy, and waits for what is free, but for a trylock.
+ * Of the mutexes that it may lock each is in the second bank, where there are as many ids. */
 static void all_ids_are_had(void)
 {
     pthread_t t[IDS];
@@ -535,8 +535,8 @@ static void all_owners_die(void)
     unlink(file("dying"));
 }
 
-/* Two mutexes of two objects each, taken in one order by half of them and in the other by the rest, no two the same. All
- * ids of each object are had by those who want one of the other's: who is told EAGAIN gives way. */
+/* Two mutexes of two objects each, taken in one order by half of them and in the other by the rest, no two the same.
+ * All ids of each object are had by those who want one of the other's: who is told EAGAIN gives way. */
 static void nests(pthread_mutex_t *outer, pthread_mutex_t *inner, _Atomic int outside[2], int side)
 {
     int r;
