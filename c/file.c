@@ -323,10 +323,11 @@ static pz *new_one(int of_memory)
     return p;
 }
 
-static void free_one(pz *p)
+static void free_one(pz *p, int of_memory)
 {
-    if (p->mapped) {
+    if (p->mapped)
         munmap(p->header, p->mapped);
+    if (!of_memory) {
         free(p);
         return;
     }
@@ -346,7 +347,7 @@ static int open_one(int fd, void *memory, int whole, const struct asked *a, pz *
     if (!r)
         r = enter(p);
     if (r)
-        free_one(p);
+        free_one(p, fd < 0);
     else
         *out = p;
     return r;
@@ -451,7 +452,7 @@ void pz_let_go(pz *p)
     pthread_mutex_lock(&table);
     opened[p->number] = NULL;
     pthread_mutex_unlock(&table);
-    free_one(p);
+    free_one(p, !p->mapped);
 }
 
 void pz_close(pz *p)

@@ -260,8 +260,12 @@ void pz_sleep_for_id(pz *p, _Atomic uint32_t *given, uint32_t seen)
     if (all.n < 1 + THREADS)
         return; /* one is free */
     struct timespec until = from_now(PZ_POLL_S * 1000l);
-    if (!atomic_load(&no_waitv) &&
-        (syscall(SYS_futex_waitv, all.v, all.n, 0, &until, CLOCK_MONOTONIC) >= 0 || is_known(errno)))
+    int is_told = !atomic_load(&no_waitv) &&
+                  (syscall(SYS_futex_waitv, all.v, all.n, 0, &until, CLOCK_MONOTONIC) >= 0 || is_known(errno));
+    for (unsigned i = 1; i < all.n; i++) /* a sleeper on its mutex may have been meant */
+        if (has_died(p, all.thread[i]))
+            pz_reap_one(p, all.thread[i]);
+    if (is_told)
         return;
     struct timespec most = {.tv_nsec = look_ms * 1000000};
     look_ms = look_ms < LAST_LOOK_MS ? 2 * look_ms : look_ms;

@@ -1,6 +1,7 @@
 /* Each case of a file once: which are opened, made and refused, and what becomes of those who have it open. */
 #include "try.h"
 #include <fcntl.h>
+#include <malloc.h>
 #include <pthread.h>
 #include <sched.h>
 #include <sys/mount.h>
@@ -129,6 +130,21 @@ static void no_room(void)
     CHECK(waitpid(child, &status, 0) == child && status == 0);
     SAME(pz_open(path, 0600, 1, 0, NULL, 1 << 20, &p), 0);
     pz_close(p);
+    unlink(path);
+}
+
+/* What is refused leaves no memory taken. */
+static void refused_opens(void)
+{
+    pz *p;
+    const char *path = a_file("refused");
+    int fd = open(path, O_WRONLY | O_CREAT, 0600);
+    CHECK(fd >= 0 && write(fd, "somebody else's", 15) == 15 && close(fd) == 0);
+    SAME(pz_open(path, 0600, 1, 0, NULL, 0, &p), EINVAL);
+    size_t before = mallinfo2().uordblks;
+    for (int i = 0; i < 100; i++)
+        SAME(pz_open(path, 0600, 1, 0, NULL, 0, &p), EINVAL);
+    CHECK(mallinfo2().uordblks == before);
     unlink(path);
 }
 
@@ -455,6 +471,7 @@ int main(void)
     a_file_of_another_format();
     the_numbers_of_a_file();
     a_file_that_cannot_be_written();
+    refused_opens();
     a_lease();
     no_room();
     a_full_disk();

@@ -235,13 +235,21 @@ static int lines_of(const char *path, const char *words)
 
 /* The reason is told, once. */
 static const char *refused_path;
+static int how_told;
 static void is_refused_twice(void)
 {
-    int fd = open(file("told"), O_WRONLY | O_CREAT | O_TRUNC, 0600);
+    int fd = open(file("told"), O_WRONLY | O_CREAT | O_TRUNC | how_told, 0600);
     CHECK(fd >= 0 && dup2(fd, 2) == 2);
     pthread_mutex_t *m = map(refused_path, 2);
     SAME(pthread_mutex_lock(m), EINVAL);
     SAME(pthread_mutex_lock(m), EINVAL);
+}
+
+static void is_refused_into_a_broken_pipe(void)
+{
+    int fd[2];
+    CHECK(pipe(fd) == 0 && dup2(fd[1], 2) == 2 && close(fd[0]) == 0 && close(fd[1]) == 0);
+    SAME(pthread_mutex_lock(map(refused_path, 1)), EINVAL);
 }
 
 static void a_reason_is_told(void)
@@ -250,8 +258,14 @@ static void a_reason_is_told(void)
     SAME(comes(path, 0, "init", 1), 0);
     remove_companions();
     unsetenv("PAZDRIG_QUIET");
+    how_told = O_APPEND;
     in_child(is_refused_twice);
     SAME(lines_of(file("told"), "has no companion here"), 1);
+    how_told = 0;
+    in_child(is_refused_twice);
+    SAME(lines_of(file("told"), "libpazdrig"), 0); /* a file of the program's */
+    in_child(is_refused_into_a_broken_pipe);
+    how_told = O_APPEND;
     setenv("PAZDRIG_QUIET", "1", 1);
     in_child(is_refused_twice);
     SAME(lines_of(file("told"), "libpazdrig"), 0);
@@ -511,6 +525,34 @@ static void all_ids_are_had(void)
     unlink(file("crowd"));
 }
 
+/* All ids are had by one that owns a mutex and by those who sleep on it: others are made meanwhile, by anybody. */
+static void init_beside_a_crowd(void)
+{
+    pid_t it[IDS];
+    _Atomic int *may_end = shared(sizeof *may_end);
+    crowd = map(file("beside"), 100);
+    in_child(make_crowd);
+    for (int i = 0; i < IDS; i++) {
+        if (!(it[i] = fork())) {
+            SAME(pthread_mutex_lock(&crowd[30]), 0);
+            while (!atomic_load(may_end))
+                rest(1000);
+            SAME(pthread_mutex_unlock(&crowd[30]), 0);
+            _exit(0);
+        }
+        if (i)
+            until_asleep(it[i]);
+        else
+            while (comes(file("beside"), 30, "trylock", 1) != EBUSY)
+                rest(1000);
+    }
+    SAME(comes(file("beside"), 31, "init", 1), 0);
+    SAME(comes(file("beside"), 31, "destroy", 1), 0);
+    atomic_store(may_end, 1);
+    all_end_well(it, IDS);
+    unlink(file("beside"));
+}
+
 /* All ids are had by processes that own, and all of these die. */
 static void all_owners_die(void)
 {
@@ -670,9 +712,15 @@ static void many_objects_at_once(void)
     }
 }
 
-/* Threads come to object after object, each of which they unmap again, and keep ids there. */
+/* Threads come to object after object, each of which they unmap again, and keep ids there; each holds a mutex
+ * meanwhile. */
 static void *changes_objects(void *which)
 {
+    char own[512];
+    snprintf(own, sizeof own, "%s/held%d", folder, *(int *)which);
+    pthread_mutex_t *held = map(own, 1);
+    SAME(init(held), 0);
+    SAME(pthread_mutex_lock(held), 0);
     for (int i = 0; i < 500; i++) {
         char path[512];
         snprintf(path, sizeof path, "%s/changing%d", folder, (i + *(int *)which) % 100);
@@ -681,6 +729,8 @@ static void *changes_objects(void *which)
         SAME(pthread_mutex_unlock(m), 0);
         munmap(m, sizeof *m);
     }
+    SAME(pthread_mutex_unlock(held), 0);
+    unlink(own);
     return NULL;
 }
 
@@ -862,6 +912,7 @@ int main(int argc, char **argv)
     many_threads();
     many_processes();
     all_ids_are_had();
+    in_child(init_beside_a_crowd);
     in_child(all_owners_die);
     in_child(nested_crowds);
     in_child(first_openers_are_killed);
