@@ -51,13 +51,14 @@ pub mod CondAlone
 pub mod Undivided
 pub mod Applying
 pub mod InTurn
-pub mod Waking
 pub mod Counters
 pub mod Passing
 pub mod Splits
 pub mod PassedBy
 pub mod Emptied
 pub mod Learnt
+mod Callers
+pub mod Waking
 pub mod Woken
 pub mod Signalling
 mod WaitersBit

@@ -86,7 +86,8 @@ pub fn events_apply()
 /// sleep is told exactly where it comes to stand in a queue, a wake exactly where it leaves one and stands in none, but
 /// by its kill, and a move exactly where it leaves that of a condition variable for its mutex's. In each queue they
 /// stand in the order in which they came, as it was told, and whoever another's event wakes, or moves, is the front of
-/// a queue (of which one, says [`wakes_are_right`]); who leaves by itself stands anywhere in one.
+/// a queue (of which one, says [`wakes_are_right`]); who leaves by itself stands anywhere in one. And a sleep is told
+/// only of a thread whose call is a lock of that mutex, or a wait on it or on that condition variable.
 pub fn sleeps_are_told()
     ensures { SleepsAreTold }
 {}
