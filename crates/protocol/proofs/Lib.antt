@@ -65,4 +65,5 @@ mod WaitersBit
 mod Lone
 mod Anew
 mod Unusable
+pub mod Changing
 mod WalksOn

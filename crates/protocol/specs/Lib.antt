@@ -17,3 +17,4 @@ pub mod WalksOn
 pub mod Leaves
 pub mod Renewals
 pub mod Reinits
+pub mod Changes

@@ -13,6 +13,7 @@ ghost use Rattle.protocol.specs.WaitersBit.{WaitersAreKept};
 ghost use Rattle.protocol.specs.WalksOn.{WalksGoOn};
 ghost use Rattle.protocol.specs.Leaves.{LeavesAreLone, FrontsAreWoken};
 ghost use Rattle.protocol.specs.Renewals.{RenewalsBeginAnew, LivesAreOne};
+ghost use Rattle.protocol.specs.Changes.{OnlyTheyChange};
 ghost use Rattle.protocol.specs.Reinits.{ReinitsFreeTheMutex, UnusableStays, NobodyJoinsAnUnusableMutex};
 
 /// Whatever happens, the points are one legal history of POSIX robust mutexes, which says at each moment what every
@@ -175,4 +176,13 @@ pub fn without_reinits_as_before()
 /// there finds nobody asleep there later either, until the mutex is made anew.
 pub fn nobody_joins_an_unusable_mutex()
     ensures { NobodyJoinsAnUnusableMutex }
+{}
+
+/// Whatever happened before: a begin changes no word and no queue, and a kill no word, and of the queues only that its
+/// thread stands in none. A step changes one word at most: in a call a word of its thread's head, a link of a mutex that
+/// its thread owns, the cell of the call's mutex, or the counter where the call is a signal or a broadcast; once its
+/// thread is dead the cell of a mutex that this owns. None of them changes another thread, and a begin and a kill leave
+/// their thread with as many mutexes. (Who stands in which queue behind a step is told: [`sleeps_are_told`].)
+pub fn only_they_change()
+    ensures { OnlyTheyChange }
 {}
