@@ -66,4 +66,5 @@ mod Lone
 mod Anew
 mod Unusable
 pub mod Changing
+mod Bounded
 mod WalksOn

@@ -17,4 +17,5 @@ pub mod WalksOn
 pub mod Leaves
 pub mod Renewals
 pub mod Reinits
+pub mod Bounded
 pub mod Changes

@@ -13,6 +13,7 @@ ghost use Rattle.protocol.specs.WaitersBit.{WaitersAreKept};
 ghost use Rattle.protocol.specs.WalksOn.{WalksGoOn};
 ghost use Rattle.protocol.specs.Leaves.{LeavesAreLone, FrontsAreWoken};
 ghost use Rattle.protocol.specs.Renewals.{RenewalsBeginAnew, LivesAreOne};
+ghost use Rattle.protocol.specs.Bounded.{OnlyLocksAndWaitsWait};
 ghost use Rattle.protocol.specs.Changes.{OnlyTheyChange};
 ghost use Rattle.protocol.specs.Reinits.{ReinitsFreeTheMutex, UnusableStays, NobodyJoinsAnUnusableMutex};
 
@@ -176,6 +177,13 @@ pub fn without_reinits_as_before()
 /// there finds nobody asleep there later either, until the mutex is made anew.
 pub fn nobody_joins_an_unusable_mutex()
     ensures { NobodyJoinsAnUnusableMutex }
+{}
+
+/// Whatever happens, by which its thread isn't killed: a trylock returns within 12 steps of its thread, an unlock within
+/// 10, a declaration that a mutex is consistent within 2, a signal within 4 and a broadcast within 5, whatever others do
+/// in between; and none of them ever sleeps.
+pub fn only_locks_and_waits_wait()
+    ensures { OnlyLocksAndWaitsWait }
 {}
 
 /// Whatever happened before: a begin changes no word and no queue, and a kill no word, and of the queues only that its
