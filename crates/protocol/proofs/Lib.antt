@@ -67,4 +67,5 @@ mod Anew
 mod Unusable
 pub mod Changing
 mod Bounded
+mod Counting
 mod WalksOn

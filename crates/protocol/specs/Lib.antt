@@ -19,3 +19,4 @@ pub mod Renewals
 pub mod Reinits
 pub mod Bounded
 pub mod Changes
+pub mod Counting

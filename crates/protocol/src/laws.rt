@@ -15,6 +15,7 @@ ghost use Rattle.protocol.specs.Leaves.{LeavesAreLone, FrontsAreWoken};
 ghost use Rattle.protocol.specs.Renewals.{RenewalsBeginAnew, LivesAreOne};
 ghost use Rattle.protocol.specs.Bounded.{OnlyLocksAndWaitsWait};
 ghost use Rattle.protocol.specs.Changes.{OnlyTheyChange};
+ghost use Rattle.protocol.specs.Counting.{CountersCountUp};
 ghost use Rattle.protocol.specs.Reinits.{ReinitsFreeTheMutex, UnusableStays, NobodyJoinsAnUnusableMutex};
 
 /// Whatever happens, the points are one legal history of POSIX robust mutexes, which says at each moment what every
@@ -193,4 +194,10 @@ pub fn only_locks_and_waits_wait()
 /// their thread with as many mutexes. (Who stands in which queue behind a step is told: [`sleeps_are_told`].)
 pub fn only_they_change()
     ensures { OnlyTheyChange }
+{}
+
+/// Whatever happens, with counters that are at most 2^32 - 1 at the beginning: each counter is what it was then, and one
+/// more for each signal and each broadcast on its condition variable that had its point with OK, by what was told.
+pub fn counters_count_up()
+    ensures { CountersCountUp }
 {}
