@@ -68,4 +68,5 @@ mod Unusable
 pub mod Changing
 mod Bounded
 mod Counting
+mod Releases
 mod WalksOn

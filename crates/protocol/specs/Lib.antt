@@ -20,3 +20,4 @@ pub mod Reinits
 pub mod Bounded
 pub mod Changes
 pub mod Counting
+pub mod Releases

@@ -16,6 +16,7 @@ ghost use Rattle.protocol.specs.Renewals.{RenewalsBeginAnew, LivesAreOne};
 ghost use Rattle.protocol.specs.Bounded.{OnlyLocksAndWaitsWait};
 ghost use Rattle.protocol.specs.Changes.{OnlyTheyChange};
 ghost use Rattle.protocol.specs.Counting.{CountersCountUp};
+ghost use Rattle.protocol.specs.Releases.{WaitsReleaseConsistentMutexes};
 ghost use Rattle.protocol.specs.Reinits.{ReinitsFreeTheMutex, UnusableStays, NobodyJoinsAnUnusableMutex};
 
 /// Whatever happens, the points are one legal history of POSIX robust mutexes, which says at each moment what every
@@ -200,4 +201,10 @@ pub fn only_they_change()
 /// more for each signal and each broadcast on its condition variable that had its point with OK, by what was told.
 pub fn counters_count_up()
     ensures { CountersCountUp }
+{}
+
+/// Whatever happens: where a wait unlocks a mutex with OK, by what was told, its thread owned that mutex directly before,
+/// and the mutex was consistent. So no wait makes its mutex unusable.
+pub fn waits_release_consistent_mutexes()
+    ensures { WaitsReleaseConsistentMutexes }
 {}
