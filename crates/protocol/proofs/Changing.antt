@@ -13,7 +13,7 @@ use Rattle.protocol.specs.Machine.{has_thread}
 use Rattle.protocol.specs.Applies.{Agrees}
 use Rattle.protocol.specs.PassedBy.{call_told}
 use Rattle.protocol.specs.Wakes.{left_by}
-use Rattle.protocol.specs.Changes.{OnlyBegins, OnlyKills, IsItsOwn, MayChange, OnlySteps, ChangesSo, OnlyTheyChange}
+use Rattle.protocol.specs.Changes.{OnlyBegins, OnlyKills, IsItsOwn, MayChange, OnlySteps, ChangesSo, EventsLeaveTheRest}
 use Rattle.protocol.proofs.Puts.{put-same, put-other}
 use Rattle.protocol.proofs.Kept.{FitsAt, Kept}
 use Rattle.protocol.proofs.Places.{IsMine}
@@ -191,7 +191,7 @@ module _ (s : State) (t : ℕ) (w : Told) (b : Option Begun) (o : Option Object)
 
 -- ---- every run
 
-pub changes_so : OnlyTheyChange
+pub changes_so : EventsLeaveTheRest
 changes_so l counters events is t first last =
     let inv = start_kept l counters is in
     let s : State = run (start l counters) events in

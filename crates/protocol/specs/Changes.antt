@@ -68,7 +68,8 @@ pub record ChangesSo (s : State) (t : ℕ) (w : Told) (b : Option Begun) : Type 
   pub steps : OnlySteps s (happens s (Step t)).state t w b
 
 -- whatever happened, with any values of the counters at the beginning: so does each thread
-abbrev pub OnlyTheyChange : Type 0
-OnlyTheyChange = (l : Layout') (counters : ℕ → ℕ) (events : List Event) → IsLayout l → (t : ℕ) → 1 ≤ t → t ≤ l.threads
+abbrev pub EventsLeaveTheRest : Type 0
+EventsLeaveTheRest = (l : Layout') (counters : ℕ → ℕ) (events : List Event) → IsLayout l
+    → (t : ℕ) → 1 ≤ t → t ≤ l.threads
     → ChangesSo (run (start l counters) events) t (last_told t (notes (start l counters) events))
     (call_told t (notes (start l counters) events))

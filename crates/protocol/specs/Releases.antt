@@ -17,9 +17,9 @@ pub record OwnsConsistent (s : State) (t m : ℕ) : Type 0 where
   pub owner : (seen s m).owner ≡ Some t
   pub consistent : (seen s m).inconsistent ≡ false
 
--- whatever happened, with any values of the counters at the beginning: where the next event tells that thread t unlocked
--- mutex m with OK, and its call, as it was told, is a wait, then it is that mutex's, which t owned directly before, and
--- which was consistent
+-- whatever happened, with any values of the counters at the beginning: where the next event tells that thread t
+-- unlocked mutex m with OK, and its call, as it was told, is a wait, then that is on this mutex, which t owned directly
+-- before, and which was consistent
 abbrev pub WaitsReleaseConsistentMutexes : Type 0
 WaitsReleaseConsistentMutexes = (l : Layout') (counters : ℕ → ℕ) (events : List Event) → IsLayout l
     → (e : Event) (t m : ℕ) (b : Begun)

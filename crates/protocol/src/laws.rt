@@ -14,7 +14,7 @@ ghost use Rattle.protocol.specs.WalksOn.{WalksGoOn};
 ghost use Rattle.protocol.specs.Leaves.{LeavesAreLone, FrontsAreWoken};
 ghost use Rattle.protocol.specs.Renewals.{RenewalsBeginAnew, LivesAreOne};
 ghost use Rattle.protocol.specs.Bounded.{OnlyLocksAndWaitsWait};
-ghost use Rattle.protocol.specs.Changes.{OnlyTheyChange};
+ghost use Rattle.protocol.specs.Changes.{EventsLeaveTheRest};
 ghost use Rattle.protocol.specs.Counting.{CountersCountUp};
 ghost use Rattle.protocol.specs.Releases.{WaitsReleaseConsistentMutexes};
 ghost use Rattle.protocol.specs.Reinits.{ReinitsFreeTheMutex, UnusableStays, NobodyJoinsAnUnusableMutex};
@@ -181,30 +181,30 @@ pub fn nobody_joins_an_unusable_mutex()
     ensures { NobodyJoinsAnUnusableMutex }
 {}
 
-/// Whatever happens, by which its thread isn't killed: a trylock returns within 12 steps of its thread, an unlock within
-/// 10, a declaration that a mutex is consistent within 2, a signal within 4 and a broadcast within 5, whatever others do
-/// in between; and none of them ever sleeps.
+/// Whatever happens, by which its thread isn't killed: a trylock returns within 12 steps of its thread, an unlock
+/// within 10, a declaration that a mutex is consistent within 2, a signal within 4 and a broadcast within 5, whatever
+/// others do in between; and none of them ever sleeps.
 pub fn only_locks_and_waits_wait()
     ensures { OnlyLocksAndWaitsWait }
 {}
 
-/// Whatever happened before: a begin changes no word and no queue, and a kill no word, and of the queues only that its
-/// thread stands in none. A step changes one word at most: in a call a word of its thread's head, a link of a mutex that
-/// its thread owns, the cell of the call's mutex, or the counter where the call is a signal or a broadcast; once its
-/// thread is dead the cell of a mutex that this owns. None of them changes another thread, and a begin and a kill leave
-/// their thread with as many mutexes. (Who stands in which queue behind a step is told: [`sleeps_are_told`].)
-pub fn only_they_change()
-    ensures { OnlyTheyChange }
+/// Whatever happened before: a begin changes no word and no queue; a kill changes no word, and takes nobody but its
+/// thread out of the queues; both leave that thread with as many mutexes. A step changes one word at most: in a call a
+/// word of its thread's head, a link of a mutex that its thread owns, the cell of the call's mutex, or the counter
+/// where the call is a signal or a broadcast; once its thread is dead the cell of a mutex that this owns. None of them
+/// changes another thread. (Who stands in which queue behind a step is told: [`sleeps_are_told`].)
+pub fn events_leave_the_rest()
+    ensures { EventsLeaveTheRest }
 {}
 
-/// Whatever happens, with counters that are at most 2^32 - 1 at the beginning: each counter is what it was then, and one
-/// more for each signal and each broadcast on its condition variable that had its point with OK, by what was told.
+/// Whatever happens, with counters that are at most 2^32 - 1 at the beginning: each counter is what it was then, and
+/// one more for each signal and each broadcast on its condition variable that had its point with OK, by what was told.
 pub fn counters_count_up()
     ensures { CountersCountUp }
 {}
 
-/// Whatever happens: where a wait unlocks a mutex with OK, by what was told, its thread owned that mutex directly before,
-/// and the mutex was consistent. So no wait makes its mutex unusable.
+/// Whatever happens: where a wait unlocks a mutex with OK, by what was told, its thread owned that mutex directly
+/// before, and the mutex was consistent. So no wait makes its mutex unusable.
 pub fn waits_release_consistent_mutexes()
     ensures { WaitsReleaseConsistentMutexes }
 {}
