@@ -147,8 +147,7 @@ int pz_lost(pz *p, unsigned m, unsigned operation, uint64_t seen, uint64_t found
     struct self *self = &pz_self[p->number];
     struct pz_call call = call_of(self->id, cell_place(m));
     call.program = (uint8_t)operation;
-    call.phase.lock =
-        (struct pz_phase){.kind = operation == PZ_OP_LOCK ? AT_LOCK_TAKE : AT_TRYLOCK_TAKE, .x = seen};
+    call.phase.lock = (struct pz_phase){.kind = operation == PZ_OP_LOCK ? AT_LOCK_TAKE : AT_TRYLOCK_TAKE, .x = seen};
     return counted(p, m, operation, run_on(p, self->id, &call, PZ_CHANGED, found));
 }
 
@@ -227,7 +226,8 @@ static int has_sleepers(pz *p, uint64_t cell)
 }
 
 /* An unusable mutex, seen so, is made free by one exchange of its word: nobody owns it, no living thread's list has it,
- * and who looks at it then finds it one or the other. A trace tells it of the calling thread, which takes part for that. */
+ * and who looks at it then finds it one or the other. A trace tells it of the calling thread, which takes part for
+ * that. */
 static int is_freed(pz *p, unsigned m, uint64_t seen)
 {
     int why = 0;

@@ -11,8 +11,8 @@
 #ifndef PZ_TRACE
 #define PZ_TRACE 0
 #endif
-/* For how many microseconds a thread pauses before it sleeps on a mutex's word, at most; some more, so that a look comes
- * last. */
+/* For how many microseconds a thread pauses before it sleeps on a mutex's word, at most; some more, so that a look
+ * comes last. */
 #ifndef PZ_SPIN
 #define PZ_SPIN 600
 #endif

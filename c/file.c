@@ -328,9 +328,9 @@ static pz *new_one(int of_memory)
 
 static void free_one(pz *p, int of_memory)
 {
+    if (p->mapped)
+        munmap(p->header, p->mapped);
     if (!of_memory) {
-        if (p->mapped)
-            munmap(p->header, p->mapped);
         free(p);
         return;
     }

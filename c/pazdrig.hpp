@@ -95,8 +95,8 @@ inline void nothing_to_repair() {}
 class mutex
 {
   public:
-    mutex(const file &f, unsigned number, std::function<void()> repair)
-        : opened(f.get()), number(number), repair(std::move(repair))
+    mutex(const file &f, unsigned m, std::function<void()> repairs)
+        : opened(f.get()), number(m), repair(std::move(repairs))
     {
     }
     mutex(const mutex &) = delete;
@@ -141,7 +141,7 @@ class mutex
 class condition
 {
   public:
-    condition(mutex &of, unsigned number) : of(of), number(number) {}
+    condition(mutex &m, unsigned c) : of(m), number(c) {}
     condition(const condition &) = delete;
     condition &operator=(const condition &) = delete;
 

@@ -1,7 +1,7 @@
-/* Calls in one go, where nobody is in the way, and refusals at the first look: the changes of a plan written out, in its
- * order (crates/pazdrig_c/specs/Plans.antt; tries/plans compares them with the functions pz_plan_*). The thread's own
- * words are stored by it alone; what it loads of them may have been spoiled, so nothing is stored where it doesn't lie
- * in the file. */
+/* Calls in one go, where nobody is in the way, and refusals at the first look: the changes of a plan written out, in
+ * its order (Plans.antt and Shorts.antt in crates/pazdrig_c/specs; tries/plans compares them with pz_plan_*). The thread's
+ * own words are stored by it alone; what it loads of them may have been spoiled, so nothing is stored where it doesn't
+ * lie in the file. */
 #ifndef PZ_PLANS_H
 #define PZ_PLANS_H
 #include "driver.h"
@@ -95,8 +95,8 @@ static inline int pz_declare(pz *p, unsigned m)
     return 0;
 }
 
-/* A signal or a broadcast by the mutex's owner, over a counter that goes up once more. Whoever is about to sleep finds it
- * changed: so where nobody has a bit behind that, there is nobody to wake, and nobody to move. */
+/* A signal or a broadcast by the mutex's owner, over a counter that goes up once more. Whoever is about to sleep finds
+ * it changed: so where nobody has a bit behind that, there is nobody to wake, and nobody to move. */
 static inline int pz_count(pz *p, unsigned c, unsigned operation)
 {
     uint64_t t = pz_self[p->number].id;

@@ -211,8 +211,7 @@ static void see_to_owner(const struct sleeper *s)
 static int is_reaped(const struct sleeper *s)
 {
     unsigned owner = owner_of(s->expected);
-    return owner && owner <= THREADS && owner != s->thread && has_died(s->p, owner) &&
-           pz_reap_one(s->p, owner) == GONE;
+    return owner && owner <= THREADS && owner != s->thread && has_died(s->p, owner) && pz_reap_one(s->p, owner) == GONE;
 }
 
 uint32_t pz_sleep(pz *p, unsigned t, uint64_t at, uint32_t expected)
@@ -247,10 +246,7 @@ void pz_awake(pz *p, unsigned t, uint64_t cell)
 /* ---- A thread that waits for an id. */
 
 /* The kernel tells who waits for an id of this thread's death. */
-void pz_watch_me(pz *p)
-{
-    __atomic_fetch_or(pz_token_word(p, pz_self[p->number].id), FUTEX_WAITERS, __ATOMIC_SEQ_CST);
-}
+void pz_watch_me(pz *p) { __atomic_fetch_or(pz_token_word(p, pz_self[p->number].id), FUTEX_WAITERS, __ATOMIC_SEQ_CST); }
 
 /* Until `given` differs, or a thread that has an id dies: else for PZ_POLL_S, as one that was woken may be killed. */
 void pz_sleep_for_id(pz *p, _Atomic uint32_t *given, uint32_t seen)
@@ -264,8 +260,12 @@ void pz_sleep_for_id(pz *p, _Atomic uint32_t *given, uint32_t seen)
     if (all.n < 1 + THREADS)
         return; /* one is free */
     struct timespec until = from_now(PZ_POLL_S * 1000l);
-    if (!atomic_load(&no_waitv) &&
-        (syscall(SYS_futex_waitv, all.v, all.n, 0, &until, CLOCK_MONOTONIC) >= 0 || is_known(errno)))
+    int is_told = !atomic_load(&no_waitv) &&
+                  (syscall(SYS_futex_waitv, all.v, all.n, 0, &until, CLOCK_MONOTONIC) >= 0 || is_known(errno));
+    for (unsigned i = 1; i < all.n; i++) /* a sleeper on its mutex may have been meant */
+        if (has_died(p, all.thread[i]))
+            pz_reap_one(p, all.thread[i]);
+    if (is_told)
         return;
     struct timespec most = {.tv_nsec = look_ms * 1000000};
     look_ms = look_ms < LAST_LOOK_MS ? 2 * look_ms : look_ms;

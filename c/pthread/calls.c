@@ -109,8 +109,8 @@ static int is_owned(const struct mutex *x)
     return w && w <= THREADS && pz_fate(x->p, w) == LIVES && owner(x) == w;
 }
 
-/* It waits for nothing. EAGAIN: the mutex is free, and no id is. (libpazdrig's is busy too where others changed the word
- * in between.) */
+/* It waits for nothing. EAGAIN: the mutex is free, and no id is. (libpazdrig's is busy too where others changed the
+ * word in between.) */
 static int try(struct mutex *x)
 {
     int r = sh_borrow_now(x->p);
@@ -236,8 +236,11 @@ static int init(pthread_mutex_t *m, const struct object *o, int type)
     int why;
     uint32_t number;
     struct companion *c = sh_attach_object(o, &why);
-    if (!c)
-        return why == EPERM || why == EPROTO || why == ENOMEM ? why : EAGAIN;
+    if (!c) {
+        why = why == EPERM || why == EACCES || why == EPROTO || why == ENOMEM ? why : EAGAIN;
+        sh_tell(o, why);
+        return why;
+    }
     sh_lock_table(c);
     if (!o->anonymous && (strcmp(c->table->path, o->path) || !c->table->namespace))
         sh_name(c->table, o);
@@ -246,11 +249,13 @@ static int init(pthread_mutex_t *m, const struct object *o, int type)
         write_bytes(m, c, number, type);
     sh_unlock_table(c);
     sh_leave(c);
+    if (r)
+        sh_tell(o, r);
     return r;
 }
 
-/* ---- The way of most calls: the bank is had, and the thread has an id. That keeps it from being let go; so it stays, if
- * none was let go here while it was looked at. (What is read of one that was let go is there, and wrong.) */
+/* ---- The way of most calls: the bank is had, and the thread has an id. That keeps it from being let go; so it stays,
+ * if none was let go here while it was looked at. (What is read of one that was let go is there, and wrong.) */
 
 static inline int at_hand(struct ours *o, struct mutex *x)
 {

@@ -153,6 +153,8 @@ struct companion *sh_attach(const void *mutex, uint64_t nonce, int *why)
     if (c)
         sh_enter(c);
     sh_real_unlock(&adding);
+    if (!c)
+        sh_tell(&o, *why);
     return c;
 }
 

@@ -45,6 +45,13 @@ int sh_owns_any(void)
     return 0;
 }
 
+/* How many were woken. Who is about to sleep finds it changed. */
+static long wake_one(_Atomic uint32_t *returned)
+{
+    atomic_fetch_add(returned, 1);
+    return syscall(SYS_futex, returned, FUTEX_WAKE, 1, NULL, NULL, 0);
+}
+
 /* Until one was given back, or who had one has died. Whoever has waited wakes the next one in turn. */
 static int wait_for_id(struct companion *c, unsigned bank, pz *p)
 {
@@ -56,7 +63,8 @@ static int wait_for_id(struct companion *c, unsigned bank, pz *p)
         pz_sleep_for_id(p, returned, seen);
     else if (!r) {
         sh_ask_for_id(c, bank); /* others may wait still, */
-        pz_watch_me(p);         /* and are to be told of this thread's death */
+        wake_one(returned);     /* there may be one for the next of them, */
+        pz_watch_me(p);         /* and they are to be told of this thread's death */
     }
     return r;
 }
@@ -78,10 +86,8 @@ void sh_give_back(struct companion *c, unsigned bank, pz *p)
     atomic_fetch_add(&p->users, 1);
     _Atomic uint32_t *wanted = &c->table->ids[bank].wanted, *returned = &c->table->ids[bank].returned;
     pz_give_back(p);
-    if (atomic_load(wanted) && atomic_exchange(wanted, 0)) {
-        atomic_fetch_add(returned, 1);
-        syscall(SYS_futex, returned, FUTEX_WAKE, 1, NULL, NULL, 0);
-    }
+    if (atomic_load(wanted) && atomic_exchange(wanted, 0) && wake_one(returned) > 0)
+        atomic_store(wanted, 1); /* others may wait behind that one */
     pz_let_go(p);
     errno = saved;
 }

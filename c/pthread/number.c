@@ -47,14 +47,14 @@ static int grow(struct companion *c)
     return 0;
 }
 
-/* A dead owner's is taken and declared, so an id may be needed. */
+/* A dead owner's is taken and declared, so an id may be needed. It isn't waited for: the table's lock is held, and those
+ * who have the ids may want that. */
 static int reinit(struct companion *c, unsigned bank, unsigned m)
 {
     pz *p = bank_in(c, bank);
-    int r = p ? sh_borrow(c, bank, p) : EAGAIN;
-    if (r)
-        return r;
-    r = pz_mutex_reinit(p, m);
+    if (!p)
+        return EAGAIN;
+    int r = pz_mutex_reinit(p, m);
     sh_give(c, bank, p);
     return r;
 }

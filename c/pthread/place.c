@@ -88,7 +88,7 @@ static int make_folder(const struct object *o, const char *path)
     if (may && mkdir(path, 0711) == 0 && geteuid() != o->uid && chown(path, o->uid, o->gid) < 0)
         return errno;
     if (lstat(path, &st) < 0)
-        return errno;
+        return errno == ENOENT && !may ? EACCES : errno;
     return S_ISDIR(st.st_mode) && (st.st_uid == o->uid || st.st_uid == 0) ? 0 : EPERM;
 }
 

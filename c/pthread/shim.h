@@ -69,7 +69,7 @@ struct companion {
     _Atomic uint32_t used;  /* some companion has stood here: who looks for one looks behind it too */
     _Atomic uint32_t calls; /* that have found it, and aren't through: it isn't let go */
     _Atomic uint32_t turns; /* how often one was let go here */
-    dev_t dev; /* of the companion's file */
+    dev_t dev;              /* of the companion's file */
     ino_t ino;
     struct table *table; /* and the banks behind it */
     void *presence;      /* a page mapped by the description that has the shared lock, which stays as long as it */
@@ -87,6 +87,9 @@ struct object {
 };
 int sh_object_at(const void *at, struct object *o);
 int sh_see_mapped(void (*see)(uint64_t dev, uint64_t ino));
+
+/* ---- tell.c */
+void sh_tell(const struct object *o, int why);
 
 /* ---- place.c */
 size_t sh_size(void);

@@ -1,6 +1,7 @@
 """Reads a relocatable object of x86-64: its sections, their relocations, and the names that it defines."""
 import collections
 import os
+import shlex
 import struct
 import subprocess
 import sys
@@ -60,7 +61,7 @@ def read(path):
     """The object in a file, or the only one of an archive, or what cc makes of an assembly text."""
     if path.endswith(".s"):
         with tempfile.TemporaryDirectory() as room:
-            if subprocess.run([os.environ.get("CC", "cc"), "-c", path, "-o", f"{room}/made.o"]).returncode:
+            if subprocess.run([*shlex.split(os.environ.get("CC", "cc")), "-c", path, "-o", f"{room}/made.o"]).returncode:
                 sys.exit(f"{path} isn't assembled")
             return Object(contents(f"{room}/made.o"))
     data = contents(path)

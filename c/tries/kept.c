@@ -5,7 +5,7 @@
 #include <setjmp.h>
 static void maybe_die(void);
 static int tried(pthread_mutex_t *token);
-#define PZ_AT_WALK() maybe_die()
+#define PZ_AT_WALK()          maybe_die()
 #define pthread_mutex_trylock tried
 #include "../reap.c"
 #undef pthread_mutex_trylock

@@ -7,7 +7,7 @@
 static int played_clock(clockid_t clock, struct timespec *now);
 static long played_call(long number, ...);
 #define clock_gettime played_clock
-#define syscall played_call
+#define syscall       played_call
 #include "../sleep.c"
 #undef clock_gettime
 #undef syscall

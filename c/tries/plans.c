@@ -142,7 +142,8 @@ static uint64_t cell_of_case(unsigned k, unsigned t)
 }
 enum { CELLS = 3 * 64, LINKS = 6 };
 
-/* What stands in a link: the thread's own head, another mutex's entry, strays at both ends of the file and beyond it. */
+/* What stands in a link: the thread's own head, another mutex's entry, strays at both ends of the file and beyond it.
+ */
 static uint64_t link_of_case(unsigned k, unsigned t, unsigned m)
 {
     const uint64_t links[LINKS] = {head_place(t), cell_place((m + 1) % MUTEXES) + 1, LINE - 1, PLACES - 2, PLACES - 3,

@@ -48,6 +48,10 @@ fn installed() -> Option<PathBuf> {
 fn built() -> io::Result<PathBuf> {
     let tree = folder_in("CARGO_MANIFEST_DIR").join("../..");
     let copy = folder_in("OUT_DIR").join("pazdrig");
+    if !tree.join("c/Makefile").exists() {
+        let none = "no libpazdrig: PAZDRIG names no folder of it, pkg-config knows none, and there is no `c` to build";
+        return Err(io::Error::new(io::ErrorKind::NotFound, none));
+    }
     for part in SOURCES {
         copy_sources(&tree.join(part), &copy.join(part))?;
     }

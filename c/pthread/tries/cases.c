@@ -220,6 +220,59 @@ static void a_companion_is_removed(void)
     unlink(path);
 }
 
+/* What a process writes on standard error meanwhile: how many lines have these words. */
+static int lines_of(const char *path, const char *words)
+{
+    char line[1024];
+    int n = 0;
+    FILE *f = fopen(path, "r");
+    CHECK(f);
+    while (fgets(line, sizeof line, f))
+        n += strstr(line, words) != NULL;
+    fclose(f);
+    return n;
+}
+
+/* The reason is told, once. */
+static const char *refused_path;
+static int how_told;
+static void is_refused_twice(void)
+{
+    int fd = open(file("told"), O_WRONLY | O_CREAT | O_TRUNC | how_told, 0600);
+    CHECK(fd >= 0 && dup2(fd, 2) == 2);
+    pthread_mutex_t *m = map(refused_path, 2);
+    SAME(pthread_mutex_lock(m), EINVAL);
+    SAME(pthread_mutex_lock(m), EINVAL);
+}
+
+static void is_refused_into_a_broken_pipe(void)
+{
+    int fd[2];
+    CHECK(pipe(fd) == 0 && dup2(fd[1], 2) == 2 && close(fd[0]) == 0 && close(fd[1]) == 0);
+    SAME(pthread_mutex_lock(map(refused_path, 1)), EINVAL);
+}
+
+static void a_reason_is_told(void)
+{
+    const char *path = refused_path = file("refused");
+    SAME(comes(path, 0, "init", 1), 0);
+    remove_companions();
+    unsetenv("PAZDRIG_QUIET");
+    how_told = O_APPEND;
+    in_child(is_refused_twice);
+    SAME(lines_of(file("told"), "has no companion here"), 1);
+    how_told = 0;
+    in_child(is_refused_twice);
+    SAME(lines_of(file("told"), "libpazdrig"), 0); /* a file of the program's */
+    in_child(is_refused_into_a_broken_pipe);
+    how_told = O_APPEND;
+    setenv("PAZDRIG_QUIET", "1", 1);
+    in_child(is_refused_twice);
+    SAME(lines_of(file("told"), "libpazdrig"), 0);
+    unlink(file("told"));
+    unlink(path);
+}
+
 /* The system was started anew, as its companion says: nobody lives by it. */
 static void an_earlier_boot(void)
 {
@@ -425,8 +478,8 @@ static long sleeps_of(const pid_t *it, int n)
 
 enum { WAITERS = 50 };
 
-/* Who waits for an id sleeps until one is given back: looks in between would be 20 a waiter and more. One that has an id
- * and dies is noticed too. */
+/* Who waits for an id sleeps until one is given back: looks in between would be 20 a waiter and more. One that has an
+ * id and dies is noticed too. */
 static void waits_for_ids(pid_t it[WAITERS])
 {
     for (int i = 0; i < WAITERS; i++)
@@ -450,8 +503,8 @@ static void all_end_well(const pid_t *it, int n)
     }
 }
 
-/* All ids are had by threads that own: who comes is told what is busy, and waits for what is free, but for a trylock. Of
- * the mutexes that it may lock each is in the second bank, where there are as many ids. */
+/* All ids are had by threads that own: who comes is told what is busy, and waits for what is free, but for a trylock.
+ * Of the mutexes that it may lock each is in the second bank, where there are as many ids. */
 static void all_ids_are_had(void)
 {
     pthread_t t[IDS];
@@ -470,6 +523,34 @@ static void all_ids_are_had(void)
     for (int i = 0; i < IDS; i++)
         CHECK(!pthread_join(t[i], NULL));
     unlink(file("crowd"));
+}
+
+/* All ids are had by one that owns a mutex and by those who sleep on it: others are made meanwhile, by anybody. */
+static void init_beside_a_crowd(void)
+{
+    pid_t it[IDS];
+    _Atomic int *may_end = shared(sizeof *may_end);
+    crowd = map(file("beside"), 100);
+    in_child(make_crowd);
+    for (int i = 0; i < IDS; i++) {
+        if (!(it[i] = fork())) {
+            SAME(pthread_mutex_lock(&crowd[30]), 0);
+            while (!atomic_load(may_end))
+                rest(1000);
+            SAME(pthread_mutex_unlock(&crowd[30]), 0);
+            _exit(0);
+        }
+        if (i)
+            until_asleep(it[i]);
+        else
+            while (comes(file("beside"), 30, "trylock", 1) != EBUSY)
+                rest(1000);
+    }
+    SAME(comes(file("beside"), 31, "init", 1), 0);
+    SAME(comes(file("beside"), 31, "destroy", 1), 0);
+    atomic_store(may_end, 1);
+    all_end_well(it, IDS);
+    unlink(file("beside"));
 }
 
 /* All ids are had by processes that own, and all of these die. */
@@ -496,8 +577,8 @@ static void all_owners_die(void)
     unlink(file("dying"));
 }
 
-/* Two mutexes of two objects each, taken in one order by half of them and in the other by the rest, no two the same. All
- * ids of each object are had by those who want one of the other's: who is told EAGAIN gives way. */
+/* Two mutexes of two objects each, taken in one order by half of them and in the other by the rest, no two the same.
+ * All ids of each object are had by those who want one of the other's: who is told EAGAIN gives way. */
 static void nests(pthread_mutex_t *outer, pthread_mutex_t *inner, _Atomic int outside[2], int side)
 {
     int r;
@@ -631,9 +712,15 @@ static void many_objects_at_once(void)
     }
 }
 
-/* Threads come to object after object, each of which they unmap again, and keep ids there. */
+/* Threads come to object after object, each of which they unmap again, and keep ids there; each holds a mutex
+ * meanwhile. */
 static void *changes_objects(void *which)
 {
+    char own[512];
+    snprintf(own, sizeof own, "%s/held%d", folder, *(int *)which);
+    pthread_mutex_t *held = map(own, 1);
+    SAME(init(held), 0);
+    SAME(pthread_mutex_lock(held), 0);
     for (int i = 0; i < 500; i++) {
         char path[512];
         snprintf(path, sizeof path, "%s/changing%d", folder, (i + *(int *)which) % 100);
@@ -642,6 +729,8 @@ static void *changes_objects(void *which)
         SAME(pthread_mutex_unlock(m), 0);
         munmap(m, sizeof *m);
     }
+    SAME(pthread_mutex_unlock(held), 0);
+    unlink(own);
     return NULL;
 }
 
@@ -813,6 +902,7 @@ int main(int argc, char **argv)
     in_child(newcomers);
     in_child(without_it);
     in_child(a_companion_is_removed);
+    in_child(a_reason_is_told);
     in_child(an_earlier_boot);
     in_child(another_format);
     in_child(closes_all);
@@ -822,6 +912,7 @@ int main(int argc, char **argv)
     many_threads();
     many_processes();
     all_ids_are_had();
+    in_child(init_beside_a_crowd);
     in_child(all_owners_die);
     in_child(nested_crowds);
     in_child(first_openers_are_killed);

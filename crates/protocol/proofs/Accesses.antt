@@ -1,5 +1,5 @@
 -- One access of a call, in whatever phase it is.
-use Rattle.std.proofs.Common.{◌≡◌, ℕ, ◌+◌, ◌≤◌, sym, ap, ◌∙◌, subst, arith}
+use Rattle.std.proofs.Common.{◌≡◌, inr, ℕ, ◌+◌, ◌≤◌, sym, ap, ◌∙◌, subst, arith}
 use Rattle.protocol.proofs.Vocabulary.{sleeps_at, head_place, counter_place, Phase, AtCell, Linking, Clearing, Whole, Op, mutex_of, Stage, Calling, State}
 use Rattle.mutex.specs.declared.phase.Phase.TheVariants.{Announcing, Unlinking, Ended}
 use Rattle.mutex.specs.Programs.{row_access}
@@ -17,6 +17,7 @@ by_phase s t c p (Announcing r) inv pos known is fits serves listed = announcing
 by_phase s t c p (AtCell r) inv pos known is fits serves listed = record {
   valid = cell.valid s t c p r inv pos known fits serves;
   no_move = row_no_move p.thread p.cell r;
+  meets = inr (cell.at_place s t c p r inv pos known fits serves);
   kept = cell.kept s t c p r inv pos known fits serves is listed;
   moves = cell.moves s t c p r inv pos known fits serves;
   same_sleep = ap (λ (x : ℕ). sleeps_at (row_access p.thread p.cell r) (s.words x)) (cell.at_place s t c p r inv pos known fits serves);

@@ -7,7 +7,8 @@ use Rattle.memorymap.specs.Chains.{IsAmong}
 use Rattle.mutex.specs.declared.row.Row.TheVariants.{Lock}
 use Rattle.protocol.specs.Machine.{places_of}
 use Rattle.protocol.proofs.Puts.{by_put, put-same}
-use Rattle.protocol.proofs.Phases.{answers_at, left_at, Moves}
+use Rattle.protocol.proofs.Phases.{answers_at, left_at, Moves, IsPlain}
+use Rattle.protocol.proofs.Places.{IsMine}
 use Rattle.protocol.proofs.Seeing.{cell_in}
 use Rattle.protocol.proofs.Kept.{InPhase, Fits, Kept}
 use Rattle.protocol.proofs.Steps.{Transition, IsNoMove, joined_none, met_queue, met_no_move, seen-inside, Tells, onto, after, place_of, met, call_step}
@@ -19,6 +20,8 @@ use Rattle.protocol.proofs.Cases.{by_same, at_or_else}
 pub record CallStep (s : State) (t : ℕ) (c : Op) (p : Whole) : Type 0 where
   pub valid : is_valid s.layout (place_met s.layout t (whole_access p)) ≡ true
   pub no_move : IsNoMove (whole_access p)
+  -- it loads or stores a word of its thread's own, or is at its mutex's cell
+  pub meets : (IsPlain (whole_access p) × IsMine s t (place_met s.layout t (whole_access p))) ⊎ (place_met s.layout t (whole_access p) ≡ cell_place s.layout (mutex_of s.layout c))
   pub kept : Kept (after s t (call_step s t c p))
   pub moves : Moves t p (onto s t p) (s.words (cell_place s.layout (mutex_of s.layout c))) (s.queues (cell_place s.layout (mutex_of s.layout c))) ((after s t (call_step s t c p)).words (cell_place s.layout (mutex_of s.layout c)))
   -- it sleeps and wakes at its mutex's cell only

@@ -309,7 +309,7 @@ counted_on s e inv counted = counted_then s (caller e) (happens s e).state inv c
 
 -- ---- runs
 
-first_word-counter : (l : Layout') (counters : ℕ → ℕ) (k : ℕ) → k < length l.conditions → first_word l counters (counter_place l k) ≡ counters k
+pub first_word-counter : (l : Layout') (counters : ℕ → ℕ) (k : ℕ) → k < length l.conditions → first_word l counters (counter_place l k) ≡ counters k
 first_word-counter l counters k inside = grind (arith)
 
 pub start_counted : (l : Layout') (counters : ℕ → ℕ) → ArePresets counters → Counted (start l counters)

@@ -51,17 +51,22 @@ pub mod CondAlone
 pub mod Undivided
 pub mod Applying
 pub mod InTurn
-pub mod Waking
 pub mod Counters
 pub mod Passing
 pub mod Splits
 pub mod PassedBy
 pub mod Emptied
 pub mod Learnt
+mod Callers
+pub mod Waking
 pub mod Woken
 pub mod Signalling
 mod WaitersBit
 mod Lone
 mod Anew
 mod Unusable
+pub mod Changing
+mod Bounded
+mod Counting
+mod Releases
 mod WalksOn

@@ -66,6 +66,7 @@ module _ (s : State) (t : ℕ) (c : Op) (p : Whole) (inv : Kept s) (pos : 1 ≤ 
   goes_own lands = record {
     valid = mine_is_valid s t (place_of s t v) pos known mine;
     no_move = plain_no_move (whole_access p) plain;
+    meets = inl (plain, mine);
     kept = own_kept s t v inv pos known fits.inside plain mine no_point
         (sits_after s t (s.threads t).held c p fits serves (whole_access p) (thread_after s t v) (s.threads t).held o.phase
         (subst (Arrives t (s.threads t).held p o.phase) (sym (own_seen s t v inv pos known fits.inside plain mine no_point (mutex_of s.layout c))) lands.arrives))

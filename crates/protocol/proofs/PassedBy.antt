@@ -406,7 +406,7 @@ module _ (s : State) (e : Event) (inv : Kept s) (counted : Counted s) (t : ℕ) 
       (λ me. subst (λ (v : ℕ). BeginsNone v told_facts → IsBehind s.layout s.words k (s.threads v).stage → IsBehind s.layout s'.words k (s'.threads v).stage) me (made.behind k) none h)
       (λ apart. behind_later s.layout s.words s'.words k (s.threads t).stage (never_falls s (caller e) s' inv counted went_by k) h))
 
-  told_on : (b : Option Begun) → IsTold s.layout (s.threads t).stage b → IsTold s'.layout (s'.threads t).stage (last_begun t b told_facts)
+  pub told_on : (b : Option Begun) → IsTold s.layout (s.threads t).stage b → IsTold s'.layout (s'.threads t).stage (last_begun t b told_facts)
   told_on b h =
       subst (λ (l : Layout'). IsTold l (s'.threads t).stage (last_begun t b told_facts)) (sym went_by.layout)
       (either (λ (g : Stage). IsTold s.layout g (last_begun t b told_facts))

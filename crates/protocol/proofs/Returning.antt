@@ -37,7 +37,7 @@ told_return t m x d k ws ms y rest e =
     subst (λ (z : Option Reply). IsAmong (Return t x) (facts_of (Stepped t m d k ws ms z) ++ rest)) (sym e)
     (of_access (λ (fs : List Fact). IsAmong (Return t x) (fs ++ rest)) t m d k ws ms (Some x) (λ p fs later. inr later) (λ f of fs later. inr later) (inl refl))
 
-among_later : (f : Fact) (gs fs : List Fact) → IsAmong f fs → IsAmong f (gs ++ fs)
+pub among_later : (f : Fact) (gs fs : List Fact) → IsAmong f fs → IsAmong f (gs ++ fs)
 among_later f [] fs h = h
 among_later f (g ∷ gs) fs h = inr (among_later f gs fs h)
 

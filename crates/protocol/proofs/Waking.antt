@@ -7,7 +7,11 @@ use Rattle.protocol.proofs.Vocabulary.{place_in, place_met}
 use Rattle.buckets.specs.Queues.{without}
 use Rattle.facts.specs.declared.fact.Fact.TheVariants.{Sleep, Wake, Move, Kill}
 use Rattle.protocol.specs.Sleepers.{StandsIn, IsAmong}
-use Rattle.protocol.specs.Wakings.{asleep_next, asleep_after, told_asleep, Alternates, IsQueue, nobody, FallsAsleep, LeavesQueue, IsMoved, TellsTurns, TellsSleepers, SleepsAreTold}
+use Rattle.protocol.specs.Wakings.{asleep_next, asleep_after, told_asleep, Alternates, IsQueue, nobody, FallsAsleep, LeavesQueue, IsMoved, TellsTurns, TellsSleepers, SleepsAreTold, MaySleepIn}
+use Rattle.protocol.specs.PassedBy.{call_told}
+use Rattle.protocol.specs.Wakes.{left_by}
+use Rattle.protocol.proofs.Learnt.{run_learnt}
+use Rattle.protocol.proofs.Callers.{told_of_callers}
 use Rattle.protocol.proofs.Kept.{Kept}
 use Rattle.protocol.proofs.Places.{counter_is_no_cell}
 use Rattle.protocol.proofs.Steps.{Transition, IsNoMove, after, place_of, met, met_queue}
@@ -360,14 +364,16 @@ run_alternates s (e ∷ es) inv queued t w stood =
     (run_alternates (happens s e).state es (sound s e inv).kept (queued_on s e inv queued) t (asleep_after t w (facts_of (happens s e).note)) (stood_on s e inv queued t w stood))
 
 tells_sleepers : (s : State) (ns : List Note) → Kept s → Queued s → ((t : ℕ) → Stood s.layout s.queues t (told_asleep t ns)) → ((t : ℕ) → Alternates t None (facts_among ns)) → TellsAll s.layout s.queues nobody ns
+    → ((e : Event) (t : ℕ) (q : Queue) → IsAmong (Sleep t q) (facts_of (happens s e).note) → MaySleepIn q (call_told t ns))
     → TellsSleepers s.layout s ns
-tells_sleepers s ns inv queued stood alternate turns = record {
+tells_sleepers s ns inv queued stood alternate turns callers = record {
   stands = λ t key on. found t key on (told_asleep t ns) refl (stood t);
   sleeps = λ t q e. subst (Stood s.layout s.queues t) e (stood t);
   alternate = alternate;
   queues = turns.0;
   fronts = turns.1;
   next = λ e t. tells_turns s e inv queued t;
+  callers = callers;
 }
   where
     found : (t key : ℕ) → stands_in t (s.queues key) ≡ true → (w : Option Queue) → told_asleep t ns ≡ w → Stood s.layout s.queues t w → (q : Queue) × (told_asleep t ns ≡ Some q) × (key ≡ queue_place s.layout q)
@@ -382,4 +388,5 @@ told_sleeps l counters events is =
     (tells_sleepers (run (start l counters) events) (notes (start l counters) events) (run_kept (start l counters) events inv) (run_queued l counters events is)
     (λ t. run_stood (start l counters) events inv queued t None (λ key. refl))
     (λ t. run_alternates (start l counters) events inv queued t None (λ key. refl))
-    (subst (λ (k : Layout'). TellsAll k (run (start l counters) events).queues nobody (notes (start l counters) events)) (sym (run_layout (start l counters) events inv)) (told_in_turn l counters events inv)))
+    (subst (λ (k : Layout'). TellsAll k (run (start l counters) events).queues nobody (notes (start l counters) events)) (sym (run_layout (start l counters) events inv)) (told_in_turn l counters events inv))
+    (told_of_callers (run (start l counters) events) (run_kept (start l counters) events inv) (λ t. call_told t (notes (start l counters) events)) (λ t. left_by t (start l counters) None events) (λ t. run_learnt (start l counters) events inv t None None tt)))

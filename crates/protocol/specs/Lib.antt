@@ -17,3 +17,7 @@ pub mod WalksOn
 pub mod Leaves
 pub mod Renewals
 pub mod Reinits
+pub mod Bounded
+pub mod Changes
+pub mod Counting
+pub mod Releases

@@ -1,12 +1,14 @@
 -- What a trace tells of who falls asleep and who is woken (futex(2)).
-use Rattle.std.specs.Prelude.{ℕ, length, slice_index, ◌≡◌, ◌≢◌, ◌<◌, ◌==◌, ◌↔◌, Bool, true}
+use Rattle.std.specs.Prelude.{ℕ, length, slice_index, ◌≡◌, ◌≢◌, ◌<◌, ◌==◌, ◌↔◌, ◌⊎◌, Bool, true}
 use Rattle.std.specs.Prelude.{false, Option, Some, None, List, [], ◌∷◌, ◌++◌, if◌then◌else◌}
 use Rattle.buckets.specs.Queues.{without}
 use Rattle.memorymap.specs.Layouts.{Layout', IsLayout}
+use Rattle.posixmutex.specs.declared.point.Operation.TheVariants.{Lock, Wait}
 use Rattle.protocol.specs.declared.event.Event.{Event}
 use Rattle.protocol.specs.declared.event.Event.TheVariants as event
 use Rattle.protocol.specs.declared.note.Note.{Note}
 use Rattle.protocol.specs.declared.note.Note.TheVariants.{Left}
+use Rattle.facts.specs.declared.fact.Begun.{Begun}
 use Rattle.facts.specs.declared.fact.Queue.{Queue}
 use Rattle.facts.specs.declared.fact.Queue.TheVariants.{Mutex, Condition}
 use Rattle.facts.specs.declared.fact.Fact.{Fact}
@@ -17,6 +19,7 @@ use Rattle.protocol.specs.Headline.{facts_among}
 use Rattle.protocol.specs.Ops.{queue_place}
 use Rattle.protocol.specs.Sleepers.{StandsIn, IsAmong}
 use Rattle.protocol.specs.Applies.{IsInNoQueue}
+use Rattle.protocol.specs.PassedBy.{call_told}
 
 -- ---- what lines tell of a thread
 
@@ -135,11 +138,21 @@ pub record TellsTurns (s : State) (e : Event) (t : ℕ) : Type 0 where
   pub wake : IsAmong (Wake t) (facts_of (happens s e).note) ↔ (LeavesQueue s (happens s e).state t × (e ≢ event.Kill t))
   pub move : (m : ℕ) → IsAmong (Move t m) (facts_of (happens s e).note) ↔ IsMoved s (happens s e).state t m
 
+-- ---- whose sleep is told
+
+-- a call, as its begin was told, may come to sleep there: a lock in the queue of its mutex, and a wait in that of its
+-- condition variable or of its mutex
+abbrev pub MaySleepIn : Queue → Option Begun → Type 0
+MaySleepIn q None = ⊥
+MaySleepIn (Mutex m) (Some b) = (b.mutex ≡ m) × ((b.operation ≡ Lock) ⊎ (b.operation ≡ Wait))
+MaySleepIn (Condition k) (Some b) = (b.condition ≡ Some k) × (b.operation ≡ Wait)
+
 -- ---- runs
 
 -- of a state that events lead to that were noted so: a thread stands in a queue exactly where the last of its lines
 -- among sleep, move, wake and kill is a sleep or a move, in the one that this names, and in no other; in each queue
--- they stand as they came, by what was told; and who is woken or moved is the front
+-- they stand as they came, by what was told; who is woken or moved is the front; and a sleep is told only of a thread
+-- in a lock or a wait, in a queue of that call's
 pub record TellsSleepers (l : Layout') (s : State) (ns : List Note) : Type 0 where
   pub stands : (t key : ℕ) → stands_in t (s.queues key) ≡ true
       → (q : Queue) × (told_asleep t ns ≡ Some q) × (key ≡ queue_place l q)
@@ -148,6 +161,8 @@ pub record TellsSleepers (l : Layout') (s : State) (ns : List Note) : Type 0 whe
   pub queues : (q : Queue) → IsQueue l q → s.queues (queue_place l q) ≡ queues_told ns q
   pub fronts : AllNoteFronts l nobody ns
   pub next : (e : Event) (t : ℕ) → TellsTurns s e t
+  pub callers : (e : Event) (t : ℕ) (q : Queue) → IsAmong (Sleep t q) (facts_of (happens s e).note)
+      → MaySleepIn q (call_told t ns)
 
 -- whatever happens, with any values of the counters at the beginning; so after each event
 abbrev pub SleepsAreTold : Type 0

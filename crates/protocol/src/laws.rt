@@ -13,6 +13,10 @@ ghost use Rattle.protocol.specs.WaitersBit.{WaitersAreKept};
 ghost use Rattle.protocol.specs.WalksOn.{WalksGoOn};
 ghost use Rattle.protocol.specs.Leaves.{LeavesAreLone, FrontsAreWoken};
 ghost use Rattle.protocol.specs.Renewals.{RenewalsBeginAnew, LivesAreOne};
+ghost use Rattle.protocol.specs.Bounded.{OnlyLocksAndWaitsWait};
+ghost use Rattle.protocol.specs.Changes.{EventsLeaveTheRest};
+ghost use Rattle.protocol.specs.Counting.{CountersCountUp};
+ghost use Rattle.protocol.specs.Releases.{WaitsReleaseConsistentMutexes};
 ghost use Rattle.protocol.specs.Reinits.{ReinitsFreeTheMutex, UnusableStays, NobodyJoinsAnUnusableMutex};
 
 /// Whatever happens, the points are one legal history of POSIX robust mutexes, which says at each moment what every
@@ -86,7 +90,8 @@ pub fn events_apply()
 /// sleep is told exactly where it comes to stand in a queue, a wake exactly where it leaves one and stands in none, but
 /// by its kill, and a move exactly where it leaves that of a condition variable for its mutex's. In each queue they
 /// stand in the order in which they came, as it was told, and whoever another's event wakes, or moves, is the front of
-/// a queue (of which one, says [`wakes_are_right`]); who leaves by itself stands anywhere in one.
+/// a queue (of which one, says [`wakes_are_right`]); who leaves by itself stands anywhere in one. And a sleep is told
+/// only of a thread whose call is a lock of that mutex, or a wait on it or on that condition variable.
 pub fn sleeps_are_told()
     ensures { SleepsAreTold }
 {}
@@ -174,4 +179,32 @@ pub fn without_reinits_as_before()
 /// there finds nobody asleep there later either, until the mutex is made anew.
 pub fn nobody_joins_an_unusable_mutex()
     ensures { NobodyJoinsAnUnusableMutex }
+{}
+
+/// Whatever happens, by which its thread isn't killed: a trylock returns within 12 steps of its thread, an unlock
+/// within 10, a declaration that a mutex is consistent within 2, a signal within 4 and a broadcast within 5, whatever
+/// others do in between; and none of them ever sleeps.
+pub fn only_locks_and_waits_wait()
+    ensures { OnlyLocksAndWaitsWait }
+{}
+
+/// Whatever happened before: a begin changes no word and no queue; a kill changes no word, and takes nobody but its
+/// thread out of the queues; both leave that thread with as many mutexes. A step changes one word at most: in a call a
+/// word of its thread's head, a link of a mutex that its thread owns, the cell of the call's mutex, or the counter
+/// where the call is a signal or a broadcast; once its thread is dead the cell of a mutex that this owns. None of them
+/// changes another thread. (Who stands in which queue behind a step is told: [`sleeps_are_told`].)
+pub fn events_leave_the_rest()
+    ensures { EventsLeaveTheRest }
+{}
+
+/// Whatever happens, with counters that are at most 2^32 - 1 at the beginning: each counter is what it was then, and
+/// one more for each signal and each broadcast on its condition variable that had its point with OK, by what was told.
+pub fn counters_count_up()
+    ensures { CountersCountUp }
+{}
+
+/// Whatever happens: where a wait unlocks a mutex with OK, by what was told, its thread owned that mutex directly
+/// before, and the mutex was consistent. So no wait makes its mutex unusable.
+pub fn waits_release_consistent_mutexes()
+    ensures { WaitsReleaseConsistentMutexes }
 {}

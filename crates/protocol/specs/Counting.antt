@@ -1,0 +1,40 @@
+-- Counters of condition variables: how often it was signalled.
+use Rattle.std.specs.Prelude.{ℕ, length, ◌≡◌, ◌+◌, ◌<◌, ◌==◌, Option, Some, None, List, [], ◌∷◌, if◌then◌else◌}
+use Rattle.lockword.specs.declared.reply.Reply.{Reply}
+use Rattle.lockword.specs.declared.reply.Reply.TheVariants.{OK}
+use Rattle.posixmutex.specs.declared.point.Operation.{Operation}
+use Rattle.posixmutex.specs.declared.point.Operation.TheVariants.{Signal, Broadcast}
+use Rattle.memorymap.specs.Layouts.{Layout', IsLayout, counter_place}
+use Rattle.facts.specs.declared.fact.Begun.{Begun}
+use Rattle.facts.specs.declared.fact.Fact.{Fact}
+use Rattle.facts.specs.declared.fact.Fact.TheVariants.{Begin, Point}
+use Rattle.protocol.specs.declared.event.Event.{Event}
+use Rattle.protocol.specs.Machine.{start, run, notes}
+use Rattle.protocol.specs.Headline.{facts_among}
+use Rattle.protocol.specs.PassedBy.{ArePresets}
+
+-- 1 where a call is on condition variable k
+abbrev pub one_on : ℕ → Option ℕ → ℕ
+one_on k None = 0
+one_on k (Some j) = if j == k then 1 else 0
+
+-- 1 where a point of this operation and reply, of the call that its thread was told to have begun last, counts there: a
+-- signal or a broadcast that isn't refused
+abbrev pub one_of : ℕ → Option Begun → Operation → Reply → ℕ
+one_of k (Some b) Signal OK = one_on k b.condition
+one_of k (Some b) Broadcast OK = one_on k b.condition
+one_of k b op x = 0
+
+-- so many points among some facts count there, where each thread was told before them to have begun this call last
+abbrev pub signals_in : ℕ → (ℕ → Option Begun) → List Fact → ℕ
+signals_in k calls [] = 0
+signals_in k calls (Begin u b ∷ fs) = signals_in k (λ t. if u == t then Some b else calls t) fs
+signals_in k calls (Point d ∷ fs) = one_of k (calls d.thread) d.operation d.reply + signals_in k calls fs
+signals_in k calls (f ∷ fs) = signals_in k calls fs
+
+-- whatever happens, with counters that are at most as large as they may be at the beginning: the counter of condition
+-- variable k is what it was then, and one more for each signal and each broadcast on it with OK
+abbrev pub CountersCountUp : Type 0
+CountersCountUp = (l : Layout') (counters : ℕ → ℕ) (events : List Event) → IsLayout l → ArePresets counters → (k : ℕ)
+    → k < length l.conditions → (run (start l counters) events).words (counter_place l k)
+    ≡ counters k + signals_in k (λ t. None) (facts_among (notes (start l counters) events))
