@@ -199,14 +199,6 @@ static uint32_t sleep_once(struct sleeper *s)
     return owner && !atomic_load(&no_waitv) ? wait_watching(s, owner) : wait_looking(s, owner);
 }
 
-/* Before the word is loaded again: its owner may be dead, and nobody else there to see to it. */
-static void see_to_owner(const struct sleeper *s)
-{
-    unsigned owner = owner_of(SEE(&s->p->words[s->at]));
-    if (owner && owner <= THREADS && owner != s->thread && has_died(s->p, owner))
-        pz_reap_one(s->p, owner);
-}
-
 /* Its owner is dead already, so no pause pays: whether this thread has reaped it, or found it reaped. */
 static int is_reaped(const struct sleeper *s)
 {
@@ -227,8 +219,6 @@ uint32_t pz_sleep(pz *p, unsigned t, uint64_t at, uint32_t expected)
     do
         answer = sleep_once(&s);
     while (answer == ASLEEP);
-    if (!counter)
-        see_to_owner(&s);
     AND(sleepers(p, at), ~bit_of(t));
     return answer;
 }
