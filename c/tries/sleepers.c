@@ -29,6 +29,7 @@ int pz_reap(pz *p) { return (void)p, 0; }
 int pz_take_part(pz *p) { return (void)p, 0; }
 void pz_leave(pz *p) { (void)p; }
 pz *pz_opened(unsigned number) { return (void)number, &file; }
+void pz_leave_closed(void) {}
 
 /* ---- The kernel (futex(2)): each call is a step. */
 
