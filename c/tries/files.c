@@ -297,7 +297,7 @@ static void a_lease(void)
     CHECK(waitpid(child, NULL, 0) == child);
     atomic_store(&lease->forked, 1);
     CHECK(!pthread_join(t, NULL) && waitpid(holder, NULL, 0) == holder);
-    alarm(0);
+    alarm(120);
     pz_close(second);
     unlink(leased_file);
 }
@@ -324,9 +324,8 @@ static void forks_amid_an_open(const char *path, _Atomic int *has_forked, const 
     char none;
     pz *p;
     atomic_store(maker_stops, 1);
-    an_opener(path, &p);
-    while (atomic_load(maker_stops) != 2)
-        rest(100);
+    for (pthread_t thread = an_opener(path, &p); atomic_load(maker_stops) != 2; rest(100))
+        CHECK(pthread_tryjoin_np(thread, NULL) == EBUSY);
     if (fork())
         for (;;)
             pause();
@@ -346,8 +345,8 @@ static void a_child_of_an_opener(void)
     pid_t maker = a_child();
     if (!maker)
         forks_amid_an_open(path, has_forked, ends);
-    while (!atomic_load(has_forked))
-        rest(100);
+    for (; !atomic_load(has_forked); rest(100))
+        CHECK(waitpid(maker, NULL, WNOHANG) == 0);
     kill_and_wait(maker);
     atomic_store(maker_stops, 0);
     int fd = open(path, O_RDWR);
