@@ -1,8 +1,8 @@
 -- What an event of each kind changes.
-use Rattle.std.proofs.Common.{◌≡◌, ◌≢◌, ◌⊎◌, ⊎_elim, inl, inr, ℕ, ◌+◌, ◌%◌, ◌^◌, ◌<◌, ◌≤◌, ◌&&◌, Bool, true, false, Option, Some, None, Result, Ok, Err, List, [], length, refl, sym, ap, ◌∙◌, subst, arith}
-use Rattle.protocol.proofs.Vocabulary.{CondCall, CondRow, CondPhase, CondWhole, cond_access, cond_led, condition_of, Mutex, Condition, Begun, Object, Operation, Layout', IsLayout, head_place, entry_place, cell_place, counter_place, place_met, word_among}
+use Rattle.std.proofs.Common.{◌≡◌, ◌≢◌, ◌⊎◌, ⊎_elim, inl, inr, ℕ, ◌+◌, ◌%◌, ◌^◌, ◌≤◌, ◌&&◌, Bool, true, false, Option, Some, None, Result, Ok, Err, List, refl, sym, ap, ◌∙◌, subst, arith}
+use Rattle.protocol.proofs.Vocabulary.{CondCall, CondRow, CondPhase, CondWhole, cond_access, cond_led, condition_of, Mutex, Condition, Begun, Object, Operation, Layout', cell_place, place_met, word_among}
 use Rattle.protocol.proofs.Vocabulary.{Whole, whole_access, whole_led, Op, OnCondition, mutex_of, begun_of, Event, caller, Thread, Stage, Calling, AtCondition, Dying, State, After, XHELD, Reply, put, led, led_at, begun, first_stage, may_begin, killed, nothing, stepped, walked}
-use Rattle.protocol.proofs.Vocabulary.{happens, run, notes, start, is_alive, seen, stands_in, if◌then◌else◌, Told, AtRest, InCall, Dead, last_told, WaitRow, SignalRow, BroadcastRow, Signal, Broadcast, Access, queue_after, moved_by, joined, Part, WakeOne, place_in}
+use Rattle.protocol.proofs.Vocabulary.{happens, run, notes, start, is_alive, seen, stands_in, if◌then◌else◌, Told, AtRest, InCall, Dead, last_told, WaitRow, Signal, Broadcast, Access, queue_after, moved_by, joined, Part, WakeOne, place_in}
 use Rattle.exitwalk.specs.Standings as walks
 use Rattle.exitwalk.specs.declared.row.Row as walk_row
 use Rattle.exitwalk.specs.declared.row.Row.TheVariants as walk
@@ -12,11 +12,10 @@ use Rattle.condvar.specs.Calls.{operation_of}
 use Rattle.condvar.specs.Laws.{row_operation, is_at_counter}
 use Rattle.condvar.specs.Programs.{row_access}
 use Rattle.protocol.specs.declared.event.Event.TheVariants.{Begin, Step, Kill}
-use Rattle.protocol.specs.Machine.{has_thread}
 use Rattle.protocol.specs.Applies.{Agrees}
 use Rattle.protocol.specs.PassedBy.{call_told}
 use Rattle.protocol.specs.Wakes.{left_by}
-use Rattle.protocol.specs.Changes.{OnlyBegins, OnlyKills, IsItsOwn, MayChange, MayStir, OnlySteps, ChangesSo, EventsLeaveTheRest}
+use Rattle.protocol.specs.Changes.{OnlyBegins, OnlyKills, IsItsOwn, MayChange, MayStir, OnlySteps, EventsLeaveTheRest}
 use Rattle.protocol.proofs.Puts.{by_put, put-same, put-other}
 use Rattle.protocol.proofs.Cases.{by_same}
 use Rattle.protocol.proofs.Phases.{IsPlain, plain_no_move}
