@@ -21,8 +21,8 @@ int pz_open(const char *path, mode_t mode, unsigned mutexes, unsigned conds, con
             pz **out);
 /* The same of the file that fd is of. It is opened anew, with the caller's permissions; fd stays the caller's. */
 int pz_open_fd(int fd, unsigned mutexes, unsigned conds, const uint16_t *mutex_of, size_t data, pz **out);
-/* The calling thread leaves. Others that take part may go on; the file stays mapped until the last of them has left. Who
- * owns nothing of it leaves as it opens a file or takes part in another one. */
+/* The calling thread leaves. Others that take part may go on; the file stays mapped until the last of them has left.
+ * One that owns nothing of it leaves as it opens a file or takes part in another one. */
 void pz_close(pz *);
 void *pz_data(pz *);
 
