@@ -1,11 +1,11 @@
 -- Calls that never wait return within so many steps of their thread.
-use Rattle.std.proofs.Common.{◌≡◌, ◌≢◌, ◌⊎◌, ⊎_elim, inl, inr, ℕ, zero, suc, ◌+◌, ◌*◌, ◌-◌, ◌<◌, ◌≤◌, ◌==◌, ◌&&◌, Bool, true, false, Option, Some, None, Result, Ok, Err, List, [], ◌∷◌, ◌++◌, refl, sym, ap, ◌∙◌, subst, arith, eq-eqb}
-use Rattle.protocol.proofs.Vocabulary.{CondCall, CondRow, CondPhase, CondOnward, CondWhole, cond_access, cond_led, condition_of, BroadcastRow, SignalRow, Queue, Mutex, Condition, Fact, Return, Begun, Decision, Object, Operation, Fields, Layout'}
-use Rattle.protocol.proofs.Vocabulary.{Access, Answer, Fault, Trimmed, Reply, XHELD, Phase, AtCell, Linking, Clearing, Whole, Onward, whole_access, whole_led, LockRow, TryLockRow, UnlockRow, ConsistentRow, TryLock, Consistent}
-use Rattle.protocol.proofs.Vocabulary.{Op, OnMutex, OnCondition, mutex_of, begun_of, Event, caller, Note, Stepped, Thread, Stage, Idle, Calling, AtCondition, State, After, put, facts_of, facts_among, led, led_at, begun, first_stage, may_begin, happens, nothing, spared, stepped, run, notes, start, IsLayout}
-use Rattle.protocol.proofs.Vocabulary.{returned, returned_at, stage_after, stage_at, is_asleep, went, answer_of, acquires, nat_le, nat_tests, if◌then◌else◌, IsInNoQueue, BeginsNone, stands_in, seen}
+use Rattle.std.proofs.Common.{◌≡◌, ◌≢◌, ◌⊎◌, ⊎_elim, inl, inr, ℕ, suc, ◌+◌, ◌-◌, ◌<◌, ◌≤◌, ◌==◌, ◌&&◌, Bool, true, false, Option, Some, None, Result, Ok, Err, List, [], ◌∷◌, ◌++◌, refl, sym, ap, ◌∙◌, subst, arith}
+use Rattle.protocol.proofs.Vocabulary.{CondCall, CondRow, CondPhase, CondWhole, cond_access, cond_led, condition_of, BroadcastRow, SignalRow, Queue, Mutex, Condition, Fact, Return, Decision, Object, Operation, Fields, Layout'}
+use Rattle.protocol.proofs.Vocabulary.{Answer, Fault, Trimmed, Reply, XHELD, Phase, AtCell, Linking, Clearing, Whole, whole_access, whole_led, TryLockRow, UnlockRow, ConsistentRow, TryLock, Consistent}
+use Rattle.protocol.proofs.Vocabulary.{Op, OnCondition, mutex_of, Event, caller, Note, Stepped, Thread, Stage, Idle, Calling, AtCondition, State, After, put, facts_of, facts_among, led, led_at, begun, first_stage, may_begin, happens, nothing, spared, stepped, run, notes, start}
+use Rattle.protocol.proofs.Vocabulary.{returned, returned_at, stage_after, stage_at, went, answer_of, acquires, nat_le, nat_tests, if◌then◌else◌, IsInNoQueue, BeginsNone, stands_in, seen}
 use Rattle.mutex.specs.declared.row.Row.{Row}
-use Rattle.mutex.specs.declared.row.Row.TheVariants.{Lock, Unlock}
+use Rattle.mutex.specs.declared.row.Row.TheVariants.{Unlock}
 use Rattle.mutex.specs.declared.phase.Phase.TheVariants.{Announcing, Unlinking, Ended}
 use Rattle.mutex.specs.Whole.{phase_led}
 use Rattle.condvar.specs.Whole as condition
@@ -17,7 +17,6 @@ use Rattle.condvar.specs.Ops.{operation_of}
 use Rattle.robustlist.specs.LinkLaws.{link_left}
 use Rattle.robustlist.specs.UnlinkLaws.{unlink_left}
 use Rattle.protocol.specs.declared.event.Event.TheVariants.{Begin, Step, Kill}
-use Rattle.protocol.specs.Machine.{Led}
 use Rattle.protocol.specs.Sleepers.{IsAmong}
 use Rattle.protocol.specs.Bounded.{NeverWaits, most_steps, step_of, steps_of, IsSpared, ReturnsInTime, OnlyLocksAndWaitsWait}
 use Rattle.protocol.proofs.Puts.{put-same}

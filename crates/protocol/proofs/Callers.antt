@@ -1,19 +1,16 @@
 -- A sleep is told only of a thread in a lock or a wait.
-use Rattle.std.proofs.Common.{◌≡◌, ⊎_elim, inl, ℕ, ◌≤◌, ◌&&◌, Bool, true, false, Option, Some, None, Ok, Err, List, [], ◌∷◌, refl, sym, ap, ◌∙◌, subst, arith}
-use Rattle.protocol.proofs.Vocabulary.{CondCall, CondWhole, condition_of, cond_access, cond_led, Queue, Mutex, Condition, Fact, Begun, Object, Operation, Layout', XHELD, Phase, Whole, whole_access, whole_led}
-use Rattle.protocol.proofs.Vocabulary.{Op, OnCondition, mutex_of, begun_of, Event, Stage, Calling, AtCondition, State, After, place_met, is_met, sleeps_at, answer_of, slept_in, facts_of, led, led_at, begun, happens, falls_asleep, seen, if◌then◌else◌, LockRow, WaitRow}
+use Rattle.std.proofs.Common.{◌≡◌, ⊎_elim, ℕ, ◌≤◌, ◌&&◌, Bool, true, false, Option, Some, Ok, Err, [], ◌∷◌, refl, sym, ap, ◌∙◌, subst, arith}
+use Rattle.protocol.proofs.Vocabulary.{CondCall, CondWhole, condition_of, cond_access, Queue, Mutex, Condition, Fact, Begun, Object, Operation, Layout', XHELD, Phase, Whole, whole_access}
+use Rattle.protocol.proofs.Vocabulary.{Op, OnCondition, mutex_of, begun_of, Event, Stage, Calling, AtCondition, State, After, place_met, is_met, sleeps_at, slept_in, facts_of, begun, happens, falls_asleep, seen, if◌then◌else◌}
 use Rattle.facts.specs.declared.fact.Fact.TheVariants.{Sleep}
-use Rattle.mutex.specs.declared.row.Row.TheVariants.{Lock}
-use Rattle.condvar.specs.declared.row.CondRow.{CondRow}
 use Rattle.condvar.specs.Calls.{operation_of}
 use Rattle.condvar.specs.Laws.{row_operation}
-use Rattle.protocol.specs.Machine.{Led}
 use Rattle.protocol.specs.Sleepers.{IsAmong}
 use Rattle.protocol.specs.Wakings.{MaySleepIn}
 use Rattle.protocol.proofs.Phases.{plain_awake}
-use Rattle.protocol.proofs.Kept.{IsFor, InPhase, FitsAt, Kept}
+use Rattle.protocol.proofs.Kept.{IsFor, InPhase, Kept}
 use Rattle.protocol.proofs.CondRows.{only_waits_sleep}
-use Rattle.protocol.proofs.CondAccesses.{Nears, by_access}
+use Rattle.protocol.proofs.CondAccesses.{by_access}
 use Rattle.protocol.proofs.Accesses.{goes, fits_in}
 use Rattle.protocol.proofs.Declines.{spared_is}
 use Rattle.protocol.proofs.Events.{begins_at, by_event, by_stage}

@@ -1,24 +1,29 @@
 -- What an event of each kind changes.
-use Rattle.std.proofs.Common.{◌≡◌, ◌≢◌, ◌⊎◌, ⊎_elim, inl, inr, ℕ, ◌+◌, ◌<◌, ◌≤◌, ◌&&◌, Bool, true, false, Option, Some, None, Result, Ok, Err, List, [], length, refl, sym, ap, ◌∙◌, subst, arith}
-use Rattle.protocol.proofs.Vocabulary.{CondCall, CondRow, CondPhase, CondWhole, cond_access, cond_led, condition_of, Mutex, Condition, Begun, Object, Operation, Layout', IsLayout, head_place, entry_place, cell_place, counter_place, place_met, word_among}
+use Rattle.std.proofs.Common.{◌≡◌, ◌≢◌, ◌⊎◌, ⊎_elim, inl, inr, ℕ, ◌+◌, ◌%◌, ◌^◌, ◌≤◌, ◌&&◌, Bool, true, false, Option, Some, None, Result, Ok, Err, List, refl, sym, ap, ◌∙◌, subst, arith}
+use Rattle.protocol.proofs.Vocabulary.{CondCall, CondRow, CondPhase, CondWhole, cond_access, cond_led, condition_of, Mutex, Condition, Begun, Object, Operation, Layout', cell_place, place_met, word_among}
 use Rattle.protocol.proofs.Vocabulary.{Whole, whole_access, whole_led, Op, OnCondition, mutex_of, begun_of, Event, caller, Thread, Stage, Calling, AtCondition, Dying, State, After, XHELD, Reply, put, led, led_at, begun, first_stage, may_begin, killed, nothing, stepped, walked}
-use Rattle.protocol.proofs.Vocabulary.{happens, run, notes, start, is_alive, seen, stands_in, if◌then◌else◌, Told, AtRest, InCall, Dead, last_told, WaitRow, SignalRow, BroadcastRow, Signal, Broadcast}
+use Rattle.protocol.proofs.Vocabulary.{happens, run, notes, start, is_alive, seen, stands_in, if◌then◌else◌, Told, AtRest, InCall, Dead, last_told, WaitRow, Signal, Broadcast, Access, queue_after, moved_by, joined, Part, WakeOne, place_in}
 use Rattle.exitwalk.specs.Standings as walks
+use Rattle.exitwalk.specs.declared.row.Row as walk_row
+use Rattle.exitwalk.specs.declared.row.Row.TheVariants as walk
+use Rattle.exitwalk.specs.Walks as exit
 use Rattle.condvar.specs.declared.row.CondRow.TheVariants.{Wait}
 use Rattle.condvar.specs.Calls.{operation_of}
 use Rattle.condvar.specs.Laws.{row_operation, is_at_counter}
 use Rattle.condvar.specs.Programs.{row_access}
 use Rattle.protocol.specs.declared.event.Event.TheVariants.{Begin, Step, Kill}
-use Rattle.protocol.specs.Machine.{has_thread}
 use Rattle.protocol.specs.Applies.{Agrees}
 use Rattle.protocol.specs.PassedBy.{call_told}
 use Rattle.protocol.specs.Wakes.{left_by}
-use Rattle.protocol.specs.Changes.{OnlyBegins, OnlyKills, IsItsOwn, MayChange, OnlySteps, ChangesSo, EventsLeaveTheRest}
-use Rattle.protocol.proofs.Puts.{put-same, put-other}
-use Rattle.protocol.proofs.Kept.{FitsAt, Kept}
-use Rattle.protocol.proofs.Places.{IsMine}
-use Rattle.protocol.proofs.Seeing.{head_in}
-use Rattle.protocol.proofs.Steps.{met_no_move, after, went-is, call_step, cond_step, its_mutex, its_counter}
+use Rattle.protocol.specs.Changes.{OnlyBegins, OnlyKills, IsItsOwn, MayChange, MayStir, OnlySteps, EventsLeaveTheRest}
+use Rattle.protocol.proofs.Puts.{by_put, put-same, put-other}
+use Rattle.protocol.proofs.Cases.{by_same}
+use Rattle.protocol.proofs.Phases.{IsPlain, plain_no_move}
+use Rattle.protocol.proofs.CondRows.{move_or}
+use Rattle.protocol.proofs.Kept.{FitsAt, LeftToWalk, Kept}
+use Rattle.protocol.proofs.Places.{IsMine, treated_at}
+use Rattle.protocol.proofs.Seeing.{head_in, cell_again, counter_again}
+use Rattle.protocol.proofs.Steps.{IsNoMove, joined_none, cell_at, counter_at, met_no_move, after, went-is, call_step, cond_step, its_mutex, its_counter}
 use Rattle.protocol.proofs.Stepping.{SleepsAs}
 use Rattle.protocol.proofs.Frames.{knows_at}
 use Rattle.protocol.proofs.CallSteps.{call_stepping}
@@ -104,6 +109,42 @@ row_counts t cell counter (Signal r) op of at = inr (inl (sym of))
 row_counts t cell counter (Broadcast r) op of at = inr (inr (sym of))
 row_counts t cell counter r op of at = absurd cc
 
+-- a load and a store leave their queue
+plain_queue : (t : ℕ) (a : Access) (w : ℕ) (q : List ℕ) → IsPlain a → queue_after t a w q ≡ q
+plain_queue t (Access.Load at) w q plain = refl
+plain_queue t (Access.Store at v) w q plain = refl
+plain_queue t a w q plain = absurd plain
+
+-- a walk does but where it wakes
+walk_queue : (t h : ℕ) (r : walk_row.Row) (w : ℕ) (q : List ℕ) → (queue_after t (exit.row_access h r) w q ≡ q) ⊎ (at : ℕ) × (rest : Part) × (r ≡ WakeOne at rest)
+walk_queue t h walk.LoadFirst w q = inl refl
+walk_queue t h (walk.LoadOffset f) w q = inl refl
+walk_queue t h (walk.LoadPending f x) w q = inl refl
+walk_queue t h (walk.LoadNext x) w q = inl refl
+walk_queue t h (walk.LoadWord at rest) w q = inl refl
+walk_queue t h (walk.Mark at v again rest) w q = inl refl
+walk_queue t h (walk.WakeOne at rest) w q = inr (at, rest, refl)
+walk_queue t h walk.Ended w q = inl refl
+
+-- the queues behind an access
+abbrev queues_then : State → ℕ → Access → ℕ → List ℕ
+queues_then s t a = joined s.layout t a (moved_by a (s.words (place_met s.layout t a)) (s.queues (place_met s.layout t a))) (put s.queues (place_met s.layout t a) (queue_after t a (s.words (place_met s.layout t a)) (s.queues (place_met s.layout t a))))
+
+-- one that moves nobody leaves every other queue
+one_queue : (s : State) (t : ℕ) (a : Access) → IsNoMove a → (P : ℕ → Type 0) (key : ℕ) → ((queue_after t a (s.words (place_met s.layout t a)) (s.queues (place_met s.layout t a)) ≡ s.queues (place_met s.layout t a)) ⊎ P (place_met s.layout t a)) → (queues_then s t a key ≡ s.queues key) ⊎ P key
+one_queue s t a stays P key here =
+    subst (λ (qs : ℕ → List ℕ). (qs key ≡ s.queues key) ⊎ P key) (sym (joined_none s.layout t a _ _ stays))
+    (by_put (λ (q : List ℕ). (q ≡ s.queues key) ⊎ P key) s.queues (place_met s.layout t a) (queue_after t a (s.words (place_met s.layout t a)) (s.queues (place_met s.layout t a))) key
+    (λ is. ⊎_elim (λ same. inl (same ∙ ap s.queues (sym is))) (λ p. inr (subst P (sym is) p)) here)
+    (λ apart. inl refl))
+
+still_queue : (s : State) (t : ℕ) (a : Access) (key : ℕ) → IsNoMove a → key ≢ place_met s.layout t a → queues_then s t a key ≡ s.queues key
+still_queue s t a key stays apart = ap (λ (qs : ℕ → List ℕ). qs key) (joined_none s.layout t a _ _ stays) ∙ put-other s.queues (place_met s.layout t a) _ key apart
+
+-- one that moves leaves all but two
+two_queues : (s : State) (t from e n to k key : ℕ) → key ≢ place_in s.layout t from → key ≢ place_in s.layout t to → queues_then s t (Access.CmpRequeue from e n to k) key ≡ s.queues key
+two_queues s t from e n to k key off other = put-other (put s.queues (place_in s.layout t from) _) (place_in s.layout t to) _ key other ∙ put-other s.queues (place_in s.layout t from) _ key off
+
 module _ (s : State) (t : ℕ) (w : Told) (b : Option Begun) (o : Option Object) (inv : Kept s) (pos : 1 ≤ t) (known : t ≤ s.layout.threads) (agrees : Agrees w (s.threads t).stage) (learnt : Learnt s.layout (s.threads t).stage b o) where
   abbrev Steps : After → Type 0
   Steps a = OnlySteps s a.state t w b
@@ -121,10 +162,13 @@ module _ (s : State) (t : ℕ) (w : Told) (b : Option Begun) (o : Option Object)
   told_dead x v h = absurd h
 
   rested : Steps (nothing s)
-  rested = record { place = 0; words = λ p apart. refl; word = inl refl; others = λ u apart. refl }
+  rested = record { place = 0; words = λ p apart. refl; word = inl refl; queues = λ key. inl refl; others = λ u apart. refl }
 
   may_in_call : (p : ℕ) (c : Begun) → w ≡ InCall → b ≡ Some c → MayChange s t InCall (Some c) p → MayChange s t w b p
   may_in_call p c in_call told may = subst (λ (x : Told). MayChange s t x b p) (sym in_call) (subst (λ (y : Option Begun). MayChange s t InCall y p) (sym told) may)
+
+  may_stir : (key : ℕ) (c : Begun) → w ≡ InCall → b ≡ Some c → MayStir s InCall (Some c) key → MayStir s w b key
+  may_stir key c in_call told may = subst (λ (x : Told). MayStir s x b key) (sym in_call) (subst (λ (y : Option Begun). MayStir s InCall y key) (sym told) may)
 
   called : (c : Op) (p : Whole) → (s.threads t).stage ≡ Calling c p → OnlySteps s (after s t (call_step s t c p)) t w b
   called c p is = record {
@@ -132,6 +176,10 @@ module _ (s : State) (t : ℕ) (w : Told) (b : Option Begun) (o : Option Object)
     words = λ x apart. put-other s.words (place_met s.layout t (whole_access p)) _ x apart;
     word = inr (may_in_call _ (begun_of s.layout c) (told_calling w c p (subst (Agrees w) is agrees)) (subst (λ (g : Stage). Learnt s.layout g b o) is learnt).0
         (⊎_elim (λ own. inl (its_own s t _ own.1)) (λ cell. inr (inl cell)) (goes s t c p inv pos known is).meets));
+    queues = λ key. one_queue s t (whole_access p) (goes s t c p inv pos known is).no_move (MayStir s w b) key
+        (⊎_elim (λ own. inl (plain_queue t (whole_access p) _ _ own.0))
+        (λ cell. inr (may_stir _ (begun_of s.layout c) (told_calling w c p (subst (Agrees w) is agrees)) (subst (λ (g : Stage). Learnt s.layout g b o) is learnt).0 (inl cell)))
+        (goes s t c p inv pos known is).meets);
     others = λ u apart. put-other s.threads t _ u apart;
   }
 
@@ -149,11 +197,44 @@ module _ (s : State) (t : ℕ) (w : Told) (b : Option Begun) (o : Option Object)
           (λ counts. inr (inr (inr (counts, condition_of c, refl, at_either s t c r inv pos known fits ∙ ap (λ (x : Bool). if x then its_counter s c else cell_place s.layout (its_mutex s c)) e))))
           (row_counts t _ _ r (operation_of c) fits.stands.of e)
 
+  abbrev Stirs : CondCall → CondWhole → Type 0
+  Stirs c p = (key : ℕ) → ((after s t (cond_step s t c p)).queues key ≡ s.queues key) ⊎ MayStir s InCall (Some (begun_of s.layout (OnCondition c))) key
+
+  stirs : (c : CondCall) (p : CondWhole) → (s.threads t).stage ≡ AtCondition c p → Stirs c p
+  stirs c p is = by_access s t c inv pos known (Stirs c) (λ r fits step. row r fits)
+      (λ x q near key. one_queue s t (cond_access q) (plain_no_move (cond_access q) near.plain) (MayStir s InCall (Some (begun_of s.layout (OnCondition c)))) key (inl (plain_queue t (cond_access q) _ _ near.plain))) p is
+    where
+      row : (r : CondRow) → FitsAt s t (s.threads t).held c (cond_of s.layout t c (CondPhase.AtWords r)) → Stirs c (cond_of s.layout t c (CondPhase.AtWords r))
+      row r fits key =
+          by_same key (its_counter s c) (λ is. inr (inr (condition_of c, refl, is)))
+          (λ off. by_same key (cell_place s.layout (its_mutex s c)) (λ is. inr (inl is)) (λ other. inl (elsewhere off other)))
+        where
+          at : ℕ
+          at = place_met s.layout t (row_access t (cell_at s t c) (counter_at s t c) r)
+
+          apart : key ≢ its_counter s c → key ≢ cell_place s.layout (its_mutex s c) → key ≢ at
+          apart off other is = go (is_at_counter r) (is ∙ at_either s t c r inv pos known fits)
+            where
+              go : (x : Bool) → key ≡ (if x then its_counter s c else cell_place s.layout (its_mutex s c)) → ⊥
+              go true e = off e
+              go false e = other e
+
+          elsewhere : key ≢ its_counter s c → key ≢ cell_place s.layout (its_mutex s c) → queues_then s t (row_access t (cell_at s t c) (counter_at s t c) r) key ≡ s.queues key
+          elsewhere off other =
+              ⊎_elim
+              (λ none. still_queue s t (row_access t (cell_at s t c) (counter_at s t c) r) key none (apart off other))
+              (λ moves. subst (λ (z : CondRow). queues_then s t (row_access t (cell_at s t c) (counter_at s t c) z) key ≡ s.queues key) (sym moves.1)
+              (two_queues s t (counter_at s t c) ((moves.0 + 1) % 2 ^ 32) 0 (cell_at s t c) 64 key
+              (λ e. off (e ∙ counter_again s.layout t inv.layout pos known (condition_of c) fits.there))
+              (λ e. other (e ∙ cell_again s.layout t inv.layout pos known (its_mutex s c) fits.inside))))
+              (move_or t (cell_at s t c) (counter_at s t c) r)
+
   at_condition : (c : CondCall) (p : CondWhole) → (s.threads t).stage ≡ AtCondition c p → OnlySteps s (after s t (cond_step s t c p)) t w b
   at_condition c p is = record {
     place = place_met s.layout t (cond_access p);
     words = λ x apart. put-other s.words (place_met s.layout t (cond_access p)) _ x apart;
     word = ⊎_elim inl (λ may. inr (may_in_call _ (begun_of s.layout (OnCondition c)) (told_there w c p (subst (Agrees w) is agrees)) (subst (λ (g : Stage). Learnt s.layout g b o) is learnt).0 may)) (written c p is);
+    queues = λ key. ⊎_elim inl (λ may. inr (may_stir key (begun_of s.layout (OnCondition c)) (told_there w c p (subst (Agrees w) is agrees)) (subst (λ (g : Stage). Learnt s.layout g b o) is learnt).0 may)) (stirs c p is key);
     others = λ u apart. put-other s.threads t _ u apart;
   }
 
@@ -167,9 +248,16 @@ module _ (s : State) (t : ℕ) (w : Told) (b : Option Begun) (o : Option Object)
         place = place_met s.layout t (walk_access s t v.row);
         words = λ x apart. put-other s.words (place_met s.layout t (walk_access s t v.row)) _ x apart;
         word = marked g (death_then s t v.row) refl;
+        queues = λ key. one_queue s t (walk_access s t v.row) (walk_no_move (head_in s.layout t) v.row) (MayStir s w b) key (⊎_elim inl (λ wakes. inr (wakes_there there.2 wakes.0 wakes.1 wakes.2)) (walk_queue t (head_in s.layout t) v.row _ _));
         others = λ u apart. put-other s.threads t _ u apart;
       })
     where
+      wakes_there : LeftToWalk s t v.row → (at : ℕ) (rest : Part) → v.row ≡ WakeOne at rest → MayStir s w b (place_met s.layout t (walk_access s t v.row))
+      wakes_there left at rest wakes =
+          let k = subst (LeftToWalk s t) wakes left in
+          subst (λ (x : Told). MayStir s x b (place_met s.layout t (walk_access s t v.row))) (sym (told_dead w v (subst (Agrees w) is agrees)))
+          (k.0, k.1.0, ap (λ (r : walk_row.Row). place_met s.layout t (exit.row_access (head_in s.layout t) r)) wakes ∙ treated_at s t inv.layout pos known at k.0 k.1)
+
       marked : WalkStep s t v.row → (d : Option ℕ) → death_then s t v.row ≡ d
           → ((walk_after s t v.row).words (place_met s.layout t (walk_access s t v.row)) ≡ s.words (place_met s.layout t (walk_access s t v.row))) ⊎ MayChange s t w b (place_met s.layout t (walk_access s t v.row))
       marked g None e = inl (g.reads e (place_met s.layout t (walk_access s t v.row)))

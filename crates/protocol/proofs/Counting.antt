@@ -1,8 +1,8 @@
 -- A counter is what it was at first, and one more for each signal and broadcast.
 use Rattle.std.proofs.Common.{◌≡◌, ◌≢◌, ℕ, ◌+◌, ◌<◌, ◌≤◌, ◌==◌, Bool, true, false, Option, Some, None, Ok, Err, List, [], ◌∷◌, ◌++◌, length, refl, sym, ap, ◌∙◌, subst, arith, eq-eqb, add-zero}
-use Rattle.protocol.proofs.Vocabulary.{CondCall, CondRow, CondPhase, CondWhole, CondOnward, cond_access, cond_led, condition_of, met_word, counter_after, from_words, full, Mutex, Condition, Queue, Fact, Begun, Decision, Operation, Layout', IsLayout, counter_place, cell_place, fields_of}
-use Rattle.protocol.proofs.Vocabulary.{Reply, OK, XHELD, Whole, whole_access, whole_led, Op, OnMutex, OnCondition, mutex_of, begun_of, reinit_of, Event, Note, Stepped, Walked, Stage, Calling, AtCondition, Dying, State, After, answer_at, decision, decided_at, reply_at, facts_of, facts_among}
-use Rattle.protocol.proofs.Vocabulary.{return_facts, reap_facts, led, led_at, begun, walked, happens, run, notes, start, place_met, if◌then◌else◌, last_begun, ArePresets, eqb-false}
+use Rattle.protocol.proofs.Vocabulary.{CondCall, CondRow, CondWhole, CondOnward, cond_access, cond_led, condition_of, met_word, counter_after, full, Mutex, Condition, Queue, Fact, Begun, Decision, Operation, Layout', counter_place}
+use Rattle.protocol.proofs.Vocabulary.{Reply, OK, XHELD, Whole, whole_access, whole_led, Op, OnCondition, mutex_of, begun_of, reinit_of, Event, Note, Stepped, Walked, Stage, Calling, AtCondition, Dying, State, After, answer_at, decision, decided_at, reply_at, facts_of, facts_among}
+use Rattle.protocol.proofs.Vocabulary.{return_facts, reap_facts, led, led_at, begun, walked, happens, run, notes, start, place_met, if◌then◌else◌, last_begun}
 use Rattle.posixmutex.specs.declared.point.Point.{Point}
 use Rattle.exitwalk.specs.Standings as walks
 use Rattle.condvar.specs.declared.row.Decided.{Decided}
@@ -19,9 +19,8 @@ use Rattle.protocol.proofs.Steps.{met_no_move, after, went-is, call_step, call_n
 use Rattle.protocol.proofs.Frames.{knows_at}
 use Rattle.protocol.proofs.CallSteps.{call_stepping}
 use Rattle.protocol.proofs.Accesses.{goes, fits_in}
-use Rattle.protocol.proofs.CondSteps.{cond_of}
 use Rattle.protocol.proofs.CondAccesses.{cond_stepping}
-use Rattle.protocol.proofs.Counters.{CondMove, By_row, Before_release, CondGoes, cond_moves, KnowsCount, KnowsAt, KnowsIn, Counted, one_more, first_word-counter, counted_on, start_counted}
+use Rattle.protocol.proofs.Counters.{CondMove, By_row, Before_release, CondGoes, cond_moves, KnowsCount, KnowsAt, KnowsIn, Counted, first_word-counter, counted_on, start_counted}
 use Rattle.protocol.proofs.WalkSteps.{walk_no_move, walk_access, walk_after, death_then, walked-is, DeathTells, WalkStep, walk_step}
 use Rattle.protocol.proofs.Working.{walk_is}
 use Rattle.protocol.proofs.Declines.{spared_is}
@@ -30,7 +29,7 @@ use Rattle.protocol.proofs.Reinits.{reinited_counter}
 use Rattle.protocol.proofs.Events.{begins_at, by_event, by_stage}
 use Rattle.protocol.proofs.NoteFacts.{IsOfSleep, behind_point, of_walk}
 use Rattle.protocol.proofs.PassedBy.{IsTold, told_on}
-use Rattle.protocol.proofs.Runs.{sound, start_kept, run_layout}
+use Rattle.protocol.proofs.Runs.{sound, start_kept}
 
 -- ---- facts
 

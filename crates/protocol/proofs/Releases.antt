@@ -1,7 +1,7 @@
 -- A wait's unlock is of a consistent mutex of its own.
-use Rattle.std.proofs.Common.{◌≡◌, ⊎_elim, ℕ, ◌≤◌, Bool, true, false, Option, Some, None, Ok, Err, List, [], ◌∷◌, refl, sym, ap, ◌∙◌, subst, arith}
-use Rattle.protocol.proofs.Vocabulary.{CondCall, CondRow, CondPhase, CondWhole, CondOnward, CondLed, cond_access, cond_led, condition_of, met_word, from_words, Mutex, Condition, Fact, Begun, Decision, Object, Operation, Layout', Fields, fields_of, object_of, owner_of, owner_of-some}
-use Rattle.protocol.proofs.Vocabulary.{OK, XHELD, Reply, Whole, whole_access, whole_led, Op, OnMutex, OnCondition, mutex_of, begun_of, Event, Stage, Calling, AtCondition, State, After, answer_at, answer_of, decision, decided_at, reply_at, facts_of, led, led_at, begun, happens, seen, run, notes, start, WaitRow, IsLayout, if◌then◌else◌}
+use Rattle.std.proofs.Common.{◌≡◌, ⊎_elim, ℕ, ◌≤◌, Bool, true, false, Option, Some, None, Ok, Err, List, refl, sym, ap, ◌∙◌, subst, arith}
+use Rattle.protocol.proofs.Vocabulary.{CondCall, CondRow, CondWhole, CondOnward, cond_access, cond_led, condition_of, met_word, Condition, Fact, Begun, Decision, Object, Operation, Layout', fields_of, owner_of, owner_of-some}
+use Rattle.protocol.proofs.Vocabulary.{OK, XHELD, Reply, Op, OnCondition, mutex_of, begun_of, Event, Stage, AtCondition, State, After, answer_at, decision, decided_at, reply_at, facts_of, led_at, begun, happens, run, notes, start, WaitRow, if◌then◌else◌}
 use Rattle.posixmutex.specs.declared.point.Point.{Point}
 use Rattle.condvar.specs.declared.row.CondRow.TheVariants.{Wait}
 use Rattle.condvar.specs.declared.row.Decided.{Decided}
@@ -13,9 +13,8 @@ use Rattle.protocol.specs.PassedBy.{call_told}
 use Rattle.protocol.specs.Wakes.{left_by}
 use Rattle.protocol.specs.Releases.{OwnsConsistent, WaitsReleaseConsistentMutexes}
 use Rattle.protocol.proofs.Kept.{IsFor, Needs, Kept}
-use Rattle.protocol.proofs.Steps.{went-is, seen-inside, cond_onto, cond_note, its_mutex, its_cell, its_counter, cond_after, cell_at, counter_at}
-use Rattle.protocol.proofs.CallSteps.{call_stepping}
-use Rattle.protocol.proofs.Accesses.{goes, fits_in}
+use Rattle.protocol.proofs.Steps.{went-is, seen-inside, cond_onto, cond_note, its_mutex, its_cell, cond_after}
+use Rattle.protocol.proofs.Accesses.{fits_in}
 use Rattle.protocol.proofs.CondAccesses.{cond_stepping, fits_at}
 use Rattle.protocol.proofs.Counters.{CondMove, By_row, Before_release, cond_moves}
 use Rattle.protocol.proofs.Declines.{spared_is}

@@ -1,6 +1,6 @@
 -- What a begin, a kill and a step may change; every other event is spoken of where it is defined (`Leaves.antt`,
--- `Renewals.antt`, `Reinits.antt`). Who stands in which queue is what the trace tells (`Wakings.antt`).
-use Rattle.std.specs.Prelude.{ℕ, ◌≡◌, ◌≢◌, ◌+◌, ◌<◌, ◌≤◌, ◌⊎◌, Option, Some, None, List}
+-- `Renewals.antt`, `Reinits.antt`). Who stands in which queue behind it is what the trace tells (`Wakings.antt`).
+use Rattle.std.specs.Prelude.{ℕ, ◌≡◌, ◌≢◌, ◌+◌, ◌<◌, ◌≤◌, ◌⊎◌, Option, Some, List}
 use Rattle.buckets.specs.Queues.{without}
 use Rattle.posixmutex.specs.declared.point.Operation.TheVariants.{Signal, Broadcast}
 use Rattle.memorymap.specs.Layouts.{Layout', IsLayout, head_place, entry_place, cell_place, counter_place}
@@ -52,11 +52,19 @@ MayChange s t InCall (Some b) p = IsItsOwn s t p ⊎ ((p ≡ cell_place s.layout
 MayChange s t Dead b p = (m : ℕ) × (m < s.layout.mutexes) × ((seen s m).owner ≡ Some t) × (p ≡ cell_place s.layout m)
 MayChange s t w b p = ⊥
 
--- it makes a step: at most one word changes, and no other thread
+-- it may change the queue of its mutex or of its condition variable; once the thread is dead that of a mutex
+abbrev pub MayStir : State → Told → Option Begun → ℕ → Type 0
+MayStir s InCall (Some b) key = (key ≡ cell_place s.layout b.mutex)
+    ⊎ (k : ℕ) × (b.condition ≡ Some k) × (key ≡ counter_place s.layout k)
+MayStir s Dead b key = (m : ℕ) × (m < s.layout.mutexes) × (key ≡ cell_place s.layout m)
+MayStir s w b key = ⊥
+
+-- it makes a step: at most one word changes, and no other thread; who stands in the queues then is told
 pub record OnlySteps (s s' : State) (t : ℕ) (w : Told) (b : Option Begun) : Type 0 where
   pub place : ℕ
   pub words : (p : ℕ) → p ≢ place → s'.words p ≡ s.words p
   pub word : (s'.words place ≡ s.words place) ⊎ MayChange s t w b place
+  pub queues : (key : ℕ) → (s'.queues key ≡ s.queues key) ⊎ MayStir s w b key
   pub others : (u : ℕ) → u ≢ t → s'.threads u ≡ s.threads u
 
 -- ---- runs

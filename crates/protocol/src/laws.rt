@@ -191,8 +191,9 @@ pub fn only_locks_and_waits_wait()
 /// Whatever happened before: a begin changes no word and no queue; a kill changes no word, and takes nobody but its
 /// thread out of the queues; both leave that thread with as many mutexes. A step changes one word at most: in a call a
 /// word of its thread's head, a link of a mutex that its thread owns, the cell of the call's mutex, or the counter
-/// where the call is a signal or a broadcast; once its thread is dead the cell of a mutex that this owns. None of them
-/// changes another thread. (Who stands in which queue behind a step is told: [`sleeps_are_told`].)
+/// where the call is a signal or a broadcast; once its thread is dead the cell of a mutex that this owns. It changes
+/// the queues of that mutex and that condition variable at most, and a dead thread's those of mutexes. None of them
+/// changes another thread.
 pub fn events_leave_the_rest()
     ensures { EventsLeaveTheRest }
 {}

@@ -20,7 +20,10 @@
 //!   is;
 //! - `reinits_free_the_mutex`, `without_reinits_as_before`, `nobody_joins_an_unusable_mutex`: what it is to make an
 //!   unusable mutex anew, and that nothing else does;
-//! - `nobody_is_passed_by`, `signals_are_right`: of condition variables.
+//! - `only_locks_and_waits_wait`: the other calls return in time, whatever others do;
+//! - `events_leave_the_rest`: what an event may change;
+//! - `nobody_is_passed_by`, `signals_are_right`, `counters_count_up`, `waits_release_consistent_mutexes`: of condition
+//!   variables.
 //!
 //! Stands on `mutex` and `condvar`, for the calls' programs, on `robustlist` and `exitwalk`, for lists and the walk
 //! over them, on `memorymap`, `stepprograms` and `posixmutex`, for layouts, accesses and histories, on `buckets`, for
@@ -49,11 +52,13 @@ mod thread;
 
 pub use event::Event;
 pub use laws::{
-    deaths_are_told, events_apply, history_is_legal, leaves_and_declines_are_lone, lists_are_kept,
-    lone_threads_come_to_rest, no_reaped_owner, no_sleeper_is_stranded, nobody_is_passed_by,
-    nobody_joins_an_unusable_mutex, reinits_free_the_mutex, renewals_begin_anew, signals_are_right,
-    sleeps_are_told, trace_is_explained, undivided_calls_reply, waiters_are_kept, wakes_are_right,
-    walks_go_on, without_leaves_as_before, without_reinits_as_before, without_renewals_as_before,
+    counters_count_up, deaths_are_told, events_apply, events_leave_the_rest, history_is_legal,
+    leaves_and_declines_are_lone, lists_are_kept, lone_threads_come_to_rest, no_reaped_owner,
+    no_sleeper_is_stranded, nobody_is_passed_by, nobody_joins_an_unusable_mutex,
+    only_locks_and_waits_wait, reinits_free_the_mutex, renewals_begin_anew, signals_are_right,
+    sleeps_are_told, trace_is_explained, undivided_calls_reply, waiters_are_kept,
+    waits_release_consistent_mutexes, wakes_are_right, walks_go_on, without_leaves_as_before,
+    without_reinits_as_before, without_renewals_as_before,
 };
 pub use note::{Facts, Note};
 pub use thread::{Stage, Thread};
