@@ -34,8 +34,8 @@ static const struct {
     {"pz_mutex_lock", ENOTRECOVERABLE, "an owner unlocked it without declaring it consistent: nobody owns it again "
      "before pz_mutex_reinit"},
     {"pz_mutex_lock", EDEADLK, "it owns the mutex already"},
-    {"pz_mutex_lock", EAGAIN, "it holds 2,048 mutexes of this file already, be this one of them; or it is the "
-     "thread's first call, and 64 threads take part already (pz_thread_begin); nothing was done"},
+    {"pz_mutex_lock", EAGAIN, "it holds 2,048 mutexes of this file already, even if this is one of them; or it is "
+     "the thread's first call, and 64 threads take part already (pz_thread_begin); nothing was done"},
     {"pz_mutex_lock", EINVAL, "there is no such mutex or condition variable; nothing was done; or somebody wrote "
      "stray values into the library's words, and the call was stopped there: nobody knows who owns what, so end all "
      "who use the file and delete it"},
@@ -48,9 +48,9 @@ static const struct {
      "since"},
     {"pz_mutex_trylock", ENOTRECOVERABLE, "an owner unlocked it without declaring it consistent: nobody owns it "
      "again before pz_mutex_reinit"},
-    {"pz_mutex_trylock", EBUSY, "a thread that lives owns it, be it the caller"},
-    {"pz_mutex_trylock", EAGAIN, "it holds 2,048 mutexes of this file already, be this one of them; or it is the "
-     "thread's first call, and 64 threads take part already (pz_thread_begin); nothing was done"},
+    {"pz_mutex_trylock", EBUSY, "a thread that lives owns it, even if that is the caller"},
+    {"pz_mutex_trylock", EAGAIN, "it holds 2,048 mutexes of this file already, even if this is one of them; or it is "
+     "the thread's first call, and 64 threads take part already (pz_thread_begin); nothing was done"},
     {"pz_mutex_trylock", EINVAL, "there is no such mutex or condition variable; nothing was done; or somebody wrote "
      "stray values into the library's words, and the call was stopped there: nobody knows who owns what, so end all "
      "who use the file and delete it"},
@@ -114,8 +114,8 @@ static const struct {
      "mutex in turn"},
     {"pz_cond_signal", EPERM, "the thread doesn't own the mutex"},
     {"pz_cond_signal", EOVERFLOW, "this condition variable had 2^32 - 1 signals and broadcasts, those counted that "
-     "nobody waited for: it is refused from then on, and only a new file helps. A million a second are so many in 72 "
-     "minutes, so signal where somebody may wait"},
+     "nobody waited for: it is refused from then on, and only a new file helps. At a million a second that is "
+     "reached in 72 minutes, so signal only where somebody may wait"},
     {"pz_cond_signal", EINVAL, "there is no such mutex or condition variable; nothing was done; or somebody wrote "
      "stray values into the library's words, and the call was stopped there: nobody knows who owns what, so end all "
      "who use the file and delete it"},
@@ -129,8 +129,8 @@ static const struct {
      "the mutex in turn"},
     {"pz_cond_broadcast", EPERM, "the thread doesn't own the mutex"},
     {"pz_cond_broadcast", EOVERFLOW, "this condition variable had 2^32 - 1 signals and broadcasts, those counted "
-     "that nobody waited for: it is refused from then on, and only a new file helps. A million a second are so many "
-     "in 72 minutes, so signal where somebody may wait"},
+     "that nobody waited for: it is refused from then on, and only a new file helps. At a million a second that is "
+     "reached in 72 minutes, so signal only where somebody may wait"},
     {"pz_cond_broadcast", EINVAL, "there is no such mutex or condition variable; nothing was done; or somebody wrote "
      "stray values into the library's words, and the call was stopped there: nobody knows who owns what, so end all "
      "who use the file and delete it"},

@@ -21,14 +21,19 @@
 namespace pazdrig
 {
 
-/* code() is a number of errno(3): it is equal to std::errc::state_not_recoverable, for instance. */
+/* code() is a number of errno(3): it is equal to std::errc::state_not_recoverable, for instance. what() is the call and
+ * what pz_strerror says of its answer. */
 class error : public std::system_error
 {
   public:
     error(const char *call, int answer)
-        : std::system_error(answer, std::generic_category(), std::string(call) + ": " + pz_strerror(call, answer))
+        : std::system_error(answer, std::generic_category()), text(std::string(call) + ": " + pz_strerror(call, answer))
     {
     }
+    const char *what() const noexcept override { return text.c_str(); }
+
+  private:
+    std::string text;
 };
 
 inline void check(const char *call, int answer)

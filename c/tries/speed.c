@@ -1,7 +1,7 @@
 /* Calls beside the C library's robust, process-shared, error-checking mutex, in one run and in turn: locks and unlocks
  * alone, by 2 and by 4 processes; a lock, a signal to nobody and an unlock; refusals; and the time from a SIGKILL until
- * a sleeper has EOWNERDEAD. Prints a row a case: ours, the C library's, the quotient, in ns or us, the middle of RUNS.
- * (Work inside and outside the mutex, and more processes: load.c.) usage: speed RUNS */
+ * a sleeper has EOWNERDEAD, or of a lock behind one. Prints a row a case: ours, the C library's, the quotient, in ns or
+ * us, the middle of RUNS. (Work inside and outside the mutex, and more processes: load.c.) usage: speed RUNS */
 #include "try.h"
 #include <pthread.h>
 
@@ -105,10 +105,9 @@ static double refused(int unlocks, int ours)
     return (until - since) * 1e9 / PAIRS;
 }
 
-/* ns a trylock of a mutex that another process owns. */
-static double busy(int unused, int ours)
+/* A process that owns mutex 1, or the C library's. */
+static pid_t an_owner(int ours)
 {
-    (void)unused;
     atomic_store(&b->ready, 0);
     pid_t owner = a_child();
     if (!owner) {
@@ -120,6 +119,27 @@ static double busy(int unused, int ours)
     }
     while (!atomic_load(&b->ready))
         rest(50);
+    return owner;
+}
+
+/* us a lock takes whose owner is dead already. */
+static double dead_already(int unused, int ours)
+{
+    (void)unused;
+    kill_and_wait(an_owner(ours));
+    double since = now();
+    SAME(ours ? pz_mutex_lock(p, 1) : pthread_mutex_lock(&b->libc), EOWNERDEAD);
+    double until = now();
+    SAME(ours ? pz_mutex_consistent(p, 1) : pthread_mutex_consistent(&b->libc), 0);
+    SAME(ours ? pz_mutex_unlock(p, 1) : pthread_mutex_unlock(&b->libc), 0);
+    return (until - since) * 1e6;
+}
+
+/* ns a trylock of a mutex that another process owns. */
+static double busy(int unused, int ours)
+{
+    (void)unused;
+    pid_t owner = an_owner(ours);
     double since = now();
     for (long i = 0; i < PAIRS; i++)
         SAME(ours ? pz_mutex_trylock(p, 1) : pthread_mutex_trylock(&b->libc), EBUSY);
@@ -135,17 +155,7 @@ static double busy(int unused, int ours)
 static double death(int unused, int ours)
 {
     (void)unused;
-    atomic_store(&b->ready, 0);
-    pid_t owner = a_child();
-    if (!owner) {
-        if (ours ? pz_mutex_lock(p, 1) : pthread_mutex_lock(&b->libc))
-            _exit(1);
-        atomic_store(&b->ready, 1);
-        for (;;)
-            pause();
-    }
-    while (!atomic_load(&b->ready))
-        rest(50);
+    pid_t owner = an_owner(ours);
     pid_t sleeper = a_child();
     if (!sleeper) {
         int r = ours ? pz_mutex_lock(p, 1) : pthread_mutex_lock(&b->libc);
@@ -200,6 +210,7 @@ int main(int argc, char **argv)
     row("lock by the owner (EDEADLK), ns", refused, 0, runs, 1.5);
     row("unlock by another (EPERM), ns", refused, 1, runs, 1.5);
     row("SIGKILL to EOWNERDEAD, us", death, 0, runs * 3, 0);
+    row("lock, its owner dead already, us", dead_already, 0, runs * 3, 0);
     pz_close(p);
     unlink(path);
     return 0;
