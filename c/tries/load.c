@@ -3,8 +3,8 @@
  * thousand rounds a second; microseconds of processor time a round; from an unlock until one that waited has it, the
  * middle and 99 of 100; the longest lock of all, in milliseconds; what the least served process had of the most
  * served's rounds. usage: load [RUNS [SECONDS [PROCESSES INSIDE OUTSIDE]]], both works in microseconds */
+#include "libc.h"
 #include "try.h"
-#include <pthread.h>
 #include <sys/resource.h>
 
 enum { MOST_RUNS = 51, MOST = 64, COLUMNS = 6, PARTS = 8, BUCKETS = 62 * PARTS };
@@ -49,16 +49,6 @@ static void find_ticks(void)
     while (now() - since < 0.05)
         ;
     ticks_a_us = (double)(ticks() - first) / ((now() - since) * 1e6);
-}
-
-static void make_libc(pthread_mutex_t *m)
-{
-    pthread_mutexattr_t a;
-    pthread_mutexattr_init(&a);
-    pthread_mutexattr_setpshared(&a, PTHREAD_PROCESS_SHARED);
-    pthread_mutexattr_setrobust(&a, PTHREAD_MUTEX_ROBUST);
-    pthread_mutexattr_settype(&a, PTHREAD_MUTEX_ERRORCHECK);
-    pthread_mutex_init(m, &a);
 }
 
 static void lock(int ours)

@@ -2,8 +2,8 @@
  * alone, by 2 and by 4 processes; a lock, a signal to nobody and an unlock; refusals; and the time from a SIGKILL until
  * a sleeper has EOWNERDEAD, or of a lock behind one. Prints a row a case: ours, the C library's, the quotient, in ns or
  * us, the middle of RUNS. (Work inside and outside the mutex, and more processes: load.c.) usage: speed RUNS */
+#include "libc.h"
 #include "try.h"
-#include <pthread.h>
 
 enum { MOST_RUNS = 101, PAIRS = 200000 };
 
@@ -17,16 +17,6 @@ struct both {
 };
 static pz *p;
 static struct both *b;
-
-static void make_libc(pthread_mutex_t *m)
-{
-    pthread_mutexattr_t a;
-    pthread_mutexattr_init(&a);
-    pthread_mutexattr_setpshared(&a, PTHREAD_PROCESS_SHARED);
-    pthread_mutexattr_setrobust(&a, PTHREAD_MUTEX_ROBUST);
-    pthread_mutexattr_settype(&a, PTHREAD_MUTEX_ERRORCHECK);
-    pthread_mutex_init(m, &a);
-}
 
 static void make_libc_condition(pthread_cond_t *c)
 {
