@@ -1,4 +1,12 @@
 -- The sleepers of a hash bucket, and the queue of each key (futex(2)).
+--
+-- *Queue of a key.* The threads that sleep on a key, in the order in which they began to. A wait appends, a wake takes
+-- the first ones, a removal takes one out; other keys stay; a thread stands once at most. Source: futex(2).
+--
+-- *Moving sleepers.* The first n of a key's queue, or all where there are fewer, are taken out of it and put at the end
+-- of another queue, in order: of another key in the same bucket, or of any key in another bucket. Every other queue of
+-- both stays. A move into another bucket fits where that has room for those moved and none of them stands in it.
+-- Source: futex(2), FUTEX_REQUEUE.
 use Rattle.std.specs.Prelude.{ℕ, ◌≡◌, ◌≢◌, ◌≤◌, ◌+◌, ◌==◌, Bool, not, List, [], ◌∷◌, ◌++◌, length, map}
 use Rattle.std.specs.Prelude.{filter, take, drop, if◌then◌else◌, All, AllPairs, Contains, MatchBool}
 use Rattle.buckets.specs.declared.sleeper.Sleeper.{Sleeper}

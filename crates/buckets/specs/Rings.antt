@@ -1,4 +1,9 @@
 -- The rows of the threads that sleep, and the rings through them.
+--
+-- *The rows of a bucket.* There are 64, that of thread t at index t - 1. A thread that stands in no queue has none. One
+-- that stands in a queue has its key, and those before and after it: in the ring of those behind it in the queue, those
+-- in front of it and then itself again, the last and the first. `AreRings` says that the fields of a bucket are such
+-- rings, and `sleeping_of` who sleeps by them.
 use Rattle.std.specs.Prelude.{ℕ, zero, suc, ◌≡◌, ◌≢◌, ◌-◌, ◌≤◌, ◌==◌, nat_le, List, [], ◌∷◌, ◌++◌}
 use Rattle.std.specs.Prelude.{length, map, get_or, slice_get, Option, Some, None, if◌then◌else◌}
 use Rattle.buckets.specs.declared.row.Row.{Row}

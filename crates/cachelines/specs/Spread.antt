@@ -1,5 +1,8 @@
 -- Where the word of each place lies: three words to a group, and ten words of memory to a group, so that 64 bytes lie
 -- between the last word of one and the first of the next.
+--
+-- *Where words lie.* The word of memory that each place has: ten words to a group of three places. A list of words of
+-- memory, read by place; and a rule of words by place, as a rule of those of memory.
 use Rattle.std.specs.Prelude.{◌≡◌, ℕ, zero, suc, ◌+◌, ◌-◌, ◌*◌, ◌/◌, ◌%◌, List, [], ◌∷◌, length, slice_index}
 use Rattle.atomic_table.specs.Table.{State, Step}
 

@@ -1,4 +1,7 @@
 -- What clap finds in the words of a command line.
+--
+-- *Found by clap.* A subcommand, whether its table is asked for, and its FILE, as the matches have them; and that the
+-- words are just these, in the order of a form.
 use Rattle.std.specs.Prelude.{ℕ, ◌≡◌, ◌⊎◌, Bool, true, false, not, ◌&&◌, List, []}
 use Rattle.std.specs.Prelude.{◌∷◌, codes, Option, Some, None, if◌then◌else◌}
 use Rattle.std.specs.Str.{bytes_eq}

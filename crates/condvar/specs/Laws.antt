@@ -1,4 +1,18 @@
 -- What every call on a condition variable keeps, whatever words it meets and whatever it is answered.
+--
+-- *A right call on a condition variable.* Each access but those of the lock that ends a wait, whatever words it meets,
+-- is a step of the mutex as an object with the point's operation and reply, or leaves the object; WAITERS stays; the
+-- counter goes up by one exactly where a signal or a broadcast is OK, stays within 2^32 - 1, and is that where X_FULL
+-- is the reply. A release, a count and a setting of WAITERS are made by the mutex's owner; a move finds WAITERS set and
+-- the counter one more than it was.
+--
+-- *Where its accesses are, and whose words they need.* At the cell and at the counter alone; a broadcast moves to a
+-- cell that its thread owns and that has WAITERS, and finds the counter as it left it; and what a call needs of the
+-- words stays as long as others leave what is an owner's, WAITERS in its cell too.
+--
+-- *Permitted for any answer, of conditions.* Whatever it is answered, what a call decides at its first load is what the
+-- object permits for the cell met there; and it goes on from there only where the object permits what it may decide
+-- later.
 use Rattle.std.specs.Prelude.{ℕ, ◌≡◌, ◌≢◌, ◌+◌, ◌%◌, ◌^◌, ◌≤◌, Bool, true, false, Option, Some, None, if◌then◌else◌}
 use Rattle.lockword.specs.Cells.{Fields, fields_of}
 use Rattle.lockword.specs.declared.reply.Reply.{Reply}

@@ -1,4 +1,8 @@
 -- Calls, on mutexes and on condition variables.
+--
+-- *Calls.* On a mutex or on a condition variable; one of these is about the mutex that the layout gives its condition
+-- variable. A wait stands in a call on its condition variable until it is awake, and then in the lock that ends it
+-- (`Stage`; `protocol/src/thread.rt`).
 use Rattle.std.specs.Prelude.{ℕ, Bool, Option, Some, None, nat_lt, length}
 use Rattle.posixmutex.specs.declared.point.Operation.{Operation}
 use Rattle.memorymap.specs.Layouts.{Layout'}

@@ -1,4 +1,10 @@
 -- Which points a whole call has, whatever it is answered.
+--
+-- *A right whole call on a condition variable.* Whatever it is answered: where it returned, and not for a fault, its
+-- points are exactly one of its operation with its reply; or, of a wait that wasn't refused, an unlock with OK and then
+-- a lock with its reply. Each but that of a lock has a reply that the object permits for the cell that the call's first
+-- load met. Where a wait takes its mutex again it is a whole call of lock, by its thread, on its mutex, as the laws of
+-- `mutex` take it.
 use Rattle.std.specs.Prelude.{ℕ, ◌≡◌, ◌≢◌, ◌≤◌, ◌↔◌, ◌⊎◌, Bool, Option, Some, None, List, [], ◌∷◌, ◌++◌, All}
 use Rattle.lockword.specs.Cells.{Fields, fields_of}
 use Rattle.lockword.specs.declared.reply.Reply.{Reply}

@@ -1,4 +1,7 @@
 -- What the program does with the words of its command line.
+--
+-- *What `rfx-draw` did.* The picture of the trace in the file that the words name, or why not; with the names of the
+-- script that they name (`called_by`, `is_like`, `GivesScript`; `Names.antt`, `Scripts.antt`), as `parse` reads it.
 use Rattle.std.specs.Prelude.{ℕ, ◌≡◌, ◌⊎◌, List, [], Option, Some, None}
 use Rattle.std.specs.Prelude.{Result, Ok, Err, Vec, String, map, string_bytes}
 use Rattle.std.specs.declared.io.Error.{Error}

@@ -1,4 +1,8 @@
 -- What the walk does where nobody else writes.
+--
+-- *A right walk.* Alone, the walk does what its meaning says. Whatever it is answered, it ends after at most 10,247
+-- accesses, and each exchange that it asks for says of a word that it was told there, owned by the dead thread, that
+-- its owner died; an answer that isn't in its access's line ends it.
 use Rattle.std.specs.Prelude.{ℕ, ◌≡◌, ◌≤◌, Bool, List}
 use Rattle.exitwalk.specs.declared.row.Row.TheVariants.{Ended}
 use Rattle.exitwalk.specs.Meanings.{Effect, meaning}

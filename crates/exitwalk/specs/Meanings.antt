@@ -1,5 +1,8 @@
 -- What the exit walk leaves where nobody else writes (robust-futexes.rst, robust-futex-ABI.rst, get_robust_list(2)): a
 -- fold over the entries.
+--
+-- *The meaning of the exit walk.* Over any words that nobody else changes: which words say afterwards that their owner
+-- died, and where a sleeper is woken, entry after entry, then the pending one; the first invalid address ends all.
 use Rattle.std.specs.Prelude.{ℕ, zero, suc, ◌==◌, Bool, true, false, List, [], ◌∷◌, ◌++◌, if◌then◌else◌}
 use Rattle.posixmutex.specs.Objects.{held_limit}
 use Rattle.exitwalk.specs.Words.{sum_of, owner_in, has_waiters, died_word, put}

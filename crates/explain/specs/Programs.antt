@@ -1,4 +1,10 @@
 -- What the program does with the words of its command line.
+--
+-- *What `rfx-explain` did.* It wrote the text of an explanation of the bytes, or a beginning of it, or told why not.
+-- The title of an explanation is what the readers find: for a script the first fault in each mode (`IsFaultOf`), for a
+-- trace the judge's finding. What is marked, said and gone back to beside it is `IsAdvised`: of an unknown word that it
+-- is the first wrong one of its line (`IsStray`, `MarksFirstWrong`), of a number, a name or a line that doesn't fit
+-- which of the reasons of each is told.
 use Rattle.std.specs.Prelude.{ℕ, ◌≡◌, ◌⊎◌, List, [], Option, Some, None}
 use Rattle.std.specs.Prelude.{Result, Ok, Err, Vec, String, map, string_bytes}
 use Rattle.std.specs.declared.io.Error.{Error}

@@ -1,4 +1,10 @@
 -- What the lines of a trace tell.
+--
+-- *Fact and line.* One thing that an event did: a thread began a call, which names its mutex, and a condition variable
+-- where it is on one; had a point; returned; was killed; had its death told of a mutex; was reaped; fell asleep, on a
+-- mutex or on a condition variable; was woken; or was moved, asleep, to a mutex; or a reaped one lives anew. A line is
+-- a fact and its event's number. Points and deaths are the steps of the mutexes; a move is done to a thread by
+-- another's event, and so is a wake, but of a thread that leaves its queue by itself.
 use Rattle.std.specs.Prelude.{ℕ, Bool, true, false, Option, Some, None}
 use Rattle.std.specs.Option.{is_some}
 use Rattle.lockword.specs.declared.reply.Reply.TheVariants.{OK}

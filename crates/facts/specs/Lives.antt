@@ -1,4 +1,12 @@
 -- What a trace tells of one thread (pthread_mutex_lock, pthread_cond_wait).
+--
+-- *The points of a call.* One of the call's own operation, with the reply that it returns; of a wait that isn't refused
+-- an unlock with OK and then a lock, with the reply that it returns. A call that hasn't returned has a beginning of its
+-- points. Sources: pthread_mutex_lock(3p), pthread_cond_wait(3p).
+--
+-- *A life.* What is told of one thread's calls and death: calls that returned, each with exactly its points, of its own
+-- mutex; perhaps one that hasn't returned, with a beginning of its points; perhaps a kill, which ends that call, then
+-- deaths, and perhaps a reaping; no other point or death.
 use Rattle.std.specs.Prelude.{ℕ, ◌≡◌, ◌==◌, ◌&&◌, Bool, true, false, List, [], ◌∷◌, ◌++◌, map, if◌then◌else◌}
 use Rattle.lockword.specs.declared.reply.Reply.{Reply}
 use Rattle.lockword.specs.declared.reply.Reply.TheVariants.{OK}

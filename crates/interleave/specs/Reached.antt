@@ -1,4 +1,9 @@
 -- The kernel that a machine is made with: nobody sleeps, and each thread's head is set.
+--
+-- *At each moment.* The same after each of the events; the contract of `Machine::run`.
+--
+-- *Reached.* What a machine's type promises: some events lead to its state from a start, and it is fresh where none
+-- has.
 use Rattle.std.specs.Prelude.{ℕ, ◌≡◌, ◌≤◌, true, List, [], length, take}
 use Rattle.memorymap.specs.Layouts.{Layout', IsLayout, words_of, head_place, address_in}
 use Rattle.syscalls.specs.Kernels.{Kernel', queue_of, head_of}

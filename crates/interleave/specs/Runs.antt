@@ -1,4 +1,10 @@
 -- What holds of every run of the machine, wherever threads are killed and renewed, and mutexes made anew.
+--
+-- *A legal run.* All that is promised of events from a state on and of what was told of them: each is noted, once and
+-- in its order; after each event the points and deaths so far are a history of the machine, the notes tell who sleeps,
+-- no sleeper is stranded, and no reaped thread owns a mutex; the calls are explained; nobody is passed by; and deaths
+-- are told. `Machine::run` states it clause by clause, `play` of the trace of a script (`IsPlayed`), and `serve` of the
+-- run whose trace or table it wrote (`RunsLegally`).
 use Rattle.std.specs.Prelude.{ℕ, ◌≡◌, List, take}
 use Rattle.protocol.specs.declared.event.Event.{Event}
 use Rattle.protocol.specs.declared.note.Note.{Note}

@@ -1,4 +1,8 @@
 -- The numbers and the printed names of replies (errno(3); those with an X are this project's own).
+--
+-- *Reply.* A call's result, by the number and the name of errno(3); those that begin with X_ are the project's own. A
+-- text is read as the reply that has it as its name; the law `replies_are_read_back`: each name is read as its reply,
+-- and no other text is.
 use Rattle.std.specs.Prelude.{ℕ, ◌≡◌, List, [], ◌∷◌, Option, Some, find, codes}
 use Rattle.std.specs.Str.{bytes_eq}
 use Rattle.lockword.specs.declared.reply.Reply.{Reply}

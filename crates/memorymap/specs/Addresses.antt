@@ -1,5 +1,16 @@
 -- Addresses and places: a process maps the words at a base, and there the word at place x has the address base + x,
 -- modulo 2^64.
+--
+-- *Address and place.* A process maps the words at a base: there the word at place p has the address base + p, modulo
+-- 2^64. An address is valid in a process if its place is at least 1 and less than the number of words. Whatever a whole
+-- program holds is an address of its thread's process: its registers, and the first entries, links and pending entries
+-- that it stores. Words, queues, keys and buckets go by the place. The laws `addresses_are_sums` (`AddressesAreSums`;
+-- `memorymap/specs/Mappings.antt`), `addresses_are_seen` and `writes_are_seen`: an address is the sum of the base of
+-- the thread's own process and the place, modulo 2^64, so the place itself at base 0, one more for the next place, and
+-- as far from that of another process as their bases are apart; from each base the two are inverses; and a write at a
+-- place is seen at its address alone. So what is said of chains and of the exit walk, over words by address, holds of
+-- the words as each thread's process sees them. Source: futex(2) on shared futexes, which meet by the memory and not by
+-- its address; mmap(2).
 use Rattle.std.specs.Prelude.{ℕ, ◌≡◌, ◌+◌, ◌-◌, ◌%◌, ◌^◌, ◌<◌, ◌==◌, if◌then◌else◌}
 
 -- the address of a place as it is seen from a base

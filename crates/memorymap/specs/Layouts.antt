@@ -1,4 +1,12 @@
 -- The places of the shared words, and the keys that sleepers meet by.
+--
+-- *Layout.* 1 to 64 threads, 1 to 4,096 mutexes and at most 256 condition variables, each of one of the mutexes; 1 to 8
+-- processes, each with a base of at most 1,000,000,000, and for each thread its process. `one_process` is a layout
+-- whose threads are all of one process with base 0. Word 0 is null; then come the heads of the threads (first entry,
+-- offset, pending entry: `struct robust_list_head`), the mutexes (the cell, then the two links of its list entry) and
+-- the counters. The law `places_differ`: all of them are inside and pairwise different. At first (`first_word`) a head
+-- has its own address in its thread's process, the offset -1 and no pending entry, a counter its preset, and every
+-- other word is 0. Source: get_robust_list(2), robust-futex-ABI.
 use Rattle.std.specs.Prelude.{ℕ, ◌≡◌, ◌+◌, ◌-◌, ◌*◌, ◌/◌, ◌%◌, ◌<◌, ◌≤◌, ◌==◌, ◌&&◌, Bool, nat_le}
 use Rattle.std.specs.Prelude.{nat_lt, List, [], ◌∷◌, length, replicate, slice_index, All, if◌then◌else◌}
 use Rattle.memorymap.specs.Addresses.{address_from, seen_at}

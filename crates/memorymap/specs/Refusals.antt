@@ -1,4 +1,7 @@
 -- Which layouts there are, and which fault tells that there is none.
+--
+-- *The first fault of a layout.* What is asked for is given, and else the first of threads, mutexes, conditions,
+-- processes, bases and members (a thread of a process that isn't there) that is out of its limits is told.
 use Rattle.std.specs.Prelude.{ℕ, ◌≡◌, List, length, Result, Ok, Err}
 use Rattle.memorymap.specs.Layouts.{HasThreads, HasMutexes, HasConditions, HasProcesses, HasBases, AreOf, one_process}
 use Rattle.memorymap.specs.declared.layout.Layout.{Layout}

@@ -1,4 +1,8 @@
 -- What a call does while no other thread steps, and which calls answer for a mutex that nobody owns.
+--
+-- *Where nobody else steps.* What an access of a call does that runs alone: WAITERS stays, or nobody sleeps there and
+-- nobody owns the cell; fewer accesses are left, or it falls asleep, which it does only on an owned cell with WAITERS;
+-- who leaves a free cell with WAITERS answers for it.
 use Rattle.std.specs.Prelude.{ℕ, ◌≡◌, ◌≢◌, ◌==◌, ◌-◌, ◌%◌, ◌^◌, ◌<◌, ◌⊎◌, Bool, true, false, List, [], if◌then◌else◌}
 use Rattle.lockword.specs.Cells.{word_of, low_of, fields_of}
 use Rattle.lockword.specs.declared.reply.Reply.TheVariants.{XRACED}

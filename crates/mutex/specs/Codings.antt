@@ -12,6 +12,9 @@
 -- | 48 to 60 | Announcing, with the row of 32 less next | as that row
 --
 -- What a kind doesn't carry is 0. A number is the one of errno(3), or the project's own, for replies.
+--
+-- *Where a call or a walk stands, as numbers.* A table at the head of each file: a number for each row, and what that
+-- row carries. A phase that links or unlinks does so at the call's own head and entry (`LiesAt`).
 use Rattle.std.specs.Prelude.{ℕ, ◌≡◌, ◌+◌, Bool, true, false}
 use Rattle.lockword.specs.Cells.{word_of}
 use Rattle.lockword.specs.Replies.{number_of}

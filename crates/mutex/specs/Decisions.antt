@@ -1,4 +1,9 @@
 -- How a whole call is decided, whatever it is answered.
+--
+-- *Decided for any answer.* Whatever a whole call is answered: its point's reply is one that the object permits for the
+-- cell that it met there, or met last before; once it has returned, and not for a fault, it has had exactly one point,
+-- with its reply; and it returns EFAULT exactly after an answer that isn't in its access's line. The laws
+-- `whole_calls_are_decided` and `faults_are_told`.
 use Rattle.std.specs.Prelude.{ℕ, ◌≡◌, ◌≢◌, ◌≤◌, Option, Some, None, List, [], ◌∷◌, ◌++◌}
 use Rattle.lockword.specs.Cells.{Fields}
 use Rattle.lockword.specs.declared.reply.Reply.{Reply}

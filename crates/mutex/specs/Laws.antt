@@ -1,4 +1,11 @@
 -- What every call keeps, whatever the words that it meets and the answers that it gets.
+--
+-- *A right program.* Each access, whatever word it meets and whoever sleeps there, is a step of the mutex as an object
+-- with the point's operation and reply, or leaves the object; a call has one point at most, and returns its reply.
+--
+-- *WAITERS and trims.* Each access of a call but a trim leaves WAITERS where it is set; a call at its cell comes to a
+-- trim exactly where an unlock was to wake one thread and woke nobody; and a whole unlock goes on to its trim there.
+-- The laws `waiters_are_kept`, `unlocks_trim_after_waking_nobody`.
 use Rattle.std.specs.Prelude.{ℕ, ◌≡◌, ◌≢◌, ◌↔◌, ◌+◌, ◌≤◌, ◌<◌, Bool, true, Option, Some, None, List, [], ◌∷◌}
 use Rattle.lockword.specs.Cells.{Fields, fields_of}
 use Rattle.lockword.specs.declared.reply.Reply.{Reply}

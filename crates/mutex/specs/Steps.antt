@@ -1,4 +1,8 @@
 -- What one access of a call tells beyond the object.
+--
+-- *One step more.* What an access that is no futex section leaves beside the object: WAITERS stays and the bits above
+-- the flags stay clear, a release tells whom it has to wake by the word that it found, and but for a lock the call has
+-- fewer steps left, whatever others do.
 use Rattle.std.specs.Prelude.{ℕ, ◌≡◌, ◌≢◌, ◌-◌, ◌<◌, true, false}
 use Rattle.std.proofs.Props.{props}
 use Rattle.lockword.specs.Cells.{Fields, fields_of}

@@ -1,5 +1,12 @@
 -- Whom a call on a mutex wakes (pthread_mutex_unlock(3p); pthread_mutexattr_getrobust(3p), for ENOTRECOVERABLE;
 -- FUTEX_WAKE in futex(2)).
+--
+-- *Whom a call asks to be woken.* Of its rows at the cell and the counter, and of the whole call (`WholeCallsWake`;
+-- `mutex/specs/WholeLaws.antt`, `condvar/specs/WholeLaws.antt`), which wakes nobody elsewhere. Exactly behind a
+-- release, and where a lock finds the mutex unusable, if the cell that was met had WAITERS: one sleeper of a mutex that
+-- is usable then, all of one that is unusable. A wait's release wakes one likewise, a signal that counted one of its
+-- condition variable; trylocks, declarations and broadcasts make no wake. The laws `wakes_are_right`,
+-- `whole_calls_wake`. How many the machine then wakes: *Whom an event wakes*.
 use Rattle.std.specs.Prelude.{ℕ, ◌≡◌, ◌↔◌, ◌≤◌, Bool, true, Option, Some, List, if◌then◌else◌}
 use Rattle.lockword.specs.Cells.{fields_of}
 use Rattle.lockword.specs.declared.reply.Reply.{Reply}

@@ -1,4 +1,8 @@
 -- What every whole call keeps, whatever it is answered.
+--
+-- *A right whole call.* Whatever it is answered, its point is made at the cell, with a reply that the object permits
+-- for the cell met there; it goes to release the mutex only once it loaded a cell for which that is permitted; X_RACED
+-- only after four changed cells.
 use Rattle.std.specs.Prelude.{ℕ, ◌≡◌, ◌≢◌, ◌≤◌, ◌↔◌, ◌⊎◌, Bool, false, Option, Some, None, List, [], ◌∷◌}
 use Rattle.lockword.specs.Cells.{Fields, fields_of}
 use Rattle.lockword.specs.declared.reply.Reply.{Reply}

@@ -2,6 +2,14 @@
 -- links of the mutexes that it owns (robust-futexes; robust-futex-ABI).
 --
 -- `w a` is such a word at the address a in the thread's process. `owns k` tells whether the thread owns mutex k.
+--
+-- *A thread's list through a call.* A thread alone writes its head's first entry and its pending one, and the links of
+-- the mutexes that it owns (`IsOwnPlace`). Between calls these words lead from its head, both ways, over just the
+-- mutexes that it owns, and nothing is pending. In a call they do so but for one entry that is put in or taken out just
+-- then, or whose mutex is about to be released; the call's entry is pending from before the cell is looked at to take
+-- it, and before it is released. Dead: next words lead over mutexes that it owned, and each that it owned is one of
+-- these or the pending one. Of each access of a whole call, whatever others do at its cell: the law
+-- `whole_calls_keep_lists`. Source: robust-futexes; robust-futex-ABI.
 use Rattle.std.specs.Prelude.{ℕ, ◌≡◌, ◌≢◌, ◌<◌, ◌≤◌, ◌+◌, ◌⊎◌, Bool, true, false, Option, Some, None, List}
 use Rattle.lockword.specs.declared.reply.Reply.{Reply}
 use Rattle.lockword.specs.declared.reply.Reply.TheVariants.{OK, EOWNERDEAD, EFAULT}

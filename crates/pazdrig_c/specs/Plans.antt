@@ -1,4 +1,8 @@
 -- A call where nobody is in the way, whole: its accesses, one after the other, and what a plan says of them.
+--
+-- *A plan.* A call where nobody is in the way, whole: some stores, one access at the cell, the other stores. `asked`
+-- and `run` are what a program asks, and what is left of it, where it is answered so and so; `changes_in` leaves the
+-- loads out. The laws `locks_by_plan`, `unlocks_by_plan`.
 use Rattle.std.specs.Prelude.{ℕ, ◌≡◌, ◌==◌, ◌≤◌, ◌&&◌, Bool, true, false, not, nat_le, List, [], ◌∷◌, ◌++◌, take, drop}
 use Rattle.lockword.specs.Cells.{Fields, word_of, fields_of, taken}
 use Rattle.lockword.specs.declared.reply.Reply.TheVariants.{OK}

@@ -1,6 +1,13 @@
 -- Short calls, those that what they load decides, whole: a signal, a broadcast, a declaration that a mutex is
 -- consistent, and each call that is refused (pthread_cond_signal, pthread_cond_broadcast, pthread_mutex_consistent, and
 -- the errors of each call). Their accesses, one after the other, how far each answer brings them, and what C is told.
+--
+-- *A short call.* A call that what it loads decides, whole: a signal and a broadcast of the owner, the owner's
+-- declaration that an inconsistent mutex is consistent, and each call that its look at the cell refuses, or at the
+-- counter. `refused` says what refuses it. `accesses`, `progresses` and `left` are what a call of either kind asks, how
+-- far each answer brings it, and what is left of it, where it is answered so and so. The laws `signals_by_plan`,
+-- `broadcasts_by_plan`, `declares_by_plan`, `refusals_by_plan`. Source: pthread_cond_signal, pthread_cond_broadcast,
+-- pthread_mutex_consistent and the errors of each call.
 use Rattle.std.specs.Prelude.{ℕ, ◌≡◌, ◌==◌, ◌+◌, ◌%◌, ◌^◌, ◌&&◌, Bool, true, false, not, Option, Some, None}
 use Rattle.std.specs.Prelude.{List, [], ◌∷◌, ◌++◌, take, length, if◌then◌else◌}
 use Rattle.lockword.specs.Cells.{Fields, fields_of}

@@ -1,4 +1,7 @@
 -- Which mutexes have bands: all of them, or where there are more than fit those that the trace uses first.
+--
+-- *Bands.* Which mutexes a picture shows beside its lanes: all, or where there are more than fit those of which the
+-- trace tells a point or a death first.
 use Rattle.std.specs.Prelude.{ℕ, zero, suc, ◌+◌, ◌==◌, ◌||◌, nat_le, Bool, false, Option, Some}
 use Rattle.std.specs.Prelude.{None, List, [], ◌∷◌, slice_index_or, slice_set, if◌then◌else◌}
 use Rattle.posixmutex.specs.declared.point.Decision.{Decision}

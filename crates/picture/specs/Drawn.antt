@@ -1,4 +1,7 @@
 -- A picture in text: time runs downwards.
+--
+-- *The picture in text.* A row for each line, in the order of the trace: the number of its event, the mutexes' owners,
+-- all lanes.
 use Rattle.std.specs.Prelude.{ℕ, min, List, [], ◌∷◌, ◌++◌}
 use Rattle.facts.specs.declared.fact.Line.{Line}
 use Rattle.picture.specs.declared.bands.Extent.{Extent}

@@ -1,4 +1,17 @@
 -- What holds of every picture.
+--
+-- *A mark stands in its own lane.* What stands in the lanes at a line's row is a text of as many columns as the lanes
+-- before its thread's have, then the line's mark, then the rest; in no other lane is a mark. A column is a character of
+-- UTF-8.
+--
+-- *A lane that shows something stands in its columns.* A row is a text of 8 columns for the event, those of each band
+-- and of each lane before this one, then what stands in the lane, then the rest: of each lane that no words of another
+-- one cover, where the numbers of the line and the owners have as many digits as a trace's, and names are as a
+-- script's. The last column of a band is blank.
+--
+-- *Texts have room.* A letter is taken to be 7.5 pixels wide at most, which is more than one of a monospaced font at 11
+-- pixels takes: then the words of a line end within the picture, up to five threads before the next lane's marks, and
+-- neither the names of two bands touch nor those of two lanes.
 use Rattle.std.specs.Prelude.{All, Any, IsSomeAnd, Some, None, ℕ, ◌≡◌, ◌≢◌, ◌≤◌, ◌<◌, ◌+◌, ◌-◌}
 use Rattle.std.specs.Prelude.{◌*◌, ◌/◌, ◌^◌, ◌==◌, nat_lt, Bool, true, false, List, [], ◌∷◌, ◌++◌}
 use Rattle.std.specs.Prelude.{length, codes, decimal, slice_index_or, IfSome, if◌then◌else◌}

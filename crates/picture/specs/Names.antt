@@ -1,4 +1,7 @@
 -- What things are called in a picture.
+--
+-- *Names.* What threads, mutexes and condition variables are called: by a name, or where they have none by a letter and
+-- a number. How many letters of a name a picture has room for: those of the longest one, 16 at most.
 use Rattle.std.specs.Prelude.{ℕ, ◌-◌, max, min, nat_lt, List, [], ◌∷◌, length}
 use Rattle.std.specs.Prelude.{codes, decimal, slice_index_or, if◌then◌else◌}
 

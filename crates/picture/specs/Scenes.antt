@@ -1,4 +1,8 @@
 -- What all lanes and bands show, line after line.
+--
+-- *Scene.* Behind each line: what each thread's lane shows (`after`: a call from its begin to its return or its kill,
+-- sleep until a wake, death), each mutex's object (`stepped`: pthread_mutex_lock, pthread_mutex_consistent), of those
+-- that have bands, and whose event it is, as far as lines tell.
 use Rattle.std.specs.Prelude.{ℕ, ◌==◌, Option, Some, None, List, [], ◌∷◌}
 use Rattle.std.specs.Prelude.{replicate, slice_index_or, slice_set, if◌then◌else◌}
 use Rattle.posixmutex.specs.declared.object.Object.{Object}

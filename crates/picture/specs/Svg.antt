@@ -1,5 +1,8 @@
 -- An SVG picture: time runs downwards. Below stands what lanes and bands show from line to line, over it the marks of
 -- all lines.
+--
+-- *The picture as SVG.* What lanes and bands show from line to line, and over that each line's number, its mark in the
+-- middle of its thread's lane or an arrow to it, and its words. Source: Scalable Vector Graphics 1.1.
 use Rattle.std.specs.Prelude.{ℕ, ◌+◌, Bool, true, false, Option, Some, None, List, [], ◌∷◌, ◌++◌, length}
 use Rattle.std.specs.Prelude.{codes, decimal, replicate, slice_index_or, slice_set, if◌then◌else◌}
 use Rattle.std.specs.List.{concat}

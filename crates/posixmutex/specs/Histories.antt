@@ -1,4 +1,7 @@
 -- Legal histories of all mutexes.
+--
+-- *Legal history.* A list of operations and deaths of all mutexes is legal where each, in its order, is a step of its
+-- mutex's object and leaves the others; a thread's number of held mutexes is counted from the objects.
 use Rattle.std.specs.Prelude.{ℕ, zero, suc, ◌≡◌, ◌≢◌, ◌+◌, ◌<◌, ◌==◌, Bool, false}
 use Rattle.std.specs.Prelude.{Option, Some, None, List, [], ◌∷◌, if◌then◌else◌}
 use Rattle.posixmutex.specs.declared.point.Decision.{Decision}

@@ -1,5 +1,17 @@
 -- A robust mutex as POSIX sees it (pthread_mutex_lock, pthread_mutex_trylock, pthread_mutex_unlock,
 -- pthread_mutex_consistent, pthread_mutex_destroy), with no bits.
+--
+-- *Object step.* From an object, a thread's operation may have a reply and leave an object: one clause for each
+-- operation and reply, the others being forbidden. A thread that holds 2,048 mutexes (`held_limit`, which is also how
+-- many entries the exit walk loads at most) gets X_HELD for any lock or trylock, as the kernel walks that many entries
+-- (`ROBUST_LIST_LIMIT`). Its plain program is `Object::step`. What is left is determined by the reply (`stepped`; the
+-- law `steps_are_determined`).
+--
+-- *Why a mutex changes, and why replies come.* Above the table, in the mutex's own fields: who may change it and to
+-- what (the law `changes_have_reasons`), in which state alone each reply comes (`replies_have_reasons`) and that there
+-- it may (`reasons_suffice`), that X_HELD comes exactly at the limit of 2,048 (`limit_is_exact`), and that every
+-- operation has a reply but those that sleep or that can't be (`calls_are_answered`). Source: pthread_mutex_lock(3p),
+-- pthread_mutex_unlock(3p), pthread_mutex_consistent(3p), pthread_mutexattr_getrobust(3p).
 use Rattle.std.specs.Prelude.{ℕ, zero, suc, ◌≡◌, ◌≢◌, Bool, true, false, ◌&&◌, ◌||◌, ◌⊎◌, ◌↔◌, ◌≤◌}
 use Rattle.std.specs.Prelude.{nat_le, if◌then◌else◌, MatchBool, Option, Some, None, List, [], ◌∷◌}
 use Rattle.lockword.specs.Cells.{Fields}

@@ -1,4 +1,7 @@
 -- The words that scripts and traces write for operations.
+--
+-- *Operation's word.* What scripts and traces write for an operation, and the operation that a text is read as, a death
+-- too; the law `operations_are_read_back`.
 use Rattle.std.specs.Prelude.{ℕ, ◌≡◌, List, [], ◌∷◌, Option, Some, find, codes}
 use Rattle.std.specs.Str.{bytes_eq}
 use Rattle.posixmutex.specs.declared.point.Operation.{Operation}

@@ -1,4 +1,8 @@
 -- Calls that never wait: all but a lock and a wait.
+--
+-- *Calls that never wait.* All but a lock and a wait. Each makes so many accesses at most, by its table: once its
+-- thread has made so many steps behind its begin its return has been told, whatever others did in between, if the
+-- thread wasn't killed; and it stands in no queue until it begins another call. The law `only_locks_and_waits_wait`.
 use Rattle.std.specs.Prelude.{ℕ, ◌≡◌, ◌≢◌, ◌+◌, ◌≤◌, ◌==◌, true, List, [], ◌∷◌, if◌then◌else◌}
 use Rattle.lockword.specs.declared.reply.Reply.{Reply}
 use Rattle.posixmutex.specs.declared.point.Operation.{Operation}

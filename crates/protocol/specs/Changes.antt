@@ -1,5 +1,11 @@
 -- What a begin, a kill and a step may change; every other event is spoken of where it is defined (`Leaves.antt`,
 -- `Renewals.antt`, `Reinits.antt`). Who stands in which queue behind it is what the trace tells (`Wakings.antt`).
+--
+-- *What an event changes.* A begin changes no word and no queue, a kill no word and only its thread's place in a queue,
+-- a step one word at most: one of its thread's head, a link of a mutex that this owns, its call's cell, or the counter
+-- where it is a signal or a broadcast; a dead thread's the cell of a mutex that it owns. It changes the queues of that
+-- mutex and that condition variable alone, a dead thread's those of mutexes. No other thread changes. Of every state
+-- that events lead to: the law `events_leave_the_rest`.
 use Rattle.std.specs.Prelude.{ℕ, ◌≡◌, ◌≢◌, ◌+◌, ◌<◌, ◌≤◌, ◌⊎◌, Option, Some, List}
 use Rattle.buckets.specs.Queues.{without}
 use Rattle.posixmutex.specs.declared.point.Operation.TheVariants.{Signal, Broadcast}

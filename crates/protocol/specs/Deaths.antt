@@ -1,4 +1,8 @@
 -- What is told of a thread's death (robust-futexes; pthread_mutexattr_getrobust(3p)).
+--
+-- *Reports deaths.* A killed thread's death is told, once, of each mutex that it owned at the kill and has lost since,
+-- and of no other. The law `deaths_are_told` states it of every layout, list of events and kill, and `Machine::run` of
+-- what the machine did.
 use Rattle.std.specs.Prelude.{ℕ, ◌≡◌, ◌≢◌, ◌+◌, ◌<◌, ◌==◌, true, ◌&&◌, ◌⊎◌, Some, List, [], ◌∷◌, ◌++◌, if◌then◌else◌}
 use Rattle.memorymap.specs.Layouts.{Layout', IsLayout}
 use Rattle.protocol.specs.declared.event.Event.{Event}

@@ -1,4 +1,11 @@
 -- What a trace tells of each thread, and how its lines follow each other.
+--
+-- *Explained.* What a trace tells of each thread is its lives, one behind the other, each but the last ended by its
+-- reaping and followed by its renewal (`Lives`; `facts/specs/Lives.antt`); in a life each call has the points of its
+-- operation, on its mutex, or a beginning of them; lines are in order, and of those of one event a begin is the first,
+-- a return or a reaping the last, a renewal the only one, and wakes and moves stand behind the point; and each line but
+-- a wake or a move is of an event of its own thread. The law `trace_is_explained` states it of every layout and list of
+-- events, and `Machine::run` of what the machine did.
 use Rattle.std.specs.Prelude.{ℕ, ◌≡◌, ◌+◌, ◌==◌, Bool, true, false, List, [], ◌∷◌, if◌then◌else◌}
 use Rattle.memorymap.specs.Layouts.{Layout', IsLayout}
 use Rattle.facts.specs.declared.fact.Fact.{Fact}

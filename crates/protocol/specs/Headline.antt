@@ -1,4 +1,10 @@
 -- What holds of every run.
+--
+-- *A history of the machine.* The points and deaths among the notes are a legal history from free mutexes, after which
+-- each mutex is as its cell says. The law `history_is_legal` states it of every layout and list of events.
+--
+-- *No reaped owner.* A thread that was reaped owns no mutex. The law `no_reaped_owner` states it of every state that
+-- events lead to, and so does each of the machine's calls that makes or changes one.
 use Rattle.std.specs.Prelude.{ℕ, ◌≡◌, ◌≢◌, Some, nat_lt, List, [], ◌∷◌, ◌++◌, if◌then◌else◌}
 use Rattle.lockword.specs.declared.reply.Reply.TheVariants.{OK}
 use Rattle.posixmutex.specs.declared.point.Operation.TheVariants as operation

@@ -1,4 +1,9 @@
 -- What the kernel would find of each thread, were it to die now (get_robust_list(2); robust-futexes, its ABI document).
+--
+-- *What a walk would find.* From the head of a thread that lives next words lead over different entries, 2,048 at most,
+-- and back, all by their addresses in the thread's process: those of mutexes that it owns; each mutex that it owns is
+-- one of them or the pending one. Of every state that events lead to: the law `lists_are_kept`. Source:
+-- get_robust_list(2), robust-futex-ABI.
 use Rattle.std.specs.Prelude.{ℕ, ◌≡◌, ◌+◌, ◌<◌, ◌≤◌, ◌⊎◌, true, Some, List, length}
 use Rattle.memorymap.specs.Chains.{IsAmong, IsChain}
 use Rattle.posixmutex.specs.Objects.{held_limit}

@@ -1,4 +1,34 @@
 -- The machine: threads whose calls step over shared words, and sleep on them.
+--
+-- *State.* The words by place, who sleeps on each word, in order, and for each thread whether it is in a call, dying or
+-- reaped, where its call or walk stands, and how many mutexes it holds. At first each head has its own address as its
+-- first entry, nobody owns anything, nobody sleeps, and nobody is in a call.
+--
+-- *Step.* A begin begins a call of an idle thread; a step makes the next access of a thread that is in a call and
+-- doesn't sleep, or of a dying thread's walk; a kill takes a thread out of its queue and ends its call; a leave takes a
+-- sleeper out of its queue; a decline is the step of a thread whose next access is a trim, answered that this cleared
+-- nothing; a renewal lets a reaped thread live anew; a reinit makes an unusable mutex anew. An event that can't apply
+-- notes nothing and changes nothing.
+--
+-- *A leave and a declined trim.* A thread that sleeps stands where it goes on when it is woken; so a leave only takes
+-- it out of its queue: no word changes, no thread, and no place of another in a queue, and its wake is told. A declined
+-- trim is answered that the word wasn't cleared, whatever that is, and changes no word and no queue; its thread goes on
+-- as behind a trim that was made. The law `leaves_and_declines_are_lone`. Source: futex(2), EINTR.
+--
+-- *A renewal.* A thread that was reaped lives anew, with the same id: the three words of its head are as at first, an
+-- empty list that nothing is pending beside, and it is in no call and owns nothing; nothing else changes, and that it
+-- is renewed is all that is told. The law `renewals_begin_anew`; where nobody is renewed each thread has one life
+-- (`without_renewals_as_before`). Source: get_robust_list(2).
+--
+-- *A reinit.* A thread that lives and is in no call makes an unusable mutex anew on which nobody sleeps: its word is 0,
+-- and it is free; no other word, no queue and no thread changes, and it is told as a call of one event, a begin, a
+-- point with OK and a return. Else nothing happens. The law `reinits_free_the_mutex`. Source:
+-- pthread_mutex_destroy(3p), pthread_mutex_init(3p).
+--
+-- *Where an access meets its word.* Words and queues stand at places, and accesses have addresses of their thread's
+-- process: the word that one meets is that at the place of its address there. So threads of processes with different
+-- bases meet at one word, and in one queue. An access is refused where the place isn't one of the layout's, and a
+-- requeue also from a word to itself. Source: futex(2) on shared futexes.
 use Rattle.std.specs.Prelude.{ℕ, not, ◌==◌, ◌+◌, ◌-◌, ◌/◌, ◌%◌, ◌^◌, Bool, true, false, ◌&&◌, nat_le, nat_lt}
 use Rattle.std.specs.Prelude.{Option, Some, None, Result, Ok, Err, List, [], ◌∷◌, ◌++◌, take, drop, if◌then◌else◌}
 use Rattle.lockword.specs.Cells.{fields_of}

@@ -1,4 +1,8 @@
 -- Unusable mutexes that are made anew (pthread_mutex_destroy(3p), pthread_mutex_init(3p)).
+--
+-- *Nobody joins.* Where a mutex is unusable, whoever sleeps on it behind the next event, or behind any events in which
+-- nobody makes it anew, slept there before: the law `nobody_joins_an_unusable_mutex`, of every state that events lead
+-- to.
 use Rattle.std.specs.Prelude.{ℕ, ◌≡◌, ◌≢◌, ◌<◌, ◌≤◌, true, None, List, [], ◌∷◌}
 use Rattle.lockword.specs.declared.reply.Reply.TheVariants.{OK}
 use Rattle.posixmutex.specs.declared.point.Operation.TheVariants as operation

@@ -1,4 +1,8 @@
 -- A wait gives up a consistent mutex alone (pthread_cond_wait(3p); of an inconsistent one that would make it unusable).
+--
+-- *What a wait releases.* Where an event tells an unlock with OK of a thread whose call, as it was told, is a wait,
+-- that thread owned the wait's mutex directly before, and it was consistent: the law
+-- `waits_release_consistent_mutexes`. Source: pthread_cond_wait(3p).
 use Rattle.std.specs.Prelude.{ℕ, ◌≡◌, false, Some, List}
 use Rattle.lockword.specs.declared.reply.Reply.TheVariants.{OK}
 use Rattle.posixmutex.specs.declared.point.Operation.TheVariants.{Unlock, Wait}

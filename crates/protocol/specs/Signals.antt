@@ -1,5 +1,11 @@
 -- A signal and a broadcast by the owner of the mutex that no other event divides (pthread_cond_signal(3p),
 -- pthread_cond_broadcast(3p)).
+--
+-- *A signal and a broadcast alone.* By the owner of the mutex, and divided by no other event: refused with X_FULL
+-- exactly where the counter is 2^32 - 1, and then nothing changes. Else it counts; a signal takes the front of its
+-- condition variable's queue, and a broadcast sets WAITERS in its mutex's cell and moves the whole queue, in its order,
+-- to the end of the mutex's; nothing else changes. Of every state that events lead to, with such counters: the law
+-- `signals_are_right`. Source: pthread_cond_signal(3p), pthread_cond_broadcast(3p), futex(2).
 use Rattle.std.specs.Prelude.{ℕ, ◌≡◌, ◌≢◌, ◌+◌, ◌≤◌, true, Some, List, [], ◌∷◌}
 use Rattle.std.specs.Prelude.{◌++◌, map, replicate, take, drop, slice_index}
 use Rattle.lockword.specs.Cells.{fields_of}

@@ -1,4 +1,21 @@
 -- Threads that sleep, and who owes them.
+--
+-- *Asleep, awake.* A thread sleeps on a mutex where it stands in the queue of the mutex's cell. It is asleep where it
+-- stands in the queue of one of the places that its stage has: a call on a mutex has its cell; the lock that ends a
+-- wait has its mutex's cell, and the counter of its condition variable until it is moved or woken. It is awake in a
+-- call or dying where it stands in no queue. Source: futex(2).
+--
+-- *Owes.* A thread owes a mutex where, run alone, within so many steps it owns the mutex or one that slept on it sleeps
+-- there no more. Whenever a mutex that nobody owns has sleepers, some awake thread owes it, within 9,000 steps.
+--
+-- *Undivided.* A call that no other event divides has its return told after 9,000 steps of its thread at the latest, or
+-- its thread sleeps then. What it returns is a reply that the object's step has for the mutex as it was, never X_RACED,
+-- and leaves it so; it sleeps only where it locks a mutex that another owns, or waits as the owner of a consistent one,
+-- and then in the queue of its condition variable.
+--
+-- *Runs alone.* The three of every state that events lead to: the laws `no_sleeper_is_stranded` (somebody owes),
+-- `lone_threads_come_to_rest` (ends alone) and `undivided_calls_reply` (undivided); and all of them together
+-- (`RunsAlone`) in the contract of each of the machine's calls that makes or changes one.
 use Rattle.std.specs.Prelude.{ℕ, ◌≡◌, ◌≢◌, ◌<◌, ◌≤◌, ◌⊎◌, true, false, Some, None, Option, List, [], ◌∷◌, replicate}
 use Rattle.lockword.specs.declared.reply.Reply.{Reply}
 use Rattle.lockword.specs.declared.reply.Reply.TheVariants.{XRACED}

@@ -1,4 +1,10 @@
 -- The WAITERS bit of mutexes' words, over runs of the machine.
+--
+-- *WAITERS of words.* Where a thread sleeps on a mutex, the mutex's word has WAITERS. From event to event WAITERS stays
+-- in each mutex's word, or it goes from one that nobody owned and on which nobody sleeps. And where nobody sleeps on a
+-- mutex that an unlock has released and is to wake one sleeper of (`IsToWakeOne`), its thread's next two steps leave
+-- the word 0, if that was WAITERS alone, and else as it was (`IsTrimmed`). Of every state that events lead to: the law
+-- `waiters_are_kept`. Source: Futexes Are Tricky.
 use Rattle.std.specs.Prelude.{ℕ, ◌≡◌, ◌<◌, ◌≤◌, ◌==◌, ◌⊎◌, true, false, List, [], ◌∷◌, if◌then◌else◌}
 use Rattle.lockword.specs.Cells.{fields_of}
 use Rattle.memorymap.specs.Layouts.{Layout', IsLayout, cell_place}

@@ -1,5 +1,15 @@
 -- Whom an event wakes or moves (pthread_mutex_unlock(3p), pthread_cond_signal(3p), pthread_cond_broadcast(3p);
 -- pthread_mutexattr_getrobust(3p), for ENOTRECOVERABLE; robust-futexes).
+--
+-- *Whom an event wakes.* A step of a thread in a call tells the wakes of nobody, or of just those whom the call is to
+-- wake, as it was told: the first of its mutex's queue, or all of that, in its order, where the mutex was unusable
+-- directly behind the event of the call's last point (`left_by`), and nobody before it has had one; of a signal the
+-- first of its condition variable's queue; of a trylock, a declaration and a broadcast nobody. It tells the moves of
+-- nobody, or of a broadcast those of all its condition variable's queue to its mutex's. A step of a dead thread's walk
+-- tells the wake of nobody, or of the first of a mutex's queue; a leave tells the wake of its own thread or none, and
+-- no move (`WakesItself`); a begin, a kill and a decline tell no wake and no move. Of every state that events lead to:
+-- the law `wakes_are_right`. Source: pthread_mutex_unlock(3p), pthread_cond_signal(3p), pthread_cond_broadcast(3p),
+-- pthread_mutexattr_getrobust(3p), robust-futexes.
 use Rattle.std.specs.Prelude.{ℕ, ◌≡◌, ◌<◌, ◌==◌, ◌⊎◌, Option, Some, None, List, [], ◌∷◌, map, take, if◌then◌else◌}
 use Rattle.posixmutex.specs.declared.object.Object.{Object}
 use Rattle.posixmutex.specs.declared.point.Operation.{Operation}

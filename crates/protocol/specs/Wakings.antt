@@ -1,4 +1,18 @@
 -- What a trace tells of who falls asleep and who is woken (futex(2)).
+--
+-- *Told asleep.* Where a thread sleeps by what the trace has told of it: that of the last of its lines among sleep,
+-- move, wake and kill, where this is a sleep or a move. Its sleeps and wakes alternate: it is told to fall asleep only
+-- where it was awake, and to be woken or moved only where it slept.
+--
+-- *Sleeps are told.* A thread stands in a queue exactly where it is told asleep, in the queue told, and in no other. In
+-- each queue they stand as they came, by what was told: a sleep comes to its end, a move to the end of the mutex's, and
+-- a wake or a kill takes out; each wake by another's event and each move names the front (`NameFronts`: of facts in
+-- which nobody leaves by itself, which the law `without_leaves_as_before` has of whole runs). The next event tells its
+-- sleep exactly where it comes to stand in a queue, its wake exactly where it leaves one and stands in none, but by its
+-- kill, and its move exactly where it leaves that of a condition variable for its mutex's. A sleep is told only of a
+-- thread whose call is a lock of that mutex, or a wait on it or on that condition variable. Of every state that events
+-- lead to, so of each beginning of a run: the law `sleeps_are_told`, and `Machine::run` of what the machine did
+-- (`TellsAtEachMoment`; `interleave/specs/Reached.antt`). Source: futex(2).
 use Rattle.std.specs.Prelude.{ℕ, length, slice_index, ◌≡◌, ◌≢◌, ◌<◌, ◌==◌, ◌↔◌, ◌⊎◌, Bool, true}
 use Rattle.std.specs.Prelude.{false, Option, Some, None, List, [], ◌∷◌, ◌++◌, if◌then◌else◌}
 use Rattle.buckets.specs.Queues.{without}

@@ -1,4 +1,12 @@
 -- Why nothing, or not all, of what a command line asks for was written, and what is known then.
+--
+-- *Failed.* Why nothing was written, or a beginning: the file couldn't be read, or memory was wanted, before the first
+-- byte; what was read has this fault, or wants memory at a line before it; or a writer failed behind a beginning of
+-- what the bytes mean.
+--
+-- *How a form ended.* It wrote what it had to, the writer has let go of that (`is_let_go`), and nothing was told; or it
+-- failed, and that is told, or a beginning of it. The program serves the form that its words ask for so, from what
+-- opening their FILE gave; or it tells that this couldn't be opened, or that memory for its words was wanted.
 use Rattle.std.specs.Prelude.{ℕ, ◌≡◌, ◌≤◌, ◌⊎◌, ⊤, List, [], length, Option, Ok, Err}
 use Rattle.std.specs.Io.KnownBytes.{Consumes, IsAtEnd}
 use Rattle.script.specs.declared.fault.Fault.TheVariants as fault

@@ -1,4 +1,19 @@
 -- One history of each mutex, in which all threads' replies stand.
+--
+-- *Stand together.* Each mutex has one legal history of points of the script's threads, after which it is as its last
+-- word says of its owner, OWNER_DIED and UNUSABLE; of WAITERS a history says nothing. Of each thread it has just the
+-- points of that thread's calls on the mutex and on its condition variables, in their order, with the reply that the
+-- call was given: one for each, and of a wait that wasn't refused an unlock and then a lock; a call that was refused
+-- with X_HELD has none. Of one that died these are the points of the calls that were answered, then all or some of the
+-- next call's, and at last its death, where it held the mutex. The counters of a mutex's condition variables, added up,
+-- count the signals and the broadcasts of its history that were answered OK.
+--
+-- *Stand in order.* The history of each mutex is the phases' histories, one after the other. Each phase's has of each
+-- thread that lived just the points of its calls in that phase, in their order and with its replies in it; a thread
+-- that dies in it has then some points of its next call, or all, and its death where it held the mutex, from this phase
+-- or an earlier one; one that had died has none. A thread's replies are those of the phases, one after the other.
+-- `HasPassed` and `HavePassed` (`Threads.antt`): in each phase the threads made their calls, and then all met
+-- (`HaveMet`; `Meetings.antt`).
 use Rattle.std.specs.Prelude.{ℕ, Bool, true, false, ◌≡◌, ◌≢◌, ◌+◌, ◌<◌, ◌≤◌, ◌⊎◌, ◌||◌, List, []}
 use Rattle.std.specs.Prelude.{◌∷◌, ◌++◌, Vec, Some, length, slice_get, slice_index, take}
 use Rattle.std.specs.declared.alloc.Global.{Global}

@@ -1,6 +1,16 @@
 -- What a thread is answered while no other thread is in a call, and what that leaves of the mutexes and of the counters
 -- of condition variables (pthread_mutex_lock, pthread_mutex_trylock, pthread_mutex_unlock, pthread_mutex_consistent,
 -- pthread_cond_wait(3p)).
+--
+-- *Lone.* In each of a script's first phases, as many as one takes, one thread alone has calls; what later phases have
+-- makes no difference. Each call is answered as its mutex and its condition variable's counter are then: a lock or a
+-- trylock X_HELD where its thread owns 2,048 mutexes, else by owner, inconsistency and unusability; a lock of a mutex
+-- that another thread owns isn't answered, as it sleeps for good, and no more is told. A wait that isn't refused sleeps
+-- for good too; if it were answered, then OK. An owner's signal or broadcast is X_FULL where the counter is 2^32 - 1,
+-- and else OK, and counts; a thread that dies in one has counted or not, as its point was made or not, and only where
+-- the counter wasn't full. In a lock or a trylock no thread dies that holds 2,048 mutexes: such a call is refused
+-- before its first access. `played`: the replies of these phases as a function of the calls, which the law
+-- `phases_of_one_thread_are_determined` speaks of.
 use Rattle.std.specs.Prelude.{ℕ, ◌≡◌, ◌≢◌, ◌+◌, ◌<◌, ◌==◌, ◌||◌, Bool, true, false, nat_le, Option}
 use Rattle.std.specs.Prelude.{None, Some, List, [], ◌∷◌, length, slice_get, take, if◌then◌else◌}
 use Rattle.lockword.specs.declared.reply.Reply.{Reply}

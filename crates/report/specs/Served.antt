@@ -1,4 +1,13 @@
 -- What the program did with the bytes of its reader.
+--
+-- *Meaning of a script.* Of a run, which is legal, the text of the trace of its events, which whoever judges it finds
+-- legal, or of the table of how they left threads, mutexes and condition variables; of real threads, the text of what
+-- some that made its calls on words of its layout were answered (`Answer`), by the names of its threads and mutexes
+-- (`AreLines`).
+--
+-- *Served.* All that a reader had, up to its end, is a script that isn't too long, and a writer's contents grew by its
+-- meaning; or, where a fault was met, by a beginning of that. `TakesAtMost` (`streams/specs/Taken.antt`) and
+-- `bytes_at_most` say how many bytes a reader may lose at most.
 use Rattle.std.specs.Prelude.{ℕ, ◌≡◌, ◌+◌, ◌⊎◌, List, length, map, Option, None, MatchResult}
 use Rattle.std.specs.Io.KnownBytes.{Appends, Consumes, IsAtEnd}
 use Rattle.protocol.specs.declared.note.Note.{Note}

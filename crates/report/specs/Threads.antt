@@ -1,4 +1,8 @@
 -- A script's calls on real threads.
+--
+-- *What threads were answered.* There were words of just this layout, with counters that begin so, on which each thread
+-- made its calls, phase after phase, as far as it lived, and was answered so; the cells' words and the counters are
+-- those at their end, where all passes meet.
 use Rattle.std.specs.Prelude.{ℕ, ◌≡◌, ◌+◌, ◌<◌, Bool, true, Option, None, Some, List, [], ◌∷◌, ◌++◌}
 use Rattle.std.specs.Prelude.{length, map, slice_index, All, Vec, slice_get, ◌==◌, if◌then◌else◌}
 use Rattle.std.specs.declared.alloc.Global.{Global}

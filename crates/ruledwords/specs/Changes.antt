@@ -1,5 +1,18 @@
 -- Which words the cells of mutexes and the counters of condition variables had, one after the other, and who wrote
 -- each.
+--
+-- *Changes of cells and counters.* Which words each mutex's cell and each condition variable's counter had, one after
+-- the other, and who wrote each: they leave the word that is there, or the 0 that a cell begins with. What a thread's
+-- card knows of them begins them, and has all that the thread itself wrote; all that it doesn't know of threads of the
+-- layout wrote. So a step can put in a change of its own thread alone, and only behind all that others made: no body
+-- can name a word of its own as the one that its release found, nor forget a sleeper who set WAITERS before that. An
+-- access that meets a word and leaves another makes one change; a trim that finds WAITERS alone leaves 0. Each exchange
+-- of a call on a mutex expects the word that the changes leave of which its thread knows; so one that fails finds a
+-- change by another thread, and a trylock that gives up has come to know of four, by other threads of the layout
+-- (`OthersChanged`). A wait has changed nothing at its counter, and what its thread knows of that counter's changes
+-- leaves the value that it loaded. At first each thread knows what the counters began with (`first_known`;
+-- `Rules.antt`), which nobody wrote, and nothing of cells; so of a counter it always knows a first change, and all that
+-- it comes to know of is by threads.
 use Rattle.std.specs.Prelude.{◌≡◌, ◌≢◌, ℕ, zero, suc, ◌+◌, ◌<◌, ◌≤◌, ◌==◌, not, List, []}
 use Rattle.std.specs.Prelude.{◌∷◌, ◌++◌, filter, length, map, slice_index, if◌then◌else◌}
 use mathlib.Core.Option.{some}

@@ -1,5 +1,18 @@
 -- What a call on a condition variable has decided, wherever it stands, and how it ends (pthread_cond_wait(3p),
 -- pthread_cond_signal(3p), pthread_cond_broadcast(3p)).
+--
+-- *How they stand and end.* Wherever such a call began, its pass has seen the mutex's history since, and of its own
+-- thread the points that the call has made. By a thread that didn't own the mutex when the call began it ends with
+-- EPERM. By the owner a signal or a broadcast ends with X_FULL exactly where the counter that it loaded, which the pass
+-- keeps (`Card.counted`), was 2^32 - 1; else with OK, and the counter is then one more than what it loaded, by one
+-- change of its own thread (`CountedOnce`, `CountsThere`), and behind a broadcast its thread knows WAITERS to stand in
+-- the mutex's cell (`SetsWaiters`). A wait by the owner is refused with X_STATE, where the last owner's death isn't
+-- declared, or it releases the mutex, which is usable then, by the point of an unlock that is OK. From then on, alive
+-- or dead, its pass knows that it loaded the counter of this very condition variable (`Loaded`; `Changes.antt`). Awake
+-- again it takes the mutex by a lock that begins there: so it has two points, and the lock's reply. Each but a wait has
+-- one point, with its reply, the last that its thread has seen of the mutex. Of a call in which its thread died some of
+-- the first points are there, or all (`DiesOn`). Source: pthread_cond_wait(3p), pthread_cond_signal(3p),
+-- pthread_cond_broadcast(3p).
 use Rattle.std.specs.Prelude.{◌≡◌, ◌≢◌, ℕ, ◌+◌, ◌^◌, ◌%◌, ◌==◌, Bool, true}
 use Rattle.std.specs.Prelude.{false, Option, Some, List, [], ◌∷◌, if◌then◌else◌}
 use Rattle.lockword.specs.declared.reply.Reply.{Reply}

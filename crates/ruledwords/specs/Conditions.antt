@@ -1,5 +1,15 @@
 -- Calls on condition variables, on what the passes of running threads know: where they stand, what they need, and what
 -- an access at the mutex's cell or at the counter tells.
+--
+-- *Calls of running threads on condition variables.* What an access tells its thread: a first load, by a legal history
+-- of the mutex up to the call's point, if it was one, whether the thread owns the mutex; a load of the counter and a
+-- count, the counter's word, which the owner knows from then on; a release, what an unlock's tells; and a broadcast
+-- that sets WAITERS sees nothing anew, and remembers them (`having_set`; `Card.marks`: they stay set while its thread
+-- owns the mutex). What the next access needs is so as far as its thread has seen: that it owns the mutex, that this is
+-- consistent, that the counter isn't full, and before a broadcast's move that WAITERS are set in the cell. Through all
+-- of it the thread's own words are a list as in an unlock, whole or in change. A wait that is awake again goes on as a
+-- lock of its mutex, whose entry is pending. Source: pthread_cond_wait(3p), pthread_cond_signal(3p),
+-- pthread_cond_broadcast(3p); robust-futexes.
 use Rattle.std.specs.Prelude.{◌≡◌, ◌≢◌, ℕ, ◌+◌, ◌-◌, ◌<◌, ◌≤◌, Bool, true, false, Option, Some, List, bit_or, length}
 use Rattle.lockword.specs.Cells.{fields_of}
 use Rattle.lockword.specs.declared.reply.Reply.TheVariants.{OK}

@@ -1,5 +1,10 @@
 -- What the counters of condition variables say of the calls that were made (pthread_cond_signal,
 -- pthread_cond_broadcast).
+--
+-- *What counters say.* The counters of a mutex's condition variables, added up, are what they were at first
+-- (`presets_in`), and one more for each point of the mutex's history that counts: a signal or a broadcast that was
+-- answered OK. Where none counts, each of them is what it was. Source: pthread_cond_signal(3p),
+-- pthread_cond_broadcast(3p).
 use Rattle.std.specs.Prelude.{◌≡◌, ℕ, ◌+◌, ◌<◌, ◌==◌, List, [], ◌∷◌, length, slice_index, if◌then◌else◌}
 use Rattle.posixmutex.specs.declared.point.Point.{Point}
 use Rattle.memorymap.specs.Layouts.{Layout', cell_place, counter_place}

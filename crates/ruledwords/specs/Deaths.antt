@@ -1,4 +1,9 @@
 -- The kernel's walk for a thread that died, on what the thread's pass knows (robust-futexes; get_robust_list(2)).
+--
+-- *A walk's tale.* What the walk tells the dead thread's pass: of each mutex that the thread held, its death as the
+-- owner, once, behind what it had seen and then others' points, and as the last that it has seen of the mutex; of no
+-- other mutex anything; and it changes cells alone (`IsNoCell`). At its end the thread holds nothing. Source:
+-- get_robust_list(2); pthread_mutex_lock(3p), EOWNERDEAD.
 use Rattle.std.specs.Prelude.{◌≡◌, ◌≢◌, ℕ, ◌<◌, ◌==◌, ◌⊎◌, Bool, true, false, Some, List, [], ◌∷◌, ◌++◌, if◌then◌else◌}
 use Rattle.lockword.specs.Cells.{fields_of}
 use Rattle.lockword.specs.declared.reply.Reply.TheVariants.{OK}

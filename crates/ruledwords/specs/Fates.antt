@@ -1,4 +1,8 @@
 -- Two fates of one thread, which are asked one after the other before each access.
+--
+-- *Two fates.* A stretch asks two before each access, its caller's and, where that lets the thread go on, another, by
+-- which other threads may end it: neither has said once more that the thread stops where it lives, and just one of them
+-- has where it dies.
 use Rattle.std.specs.Prelude.{◌≡◌, ◌≤◌, ℕ, ◌+◌}
 
 -- they had said f and n times that the thread stops, and have said it f' and n' times now: neither once more where it

@@ -1,4 +1,8 @@
 -- What a look at a cell tells, by which nothing is seen anew.
+--
+-- *Found.* What a look at a cell or a trim of it tells: the word found is, but for WAITERS, as the mutex may be after
+-- what the thread has seen and then points of other threads. The thread's card notes that word, and how many trims it
+-- has made; nothing is seen anew.
 use Rattle.std.specs.Prelude.{◌≡◌, ℕ, ◌+◌, ◌==◌, List, [], ◌++◌, if◌then◌else◌}
 use Rattle.lockword.specs.Cells.{fields_of}
 use Rattle.posixmutex.specs.declared.point.Point.{Point}

@@ -1,4 +1,12 @@
 -- What passes come to know where all of them meet.
+--
+-- *All meet.* Passes of some threads that met know one legal history of each mutex, which begins with what each had
+-- seen and has of each of their threads just its own points, and the changes of each word likewise, of which threads of
+-- the layout made those that one of them hadn't known of. Nothing else that they know changes, and each is of the kind
+-- that it was.
+--
+-- *Behind a meeting.* Where two have met, the points of each call that one of them makes then stand behind all that the
+-- other had seen of the mutex.
 use Rattle.std.specs.Prelude.{◌≡◌, ℕ, Bool, true, false, Some, List, [], ◌++◌, map, slice_get, All}
 use mathlib.Core.List.{IsPrefix}
 use Rattle.posixmutex.specs.declared.object.Object.{Object}

@@ -1,4 +1,18 @@
 -- What the calls of a pass answer.
+--
+-- *What calls of running threads answer.* A trylock or a lock is refused with X_HELD exactly where the thread holds
+-- 2,048, and then sees nothing anew; else its reply is that of its point, whether it slept before or not. Behind
+-- X_RACED a trylock's thread has come to know of four changes of the cell at least by other threads of the layout. A
+-- declaration's reply is that of its point too. A release frees with OK or is refused with EPERM; whom it has to wake
+-- is told by the word that it found, of which its thread was the owner and which stood in the cell right before the one
+-- change that the thread made of it (`ChangedOnce`; `Changes.antt`), and the wake sees nothing anew. Above that table
+-- stands who waits for the mutex as the history leaves it: where WAITERS was found, all of them if it is unusable then,
+-- and one if it isn't; else nobody (`OwesAsLeft`). An unlock that has freed its mutex stands before its wake, or before
+-- its entry is cleared (`owing_at`; `Owing.antt`). A call of words ends `Dead` exactly where its fate told its thread
+-- to stop (`stops_in`), and has then made a beginning of its points; a lock and the end of an unlock by a bench do so
+-- too where the thread was killed (`IsHeeded`: the fate said so once, or not at all where a call ended `Dead`, and
+-- never where its thread lives). Source: pthread_mutex_lock(3p), pthread_mutex_trylock(3p), pthread_mutex_unlock(3p);
+-- robust-futexes.
 use Rattle.std.specs.Prelude.{◌≡◌, ℕ, ◌+◌, ◌≤◌, nat_le, Bool, true, false}
 use Rattle.std.specs.Prelude.{MatchBool, Result, Ok, Err, [], ◌∷◌, if◌then◌else◌}
 use Rattle.posixmutex.specs.declared.object.Object.{Object}

@@ -1,4 +1,10 @@
 -- Own words: those that one thread alone writes, while they are its own. They have the values that it knows.
+--
+-- *Own words of running threads.* A thread's card has the values of the words that it alone writes, by place. A store
+-- of such a word is known from then on; an access at a cell leaves what is known of the words that stay its own, and
+-- brings the links of a mutex that it takes. By these values a thread that is in no call has a list, both ways, of just
+-- the mutexes that it holds, and nothing is pending (`IsLive`); and of one that has died a walk would find all that it
+-- holds (`IsDying`). Source: robust-futexes; robust-futex-ABI.
 use Rattle.std.specs.Prelude.{◌≡◌, ◌+◌, ℕ, Bool, Some, [], ◌∷◌}
 use Rattle.stepprograms.specs.declared.access.Access.{Access}
 use Rattle.stepprograms.specs.declared.access.Access.TheVariants as access

@@ -1,4 +1,8 @@
 -- Threads whose ids are used again (get_robust_list(2)).
+--
+-- *A life anew.* The pass of a thread that was reaped, which holds nothing and knows its own words still; and what it
+-- knows once it is renewed: its head leads to itself, nothing is pending, and all else is as it was. Source:
+-- get_robust_list(2).
 use Rattle.std.specs.Prelude.{◌+◌}
 use Rattle.memorymap.specs.Layouts.{Layout', address_in, head_place}
 use Rattle.ruledwords.specs.declared.pass.Card.{Card}

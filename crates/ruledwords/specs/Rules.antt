@@ -6,6 +6,16 @@
 -- saw WAITERS, that stays set. Counters count the signals and the broadcasts that were answered OK. Changes: each
 -- cell's words and each counter's, one after the other, and who wrote each. What a pass knows of them begins them, and
 -- has all that its thread wrote; all others are by threads.
+--
+-- *The rule.* What holds between any two steps of all threads: of each mutex some legal list of points leaves it as its
+-- cell says; what each pass has seen begins it and has all of its own thread's points; there is one pass a thread; a
+-- thread's own words (its head, the links of the mutexes that it owns, the counters of their condition variables) are
+-- as its pass knows them; and counters count (`Counted`).
+--
+-- *The last words.* When the words are closed with some passes, one or all, each cell is as one legal list of its mutex
+-- says; the list begins with what each of these passes saw, and of each of their threads it has just the thread's own
+-- points (`IsAmong`). Counters count what counts in these lists (`Counted`, of `presets_of`), and each is as its
+-- changes leave it, all that were made, to which what these passes know of changes is tied (`Tied`).
 use Rattle.std.specs.Prelude.{◌≡◌, ℕ, zero, suc, ◌+◌, ◌-◌, ◌/◌, ◌%◌, ◌<◌, ◌≤◌, ◌==◌, ◌&&◌, nat_lt, true}
 use Rattle.std.specs.Prelude.{Option, Some, List, [], ◌∷◌, All, length, drop, slice_index, if◌then◌else◌}
 use mathlib.Core.Option.{some}

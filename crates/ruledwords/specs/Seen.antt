@@ -2,6 +2,16 @@
 --
 -- What is seen of a mutex is a legal list of its points: from a mutex that nobody has locked yet, each is a step of the
 -- mutex as POSIX has it. Between passes that never met, no order is claimed.
+--
+-- *Seen.* What a thread's pass knows of each mutex, by the place of its cell: a list of its points by the layout's
+-- threads, legal from a free mutex on. A call adds to it the points that others made before, and then its own points,
+-- the last of them at the end; of its own thread the list has just the points that it made. Of a call in which its
+-- thread died it has a beginning of the call's points. A call of which no point counts (`count_acts`) changes no word
+-- but its mutex's cell. By those it holds as many mutexes as it took and didn't release. Nothing is said of the order
+-- between passes that never met.
+--
+-- *Joined.* Two passes that met see one legal list of each mutex, which begins with what either had seen; of each of
+-- the two threads it has just that thread's points. So no mutex is held by both.
 use Rattle.std.specs.Prelude.{◌≡◌, ◌≢◌, ℕ, ◌+◌, ◌≤◌, ◌==◌, Bool, true, false}
 use Rattle.std.specs.Prelude.{List, [], ◌∷◌, ◌++◌, filter, map, if◌then◌else◌}
 use mathlib.Core.List.{IsPrefix}

@@ -1,4 +1,8 @@
 -- Accesses of a call that are made one after the other, where the call stands.
+--
+-- *Stretches.* Accesses of a call that are made one after the other, where it stands: wherever it began, and whatever
+-- it was decided, it is under way still, or has replied, or its thread died in it, as an access by itself would have
+-- it.
 use Rattle.std.specs.Prelude.{ℕ, Result, Ok, Err}
 use Rattle.lockword.specs.declared.reply.Reply.{Reply}
 use Rattle.mutex.specs.declared.call.Call.{Call}

@@ -1,4 +1,10 @@
 -- Running calls, and what their turns tell.
+--
+-- *Turns of a call.* A whole call that its caller runs access by access: where it stands, on the mutex whose cell its
+-- thread has at its address, what its pass has seen since it began, that its thread's own words are a list whole or in
+-- change, and that a turn goes on with the call or ends it, at its one point's reply; or its thread dies in it. A call
+-- that is decided ends with that reply, and sees nothing anew. A wait or a wake is the caller's to make, and its answer
+-- is one that such an access can have.
 use Rattle.std.specs.Prelude.{List, ◌≡◌, ℕ, ◌+◌, ◌≤◌, Option, Some, None, Result, Ok, Err, [], ◌∷◌}
 use Rattle.lockword.specs.declared.reply.Reply.{Reply}
 use Rattle.lockword.specs.declared.reply.Reply.TheVariants.{XRACED}

@@ -3,6 +3,11 @@
 --
 -- `w a` is a word that the thread alone wrote, at the address a in its process: its head's, and the links of the
 -- mutexes that it owns. `owns k` tells whether it owns mutex k.
+--
+-- *What is left of a walk.* Wherever the walk over a dead thread's list stands: next words lead over mutexes that the
+-- thread owns still, and each mutex that it owns is on that list, or pending, or treated just now. Where an exchange is
+-- to mark a word, others can only have set WAITERS in it since it was found (`WasSeen`; `Deaths.antt`). Source:
+-- robust-futexes; robust-futex-ABI.
 use Rattle.std.specs.Prelude.{ℕ, ◌≡◌, ◌≢◌, ◌<◌, ◌≤◌, ◌+◌, ◌⊎◌, Bool, true, false, Option, Some, None, List, ◌∷◌, length}
 use Rattle.std.proofs.Props.{props}
 use Rattle.memorymap.specs.Chains.{IsAmong, AreDifferent, Leads, address_sum}

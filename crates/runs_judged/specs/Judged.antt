@@ -1,4 +1,7 @@
 -- What is printed of a run is a legal trace.
+--
+-- *Judged legal.* The text of a run is a trace without fault, and that is legal; so whatever answers for it as a
+-- checker does answers that it is legal, with exactly the number of its points, or that memory was wanted.
 use Rattle.std.specs.Prelude.{ℕ, ◌≡◌, ◌≤◌, ◌⊎◌, List, ◌++◌, length, map, reverse, count_by, None, Result, Ok, Err, IfOk}
 use Rattle.std.specs.List.{concat}
 use Rattle.memorymap.specs.Layouts.{Layout', IsLayout}

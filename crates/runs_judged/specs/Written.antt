@@ -1,4 +1,7 @@
 -- Which lines a trace may have, and that each is read as what was written.
+--
+-- *Written and read back.* Which lines a trace may have, by its first line: their numbers are in their ranges, their
+-- operations those that calls have. Each is one line, whatever stands behind it, and is read as what it was written of.
 use Rattle.std.specs.Prelude.{ℕ, ◌≡◌, ◌<◌, ◌≤◌, Option, Some, None, List, ◌∷◌, ◌++◌, Ok}
 use Rattle.posixmutex.specs.declared.point.Operation.{Operation}
 use Rattle.posixmutex.specs.declared.point.Operation.TheVariants.{Lock, TryLock, Unlock, Consistent, Wait}

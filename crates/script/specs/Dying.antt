@@ -1,4 +1,8 @@
 -- What the lines of a script say of deaths, told by their words.
+--
+-- *Deaths that a script asks for.* The law `deaths_are_as_told`, by the lines' words alone: one command after the other
+-- they are those of the `die` lines, each of the thread that its line names, before the access that it gives. A
+-- thread's number is its place among those that `thread` lines declare, in their order.
 use Rattle.std.specs.Prelude.{ℕ, ◌≡◌, ◌+◌, List, [], ◌∷◌, codes, IfOk, if◌then◌else◌}
 use Rattle.std.specs.List.{flat_map, position_or_len}
 use Rattle.std.specs.Str.{bytes_eq}

@@ -1,4 +1,7 @@
 -- Lines, words, names and numbers, and the kinds of line.
+--
+-- *Lines, words, names and numbers.* Lines end with a line feed, words are parted by one space, a name is 1 to 16 of a
+-- to z, 0 to 9 and `_`, a letter first, and a number has no sign and no leading zero.
 use Rattle.std.specs.Prelude.{ℕ, Bool, true, false, not, ◌&&◌, ◌||◌, ◌==◌, nat_le, nat_lt, List, []}
 use Rattle.std.specs.Prelude.{◌∷◌, length, Option, Some, None, option_and_then, if◌then◌else◌, codes}
 use Rattle.lines.specs.Lines.{words_of}

@@ -1,4 +1,8 @@
 -- What a script asks of real threads.
+--
+-- *What a script asks of real threads.* `phase` lines part the commands into phases; in each phase each thread has its
+-- calls, on mutexes and on condition variables, in the order of their lines. A thread's number is that of its `die`
+-- line, of which there is one at most.
 use Rattle.std.specs.Prelude.{ℕ, zero, suc, ◌≡◌, ◌+◌, ◌<◌, Bool, true, false, ◌==◌, List, [], ◌∷◌}
 use Rattle.std.specs.Prelude.{◌++◌, length, map, slice_index_or, Option, Vec, if◌then◌else◌}
 use Rattle.std.specs.declared.alloc.Global.{Global}

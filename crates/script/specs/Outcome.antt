@@ -1,4 +1,9 @@
 -- What a call gave of what the definitions say: the same, unless memory ran out.
+--
+-- *What memory allows.* Reading gives the same as the definition, or wants memory at a line that says something and up
+-- to which the definition finds no fault. A line's fault is told at that line (`GivesAt`), and a command's at its own
+-- (`AddsAt`). Playing wants memory only at a command that runs one of the 100,000 events that may run
+-- (`RefusesCommand`); where the machine to play on can't be had, the program tells that at line 1 (`WantsAtFirst`).
 use Rattle.std.specs.Prelude.{ℕ, ◌≡◌, ◌+◌, ◌<◌, false, List, ◌∷◌, ◌++◌, length, Result, Ok, Err, IsOk, IfErr}
 use Rattle.script.specs.Forms.{is_silent}
 use Rattle.lines.specs.Lines.{lines_of}

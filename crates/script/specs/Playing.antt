@@ -1,4 +1,21 @@
 -- The events that a script stands for, and what it means to play them.
+--
+-- *Processes of a script.* Process 0 has base 0, and behind it come those that `process` lines declare, each with the
+-- base that its line gives; a thread is of the process that its line names, of process 0 where it names none. The
+-- machine that plays the script has this layout, and so have the words of its real threads. The law
+-- `processes_are_as_told` says so of the lines' words alone, and of which process each `killall` is asked;
+-- `one_process_without_a_line`: a script with no such line has the machine of one process.
+--
+-- *Killing a process.* `killall` is one kill event for each thread of the process, in the order of ids, and no event of
+-- its own. The law `killall_kills_one_process`: whatever happened before, these are kills and nothing else, of exactly
+-- the threads that the script has in that process, each once.
+--
+-- *Events of a script.* `begin` and `kill` are one event, `step` so many, `killall` one for each thread of its process;
+-- `go` is steps until the thread isn't going any more, `call` a begin and then the same, `locks` as many calls; a
+-- script is too long at the first line that would run event 100,001.
+--
+-- *Going.* A thread is going that is in a call or dying, and doesn't sleep. The law `threads_come_to_rest`: the number
+-- of steps that `go` makes is the least of its own after which it isn't going any more.
 use Rattle.std.specs.Prelude.{ℕ, zero, suc, Bool, not, ◌&&◌, ◌||◌, ◌≡◌, ◌==◌, ◌+◌, ◌-◌, ◌<◌, ◌≤◌}
 use Rattle.std.specs.Prelude.{nat_lt, List, [], ◌∷◌, ◌++◌, length, map, filter, replicate, slice_index}
 use Rattle.std.specs.Prelude.{slice_index_or, Option, Some, None, Result, Ok, Err, if◌then◌else◌}

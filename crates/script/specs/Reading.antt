@@ -1,4 +1,8 @@
 -- What a script says, and its first fault: each line in turn, after those before it.
+--
+-- *The script and its first fault.* First the bytes (too many; not UTF-8, at the line of the first bad byte), then the
+-- lines, each in turn after those before it, then what is missing at the end. The law `silent_lines_say_nothing`
+-- (`Silence.antt`) says that a line without meaning may be left out.
 use Rattle.std.specs.Prelude.{ℕ, map, zero, suc, ◌+◌, Bool, not, ◌&&◌, ◌||◌, ◌==◌, nat_le, nat_lt, List, [], ◌∷◌}
 use Rattle.std.specs.Prelude.{◌++◌, length, take, drop, position, Option, Result, Ok, Err, if◌then◌else◌, decimal}
 use Rattle.std.specs.Option.{ok_or, is_some}

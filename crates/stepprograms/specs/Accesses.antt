@@ -1,5 +1,18 @@
 -- What an access does to the word that it meets, and what it answers. Of the futex sections a trim alone changes a
 -- word.
+--
+-- *Access and answer.* What one access does to the word that it meets, and what it answers: load, store, exchange, the
+-- fetch operations, and the futex sections. Both are functions of the word and of who sleeps on it; of the sections a
+-- trim alone changes a word. Source: futex(2).
+--
+-- *Meaning of a trim.* Of a word and who sleeps on it: the word changes, from 0x80000000 to 0, exactly where it has
+-- that value and nobody sleeps there; the answer is true exactly there. No queue changes. The law `trims_are_right`
+-- says that an access's word and answer are so, and the model's call meets it (`TrimsAt`).
+--
+-- *Falling asleep, being woken and moved.* A wait whose word has the expected low half puts its thread at the end of
+-- the word's queue; a wake takes the first of a queue out of it; a requeue takes the first out of it and puts more of
+-- them, in their order, at the end of another word's queue, and does so where its word has the expected low half if it
+-- compares that; no other access changes a queue. Source: futex(2).
 use Rattle.std.specs.Prelude.{ℕ, ◌≡◌, ◌==◌, ◌+◌, ◌%◌, ◌^◌, ◌&&◌, ◌↔◌, Bool, true, false, List, []}
 use Rattle.std.specs.Prelude.{◌∷◌, length, take, drop, bit_or, bit_and, bit_xor, if◌then◌else◌}
 use Rattle.lockword.specs.Cells.{waiters_alone}

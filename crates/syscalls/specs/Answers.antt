@@ -1,4 +1,14 @@
 -- When a call is refused, and how.
+--
+-- *Trim.* The word at an address is trimmed as the meaning of a trim says, by the model's own queue of that word; every
+-- other word stays, and so does every queue. EFAULT tells that the address is invalid, and then no word changes.
+--
+-- *Requeue.* The first of the one word's queue are woken, and then the first of the rest are moved to the end of the
+-- other word's queue, in order, at most so many of each; every other queue and each head stays. Refused with EINVAL
+-- where the addresses are equal, else with EFAULT where one is invalid, and, where it compares, else with EAGAIN where
+-- the low half of the first word isn't the expected value; then nothing is changed. That equal addresses are refused,
+-- that this comes first, and that both calls answer who was woken and who was moved, is the project's own. Source:
+-- futex(2), FUTEX_REQUEUE and FUTEX_CMP_REQUEUE.
 use Rattle.std.specs.Prelude.{ℕ, ◌≡◌, ◌≢◌, ◌≤◌, ◌%◌, ◌^◌, Bool, List, slice_index}
 use Rattle.std.specs.Prelude.{slice_set, Result, Ok, Err, IsTrue, IsFalse}
 use Rattle.lockword.specs.declared.reply.Reply.{Reply}

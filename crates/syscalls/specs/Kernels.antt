@@ -1,5 +1,10 @@
 -- The sleepers of every key and the robust list's head of every thread, as a kernel keeps them (futex(2),
 -- get_robust_list(2)).
+--
+-- *Wait and wake.* Each call is made with a base and an address, and is about the word at the address's place
+-- (`seen_at`). A thread falls asleep exactly where the address is valid and the low half of its word is the expected
+-- value; else EFAULT or EAGAIN, and nothing is changed. A wake answers the first of the word's queue, in order, and
+-- leaves the others. Source: futex(2), FUTEX_WAIT and FUTEX_WAKE.
 use Rattle.std.specs.Prelude.{ℕ, ◌≡◌, ◌≢◌, ◌<◌, ◌≤◌, ◌%◌, ◌-◌, ◌==◌, Bool, List, [], ◌∷◌, ◌++◌, length, take, drop}
 use Rattle.std.specs.Prelude.{slice_index, slice_index_or, slice_get, Some, if◌then◌else◌, AllPairs, Contains}
 use Rattle.std.specs.Prelude.{MatchBool}

@@ -1,4 +1,7 @@
 -- The text that tells of real threads: the replies of each, then each mutex, and then each condition variable.
+--
+-- *Text of replies.* A line for each thread, with its replies, one for each mutex, with its word in 16 hexadecimal
+-- digits and its owner's name, and one for each condition variable, with its counter.
 use Rattle.std.specs.Prelude.{ℕ, zero, suc, Bool, List, [], ◌∷◌, ◌++◌, map, codes}
 use Rattle.std.specs.Prelude.{decimal, slice_get, Option, Some, None, if◌then◌else◌}
 use Rattle.std.specs.List.{concat}

@@ -1,4 +1,8 @@
 -- The text of a table: how a run left each thread, each mutex and each condition variable.
+--
+-- *Text of a table.* A line for each thread, with what it does, how many mutexes it owns and the reply of its last call
+-- that returned, one for each mutex, with its word in 16 hexadecimal digits, its owner and those that sleep on it, in
+-- their order, and one for each condition variable, with its counter and those that sleep on it.
 use Rattle.std.specs.Prelude.{ℕ, zero, suc, ◌==◌, Bool, false, List, [], ◌∷◌, ◌++◌, length, map, filter}
 use Rattle.std.specs.Prelude.{drop, slice_get, codes, decimal, Option, Some, None, if◌then◌else◌}
 use Rattle.std.specs.List.{concat, flat_map, last_or, join_by, range_with_len}

@@ -1,4 +1,7 @@
 -- The text of a trace, line by line.
+--
+-- *Text of a trace.* A line with the numbers of threads, mutexes and condition variables; a line for each fact, which
+-- begins with the event's number; a line with the number of events.
 use Rattle.std.specs.Prelude.{ℕ, Option, Some, None, List, [], ◌∷◌, ◌++◌, length, map, codes, decimal}
 use Rattle.std.specs.List.{concat}
 use Rattle.lockword.specs.declared.reply.Reply.{Reply}

@@ -1,4 +1,13 @@
 -- What a thread's calls answered, one after the other, and what it ended as.
+--
+-- *Answered.* A thread's calls, on mutexes and on condition variables, one after the other, each with its reply, from
+-- the pass before the first to the pass after the last; a job is done when all of its calls were answered, or those
+-- before the one that its gate refused or in which its thread died.
+--
+-- *Dying at work.* A worker's thread that dies does so in the call behind those that were answered: it had made all of
+-- that call's points, or some of the first, and then its list was walked (*reaped*). Where the thread of a job with a
+-- number lives, some number is left; where it died, by its number or by a kill, none is. A job of a thread that has
+-- died makes no call.
 use Rattle.std.specs.Prelude.{◌≡◌, ℕ, ◌+◌, ◌≤◌, ◌⊎◌, List, [], ◌∷◌}
 use Rattle.lockword.specs.declared.reply.Reply.{Reply}
 use Rattle.lockword.specs.declared.reply.Reply.TheVariants.{XRACED}

@@ -1,5 +1,18 @@
 -- What calls on condition variables answer that may sleep or wake (pthread_cond_wait(3p), pthread_cond_signal(3p),
 -- pthread_cond_broadcast(3p)).
+--
+-- *What calls on condition variables by a bench answer.* A signal and a broadcast end as such a call does (`CondEnded`;
+-- `ruledwords/specs/ConditionStands.antt`). A wait ends so too where it is refused; else it has released its mutex,
+-- which was usable then, and taken it again: its two points stand in this order, and the second, which has its reply,
+-- is the last that its thread has seen of the mutex. It has loaded the counter of its own condition variable
+-- (`Loaded`). One whose thread died has made some of its first points, or all, and behind its release it had loaded
+-- that counter. Source: pthread_cond_wait(3p), pthread_cond_broadcast(3p).
+--
+-- *What a broadcast's move does under the locks of two buckets.* Where the low half of the counter that was loaded is
+-- the expected one, at most so many of the first threads of its queue move to the end of that of the mutex's cell, and
+-- nobody is woken. That is all of them: nobody is left there, and they stand at the cell in their order. Else nothing
+-- changes, nor where the other bucket has no room for them. The counter is what its thread knew of it, if it knew it.
+-- Source: futex(2), FUTEX_CMP_REQUEUE.
 use Rattle.std.specs.Prelude.{ℕ, ◌≡◌, ◌≢◌, ◌%◌, ◌^◌, ◌⊎◌, true, Option, None}
 use Rattle.std.specs.Prelude.{Some, Result, Ok, Err, List, [], ◌∷◌, ◌++◌}
 use Rattle.lockword.specs.declared.reply.Reply.{Reply}

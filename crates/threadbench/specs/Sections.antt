@@ -1,4 +1,15 @@
 -- What sections do under a bucket's lock (futex(2)).
+--
+-- *What sections do under a bucket's lock.* A wait: the thread falls asleep exactly where the low half of the word
+-- found there is the expected one, it sleeps nowhere and there is room; else nothing changes. A wake takes the first
+-- threads of the key's queue, in order; one of 64 leaves nobody there, one of 1 takes the first, where there is one. A
+-- trim is made where nobody sleeps on the word, and nothing is where somebody does; by the word that it found, which it
+-- left 0 or as it was, it answers as a trim means it (`Trims`): true only where nobody sleeps there and the word said
+-- WAITERS and nothing else. Source: futex(2) FUTEX_WAIT, FUTEX_WAKE; Futexes Are Tricky.
+--
+-- *A wait of a thread that may be killed.* Under its bucket's lock it goes on only with what `ask` gave, which asks its
+-- note (that it does is only tested). Where that tells it to stop, neither the bucket nor the call changes, and its
+-- word isn't looked at; else it is a wait.
 use Rattle.std.specs.Prelude.{ℕ, ◌≡◌, ◌≢◌, ◌+◌, ◌%◌, ◌^◌, ◌⊎◌, ◌==◌, if◌then◌else◌, Bool}
 use Rattle.std.specs.Prelude.{true, MatchBool, Option, None, Some, List, [], ◌∷◌}
 use Rattle.buckets.specs.Queues.{Sleepers, standing, Stands, StandsNowhere, Enqueues}

@@ -1,5 +1,11 @@
 -- What a legal trace means: its points and deaths are one legal history, which explains what its threads were told
 -- (POSIX robust mutexes).
+--
+-- *A legal trace explains itself.* Its lines are in order; its points and deaths are a legal history; each thread's
+-- lines are its lives (`Lives`), each but the last ended by its reaping; a thread falls asleep only awake in a call,
+-- and asleep it is only moved, and then woken or killed, as it is nowhere else; and at each kill, what the thread owned
+-- then is what its death is told of in this life (`in_this_life`). Calls on condition variables have their points there
+-- too. Sources: pthread_mutex_lock(3p), pthread_cond_wait(3p).
 use Rattle.std.specs.Prelude.{ℕ, ◌≡◌, ◌≢◌, ◌+◌, ◌<◌, ◌≤◌, ◌==◌, ◌&&◌, Bool, true, false}
 use Rattle.std.specs.Prelude.{Option, Some, None, List, [], ◌∷◌, ◌++◌, reverse, if◌then◌else◌}
 use Rattle.posixmutex.specs.declared.object.Object.{Object}

@@ -1,4 +1,7 @@
 -- Which line may stand behind the lines before it.
+--
+-- *Fits.* Which line may stand behind the lines before it: in the order of events (`Later`), as its thread's calls,
+-- sleep and death allow, and as the mutex's object allows; who is reaped owns nothing.
 use Rattle.std.specs.Prelude.{ℕ, ◌≡◌, ◌≢◌, ◌<◌, true, false, Option, Some, None, List, [], ◌∷◌, ◌++◌}
 use Rattle.posixmutex.specs.declared.object.Object.{Object}
 use Rattle.posixmutex.specs.declared.point.Decision.{Decision}

@@ -1,4 +1,11 @@
 -- Why a line doesn't fit the lines before it: one clause for each reason.
+--
+-- *Misfits.* Why a line doesn't fit, one clause for each reason: it isn't in the order of events (`IsOutOfOrder`), it
+-- isn't what comes next in its thread's life (`IsOutOfLife`), the mutex's object doesn't allow it (`Refuses`: a lock or
+-- trylock of a thread that holds as many as it may, a death of one that isn't the owner, or else no death), or its
+-- thread is reaped and owns a mutex (`OwnsSome`); and that the clause of `Fits` of the same subject is the first that
+-- is false of the line: the order of events comes first, then the thread, then the mutex. Sources:
+-- pthread_mutex_lock(3p), pthread_cond_wait(3p).
 use Rattle.std.specs.Prelude.{ℕ, ◌≡◌, ◌≢◌, ◌<◌, ◌≤◌, ◌⊎◌, Bool, true, false, Option, Some, None, List, [], ◌∷◌}
 use Rattle.lockword.specs.declared.reply.Reply.{Reply}
 use Rattle.lockword.specs.declared.reply.Reply.TheVariants.{OK, XHELD}

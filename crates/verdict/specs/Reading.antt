@@ -1,4 +1,8 @@
 -- What a trace says, and its first fault: each line in turn.
+--
+-- *The trace and its first fault.* First the bytes (too many; not UTF-8), then the lines, each in turn: its form, then
+-- its numbers; then whether the last is an `end` line with nothing behind it. A fault is told wherever a line before it
+-- doesn't fit.
 use Rattle.std.specs.Prelude.{ℕ, ◌+◌, ◌≤◌, nat_lt, List, [], ◌∷◌, length, Option}
 use Rattle.std.specs.Prelude.{Some, None, Result, Ok, Err, if◌then◌else◌}
 use Rattle.std.specs.Option.{ok_or}

@@ -1,4 +1,8 @@
 -- What was read of a trace.
+--
+-- *What a trace told.* The first line, what each line behind it tells, in their order, and the number on the last one;
+-- of a trace that isn't legal too. Memory is wanted for what a line tells, at that line, before which there is no
+-- fault.
 use Rattle.std.specs.Prelude.{ℕ, ◌≡◌, ◌+◌, ◌<◌, ◌≤◌, ◌⊎◌, All, length, reverse, Result, Ok, Err}
 use Rattle.facts.specs.declared.fact.Line.{Line}
 use Rattle.verdict.specs.declared.head.Head.{Head}

@@ -1,4 +1,7 @@
 -- When a trace is legal, and which line is the first that isn't.
+--
+-- *The verdict.* Legal where each line fits and the last number isn't below the last event's; else the first line that
+-- doesn't fit.
 use Rattle.std.specs.Prelude.{ℕ, ◌≡◌, ◌+◌, ◌<◌, ◌≤◌, ◌⊎◌, List, [], ◌∷◌, ◌++◌}
 use Rattle.std.specs.Prelude.{length, Result, Ok, Err, IfErr, if◌then◌else◌}
 use Rattle.facts.specs.declared.fact.Line.{Line}

@@ -1,4 +1,11 @@
 -- The first word at which no line of a kind can go on.
+--
+-- *The first wrong word.* A line can go on behind words if some words behind them make a line that the readers of
+-- scripts or traces take. The first wrong word of a line is the one at which no line can go on, though one can behind
+-- the words before it; where all words stand, it is the one that is missing. What it has to be is given by just the
+-- words behind which a line can go on. The nearest of several words is `IsNearest` (`Near.antt`), by `strsim`'s
+-- distance with swapped neighbours. Where words are listed (`known_words`; `Known.antt`), those are just the words
+-- behind which a line goes on (`KnownWordsAreThoseThatFit`; `Laws.antt`).
 use Rattle.std.specs.Prelude.{ℕ, ◌≡◌, ◌+◌, ◌<◌, ◌≤◌, ◌↔◌, Bool, true, false, List, [], ◌∷◌, ◌++◌, length, take}
 use Rattle.std.specs.Prelude.{sum_by, slice_get, Option, Some, None, option_and_then, IsSome, if◌then◌else◌}
 use Rattle.std.specs.Option.{option_map_or}
