@@ -9,9 +9,6 @@
 --
 -- A wait's entry is pending from before its release until the lock that ends it has put it on the list, or has failed:
 -- so also while it sleeps. A signal and a broadcast leave the list alone.
---
--- *Whole call on a condition variable.* The same with a wait's accesses to its thread's pending entry and robust list,
--- and with the lock that ends it (`retaking`; `mutex/specs/Whole.antt`). Sources: robust-futexes, robust-futex-ABI.
 use Rattle.std.specs.Prelude.{ℕ, Option, Some, None}
 use Rattle.lockword.specs.declared.reply.Reply.TheVariants.{OK, EFAULT}
 use Rattle.stepprograms.specs.declared.access.Access.{Access}
