@@ -1,5 +1,5 @@
 /* The step programs in C, for readers, and for processors that the proved code (x86_64.s) isn't for: the tables of
- * docs/PROTOCOL.md row by row, which are those of crates/mutex, condvar and exitwalk (specs/Lock.antt and its
+ * docs/CALLS.md row by row, which are those of crates/mutex, condvar and exitwalk (specs/Lock.antt and its
  * neighbours; specs/Codings.antt has the numbers). Nobody proves this text by itself; checks/equal shows that each
  * function answers what the proved one answers, and writes what it writes, for every input. Here are no plans: plans.h
  * writes them out. */
