@@ -1,5 +1,5 @@
 -- What a begin, a kill and a step may change; every other event is spoken of where it is defined (`Leaves.antt`,
--- `Renewals.antt`, `Reinits.antt`). Who stands in which queue behind it is what the trace tells (`Wakings.antt`).
+-- `Renewals.antt`, `Reinits.antt`, `Recounts.antt`, `Spares.antt`, `Repeats.antt`). Who stands in which queue behind it is what the trace tells (`Wakings.antt`).
 use Rattle.std.specs.Prelude.{ℕ, ◌≡◌, ◌≢◌, ◌+◌, ◌<◌, ◌≤◌, ◌⊎◌, Option, Some, List}
 use Rattle.buckets.specs.Queues.{without}
 use Rattle.posixmutex.specs.declared.point.Operation.TheVariants.{Signal, Broadcast}
