@@ -30,6 +30,14 @@ use Rattle.protocol.proofs.Endings.{EndsOrGoes, call_ends, cond_ends}
 use Rattle.protocol.proofs.Queued.{Queued, out_awake, in_none}
 use Rattle.protocol.proofs.QueueRuns.{run_queued}
 use Rattle.protocol.proofs.NoteFacts.{IsOfSleep, of_access, of_walk}
+use Rattle.protocol.proofs.Vocabulary.{Recounted, Reslept, recounted, counter_place, WakesOneOf, In_unlock, In_wait}
+use Rattle.protocol.specs.Sleepers.{StandsIn}
+use Rattle.protocol.specs.Applies.{IsSparedAccessOf}
+use Rattle.protocol.proofs.Events.{spared_calls, spared_ends, recount_again}
+use Rattle.protocol.proofs.Recounting.{recount_rests}
+use Rattle.protocol.proofs.Sparing.{unwoken, spare_goes, spare_rests}
+use Rattle.protocol.proofs.Repeating.{resleep_goes, resleep_rests, repeat_goes, repeat_rests}
+use Rattle.protocol.proofs.Vocabulary.{CondCall, CondWhole, AtCondition}
 
 -- ---- what the trace told of a thread is where it stands
 
@@ -145,6 +153,10 @@ next_agrees s e t w a =
     (λ u o p pos known is awake trims. spared_agrees s u t (s.threads u).held (mutex_of s.layout o) (led o p (whole_led p (Trimmed false))) w (ap is_calling is) (call_ends o p (whole_led p (Trimmed false))) a)
     (λ u pos known gone. moved s u t w AtRest _ a tt)
     (λ u m may. refused_agrees s u t w may.resting a)
+    (λ k may. a)
+    (λ u m g sp. spared_agrees s u t (s.threads u).held m g w (spared_calls s u m g sp.how) (spared_ends s u m g sp.how) a)
+    (λ u c p pos known is there. a)
+    (λ u v pos known is reads. subst (λ (x : Told). Agrees x (s.threads t).stage) (sym (told_walked t w u None (woken s u (exit.access_of v)) false)) a)
     e
 
 pub run_agrees : (s : State) (es : List Event) (t : ℕ) (w : Told) → Agrees w (s.threads t).stage → Agrees (told_after t w (facts_among (notes s es))) ((run s es).threads t).stage
@@ -273,6 +285,52 @@ module _ (s : State) (ns : List Note) (inv : Kept s) (queued : Queued s) (agrees
           let may = may_so s t m e in
           absurd (never ((may.first, may.last), told_resting (last_told t ns) (s.threads t).stage (agrees t) may.resting, may.inside, may.unusable, may.unslept))
 
+  -- ---- recounts
+  recounts_so : (k : ℕ) → Applies s.layout s ns (Event.Recount k) → (happens s (Event.Recount k)).note ≡ Recounted k
+  recounts_so k may = ap (λ (b : Bool). (if b then recounted s k else nothing s).note) (recount_again s k may)
+
+  recounts_else : (k : ℕ) → ¬ Applies s.layout s ns (Event.Recount k) → happens s (Event.Recount k) ≡ nothing s
+  recounts_else k never = recount_rests s k never
+
+  -- ---- spares
+  same_wait : (c d : CondCall) (p q : CondWhole) → AtCondition c p ≡ AtCondition d q → c ≡ d
+  same_wait c d p q e = cc
+
+  not_both : (o : Op) (c : CondCall) (p : Whole) (q : CondWhole) → Calling o p ≡ AtCondition c q → ⊥
+  not_both o c p q e = cc
+
+  spares_so : (t : ℕ) → Applies s.layout s ns (Event.Spare t) → IsSparedAccessOf s.layout s t (happens s (Event.Spare t)).note
+  spares_so t ((first, last), (m, g, wakes, another)) = subst (λ (z : After). IsSparedAccessOf s.layout s t z.note) (sym (spare_goes s t m g inv queued first last wakes another)) (go wakes)
+    where
+      go : WakesOneOf s t m g → IsSparedAccessOf s.layout s t (unwoken t m)
+      go (In_unlock o p is mutex at goes) = (
+        (λ c q stands. ap (λ (y : ℕ). Stepped t y None None [] [] None) (mutex ∙ ap (mutex_of s.layout) (same_call o c p q (sym is ∙ stands)))),
+        (λ c q stands. absurd (not_both o c p q (sym is ∙ stands))),
+      )
+      go (In_wait c p seen is mutex at goes) = (
+        (λ o q stands. absurd (not_both o c q p (sym stands ∙ is))),
+        (λ d q stands. ap (λ (y : ℕ). Stepped t y None None [] [] None) (mutex ∙ ap (λ (x : CondCall). mutex_of s.layout (OnCondition x)) (same_wait c d p q (sym is ∙ stands)))),
+      )
+
+  spares_else : (t : ℕ) → ¬ Applies s.layout s ns (Event.Spare t) → happens s (Event.Spare t) ≡ nothing s
+  spares_else t never = spare_rests s t queued (λ first last may. never ((first, last), may))
+
+  -- ---- resleeps
+  resleeps_so : (t : ℕ) → Applies s.layout s ns (Event.Resleep t) → (k : ℕ) → StandsIn s t (Condition k) → (happens s (Event.Resleep t)).note ≡ Reslept t k
+  resleeps_so t (j, below, there) k here =
+      let same : j ≡ k = let place = queued.one t (counter_place s.layout j) (counter_place s.layout k) there here in omega (arith, place) in
+      ap (λ (a : After). a.note) (resleep_goes s t j inv queued below there) ∙ ap (Reslept t) same
+
+  resleeps_else : (t : ℕ) → ¬ Applies s.layout s ns (Event.Resleep t) → happens s (Event.Resleep t) ≡ nothing s
+  resleeps_else t never = resleep_rests s t inv (λ k below there. never (k, below, there))
+
+  -- ---- repeats
+  repeats_so : (t : ℕ) → Applies s.layout s ns (Event.Repeat t) → IsAccessOf t (happens s (Event.Repeat t)).note
+  repeats_so t ((first, last), (w, is, reads)) = subst (λ (z : After). IsAccessOf t z.note) (sym (repeat_goes s t w first last is reads)) refl
+
+  repeats_else : (t : ℕ) → ¬ Applies s.layout s ns (Event.Repeat t) → happens s (Event.Repeat t) ≡ nothing s
+  repeats_else t never = repeat_rests s t (λ first last may. never ((first, last), may))
+
   so : (e : Event) → Applies s.layout s ns e → IsNotedAs s.layout s e (happens s e).note
   so (Event.Begin t o) on = begins_so t o on
   so (Event.Step t) on = steps_so t on
@@ -281,6 +339,10 @@ module _ (s : State) (ns : List Note) (inv : Kept s) (queued : Queued s) (agrees
   so (Event.Decline t) on = declines_so t on
   so (Event.Renew t) on = renews_so t on
   so (Event.Reinit t m) on = reinits_so t m on
+  so (Event.Recount k) on = recounts_so k on
+  so (Event.Spare t) on = spares_so t on
+  so (Event.Resleep t) on = resleeps_so t on
+  so (Event.Repeat t) on = repeats_so t on
 
   idles : (e : Event) → ¬ Applies s.layout s ns e → happens s e ≡ nothing s
   idles (Event.Begin t o) never = begins_else t o never
@@ -290,6 +352,10 @@ module _ (s : State) (ns : List Note) (inv : Kept s) (queued : Queued s) (agrees
   idles (Event.Decline t) never = declines_else t never
   idles (Event.Renew t) never = renews_else t never
   idles (Event.Reinit t m) never = reinits_else t m never
+  idles (Event.Recount k) never = recounts_else k never
+  idles (Event.Spare t) never = spares_else t never
+  idles (Event.Resleep t) never = resleeps_else t never
+  idles (Event.Repeat t) never = repeats_else t never
 
   next_applies : NextApplies s.layout s ns
   next_applies = record {

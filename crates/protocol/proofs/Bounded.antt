@@ -33,6 +33,9 @@ use Rattle.protocol.proofs.Runs.{sound, start_kept, run_kept}
 use Rattle.protocol.proofs.Returning.{told_return, among_later}
 use Rattle.protocol.proofs.Passing.{begins_first, begins_later}
 use Rattle.protocol.proofs.Changing.{theirs}
+use Rattle.protocol.proofs.Vocabulary.{Count, Led}
+use Rattle.protocol.proofs.Events.{HowSpared, Of_unlock, Of_wait, Sparing}
+use Rattle.protocol.proofs.Vocabulary.{fields_of, cell_place}
 
 -- ---- how many accesses are left
 
@@ -232,7 +235,24 @@ module _ (s : State) (inv : Kept s) (queued : Queued s) where
       called_on n t o p s (spared s t (s.threads t).held (mutex_of s.layout o) (led o p (whole_led p (Trimmed false)))) there.0 (whole_led p (Trimmed false)).phase (mutex_of s.layout o) _ _ None [] [] (omega (arith, less, few)) refl refl)
       (λ t pos known gone is n within. absurd (subst (Within n) gone within))
       (λ t m may is n within. absurd (subst (Within n) may.resting within))
+      (λ k may is n within. inr within)
+      (λ t m g sp other n within. spares_on t m g sp n within sp.how)
+      (λ t c p pos known is there other n within. inr within)
+      (λ t w pos known is reads other n within. inr within)
       e
+    where
+      spares_on : (t m : ℕ) (g : Led) → Sparing s t m g → (n : ℕ) → Within n (s.threads t).stage → HowSpared s t m g → GoesOn n t (spared s t (s.threads t).held m g)
+      spares_on t m g sp n within (Of_unlock o p is mutex at leads) =
+          let there = subst (Within n) is within in
+          let fits = fits_in s t o p inv sp.first sp.last is in
+          let less = phase_falls t (s.threads t).held p p.phase (Count 1) (seen s (mutex_of s.layout o)) fits.0.stands (never_locks s.layout o p.operation fits.1 there.0) in
+          let few = there.1 in
+          subst (λ (z : Led). GoesOn n t (spared s t (s.threads t).held m z)) (sym leads)
+          (called_on n t o p s (spared s t (s.threads t).held m (led o p (whole_led p (Count 1)))) there.0 (whole_led p (Count 1)).phase m _ _ None [] [] (omega (arith, less, few)) refl refl)
+      spares_on t m g sp n within (Of_wait c p x is mutex at leads) =
+          let there = subst (Within n) is within in
+          let stands = subst (λ (f : CondPhase). AtPhase t (s.threads t).held (conditions.operation_of c) p f (fields_of (s.words (cell_place s.layout (mutex_of s.layout (OnCondition c)))))) at (fits_at s t c p inv sp.first sp.last is).stands in
+          absurd (never_wait (conditions.operation_of c) there.0 (sym stands.of))
 
 -- ---- any event
 
@@ -265,6 +285,10 @@ event_on s e t n inv queued pos known lives within = by_same (caller e) t (mine 
     mine (Kill u) alive h me = absurd (alive (ap Kill me))
     mine (Begin u o) alive h me = others (Begin u o) refl refl h me
     mine (Event.Leave u) alive h me = others (Event.Leave u) refl refl h me
+    mine (Event.Recount u) alive h me = others (Event.Recount u) refl refl h me
+    mine (Event.Spare u) alive h me = others (Event.Spare u) refl refl h me
+    mine (Event.Resleep u) alive h me = others (Event.Resleep u) refl refl h me
+    mine (Event.Repeat u) alive h me = others (Event.Repeat u) refl refl h me
     mine (Event.Decline u) alive h me = others (Event.Decline u) refl refl h me
     mine (Event.Renew u) alive h me = others (Event.Renew u) refl refl h me
     mine (Event.Reinit u m) alive h me = others (Event.Reinit u m) refl refl h me
@@ -279,6 +303,10 @@ first_spared t (Kill u) es h = ((λ is. h.0 (same u is)), h.1)
 first_spared t (Step u) es h = ((λ is. cc is), h)
 first_spared t (Begin u o) es h = ((λ is. cc is), h)
 first_spared t (Event.Leave u) es h = ((λ is. cc is), h)
+first_spared t (Event.Recount u) es h = ((λ is. cc is), h)
+first_spared t (Event.Spare u) es h = ((λ is. cc is), h)
+first_spared t (Event.Resleep u) es h = ((λ is. cc is), h)
+first_spared t (Event.Repeat u) es h = ((λ is. cc is), h)
 first_spared t (Event.Decline u) es h = ((λ is. cc is), h)
 first_spared t (Event.Renew u) es h = ((λ is. cc is), h)
 first_spared t (Event.Reinit u m) es h = ((λ is. cc is), h)
@@ -336,7 +364,15 @@ module _ (s : State) where
       (λ t o p pos known at awake trims is none quiet. put_quiet t _ (quiet_after o p _ (subst Quiet at quiet)))
       (λ t pos known gone is none quiet. absurd (subst Quiet gone quiet))
       (λ t m may is none quiet. absurd (none.0 refl))
+      (λ k may is none quiet. quiet)
+      (λ t m g sp is none quiet. put_quiet t _ (spare_quiet t m g sp.how quiet))
+      (λ t c p pos known at there is none quiet. quiet)
+      (λ t w pos known at reads is none quiet. quiet)
       e
+    where
+      spare_quiet : (t m : ℕ) (g : Led) → HowSpared s t m g → Quiet (s.threads t).stage → Quiet g.stage
+      spare_quiet t m g (Of_unlock o p is mutex at leads) quiet = subst (λ (z : Led). Quiet z.stage) (sym leads) (quiet_after o p _ (subst Quiet is quiet))
+      spare_quiet t m g (Of_wait c p seen is mutex at leads) quiet = subst (λ (z : Led). Quiet z.stage) (sym leads) (quiet_at c p _ (subst Quiet is quiet))
 
   event_quiet : (e : Event) (t : ℕ) → e ≢ Kill t → KeepsQuiet t (happens s e)
   event_quiet e t spared = by_same (caller e) t (λ me. subst (λ (u : ℕ). KeepsQuiet u (happens s e)) me (mine_quiet e (alive e spared me))) (λ apart none quiet. subst (λ (z : Thread). Quiet z.stage) (sym (theirs s e t apart)) quiet)
@@ -346,6 +382,10 @@ module _ (s : State) where
       alive (Step u) never me = refl
       alive (Begin u o) never me = refl
       alive (Event.Leave u) never me = refl
+      alive (Event.Recount u) never me = refl
+      alive (Event.Spare u) never me = refl
+      alive (Event.Resleep u) never me = refl
+      alive (Event.Repeat u) never me = refl
       alive (Event.Decline u) never me = refl
       alive (Event.Renew u) never me = refl
       alive (Event.Reinit u m) never me = refl

@@ -2,7 +2,7 @@
 use Rattle.std.proofs.Common.{◌≡◌, ⊎_elim, ℕ, ◌≤◌, ◌&&◌, Bool, true, false, Option, Some, Ok, Err, [], ◌∷◌, refl, sym, ap, ◌∙◌, subst, arith}
 use Rattle.protocol.proofs.Vocabulary.{CondCall, CondWhole, condition_of, cond_access, Queue, Mutex, Condition, Fact, Begun, Object, Operation, Layout', XHELD, Phase, Whole, whole_access}
 use Rattle.protocol.proofs.Vocabulary.{Op, OnCondition, mutex_of, begun_of, Event, Stage, Calling, AtCondition, State, After, place_met, is_met, sleeps_at, slept_in, facts_of, begun, happens, falls_asleep, seen, if◌then◌else◌}
-use Rattle.facts.specs.declared.fact.Fact.TheVariants.{Sleep}
+use Rattle.facts.specs.declared.fact.Fact.TheVariants.{Sleep, Wake}
 use Rattle.condvar.specs.Calls.{operation_of}
 use Rattle.condvar.specs.Laws.{row_operation}
 use Rattle.protocol.specs.Sleepers.{IsAmong}
@@ -16,6 +16,10 @@ use Rattle.protocol.proofs.Declines.{spared_is}
 use Rattle.protocol.proofs.Events.{begins_at, by_event, by_stage}
 use Rattle.protocol.proofs.Passing.{sleep_noted, none_walked}
 use Rattle.protocol.proofs.Learnt.{Learnt}
+use Rattle.protocol.proofs.Sparing.{spare_is}
+use Rattle.std.proofs.Common.{None}
+use Rattle.protocol.proofs.Vocabulary.{woken}
+use Rattle.exitwalk.specs.Walks as exit
 
 -- ---- facts that tell no sleep
 
@@ -93,4 +97,13 @@ module _ (s : State) (inv : Kept s) (calls : ℕ → Option Begun) (left : ℕ �
       (λ u o p pos known is awake trims. subst Tells (sym (spared_is s u o p is trims inv pos known)) (λ t q h. absurd h))
       (λ u pos known gone t q h. absurd (one_else _ t q (λ e. cc e) h))
       (λ u m may t q h. absurd (three_else _ _ _ t q (λ e. cc e) (λ e. cc e) (λ e. cc e) h))
+      (λ k may t q h. absurd h)
+      (λ u m g sp. subst Tells (sym (spare_is s u m g sp inv)) (λ t q h. absurd h))
+      (λ u c p pos known is there t q h.
+      let again = slept_again u t (condition_of c) q h in
+      told_there u t (Condition (condition_of c)) q _ again.0 again.1 (subst (λ (g : Stage). Learnt s.layout g (calls u) (left u)) is (learnt u)).0 (wait_may s.layout c (fits_in s u (OnCondition c) p inv pos known is).1.1))
+      (λ u w pos known is reads t q h. absurd (none_walked (Sleep t q) u None (woken s u (exit.access_of w)) false refl h))
       e
+    where
+      slept_again : (u t k : ℕ) (q : Queue) → IsAmong (Sleep t q) (Wake u ∷ (Sleep u (Condition k) ∷ [])) → (u ≡ t) × (Condition k ≡ q)
+      slept_again u t k q h = ⊎_elim (λ e. absurd (cc e)) (λ more. ⊎_elim (λ e. (cc, cc)) (λ none. absurd none) more) h

@@ -20,7 +20,7 @@ use Rattle.protocol.proofs.Frames.{knows_at}
 use Rattle.protocol.proofs.CallSteps.{call_stepping}
 use Rattle.protocol.proofs.Accesses.{goes, fits_in}
 use Rattle.protocol.proofs.CondAccesses.{cond_stepping}
-use Rattle.protocol.proofs.Counters.{CondMove, By_row, Before_release, CondGoes, cond_moves, KnowsCount, KnowsAt, KnowsIn, Counted, first_word-counter, counted_on, start_counted}
+use Rattle.protocol.proofs.Counters.{CondMove, By_row, Before_release, CondGoes, cond_moves, KnowsCount, KnowsAt, KnowsIn, Counted, first_word-counter, counted_on, run_counted, start_counted}
 use Rattle.protocol.proofs.WalkSteps.{walk_no_move, walk_access, walk_after, death_then, walked-is, DeathTells, WalkStep, walk_step}
 use Rattle.protocol.proofs.Working.{walk_is}
 use Rattle.protocol.proofs.Declines.{spared_is}
@@ -28,8 +28,14 @@ use Rattle.protocol.proofs.Renewals.{renewed_counter}
 use Rattle.protocol.proofs.Reinits.{reinited_counter}
 use Rattle.protocol.proofs.Events.{begins_at, by_event, by_stage}
 use Rattle.protocol.proofs.NoteFacts.{IsOfSleep, behind_point, of_walk}
-use Rattle.protocol.proofs.PassedBy.{IsTold, told_on}
-use Rattle.protocol.proofs.Runs.{sound, start_kept}
+use Rattle.protocol.proofs.PassedBy.{IsTold, told_on, told_run}
+use Rattle.protocol.proofs.Runs.{sound, start_kept, run_kept, run_layout}
+use Rattle.protocol.proofs.Vocabulary.{repeated, woken}
+use Rattle.exitwalk.specs.Walks as exit
+use Rattle.protocol.specs.Recounts.{NobodyRecounts}
+use Rattle.protocol.specs.PassedBy.{call_told}
+use Rattle.protocol.proofs.Recounting.{recounted_other}
+use Rattle.protocol.proofs.Sparing.{spare_is}
 
 -- ---- facts
 
@@ -125,6 +131,24 @@ count_row t cell counter w n r going knows most = grind (arith)
 
 -- ---- one event
 
+-- it doesn't take counter k back
+abbrev IsOther : ℕ → Event → Type 0
+IsOther k (Event.Recount j) = j ≢ k
+IsOther k e = Unit {0}
+
+first_none : (k : ℕ) (e : Event) (es : List Event) → NobodyRecounts k (e ∷ es) → IsOther k e × NobodyRecounts k es
+first_none k (Event.Recount j) es none = none
+first_none k (Event.Begin t o) es none = (tt, none)
+first_none k (Event.Step t) es none = (tt, none)
+first_none k (Event.Kill t) es none = (tt, none)
+first_none k (Event.Leave t) es none = (tt, none)
+first_none k (Event.Decline t) es none = (tt, none)
+first_none k (Event.Renew t) es none = (tt, none)
+first_none k (Event.Reinit t m) es none = (tt, none)
+first_none k (Event.Spare t) es none = (tt, none)
+first_none k (Event.Resleep t) es none = (tt, none)
+first_none k (Event.Repeat t) es none = (tt, none)
+
 module _ (s : State) (k : ℕ) (calls : ℕ → Option Begun) (inv : Kept s) (counted : Counted s) (inside : k < length s.layout.conditions) (told : (t : ℕ) → IsTold s.layout (s.threads t).stage (calls t)) where
   abbrev at : ℕ
   at = counter_place s.layout k
@@ -203,12 +227,12 @@ module _ (s : State) (k : ℕ) (calls : ℕ → Option Begun) (inv : Kept s) (co
           let below : m < s.layout.mutexes = (subst (λ (d : Option ℕ). DeathTells s u d (walk_after s u w.row)) e g.tells).0 in
           put-other s.words (place_met s.layout u (walk_access s u w.row)) _ at (λ there. counter_is_no_cell s.layout m k below (there ∙ g.place m e))
 
-  pub counts_up : (e : Event) → CountsUp (happens s e)
+  pub counts_up : (e : Event) → IsOther k e → CountsUp (happens s e)
   counts_up e =
-      by_event s (λ (x : Event) (a : After). CountsUp a)
-      (λ x. omega arith)
-      (λ u o pos known named idle b full. begins u o b)
-      (λ u pos known.
+      by_event s (λ (x : Event) (a : After). IsOther k x → CountsUp a)
+      (λ x other. omega arith)
+      (λ u o pos known named idle b full other. begins u o b)
+      (λ u pos known other.
       by_stage s u CountsUp (λ rests. omega arith)
       (λ o p is awake. subst CountsUp
       (sym (went-is s u (mutex_of s.layout o) (Mutex (mutex_of s.layout o)) (Calling o p) (whole_access p) (λ a. led o p (whole_led p a)) (call_stepping s u o p (goes s u o p inv pos known is) (fits_in s u o p inv pos known is).0).valid))
@@ -217,30 +241,50 @@ module _ (s : State) (k : ℕ) (calls : ℕ → Option Begun) (inv : Kept s) (co
       (sym (went-is s u (its_mutex s c) (Condition (condition_of c)) (AtCondition c p) (cond_access p) (λ a. led_at c p (cond_led p a)) (cond_stepping s u c p inv pos known is).valid))
       (at_condition u c p pos known is))
       (λ w is awake. on_a_walk u w pos known is))
-      (λ u pos known alive. omega arith)
-      (λ u pos known asleep. omega arith)
-      (λ u o p pos known is awake trims. subst CountsUp (sym (spared_is s u o p is trims inv pos known)) (omega arith))
-      (λ u pos known gone. let same = renewed_counter s u pos known k in omega (arith, same))
-      (λ u m may. let same = reinited_counter s u m may k in let none = reinit_none k (if u == u then Some (reinit_of m) else calls u) in omega (arith, same, none))
+      (λ u pos known alive other. omega arith)
+      (λ u pos known asleep other. omega arith)
+      (λ u o p pos known is awake trims other. subst CountsUp (sym (spared_is s u o p is trims inv pos known)) (omega arith))
+      (λ u pos known gone other. let same = renewed_counter s u pos known k in omega (arith, same))
+      (λ u m may other. let same = reinited_counter s u m may k in let none = reinit_none k (if u == u then Some (reinit_of m) else calls u) in omega (arith, same, none))
+      (λ j may other. let same = recounted_other s j k (λ is. other (sym is)) in omega (arith, same))
+      (λ u m g sp other. subst CountsUp (sym (spare_is s u m g sp inv)) (omega arith))
+      (λ u c p pos known is there other. omega arith)
+      (λ u w pos known is reads other. stays _ (repeated s u w).note refl (walked_noted k calls u None (woken s u (exit.access_of w)) false (repeated s u w).note refl))
       e
 
 -- ---- runs
 
-counts_run : (s : State) (es : List Event) (k : ℕ) (calls : ℕ → Option Begun) → Kept s → Counted s → k < length s.layout.conditions → ((t : ℕ) → IsTold s.layout (s.threads t).stage (calls t))
+counts_run : (s : State) (es : List Event) (k : ℕ) (calls : ℕ → Option Begun) → Kept s → Counted s → k < length s.layout.conditions → ((t : ℕ) → IsTold s.layout (s.threads t).stage (calls t)) → NobodyRecounts k es
     → (run s es).words (counter_place s.layout k) ≡ s.words (counter_place s.layout k) + signals_in k calls (facts_among (notes s es))
-counts_run s [] k calls inv counted inside told = omega arith
-counts_run s (e ∷ es) k calls inv counted inside told =
+counts_run s [] k calls inv counted inside told none = omega arith
+counts_run s (e ∷ es) k calls inv counted inside told none =
     let next = sound s e inv in
     let fs = facts_of (happens s e).note in
+    let each = first_none k e es none in
     let later = counts_run (happens s e).state es k (calls_after calls fs) next.kept (counted_on s e inv counted) (subst (λ (l : Layout'). k < length l.conditions) (sym next.same) inside)
-    (λ t. subst (IsTold (happens s e).state.layout ((happens s e).state.threads t).stage) (sym (calls_last t calls fs)) (told_on s e inv counted t (calls t) (told t))) in
-    let here = counts_up s k calls inv counted inside told e in
+    (λ t. subst (IsTold (happens s e).state.layout ((happens s e).state.threads t).stage) (sym (calls_last t calls fs)) (told_on s e inv counted t (calls t) (told t))) each.1 in
+    let here = counts_up s k calls inv counted inside told e each.0 in
     let there : (run (happens s e).state es).words (counter_place s.layout k) ≡ (happens s e).state.words (counter_place s.layout k) + signals_in k (calls_after calls fs) (facts_among (notes (happens s e).state es))
     = subst (λ (l : Layout'). (run (happens s e).state es).words (counter_place l k) ≡ (happens s e).state.words (counter_place l k) + signals_in k (calls_after calls fs) (facts_among (notes (happens s e).state es))) next.same later in
     let both = signals_append k calls fs (facts_among (notes (happens s e).state es)) in
     omega (arith, here, there, both)
 
 pub counters_count_up : CountersCountUp
-counters_count_up l counters events is presets k inside =
-    counts_run (start l counters) events k (λ t. None) (start_kept l counters is) (start_counted l counters presets) inside (λ t. tt)
-    ∙ ap (λ (n : ℕ). n + signals_in k (λ t. None) (facts_among (notes (start l counters) events))) (first_word-counter l counters k inside)
+counters_count_up l counters is presets k inside = record {
+  first = λ events none.
+      counts_run s0 events k (λ t. None) inv counted inside (λ t. tt) none
+      ∙ ap (λ (n : ℕ). n + signals_in k (λ t. None) (facts_among (notes s0 events))) (first_word-counter l counters k inside);
+  since = λ before later none.
+      subst (λ (y : Layout'). (run (run s0 before) later).words (counter_place y k) ≡ (run s0 before).words (counter_place y k) + signals_in k (λ t. call_told t (notes s0 before)) (facts_among (notes (run s0 before) later))) (run_layout s0 before inv)
+      (counts_run (run s0 before) later k (λ t. call_told t (notes s0 before)) (run_kept s0 before inv) (run_counted s0 before inv counted) (subst (λ (y : Layout'). k < length y.conditions) (sym (run_layout s0 before inv)) inside)
+      (λ t. told_run s0 before inv counted t None tt) none);
+}
+  where
+    s0 : State
+    s0 = start l counters
+
+    inv : Kept s0
+    inv = start_kept l counters is
+
+    counted : Counted s0
+    counted = start_counted l counters presets

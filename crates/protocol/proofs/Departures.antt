@@ -1,13 +1,13 @@
 -- Sleepers that leave their queue by themselves.
 use Rattle.std.proofs.Common.{◌≡◌, ℕ, Bool, true, false, Option, None, List, [], ◌∷◌, refl, arith}
-use Rattle.protocol.proofs.Vocabulary.{Stage, Idle, Calling, AtCondition, Dying, Reaped, State, stands_in, stands_at, sleepers, is_asleep, departed, if◌then◌else◌}
+use Rattle.protocol.proofs.Vocabulary.{Stage, Idle, Calling, AtCondition, Dying, Reaped, State, stands_in, stands_at, cell_place, is_asleep, departed, if◌then◌else◌}
 use Rattle.buckets.specs.Queues.{without}
 use Rattle.protocol.specs.Machine.{places_of}
 use Rattle.protocol.specs.Applies.{IsInAQueue}
 use Rattle.protocol.proofs.Kept.{Kept, Sits, Listed, Owned, left_out}
 use Rattle.protocol.proofs.WalksLeft.{left_to_walk_carries}
 use Rattle.protocol.proofs.Frames.{knows_at}
-use Rattle.protocol.proofs.Queues.{without_stands, once_without, not_true}
+use Rattle.protocol.proofs.Queues.{Once, without_stands, once_without, not_true}
 use Rattle.protocol.proofs.Queued.{Queued}
 
 -- who sleeps where is nothing to calls, lists and walks
@@ -52,21 +52,20 @@ stands_where t qs (p ∷ ps) e = go (stands_in t (qs p)) refl e (stands_where t 
 pub asleep_where : (s : State) (t : ℕ) → is_asleep s t ≡ true → IsInAQueue s t
 asleep_where s t e = stands_where t s.queues (places_of s.layout (s.threads t).stage) e
 
--- whoever answered answers still
-pub leave_queued : (s : State) (t : ℕ) → Queued s → Queued (departed s t).state
-leave_queued s t queued = record {
-  sleeps = λ key u stands. queued.sleeps key u (without_stands t u (s.queues key) stands).0;
-  one = λ u key at here there. queued.one u key at (without_stands t u (s.queues key) here).0 (without_stands t u (s.queues at) there).0;
-  once = λ key. once_without t (s.queues key) (queued.once key);
-  bits = λ m u inside stands. queued.bits m u inside (without_stands t u (sleepers s m) stands).0;
+-- where the queues alone change, and nobody comes to one, whoever answered answers still
+pub fewer_queued : (s : State) (qs : ℕ → List ℕ) → ((u key : ℕ) → stands_in u (qs key) ≡ true → stands_in u (s.queues key) ≡ true) → ((key : ℕ) → Once (qs key)) → Queued s → Queued (record s { queues = qs })
+fewer_queued s qs stood once queued = record {
+  sleeps = λ key u stands. queued.sleeps key u (stood u key stands);
+  one = λ u key at here there. queued.one u key at (stood u key here) (stood u at there);
+  once = once;
+  bits = λ m u inside stands. queued.bits m u inside (stood u (cell_place s.layout m) stands);
   answered = λ m u inside none stands.
-      let old = queued.answered m u inside none (without_stands t u (sleepers s m) stands).0 in (
+      let old = queued.answered m u inside none (stood u (cell_place s.layout m) stands) in (
         old.0,
-        record {
-          first = old.1.first;
-          last = old.1.last;
-          answers = old.1.answers;
-          awake = λ key. not_true (stands_in old.0 (without t (s.queues key))) (λ stands. cc ((without_stands t old.0 (s.queues key) stands).0, old.1.awake key));
-        },
+        record { first = old.1.first; last = old.1.last; answers = old.1.answers; awake = λ key. not_true (stands_in old.0 (qs key)) (λ stands. cc (stood old.0 key stands, old.1.awake key)) },
       );
 }
+
+-- so it is where a sleeper leaves
+pub leave_queued : (s : State) (t : ℕ) → Queued s → Queued (departed s t).state
+leave_queued s t queued = fewer_queued s (λ key. without t (s.queues key)) (λ u key stands. (without_stands t u (s.queues key) stands).0) (λ key. once_without t (s.queues key) (queued.once key)) queued

@@ -1,5 +1,5 @@
 -- What an event does, case by case.
-use Rattle.std.proofs.Common.{◌≡◌, ℕ, ◌<◌, ◌≤◌, Bool, true, false, ◌&&◌, Result, Ok, Err, List, [], ◌∷◌, refl, sym, ap, ◌∙◌, subst, arith}
+use Rattle.std.proofs.Common.{◌≡◌, ℕ, zero, suc, ◌<◌, ◌≤◌, ◌==◌, Bool, true, false, ◌&&◌, Result, Ok, Err, List, [], ◌∷◌, length, refl, sym, ap, ◌∙◌, subst, arith, eqb-true}
 use Rattle.protocol.proofs.Vocabulary.{CondCall, condition_of, CondWhole, Mutex, Condition, Layout', IsLayout, acquires, Reply, XHELD, Whole, whole_access, whole_led, Op, OnMutex}
 use Rattle.protocol.proofs.Vocabulary.{OnCondition, Event, Step, Stage, Idle, Calling, AtCondition, Dying, mutex_of, Names, State, After, is_alive, killed, may_begin, begun}
 use Rattle.protocol.proofs.Vocabulary.{first_stage, nothing, answer_of, is_asleep, led, led_at, went, walked, stepped, happens, if◌then◌else◌, nat_le, nat_tests}
@@ -7,9 +7,13 @@ use Rattle.std.proofs.lemmas.List.Elements.{All-get_or}
 use Rattle.mutex.specs.Whole.{begins}
 use Rattle.condvar.specs.Whole as condition
 use Rattle.exitwalk.specs.Standings as walks
-use Rattle.protocol.specs.declared.event.Event.TheVariants.{Begin, Kill, Leave, Decline, Renew, Reinit}
+use Rattle.protocol.specs.declared.event.Event.TheVariants.{Begin, Kill, Leave, Decline, Renew, Reinit, Recount, Spare, Resleep, Repeat}
 use Rattle.mutex.specs.declared.row.Row.TheVariants.{Unlock}
 use Rattle.protocol.proofs.Vocabulary.{departed, renewed, reinited, spared, sleeps, sleepers, Reaped, Trimmed, Phase, AtCell, UnlockRow, not, nat_lt, Object, MayReinit}
+use Rattle.protocol.proofs.Vocabulary.{CondPhase, CondRow, WaitRow, cond_led, Count, Thread, eqb-false, is_calling, counter_place, stands_in, Led, another_answers, holds_count, none_counts, may_recount, recounted, MayRecount, sparing, wakes_one}
+use Rattle.protocol.proofs.Vocabulary.{resleeping, reslept, is_mark, repeating, repeated}
+use Rattle.protocol.proofs.Stepping.{wakes_next}
+use Rattle.protocol.proofs.Endings.{EndsOrGoes, call_ends, cond_ends}
 use Rattle.stepprograms.specs.Accesses.{is_nobody}
 use Rattle.protocol.proofs.Steps.{seen-inside}
 use Rattle.condvar.specs.Ops.{operation_of, is_in}
@@ -88,10 +92,75 @@ may_again s t m may =
     let unslept : is_nobody (sleepers s m) ≡ true = ap is_nobody may.unslept in
     grind (arith)
 
+-- ---- recounts
+
+none_so : (threads : ℕ → Thread) (k n t : ℕ) → none_counts threads k n ≡ true → 1 ≤ t → t ≤ n → holds_count k (threads t).stage ≡ false
+none_so threads k zero t e pos known = absurd (omega arith)
+none_so threads k (suc n) t e pos known = go (suc n == t) refl (none_so threads k n t)
+  where
+    go : (b : Bool) → (suc n == t) ≡ b → (none_counts threads k n ≡ true → 1 ≤ t → t ≤ n → holds_count k (threads t).stage ≡ false) → holds_count k (threads t).stage ≡ false
+    go true is rest = let here : holds_count k (threads (suc n)).stage ≡ false = grind (arith) in subst (λ (u : ℕ). holds_count k (threads u).stage ≡ false) (eqb-true (suc n) t is) here
+    go false apart rest = let later : none_counts threads k n ≡ true = grind (arith) in let other = eqb-false (suc n) t apart in rest later pos (omega arith)
+
+none_again : (threads : ℕ → Thread) (k n : ℕ) → ((t : ℕ) → 1 ≤ t → t ≤ n → holds_count k (threads t).stage ≡ false) → none_counts threads k n ≡ true
+none_again threads k zero h = refl
+none_again threads k (suc n) h =
+    let here : holds_count k (threads (suc n)).stage ≡ false = h (suc n) (omega arith) (omega arith) in
+    let later : none_counts threads k n ≡ true = none_again threads k n (λ t pos known. h t pos (omega arith)) in
+    ap (λ (b : Bool). not b && none_counts threads k n) here ∙ later
+
+-- what the test says
+pub recount_so : (s : State) (k : ℕ) → may_recount s k ≡ true → MayRecount s k
+recount_so s k e =
+    record {
+      inside = grind (arith, nat_tests);
+      unslept = nobody_there (s.queues (counter_place s.layout k)) (grind (arith));
+      unknown = λ t pos known. none_so s.threads k s.layout.threads t (grind (arith)) pos known;
+    }
+
+-- where it may, the test says so
+pub recount_again : (s : State) (k : ℕ) → MayRecount s k → may_recount s k ≡ true
+recount_again s k may =
+    let below : k < length s.layout.conditions = may.inside in
+    let inside : nat_lt k (length s.layout.conditions) ≡ true = grind (arith, nat_tests) in
+    let unslept : is_nobody (s.queues (counter_place s.layout k)) ≡ true = ap is_nobody may.unslept in
+    let unknown : none_counts s.threads k s.layout.threads ≡ true = none_again s.threads k s.layout.threads may.unknown in
+    grind (arith)
+
+-- ---- spares
+
+-- how it goes on: an unlock, or a wait
+pub data HowSpared (s : State) (t m : ℕ) (g : Led) : Type 0 where
+  Of_unlock : (o : Op) (p : Whole) → (s.threads t).stage ≡ Calling o p → m ≡ mutex_of s.layout o → p.phase ≡ AtCell (Unlock (UnlockRow.Wake false)) → g ≡ led o p (whole_led p (Count 1)) → HowSpared s t m g
+  Of_wait : (c : CondCall) (p : CondWhole) (seen : ℕ) → (s.threads t).stage ≡ AtCondition c p → m ≡ mutex_of s.layout (OnCondition c) → p.phase ≡ CondPhase.AtWords (CondRow.Wait (WaitRow.Wake seen)) → g ≡ led_at c p (cond_led p (Count 1)) → HowSpared s t m g
+
+pub record Sparing (s : State) (t m : ℕ) (g : Led) : Type 0 where
+  pub first : 1 ≤ t
+  pub last : t ≤ s.layout.threads
+  pub how : HowSpared s t m g
+  pub another : another_answers s t m s.layout.threads ≡ true
+
+pub spared_calls : (s : State) (t m : ℕ) (g : Led) → HowSpared s t m g → is_calling (s.threads t).stage ≡ true
+spared_calls s t m g (Of_unlock o p is mutex at leads) = ap is_calling is
+spared_calls s t m g (Of_wait c p seen is mutex at leads) = ap is_calling is
+
+pub spared_ends : (s : State) (t m : ℕ) (g : Led) → HowSpared s t m g → EndsOrGoes g.stage g.returned
+spared_ends s t m g (Of_unlock o p is mutex at leads) = subst (λ (z : Led). EndsOrGoes z.stage z.returned) (sym leads) (call_ends o p (whole_led p (Count 1)))
+spared_ends s t m g (Of_wait c p seen is mutex at leads) = subst (λ (z : Led). EndsOrGoes z.stage z.returned) (sym leads) (cond_ends c p (cond_led p (Count 1)))
+
+-- at which phases
+wakes_at : (f : Phase) → wakes_one f ≡ true → f ≡ AtCell (Unlock (UnlockRow.Wake false))
+wakes_at f e = grind (arith)
+
+waits_at : (f : CondPhase) → wakes_next f ≡ true → (seen : ℕ) × (f ≡ CondPhase.AtWords (CondRow.Wait (WaitRow.Wake seen)))
+waits_at (CondPhase.AtWords (CondRow.Wait (WaitRow.Wake seen))) e = (seen, refl)
+waits_at f e = absurd cc
+
 -- ---- events
 
 -- what holds where nothing happens, of a begin that isn't refused and of one that is, of a step, of a death, of a
--- sleeper's leave, of a trim that is declined, of a renewal and of a reinit, holds of each event
+-- sleeper's leave, of a trim that is declined, of a renewal and of a reinit, of a recount, of a wake that is spared, of
+-- a sleeper that goes to the end of its queue, and of a walk's access that is made once more, holds of each event
 pub by_event : (s : State) (P : Event → After → Type 0) → ((e : Event) → P e (nothing s))
     → ((t : ℕ) (o : Op) → 1 ≤ t → t ≤ s.layout.threads → Names s.layout o → (s.threads t).stage ≡ Idle → (b : Bool) → (acquires (operation_of o) && nat_le 2048 (s.threads t).held) ≡ b → P (Begin t o) (begun s t o (if b then Err XHELD else Ok (begins_at s.layout t o))))
     → ((t : ℕ) → 1 ≤ t → t ≤ s.layout.threads → P (Step t) (stepped s t (s.threads t).held (s.threads t).stage))
@@ -101,8 +170,12 @@ pub by_event : (s : State) (P : Event → After → Type 0) → ((e : Event) →
     → P (Decline t) (spared s t (s.threads t).held (mutex_of s.layout o) (led o p (whole_led p (Trimmed false)))))
     → ((t : ℕ) → 1 ≤ t → t ≤ s.layout.threads → (s.threads t).stage ≡ Reaped → P (Renew t) (renewed s t))
     → ((t m : ℕ) → MayReinit s t m → P (Reinit t m) (reinited s t m))
+    → ((k : ℕ) → MayRecount s k → P (Recount k) (recounted s k))
+    → ((t m : ℕ) (g : Led) → Sparing s t m g → P (Spare t) (spared s t (s.threads t).held m g))
+    → ((t : ℕ) (c : CondCall) (p : Whole) → 1 ≤ t → t ≤ s.layout.threads → (s.threads t).stage ≡ Calling (OnCondition c) p → stands_in t (s.queues (counter_place s.layout (condition_of c))) ≡ true → P (Resleep t) (reslept s t (condition_of c)))
+    → ((t : ℕ) (w : walks.Standing) → 1 ≤ t → t ≤ s.layout.threads → (s.threads t).stage ≡ Dying w → is_mark w.row ≡ false → P (Repeat t) (repeated s t w))
     → (e : Event) → P e (happens s e)
-by_event s P none begins_so steps_so kills_so leaves_so declines_so renews_so reinits_so (Begin t o) = go (may_begin s t o) refl
+by_event s P none begins_so steps_so kills_so leaves_so declines_so renews_so reinits_so recounts_so spares_so resleeps_so repeats_so (Begin t o) = go (may_begin s t o) refl
   where
     go : (b : Bool) → may_begin s t o ≡ b → P (Begin t o) (if b then begun s t o (first_stage s.layout t (s.threads t).held o) else nothing s)
     go true e =
@@ -112,10 +185,10 @@ by_event s P none begins_so steps_so kills_so leaves_so declines_so renews_so re
         subst (λ (r : Result Stage Reply). P (Begin t o) (begun s t o r)) (sym (first_is s.layout t (s.threads t).held o))
         (begins_so t o pos known (names_so s.layout o inside) (at_rest (s.threads t).stage (grind (arith, nat_tests))) (acquires (operation_of o) && nat_le 2048 (s.threads t).held) refl)
     go false e = none (Begin t o)
-by_event s P none begins_so steps_so kills_so leaves_so declines_so renews_so reinits_so (Step t) = grind (arith)
-by_event s P none begins_so steps_so kills_so leaves_so declines_so renews_so reinits_so (Kill t) = grind (arith)
-by_event s P none begins_so steps_so kills_so leaves_so declines_so renews_so reinits_so (Leave t) = grind (arith)
-by_event s P none begins_so steps_so kills_so leaves_so declines_so renews_so reinits_so (Decline t) = go (has_thread s t) refl
+by_event s P none begins_so steps_so kills_so leaves_so declines_so renews_so reinits_so recounts_so spares_so resleeps_so repeats_so (Step t) = grind (arith)
+by_event s P none begins_so steps_so kills_so leaves_so declines_so renews_so reinits_so recounts_so spares_so resleeps_so repeats_so (Kill t) = grind (arith)
+by_event s P none begins_so steps_so kills_so leaves_so declines_so renews_so reinits_so recounts_so spares_so resleeps_so repeats_so (Leave t) = grind (arith)
+by_event s P none begins_so steps_so kills_so leaves_so declines_so renews_so reinits_so recounts_so spares_so resleeps_so repeats_so (Decline t) = go (has_thread s t) refl
   where
     trims : (o : Op) (p : Whole) → has_thread s t ≡ true → (s.threads t).stage ≡ Calling o p → (a : Bool) → is_trim (whole_access p) ≡ a → (b : Bool) → sleeps s t (Calling o p) ≡ b
         → P (Decline t) (if a && not b then spared s t (s.threads t).held (mutex_of s.layout o) (led o p (whole_led p (Trimmed false))) else nothing s)
@@ -133,7 +206,7 @@ by_event s P none begins_so steps_so kills_so leaves_so declines_so renews_so re
     go : (b : Bool) → has_thread s t ≡ b → P (Decline t) (if b then declined s t (s.threads t).held (s.threads t).stage else nothing s)
     go true there = at there (s.threads t).stage refl
     go false e = none (Decline t)
-by_event s P none begins_so steps_so kills_so leaves_so declines_so renews_so reinits_so (Renew t) = go (has_thread s t && is_gone (s.threads t).stage) refl
+by_event s P none begins_so steps_so kills_so leaves_so declines_so renews_so reinits_so recounts_so spares_so resleeps_so repeats_so (Renew t) = go (has_thread s t && is_gone (s.threads t).stage) refl
   where
     go : (b : Bool) → (has_thread s t && is_gone (s.threads t).stage) ≡ b → P (Renew t) (if b then renewed s t else nothing s)
     go true e =
@@ -141,11 +214,68 @@ by_event s P none begins_so steps_so kills_so leaves_so declines_so renews_so re
         let known : t ≤ s.layout.threads = grind (arith, nat_tests) in
         renews_so t pos known (reaped_is (s.threads t).stage (grind (arith, nat_tests)))
     go false e = none (Renew t)
-by_event s P none begins_so steps_so kills_so leaves_so declines_so renews_so reinits_so (Reinit t m) = go (may_reinit s t m) refl
+by_event s P none begins_so steps_so kills_so leaves_so declines_so renews_so reinits_so recounts_so spares_so resleeps_so repeats_so (Reinit t m) = go (may_reinit s t m) refl
   where
     go : (b : Bool) → may_reinit s t m ≡ b → P (Reinit t m) (if b then reinited s t m else nothing s)
     go true e = reinits_so t m (may_so s t m e)
     go false e = none (Reinit t m)
+by_event s P none begins_so steps_so kills_so leaves_so declines_so renews_so reinits_so recounts_so spares_so resleeps_so repeats_so (Recount k) = go (may_recount s k) refl
+  where
+    go : (b : Bool) → may_recount s k ≡ b → P (Recount k) (if b then recounted s k else nothing s)
+    go true e = recounts_so k (recount_so s k e)
+    go false e = none (Recount k)
+by_event s P none begins_so steps_so kills_so leaves_so declines_so renews_so reinits_so recounts_so spares_so resleeps_so repeats_so (Spare t) = go (has_thread s t) refl
+  where
+    calls : (o : Op) (p : Whole) → has_thread s t ≡ true → (s.threads t).stage ≡ Calling o p → (a : Bool) → wakes_one p.phase ≡ a → (b : Bool) → another_answers s t (mutex_of s.layout o) s.layout.threads ≡ b
+        → P (Spare t) (if a && b then spared s t (s.threads t).held (mutex_of s.layout o) (led o p (whole_led p (Count 1))) else nothing s)
+    calls o p there is true wakes true another =
+        spares_so t (mutex_of s.layout o) (led o p (whole_led p (Count 1))) record { first = grind (arith, nat_tests); last = grind (arith, nat_tests); how = Of_unlock o p is refl (wakes_at p.phase wakes) refl; another = another }
+    calls o p there is true wakes false alone = none (Spare t)
+    calls o p there is false other b e = none (Spare t)
+
+    waits : (c : CondCall) (p : CondWhole) → has_thread s t ≡ true → (s.threads t).stage ≡ AtCondition c p → (a : Bool) → wakes_next p.phase ≡ a → (b : Bool) → another_answers s t (mutex_of s.layout (OnCondition c)) s.layout.threads ≡ b
+        → P (Spare t) (if a && b then spared s t (s.threads t).held (mutex_of s.layout (OnCondition c)) (led_at c p (cond_led p (Count 1))) else nothing s)
+    waits c p there is true wakes true another =
+        let at = waits_at p.phase wakes in
+        spares_so t (mutex_of s.layout (OnCondition c)) (led_at c p (cond_led p (Count 1))) record { first = grind (arith, nat_tests); last = grind (arith, nat_tests); how = Of_wait c p at.0 is refl at.1 refl; another = another }
+    waits c p there is true wakes false alone = none (Spare t)
+    waits c p there is false other b e = none (Spare t)
+
+    at : has_thread s t ≡ true → (g : Stage) → (s.threads t).stage ≡ g → P (Spare t) (sparing s t (s.threads t).held g)
+    at there (Calling o p) is = calls o p there is (wakes_one p.phase) refl (another_answers s t (mutex_of s.layout o) s.layout.threads) refl
+    at there (AtCondition c p) is = waits c p there is (wakes_next p.phase) refl (another_answers s t (mutex_of s.layout (OnCondition c)) s.layout.threads) refl
+    at there g is = none (Spare t)
+
+    go : (b : Bool) → has_thread s t ≡ b → P (Spare t) (if b then sparing s t (s.threads t).held (s.threads t).stage else nothing s)
+    go true there = at there (s.threads t).stage refl
+    go false e = none (Spare t)
+by_event s P none begins_so steps_so kills_so leaves_so declines_so renews_so reinits_so recounts_so spares_so resleeps_so repeats_so (Resleep t) = go (has_thread s t) refl
+  where
+    sleeps_on : (c : CondCall) (p : Whole) → has_thread s t ≡ true → (s.threads t).stage ≡ Calling (OnCondition c) p → (a : Bool) → stands_in t (s.queues (counter_place s.layout (condition_of c))) ≡ a
+        → P (Resleep t) (if a then reslept s t (condition_of c) else nothing s)
+    sleeps_on c p there is true stands = resleeps_so t c p (grind (arith, nat_tests)) (grind (arith, nat_tests)) is stands
+    sleeps_on c p there is false e = none (Resleep t)
+
+    at : has_thread s t ≡ true → (g : Stage) → (s.threads t).stage ≡ g → P (Resleep t) (resleeping s t g)
+    at there (Calling (OnCondition c) p) is = sleeps_on c p there is (stands_in t (s.queues (counter_place s.layout (condition_of c)))) refl
+    at there g is = none (Resleep t)
+
+    go : (b : Bool) → has_thread s t ≡ b → P (Resleep t) (if b then resleeping s t (s.threads t).stage else nothing s)
+    go true there = at there (s.threads t).stage refl
+    go false e = none (Resleep t)
+by_event s P none begins_so steps_so kills_so leaves_so declines_so renews_so reinits_so recounts_so spares_so resleeps_so repeats_so (Repeat t) = go (has_thread s t) refl
+  where
+    reads : (w : walks.Standing) → has_thread s t ≡ true → (s.threads t).stage ≡ Dying w → (a : Bool) → is_mark w.row ≡ a → P (Repeat t) (if a then nothing s else repeated s t w)
+    reads w there is true marks = none (Repeat t)
+    reads w there is false other = repeats_so t w (grind (arith, nat_tests)) (grind (arith, nat_tests)) is other
+
+    at : has_thread s t ≡ true → (g : Stage) → (s.threads t).stage ≡ g → P (Repeat t) (repeating s t g)
+    at there (Dying w) is = reads w there is (is_mark w.row) refl
+    at there g is = none (Repeat t)
+
+    go : (b : Bool) → has_thread s t ≡ b → P (Repeat t) (if b then repeating s t (s.threads t).stage else nothing s)
+    go true there = at there (s.threads t).stage refl
+    go false e = none (Repeat t)
 
 -- ---- steps
 

@@ -44,6 +44,9 @@ use Rattle.protocol.proofs.Events.{begins_at, by_event, by_stage, IsTrimming}
 use Rattle.protocol.proofs.Runs.{sound}
 use Rattle.protocol.proofs.NoteFacts.{IsOfSleep, behind_point, of_walk}
 use Rattle.protocol.proofs.Passing.{Begins_nothing, begins_stepped, begins_walked, last_begun-append}
+use Rattle.protocol.proofs.Vocabulary.{Led, WaitRow, recounted, reslept, repeated}
+use Rattle.protocol.proofs.Events.{HowSpared, Of_unlock, Of_wait, Sparing}
+use Rattle.protocol.proofs.Sparing.{spare_is, spared_state, next_of, unwoken}
 
 -- ---- the mutex of a point that is told
 
@@ -355,6 +358,39 @@ decline_teaches s u c p is trims = record {
     learns : (b : Option Begun) (o : Option Object) → Learnt s.layout (Calling c p) b o → Learnt s.layout (Calling c (record p { phase = Clearing OK })) b o
     learns b o h = (h.0, tt, λ at n e. absurd cc)
 
+-- nor behind a wake that is spared
+spare_teaches : (s : State) (u m : ℕ) (g : Led) (sp : Sparing s u m g) → Teaches s u (record { state = spared_state s u m g sp.how; note = unwoken u m })
+spare_teaches s u m g sp = record {
+  layout = refl;
+  own = λ b o h. subst (λ (z : Thread). Learnt s.layout z.stage b o) (sym (put-same s.threads u _)) (learns sp.how b o h);
+  theirs = λ t apart. ap (λ (z : Thread). z.stage) (put-other s.threads u _ t (λ e. apart (sym e)));
+  others = λ t b o apart. (refl, refl);
+}
+  where
+    unlocks : (c : Op) (p : Whole) (b : Option Begun) (o : Option Object) → Learnt s.layout (Calling c p) b o → Learnt s.layout (Calling c (record p { phase = Clearing OK })) b o
+    unlocks c p b o h = (h.0, tt, λ at n e. absurd cc)
+
+    waits : (c : CondCall) (p : CondWhole) (x : ℕ) (b : Option Begun) (o : Option Object) → Learnt s.layout (AtCondition c p) b o → Learnt s.layout (AtCondition c (record p { phase = CondPhase.AtWords (CondRow.Wait (WaitRow.Sleep x)) })) b o
+    waits c p x b o h = (h.0, λ at n e. absurd cc)
+
+    learns : (how : HowSpared s u m g) (b : Option Begun) (o : Option Object) → Learnt s.layout (s.threads u).stage b o → Learnt s.layout (next_of s u m g how) b o
+    learns (Of_unlock c p is mutex at leads) b o h = unlocks c p b o (subst (λ (z : Stage). Learnt s.layout z b o) is h)
+    learns (Of_wait c p x is mutex at leads) b o h = waits c p x b o (subst (λ (z : Stage). Learnt s.layout z b o) is h)
+
+recount_teaches : (s : State) (k : ℕ) → Teaches s 0 (recounted s k)
+recount_teaches s k = record { layout = refl; own = λ b o h. h; theirs = λ t apart. refl; others = λ t b o apart. (refl, refl) }
+
+resleep_teaches : (s : State) (u k : ℕ) → Teaches s u (reslept s u k)
+resleep_teaches s u k = record { layout = refl; own = λ b o h. h; theirs = λ t apart. refl; others = λ t b o apart. (refl, refl) }
+
+repeat_teaches : (s : State) (u : ℕ) (w : walks.Standing) → (s.threads u).stage ≡ Stage.Dying w → Teaches s u (repeated s u w)
+repeat_teaches s u w is = record {
+  layout = refl;
+  own = λ b o h. subst (λ (g : Stage). Learnt s.layout g (last_begun u b (facts_of (repeated s u w).note)) (left_next u (repeated s u w).state o (facts_of (repeated s u w).note))) (sym is) tt;
+  theirs = λ t apart. refl;
+  others = λ t b o apart. ((begins_walked u None (woken s u (exit.access_of w)) false).same t b, left_walked t (repeated s u w).state o u None (woken s u (exit.access_of w)) false);
+}
+
 -- a thread that lives anew is in no call
 renew_teaches : (s : State) (u : ℕ) → 1 ≤ u → u ≤ s.layout.threads → Teaches s u (renewed s u)
 renew_teaches s u pos known = record {
@@ -423,6 +459,10 @@ teaches s e inv =
     (λ t o p pos known is awake trims. subst (Teaches s t) (sym (spared_is s t o p is trims inv pos known)) (decline_teaches s t o p is trims))
     (λ t pos known gone. renew_teaches s t pos known)
     (λ t m may. reinit_teaches s t m may.resting)
+    (λ k may. recount_teaches s k)
+    (λ t m g sp. subst (Teaches s t) (sym (spare_is s t m g sp inv)) (spare_teaches s t m g sp))
+    (λ t c p pos known is there. resleep_teaches s t (condition_of c))
+    (λ t w pos known is reads. repeat_teaches s t w is)
     e
 
 learnt_on : (s : State) (e : Event) → Kept s → (t : ℕ) (b : Option Begun) (o : Option Object) → Learnt s.layout (s.threads t).stage b o

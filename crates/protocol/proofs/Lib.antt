@@ -33,6 +33,9 @@ pub mod Queues
 pub mod Queued
 mod Departures
 pub mod Declines
+pub mod Recounting
+pub mod Sparing
+pub mod Repeating
 pub mod Renewals
 pub mod Reinits
 pub mod Lists

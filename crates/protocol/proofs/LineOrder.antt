@@ -8,6 +8,7 @@ use Rattle.facts.specs.Facts.{thread_of, decides, is_passive, is_kill, is_renewa
 use Rattle.facts.specs.Orders.{Later, Each, Orderly}
 use Rattle.protocol.specs.Explained.{is_begin, is_last, Within, AreWithin}
 use Rattle.protocol.proofs.NoteFacts.{IsOfSleep, behind_woken, behind_point, of_access, of_walk}
+use Rattle.protocol.proofs.Vocabulary.{Recounted, Reslept}
 
 -- ---- which facts one event may tell, of thread u: no two points, and but for wakes nothing of others
 abbrev pub NoPoint : List Fact → Type 0
@@ -203,6 +204,8 @@ told_inside (Stepped u m None z ws ms y) = (slept_ordered u m z ws ms y).1
 told_inside (Stepped u m (Some d) z ws ms y) = let later = slept_ordered u m z ws ms y in (behind (Fact.Point d) refl refl _ later.0, later.1)
 told_inside (Killed t) = (tt, tt)
 told_inside (Left t) = (tt, tt)
+told_inside (Recounted k) = tt
+told_inside (Reslept t k) = ((refl, refl, (λ e. refl), (refl, refl), tt), (tt, tt))
 told_inside (Renewed t) = (tt, tt)
 told_inside (Reinited t m) = ((refl, refl, (λ e. absurd cc), (refl, refl), (refl, refl, (λ e. absurd cc), (refl, refl), tt)), ((refl, refl, (λ e. absurd cc), (refl, refl), tt), (tt, tt)))
 told_inside (Walked u None ws y) = (woken_ordered u ws y).1

@@ -30,6 +30,11 @@ use Rattle.exitwalk.specs.declared.row.Row.TheVariants as walk
 use Rattle.exitwalk.specs.Standings as walks
 use Rattle.protocol.proofs.NoteFacts.{IsOfSleep, behind_woken, behind_point}
 use Rattle.protocol.proofs.Cases.{by_same}
+use Rattle.protocol.proofs.Vocabulary.{CondPhase, Recounted, Reslept, recounted, reslept, repeated}
+use Rattle.exitwalk.specs.Walks as exit
+use Rattle.protocol.proofs.Events.{HowSpared, Of_unlock, Of_wait, Sparing}
+use Rattle.protocol.proofs.Sparing.{spare_is, spared_state, next_of, unwoken}
+use Rattle.protocol.proofs.Vocabulary.{CondRow, WaitRow}
 
 -- ---- what may come next in a thread's life
 
@@ -111,6 +116,7 @@ abbrev calls_of : Note → List Fact
 calls_of (Stepped t m point slept woken moved returned) = point_facts point ++ return_facts t returned
 calls_of (Walked t death woken reaped) = death_facts t death ++ reap_facts t reaped
 calls_of (Left t) = []
+calls_of (Reslept t k) = []
 calls_of n = facts_of n
 
 -- who sleeps, who is woken and who is moved is told of no call
@@ -129,6 +135,8 @@ own-calls t i Nothing ls = refl
 own-calls t i (Began u c x) ls = refl
 own-calls t i (Killed u) ls = refl
 own-calls t i (Left u) ls = refl
+own-calls t i (Recounted k) ls = refl
+own-calls t i (Reslept u k) ls = refl
 own-calls t i (Renewed u) ls = refl
 own-calls t i (Reinited u m) ls = refl
 own-calls t i (Walked u None ws y) ls = reaped_own t i u ws y ls
@@ -307,6 +315,46 @@ declines_so s u o p is trims = record {
   others = λ t apart. ap (λ (z : Thread). z.stage) (put-other s.threads u _ t (λ same. apart (sym same)));
 }
 
+-- a wake is spared: the call has had its point
+spares_so : (s : State) (u m : ℕ) (g : Led) (sp : Sparing s u m g) → Adds s u (record { state = spared_state s u m g sp.how; note = unwoken u m })
+spares_so s u m g sp = record {
+  fine = tt;
+  alone = tt;
+  says = nothing_new;
+  mine = λ i ls later. before sp.how ls (subst (λ (z : Thread). Goes s.layout u z.stage (own u ls)) (put-same s.threads u _) later);
+  others = λ t apart. ap (λ (z : Thread). z.stage) (put-other s.threads u _ t (λ same. apart (sym same)));
+}
+  where
+    -- a wait that is about to sleep has made the points that it had made before its wake
+    waits : (c : CondCall) (p : CondWhole) (x : ℕ) (fs : List Fact) → Goes s.layout u (AtCondition c (record p { phase = CondPhase.AtWords (CondRow.Wait (WaitRow.Sleep x)) })) fs → Goes s.layout u (AtCondition c (record p { phase = CondPhase.AtWords (CondRow.Wait (WaitRow.Wake x)) })) fs
+    waits (CondCall.Wait k) p x fs later = later
+    waits (CondCall.Signal k) p x fs later = later
+    waits (CondCall.Broadcast k) p x fs later = later
+
+    before : (how : HowSpared s u m g) (ls : List Line) → Goes s.layout u (next_of s u m g how) (own u ls) → Goes s.layout u (s.threads u).stage (own u ls)
+    before (Of_unlock o p is mutex at leads) ls later =
+        subst (λ (z : Stage). Goes s.layout u z (own u ls)) (sym is) (subst (λ (f : Phase). Goes s.layout u (Calling o (record p { phase = f })) (own u ls)) (sym at) later)
+    before (Of_wait c p x is mutex at leads) ls later =
+        subst (λ (z : Stage). Goes s.layout u z (own u ls)) (sym is) (subst (λ (f : CondPhase). Goes s.layout u (AtCondition c (record p { phase = f })) (own u ls)) (sym at) (waits c p x (own u ls) later))
+
+-- a counter goes back
+recounts_so : (s : State) (k : ℕ) → Adds s 0 (recounted s k)
+recounts_so s k = record { fine = tt; alone = tt; says = nothing_new; mine = λ i ls later. later; others = λ t apart. refl }
+
+-- a sleeper goes to the end of its queue
+resleeps_so : (s : State) (u k : ℕ) → Adds s u (reslept s u k)
+resleeps_so s u k = record { fine = ((λ e. refl), (λ e. absurd cc), ((λ e. refl), (λ e. tt), tt)); alone = (refl, (refl, tt)); says = nothing_new; mine = λ i ls later. later; others = λ t apart. refl }
+
+-- an access of a walk is made, and the walk stays
+repeats_so : (s : State) (u : ℕ) (w : walks.Standing) → Adds s u (repeated s u w)
+repeats_so s u w = record {
+  fine = walked_fine u None (woken s u (exit.access_of w)) false;
+  alone = no_kill_alone _ (walked_no_kill u None (woken s u (exit.access_of w)) false);
+  says = mourned None false;
+  mine = λ i ls later. later;
+  others = λ t apart. refl;
+}
+
 -- its death is told of, and it is reaped
 mourned_on : (l : Layout') (u i : ℕ) (w : walks.Standing) (d : Option ℕ) (r : walk_row.Row) (ls : List Line) → Goes l u (stage_walked w r) (own u ls) → AfterKill u (own u (map (line_of i) (death_facts u d ++ reap_facts u (has_ended r)) ++ ls))
 mourned_on l u i w d r ls later = go d (has_ended r) (at_end r later)
@@ -372,6 +420,10 @@ adds s e inv =
     (λ u o p pos known is awake trims. subst (Adds s u) (sym (spared_is s u o p is trims inv pos known)) (declines_so s u o p is trims))
     (λ u pos known gone. renews_so s u pos known gone)
     (λ u m may. reinits_so s u m may.resting)
+    (λ k may. recounts_so s k)
+    (λ u m g sp. subst (Adds s u) (sym (spare_is s u m g sp inv)) (spares_so s u m g sp))
+    (λ u c p pos known is there. resleeps_so s u (condition_of c))
+    (λ u w pos known is reads. repeats_so s u w)
     e
 
 -- ---- whole runs

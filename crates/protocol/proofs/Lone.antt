@@ -1,4 +1,4 @@
--- What a leave and a declined trim do.
+-- What a leave and a declined trim do, and a recount, a spare, a resleep and a repeat.
 use Rattle.std.proofs.Common.{◌≡◌, ℕ, ◌≤◌, Bool, true, false, ◌&&◌, [], ◌∷◌, refl, sym, ap, ◌∙◌, subst}
 use Rattle.protocol.proofs.Vocabulary.{Layout', Op, Whole, whole_access, Stage, Calling, State, After, start, run, departed, nothing, is_asleep, happens, facts_of, if◌then◌else◌}
 use Rattle.facts.specs.declared.fact.Fact.TheVariants.{Wake}
@@ -14,6 +14,21 @@ use Rattle.protocol.proofs.Declines.{behind, decline_goes, decline_rests, goes_o
 use Rattle.protocol.proofs.Events.{is_known, trims_at}
 use Rattle.protocol.proofs.Runs.{start_kept, run_kept, run_layout}
 use Rattle.protocol.proofs.QueueRuns.{run_queued}
+use Rattle.std.proofs.Common.{List, map, append-nil}
+use Rattle.protocol.proofs.Vocabulary.{Event, Step, Thread, Condition, IsLayout, counter_place, stepped, walked, recounted, repeated, woken}
+use Rattle.facts.specs.declared.fact.Fact.TheVariants.{Sleep}
+use Rattle.exitwalk.specs.Walks as exit
+use Rattle.protocol.specs.declared.event.Event.TheVariants.{Repeat}
+use Rattle.protocol.specs.Applies.{IsAboutToRead}
+use Rattle.protocol.specs.Wakes.{wakes_in}
+use Rattle.protocol.specs.Recounts.{OnlyRecounts, RecountsSo, RecountsAreLone}
+use Rattle.protocol.specs.Spares.{OnlySpares, SparesSo, SparesAreLone}
+use Rattle.protocol.specs.Repeats.{OnlyResleeps, ResleepsSo, OnlyRepeats, RepeatsSo, ResleepsAndRepeats, ResleepsAndRepeatsAreLone}
+use Rattle.protocol.proofs.Events.{recount_again}
+use Rattle.protocol.proofs.Recounting.{recounted_counter, recounted_elsewhere, recount_rests}
+use Rattle.protocol.proofs.Sparing.{spare_goes, spare_rests}
+use Rattle.protocol.proofs.Repeating.{resleep_goes, resleep_rests, repeat_goes, repeat_rests}
+use Rattle.protocol.proofs.Woken.{wakes_walked}
 
 module _ (s : State) (t : ℕ) (inv : Kept s) (queued : Queued s) (pos : 1 ≤ t) (known : t ≤ s.layout.threads) where
   -- ---- a leave
@@ -69,3 +84,91 @@ leaves_lone l counters events is =
       leaves = λ t first last. leaves_so (run (start l counters) events) t kept queued first last;
       declines = λ t first last. declines_so (run (start l counters) events) t kept queued first last;
     })
+
+-- ---- recounts
+
+recounts : (s : State) (k : ℕ) → RecountsSo s k
+recounts s k = record {
+  zero_again = λ may.
+      subst (λ (a : After). OnlyRecounts s a.state k × (facts_of a.note ≡ [])) (sym (ap (λ (b : Bool). if b then recounted s k else nothing s) (recount_again s k may))) (
+        record { layout = refl; counter = recounted_counter s k; words = λ p apart. recounted_elsewhere s k p apart; queues = λ key. refl; threads = λ u. refl },
+        refl,
+      );
+  else_nothing = λ never. recount_rests s k never;
+}
+
+pub recounts_lone : RecountsAreLone
+recounts_lone l counters events is k = recounts (run (start l counters) events) k
+
+-- ---- spares
+
+module _ (s : State) (t : ℕ) (inv : Kept s) (queued : Queued s) (pos : 1 ≤ t) (known : t ≤ s.layout.threads) where
+  abbrev Spares : Stage → After → Type 0
+  Spares g a = OnlySpares s a.state t g × (facts_of a.note ≡ [])
+
+  spares : SparesSo s t
+  spares = record {
+    spared = λ m g wakes another.
+        subst (Spares g) (sym (spare_goes s t m g inv queued pos known wakes another)) (
+          record {
+            words = λ p. refl;
+            queues = λ key. refl;
+            others = λ u apart. put-other s.threads t _ u apart;
+            goes_on = ap (λ (z : Thread). z.stage) (put-same s.threads t _);
+            held = ap (λ (z : Thread). z.held) (put-same s.threads t _);
+          },
+          refl,
+        );
+    else_nothing = λ never. spare_rests s t queued (λ first last may. never may);
+  }
+
+  -- ---- resleeps
+  resleeps : ResleepsSo s t
+  resleeps = record {
+    again = λ k below there.
+        subst (λ (a : After). OnlyResleeps s a.state t k × (facts_of a.note ≡ Wake t ∷ (Sleep t (Condition k) ∷ []))) (sym (resleep_goes s t k inv queued below there)) (
+          record { words = λ p. refl; threads = λ u. refl; queue = put-same s.queues (counter_place s.layout k) _; queues = λ key apart. put-other s.queues (counter_place s.layout k) _ key apart },
+          refl,
+        );
+    else_nothing = λ never. resleep_rests s t inv never;
+  }
+
+  -- ---- repeats
+  repeat_made : IsAboutToRead s t → OnlyRepeats s (happens s (Repeat t)).state (happens s (Step t)).state × (facts_of (happens s (Repeat t)).note ≡ wakes_in (facts_of (happens s (Step t)).note))
+  repeat_made (w, is, reads) =
+      subst (λ (a : After). OnlyRepeats s a.state (happens s (Step t)).state × (facts_of a.note ≡ wakes_in (facts_of (happens s (Step t)).note))) (sym (repeat_goes s t w pos known is reads))
+      (subst (λ (a : After). OnlyRepeats s (repeated s t w).state a.state × (facts_of (repeated s t w).note ≡ wakes_in (facts_of a.note))) (sym steps) (
+        record { words = λ p. refl; threads = λ u. refl; queues = λ key. refl },
+        append-nil (map Wake (woken s t (exit.access_of w))) ∙ sym (wakes_walked t _ (woken s t (exit.access_of w)) _),
+      ))
+    where
+      steps : happens s (Step t) ≡ walked s t (s.threads t).held w
+      steps = ap (λ (b : Bool). if b then stepped s t (s.threads t).held (s.threads t).stage else nothing s) (is_known s t pos known) ∙ ap (stepped s t (s.threads t).held) is
+
+  repeats : RepeatsSo s t
+  repeats = record { made = repeat_made; else_nothing = λ never. repeat_rests s t (λ first last may. never may) }
+
+module _ (l : Layout') (counters : ℕ → ℕ) (events : List Event) (is : IsLayout l) where
+  abbrev s0 : State
+  s0 = start l counters
+
+  known_then : (t : ℕ) → t ≤ l.threads → t ≤ (run s0 events).layout.threads
+  known_then t known = subst (λ (k : Layout'). t ≤ k.threads) (sym (run_layout s0 events (start_kept l counters is))) known
+
+  inv_then : Kept (run s0 events)
+  inv_then = run_kept s0 events (start_kept l counters is)
+
+  pub spares_then : (t : ℕ) → 1 ≤ t → t ≤ l.threads → SparesSo (run s0 events) t
+  spares_then t pos known = spares (run s0 events) t inv_then (run_queued l counters events is) pos (known_then t known)
+
+  pub again_then : ResleepsAndRepeats l (run s0 events)
+  again_then = record {
+    resleeps = λ t pos known. resleeps (run s0 events) t inv_then (run_queued l counters events is) pos (known_then t known);
+    repeats = λ t pos known. repeats (run s0 events) t inv_then (run_queued l counters events is) pos (known_then t known);
+  }
+
+pub spares_lone : SparesAreLone
+spares_lone l counters events is t pos known = spares_then l counters events is t pos known
+
+pub resleeps_and_repeats_lone : ResleepsAndRepeatsAreLone
+resleeps_and_repeats_lone l counters events is = again_then l counters events is

@@ -26,11 +26,19 @@ use Rattle.protocol.proofs.Passing.{point_noted, sleep_noted, none_walked, Begin
 use Rattle.protocol.proofs.WalkSteps.{by_walked}
 use Rattle.protocol.proofs.Declines.{declined_state, quiet, spared_is}
 use Rattle.protocol.proofs.Events.{begins_at, by_event, by_stage, IsTrimming}
-use Rattle.protocol.proofs.Counters.{CondMove, By_row, Before_release, CondGoes, cond_moves, KnowsCount, KnowsAt, KnowsIn, Counted, Passes, never_falls, passes, counted_on, run_counted}
+use Rattle.protocol.proofs.Counters.{CondMove, By_row, Before_release, CondGoes, cond_moves, KnowsCount, KnowsAt, KnowsIn, Counted, never_falls, passes, counted_on, run_counted}
 use Rattle.protocol.proofs.CondSteps.{cond_of}
 use Rattle.protocol.proofs.CondAccesses.{IsBefore, cond_stepping}
 use Rattle.protocol.proofs.Steps.{thread_after, went-is, cond_onto, cond_step, cond_note, its_mutex, its_cell, its_counter, cond_after, cell_at, counter_at}
 use Rattle.protocol.proofs.Splits.{Split, split, facts_among-append}
+use Rattle.protocol.proofs.Vocabulary.{Led, Reslept, recounted, reslept, repeated, may_recount, holds_count, has_count, woken}
+use Rattle.exitwalk.specs.Walks as exit
+use Rattle.protocol.proofs.Cases.{by_same}
+use Rattle.protocol.proofs.Changing.{theirs}
+use Rattle.protocol.proofs.Counters.{recount_or}
+use Rattle.protocol.proofs.Events.{HowSpared, Of_unlock, Of_wait, Sparing, recount_so}
+use Rattle.protocol.proofs.Recounting.{recounted_other, without_count}
+use Rattle.protocol.proofs.Sparing.{spare_is, spared_state, next_of, unwoken}
 
 -- ---- where a wait stands
 
@@ -118,10 +126,10 @@ record Makes (s : State) (u : ℕ) (a : After) : Type 0 where
   points : (d : Decision) → IsAmong (Fact.Point d) (facts_of a.note) → (d.thread ≡ u) × (1 ≤ u) × (u ≤ s.layout.threads)
   unlocks : (d : Decision) → IsAmong (Fact.Point d) (facts_of a.note) → d.operation ≡ Operation.Unlock → d.reply ≡ OK → IsPast (a.state.threads u).stage
   past : BeginsNone u (facts_of a.note) → IsPast (s.threads u).stage → IsPast (a.state.threads u).stage
-  behind : (k : ℕ) → BeginsNone u (facts_of a.note) → IsBehind s.layout s.words k (s.threads u).stage → IsBehind s.layout a.state.words k (a.state.threads u).stage
+  behind : (k : ℕ) → 1 ≤ u → BeginsNone u (facts_of a.note) → IsBehind s.layout s.words k (s.threads u).stage → IsBehind s.layout a.state.words k (a.state.threads u).stage
   counts : (d : Decision) → IsAmong (Fact.Point d) (facts_of a.note) → Counts d.operation d.reply
       → (c : CondCall) × (p : CondWhole) × ((s.threads u).stage ≡ AtCondition c p) × (a.state.words (counter_place s.layout (condition_of c)) ≡ s.words (counter_place s.layout (condition_of c)) + 1) × ((k : ℕ) → IsBehind s.layout a.state.words k (a.state.threads u).stage)
-  sleeps : (t k : ℕ) → IsAmong (Fact.Sleep t (Condition k)) (facts_of a.note) → IsBehind s.layout s.words k (s.threads t).stage → ⊥
+  sleeps : (t k : ℕ) → IsAmong (Fact.Sleep t (Condition k)) (facts_of a.note) → a.note ≢ Reslept t k → IsBehind s.layout s.words k (s.threads t).stage → ⊥
   told : (b : Option Begun) → IsTold s.layout (s.threads u).stage b → IsTold s.layout (a.state.threads u).stage (last_begun u b (facts_of a.note))
   others : (t : ℕ) (b : Option Begun) → u ≢ t → last_begun t b (facts_of a.note) ≡ b
 
@@ -174,9 +182,9 @@ module _ (s : State) (u : ℕ) (o : Op) (p : Whole) (inv : Kept s) (pos : 1 ≤ 
     points = λ d h. (sym (pointed called.point d (point_is d h)).0, pos, known);
     unlocks = λ d h op x. subst IsPast (sym stage_is) (past_call o p _);
     past = λ none h. subst IsPast (sym stage_is) (past_call o p _);
-    behind = λ k none h. subst (IsBehind s.layout a.state.words k) (sym stage_is) (behind_call s.layout a.state.words k o p _);
+    behind = λ k first none h. subst (IsBehind s.layout a.state.words k) (sym stage_is) (behind_call s.layout a.state.words k o p _);
     counts = λ d h c. absurd (never_counts s.layout o p.operation d.reply (fits_in s u o p inv pos known is).1 (subst (λ (z : Operation). Counts z d.reply) (sym (pointed called.point d (point_is d h)).1) c));
-    sleeps = λ t k h b. never (falls_asleep s u (whole_access p)) k (sleep_noted t (Condition k) u m _ _ _ _ _ h).1;
+    sleeps = λ t k h fresh b. never (falls_asleep s u (whole_access p)) k (sleep_noted t (Condition k) u m _ _ _ _ _ h).1;
     told = λ b h. subst (λ (z : Option Begun). IsTold s.layout (a.state.threads u).stage z) (sym (nothing_begins.same u b))
         (subst (λ (g : Stage). IsTold s.layout g b) (sym stage_is) (told_call s.layout o p _ b (subst (λ (g : Stage). IsTold s.layout g b) is h)));
     others = λ t b apart. nothing_begins.same t b;
@@ -276,9 +284,9 @@ module _ (s : State) (u : ℕ) (c : CondCall) (p : CondWhole) (inv : Kept s) (co
     points = λ d h. (sym (point_told d h).2, pos, known);
     unlocks = λ d h op x. unlocks_at d (point_told d h) op moved.move;
     past = λ none h. past_at (subst IsPast is h) moved.move;
-    behind = λ k none h. behind_at k (subst (IsBehind s.layout s.words k) is h) moved.move;
+    behind = λ k first none h. behind_at k (subst (IsBehind s.layout s.words k) is h) moved.move;
     counts = λ d h counts. let made = counts_at d (point_told d h) counts moved.move in (c, p, is, made.0, made.1);
-    sleeps = λ t k h b.
+    sleeps = λ t k h fresh b.
         let noted = sleep_noted t (Condition k) u (its_mutex s c) _ _ _ _ _ h in
         sleeps_on k noted.1 (subst (IsBehind s.layout s.words k) (ap (λ (y : ℕ). (s.threads y).stage) (sym noted.0) ∙ is) b) moved.move;
     told = λ b h. subst (λ (y : Option Begun). IsTold s.layout ((cond_after s u c p).threads u).stage y) (sym (nothing_begins_at.same u b))
@@ -307,9 +315,9 @@ decline_makes s u o p is trims = record {
   points = λ d h. absurd h;
   unlocks = λ d h op x. absurd h;
   past = λ none h. subst IsPast (sym stage_is) tt;
-  behind = λ k none h. subst (IsBehind s.layout s.words k) (sym stage_is) tt;
+  behind = λ k first none h. subst (IsBehind s.layout s.words k) (sym stage_is) tt;
   counts = λ d h c. absurd h;
-  sleeps = λ t k h b. h;
+  sleeps = λ t k h fresh b. h;
   told = λ b h. subst (λ (g : Stage). IsTold s.layout g b) (sym stage_is) (subst (λ (g : Stage). IsTold s.layout g b) is h);
   others = λ t b apart. refl;
 }
@@ -322,9 +330,9 @@ renew_makes s u pos known = record {
   points = λ d h. absurd (no_point d h);
   unlocks = λ d h op x. absurd (no_point d h);
   past = λ none h. subst (λ (z : Thread). IsPast z.stage) (sym (renewed_thread s u pos known)) tt;
-  behind = λ k none h. subst (λ (z : Thread). IsBehind s.layout (renewed s u).state.words k z.stage) (sym (renewed_thread s u pos known)) tt;
+  behind = λ k first none h. subst (λ (z : Thread). IsBehind s.layout (renewed s u).state.words k z.stage) (sym (renewed_thread s u pos known)) tt;
   counts = λ d h c. absurd (no_point d h);
-  sleeps = λ t k h b. ⊎_elim (λ e. cc e) (λ none. none) h;
+  sleeps = λ t k h fresh b. ⊎_elim (λ e. cc e) (λ none. none) h;
   told = λ b h. subst (λ (z : Thread). IsTold s.layout z.stage b) (sym (renewed_thread s u pos known)) tt;
   others = λ t b apart. refl;
 }
@@ -351,12 +359,81 @@ module _ (s : State) (u : ℕ) (v : walks.Standing) where
     points = λ d h. absurd (none_walked (Fact.Point d) u _ _ _ refl h);
     unlocks = λ d h op x. absurd (none_walked (Fact.Point d) u _ _ _ refl h);
     past = λ never h. dying IsPast tt (λ y. tt);
-    behind = λ k never h. dying (IsBehind s.layout after_walk.state.words k) tt (λ y. tt);
+    behind = λ k first never h. dying (IsBehind s.layout after_walk.state.words k) tt (λ y. tt);
     counts = λ d h c. absurd (none_walked (Fact.Point d) u _ _ _ refl h);
-    sleeps = λ t k h x. none_walked (Fact.Sleep t (Condition k)) u _ _ _ refl h;
+    sleeps = λ t k h fresh x. none_walked (Fact.Sleep t (Condition k)) u _ _ _ refl h;
     told = λ b h. dying (λ (g : Stage). IsTold s.layout g (last_begun u b (facts_of after_walk.note))) tt (λ y. tt);
     others = λ t b apart. nothing_of_walk.same t b;
   }
+
+recount_makes : (s : State) (k : ℕ) → Makes s 0 (recounted s k)
+recount_makes s k = record {
+  points = λ d h. absurd h;
+  unlocks = λ d h op x. absurd h;
+  past = λ none h. h;
+  behind = λ j first none h. absurd (omega (arith, first));
+  counts = λ d h c. absurd h;
+  sleeps = λ t j h fresh b. h;
+  told = λ b h. h;
+  others = λ t b apart. refl;
+}
+
+spare_makes : (s : State) (u m : ℕ) (g : Led) (sp : Sparing s u m g) → Makes s u (record { state = spared_state s u m g sp.how; note = unwoken u m })
+spare_makes s u m g sp = record {
+  points = λ d h. absurd h;
+  unlocks = λ d h op x. absurd h;
+  past = λ none h. subst IsPast (sym stage_is) (past_on sp.how h);
+  behind = λ k first none h. subst (IsBehind s.layout s.words k) (sym stage_is) (behind_on k sp.how h);
+  counts = λ d h c. absurd h;
+  sleeps = λ t k h fresh b. h;
+  told = λ b h. subst (λ (z : Stage). IsTold s.layout z b) (sym stage_is) (told_so b sp.how h);
+  others = λ t b apart. refl;
+}
+  where
+    stage_is : ((spared_state s u m g sp.how).threads u).stage ≡ next_of s u m g sp.how
+    stage_is = ap (λ (z : Thread). z.stage) (put-same s.threads u _)
+
+    past_on : (how : HowSpared s u m g) → IsPast (s.threads u).stage → IsPast (next_of s u m g how)
+    past_on (Of_unlock o p is mutex at leads) h = tt
+    past_on (Of_wait c p x is mutex at leads) h = tt
+
+    behind_on : (k : ℕ) (how : HowSpared s u m g) → IsBehind s.layout s.words k (s.threads u).stage → IsBehind s.layout s.words k (next_of s u m g how)
+    behind_on k (Of_unlock o p is mutex at leads) h = tt
+    behind_on k (Of_wait c p x is mutex at leads) h = λ here. subst (IsBehindIn (s.words (counter_place s.layout k))) at (subst (IsBehind s.layout s.words k) is h here)
+
+    told_so : (b : Option Begun) (how : HowSpared s u m g) → IsTold s.layout (s.threads u).stage b → IsTold s.layout (next_of s u m g how) b
+    told_so b (Of_unlock o p is mutex at leads) h = subst (λ (z : Stage). IsTold s.layout z b) is h
+    told_so b (Of_wait c p x is mutex at leads) h = subst (λ (z : Stage). IsTold s.layout z b) is h
+
+resleep_makes : (s : State) (u k : ℕ) → 1 ≤ u → u ≤ s.layout.threads → Makes s u (reslept s u k)
+resleep_makes s u k pos known = record {
+  points = λ d h. absurd (no_point d h);
+  unlocks = λ d h op x. absurd (no_point d h);
+  past = λ none h. h;
+  behind = λ j first none h. h;
+  counts = λ d h c. absurd (no_point d h);
+  sleeps = λ t j h fresh b. ⊎_elim (λ e. cc e) (λ more. ⊎_elim (λ e. fresh (same t j e)) (λ none. none) more) h;
+  told = λ b h. h;
+  others = λ t b apart. refl;
+}
+  where
+    no_point : (d : Decision) → IsAmong (Fact.Point d) (facts_of (reslept s u k).note) → ⊥
+    no_point d h = ⊎_elim (λ e. cc e) (λ more. ⊎_elim (λ e. cc e) (λ none. none) more) h
+
+    same : (t j : ℕ) → Fact.Sleep u (Condition k) ≡ Fact.Sleep t (Condition j) → Reslept u k ≡ Reslept t j
+    same t j e = let thread : u ≡ t = cc in let condition : k ≡ j = cc in λ i. Reslept (thread i) (condition i)
+
+repeat_makes : (s : State) (u : ℕ) (w : walks.Standing) → Makes s u (repeated s u w)
+repeat_makes s u w = record {
+  points = λ d h. absurd (none_walked (Fact.Point d) u None (woken s u (exit.access_of w)) false refl h);
+  unlocks = λ d h op x. absurd (none_walked (Fact.Point d) u None (woken s u (exit.access_of w)) false refl h);
+  past = λ never h. h;
+  behind = λ k first never h. h;
+  counts = λ d h c. absurd (none_walked (Fact.Point d) u None (woken s u (exit.access_of w)) false refl h);
+  sleeps = λ t k h fresh x. none_walked (Fact.Sleep t (Condition k)) u None (woken s u (exit.access_of w)) false refl h;
+  told = λ b h. subst (IsTold s.layout (s.threads u).stage) (sym ((begins_walked u None (woken s u (exit.access_of w)) false).same u b)) h;
+  others = λ t b apart. (begins_walked u None (woken s u (exit.access_of w)) false).same t b;
+}
 
 makes : (s : State) (e : Event) → Kept s → Counted s → Makes s (caller e) (happens s e)
 makes s e inv counted =
@@ -375,7 +452,31 @@ makes s e inv counted =
     (λ t o p pos known is awake trims. subst (Makes s t) (sym (spared_is s t o p is trims inv pos known)) (decline_makes s t o p is trims))
     (λ t pos known gone. renew_makes s t pos known)
     (λ t m may. reinit_makes s t m may.first may.last may.resting)
+    (λ k may. recount_makes s k)
+    (λ t m g sp. subst (Makes s t) (sym (spare_is s t m g sp inv)) (spare_makes s t m g sp))
+    (λ t c p pos known is there. resleep_makes s t (condition_of c) pos known)
+    (λ t w pos known is reads. repeat_makes s t w)
     e
+
+-- a counter goes back: whoever saw it hasn't its count any more
+behind_zero : (n n' : ℕ) (f : CondPhase) → has_count f ≡ false → IsBehindIn n f → IsBehindIn n' f
+behind_zero n n' f none h = grind (arith)
+
+behind_recount : (s : State) (j k t : ℕ) → 1 ≤ t → t ≤ s.layout.threads → IsBehind s.layout s.words k (s.threads t).stage → IsBehind s.layout (happens s (Event.Recount j)).state.words k (s.threads t).stage
+behind_recount s j k t first last h = go (may_recount s j) refl
+  where
+    here : (g : Stage) → holds_count j g ≡ false → j ≡ k → IsBehind s.layout s.words k g → IsBehind s.layout (recounted s j).state.words k g
+    here (AtCondition c p) none same h = λ is. behind_zero _ _ p.phase (without_count j c p none (is ∙ sym same)) (h is)
+    here Idle none same h = tt
+    here (Calling o p) none same h = tt
+    here (Dying w) none same h = tt
+    here Reaped none same h = tt
+
+    go : (b : Bool) → may_recount s j ≡ b → IsBehind s.layout (if b then recounted s j else nothing s).state.words k (s.threads t).stage
+    go false e = h
+    go true e =
+        by_same j k (λ same. here (s.threads t).stage ((recount_so s j e).unknown t first last) same h)
+        (λ apart. behind_later s.layout s.words (recounted s j).state.words k (s.threads t).stage (let same = recounted_other s j k (λ is. apart (sym is)) in omega (arith, same)) h)
 
 -- ---- what one event is to any thread
 
@@ -389,26 +490,28 @@ module _ (s : State) (e : Event) (inv : Kept s) (counted : Counted s) (t : ℕ) 
   abbrev made : Makes s (caller e) (happens s e)
   made = makes s e inv counted
 
-  abbrev went_by : Passes s (caller e) s'
-  went_by = passes s e inv counted
+  same_layout : s'.layout ≡ s.layout
+  same_layout = (sound s e inv).same
 
   -- of its own event one thing, and of another's another
   either : (P : Stage → Type 0) → (caller e ≡ t → P (s'.threads t).stage) → (caller e ≢ t → P (s.threads t).stage) → P (s'.threads t).stage
-  either P mine theirs = grind (arith)
+  either P mine other = by_same (caller e) t mine (λ apart. subst (λ (z : Thread). P z.stage) (sym (theirs s e t apart)) (other apart))
 
   past_on : BeginsNone t told_facts → IsPast (s.threads t).stage → IsPast (s'.threads t).stage
   past_on none h = either IsPast (λ me. subst (λ (v : ℕ). BeginsNone v told_facts → IsPast (s.threads v).stage → IsPast (s'.threads v).stage) me made.past none h) (λ apart. h)
 
-  behind_on : (k : ℕ) → BeginsNone t told_facts → IsBehind s.layout s.words k (s.threads t).stage → IsBehind s'.layout s'.words k (s'.threads t).stage
-  behind_on k none h =
-      subst (λ (l : Layout'). IsBehind l s'.words k (s'.threads t).stage) (sym went_by.layout)
+  behind_on : (k : ℕ) → 1 ≤ t → t ≤ s.layout.threads → BeginsNone t told_facts → IsBehind s.layout s.words k (s.threads t).stage → IsBehind s'.layout s'.words k (s'.threads t).stage
+  behind_on k first last none h =
+      subst (λ (l : Layout'). IsBehind l s'.words k (s'.threads t).stage) (sym same_layout)
       (either (IsBehind s.layout s'.words k)
-      (λ me. subst (λ (v : ℕ). BeginsNone v told_facts → IsBehind s.layout s.words k (s.threads v).stage → IsBehind s.layout s'.words k (s'.threads v).stage) me (made.behind k) none h)
-      (λ apart. behind_later s.layout s.words s'.words k (s.threads t).stage (never_falls s (caller e) s' inv counted went_by k) h))
+      (λ me. subst (λ (v : ℕ). 1 ≤ v → BeginsNone v told_facts → IsBehind s.layout s.words k (s.threads v).stage → IsBehind s.layout s'.words k (s'.threads v).stage) me (made.behind k) first none h)
+      (λ apart.
+      ⊎_elim (λ other. behind_later s.layout s.words s'.words k (s.threads t).stage (never_falls s (caller e) s' inv counted (passes s e inv counted other) k) h)
+      (λ recounts. subst (λ (x : Event). IsBehind s.layout (happens s x).state.words k (s.threads t).stage) (sym recounts.1) (behind_recount s recounts.0 k t first last h)) (recount_or e)))
 
   pub told_on : (b : Option Begun) → IsTold s.layout (s.threads t).stage b → IsTold s'.layout (s'.threads t).stage (last_begun t b told_facts)
   told_on b h =
-      subst (λ (l : Layout'). IsTold l (s'.threads t).stage (last_begun t b told_facts)) (sym went_by.layout)
+      subst (λ (l : Layout'). IsTold l (s'.threads t).stage (last_begun t b told_facts)) (sym same_layout)
       (either (λ (g : Stage). IsTold s.layout g (last_begun t b told_facts))
       (λ me. subst (λ (v : ℕ). IsTold s.layout (s.threads v).stage b → IsTold s.layout (s'.threads v).stage (last_begun v b told_facts)) me (made.told b) h)
       (λ apart. subst (IsTold s.layout (s.threads t).stage) (sym (made.others t b apart)) h))
@@ -420,7 +523,7 @@ module _ (s : State) (e : Event) (inv : Kept s) (counted : Counted s) (t : ℕ) 
       let c : CondCall = done.0 in
       let is_at : (s.threads d.thread).stage ≡ AtCondition c done.1 = ap (λ (v : ℕ). (s.threads v).stage) (made.points d among).0 ∙ done.2 in
       let here : condition_of c ≡ k = named c k b (subst (λ (g : Stage). IsTold s.layout g b) is_at told) on in
-      subst (λ (l : Layout'). IsBehind l s'.words k (s'.threads t).stage) (sym went_by.layout)
+      subst (λ (l : Layout'). IsBehind l s'.words k (s'.threads t).stage) (sym same_layout)
       (either (IsBehind s.layout s'.words k)
       (λ me. subst (λ (v : ℕ). IsBehind s.layout s'.words k (s'.threads v).stage) me (done.4 k))
       (λ apart. behind_now s.layout s.words s'.words k (s.threads t).stage (subst (λ (j : ℕ). s'.words (counter_place s.layout j) ≡ s.words (counter_place s.layout j) + 1) here done.3) past (counted.knows t first last)))
@@ -436,11 +539,11 @@ past_run s (e ∷ es) inv counted t none h =
     past_run (happens s e).state es (sound s e inv).kept (counted_on s e inv counted) t (begins_later t (facts_of (happens s e).note) (facts_among (notes (happens s e).state es)) none)
     (past_on s e inv counted t (begins_first t (facts_of (happens s e).note) (facts_among (notes (happens s e).state es)) none) h)
 
-behind_run : (s : State) (es : List Event) → Kept s → Counted s → (t k : ℕ) → BeginsNone t (facts_among (notes s es)) → IsBehind s.layout s.words k (s.threads t).stage → IsBehind (run s es).layout (run s es).words k ((run s es).threads t).stage
-behind_run s [] inv counted t k none h = h
-behind_run s (e ∷ es) inv counted t k none h =
-    behind_run (happens s e).state es (sound s e inv).kept (counted_on s e inv counted) t k (begins_later t (facts_of (happens s e).note) (facts_among (notes (happens s e).state es)) none)
-    (behind_on s e inv counted t k (begins_first t (facts_of (happens s e).note) (facts_among (notes (happens s e).state es)) none) h)
+behind_run : (s : State) (es : List Event) → Kept s → Counted s → (t k : ℕ) → 1 ≤ t → t ≤ s.layout.threads → BeginsNone t (facts_among (notes s es)) → IsBehind s.layout s.words k (s.threads t).stage → IsBehind (run s es).layout (run s es).words k ((run s es).threads t).stage
+behind_run s [] inv counted t k first last none h = h
+behind_run s (e ∷ es) inv counted t k first last none h =
+    behind_run (happens s e).state es (sound s e inv).kept (counted_on s e inv counted) t k first (subst (λ (l : Layout'). t ≤ l.threads) (sym (sound s e inv).same) last) (begins_later t (facts_of (happens s e).note) (facts_among (notes (happens s e).state es)) none)
+    (behind_on s e inv counted t k first last (begins_first t (facts_of (happens s e).note) (facts_among (notes (happens s e).state es)) none) h)
 
 pub told_run : (s : State) (es : List Event) → Kept s → Counted s → (t : ℕ) (b : Option Begun) → IsTold s.layout (s.threads t).stage b → IsTold (run s es).layout ((run s es).threads t).stage (last_begun t b (facts_among (notes s es)))
 told_run s [] inv counted t b h = h
@@ -526,11 +629,15 @@ module _ (s0 : State) (events : List Event) (inv : Kept s0) (counted : Counted s
       counted_by s3 count_at.event good3.0 good3.1 t k h.point (call_told v (h.before ++ h.release ∷ h.between)) (subst (λ (x : ℕ). 1 ≤ x) (sym mine.0) mine.1) last3 past3
       (subst (λ (n : Note). IsAmong (Fact.Point h.point) (facts_of n)) (sym count_at.note) h.counts.0) h.counts.1 told3 h.counts.2
 
+  last4 : t ≤ s4.layout.threads
+  last4 = subst (λ (l : Layout'). t ≤ l.threads) (sym (sound s3 count_at.event good3.0).same) last3
+
   sleep_at : Split s4 h.later h.sleep h.rest
   sleep_at = split s4 count_at.rest h.later h.sleep h.rest count_at.behind
 
   pub never_passed : ⊥
   never_passed =
       (makes (run s4 sleep_at.first) sleep_at.event (run_kept s4 sleep_at.first good4.0) (run_counted s4 sleep_at.first good4.0 good4.1)).sleeps t k
-      (subst (λ (n : Note). IsAmong (Fact.Sleep t (Condition k)) (facts_of n)) (sym sleep_at.note) h.sleeps)
-      (behind_run s4 sleep_at.first good4.0 good4.1 t k (subst (λ (ns : List Note). BeginsNone t (facts_among ns)) (sym sleep_at.before) none_later) behind4)
+      (subst (λ (n : Note). IsAmong (Fact.Sleep t (Condition k)) (facts_of n)) (sym sleep_at.note) h.sleeps.0)
+      (λ again. h.sleeps.1 (sym sleep_at.note ∙ again))
+      (behind_run s4 sleep_at.first good4.0 good4.1 t k (subst (λ (x : ℕ). 1 ≤ x) (sym mine.0) mine.1) last4 (subst (λ (ns : List Note). BeginsNone t (facts_among ns)) (sym sleep_at.before) none_later) behind4)

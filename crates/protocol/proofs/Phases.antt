@@ -1,5 +1,5 @@
 -- What a whole call does beyond its mutex's cell, phase by phase.
-use Rattle.std.proofs.Common.{◌≡◌, ◌≢◌, ◌⊎◌, ℕ, ◌+◌, ◌*◌, ◌<◌, ◌≤◌, Bool, true, false, Option, Some, None, List, refl, arith}
+use Rattle.std.proofs.Common.{◌≡◌, ◌≢◌, ◌⊎◌, ℕ, ◌+◌, ◌*◌, ◌<◌, ◌≤◌, true, false, Option, Some, None, List, refl, arith}
 use Rattle.protocol.proofs.Vocabulary.{Access, Answer, answer_at, sleeps_at, fields_of, Reply, XRACED, Phase, AtCell, Linking, Clearing, Onward, is_wake, left, decided, Joins, word_among, changed}
 use Rattle.protocol.proofs.Vocabulary.{Whole, whole_access, after_cell, answer_among, LinkRow, UnlinkRow, unlink_access, answers_for, Steady, link_access}
 use Rattle.robustlist.specs.LinkLaws.{link_left}
@@ -9,6 +9,7 @@ use Rattle.mutex.specs.declared.phase.Phase.TheVariants.{Announcing, Unlinking, 
 use Rattle.mutex.specs.Whole.{phase_led}
 use Rattle.protocol.proofs.Steps.{IsNoMove, IsNoTrim, untrimmed}
 use Rattle.mutex.specs.Alone.{KeepsWaiters}
+pub use Rattle.protocol.specs.Machine.{answers_at}
 
 -- ---- what a phase says of its call
 
@@ -20,11 +21,6 @@ decided_at (Linking l x) = Some x
 decided_at (Unlinking u d) = None
 decided_at (Clearing x) = Some x
 decided_at (Ended x) = Some x
-
--- whoever stands there takes the mutex, or wakes one that sleeps on it, unless it finds it owned
-abbrev pub answers_at : Phase → Bool
-answers_at (AtCell r) = answers_for r
-answers_at f = false
 
 -- so many accesses a call in that phase still makes, at most, where its mutex's cell is the word w and nobody else steps
 abbrev pub left_at : Phase → ℕ → ℕ

@@ -33,7 +33,7 @@ pub not_true : (b : Bool) → (b ≡ true → ⊥) → b ≡ false
 not_true true h = absurd (h refl)
 not_true false h = refl
 
-once_last : (t : ℕ) (q : List ℕ) → Once q → stands_in t q ≡ false → Once (q ++ t ∷ [])
+pub once_last : (t : ℕ) (q : List ℕ) → Once q → stands_in t q ≡ false → Once (q ++ t ∷ [])
 once_last t [] once out = (refl, tt)
 once_last t (u ∷ us) once out = go (u == t) refl (once_last t us once.1) out
   where

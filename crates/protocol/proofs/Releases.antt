@@ -22,6 +22,9 @@ use Rattle.protocol.proofs.Events.{begins_at, by_event, by_stage}
 use Rattle.protocol.proofs.Passing.{point_noted, none_walked}
 use Rattle.protocol.proofs.Runs.{start_kept, run_kept}
 use Rattle.protocol.proofs.Learnt.{Learnt, run_learnt}
+use Rattle.protocol.proofs.Sparing.{spare_is}
+use Rattle.protocol.proofs.Vocabulary.{woken}
+use Rattle.exitwalk.specs.Walks as exit
 
 abbrev unlock_of : ℕ → ℕ → Decision
 unlock_of t m = record { thread = t; mutex = m; operation = Operation.Unlock; reply = OK }
@@ -125,6 +128,10 @@ module _ (s : State) (inv : Kept s) (calls : ℕ → Option Begun) (left : ℕ �
       (λ u o p pos known is awake trims. subst Releases (sym (spared_is s u o p is trims inv pos known)) (λ t m b h told waits. absurd h))
       (λ u pos known gone t m b h told waits. absurd (⊎_elim (λ e. cc e) (λ none. none) h))
       (λ u k may t m b h told waits. absurd (⊎_elim (λ e. cc e) (λ more. ⊎_elim (λ e. cc (same_decision _ (unlock_of t m) e).1) (λ last. ⊎_elim (λ e. cc e) (λ none. none) last) more) h))
+      (λ k may t m b h told waits. absurd h)
+      (λ u k g sp. subst Releases (sym (spare_is s u k g sp inv)) (λ t m b h told waits. absurd h))
+      (λ u c p pos known is there t m b h told waits. absurd (⊎_elim (λ e. cc e) (λ more. ⊎_elim (λ e. cc e) (λ none. none) more) h))
+      (λ u w pos known is reads t m b h told waits. absurd (none_walked (Fact.Point (unlock_of t m)) u None (woken s u (exit.access_of w)) false refl h))
       e
 
 pub waits_release : WaitsReleaseConsistentMutexes

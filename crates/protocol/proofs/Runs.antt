@@ -28,6 +28,13 @@ use Rattle.protocol.proofs.Frames.{knows_at}
 use Rattle.protocol.proofs.Departures.{queues_kept}
 use Rattle.protocol.proofs.Declines.{declined_state, quiet, spared_is, decline_kept}
 use Rattle.buckets.specs.Queues.{without}
+use Rattle.protocol.proofs.Vocabulary.{Led, condition_of, recounted, reslept, repeated, woken}
+use Rattle.exitwalk.specs.Standings as walks
+use Rattle.exitwalk.specs.Walks as exit
+use Rattle.protocol.proofs.Events.{Sparing}
+use Rattle.protocol.proofs.Recounting.{recount_kept, recounted_seen}
+use Rattle.protocol.proofs.Sparing.{spare_is, spare_kept, spared_state, unwoken}
+use Rattle.protocol.proofs.Working.{reaped_points}
 
 -- the decisions take the mutexes from what the one state's cells say to what the other's do
 abbrev pub Told : State → List Decision → State → Type 0
@@ -191,6 +198,25 @@ renew_sound s t inv pos known gone = record { kept = renew_kept s t pos known in
 reinit_sound : (s : State) (t m : ℕ) → Kept s → MayReinit s t m → Sound' s (reinited s t m)
 reinit_sound s t m inv may = record { kept = reinit_kept s t m may inv; same = refl; told = (may.inside, (may.unusable, unowned s t m may inv, reinited_seen s t m may), reinited_far s t m may, refl) }
 
+-- and a recount, which changes no mutex
+recount_sound : (s : State) (k : ℕ) → Kept s → Sound' s (recounted s k)
+recount_sound s k inv = record { kept = recount_kept s k inv; same = refl; told = recounted_seen s k }
+
+-- and a wake that is spared
+spare_sound : (s : State) (t m : ℕ) (g : Led) (sp : Sparing s t m g) → Kept s → Sound' s (record { state = spared_state s t m g sp.how; note = unwoken t m })
+spare_sound s t m g sp inv = record { kept = spare_kept s t m g sp inv; same = refl; told = λ k. refl }
+
+-- and whatever changes the queues alone
+resleep_sound : (s : State) (t k : ℕ) → Kept s → Sound' s (reslept s t k)
+resleep_sound s t k inv = record { kept = queues_kept s (reslept s t k).state.queues inv; same = refl; told = λ j. refl }
+
+repeat_sound : (s : State) (t : ℕ) (w : walks.Standing) → Kept s → Sound' s (repeated s t w)
+repeat_sound s t w inv = record {
+  kept = queues_kept s (repeated s t w).state.queues inv;
+  same = refl;
+  told = subst (λ (ds : List Decision). Told s ds (repeated s t w).state) (sym (reaped_points t (woken s t (exit.access_of w)) false)) (λ k. refl);
+}
+
 -- each event is sound
 pub sound : (s : State) (e : Event) → Kept s → Sound' s (happens s e)
 sound s e inv =
@@ -203,6 +229,10 @@ sound s e inv =
     (λ t o p pos known is awake trims. subst (Sound' s) (sym (spared_is s t o p is trims inv pos known)) (decline_sound s t o p is trims inv pos known))
     (λ t pos known gone. renew_sound s t inv pos known gone)
     (λ t m may. reinit_sound s t m inv may)
+    (λ k may. recount_sound s k inv)
+    (λ t m g sp. subst (Sound' s) (sym (spare_is s t m g sp inv)) (spare_sound s t m g sp inv))
+    (λ t c p pos known is there. resleep_sound s t (condition_of c) inv)
+    (λ t w pos known is reads. repeat_sound s t w inv)
     e
 
 -- ---- the beginning

@@ -1,6 +1,7 @@
 -- One access of a thread, whatever it does.
-use Rattle.std.proofs.Common.{◌≡◌, ◌≢◌, ◌⊎◌, ℕ, ◌+◌, ◌<◌, ◌≤◌, Bool, true, false, Some, length, []}
+use Rattle.std.proofs.Common.{◌≡◌, ◌≢◌, ◌⊎◌, ℕ, ◌+◌, ◌<◌, ◌≤◌, true, false, Some, length, []}
 pub use Rattle.protocol.specs.WaitersBit.{HasWaiters}
+pub use Rattle.protocol.specs.Machine.{wakes_next}
 use Rattle.protocol.proofs.Vocabulary.{CondRow, CondPhase, acquires, sleeps_at, Layout', head_place, cell_place, Reply, AtCell, OnCondition}
 use Rattle.protocol.proofs.Vocabulary.{mutex_of, Stage, Calling, AtCondition, Dying, State, is_met, seen, IsUnowned, slice_index, LockRow, WaitRow, SignalRow, BroadcastRow, Part}
 use Rattle.stepprograms.specs.declared.access.Access.TheVariants.{Wake, CmpRequeue}
@@ -35,11 +36,6 @@ Minds l words m t (walk.Mark at v again (Part.List r)) = r.pending ≡ entry_in 
 Minds l words m t (walk.WakeOne at (Part.List r)) = (at ≡ cell_in l t m) ⊎ (r.pending ≡ entry_in l t m)
 Minds l words m t (walk.WakeOne at Part.Pending) = at ≡ cell_in l t m
 Minds l words m t r = ⊥
-
--- a wait that is about to wake one of its mutex, which it has released with WAITERS
-abbrev pub wakes_next : CondPhase → Bool
-wakes_next (CondPhase.AtWords (CondRow.Wait (WaitRow.Wake seen))) = true
-wakes_next f = false
 
 -- thread t, awake there, takes mutex m or wakes one that sleeps on it, unless it finds it owned
 abbrev pub AnswersAs : Layout' → (ℕ → ℕ) → ℕ → ℕ → Stage → Type 0

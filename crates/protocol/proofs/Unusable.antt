@@ -26,6 +26,8 @@ use Rattle.protocol.proofs.Declines.{spared_is}
 use Rattle.protocol.proofs.Renewals.{renewed_seen}
 use Rattle.protocol.proofs.Reinits.{reinited_word, reinited_elsewhere, reinited_seen, reinited_far}
 use Rattle.protocol.proofs.Cases.{at_or_else}
+use Rattle.protocol.proofs.Recounting.{recounted_seen}
+use Rattle.protocol.proofs.Repeating.{resleep_stands, repeated_is, repeat_stood}
 
 -- ---- a reinit
 
@@ -117,6 +119,10 @@ module _ (s : State) (m : ℕ) (inv : Kept s) (lost : (seen s m).unusable ≡ tr
       (λ t o p pos known is awake trims other. subst Stays (sym (spared_is s t o p is trims inv pos known)) lost)
       (λ t pos known gone other. ap (λ (o : Object). o.unusable) (renewed_seen s t pos known m) ∙ lost)
       (λ t k may other. ap (λ (o : Object). o.unusable) (reinited_far s t k may m (λ e. other (sym e))) ∙ lost)
+      (λ k may other. ap (λ (o : Object). o.unusable) (recounted_seen s k m) ∙ lost)
+      (λ t k g sp other. lost)
+      (λ t c p pos known is there other. lost)
+      (λ t w pos known is reads other. lost)
       e
     where
       begins_so : (t : ℕ) (o : Op) (b : Bool) → Stays (begun s t o (if b then Err XHELD else Ok (begins_at s.layout t o)))
@@ -154,6 +160,10 @@ module _ (s : State) (m : ℕ) (inv : Kept s) (lost : (seen s m).unusable ≡ tr
         (λ t o p pos known is awake trims u there. there)
         (λ t pos known gone u there. there)
         (λ t k may u there. there)
+        (λ k may u there. there)
+        (λ t k g sp u there. there)
+        (λ t c p pos known is stands u there. sym (resleep_stands s t (condition_of c) stands u (cell_place s.layout m)) ∙ there)
+        (λ t w pos known is reads. subst Joins_none (sym (repeated_is s t w inv pos known is)) (λ u there. repeat_stood s t w inv pos known is queued u (cell_place s.layout m) there))
         e
       where
         begins_so : (t : ℕ) (o : Op) (b : Bool) → Joins_none (begun s t o (if b then Err XHELD else Ok (begins_at s.layout t o)))
@@ -169,6 +179,10 @@ parted m (Event.Begin t o) es none = (tt, none)
 parted m (Event.Step t) es none = (tt, none)
 parted m (Event.Kill t) es none = (tt, none)
 parted m (Event.Leave t) es none = (tt, none)
+parted m (Event.Recount t) es none = (tt, none)
+parted m (Event.Spare t) es none = (tt, none)
+parted m (Event.Resleep t) es none = (tt, none)
+parted m (Event.Repeat t) es none = (tt, none)
 parted m (Event.Decline t) es none = (tt, none)
 parted m (Event.Renew t) es none = (tt, none)
 

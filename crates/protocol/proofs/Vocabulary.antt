@@ -16,7 +16,7 @@ pub use Rattle.memorymap.specs.Layouts.{IsLayout, Layout', address_in, base_of, 
 pub use Rattle.posixmutex.specs.Objects.{Does, Permits, Run, acquires, fresh, object_of, owner_of}
 pub use Rattle.stepprograms.specs.declared.access.Access.{Access}
 pub use Rattle.stepprograms.specs.declared.access.Answer.{Answer}
-pub use Rattle.stepprograms.specs.declared.access.Answer.TheVariants.{Again, Changed, Exchanged, Fault, Trimmed}
+pub use Rattle.stepprograms.specs.declared.access.Answer.TheVariants.{Again, Changed, Count, Exchanged, Fault, Trimmed}
 pub use Rattle.posixmutex.specs.declared.object.Object.{Object}
 pub use Rattle.posixmutex.specs.declared.point.Decision.{Decision}
 pub use Rattle.posixmutex.specs.declared.point.Operation.{Operation}
@@ -72,9 +72,12 @@ pub use Rattle.protocol.specs.Applies.{Applies, AtRest, Dead, EventsApply, Gone,
 pub use Rattle.protocol.specs.Explained.{IsExplained, TraceIsExplained, caller, caller_of}
 pub use Rattle.protocol.specs.Headline.{HistoryIsLegal, NoReapedOwner, NoReapedOwns, facts_among, points_among, points_of, seen}
 pub use Rattle.protocol.specs.Machine.{After, State, answer_of, begun, decision, falls_asleep, first_stage, happens, has_ended, held_after, is_alive, is_asleep}
-pub use Rattle.protocol.specs.Machine.{is_calling, is_met, is_valid, joined, killed, led, led_at, may_begin, moved_by, notes, nothing, place_met, put, queue_after, reply_at}
+pub use Rattle.protocol.specs.Machine.{is_calling, is_met, is_valid, joined, killed, Led, led, led_at, may_begin, moved_by, notes, nothing, place_met, put, queue_after, reply_at}
 pub use Rattle.protocol.specs.Machine.{returned, returned_at, run, sleepers, sleeps, slept_in, stage_after, stage_at, stage_walked, stands_in, start, stepped, told_of, walked}
 pub use Rattle.protocol.specs.Machine.{death_at, decided_at, departed, mutex_at, reinited, renewed, spared, stands_at, went, woken, woken_by}
+pub use Rattle.protocol.specs.Machine.{another_answers, answers, counts_on, has_count, holds_count, is_mark, may_recount, none_counts, recounted, repeated, repeating, resleeping, reslept, sparing, wakes_one}
+pub use Rattle.protocol.specs.Recounts.{MayRecount}
+pub use Rattle.protocol.specs.Spares.{AnotherAnswers, In_unlock, In_wait, MaySpare, WakesOneOf}
 pub use Rattle.protocol.specs.Reinits.{MayReinit}
 pub use Rattle.protocol.specs.Notes.{death_facts, facts_of, line_of, lines_from, moves_to, point_facts, reap_facts, reinit_of, return_facts, sleep_facts}
 pub use Rattle.condvar.specs.Ops.{mutex_of}
@@ -86,7 +89,7 @@ pub use Rattle.protocol.specs.declared.event.Event.TheVariants.{Step}
 pub use Rattle.condvar.specs.declared.op.Op.{Op}
 pub use Rattle.condvar.specs.declared.op.Op.TheVariants.{OnCondition, OnMutex}
 pub use Rattle.protocol.specs.declared.note.Note.{Note}
-pub use Rattle.protocol.specs.declared.note.Note.TheVariants.{Began, Killed, Left, Nothing, Reinited, Renewed, Stepped, Walked}
+pub use Rattle.protocol.specs.declared.note.Note.TheVariants.{Began, Killed, Left, Nothing, Recounted, Reinited, Renewed, Reslept, Stepped, Walked}
 pub use Rattle.protocol.specs.declared.thread.Stage.{Stage}
 pub use Rattle.protocol.specs.declared.thread.Stage.TheVariants.{AtCondition, Calling, Dying, Idle, Reaped}
 pub use Rattle.protocol.specs.declared.thread.Thread.{Thread}

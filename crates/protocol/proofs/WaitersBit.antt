@@ -24,6 +24,7 @@ use Rattle.protocol.proofs.Queued.{Queued, mine, out_awake}
 use Rattle.protocol.proofs.Queues.{not_true}
 use Rattle.protocol.proofs.QueueRuns.{run_queued, queued_on}
 use Rattle.protocol.proofs.Runs.{start_kept, run_kept}
+use Rattle.protocol.proofs.Recounting.{recounted_cell}
 
 -- a begin changes no word
 begins_stay : (s : State) (t : ℕ) (o : Op) (b : Bool) → WaitersStay s (begun s t o (if b then Err XHELD else Ok (begins_at s.layout t o))).state
@@ -41,6 +42,10 @@ stay_on s e inv =
     (λ t o p pos known is awake trims m below on. inl on)
     (λ t pos known gone m below on. inl (ap (λ (w : ℕ). (fields_of w).waiters) (renewed_cell s t pos known m) ∙ on))
     (λ t k may m below on. reinit_stays t k may m on)
+    (λ k may m below on. inl (ap (λ (w : ℕ). (fields_of w).waiters) (recounted_cell s k m below) ∙ on))
+    (λ t k g sp m below on. inl on)
+    (λ t c p pos known is there m below on. inl on)
+    (λ t w pos known is reads m below on. inl on)
     e
   where
     reinit_stays : (t k : ℕ) (may : MayReinit s t k) (m : ℕ) → HasWaiters s m → HasWaiters (reinited s t k).state m ⊎ ((sleepers (reinited s t k).state m ≡ []) × IsUnowned s m)

@@ -1,13 +1,13 @@
 -- Who falls asleep and who is woken, as the trace tells it.
-use Rattle.std.proofs.Common.{◌≡◌, ◌≢◌, inl, inr, ℕ, ◌<◌, ◌≤◌, length, ◌==◌, Bool, true, false, Option, Some, None, Ok, Err, List, [], ◌∷◌, ◌++◌, map, refl, sym, ap, ◌∙◌, subst, arith, eq-eqb, eqb-true, append-nil}
-use Rattle.protocol.proofs.Vocabulary.{Queue, Mutex, Fact, Decision, Layout', cell_place, counter_place, sleeps_at, Reply, XHELD, OnCondition, Op, Event, Note, Stepped}
+use Rattle.std.proofs.Common.{◌≡◌, ◌≢◌, ◌⊎◌, ⊎_elim, inl, inr, ℕ, ◌<◌, ◌≤◌, length, ◌==◌, Bool, true, false, Option, Some, None, Ok, Err, List, [], ◌∷◌, ◌++◌, map, refl, sym, ap, ◌∙◌, subst, arith, eq-eqb, eqb-true, append-nil}
+use Rattle.protocol.proofs.Vocabulary.{Queue, Mutex, Condition, Fact, Decision, Layout', cell_place, counter_place, sleeps_at, Reply, XHELD, OnCondition, Op, Event, Note, Stepped}
 use Rattle.protocol.proofs.Vocabulary.{Walked, facts_of, sleep_facts, moves_to, return_facts, reap_facts, State, After, start, woken_by, moved_by, stands_in, is_asleep, begun}
 use Rattle.protocol.proofs.Vocabulary.{nothing, decision, slept_in, killed, happens, run, notes, facts_among, if◌then◌else◌, slice_index, CondCall, queue_place}
 use Rattle.protocol.proofs.Vocabulary.{place_in, place_met}
 use Rattle.buckets.specs.Queues.{without}
 use Rattle.facts.specs.declared.fact.Fact.TheVariants.{Sleep, Wake, Move, Kill}
 use Rattle.protocol.specs.Sleepers.{StandsIn, IsAmong}
-use Rattle.protocol.specs.Wakings.{asleep_next, asleep_after, told_asleep, Alternates, IsQueue, nobody, FallsAsleep, LeavesQueue, IsMoved, TellsTurns, TellsSleepers, SleepsAreTold, MaySleepIn}
+use Rattle.protocol.specs.Wakings.{asleep_next, asleep_after, told_asleep, Alternates, IsQueue, nobody, FallsAsleep, LeavesQueue, IsMoved, SleepsAgain, TellsTurns, TellsSleepers, SleepsAreTold, MaySleepIn}
 use Rattle.protocol.specs.PassedBy.{call_told}
 use Rattle.protocol.specs.Wakes.{left_by}
 use Rattle.protocol.proofs.Learnt.{run_learnt}
@@ -30,6 +30,11 @@ use Rattle.protocol.specs.Applies.{IsInAQueue}
 use Rattle.protocol.proofs.Vocabulary.{departed}
 use Rattle.protocol.proofs.Cases.{by_equal}
 use Rattle.protocol.proofs.Seeing.{cell_again, counter_again, cell_in}
+use Rattle.protocol.proofs.Vocabulary.{condition_of, reslept}
+use Rattle.protocol.proofs.Accesses.{fits_in}
+use Rattle.protocol.proofs.Sparing.{spare_is}
+use Rattle.protocol.proofs.Repeating.{resleep_stands, resleep_goes, again_step, again_noted, repeated_is, walk_from, walk_out}
+use Rattle.protocol.proofs.Repeating.{v as again_v}
 
 -- ---- the facts of one thread's sleep
 
@@ -142,6 +147,7 @@ data Turn (s : State) (qs : ℕ → List ℕ) (t : ℕ) (e : Event) (told : List
   Is_woken : (key : ℕ) → told ≡ Wake t ∷ [] → stands_in t (s.queues key) ≡ true → IsOut qs t → e ≢ Event.Kill t → Turn s qs t e told
   Is_moved : (k m : ℕ) → told ≡ Move t m ∷ [] → k < length s.layout.conditions → slice_index s.layout.conditions k ≡ m → m < s.layout.mutexes → stands_in t (s.queues (counter_place s.layout k)) ≡ true → stands_in t (qs (cell_place s.layout m)) ≡ true → Turn s qs t e told
   Dies : told ≡ Kill t ∷ [] → e ≡ Event.Kill t → IsOut qs t → Turn s qs t e told
+  Goes_again : (k : ℕ) → told ≡ Wake t ∷ (Sleep t (Condition k) ∷ []) → k < length s.layout.conditions → stands_in t (s.queues (counter_place s.layout k)) ≡ true → ((key : ℕ) → stands_in t (qs key) ≡ stands_in t (s.queues key)) → e ≡ Event.Resleep t → Turn s qs t e told
 
 abbrev TurnOf : State → ℕ → Event → After → Type 0
 TurnOf s t e z = Turn s z.state.queues t e (turns t (facts_of z.note))
@@ -150,7 +156,7 @@ idle_turn : (s : State) (t : ℕ) (e : Event) → TurnOf s t e (nothing s)
 idle_turn s t e = Stays refl (λ key. refl)
 
 -- an access of thread u, which is awake
-module _ (s : State) (u t : ℕ) (v : Transition) (g : Stepping s u v) (pos : 1 ≤ u) (known : u ≤ s.layout.threads) (is : (s.threads u).stage ≡ v.from) (queued : Queued s) (awake : is_asleep s u ≡ false) (kills : Event.Step u ≢ Event.Kill t) where
+module _ (s : State) (u t : ℕ) (v : Transition) (g : Stepping s u v) (pos : 1 ≤ u) (known : u ≤ s.layout.threads) (is : (s.threads u).stage ≡ v.from) (queued : Queued s) (awake : is_asleep s u ≡ false) (ev : Event) (kills : ev ≢ Event.Kill t) where
   abbrev at : ℕ
   at = place_of s u v
 
@@ -174,10 +180,10 @@ module _ (s : State) (u t : ℕ) (v : Transition) (g : Stepping s u v) (pos : 1 
     no_sleep : (t ≡ u → sleeps_at v.access w ≡ false) → turns t (sleep_facts u (slept_in k (sleeps_at v.access w))) ≡ []
     no_sleep quiet = grind (arith)
 
-    call_turn : Turn s queues' t (Event.Step u) tells
+    call_turn : Turn s queues' t ev tells
     call_turn = go turned_to
       where
-        go : Turned s.layout t u v.access at w s.queues queues' → Turn s queues' t (Event.Step u) tells
+        go : Turned s.layout t u v.access at w s.queues queues' → Turn s queues' t ev tells
         go (As_before quiet unwoken unmoved same) = Stays (λ i. no_sleep quiet i ++ (no_wakes t (woken_by v.access w q) unwoken i ++ no_moves t v.mutex (moved_by v.access w q) unmoved i)) same
         go (Falls me on nobody none stands elsewhere) =
             let where_to = there on in
@@ -195,7 +201,7 @@ module _ (s : State) (u t : ℕ) (v : Transition) (g : Stepping s u v) (pos : 1 
             told : tells ≡ Move t v.mutex ∷ []
             told = λ i. no_sleep (λ me. quiet) i ++ (no_wakes t (woken_by v.access w q) unwoken i ++ one_move t v.mutex (moved_by v.access w q) (moved_once v.access w q (queued.once at)) moved i)
 
-            carried : Moving s u v → Turn s queues' t (Event.Step u) tells
+            carried : Moving s u v → Turn s queues' t ev tells
             carried (Moves_none none) = absurd (subst IsNoMove form none)
             carried (Moves_to c x y below of shape waits owned) =
                 let target : to ≡ cell_in s.layout u v.mutex = cc (sym form ∙ shape) in
@@ -204,22 +210,22 @@ module _ (s : State) (u t : ℕ) (v : Transition) (g : Stepping s u v) (pos : 1 
                 Is_moved c v.mutex told below of g.inside (sym (ap (λ (x : ℕ). stands_in t (s.queues x)) at_is) ∙ stood) (sym (ap (λ (x : ℕ). stands_in t (queues' x)) to_is) ∙ stands)
 
   -- of a walk, which never sleeps and moves nobody
-  walk_turn : sleeps_at v.access w ≡ false → IsNoMove v.access → Turn s queues' t (Event.Step u) (turns t (map Wake (woken_by v.access w q)))
+  walk_turn : sleeps_at v.access w ≡ false → IsNoMove v.access → Turn s queues' t ev (turns t (map Wake (woken_by v.access w q)))
   walk_turn quiet still = go turned_to
     where
-      go : Turned s.layout t u v.access at w s.queues queues' → Turn s queues' t (Event.Step u) (turns t (map Wake (woken_by v.access w q)))
+      go : Turned s.layout t u v.access at w s.queues queues' → Turn s queues' t ev (turns t (map Wake (woken_by v.access w q)))
       go (As_before none unwoken unmoved same) = Stays (no_wakes t (woken_by v.access w q) unwoken) same
       go (Falls me on nobody none stands elsewhere) = absurd (cc (on, quiet))
       go (Woken none woken unmoved stood gone) = Is_woken at (one_wake t (woken_by v.access w q) (woken_once v.access w q (queued.once at)) woken) stood gone kills
       go (Moved from e n to j form none unwoken moved stood stands elsewhere) = absurd (subst IsNoMove form still)
 
-  step_turn : (n : Note) → Noted s u v n → TurnOf s t (Event.Step u) (record { state = after s u v; note = n })
+  step_turn : (n : Note) → Noted s u v n → TurnOf s t ev (record { state = after s u v; note = n })
   step_turn n (Of_call k y noted there) =
-      subst (Turn s queues' t (Event.Step u))
+      subst (Turn s queues' t ev)
       (sym (ap (λ (z : Note). turns t (facts_of z)) noted ∙ step_turns t u v.mutex (decision u v.mutex v.operation v.point) (slept_in k (sleeps_at v.access w)) (woken_by v.access w q) (moved_by v.access w q) y))
       (call_turn k there)
   step_turn n (Of_walk d y noted m op point quiet still) =
-      subst (Turn s queues' t (Event.Step u)) (sym (ap (λ (z : Note). turns t (facts_of z)) noted ∙ walk_turns t u d (woken_by v.access w q) y)) (walk_turn quiet still)
+      subst (Turn s queues' t ev) (sym (ap (λ (z : Note). turns t (facts_of z)) noted ∙ walk_turns t u d (woken_by v.access w q) y)) (walk_turn quiet still)
 
 kill_turn : (s : State) (u t : ℕ) → TurnOf s t (Event.Kill u) (killed s u)
 kill_turn s u t =
@@ -235,17 +241,34 @@ leave_turn s u t asleep =
     Is_woken stood.0 (ap (λ (v : ℕ). Wake v ∷ []) same) stood.1 (λ key. ap (λ (v : ℕ). stands_in v (without u (s.queues key))) (sym same) ∙ without_gone u (s.queues key)) (λ e. cc))
     (λ apart. Stays refl (λ key. stands_without t u (s.queues key) (grind (arith))))
 
+resleep_turn : (s : State) (u k t : ℕ) → k < length s.layout.conditions → stands_in u (s.queues (counter_place s.layout k)) ≡ true → TurnOf s t (Event.Resleep u) (reslept s u k)
+resleep_turn s u k t below there = go (u == t) refl
+  where
+    same_key : (key : ℕ) → stands_in t ((reslept s u k).state.queues key) ≡ stands_in t (s.queues key)
+    same_key key = resleep_stands s u k there t key
+
+    go : (b : Bool) → (u == t) ≡ b → Turn s (reslept s u k).state.queues t (Event.Resleep u) (if b then Wake u ∷ (if b then Sleep u (Condition k) ∷ [] else []) else if b then Sleep u (Condition k) ∷ [] else [])
+    go true e =
+        let same : u ≡ t = eqb-true u t e in
+        Goes_again k (ap (λ (v : ℕ). Wake v ∷ (Sleep v (Condition k) ∷ [])) same) below (subst (λ (v : ℕ). stands_in v (s.queues (counter_place s.layout k)) ≡ true) same there) same_key (ap Event.Resleep same)
+    go false e = Stays refl same_key
+
 turn : (s : State) (e : Event) → Kept s → Queued s → (t : ℕ) → TurnOf s t e (happens s e)
 turn s e inv queued t =
     by_event s (λ (x : Event) (z : After). TurnOf s t x z)
     (λ x. idle_turn s t x)
     (λ u o pos known inside idle b full. begins_so u o b)
-    (λ u pos known. by_step s u inv pos known (TurnOf s t (Event.Step u)) (λ rests. idle_turn s t (Event.Step u)) (λ v n is awake g noted. step_turn s u t v g pos known is queued awake (λ same. cc same) n noted))
+    (λ u pos known. by_step s u inv pos known (TurnOf s t (Event.Step u)) (λ rests. idle_turn s t (Event.Step u)) (λ v n is awake g noted. step_turn s u t v g pos known is queued awake (Event.Step u) (λ same. cc same) n noted))
     (λ u pos known alive. kill_turn s u t)
     (λ u pos known asleep. leave_turn s u t asleep)
     (λ u o p pos known is awake trims. subst (TurnOf s t (Event.Decline u)) (sym (spared_is s u o p is trims inv pos known)) (Stays refl (λ key. refl)))
     (λ u pos known gone. Stays refl (λ key. refl))
     (λ u m may. Stays refl (λ key. refl))
+    (λ k may. Stays refl (λ key. refl))
+    (λ u m g sp. subst (TurnOf s t (Event.Spare u)) (sym (spare_is s u m g sp inv)) (Stays refl (λ key. refl)))
+    (λ u c p pos known is there. resleep_turn s u (condition_of c) t (fits_in s u (OnCondition c) p inv pos known is).1.2 there)
+    (λ u x pos known is reads. subst (TurnOf s t (Event.Repeat u)) (sym (repeated_is s u x inv pos known is))
+    (step_turn s u t (again_v s u x) (again_step s u x inv pos known is) pos known (walk_from s u x inv pos known is) queued (walk_out s u x inv pos known is) (Event.Repeat u) (λ same. cc same) _ (again_noted s u x reads)))
     e
   where
     begins_so : (u : ℕ) (o : Op) (b : Bool) → TurnOf s t (Event.Begin u o) (begun s u o (if b then Err XHELD else Ok (begins_at s.layout u o)))
@@ -293,16 +316,19 @@ module _ (s : State) (e : Event) (inv : Kept s) (queued : Queued s) (t : ℕ) wh
 
   -- what a fact of its sleep tells
   abbrev Says : Fact → Type 0
-  Says (Sleep u q) = FallsAsleep s s' t q
-  Says (Wake u) = LeavesQueue s s' t × (e ≢ Event.Kill t)
+  Says (Sleep u q) = FallsAsleep s s' t q ⊎ SleepsAgain s s' e t q
+  Says (Wake u) = (LeavesQueue s s' t × (e ≢ Event.Kill t)) ⊎ (q : Queue) × SleepsAgain s s' e t q
   Says (Move u m) = IsMoved s s' t m
   Says f = Unit {0}
 
   says : (f : Fact) → IsAmong f (turns t facts) → Turn s s'.queues t e (turns t facts) → Says f
   says f h (Stays none same) = absurd (subst (IsAmong f) none h)
-  says f h (Falls_asleep q is inside out stands) = subst Says (only f (Sleep t q) (subst (IsAmong f) is h)) (out, inside, stands_then q stands)
-  says f h (Is_woken key is stands out kills) = subst Says (only f (Wake t) (subst (IsAmong f) is h)) (((key, stands), out), kills)
+  says f h (Falls_asleep q is inside out stands) = subst Says (only f (Sleep t q) (subst (IsAmong f) is h)) (inl (out, inside, stands_then q stands))
+  says f h (Is_woken key is stands out kills) = subst Says (only f (Wake t) (subst (IsAmong f) is h)) (inl (((key, stands), out), kills))
   says f h (Is_moved k m is below of inside before stands) = subst Says (only f (Move t m) (subst (IsAmong f) is h)) ((k, below, of, before), stands_then (Mutex m) stands)
+  says f h (Goes_again k is below stood same ev) =
+      let again : SleepsAgain s s' e t (Condition k) = (ev, below, stood, stands_then (Condition k) (same (counter_place s.layout k) ∙ stood)) in
+      ⊎_elim (λ wakes. subst Says wakes (inr (Condition k, again))) (λ more. ⊎_elim (λ sleeps. subst Says sleeps (inr again)) (λ none. absurd none) more) (subst (IsAmong f) is h)
   says f h (Dies is kill out) = subst Says (only f (Kill t) (subst (IsAmong f) is h)) tt
 
   fell : (q : Queue) → FallsAsleep s s' t q → Turn s s'.queues t e (turns t facts) → IsAmong (Sleep t q) facts
@@ -312,10 +338,14 @@ module _ (s : State) (e : Event) (inv : Kept s) (queued : Queued s) (t : ℕ) wh
       turns-among t (Sleep t q) facts (subst (IsAmong (Sleep t q)) (sym is) (inl (ap (Sleep t) same)))
   fell q (was, inside, now) (Is_woken key is stands out kills) = absurd (cc (now, out (queue_place s'.layout q)))
   fell q (was, inside, now) (Is_moved k m is below of there before stands) = absurd (cc (before, was (counter_place s.layout k)))
+  fell q (was, inside, now) (Goes_again k is below stood same ev) = absurd (cc (stood, was (counter_place s.layout k)))
   fell q (was, inside, now) (Dies is kill out) = absurd (cc (now, out (queue_place s'.layout q)))
 
   was_moved : (m : ℕ) → IsMoved s s' t m → Turn s s'.queues t e (turns t facts) → IsAmong (Move t m) facts
   was_moved m ((k, below, of, before), now) (Stays none same) =
+      let inside : m < s.layout.mutexes = subst (λ (x : ℕ). x < s.layout.mutexes) of (names_mutex s.layout (OnCondition (CondCall.Signal k)) inv.layout below) in
+      absurd (counter_is_no_cell s.layout m k inside (queued.one t (counter_place s.layout k) (cell_place s.layout m) before (sym (same (cell_place s.layout m)) ∙ stands_there (Mutex m) now)))
+  was_moved m ((k, below, of, before), now) (Goes_again j is there stood same ev) =
       let inside : m < s.layout.mutexes = subst (λ (x : ℕ). x < s.layout.mutexes) of (names_mutex s.layout (OnCondition (CondCall.Signal k)) inv.layout below) in
       absurd (counter_is_no_cell s.layout m k inside (queued.one t (counter_place s.layout k) (cell_place s.layout m) before (sym (same (cell_place s.layout m)) ∙ stands_there (Mutex m) now)))
   was_moved m ((k, below, of, before), now) (Falls_asleep q is inside out stands) = absurd (cc (before, out (counter_place s.layout k)))
@@ -332,12 +362,23 @@ module _ (s : State) (e : Event) (inv : Kept s) (queued : Queued s) (t : ℕ) wh
   woke (stood, gone) lives (Falls_asleep q is inside out stands) = absurd (cc (stood.1, out stood.0))
   woke (stood, gone) lives (Is_woken key is stands out kills) = turns-among t (Wake t) facts (subst (IsAmong (Wake t)) (sym is) (inl refl))
   woke (stood, gone) lives (Is_moved k m is below of inside before stands) = absurd (cc (stands, gone (cell_place s.layout m)))
+  woke (stood, gone) lives (Goes_again k is below before same ev) = absurd (cc (sym (gone stood.0) ∙ (same stood.0 ∙ stood.1)))
   woke (stood, gone) lives (Dies is kill out) = absurd (lives kill)
+
+  -- whoever goes to the end of its queue is told so
+  slept_again : (q : Queue) → SleepsAgain s s' e t q → (k : ℕ) × (q ≡ Condition k) × (facts ≡ Wake t ∷ (Sleep t (Condition k) ∷ []))
+  slept_again (Mutex m) h = absurd h
+  slept_again (Condition k) (ev, below, before, now) = (k, refl, ap (λ (x : Event). facts_of (happens s x).note) ev ∙ ap (λ (a : After). facts_of a.note) (resleep_goes s t k inv queued below before))
+
+  again_told : (q : Queue) → SleepsAgain s s' e t q → IsAmong (Wake t) facts × IsAmong (Sleep t q) facts
+  again_told q h =
+      let told = slept_again q h in
+      (subst (IsAmong (Wake t)) (sym told.2) (inl refl), subst (λ (r : Queue). IsAmong (Sleep t r) facts) (sym told.1) (subst (IsAmong (Sleep t (Condition told.0))) (sym told.2) (inr (inl refl))))
 
   tells_turns : TellsTurns s e t
   tells_turns = record {
-    sleep = λ q. ((λ among. says (Sleep t q) (among-turns t (Sleep t q) facts (this t) among) (turn s e inv queued t)), (λ fallen. fell q fallen (turn s e inv queued t)));
-    wake = ((λ among. says (Wake t) (among-turns t (Wake t) facts (this t) among) (turn s e inv queued t)), (λ left. woke left.0 left.1 (turn s e inv queued t)));
+    sleep = λ q. ((λ among. says (Sleep t q) (among-turns t (Sleep t q) facts (this t) among) (turn s e inv queued t)), (λ fallen. ⊎_elim (λ new. fell q new (turn s e inv queued t)) (λ again. (again_told q again).1) fallen));
+    wake = ((λ among. says (Wake t) (among-turns t (Wake t) facts (this t) among) (turn s e inv queued t)), (λ left. ⊎_elim (λ gone. woke gone.0 gone.1 (turn s e inv queued t)) (λ again. (again_told again.0 again.1).0) left));
     move = λ m. ((λ among. says (Move t m) (among-turns t (Move t m) facts (this t) among) (turn s e inv queued t)), (λ is. was_moved m is (turn s e inv queued t)));
   }
 

@@ -35,6 +35,8 @@ use Rattle.protocol.specs.Applies.{Agrees}
 use Rattle.protocol.proofs.Applying.{run_agrees}
 use Rattle.protocol.proofs.Emptied.{no_more}
 use Rattle.protocol.proofs.Learnt.{Asks, AsksFor, AsksAt, Learnt, run_learnt}
+use Rattle.protocol.proofs.Vocabulary.{repeated}
+use Rattle.protocol.proofs.Sparing.{spare_is}
 
 -- ---- the wakes and the moves that are told
 
@@ -72,7 +74,7 @@ moves_stepped u m None (Some q) ws ms y = behind_moves m ws ms (return_facts u y
 moves_stepped u m (Some e) None ws ms y = behind_moves m ws ms (return_facts u y) (none_returned u y).1
 moves_stepped u m (Some e) (Some q) ws ms y = behind_moves m ws ms (return_facts u y) (none_returned u y).1
 
-wakes_walked : (u : ℕ) (d : Option ℕ) (ws : List ℕ) (y : Bool) → wakes_in (facts_of (Walked u d ws y)) ≡ map Fact.Wake ws
+pub wakes_walked : (u : ℕ) (d : Option ℕ) (ws : List ℕ) (y : Bool) → wakes_in (facts_of (Walked u d ws y)) ≡ map Fact.Wake ws
 wakes_walked u None ws y = wakes_told ws (reap_facts u y) (none_reaped u y).0
 wakes_walked u (Some m) ws y = wakes_told ws (reap_facts u y) (none_reaped u y).0
 
@@ -292,6 +294,14 @@ module _ (s : State) (t : ℕ) (w : walks.Standing) (inv : Kept s) (pos : 1 ≤ 
         moves_walked t death (woken s t its_access) ended,
       )
 
+  -- made once more, it wakes the same
+  again_whom : WakesWhom s Dead None None (facts_of (repeated s t w).note)
+  again_whom =
+      let told = wakes_walked t None (woken s t its_access) false in (
+        ⊎_elim (λ none. inl (told ∙ ap (map Fact.Wake) none)) (λ one. inr (one.0, one.1, told ∙ ap (map Fact.Wake) one.2)) woken_walk,
+        moves_walked t None (woken s t its_access) false,
+      )
+
 -- ---- each event
 
 told_in_call : (x : Told) (c : Op) (p : Whole) → Agrees x (Calling c p) → x ≡ InCall
@@ -310,6 +320,8 @@ module _ (s : State) (inv : Kept s) (queued : Queued s) (told : ℕ → Told) (b
   abbrev WhomAt : Event → After → Type 0
   WhomAt (Event.Step t) a = WakesWhom s (told t) (b t) (o t) (facts_of a.note)
   WhomAt (Event.Leave t) a = WakesItself t (facts_of a.note)
+  WhomAt (Event.Resleep t) a = WakesItself t (facts_of a.note)
+  WhomAt (Event.Repeat t) a = WakesWhom s Dead None None (facts_of a.note)
   WhomAt e a = (wakes_in (facts_of a.note) ≡ []) × (moves_in (facts_of a.note) ≡ [])
 
   nothing_whom : (e : Event) → WhomAt e (nothing s)
@@ -320,6 +332,10 @@ module _ (s : State) (inv : Kept s) (queued : Queued s) (told : ℕ → Told) (b
   nothing_whom (Event.Decline t) = (refl, refl)
   nothing_whom (Event.Renew t) = (refl, refl)
   nothing_whom (Event.Reinit t m) = (refl, refl)
+  nothing_whom (Event.Recount k) = (refl, refl)
+  nothing_whom (Event.Spare t) = (refl, refl)
+  nothing_whom (Event.Resleep t) = (inl refl, refl)
+  nothing_whom (Event.Repeat t) = (inl refl, refl)
 
   begin_whom : (t : ℕ) (c : Op) (full : Bool) → WhomAt (Event.Begin t c) (begun s t c (if full then Err XHELD else Ok (begins_at s.layout t c)))
   begin_whom t c true = (refl, refl)
@@ -360,6 +376,10 @@ module _ (s : State) (inv : Kept s) (queued : Queued s) (told : ℕ → Told) (b
       (λ t c p pos known is awake trims. subst (WhomAt (Event.Decline t)) (sym (spared_is s t c p is trims inv pos known)) (refl, refl))
       (λ t pos known gone. (refl, refl))
       (λ t m may. (refl, refl))
+      (λ k may. (refl, refl))
+      (λ t m g sp. subst (WhomAt (Event.Spare t)) (sym (spare_is s t m g sp inv)) (refl, refl))
+      (λ t c p pos known is there. (inr refl, refl))
+      (λ t w pos known is reads. again_whom s t w inv pos known is)
       e
 
 -- ---- every run
@@ -379,6 +399,10 @@ woken_right l counters events is e = go e (next_whom (run s0 events) (run_kept s
     go (Event.Begin t c) h = h
     go (Event.Kill t) h = h
     go (Event.Leave t) h = h
+    go (Event.Recount t) h = h
+    go (Event.Spare t) h = h
+    go (Event.Resleep t) h = h
+    go (Event.Repeat t) h = h
     go (Event.Decline t) h = h
     go (Event.Renew t) h = h
     go (Event.Reinit t m) h = h

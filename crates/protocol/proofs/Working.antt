@@ -42,7 +42,7 @@ sleep_points t f fs of none = grind (arith)
 no_points : (t m : ℕ) (z : Option Queue) (ws ms : List ℕ) (y : Option Reply) → points_of (sleep_facts t z ++ (map Fact.Wake ws ++ (map (moves_to m) ms ++ return_facts t y))) ≡ []
 no_points t m z ws ms y = behind_point (λ (fs : List Fact). points_of fs ≡ []) t m z ws ms (return_facts t y) (λ f of fs none. sleep_points t f fs of none) (grind (arith))
 
-reaped_points : (t : ℕ) (ws : List ℕ) (y : Bool) → points_of (map Fact.Wake ws ++ reap_facts t y) ≡ []
+pub reaped_points : (t : ℕ) (ws : List ℕ) (y : Bool) → points_of (map Fact.Wake ws ++ reap_facts t y) ≡ []
 reaped_points t ws y = behind_woken (λ (fs : List Fact). points_of fs ≡ []) ws (reap_facts t y) (λ w fs none. none) (grind (arith))
 
 told_call : (t m : ℕ) (op : Operation) (x : Option Reply) (z : Option Queue) (ws ms : List ℕ) (y : Option Reply) → points_of (facts_of (Stepped t m (decision t m op x) z ws ms y)) ≡ point_of t m op x

@@ -23,16 +23,23 @@ use Rattle.protocol.specs.declared.event.Event.{Event}
 use Rattle.protocol.specs.declared.event.Event.TheVariants as event
 use Rattle.protocol.specs.declared.note.Note.{Note}
 use Rattle.protocol.specs.declared.note.Note.TheVariants.{Nothing, Began, Stepped, Killed}
-use Rattle.protocol.specs.declared.note.Note.TheVariants.{Walked, Left, Renewed, Reinited}
+use Rattle.protocol.specs.declared.note.Note.TheVariants.{Walked, Left, Renewed, Reinited, Recounted, Reslept}
+use Rattle.facts.specs.declared.fact.Queue.TheVariants.{Condition}
 use Rattle.facts.specs.declared.fact.Fact.{Fact}
 use Rattle.facts.specs.declared.fact.Fact.TheVariants.{Begin, Return, Kill, Reap, Renew}
 use Rattle.stepprograms.specs.declared.access.Access.TheVariants.{Trim}
 use Rattle.mutex.specs.Standings.{Whole}
+use Rattle.condvar.specs.Standings.{CondWhole}
+use Rattle.condvar.specs.declared.call.CondCall.{CondCall}
+use Rattle.exitwalk.specs.Standings.{Standing}
 use Rattle.mutex.specs.Whole.{whole_access}
 use Rattle.protocol.specs.declared.thread.Stage.{Stage}
 use Rattle.protocol.specs.declared.thread.Stage.TheVariants.{Idle, Calling, AtCondition, Dying, Reaped}
-use Rattle.protocol.specs.Machine.{State, start, happens, run, notes, stands_in, sleepers}
+use Rattle.protocol.specs.Machine.{State, start, happens, run, notes, stands_in, sleepers, is_mark}
 use Rattle.protocol.specs.Headline.{seen, facts_among}
+use Rattle.protocol.specs.Sleepers.{StandsIn}
+use Rattle.protocol.specs.Recounts.{MayRecount}
+use Rattle.protocol.specs.Spares.{MaySpare}
 
 -- ---- what a trace told of a thread
 
@@ -101,10 +108,16 @@ IsInAQueue s t = (key : ℕ) × (stands_in t (s.queues key) ≡ true)
 abbrev pub IsAboutToTrim : State → ℕ → Type 0
 IsAboutToTrim s t = (o : Op) × (p : Whole) × (at : ℕ) × ((s.threads t).stage ≡ Calling o p) × (whole_access p ≡ Trim at)
 
+-- the next access of thread t's walk is a load or a wake
+abbrev pub IsAboutToRead : State → ℕ → Type 0
+IsAboutToRead s t = (w : Standing) × ((s.threads t).stage ≡ Dying w) × (is_mark w.row ≡ false)
+
 -- a begin applies where its thread lives, is in no call, and what it calls is in the layout; a step where its thread is
 -- in a call, or was killed and not reaped, and sleeps on nothing; a kill where its thread lives; a leave where it
 -- sleeps; a decline where it is about to trim; a renewal where its thread was reaped; a reinit where its thread lives
--- and is in no call, and its mutex, one of the layout, is unusable and nobody sleeps on it
+-- and is in no call, and its mutex, one of the layout, is unusable and nobody sleeps on it; a recount where nobody may
+-- miss a signal by it; a spare where its thread is about to wake one of a mutex, for which another answers; a resleep
+-- where its thread sleeps on a condition variable; a repeat where its thread's walk is about to load or to wake
 abbrev pub Applies : Layout' → State → List Note → Event → Type 0
 Applies l s ns (event.Begin t o) = IsThread l t × Names l o × (last_told t ns ≡ AtRest)
 Applies l s ns (event.Step t) = IsThread l t × HasAccess (last_told t ns) × IsInNoQueue s t
@@ -114,6 +127,10 @@ Applies l s ns (event.Decline t) = IsThread l t × IsAboutToTrim s t
 Applies l s ns (event.Renew t) = IsThread l t × (last_told t ns ≡ Gone)
 Applies l s ns (event.Reinit t m) =
     IsThread l t × (last_told t ns ≡ AtRest) × (m < l.mutexes) × ((seen s m).unusable ≡ true) × (sleepers s m ≡ [])
+Applies l s ns (event.Recount k) = MayRecount s k
+Applies l s ns (event.Spare t) = IsThread l t × MaySpare s t
+Applies l s ns (event.Resleep t) = (k : ℕ) × (k < length l.conditions) × StandsIn s t (Condition k)
+Applies l s ns (event.Repeat t) = IsThread l t × IsAboutToRead s t
 
 -- a call that takes a mutex is refused at once where its thread owns 2,048
 abbrev pub refusal : Layout' → State → ℕ → Op → Option Reply
@@ -132,6 +149,12 @@ abbrev pub IsQuietAccessOf : Layout' → State → ℕ → Note → Type 0
 IsQuietAccessOf l s t n =
     (o : Op) (p : Whole) → (s.threads t).stage ≡ Calling o p → n ≡ Stepped t (mutex_of l o) None None [] [] None
 
+-- so it is of a call on a condition variable too
+abbrev pub IsSparedAccessOf : Layout' → State → ℕ → Note → Type 0
+IsSparedAccessOf l s t n = IsQuietAccessOf l s t n
+    × ((c : CondCall) (p : CondWhole) → (s.threads t).stage ≡ AtCondition c p
+    → n ≡ Stepped t (mutex_of l (OnCondition c)) None None [] [] None)
+
 -- an event that applies is noted as what it is
 abbrev pub IsNotedAs : Layout' → State → Event → Note → Type 0
 IsNotedAs l s (event.Begin t o) n = n ≡ Began t (begun_of l o) (refusal l s t o)
@@ -141,6 +164,10 @@ IsNotedAs l s (event.Leave t) n = n ≡ Left t
 IsNotedAs l s (event.Decline t) n = IsQuietAccessOf l s t n
 IsNotedAs l s (event.Renew t) n = n ≡ Renewed t
 IsNotedAs l s (event.Reinit t m) n = n ≡ Reinited t m
+IsNotedAs l s (event.Recount k) n = n ≡ Recounted k
+IsNotedAs l s (event.Spare t) n = IsSparedAccessOf l s t n
+IsNotedAs l s (event.Resleep t) n = (k : ℕ) → StandsIn s t (Condition k) → n ≡ Reslept t k
+IsNotedAs l s (event.Repeat t) n = IsAccessOf t n
 
 -- of a state that events lead to that were noted so: its layout is as it was, and each thread stands where it was told
 -- to stand; whatever event comes next, it happens where it applies, and else it does nothing

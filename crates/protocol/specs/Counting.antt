@@ -13,9 +13,10 @@ use Rattle.facts.specs.declared.fact.Begun.{Begun}
 use Rattle.facts.specs.declared.fact.Fact.{Fact}
 use Rattle.facts.specs.declared.fact.Fact.TheVariants.{Begin, Point}
 use Rattle.protocol.specs.declared.event.Event.{Event}
-use Rattle.protocol.specs.Machine.{start, run, notes}
+use Rattle.protocol.specs.Machine.{State, start, run, notes}
 use Rattle.protocol.specs.Headline.{facts_among}
-use Rattle.protocol.specs.PassedBy.{ArePresets}
+use Rattle.protocol.specs.PassedBy.{ArePresets, call_told}
+use Rattle.protocol.specs.Recounts.{NobodyRecounts}
 
 -- 1 where a call is on condition variable k
 abbrev pub one_on : ℕ → Option ℕ → ℕ
@@ -36,9 +37,22 @@ signals_in k calls (Begin u b ∷ fs) = signals_in k (λ t. if u == t then Some 
 signals_in k calls (Point d ∷ fs) = one_of k (calls d.thread) d.operation d.reply + signals_in k calls fs
 signals_in k calls (f ∷ fs) = signals_in k calls fs
 
+-- behind these events, from state s on, and then those: the counter of condition variable k is what it was before
+-- those, and one more for each signal and each broadcast on it with OK among them, where it doesn't go back to 0
+abbrev pub CountsUp : State → ℕ → List Event → List Event → Type 0
+CountsUp s k before after = NobodyRecounts k after
+    → (run (run s before) after).words (counter_place s.layout k) ≡ (run s before).words (counter_place s.layout k)
+    + signals_in k (λ t. call_told t (notes s before)) (facts_among (notes (run s before) after))
+
 -- whatever happens, with counters that are at most as large as they may be at the beginning: the counter of condition
--- variable k is what it was then, and one more for each signal and each broadcast on it with OK
+-- variable k is what it was then, and one more for each such call; or those since it went back to 0 last, wherever that
+-- was (`Recounts.antt`)
+pub record CountsFrom (l : Layout') (counters : ℕ → ℕ) (k : ℕ) : Type 0 where
+  pub first : (events : List Event) → NobodyRecounts k events
+      → (run (start l counters) events).words (counter_place l k)
+      ≡ counters k + signals_in k (λ t. None) (facts_among (notes (start l counters) events))
+  pub since : (before after : List Event) → CountsUp (start l counters) k before after
+
 abbrev pub CountersCountUp : Type 0
-CountersCountUp = (l : Layout') (counters : ℕ → ℕ) (events : List Event) → IsLayout l → ArePresets counters → (k : ℕ)
-    → k < length l.conditions → (run (start l counters) events).words (counter_place l k)
-    ≡ counters k + signals_in k (λ t. None) (facts_among (notes (start l counters) events))
+CountersCountUp = (l : Layout') (counters : ℕ → ℕ) → IsLayout l → ArePresets counters → (k : ℕ)
+    → k < length l.conditions → CountsFrom l counters k

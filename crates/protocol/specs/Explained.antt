@@ -20,7 +20,7 @@ use Rattle.protocol.specs.declared.note.Note.{Note}
 use Rattle.protocol.specs.Notes.{lines_from}
 use Rattle.protocol.specs.Machine.{start, notes}
 
--- the thread that an event gives a turn
+-- the thread that an event gives a turn; a recount gives none
 abbrev pub caller : Event → ℕ
 caller (event.Begin t o) = t
 caller (event.Step t) = t
@@ -29,6 +29,10 @@ caller (event.Leave t) = t
 caller (event.Decline t) = t
 caller (event.Renew t) = t
 caller (event.Reinit t m) = t
+caller (event.Recount k) = 0
+caller (event.Spare t) = t
+caller (event.Resleep t) = t
+caller (event.Repeat t) = t
 
 -- the thread of event n, the first of the events having number i; 0 where there is no such event
 abbrev pub caller_of : ℕ → List Event → ℕ → ℕ

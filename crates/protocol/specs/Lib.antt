@@ -5,6 +5,8 @@ pub mod Machine
 pub mod Headline
 pub mod Explained
 pub mod Sleepers
+pub mod Recounts
+pub mod Spares
 pub mod Lists
 pub mod Deaths
 pub mod Applies
@@ -17,6 +19,7 @@ pub mod WalksOn
 pub mod Leaves
 pub mod Renewals
 pub mod Reinits
+pub mod Repeats
 pub mod Bounded
 pub mod Changes
 pub mod Counting

@@ -7,8 +7,10 @@
 -- *Step.* A begin begins a call of an idle thread; a step makes the next access of a thread that is in a call and
 -- doesn't sleep, or of a dying thread's walk; a kill takes a thread out of its queue and ends its call; a leave takes a
 -- sleeper out of its queue; a decline is the step of a thread whose next access is a trim, answered that this cleared
--- nothing; a renewal lets a reaped thread live anew; a reinit makes an unusable mutex anew. An event that can't apply
--- notes nothing and changes nothing.
+-- nothing; a renewal lets a reaped thread live anew; a reinit makes an unusable mutex anew. A recount puts a
+-- counter back to 0, a spare leaves a wake out for which another thread answers, a resleep takes a sleeper to the end of its
+-- queue, and a repeat makes an access of a walk that is made once more behind it. An event that can't apply notes nothing
+-- and changes nothing.
 --
 -- *A leave and a declined trim.* A thread that sleeps stands where it goes on when it is woken; so a leave only takes
 -- it out of its queue: no word changes, no thread, and no place of another in a queue, and its wake is told. A declined
@@ -29,15 +31,15 @@
 -- process: the word that one meets is that at the place of its address there. So threads of processes with different
 -- bases meet at one word, and in one queue. An access is refused where the place isn't one of the layout's, and a
 -- requeue also from a word to itself. Source: futex(2) on shared futexes.
-use Rattle.std.specs.Prelude.{ℕ, not, ◌==◌, ◌+◌, ◌-◌, ◌/◌, ◌%◌, ◌^◌, Bool, true, false, ◌&&◌, nat_le, nat_lt}
-use Rattle.std.specs.Prelude.{Option, Some, None, Result, Ok, Err, List, [], ◌∷◌, ◌++◌, take, drop, if◌then◌else◌}
+use Rattle.std.specs.Prelude.{ℕ, zero, suc, not, ◌==◌, ◌+◌, ◌-◌, ◌/◌, ◌%◌, ◌^◌, Bool, true, false, ◌&&◌, ◌||◌, nat_le, nat_lt}
+use Rattle.std.specs.Prelude.{Option, Some, None, Result, Ok, Err, List, [], ◌∷◌, ◌++◌, length, take, drop, if◌then◌else◌}
 use Rattle.lockword.specs.Cells.{fields_of}
 use Rattle.lockword.specs.declared.reply.Reply.{Reply}
 use Rattle.lockword.specs.declared.reply.Reply.TheVariants.{OK, EOWNERDEAD}
 use Rattle.stepprograms.specs.declared.access.Access.{Access}
 use Rattle.stepprograms.specs.declared.access.Answer.{Answer}
 use Rattle.stepprograms.specs.declared.access.Access.TheVariants as access
-use Rattle.stepprograms.specs.declared.access.Answer.TheVariants.{Fault, Trimmed}
+use Rattle.stepprograms.specs.declared.access.Answer.TheVariants.{Fault, Trimmed, Count}
 use Rattle.posixmutex.specs.declared.point.Operation.{Operation}
 use Rattle.posixmutex.specs.declared.point.Operation.TheVariants as operation
 use Rattle.posixmutex.specs.declared.point.Decision.{Decision}
@@ -47,10 +49,13 @@ use Rattle.buckets.specs.Queues.{without}
 use Rattle.stepprograms.specs.Accesses.{address_of, word_among, answer_among, sleeps_at, is_nobody}
 use Rattle.mutex.specs.declared.call.Call.{Call}
 use Rattle.mutex.specs.declared.phase.Phase.{Phase}
-use Rattle.mutex.specs.declared.phase.Phase.TheVariants.{Ended}
+use Rattle.mutex.specs.declared.phase.Phase.TheVariants.{AtCell, Ended}
 use Rattle.mutex.specs.declared.phase.Onward.{Onward}
 use Rattle.mutex.specs.Standings.{Whole}
 use Rattle.mutex.specs.Whole.{whole_started, whole_access, whole_led}
+use Rattle.mutex.specs.Alone.{answers_for}
+use Rattle.mutex.specs.declared.row.Row.TheVariants.{Unlock}
+use Rattle.mutex.specs.declared.unlock.UnlockRow.TheVariants.{Wake}
 use Rattle.condvar.specs.declared.call.CondCall.{CondCall}
 use Rattle.condvar.specs.declared.phase.CondPhase.{CondPhase}
 use Rattle.condvar.specs.declared.phase.CondPhase.TheVariants as cond
@@ -58,6 +63,10 @@ use Rattle.condvar.specs.declared.phase.CondOnward.{CondOnward}
 use Rattle.condvar.specs.Calls as conditions
 use Rattle.condvar.specs.Standings.{CondWhole}
 use Rattle.condvar.specs.Whole as condition
+use Rattle.condvar.specs.declared.row.CondRow.{CondRow}
+use Rattle.condvar.specs.declared.row.CondRow.TheVariants as cond_row
+use Rattle.condvar.specs.declared.wait.WaitRow.TheVariants as wait
+use Rattle.condvar.specs.declared.broadcast.BroadcastRow.TheVariants as broadcast
 use Rattle.facts.specs.declared.fact.Queue.{Queue}
 use Rattle.facts.specs.declared.fact.Queue.TheVariants.{Mutex, Condition}
 use Rattle.exitwalk.specs.declared.row.Row as walk_row
@@ -71,12 +80,13 @@ use Rattle.condvar.specs.declared.op.Op.{Op}
 use Rattle.condvar.specs.declared.op.Op.TheVariants.{OnMutex, OnCondition}
 use Rattle.protocol.specs.declared.event.Event.{Event}
 use Rattle.protocol.specs.declared.event.Event.TheVariants.{Begin, Step, Kill, Leave, Decline, Renew, Reinit}
+use Rattle.protocol.specs.declared.event.Event.TheVariants.{Recount, Spare, Resleep, Repeat}
 use Rattle.protocol.specs.declared.thread.Thread.{Thread}
 use Rattle.protocol.specs.declared.thread.Stage.{Stage}
 use Rattle.protocol.specs.declared.thread.Stage.TheVariants.{Idle, Calling, AtCondition, Dying, Reaped}
 use Rattle.protocol.specs.declared.note.Note.{Note}
 use Rattle.protocol.specs.declared.note.Note.TheVariants.{Nothing, Began, Stepped, Killed}
-use Rattle.protocol.specs.declared.note.Note.TheVariants.{Walked, Left, Renewed, Reinited}
+use Rattle.protocol.specs.declared.note.Note.TheVariants.{Walked, Left, Renewed, Reinited, Recounted, Reslept}
 
 -- the words by place, who sleeps on each, also by place, in the order in which they are to be woken, and the threads by
 -- id
@@ -375,7 +385,7 @@ is_trim (access.Trim at) = true
 is_trim a = false
 
 -- a trim may be declined: it is answered that the word wasn't cleared, whatever that says, and no word and no queue
--- changes
+-- changes. So it is of a wake that is spared, but for the answer
 abbrev pub spared : State → ℕ → ℕ → ℕ → Led → After
 spared s t held m g =
     record {
@@ -473,6 +483,100 @@ may_reinit s t m = has_thread s t && is_idle (s.threads t).stage && nat_lt m s.l
 abbrev pub reinited : State → ℕ → ℕ → After
 reinited s t m = record { state = record s { words = put s.words (cell_place s.layout m) 0 }; note = Reinited t m }
 
+-- ---- recounts
+
+-- a call on a condition variable has loaded its counter, and is still to compare that, or to count
+abbrev pub counts_on : CondRow → Bool
+counts_on (cond_row.Wait (wait.Release seen)) = true
+counts_on (cond_row.Wait (wait.Wake seen)) = true
+counts_on (cond_row.Wait (wait.Sleep seen)) = true
+counts_on (cond_row.Broadcast (broadcast.Count seen)) = true
+counts_on (cond_row.Broadcast (broadcast.SetWaiters seen)) = true
+counts_on (cond_row.Broadcast (broadcast.Move seen)) = true
+counts_on r = false
+
+abbrev pub has_count : CondPhase → Bool
+has_count (cond.AtWords r) = counts_on r
+has_count (cond.Announcing seen) = true
+has_count (cond.Unlinking u seen) = true
+has_count f = false
+
+-- thread t's call is on condition variable k, and has its count
+abbrev pub holds_count : ℕ → Stage → Bool
+holds_count k (AtCondition c p) = (conditions.condition_of c == k) && has_count p.phase
+holds_count k g = false
+
+-- none of the first n threads does
+abbrev pub none_counts : (ℕ → Thread) → ℕ → ℕ → Bool
+none_counts threads k zero = true
+none_counts threads k (suc n) = not (holds_count k (threads (suc n)).stage) && none_counts threads k n
+
+-- condition variable k is one of the layout, nobody sleeps on its counter, and no call has its count
+abbrev pub may_recount : State → ℕ → Bool
+may_recount s k = nat_lt k (length s.layout.conditions) && is_nobody (s.queues (counter_place s.layout k))
+    && none_counts s.threads k s.layout.threads
+
+-- its counter is 0 again
+abbrev pub recounted : State → ℕ → After
+recounted s k = record { state = record s { words = put s.words (counter_place s.layout k) 0 }; note = Recounted k }
+
+-- ---- wakes that are spared
+
+-- whoever stands there, in a call on a mutex, takes it or wakes one that sleeps on it, unless it finds it owned
+abbrev pub answers_at : Phase → Bool
+answers_at (AtCell r) = answers_for r
+answers_at f = false
+
+-- a wait that is about to wake one of its mutex, which it has released with WAITERS
+abbrev pub wakes_next : CondPhase → Bool
+wakes_next (cond.AtWords (cond_row.Wait (wait.Wake seen))) = true
+wakes_next f = false
+
+-- so a thread there answers for mutex m, unless it sleeps
+abbrev pub answers : Layout' → ℕ → Stage → Bool
+answers l m (Calling o p) = (mutex_of l o == m) && answers_at p.phase
+answers l m (AtCondition c p) = (mutex_of l (OnCondition c) == m) && wakes_next p.phase
+answers l m g = false
+
+-- one of the first n threads, but not thread t, is awake and answers for mutex m
+abbrev pub another_answers : State → ℕ → ℕ → ℕ → Bool
+another_answers s t m zero = false
+another_answers s t m (suc n) =
+    (not (suc n == t) && not (is_asleep s (suc n)) && answers s.layout m (s.threads (suc n)).stage)
+    || another_answers s t m n
+
+-- an unlock that is about to wake one sleeper
+abbrev pub wakes_one : Phase → Bool
+wakes_one (AtCell (Unlock (Wake all))) = not all
+wakes_one f = false
+
+-- ---- sleepers that go to the end
+
+-- thread t goes to the end of the queue of condition variable k
+abbrev pub reslept : State → ℕ → ℕ → After
+reslept s t k =
+    record {
+      state = record s {
+        queues = put s.queues (counter_place s.layout k) (without t (s.queues (counter_place s.layout k)) ++ t ∷ []);
+      };
+      note = Reslept t k;
+    }
+
+-- ---- accesses of walks that are made once more
+
+-- the walk is about to mark a word
+abbrev pub is_mark : walk_row.Row → Bool
+is_mark (walk.Mark at seen again part) = true
+is_mark r = false
+
+-- the next access of the walk, a load or a wake, which changes no word; and the walk stays
+abbrev pub repeated : State → ℕ → walks.Standing → After
+repeated s t w =
+    record {
+      state = record s { queues = queues_after s t (exit.access_of w) };
+      note = Walked t None (woken s t (exit.access_of w)) false;
+    }
+
 -- ---- events
 
 abbrev pub stepped : State → ℕ → ℕ → Stage → After
@@ -494,10 +598,38 @@ declined s t held (Calling o p) =
     else nothing s
 declined s t held g = nothing s
 
+-- where a call is about to wake one sleeper of its mutex, for which another thread answers, that is spared: it is
+-- answered as if one had been woken
+abbrev pub sparing : State → ℕ → ℕ → Stage → After
+sparing s t held (Calling o p) =
+    if wakes_one p.phase && another_answers s t (mutex_of s.layout o) s.layout.threads
+    then spared s t held (mutex_of s.layout o) (led o p (whole_led p (Count 1)))
+    else nothing s
+sparing s t held (AtCondition c p) =
+    if wakes_next p.phase && another_answers s t (mutex_of s.layout (OnCondition c)) s.layout.threads
+    then spared s t held (mutex_of s.layout (OnCondition c)) (led_at c p (condition.cond_led p (Count 1)))
+    else nothing s
+sparing s t held g = nothing s
+
+-- where a thread sleeps on its condition variable's counter
+abbrev pub resleeping : State → ℕ → Stage → After
+resleeping s t (Calling (OnCondition c) p) =
+    if stands_in t (s.queues (counter_place s.layout (conditions.condition_of c)))
+    then reslept s t (conditions.condition_of c)
+    else nothing s
+resleeping s t g = nothing s
+
+-- where a walk is about to load or to wake
+abbrev pub repeating : State → ℕ → Stage → After
+repeating s t (Dying w) = if is_mark w.row then nothing s else repeated s t w
+repeating s t g = nothing s
+
 -- a begin of a busy, killed or unknown thread or of a call outside the layout, a step of an idle, sleeping, reaped or
 -- unknown thread, a kill of a killed or unknown thread, a leave of a thread that doesn't sleep, a decline of one that
--- isn't about to trim, a renewal of one that wasn't reaped and a reinit by one that isn't idle, or of a mutex that is
--- usable or slept on, do nothing
+-- isn't about to trim, a renewal of one that wasn't reaped, a reinit by one that isn't idle, or of a mutex that is
+-- usable or slept on, a recount of a counter that somebody sleeps on or knows, a spare of a thread that isn't about to
+-- wake one of a mutex, or is alone to answer for it, a resleep of one that doesn't sleep on a counter, and a repeat of
+-- one whose walk isn't about to load or to wake, do nothing
 abbrev pub happens : State → Event → After
 happens s (Begin t o) = if may_begin s t o then begun s t o (first_stage s.layout t (s.threads t).held o) else nothing s
 happens s (Step t) = if has_thread s t then stepped s t (s.threads t).held (s.threads t).stage else nothing s
@@ -506,6 +638,10 @@ happens s (Leave t) = if has_thread s t && is_asleep s t then departed s t else 
 happens s (Decline t) = if has_thread s t then declined s t (s.threads t).held (s.threads t).stage else nothing s
 happens s (Renew t) = if has_thread s t && is_gone (s.threads t).stage then renewed s t else nothing s
 happens s (Reinit t m) = if may_reinit s t m then reinited s t m else nothing s
+happens s (Recount k) = if may_recount s k then recounted s k else nothing s
+happens s (Spare t) = if has_thread s t then sparing s t (s.threads t).held (s.threads t).stage else nothing s
+happens s (Resleep t) = if has_thread s t then resleeping s t (s.threads t).stage else nothing s
+happens s (Repeat t) = if has_thread s t then repeating s t (s.threads t).stage else nothing s
 
 -- ---- runs
 

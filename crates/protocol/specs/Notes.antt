@@ -10,9 +10,10 @@ use Rattle.posixmutex.specs.declared.point.Operation.TheVariants as operation
 use Rattle.posixmutex.specs.declared.point.Decision.{Decision}
 use Rattle.protocol.specs.declared.note.Note.{Note}
 use Rattle.protocol.specs.declared.note.Note.TheVariants.{Nothing, Began, Stepped, Killed}
-use Rattle.protocol.specs.declared.note.Note.TheVariants.{Walked, Left, Renewed, Reinited}
+use Rattle.protocol.specs.declared.note.Note.TheVariants.{Walked, Left, Renewed, Reinited, Recounted, Reslept}
 use Rattle.facts.specs.declared.fact.Begun.{Begun}
 use Rattle.facts.specs.declared.fact.Queue.{Queue}
+use Rattle.facts.specs.declared.fact.Queue.TheVariants.{Condition}
 use Rattle.facts.specs.declared.fact.Fact.{Fact}
 use Rattle.facts.specs.declared.fact.Fact.TheVariants.{Begin, Point, Sleep, Wake, Move}
 use Rattle.facts.specs.declared.fact.Fact.TheVariants.{Return, Kill, Death, Reap, Renew}
@@ -52,7 +53,8 @@ reap_facts t true = Reap t ∷ []
 abbrev pub reinit_of : ℕ → Begun
 reinit_of m = record { operation = operation.Reinit; mutex = m; condition = None }
 
--- what an event did, one thing after the other; a reinit is told as a call of one event
+-- what an event did, one thing after the other; a reinit is told as a call of one event, a recount as nothing, and
+-- whoever goes to the end of its queue as woken and asleep again
 abbrev pub facts_of : Note → List Fact
 facts_of Nothing = []
 facts_of (Began t c refused) = Begin t c ∷ refusal_facts t c refused
@@ -63,6 +65,8 @@ facts_of (Left t) = Wake t ∷ []
 facts_of (Renewed t) = Renew t ∷ []
 facts_of (Reinited t m) = Begin t (reinit_of m)
     ∷ Point (record { thread = t; mutex = m; operation = operation.Reinit; reply = OK }) ∷ Return t OK ∷ []
+facts_of (Recounted k) = []
+facts_of (Reslept t k) = Wake t ∷ Sleep t (Condition k) ∷ []
 facts_of (Walked t death woken reaped) = death_facts t death ++ (map Wake woken ++ reap_facts t reaped)
 
 abbrev pub line_of : ℕ → Fact → Line

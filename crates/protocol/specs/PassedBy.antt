@@ -22,6 +22,7 @@ use Rattle.facts.specs.declared.fact.Fact.TheVariants.{Begin, Point, Sleep, Wake
 use Rattle.protocol.specs.declared.event.Event.{Event}
 use Rattle.protocol.specs.declared.event.Event.TheVariants.{Step}
 use Rattle.protocol.specs.declared.note.Note.{Note}
+use Rattle.protocol.specs.declared.note.Note.TheVariants.{Reslept}
 use Rattle.protocol.specs.Notes.{facts_of, moves_to}
 use Rattle.protocol.specs.Ops.{queue_place}
 use Rattle.protocol.specs.Machine.{State, start, happens, run, notes}
@@ -60,7 +61,8 @@ IsOn k None = ⊥
 IsOn k (Some b) = b.condition ≡ Some k
 
 -- thread t released a mutex; at a later event a signal or a broadcast counted on condition variable k; and at a later
--- one t fell asleep there, and had begun no other call. So its wait was passed by
+-- one t fell asleep there, where it didn't sleep, and had begun no other call. So its wait was passed by. (Who sleeps
+-- there already, and goes to the end of the queue, had fallen asleep before)
 pub record IsPassedBy (t k : ℕ) (told : List Note) : Type 0 where
   pub before : List Note
   pub release : Note
@@ -76,7 +78,7 @@ pub record IsPassedBy (t k : ℕ) (told : List Note) : Type 0 where
   pub point : Decision
   pub counts : IsAmong (Point point) (facts_of count) × Counts point.operation point.reply
       × IsOn k (call_told point.thread (before ++ release ∷ between))
-  pub sleeps : IsAmong (Sleep t (Condition k)) (facts_of sleep)
+  pub sleeps : IsAmong (Sleep t (Condition k)) (facts_of sleep) × (sleep ≢ Reslept t k)
   pub same_call : BeginsNone t (facts_among (between ++ count ∷ later))
 
 -- ---- wakes and moves

@@ -101,15 +101,19 @@ WakesWhom s Dead b o fs = ((wakes_in fs ≡ [])
     ⊎ (m : ℕ) × (m < s.layout.mutexes) × (wakes_in fs ≡ map Wake (take 1 (sleepers s m)))) × (moves_in fs ≡ [])
 WakesWhom s w b o fs = (wakes_in fs ≡ []) × (moves_in fs ≡ [])
 
--- a leave wakes nobody but its own thread, if that sleeps, and moves nobody
+-- a leave or a resleep wakes nobody but its own thread, if that sleeps, and moves nobody
 abbrev pub WakesItself : ℕ → List Fact → Type 0
 WakesItself t fs = AreNoneOr (Wake t ∷ []) (wakes_in fs) × (moves_in fs ≡ [])
 
--- behind these events from state s on; a begin, a kill, a decline, a renewal and a reinit wake and move nobody
+-- behind these events from state s on; a repeat wakes as the walk does; a begin, a kill, a decline, a renewal, a
+-- reinit, a recount and a spare wake and move nobody
 abbrev pub WakesSo : State → List Event → Event → Type 0
 WakesSo s events (event.Step t) = WakesWhom (run s events) (last_told t (notes s events)) (call_told t (notes s events))
     (left_by t s None events) (facts_of (happens (run s events) (event.Step t)).note)
 WakesSo s events (event.Leave t) = WakesItself t (facts_of (happens (run s events) (event.Leave t)).note)
+WakesSo s events (event.Resleep t) = WakesItself t (facts_of (happens (run s events) (event.Resleep t)).note)
+WakesSo s events (event.Repeat t) =
+    WakesWhom (run s events) Dead None None (facts_of (happens (run s events) (event.Repeat t)).note)
 WakesSo s events e = (wakes_in (facts_of (happens (run s events) e).note) ≡ [])
     × (moves_in (facts_of (happens (run s events) e).note) ≡ [])
 

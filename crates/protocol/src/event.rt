@@ -1,4 +1,5 @@
-//! Events: what a schedule lets happen, one thread's begin, access, death, leave, renewal or reinit at a time.
+//! Events: what a schedule lets happen, one thread's begin, access, death, leave, renewal or reinit at a time, or what
+//! becomes of one access, sleep or counter.
 
 use condvar::Op;
 use lockword::Tid;
@@ -25,4 +26,17 @@ pub enum Event {
     /// The thread, which is in no call, makes the mutex with this number anew: it was unusable, and nobody sleeps on it
     /// (pthread_mutex_destroy(3p), pthread_mutex_init(3p)).
     Reinit(Tid, u16),
+    /// The counter of the condition variable with this number goes back to 0: nobody sleeps on it, and no call has
+    /// loaded it that is still to compare or to change it.
+    Recount(u16),
+    /// The next access of the thread's call, the wake of one sleeper of its mutex, is spared: nobody is woken, and the
+    /// thread is answered as if one had been. Another thread, which is awake, answers for the mutex: it will look at
+    /// its word, or is about to wake one itself.
+    Spare(Tid),
+    /// The thread, which sleeps on a condition variable, goes to the end of that queue: it looked by itself, or a
+    /// signal handler ran (futex(2), EINTR), and it sleeps again.
+    Resleep(Tid),
+    /// The next access of the dead thread's walk, a load or a wake, is made, and the walk stays where it stood: who
+    /// made it was killed before that was recorded, so it will be made once more.
+    Repeat(Tid),
 }

@@ -18,6 +18,9 @@ ghost use Rattle.protocol.specs.Changes.{EventsLeaveTheRest};
 ghost use Rattle.protocol.specs.Counting.{CountersCountUp};
 ghost use Rattle.protocol.specs.Releases.{WaitsReleaseConsistentMutexes};
 ghost use Rattle.protocol.specs.Reinits.{ReinitsFreeTheMutex, UnusableStays, NobodyJoinsAnUnusableMutex};
+ghost use Rattle.protocol.specs.Recounts.{RecountsAreLone};
+ghost use Rattle.protocol.specs.Spares.{SparesAreLone};
+ghost use Rattle.protocol.specs.Repeats.{ResleepsAndRepeatsAreLone};
 
 /// Whatever happens, the points are one legal history of POSIX robust mutexes, which says at each moment what every
 /// cell says.
@@ -208,4 +211,25 @@ pub fn counters_count_up()
 /// before, and the mutex was consistent. So no wait makes its mutex unusable.
 pub fn waits_release_consistent_mutexes()
     ensures { WaitsReleaseConsistentMutexes }
+{}
+
+/// Whatever happened before: the counter of a condition variable goes back to 0 exactly where nobody sleeps on it, and
+/// no call has loaded it that is still to compare it or to count; no other word changes, no queue and no thread, and
+/// nothing is told. So no wait misses a signal by it ([`nobody_is_passed_by`]).
+pub fn recounts_are_lone()
+    ensures { RecountsAreLone }
+{}
+
+/// Whatever happened before: the wake of one sleeper of a mutex, by an unlock or a wait, is spared exactly where another
+/// thread is awake that is in a lock of that mutex, or about to wake on it. Nobody is woken, no word changes, no queue
+/// and no other thread, and nothing is told; the thread goes on as one that woke a sleeper.
+pub fn spares_are_lone()
+    ensures { SparesAreLone }
+{}
+
+/// Whatever happened before: a thread that sleeps on a condition variable goes to the end of that queue, and is told as
+/// woken and asleep again; no word, no thread and no other queue changes. And a load or a wake of a dead thread's walk
+/// that will be made once more wakes whom the walk's step would, tells just that, and changes no word and no thread.
+pub fn resleeps_and_repeats_are_lone()
+    ensures { ResleepsAndRepeatsAreLone }
 {}

@@ -58,6 +58,15 @@ pub enum Note {
         thread: Tid,
         mutex: u16,
     },
+    /// The counter of a condition variable went back to 0.
+    Recounted {
+        condition: u16,
+    },
+    /// A thread that sleeps on a condition variable went to the end of that queue.
+    Reslept {
+        thread: Tid,
+        condition: u16,
+    },
 }
 
 /// The threads of a batch that are still to be told of, in their order.
@@ -242,6 +251,12 @@ impl Note {
                 };
                 Facts::of_begin(thread, call, Some(Reply::OK))
             }
+            Note::Recounted { .. } => Facts::of(None, None, None),
+            Note::Reslept { thread, condition } => Facts::of(
+                Some(Fact::Wake(thread)),
+                Some(Fact::Sleep(thread, Queue::Condition(condition))),
+                None,
+            ),
         }
     }
 }

@@ -1,0 +1,65 @@
+-- Wakes that are spared: another thread answers for the mutex, and looks at its word again by itself.
+use Rattle.std.specs.Prelude.{ℕ, ◌≡◌, ◌≢◌, ◌≤◌, true, false, List, []}
+use Rattle.lockword.specs.declared.reply.Reply.TheVariants.{OK}
+use Rattle.memorymap.specs.Layouts.{Layout', IsLayout}
+use Rattle.mutex.specs.declared.phase.Phase.TheVariants.{AtCell, Clearing}
+use Rattle.mutex.specs.declared.row.Row.TheVariants.{Unlock}
+use Rattle.mutex.specs.declared.unlock.UnlockRow.TheVariants as unlock
+use Rattle.mutex.specs.Standings.{Whole}
+use Rattle.condvar.specs.declared.call.CondCall.{CondCall}
+use Rattle.condvar.specs.declared.phase.CondPhase.TheVariants.{AtWords}
+use Rattle.condvar.specs.declared.row.CondRow.TheVariants.{Wait}
+use Rattle.condvar.specs.declared.wait.WaitRow.TheVariants as wait
+use Rattle.condvar.specs.Standings.{CondWhole}
+use Rattle.condvar.specs.Ops.{mutex_of}
+use Rattle.condvar.specs.declared.op.Op.{Op}
+use Rattle.condvar.specs.declared.op.Op.TheVariants.{OnCondition}
+use Rattle.protocol.specs.declared.event.Event.{Event}
+use Rattle.protocol.specs.declared.event.Event.TheVariants.{Spare}
+use Rattle.protocol.specs.declared.thread.Stage.{Stage}
+use Rattle.protocol.specs.declared.thread.Stage.TheVariants.{Calling, AtCondition}
+use Rattle.protocol.specs.Notes.{facts_of}
+use Rattle.protocol.specs.Machine.{State, nothing, start, happens, run, stands_in, answers}
+
+-- the next access of thread t's call wakes one that sleeps on mutex m; and where it goes on that woke one: an unlock to
+-- clear its pending entry and to return OK, a wait to sleep
+pub data WakesOneOf (s : State) (t m : ℕ) (then : Stage) : Type 0 where
+  In_unlock : (o : Op) (p : Whole) → (s.threads t).stage ≡ Calling o p → m ≡ mutex_of s.layout o
+      → p.phase ≡ AtCell (Unlock (unlock.Wake false)) → then ≡ Calling o (record p { phase = Clearing OK })
+      → WakesOneOf s t m then
+  In_wait : (c : CondCall) (p : CondWhole) (seen : ℕ) → (s.threads t).stage ≡ AtCondition c p
+      → m ≡ mutex_of s.layout (OnCondition c) → p.phase ≡ AtWords (Wait (wait.Wake seen))
+      → then ≡ AtCondition c (record p { phase = AtWords (Wait (wait.Sleep seen)) }) → WakesOneOf s t m then
+
+-- another thread, awake, answers for mutex m: in a lock of it, or the lock that ends a wait, it has still to look at
+-- the word; or in an unlock or a wait it is about to wake on it
+pub record AnotherAnswers (s : State) (t m : ℕ) : Type 0 where
+  pub other : ℕ
+  pub first : 1 ≤ other
+  pub last : other ≤ s.layout.threads
+  pub apart : other ≢ t
+  pub awake : (key : ℕ) → stands_in other (s.queues key) ≡ false
+  pub looks : answers s.layout m (s.threads other).stage ≡ true
+
+abbrev pub MaySpare : State → ℕ → Type 0
+MaySpare s t = (m : ℕ) × (then : Stage) × WakesOneOf s t m then × AnotherAnswers s t m
+
+-- thread t's wake is spared, from state s to s': no word and no queue changes, and no other thread; it goes on as
+-- behind a wake of one, and owns as many mutexes
+pub record OnlySpares (s s' : State) (t : ℕ) (then : Stage) : Type 0 where
+  pub words : (p : ℕ) → s'.words p ≡ s.words p
+  pub queues : (key : ℕ) → s'.queues key ≡ s.queues key
+  pub others : (u : ℕ) → u ≢ t → s'.threads u ≡ s.threads u
+  pub goes_on : (s'.threads t).stage ≡ then
+  pub held : (s'.threads t).held ≡ (s.threads t).held
+
+-- so it is where another answers, and nothing is told; else nothing happens
+pub record SparesSo (s : State) (t : ℕ) : Type 0 where
+  pub spared : (m : ℕ) (then : Stage) → WakesOneOf s t m then → AnotherAnswers s t m
+      → OnlySpares s (happens s (Spare t)).state t then × (facts_of (happens s (Spare t)).note ≡ [])
+  pub else_nothing : ¬ MaySpare s t → happens s (Spare t) ≡ nothing s
+
+-- whatever happened, with any values of the counters at the beginning: so does each thread
+abbrev pub SparesAreLone : Type 0
+SparesAreLone = (l : Layout') (counters : ℕ → ℕ) (events : List Event) → IsLayout l → (t : ℕ) → 1 ≤ t → t ≤ l.threads
+    → SparesSo (run (start l counters) events) t
