@@ -54,6 +54,11 @@ abbrev pub StaysIfStopped : {N : Type 0} → Running → Running → Waited N �
 StaysIfStopped r r' Stopped = r' ≡ r
 StaysIfStopped r r' x = Unit {0}
 
+-- the thread that fell asleep, and on which key
+abbrev pub IsAsleepOn : {N : Type 0} → ℕ → ℕ → Waited N → Type 0
+IsAsleepOn t k (Asleep a) = (a.thread ≡ t) × (a.key.0 ≡ k)
+IsAsleepOn t k x = Unit {0}
+
 -- how often its thread was told to stop
 abbrev pub stops_waiting : {N : Type 0} → Waited N → ℕ
 stops_waiting Stopped = 1

@@ -1,5 +1,5 @@
 //! Calls on condition variables.
-ghost use Rattle.std.specs.Prelude.{◌≡◌, ◌+◌, ◌<◌, ℕ, Ok, length};
+ghost use Rattle.std.specs.Prelude.{◌≡◌, ◌+◌, ◌<◌, ◌%◌, ℕ, IfSome, Ok, length};
 ghost use Rattle.condvar.specs.Calls.{condition_of};
 ghost use Rattle.condvar.specs.declared.call.CondCall.TheVariants.{Wait as WaitOf};
 ghost use Rattle.condvar.specs.declared.call.CondCall.TheVariants.{Signal as SignalOf, Broadcast as BroadcastOf};
@@ -15,13 +15,14 @@ ghost use Rattle.threadbench.specs.Conditions.{stops_turning, CondAnswered, Cond
 use crate::bench::Bench;
 use crate::condition_section::{move_to_in, move_within_in, wake_for_condition};
 use crate::note::ByOthers;
+use crate::numbered::Away;
 use crate::section::{Waited, wait_on_counter_in};
 use buckets::{BUCKETS, Batch};
 use condvar::CondCall;
 use lockword::Tid;
 use memorymap::{Key, bucket_of, key_of};
 use ruledwords::{CondRunning, CondTurn, Dead, Fate, Live, Outcome, Pass, either_stops};
-use std::sync::Wait;
+use std::sync::{MutexGuard, Wait};
 use stepprograms::{Access, Answer};
 
 impl Bench {
@@ -189,8 +190,8 @@ impl Bench {
         drop(bucket);
         match waited {
             Waited::Asleep(asleep) => {
-                self.sleep_through_moves(rt, running.thread(), key, cell);
-                Ok(asleep.woken_on_condition(running))
+                let away = self.sleep_through_moves(rt, running.thread(), key, cell);
+                Ok(asleep.woken_on_condition(running, &self.words, cell, away))
             }
             Waited::Awake => Ok(running.answer(Answer::Again)),
             Waited::Stopped => Err(running.die()),
@@ -228,7 +229,7 @@ impl Bench {
         let key = key_of(running.place(&self.words));
         let cell = key_of(running.target(&self.words));
         let guard = self.moves.lock(rt);
-        let moved = self.move_under_locks(rt, &mut running, key, expected, cell, moves);
+        let moved = self.move_under_locks(rt, &guard, &mut running, key, expected, cell, moves);
         drop(guard);
         match moved {
             Some(moved) => running.answer(Answer::Counts(0, moved.len() as u32)),
@@ -237,10 +238,12 @@ impl Bench {
     }
 
     /// Moves sleepers from the one key to the other, under the locks of both buckets, of which the lower number's is
-    /// taken first, so that two that move don't wait for each other.
+    /// taken first, so that two that move don't wait for each other. Whoever looks for a sleeper in one bucket after the
+    /// other holds the lock of moves.
     fn move_under_locks<R: Wait>(
         &self,
         rt: &R,
+        guard: &MutexGuard<'_, ()>,
         running: &mut CondRunning,
         key: Key,
         expected: u32,
@@ -253,6 +256,7 @@ impl Bench {
         requires to { IsCellOf self.now running.old to.0 }
         ensures { CondUnmoved self.now running.old running.new }
     {
+        let _guard = guard;
         let from = bucket_of(key, BUCKETS);
         let into = bucket_of(to, BUCKETS);
         let words = &self.words;
@@ -289,17 +293,29 @@ impl Bench {
     }
 
     /// Sleeps until the thread, which fell asleep on a counter, stands in no bucket any more.
-    fn sleep_through_moves<R: Wait>(&self, rt: &R, thread: Tid, counter: Key, cell: Key) {
+    fn sleep_through_moves<R: Wait>(&self, rt: &R, thread: Tid, counter: Key, cell: Key) -> Away
+        ensures { (result.thread ≡ thread) × (result.first ≡ counter.0 % 256) × (result.second ≡ cell.0 % 256) }
+    {
         let parker = self.parker(thread);
         for _ in rt.forever() {
             let _taken = parker.park(rt);
-            // A move goes from the counter to the cell, under both locks, and never back: whoever stands in neither,
-            // looked at in this order, was woken or killed.
-            let waits = self.bucket(counter).lock(rt).stands(thread);
-            if !waits && !self.bucket(cell).lock(rt).stands(thread) {
-                return;
+            if let Some(away) = self.left_both(rt, thread, counter, cell) {
+                return away;
             }
         }
+        unreachable!()
+    }
+
+    /// Looks whether the thread stands in the counter's bucket, and then whether it stands in the cell's. Whoever stands
+    /// in neither, looked at in this order, was woken or killed.
+    fn left_both<R: Wait>(&self, rt: &R, thread: Tid, counter: Key, cell: Key) -> Option<Away>
+        ensures { IfSome result
+            (λ a. (a.thread ≡ thread) × (a.first ≡ counter.0 % 256) × (a.second ≡ cell.0 % 256)) }
+    {
+        let held = self.bucket(counter).hold(rt);
+        let gone = held.left_by(thread);
+        drop(held);
+        self.bucket(cell).hold(rt).left_too(gone?)
     }
 
     /// The key of the cell of a condition variable's mutex.

@@ -14,7 +14,7 @@ use crate::section::remove_in;
 use buckets::BUCKETS;
 use lockword::{Reply, Tid};
 use memorymap::Layout;
-use std::sync::Wait;
+use std::sync::{MutexGuard, Wait};
 
 /// A kill that is noted: its thread was looked for in so many buckets, from the first on. The note comes before the
 /// search, so that a thread which comes to sleep in a bucket behind the search finds it there.
@@ -175,7 +175,7 @@ impl Bench {
         }
         let thread = thread_after(thread - 1);
         let moves = self.moves.lock(rt);
-        let kill = self.kill_thread(rt, thread);
+        let kill = self.kill_thread(rt, &moves, thread);
         drop(moves);
         kill.over(thread);
         Ok(())
@@ -190,11 +190,14 @@ impl Bench {
             return Err(Reply::ESRCH);
         }
         let layout = self.words.layout();
-        let killer = BenchKiller { bench: self, rt };
         let mut sweep = Sweep::begin(process);
-        let moves = self.moves.lock(rt);
+        let killer = BenchKiller {
+            bench: self,
+            rt,
+            moves: self.moves.lock(rt),
+        };
         kill_members(&killer, layout, &mut sweep);
-        drop(moves);
+        drop(killer);
         sweep.over(process, layout);
         Ok(())
     }
@@ -209,13 +212,14 @@ impl Bench {
             return Err(Reply::ESRCH);
         }
         let moves = self.moves.lock(rt);
-        let stands = self.stands(rt, thread_after(thread - 1));
+        let stands = self.stands(rt, &moves, thread_after(thread - 1));
         drop(moves);
         Ok(stands)
     }
 
-    /// Whether the thread stands in a bucket. Whoever calls it holds the lock of moves.
-    fn stands<R: Wait>(&self, rt: &R, thread: Tid) -> bool {
+    /// Whether the thread stands in a bucket. The lock of moves is held, so that nobody is moved meanwhile.
+    fn stands<R: Wait>(&self, rt: &R, moves: &MutexGuard<'_, ()>, thread: Tid) -> bool {
+        let _moves = moves;
         for place in 0..BUCKETS {
             if self.buckets[place].lock(rt).stands(thread) {
                 return true;

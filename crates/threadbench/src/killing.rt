@@ -7,7 +7,7 @@ use crate::parker::Due;
 use buckets::BUCKETS;
 use lockword::Tid;
 use memorymap::Layout;
-use std::sync::Wait;
+use std::sync::{MutexGuard, Wait};
 
 /// What kills a thread. Whoever has nothing but one kills nobody whose kill it doesn't get.
 pub(crate) trait Killer {
@@ -16,21 +16,27 @@ pub(crate) trait Killer {
         ensures { result.thread ≡ thread };
 }
 
-/// Kills threads of a bench. Whoever has one holds the bench's lock of moves.
+/// Kills threads of a bench, whose lock of moves it holds.
 pub(crate) struct BenchKiller<'a, R> {
     pub(crate) bench: &'a Bench,
     pub(crate) rt: &'a R,
+    pub(crate) moves: MutexGuard<'a, ()>,
 }
 
 impl<R> Drop for BenchKiller<'_, R> {
     fn drop(self) {
-        let Self { bench: _, rt: _ } = self;
+        let Self {
+            bench: _,
+            rt: _,
+            moves,
+        } = self;
+        drop(moves);
     }
 }
 
 impl<R: Wait> Killer for BenchKiller<'_, R> {
     fn kill(&self, thread: Tid) -> Kill {
-        self.bench.kill_thread(self.rt, thread)
+        self.bench.kill_thread(self.rt, &self.moves, thread)
     }
 }
 
@@ -52,11 +58,16 @@ pub(crate) fn kill_members<K: Killer>(killer: &K, layout: &Layout, sweep: &mut S
 }
 
 impl Bench {
-    /// Kills the thread. Whoever calls it holds the lock of moves: nobody is moved from one bucket to another while it
-    /// is looked for.
-    pub(crate) fn kill_thread<R: Wait>(&self, rt: &R, thread: Tid) -> Kill
+    /// Kills the thread. The lock of moves is held: nobody is moved from one bucket to another while it is looked for.
+    pub(crate) fn kill_thread<R: Wait>(
+        &self,
+        rt: &R,
+        moves: &MutexGuard<'_, ()>,
+        thread: Tid,
+    ) -> Kill
         ensures { result.thread ≡ thread }
     {
+        let _moves = moves;
         let mut search = Search::begin(self.note(thread).kill());
         for place in 0..BUCKETS {
             search.look(&mut self.buckets[place].hold(rt));

@@ -7,7 +7,7 @@ ghost use Rattle.threadbench.specs.Sections.{stops_unless};
 
 use crate::bench::THREADS;
 use crate::kill::thread_after;
-use crate::parker::Given;
+use crate::parker::{Drained, Given};
 use crate::room::push_in_room;
 use buckets::Bucket;
 use crossbeam_utils::CachePadded;
@@ -122,14 +122,16 @@ impl Killed {
 }
 
 impl Cleared {
-    /// The thread whose note it was lives anew.
-    pub(crate) fn begin(self, words: &Words, pass: Pass<Reaped>) -> Pass<Live>
+    /// The thread whose note it was lives anew, and has no token.
+    pub(crate) fn begin(self, drained: Drained, words: &Words, pass: Pass<Reaped>) -> Pass<Live>
         requires thread { self.thread ≡ (card pass).thread }
+        requires drained { drained.thread ≡ (card pass).thread }
         requires pass { IsGone words.now pass }
         ensures live { IsLive words.now result }
         ensures card { card result ≡ renewed (layout_of words.now) (card pass) }
     {
         let Cleared { thread: _ } = self;
+        let _drained = drained;
         pass.renew(words)
     }
 }

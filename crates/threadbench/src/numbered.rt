@@ -1,9 +1,11 @@
 //! Buckets behind their locks, each with its number.
-ghost use Rattle.std.specs.Prelude.{◌≡◌};
-ghost use Rattle.buckets.specs.Queues.{IsEmptied};
+ghost use Rattle.std.specs.Prelude.{◌≡◌, IfSome, MatchOption};
+ghost use Rattle.std.specs.Sync.Mutex.{mutex_guard_value};
+ghost use Rattle.buckets.specs.Queues.{IsEmptied, Stands, StandsNowhere};
 
 use buckets::Bucket;
 use crossbeam_utils::CachePadded;
+use lockword::Tid;
 use std::sync::{Mutex, MutexGuard, Wait};
 
 /// A futex hash bucket behind a lock of its own, and its number among all.
@@ -18,6 +20,24 @@ pub(crate) struct Numbered {
 pub(crate) struct Held<'a> {
     number: usize,
     pub(crate) bucket: MutexGuard<'a, Bucket>,
+}
+
+/// That a thread which slept stands in the bucket with this number no more, as a look under its lock told. Nothing makes
+/// one but [`Held::left_by`].
+#[derive(Drop)]
+pub(crate) struct Gone {
+    thread: Tid,
+    number: usize,
+}
+
+/// That a thread which slept stands in neither of two buckets any more, as a look at the first told, and then one at the
+/// second. (A move takes a sleeper from the first to the second, under both locks, and never back.) Nothing makes one but
+/// [`Held::left_too`].
+#[derive(Drop)]
+pub(crate) struct Away {
+    thread: Tid,
+    first: usize,
+    second: usize,
 }
 
 impl Numbered {
@@ -47,4 +67,43 @@ impl Numbered {
             bucket: self.bucket.lock(rt),
         }
     }
+}
+
+impl Held<'_> {
+    /// Looks whether the thread stands in the bucket, and tells where it doesn't.
+    pub(crate) fn left_by(&self, thread: Tid) -> Option<Gone>
+        ensures looks { MatchOption result (Stands (mutex_guard_value self.now.bucket) thread)
+            (λ g. StandsNowhere (mutex_guard_value self.now.bucket) thread) }
+        ensures whose { IfSome result (λ g. (g.thread ≡ thread) × (g.number ≡ self.now.number)) }
+    {
+        look(&self.bucket, self.number, thread)
+    }
+
+    /// The same of a thread that stands in another bucket no more, which was looked at before.
+    pub(crate) fn left_too(&self, gone: Gone) -> Option<Away>
+        ensures looks { MatchOption result (Stands (mutex_guard_value self.now.bucket) gone.thread)
+            (λ a. StandsNowhere (mutex_guard_value self.now.bucket) gone.thread) }
+        ensures whose { IfSome result
+            (λ a. (a.thread ≡ gone.thread) × (a.first ≡ gone.number) × (a.second ≡ self.now.number)) }
+    {
+        match self.left_by(gone.thread) {
+            None => None,
+            Some(too) => Some(Away {
+                thread: too.thread,
+                first: gone.number,
+                second: too.number,
+            }),
+        }
+    }
+}
+
+/// Looks whether the thread stands in the bucket with this number.
+fn look(bucket: &Bucket, number: usize, thread: Tid) -> Option<Gone>
+    ensures looks { MatchOption result (Stands bucket.now thread) (λ g. StandsNowhere bucket.now thread) }
+    ensures whose { IfSome result (λ g. (g.thread ≡ thread) × (g.number ≡ number)) }
+{
+    if bucket.stands(thread) {
+        return None;
+    }
+    Some(Gone { thread, number })
 }

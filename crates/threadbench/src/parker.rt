@@ -53,6 +53,13 @@ pub(crate) struct Given {
     thread: Tid,
 }
 
+/// That there is no token any more for a thread that was reaped, so that none of its last life ends a sleep of its next
+/// one. Nothing makes one but [`Parker::drained`].
+#[derive(Drop)]
+pub(crate) struct Drained {
+    thread: Tid,
+}
+
 /// Those of a batch who were given tokens, so many from its first on.
 #[derive(Drop)]
 pub(crate) struct Roused {
@@ -83,6 +90,13 @@ impl Token {
         self.there = true;
     }
 
+    /// Takes the token away, if there is one.
+    pub(crate) fn clear(&mut self)
+        ensures { self.new.there ≡ false }
+    {
+        self.there = false;
+    }
+
     /// Takes the token away.
     pub(crate) fn take(&mut self) -> Taken
         requires { self.old.there ≡ true }
@@ -91,6 +105,19 @@ impl Token {
     {
         self.there = false;
         Taken { left: false }
+    }
+}
+
+impl Parker {
+    /// There is no token for the thread whose parker it is.
+    pub(crate) fn drained(&self, token: MutexGuard<'_, Token>) -> Drained
+        requires { (mutex_guard_value token).there ≡ false }
+        ensures { result.thread ≡ self.now.thread }
+    {
+        drop(token);
+        Drained {
+            thread: self.thread,
+        }
     }
 }
 

@@ -1,7 +1,7 @@
 //! How a thread sleeps, and how it is woken.
 ghost use Rattle.std.specs.Prelude.{◌≡◌};
 
-use crate::parker::{Due, Given, Parker, Taken};
+use crate::parker::{Drained, Due, Given, Parker, Taken};
 use std::sync::Wait;
 
 impl Parker {
@@ -9,6 +9,15 @@ impl Parker {
     pub(crate) fn park<R: Wait>(&self, rt: &R) -> Taken {
         let mut token = self.bell.wait(rt, self.token.lock(rt));
         token.take()
+    }
+
+    /// Takes away what token there is.
+    pub(crate) fn drain<R: Wait>(&self, rt: &R) -> Drained
+        ensures { result.thread ≡ self.now.thread }
+    {
+        let mut token = self.token.lock(rt);
+        token.clear();
+        self.drained(token)
     }
 
     /// Gives the thread a token.

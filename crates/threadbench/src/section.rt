@@ -1,6 +1,6 @@
 //! What calls do under the lock of a bucket. A section that needs its call's word loads it there. Whoever has a bucket
 //! holds its lock: the bench's buckets lie in their locks.
-ghost use Rattle.std.specs.Prelude.{◌≡◌, ◌+◌, ℕ};
+ghost use Rattle.std.specs.Prelude.{◌≡◌, ◌+◌, ◌%◌, ℕ};
 ghost use Rattle.buckets.specs.Queues.{queue, IsOrderly, Removes, Takes};
 ghost use Rattle.memorymap.specs.Layouts.{cell_place};
 ghost use Rattle.stepprograms.specs.declared.access.Access.TheVariants.{Wait as AtWait, Wake as AtWake, Trim as AtTrim};
@@ -14,11 +14,13 @@ ghost use Rattle.ruledwords.specs.Deaths.{reaping_access, reaping_place};
 ghost use Rattle.ruledwords.specs.Passes.{card, layout_of};
 ghost use Rattle.ruledwords.specs.Turns.{access_in, place_at, running_call, running_pass, running_program};
 ghost use Rattle.ruledwords.specs.Turns.{IsAnswerOf, IsRunningOf, IsTurnOf, Keeps, KeepsDecided, Onward, Unmoved};
-ghost use Rattle.threadbench.specs.Conditions.{StaysCondIfStopped};
-ghost use Rattle.threadbench.specs.Sections.{FindsUnlessStopped, StaysIfStopped, TrimLeaves, TrimsNobodys};
-ghost use Rattle.threadbench.specs.Sections.{TrimsThere, Waits, WaitsUnlessStopped, WakesFirsts, stops_waiting};
+ghost use Rattle.threadbench.specs.Conditions.{IsCellOf, StaysCondIfStopped};
+ghost use Rattle.threadbench.specs.Sections.{FindsUnlessStopped, IsAsleepOn, StaysIfStopped, TrimLeaves};
+ghost use Rattle.threadbench.specs.Sections.{TrimsNobodys, TrimsThere, Waits, WaitsUnlessStopped, WakesFirsts};
+ghost use Rattle.threadbench.specs.Sections.{stops_waiting};
 
 use crate::note::{ByOthers, Killed, Spared, ask};
+use crate::numbered::{Away, Gone};
 use buckets::{Batch, Bucket};
 use lockword::Tid;
 use memorymap::Key;
@@ -37,36 +39,60 @@ fn compare_and_enqueue(bucket: &mut Bucket, thread: Tid, key: Key, seen: u64, ex
     bucket.wait_section(thread, key, seen, expected)
 }
 
-/// That a thread stands in its word's queue, and that its note, asked under the lock of that queue's bucket, told it to
-/// go on. Nothing makes one but a wait's section; a bench's calls go on by it as those that have slept.
+/// That a thread stands in the queue of its word, which has this key, and that its note, asked under the lock of that
+/// queue's bucket, told it to go on. Nothing makes one but a wait's section; a bench's calls go on by it as those that have slept.
 pub(crate) struct Asleep<N> {
     spared: Spared<N>,
+    thread: Tid,
+    key: Key,
 }
 
 impl<N> Asleep<N> {
-    /// Goes on with the call of a thread that slept and was woken.
-    pub(crate) fn woken(self, running: Running) -> Turn
-        requires { IsAnswerOf (access_in running) Woken }
+    /// Goes on with the call of a thread that slept and was woken: it stands in its word's bucket no more.
+    pub(crate) fn woken(self, running: Running, gone: Gone) -> Turn
+        requires answer { IsAnswerOf (access_in running) Woken }
+        requires gone { (gone.thread ≡ self.thread) × (gone.number ≡ self.key.0 % 256) }
         ensures turned { Onward (running_call running) Woken (running_pass running) result }
         ensures words { (w : Words) → IsRunningOf w running → IsTurnOf w result }
         ensures keeps { (w : Words) → Keeps w running result }
         ensures decided { (w : Words) → KeepsDecided w running result }
     {
-        let Asleep { spared } = self;
-        spared.spend();
+        let _gone = gone;
+        self.spend();
         running.answer(Answer::Woken)
     }
 
-    /// The same of a call on a condition variable.
-    pub(crate) fn woken_on_condition(self, running: CondRunning) -> CondTurn
-        requires { IsCondAnswerOf (cond_access_in running) Woken }
+    /// The same of a call on a condition variable, whose thread stands in the bucket of its counter no more, and in that
+    /// of its mutex's cell neither, to which a broadcast may have moved it.
+    pub(crate) fn woken_on_condition(
+        self,
+        running: CondRunning,
+        words: &Words,
+        cell: Key,
+        away: Away,
+    ) -> CondTurn
+        requires answer { IsCondAnswerOf (cond_access_in running) Woken }
+        requires cell { IsCellOf words.now running cell.0 }
+        requires away { (away.thread ≡ self.thread) × (away.first ≡ self.key.0 % 256) × (away.second ≡ cell.0 % 256) }
         ensures onward { CondOnward (cond_call running) Woken (cond_pass running) result }
         ensures words { (w : Words) → IsCondRunningOf w running → IsCondTurnOf w result }
         ensures keeps { (w : Words) → CondKeeps w running result }
     {
-        let Asleep { spared } = self;
-        spared.spend();
+        let _words = words;
+        let _cell = cell;
+        let _away = away;
+        self.spend();
         running.answer(Answer::Woken)
+    }
+
+    /// It has been shown.
+    fn spend(self) {
+        let Asleep {
+            spared,
+            thread: _,
+            key: _,
+        } = self;
+        spared.spend();
     }
 }
 
@@ -102,6 +128,7 @@ pub(crate) fn wait_in<N: ByOthers>(
         (card (running_pass running.new)).last expected result }
     ensures untrimmed { (card (running_pass running.new)).trims ≡ (card (running_pass running.old)).trims }
     ensures stays { StaysIfStopped running.old running.new result }
+    ensures asleep { IsAsleepOn (running_program running.old).thread key.0 result }
     ensures note { N.stopped note.new ≡ N.stopped note.old + stops_waiting result }
 {
     let Some(spared) = ask(note, bucket) else {
@@ -110,7 +137,11 @@ pub(crate) fn wait_in<N: ByOthers>(
     let thread = running.thread();
     let seen = running.load(words);
     if compare_and_enqueue(bucket, thread, key, seen, expected) {
-        Waited::Asleep(Asleep { spared })
+        Waited::Asleep(Asleep {
+            spared,
+            thread,
+            key,
+        })
     } else {
         spared.spend();
         Waited::Awake
@@ -136,6 +167,7 @@ pub(crate) fn wait_on_counter_in<N: ByOthers>(
         (card (cond_pass running.new)).last expected result }
     ensures untrimmed { (card (cond_pass running.new)).trims ≡ (card (cond_pass running.old)).trims }
     ensures stays { StaysCondIfStopped running.old running.new result }
+    ensures asleep { IsAsleepOn (card (cond_pass running.old)).thread key.0 result }
     ensures note { N.stopped note.new ≡ N.stopped note.old + stops_waiting result }
 {
     let Some(spared) = ask(note, bucket) else {
@@ -144,7 +176,11 @@ pub(crate) fn wait_on_counter_in<N: ByOthers>(
     let thread = running.thread();
     let seen = running.load(words);
     if compare_and_enqueue(bucket, thread, key, seen.get(), expected) {
-        Waited::Asleep(Asleep { spared })
+        Waited::Asleep(Asleep {
+            spared,
+            thread,
+            key,
+        })
     } else {
         spared.spend();
         Waited::Awake

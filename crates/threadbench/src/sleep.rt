@@ -1,5 +1,5 @@
 //! Calls that sleep, and those that wake.
-ghost use Rattle.std.specs.Prelude.{◌≡◌, ◌+◌, ◌<◌, ℕ, length};
+ghost use Rattle.std.specs.Prelude.{◌≡◌, ◌+◌, ◌<◌, ◌%◌, ℕ, length};
 ghost use Rattle.stepprograms.specs.declared.access.Access.TheVariants.{Wait as AtWait, Wake as AtWake, Trim as AtTrim};
 ghost use Rattle.ruledwords.specs.Fates.{Heeds};
 ghost use Rattle.ruledwords.specs.Outcomes.{IsOwedOf, stops_in};
@@ -10,7 +10,7 @@ ghost use Rattle.threadbench.specs.Calls.{Locked, Paid, Runs, IsHeeded, stretch_
 
 use crate::bench::Bench;
 use crate::note::{ByOthers, Note};
-use crate::numbered::Numbered;
+use crate::numbered::{Gone, Numbered};
 use crate::parker::{Due, Parker, Roused};
 use crate::section::{Waited, trim_in, wait_in, wake_in};
 use buckets::{BUCKETS, Batch};
@@ -223,8 +223,8 @@ impl Bench {
         drop(bucket);
         match waited {
             Waited::Asleep(asleep) => {
-                self.sleep(rt, running.thread(), key);
-                onward(asleep.woken(running))
+                let gone = self.sleep(rt, running.thread(), key);
+                onward(asleep.woken(running, gone))
             }
             Waited::Awake => onward(running.answer(Answer::Again)),
             Waited::Stopped => Stretch::Dead(running.die()),
@@ -276,18 +276,24 @@ impl Bench {
     }
 
     /// Sleeps until the thread stands no more in the bucket of the key on which it fell asleep.
-    fn sleep<R: Wait>(&self, rt: &R, thread: Tid, key: Key) {
+    fn sleep<R: Wait>(&self, rt: &R, thread: Tid, key: Key) -> Gone
+        ensures { (result.thread ≡ thread) × (result.number ≡ key.0 % 256) }
+    {
         let parker = self.parker(thread);
         for _ in rt.forever() {
             let _taken = parker.park(rt);
-            if !self.bucket(key).lock(rt).stands(thread) {
-                return;
+            let held = self.bucket(key).hold(rt);
+            if let Some(gone) = held.left_by(thread) {
+                return gone;
             }
         }
+        unreachable!()
     }
 
     /// The bucket in which those stand who sleep on the key.
-    pub(crate) fn bucket(&self, key: Key) -> &Numbered {
+    pub(crate) fn bucket(&self, key: Key) -> &Numbered
+        ensures { result.now.number ≡ key.0 % 256 }
+    {
         &self.buckets[bucket_of(key, BUCKETS)]
     }
 
