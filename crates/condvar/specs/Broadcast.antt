@@ -8,6 +8,14 @@
 -- | Move        | move all sleepers of the counter to the cell, waking none | returns OK, also where the counter has changed
 -- |             | of them, where the counter's low half is one more than it |
 -- |             | was                                                       |
+--
+-- Why SetWaiters comes before Move, drawn in the wrong order:
+--
+--     t1 owns m, and broadcasts                   the walk for t1
+--     Move        t2, which waited, sleeps on m
+--     is killed
+--                                                 Mark     m is nobody's; WAITERS isn't set, so nobody is woken
+--                                                 t2 sleeps on a mutex that nobody owns
 use Rattle.std.specs.Prelude.{ℕ, ◌==◌, ◌+◌, ◌%◌, ◌^◌, not, if◌then◌else◌}
 use Rattle.lockword.specs.Cells.{Fields, fields_of}
 use Rattle.lockword.specs.declared.reply.Reply.TheVariants.{OK, EPERM, XFULL}

@@ -18,6 +18,14 @@
 -- 2^64. This project's own, of which nothing is claimed of a kernel: the end at a fault, the pending entry included;
 -- the word left alone after a second exchange; the wake for an unowned pending word; and that the bits above the low
 -- half stay.
+--
+-- Why an entry's next one is loaded before its mutex's word is marked, drawn in the wrong order:
+--
+--     the walk for t1, at mutex m                 t2 locks m
+--     Mark      m is nobody's, its owner died
+--                                                 Take     m is t2's
+--                                                 Linking  m's next entry is the first of t2's list
+--     LoadNext  goes on along t2's list, and the mutexes behind m that t1 owned stay its own
 use Rattle.std.specs.Prelude.{ℕ, ◌≡◌, ◌+◌, ◌==◌, ◌≤◌, ◌<◌, ◌&&◌, ◌||◌, Bool}
 use Rattle.std.specs.Prelude.{true, false, Option, Some, None, if◌then◌else◌}
 use Rattle.posixmutex.specs.Objects.{held_limit}

@@ -1,2 +1,3 @@
 pub mod Processes
 pub mod Mappings
+pub mod Entries

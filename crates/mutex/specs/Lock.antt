@@ -9,6 +9,19 @@
 --
 -- Decide: unusable is ENOTRECOVERABLE, then WakeAll where WAITERS is set; the thread's own is EDEADLK; unowned is Take;
 -- another's is Sleep where WAITERS is set, and else SetWaiters.
+--
+-- Why no wake is lost (as kernel/futex/futex.h of Linux draws it of its own waiters): time runs down, t2 owns the mutex.
+--
+--     t1 locks                                    t2 unlocks
+--     Load        sees t2
+--     SetWaiters  t2 becomes t2 with WAITERS
+--                                                 Release  leaves WAITERS alone, and saw that it was set
+--                                                 Wake     wakes nobody, as nobody sleeps
+--     Sleep       the word isn't t2 with WAITERS
+--                 any more: back to Load
+--
+-- If Sleep comes before Release, t1 stands in the queue when t2 comes to Wake, which finds it there: that a word is compared
+-- and its thread enqueued is one section, under the lock under which a wake looks.
 use Rattle.std.specs.Prelude.{ℕ, ◌==◌, if◌then◌else◌}
 use Rattle.lockword.specs.Cells.{Fields, word_of, low_of, fields_of, taken, waiting}
 use Rattle.lockword.specs.declared.reply.Reply.TheVariants.{EDEADLK, ENOTRECOVERABLE}

@@ -7,6 +7,17 @@
 -- | Wake      | wake one sleeper, or all of an unusable one | returns OK; but where it was to wake one, and nobody slept, Trim
 -- | Trim      | clear WAITERS, where that is all that the   | returns OK, whatever the answer
 -- |           | cell says and nobody sleeps on it           |
+--
+-- Why the entry is out of the list before Release (`Whole.antt`: Announcing, Unlinking, AtCell), drawn in the wrong order:
+--
+--     t1 unlocks m                                t2 locks m
+--     Release    m is nobody's
+--                                                 Take     m is t2's
+--                                                 Linking  m's links lead along t2's list
+--     Unlinking  stores what t1 knew of m's
+--                neighbours: t2's list is broken, and a walk for t2 misses mutexes that it owns
+--
+-- Between Unlinking and Release m is in no list, so it is pending: a walk for t1 finds it there.
 use Rattle.std.specs.Prelude.{ℕ, ◌+◌, ◌==◌, ◌&&◌, Bool, not, if◌then◌else◌}
 use Rattle.lockword.specs.Cells.{Fields, fields_of}
 use Rattle.lockword.specs.declared.reply.Reply.TheVariants.{OK, EPERM}

@@ -29,7 +29,8 @@ use Rattle.protocol.proofs.Puts.{put-same, put-other}
 use Rattle.protocol.proofs.Phases.{left_at, Moves, after_decided, after_answers, after_left, after_steady}
 use Rattle.protocol.proofs.Seeing.{head_in, entry_in, cell_in, cell_again}
 use Rattle.protocol.proofs.Kept.{AtRow, Fits, Serves, Sits, left_out_in, Owned, ChainedIn, Listed, pending_in, PendsAs, Kept, last_thread, view_of}
-use Rattle.protocol.proofs.Places.{mine_is_no_cell, head_is_no_cell, list_links, links_mine, both_same, lies_apart}
+use Rattle.protocol.proofs.Places.{mine_is_no_cell, head_is_no_cell, list_links, links_mine}
+use Rattle.mutex.proofs.OwnPlaces.{both_same, lies_apart}
 use Rattle.protocol.proofs.Steps.{is_valid-cell, seen-inside, Tells, run_tells, same_operation, not_taken, same_held, onto, thread_after, after, call_step}
 use Rattle.protocol.proofs.Owning.{Owning, owning, pends, takes, frees, keeps}
 use Rattle.protocol.proofs.Frames.{OnlyWaitsFrom, kept_where}

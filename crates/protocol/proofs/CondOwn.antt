@@ -10,13 +10,15 @@ use Rattle.condvar.specs.Whole.{phase_led, unlinked_at}
 use Rattle.protocol.proofs.Puts.{put-same, put-other}
 use Rattle.protocol.proofs.Phases.{IsPlain, plain_answer, few_of_unlink}
 use Rattle.protocol.proofs.Kept.{Needs, FitsAt, Sits, Owned, Listed, PendsAs, Kept}
-use Rattle.protocol.proofs.Places.{IsMine, both_same, links_not_pending, list_links}
+use Rattle.protocol.proofs.Places.{IsMine, links_not_pending, list_links}
+use Rattle.mutex.proofs.OwnPlaces.{both_same}
 use Rattle.protocol.proofs.Steps.{Transition, seen-inside, after, place_of, cond_onto, cond_step, its_mutex, thread_after}
 use Rattle.protocol.proofs.Stepping.{left_of, Stepping}
 use Rattle.protocol.proofs.CondSteps.{cond_of, fit_at}
 use Rattle.protocol.proofs.OwnWords.{own_cell, own_owned, own_stepping}
 use Rattle.protocol.proofs.Leaving as leaving
-use Rattle.protocol.proofs.Seeing.{entry_in, head_in, head_word_again, words_in}
+use Rattle.protocol.proofs.Seeing.{entry_in, head_in, words_in}
+use Rattle.mutex.proofs.Addresses.{head_word_again}
 
 -- ---- a wait that is about to release its mutex
 module _ (s : State) (t : ℕ) (c : CondCall) (inv : Kept s) (pos : 1 ≤ t) (known : t ≤ s.layout.threads) where

@@ -12,7 +12,8 @@ use Rattle.condvar.specs.Programs.{row_access, resume_of, point_of}
 use Rattle.condvar.specs.Whole.{begins}
 use Rattle.protocol.proofs.Puts.{put-same, put-other}
 use Rattle.protocol.proofs.Kept.{Needs, Room, AtWordsRow, AtPhase, FitsAt, Sits, left_out_at, Owned, Listed, PendsAs, Kept, last_thread}
-use Rattle.protocol.proofs.Places.{mine_is_no_cell, mine_is_no_counter, head_is_no_cell, head_is_no_counter, counter_is_no_cell, counter_is_valid, both_same}
+use Rattle.protocol.proofs.Places.{mine_is_no_cell, mine_is_no_counter, head_is_no_cell, head_is_no_counter, counter_is_no_cell, counter_is_valid}
+use Rattle.mutex.proofs.OwnPlaces.{both_same}
 use Rattle.protocol.proofs.Places.{links_mine, list_links}
 use Rattle.protocol.proofs.Steps.{is_valid-cell, seen-inside, Tells, Transition, met_no_move, thread_after, after, cond_onto, cond_step, untrimmed, cell_at, counter_at}
 use Rattle.protocol.proofs.Frames.{OnlyWaitsFrom, kept_where}

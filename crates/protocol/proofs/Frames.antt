@@ -18,7 +18,8 @@ use Rattle.protocol.proofs.Counts.{held_by-changed, held_by-owns}
 use Rattle.protocol.proofs.Seeing.{head_in, entry_in, entry_again}
 use Rattle.protocol.proofs.Kept.{InPhase, Fits, AtPhase, FitsAt, ChainedAt, Sits, Owned, ChainedIn, Chained, left_out, Walks, Treats, LeftToWalk, Listed, PendsAs, HasHead, Kept}
 use Rattle.protocol.proofs.Kept.{view_of}
-use Rattle.protocol.proofs.Places.{IsMine, Links, list_links, more_links, links_mine, treated_at, both_same}
+use Rattle.protocol.proofs.Places.{IsMine, Links, list_links, more_links, links_mine, treated_at}
+use Rattle.mutex.proofs.OwnPlaces.{both_same}
 use Rattle.protocol.proofs.Steps.{Tells, unmoved, seen-inside, done}
 use Rattle.protocol.proofs.Cases.{by_same, at_or_else}
 use Rattle.protocol.proofs.WalksLeft.{left_to_walk_carries}

@@ -6,9 +6,11 @@ use Rattle.memorymap.specs.Chains.{without}
 use Rattle.robustlist.specs.UnlinkLaws.{Unlinking, unlink_left}
 use Rattle.robustlist.proofs.Unlinks as unlinks
 use Rattle.protocol.proofs.Phases.{IsPlain, unlink_plain}
-use Rattle.protocol.proofs.Seeing.{head_in, entry_in, same_entry}
+use Rattle.protocol.proofs.Seeing.{head_in, entry_in}
+use Rattle.mutex.proofs.Addresses.{same_entry}
 use Rattle.protocol.proofs.Kept.{Owned, Kept, view_of}
-use Rattle.protocol.proofs.Places.{IsMine, Links, list_links, links_mine, among_without, without_is_apart}
+use Rattle.protocol.proofs.Places.{IsMine, Links, list_links, links_mine}
+use Rattle.mutex.proofs.OwnPlaces.{among_without, without_is_apart}
 use Rattle.protocol.proofs.Steps.{done}
 use Rattle.protocol.proofs.OwnWords.{own_makes, own_pending}
 use Rattle.protocol.proofs.Cases.{some_same}

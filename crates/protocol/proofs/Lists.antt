@@ -4,6 +4,7 @@ use Rattle.protocol.proofs.Vocabulary.{CondPhase, Object, AreDifferent, Layout',
 use Rattle.protocol.proofs.Vocabulary.{mutex_of, Stage, Idle, Calling, AtCondition, Dying, Reaped, State, is_alive, seen, OnCondition, UnlinkRow, LinkGoes, LinkRow, IsLayout}
 use Rattle.protocol.proofs.Vocabulary.{entries-different, without-among, if◌then◌else◌, WaitRow, CondRow}
 use Rattle.memorymap.specs.Chains.{IsAmong, IsApart, IsChain, without}
+use Rattle.memorymap.proofs.Entries.{length_without, different_without, is_there}
 use Rattle.robustlist.specs.LinkLaws as link_laws
 use Rattle.robustlist.specs.UnlinkLaws as unlink_laws
 use Rattle.mutex.specs.declared.unlock.UnlockRow.TheVariants.{Wake, Trim}
@@ -12,38 +13,14 @@ use Rattle.mutex.specs.declared.phase.Phase.TheVariants.{Announcing, Unlinking, 
 use Rattle.protocol.specs.Lists.{HasList}
 use Rattle.protocol.proofs.Objects.{one, one-own}
 use Rattle.protocol.proofs.Kept.{left_out_at, ChainedAt, pending_at, InPhase, left_out_in, Owned, ChainedIn, Listed, pending_in, PendsAs, LeftFrom, Kept, view_of}
-use Rattle.protocol.proofs.Places.{among_without, without_is_apart}
+use Rattle.mutex.proofs.OwnPlaces.{among_without, without_is_apart}
 use Rattle.protocol.proofs.Accesses.{fits_in}
 use Rattle.protocol.proofs.CondAccesses.{fits_at}
 use Rattle.protocol.proofs.Cases.{by_same, some_same}
-use Rattle.protocol.proofs.Seeing.{head_in, entry_in, same_entry, head_again}
+use Rattle.protocol.proofs.Seeing.{head_in, entry_in, head_again}
+use Rattle.mutex.proofs.Addresses.{same_entry}
 
 -- ---- a list is no longer than its thread owns mutexes
-
-length_without : (e : ℕ) (es : List ℕ) → IsAmong e es → length es ≡ suc (length (without e es))
-length_without e [] among = absurd among
-length_without e (x ∷ xs) among = grind (arith, length_without e xs)
-
-different_without : (e : ℕ) (es : List ℕ) → AreDifferent es → AreDifferent (without e es)
-different_without e [] different = tt
-different_without e (x ∷ xs) different = go (different_without e xs different.1) (x == e)
-  where
-    apart : (ys : List ℕ) → IsApart x ys → IsApart x (without e ys)
-    apart [] a = tt
-    apart (y ∷ ys) a = pick (apart ys a.1) (y == e)
-      where
-        pick : IsApart x (without e ys) → (b : Bool) → IsApart x (if b then ys else y ∷ without e ys)
-        pick rest true = a.1
-        pick rest false = (a.0, rest)
-
-    go : AreDifferent (without e xs) → (b : Bool) → AreDifferent (if b then xs else x ∷ without e xs)
-    go rest true = different.1
-    go rest false = (apart xs different.0, rest)
-
--- it is there, or it isn't
-is_there : (e : ℕ) (es : List ℕ) → IsAmong e es ⊎ (IsAmong e es → ⊥)
-is_there e [] = inr (λ among. among)
-is_there e (x ∷ xs) = grind (arith, is_there e xs)
 
 module _ (l : Layout') (t : ℕ) (is : IsLayout l) (pos : 1 ≤ t) (known : t ≤ l.threads) (f : ℕ → Object) where
   pub no_longer : (n : ℕ) (es : List ℕ) → n ≤ l.mutexes → AreDifferent es → ((e : ℕ) → IsAmong e es → (k : ℕ) × (k < n) × (e ≡ entry_in l t k) × ((f k).owner ≡ Some t)) → length es ≤ held_by t f n

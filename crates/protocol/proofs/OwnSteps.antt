@@ -15,14 +15,16 @@ use Rattle.mutex.specs.Whole.{phase_led, announced, linked_at, unlinked_at}
 use Rattle.protocol.proofs.Puts.{put-same, put-other}
 use Rattle.protocol.proofs.Phases.{decided_at, left_at, SteadyAt, Moves, IsPlain, IsOwn, plain_answer, plain_awake, own_pointless, own_silent, joins_same, link_plain, plain_no_move}
 use Rattle.protocol.proofs.Kept.{AtRow, Fits, Serves, left_out_in, Owned, ChainedIn, Listed, IsAnnounced, pending_in, PendsAs, Kept}
-use Rattle.protocol.proofs.Places.{IsMine, mine_is_valid, both_same, Links, links_mine, links_not_pending, list_links, more_links}
+use Rattle.protocol.proofs.Places.{IsMine, mine_is_valid, Links, links_mine, links_not_pending, list_links, more_links}
+use Rattle.mutex.proofs.OwnPlaces.{both_same}
 use Rattle.protocol.proofs.Steps.{Transition, onto, thread_after, after, place_of, met, met_queue, call_step, done}
 use Rattle.protocol.proofs.Arrivals.{Arrives, sits_after, listed_after, pending_then}
 use Rattle.protocol.proofs.CallSteps.{CallStep}
 use Rattle.protocol.proofs.OwnWords.{own_cells, own_seen, own_tells, own_owned, own_counter, own_pendings, own_kept, own_makes, own_pending}
 use Rattle.protocol.proofs.Leaving as leaving
 use Rattle.robustlist.specs.Words.{IsOn}
-use Rattle.protocol.proofs.Seeing.{head_in, words_in, head_word_again}
+use Rattle.protocol.proofs.Seeing.{head_in, words_in}
+use Rattle.mutex.proofs.Addresses.{head_word_again}
 
 -- what is left to show of an access of its own words that leads to a phase
 record Lands (s : State) (t : ℕ) (c : Op) (p : Whole) (f : Phase) : Type 0 where

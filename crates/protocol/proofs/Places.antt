@@ -5,7 +5,8 @@ use Rattle.protocol.proofs.Vocabulary.{place_in, Agree, if◌then◌else◌, eqb
 use Rattle.memorymap.specs.Chains.{previous_place, IsAmong, IsApart, places_of, without}
 use Rattle.robustlist.specs.Words.{IsOn}
 use Rattle.robustlist.specs.LinkLaws as link_laws
-use Rattle.protocol.proofs.Seeing.{head_in, entry_in, again, same_place, further_on, cell_again}
+use Rattle.protocol.proofs.Seeing.{head_in, entry_in, cell_again}
+use Rattle.mutex.proofs.Addresses.{again, same_place, further_on}
 use Rattle.protocol.proofs.Kept.{Owned, Treats}
 
 -- the word is thread t's own: its head's first entry or pending one, or a link of a mutex that it owns
@@ -88,58 +89,6 @@ links_apart s t a b x y apart e = apart (x.from ∙ ap (address_in s.layout t) (
 -- the place of a mutex that is treated
 pub treated_at : (s : State) (t : ℕ) → IsLayout s.layout → 1 ≤ t → t ≤ s.layout.threads → (at k : ℕ) → Treats s t at k → place_in s.layout t at ≡ cell_place s.layout k
 treated_at s t is pos known at k treats = ap (place_in s.layout t) treats.1 ∙ cell_again s.layout t is pos known k treats.0
-
--- words that agree at a list's places have the same list
-pub both_same : (v w : ℕ → ℕ) (h : ℕ) (es : List ℕ) → Agree h es v w → IsChainBothWays v h es → IsChainBothWays w h es
-both_same v w h es agree c = both-ways w h es c.places (chain-same v w h h es (agree h (inl refl)) (λ e among. (agree e (inr (e, among, inl refl)), agree (previous_place e) (inr (e, among, inr refl)))) (chained v h es c))
-
--- an entry of a mutex lies apart from a thread's list that has only entries of others
-module _ (l : Layout') (t m : ℕ) (es : List ℕ) (is : IsLayout l) (pos : 1 ≤ t) (known : t ≤ l.threads) (inside : m < l.mutexes) (each : (x : ℕ) → IsAmong x es → (k : ℕ) × (k < l.mutexes) × (x ≡ entry_in l t k) × (k ≢ m)) where
-  abbrev At : ℕ → ℕ → Type 0
-  At a p = (a ≡ address_in l t p) × (p < words_of l)
-
-  differ : (a b p q : ℕ) → At a p → At b q → p ≢ q → a ≢ b
-  differ a b p q x y apart e = apart (same_place l t is pos known p q x.1 y.1 (sym x.0 ∙ e ∙ y.0))
-
-  further_at : (p k : ℕ) → p + k < words_of l → At (address_sum (address_in l t p) k) (p + k)
-  further_at p k within = (further_on l t is pos known p k within, within)
-
-  apart_from : (i a : ℕ) → i < 2 → At a (entry_place l m + i) → IsApart a (places_of (head_in l t) es)
-  apart_from i a few at = (
-    differ a (head_in l t) (entry_place l m + i) (head_place t) at (refl, omega arith) (λ e. omega (arith, e)),
-    (
-      differ a (address_sum (head_in l t) 1) (entry_place l m + i) (head_place t + 1) at (further_at (head_place t) 1 (omega arith)) (λ e. omega (arith, e)),
-      (
-        differ a (address_sum (head_in l t) 2) (entry_place l m + i) (head_place t + 2) at (further_at (head_place t) 2 (omega arith)) (λ e. omega (arith, e)),
-        avoids-all a es (λ x among.
-            let e = each x among in
-            let below = e.1 in (
-              differ a x (entry_place l m + i) (entry_place l e.0) at (e.2, omega (arith, below)) (λ same. e.3 (omega (arith, same))),
-              differ a (previous_place x) (entry_place l m + i) (entry_place l e.0 + 1) at (ap previous_place e.2 ∙ (further_at (entry_place l e.0) 1 (omega (arith, below))).0, omega (arith, below)) (λ same. e.3 (omega (arith, same))),
-            )),
-      ),
-    ),
-  )
-
-  pub lies_apart : link_laws.LiesApart (head_in l t) (entry_in l t m) es
-  lies_apart = (apart_from 0 (entry_in l t m) (omega arith) (ap (address_in l t) (omega arith), omega arith), apart_from 1 (previous_place (entry_in l t m)) (omega arith) (further_at (entry_place l m) 1 (omega arith)))
-
--- lists without an entry
-pub among_without : (e x : ℕ) (es : List ℕ) → IsAmong x es → x ≢ e → IsAmong x (without e es)
-among_without e x [] among apart = absurd among
-among_without e x (y ∷ ys) among apart = go (λ later. among_without e x ys later apart) (y == e) refl among
-  where
-    go : (IsAmong x ys → IsAmong x (without e ys)) → (b : Bool) → (y == e) ≡ b → (x ≡ y) ⊎ IsAmong x ys → IsAmong x (if b then ys else y ∷ without e ys)
-    go rest b is h = grind (arith)
-
-pub without_is_apart : (e x : ℕ) (es : List ℕ) → AreDifferent es → IsAmong x (without e es) → x ≢ e
-without_is_apart e x [] different among = absurd among
-without_is_apart e x (y ∷ ys) different among = go (without_is_apart e x ys different.1) (y == e) refl among
-  where
-    go : (IsAmong x (without e ys) → x ≢ e) → (b : Bool) → (y == e) ≡ b → IsAmong x (if b then ys else y ∷ without e ys) → x ≢ e
-    go rest true is later = λ same. apart-among y x ys different.0 later (sym (same ∙ sym (eqb-true y e is)))
-    go rest false is (inl here) = λ same. eqb-false y e is (sym here ∙ same)
-    go rest false is (inr later) = rest later
 
 -- no access to a thread's own words, nor to a cell, is at an offset's place
 pub offset_is_nobodys : (s : State) (t u at : ℕ) → 1 ≤ t → t ≤ s.layout.threads → 1 ≤ u → u ≤ s.layout.threads → IsMine s t at → head_place u + 1 ≢ at

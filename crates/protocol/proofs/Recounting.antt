@@ -10,7 +10,8 @@ use Rattle.protocol.proofs.Puts.{put-same, put-other}
 use Rattle.protocol.proofs.Counts.{held_by-same}
 use Rattle.protocol.proofs.Seeing.{head_in, entry_in, entry_again}
 use Rattle.protocol.proofs.Kept.{InPhase, Fits, AtPhase, FitsAt, ChainedAt, Sits, Owned, ChainedIn, Chained, left_out, Listed, PendsAs, Kept, view_of}
-use Rattle.protocol.proofs.Places.{IsMine, Links, list_links, more_links, links_mine, treated_at, both_same, mine_is_no_counter, head_is_no_counter, counter_is_no_cell}
+use Rattle.protocol.proofs.Places.{IsMine, Links, list_links, more_links, links_mine, treated_at, mine_is_no_counter, head_is_no_counter, counter_is_no_cell}
+use Rattle.mutex.proofs.OwnPlaces.{both_same}
 use Rattle.protocol.proofs.Frames.{knows_at}
 use Rattle.protocol.proofs.WalksLeft.{left_to_walk_carries}
 use Rattle.protocol.proofs.WalkStepping.{same_answers}

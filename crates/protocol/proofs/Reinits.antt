@@ -6,7 +6,8 @@ use mathlib.Core.Path.{fun_ext}
 use Rattle.protocol.proofs.Puts.{by_put, put-same, put-other}
 use Rattle.protocol.proofs.Seeing.{cell_in, head_in, cell_again}
 use Rattle.protocol.proofs.Kept.{Listed, PendsAs, Kept, view_of}
-use Rattle.protocol.proofs.Places.{mine_is_no_cell, head_is_no_cell, counter_is_no_cell, list_links, links_mine, both_same}
+use Rattle.protocol.proofs.Places.{mine_is_no_cell, head_is_no_cell, counter_is_no_cell, list_links, links_mine}
+use Rattle.mutex.proofs.OwnPlaces.{both_same}
 use Rattle.protocol.proofs.Steps.{seen-inside, done}
 use Rattle.protocol.proofs.Frames.{kept_where}
 use Rattle.protocol.proofs.Stepping.{HasWaiters}

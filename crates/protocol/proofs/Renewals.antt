@@ -9,7 +9,8 @@ use Rattle.protocol.specs.Machine.{idle, is_in_head, renewed}
 use Rattle.protocol.specs.Applies.{IsInNoQueue}
 use Rattle.protocol.proofs.Puts.{by_put, put-same, put-other}
 use Rattle.protocol.proofs.Objects.{one}
-use Rattle.protocol.proofs.Seeing.{head_in, words_in, head_again, again}
+use Rattle.protocol.proofs.Seeing.{head_in, words_in, head_again}
+use Rattle.mutex.proofs.Addresses.{again}
 use Rattle.protocol.proofs.Kept.{Listed, Kept}
 use Rattle.protocol.proofs.Steps.{Transition, after}
 use Rattle.protocol.proofs.Stepping.{SleepsAs, AnswersAs}

@@ -1,10 +1,9 @@
 -- What a thread's process sees: the addresses there of a layout's words, and the places that addresses are of.
-use Rattle.std.proofs.Common.{◌≡◌, ◌≢◌, ℕ, ◌+◌, ◌-◌, ◌<◌, ◌≤◌, length, sym, ap, ◌∙◌, arith}
-use Rattle.std.proofs.lemmas.List.Elements.{All-get_or}
-use Rattle.std.specs.Prelude.{slice_index}
+use Rattle.std.proofs.Common.{◌≡◌, ◌≢◌, ℕ, ◌<◌, ◌≤◌, length, arith}
 use Rattle.memorymap.specs.Addresses.{words_from}
 use Rattle.memorymap.specs.Chains.{address_sum}
 use Rattle.memorymap.specs.Layouts.{Layout', IsLayout, head_place, entry_place, cell_place, counter_place, words_of, base_of, address_in, place_in}
+use Rattle.mutex.proofs.Addresses.{few_words, low, again}
 
 -- the addresses of its head, of mutex k's entry and cell, and of counter k, in thread t's process
 abbrev pub head_in : Layout' → ℕ → ℕ
@@ -24,53 +23,22 @@ abbrev pub words_in : Layout' → ℕ → (ℕ → ℕ) → ℕ → ℕ
 words_in l t words = words_from (base_of l t) words
 
 module _ (l : Layout') (t : ℕ) (is : IsLayout l) (pos : 1 ≤ t) (known : t ≤ l.threads) where
-  -- the words are few, and mapped low: so no address wraps
-  pub few_words : words_of l ≤ 12737
-  few_words = let threads = is.threads.1 in let mutexes = is.mutexes.1 in let conditions = is.conditions.0 in omega arith
-
-  pub low : base_of l t ≤ 1000000000
-  low =
-      All-get_or (λ (b : ℕ). b ≤ 1000000000) l.bases (slice_index l.processes (t - 1)) 0
-      (All-get_or (λ (p : ℕ). p < length l.bases) l.processes (t - 1) 0 (let each = is.each in omega arith) is.members) is.bases
-
-  -- the place of an address
-  pub again : (p : ℕ) → p < words_of l → place_in l t (address_in l t p) ≡ p
-  again p inside = let few = few_words in let base = low in omega (arith, inside)
-
-  -- each place has an address of its own
-  pub same_place : (p q : ℕ) → p < words_of l → q < words_of l → address_in l t p ≡ address_in l t q → p ≡ q
-  same_place p q inside below e = sym (again p inside) ∙ ap (place_in l t) e ∙ again q below
-
-  pub same_entry : (k j : ℕ) → k < l.mutexes → j < l.mutexes → entry_in l t k ≡ entry_in l t j → k ≡ j
-  same_entry k j inside below e = let place = same_place (entry_place l k) (entry_place l j) (omega arith) (omega arith) e in omega (arith, place)
-
-  -- so many words further on
-  pub further_on : (p k : ℕ) → p + k < words_of l → address_sum (address_in l t p) k ≡ address_in l t (p + k)
-  further_on p k inside = let few = few_words in let base = low in omega (arith, inside)
-
   -- no word is at 0
   pub not_null : (p : ℕ) → 1 ≤ p → p < words_of l → address_in l t p ≢ 0
-  not_null p first inside e = let few = few_words in let base = low in omega (arith, inside, e)
+  not_null p first inside e = let few = few_words l t is pos known in let base = low l t is pos known in omega (arith, inside, e)
 
   -- an entry's cell, by the offset
   pub cell_before : (k : ℕ) → k < l.mutexes → address_sum (entry_in l t k) 18446744073709551615 ≡ cell_in l t k
-  cell_before k inside = let few = few_words in let base = low in omega (arith, inside)
+  cell_before k inside = let few = few_words l t is pos known in let base = low l t is pos known in omega (arith, inside)
 
   pub head_again : place_in l t (head_in l t) ≡ head_place t
-  head_again = again (head_place t) (omega arith)
+  head_again = again l t is pos known (head_place t) (omega arith)
 
   pub cell_again : (k : ℕ) → k < l.mutexes → place_in l t (cell_in l t k) ≡ cell_place l k
-  cell_again k inside = again (cell_place l k) (omega arith)
+  cell_again k inside = again l t is pos known (cell_place l k) (omega arith)
 
   pub entry_again : (k : ℕ) → k < l.mutexes → place_in l t (entry_in l t k) ≡ entry_place l k
-  entry_again k inside = again (entry_place l k) (omega arith)
+  entry_again k inside = again l t is pos known (entry_place l k) (omega arith)
 
   pub counter_again : (k : ℕ) → k < length l.conditions → place_in l t (counter_in l t k) ≡ counter_place l k
-  counter_again k there = again (counter_place l k) (omega arith)
-
-  -- a head's further words
-  pub head_further : (k : ℕ) → k < 3 → address_sum (head_in l t) k ≡ address_in l t (head_place t + k)
-  head_further k few = further_on (head_place t) k (omega arith)
-
-  pub head_word_again : (k : ℕ) → k < 3 → place_in l t (address_sum (head_in l t) k) ≡ head_place t + k
-  head_word_again k few = ap (place_in l t) (head_further k few) ∙ again (head_place t + k) (omega arith)
+  counter_again k there = again l t is pos known (counter_place l k) (omega arith)

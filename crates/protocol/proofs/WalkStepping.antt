@@ -16,7 +16,8 @@ use Rattle.protocol.proofs.Steps.{Tells, Transition, met_no_move, met, seen-insi
 use Rattle.protocol.proofs.WalkSteps.{walk_of, or_first, by_walked, walk_access, walk_answer, row_then, death_then, walk_no_move, walk_transition, walk_after, DeathTells, WalkStep, walk_step, walk_word}
 use Rattle.protocol.proofs.Stepping.{Minds, AnswersAs, left_of, HasWaiters, Moves_none, Continues, Settles, Wakes_there, Answers_now, Found_free, Stepping}
 use Rattle.protocol.proofs.Cases.{by_same}
-use Rattle.protocol.proofs.Seeing.{head_in, entry_in, cell_in, words_in, not_null, cell_before, head_word_again}
+use Rattle.protocol.proofs.Seeing.{head_in, entry_in, cell_in, words_in, not_null, cell_before}
+use Rattle.mutex.proofs.Addresses.{head_word_again}
 use Rattle.protocol.proofs.CallSteps.{free_field}
 
 -- it wakes one that sleeps on mutex m

@@ -23,7 +23,8 @@ use Rattle.protocol.proofs.Frames.{kept_where, marks_own}
 use Rattle.protocol.proofs.Walking.{Arrived, OwnsNothing, forward_arrives, next_arrives, goes_on_arrives, looks_arrives}
 use Rattle.protocol.proofs.Cases.{some_same}
 use Rattle.protocol.proofs.WalksLeft.{left_to_walk_carries}
-use Rattle.protocol.proofs.Seeing.{head_in, cell_in, words_in, head_again, entry_again, head_word_again}
+use Rattle.protocol.proofs.Seeing.{head_in, cell_in, words_in, head_again, entry_again}
+use Rattle.mutex.proofs.Addresses.{head_word_again}
 
 -- thread t's walk at a row
 abbrev pub walk_of : Layout' → ℕ → Row → Standing

@@ -7,7 +7,8 @@ use Rattle.exitwalk.specs.declared.row.Row.{Row}
 use Rattle.exitwalk.specs.declared.row.Row.TheVariants.{Ended}
 use Rattle.exitwalk.specs.Words.{has_waiters}
 use Rattle.exitwalk.specs.Walks.{Knows, is_pending, to_pending, forward, goes_on, further, after_next, looks}
-use Rattle.protocol.proofs.Seeing.{head_in, entry_in, not_null, same_entry, cell_before}
+use Rattle.protocol.proofs.Seeing.{head_in, entry_in, not_null, cell_before}
+use Rattle.mutex.proofs.Addresses.{same_entry}
 use Rattle.protocol.proofs.Kept.{LeftOf, LeftIn, Treats, LeftToWalk, view_of}
 use Rattle.protocol.proofs.Places.{treated_at}
 use Rattle.protocol.proofs.Steps.{seen-inside}

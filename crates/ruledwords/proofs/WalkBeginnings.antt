@@ -7,6 +7,7 @@ use Rattle.lockword.specs.Coding.{word_of-fields_of}
 use Rattle.posixmutex.specs.declared.object.Object.{Object}
 use Rattle.posixmutex.specs.declared.point.Point.{Point}
 use Rattle.memorymap.specs.Chains.{AreDifferent, IsAmong, IsApart, address_sum, without}
+use Rattle.memorymap.proofs.Entries.{length_without, different_without, is_there}
 use Rattle.posixmutex.specs.Histories.{is_thread}
 use Rattle.memorymap.specs.Layouts.{Layout', cell_place, place_in}
 use Rattle.posixmutex.specs.Objects.{fresh, object_of, owner_of, Run}
@@ -113,31 +114,6 @@ owned_upto k c (suc n) =
     let rest = owned_upto k c n in
     let place : cell_place k (suc n) ≡ suc (suc (suc (cell_place k n))) = omega arith in
     subst (λ (p : ℕ). one (owns_in k c n) + owned k c n ≤ upto c.thread c.seen p) (sym place) (omega arith)
-
-length_without : (e : ℕ) (es : List ℕ) → IsAmong e es → length es ≡ suc (length (without e es))
-length_without e [] among = absurd among
-length_without e (x ∷ xs) among = grind (arith, length_without e xs)
-
-different_without : (e : ℕ) (es : List ℕ) → AreDifferent es → AreDifferent (without e es)
-different_without e [] different = tt
-different_without e (x ∷ xs) different = go (different_without e xs different.1) (x == e)
-  where
-    apart : (ys : List ℕ) → IsApart x ys → IsApart x (without e ys)
-    apart [] a = tt
-    apart (y ∷ ys) a = pick (apart ys a.1) (y == e)
-      where
-        pick : IsApart x (without e ys) → (b : Bool) → IsApart x (if b then ys else y ∷ without e ys)
-        pick rest true = a.1
-        pick rest false = (a.0, rest)
-
-    go : AreDifferent (without e xs) → (b : Bool) → AreDifferent (if b then xs else x ∷ without e xs)
-    go rest true = different.1
-    go rest false = (apart xs different.0, rest)
-
--- it is there, or it isn't
-is_there : (e : ℕ) (es : List ℕ) → IsAmong e es ⊎ (IsAmong e es → ⊥)
-is_there e [] = inr (λ among. among)
-is_there e (x ∷ xs) = grind (arith, is_there e xs)
 
 module _ (k : Layout') (c : Card) (is : IsCardOf k c) where
   no_longer : (n : ℕ) (es : List ℕ) → n ≤ k.mutexes → AreDifferent es → ((e : ℕ) → IsAmong e es → (m : ℕ) × (m < n) × (e ≡ entry_in k c.thread m) × (owns_in k c m ≡ true)) → length es ≤ owned k c n
