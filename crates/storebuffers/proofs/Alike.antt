@@ -35,13 +35,13 @@ use Rattle.protocol.proofs.Renewals.{renewed_word, renewed_elsewhere}
 use Rattle.protocol.specs.Explained.{caller}
 use Rattle.storebuffers.specs.Buffers.{stored, with_words, Way, way, way_at, way_of, head_stores, Waits}
 use Rattle.storebuffers.specs.Buffers.Way.{Keeps, Appends, Flushes}
-use Rattle.storebuffers.proofs.Owning.{IsOwn, IsMet, Meets, is_met_by, calls_meet, conditions_meet, walks_meet}
+use Rattle.storebuffers.proofs.Owning.{IsOwn, IsShared, IsMet, Meets, is_met_by, calls_meet, conditions_meet, walks_meet}
 
 -- what an event of thread t, with its buffer so, makes of its view v of the words, and of the machine's
 abbrev pub Does : State → ℕ → (ℕ → ℕ) → Way → (ℕ → ℕ) → (ℕ → ℕ) → Type 0
 Does s t v Keeps a b = (p : ℕ) → b p ≡ s.words p
 Does s t v (Appends xs) a b = (1 ≤ t) × (t ≤ s.layout.threads) × ((p : ℕ) → b p ≡ stored xs s.words p) × ((p : ℕ) → Waits p xs → IsOwn s t p)
-Does s t v Flushes a b = (1 ≤ t) × (t ≤ s.layout.threads) × (at : ℕ) × IsMet s t at × (a at ≡ b at) × ((p : ℕ) → p ≢ at → (a p ≡ v p) × (b p ≡ s.words p))
+Does s t v Flushes a b = (at : ℕ) × IsMet s t at × (a at ≡ b at) × ((p : ℕ) → p ≢ at → (a p ≡ v p) × (b p ≡ s.words p))
 
 -- all but the words comes out the same
 pub record Alike (s : State) (t : ℕ) (v : ℕ → ℕ) (y : Way) (a b : After) : Type 0 where
@@ -60,7 +60,7 @@ module _ (s : State) (t : ℕ) (pos : 1 ≤ t) (known : t ≤ s.layout.threads) 
   at_met = place_met s.layout t a
 
   flushes : Does s t v Flushes (words_after (with_words s v) t a) (words_after s t a)
-  flushes = (pos, known, at_met, is_met_by s t a meets, here (is_met s.layout t a), λ p apart. (there (is_met s.layout t a) v p apart, there (is_met s.layout t a) s.words p apart))
+  flushes = (at_met, is_met_by s t a pos known meets, here (is_met s.layout t a), λ p apart. (there (is_met s.layout t a) v p apart, there (is_met s.layout t a) s.words p apart))
     where
       here : (c : Bool) → (if c then put v at_met (word_among a (v at_met) (s.queues at_met)) else v) at_met ≡ (if c then put s.words at_met (word_among a (s.words at_met) (s.queues at_met)) else s.words) at_met
       here true = put-same v at_met (word_among a (v at_met) (s.queues at_met)) ∙ ap (λ (x : ℕ). word_among a x (s.queues at_met)) same ∙ sym (put-same s.words at_met (word_among a (s.words at_met) (s.queues at_met)))
@@ -177,13 +177,17 @@ module _ (s : State) (v : ℕ → ℕ) where
   chosen e true a b passes = passes refl
   chosen e false a b passes = record { note = refl; rest = refl; does = λ p. refl }
 
+  -- a shared word that is written
+  shared_put : (t at x : ℕ) → IsShared s.layout at → Does s t v Flushes (put v at x) (put s.words at x)
+  shared_put t at x shared = (at, inr shared, put-same v at x ∙ sym (put-same s.words at x), λ p apart. (put-other v at x p apart, put-other s.words at x p apart))
+
   begun_alike : (t : ℕ) (o : Op) (r : Result Stage Reply) → Comes s v (Begin t o) (begun (with_words s v) t o r) (begun s t o r)
   begun_alike t o (Ok g) = record { note = refl; rest = refl; does = λ p. refl }
   begun_alike t o (Err x) = record { note = refl; rest = refl; does = λ p. refl }
 
   killed_alike : (t : ℕ) → 1 ≤ t → t ≤ s.layout.threads → Views s t v → Comes s v (Kill t) (killed (with_words s v) t) (killed s t)
   killed_alike t pos known views =
-      record { note = refl; rest = refl; does = (pos, known, head_place t, inl (inl (inl refl)), views (head_place t) (inl (inl (inl refl))), λ p apart. (refl, refl)) }
+      record { note = refl; rest = refl; does = (head_place t, inl (pos, known, inl (inl refl)), views (head_place t) (inl (pos, known, inl (inl refl))), λ p apart. (refl, refl)) }
 
   declined_alike : (t held : ℕ) (g : Stage) → Comes s v (Decline t) (declined (with_words s v) t held g) (declined s t held g)
   declined_alike t held (Calling o p) = chosen (Decline t) (is_trim (whole_access p) && not (sleeps s t (Calling o p)))
@@ -217,15 +221,15 @@ module _ (s : State) (v : ℕ → ℕ) where
         go : (c : Bool) → Comes s v (Step t) (if c then nothing (with_words s v) else on_view) (if c then nothing s else on_words)
         go true = record { note = refl; rest = refl; does = λ q. refl }
         go false = staged (Calling o p) on_view on_words is
-            (went_alike s t pos known v held (mutex_of s.layout o) (Mutex (mutex_of s.layout o)) (whole_access p) (λ a. led o p (whole_led p a)) meets (views _ (is_met_by s t (whole_access p) meets)))
+            (went_alike s t pos known v held (mutex_of s.layout o) (Mutex (mutex_of s.layout o)) (whole_access p) (λ a. led o p (whole_led p a)) meets (views _ (is_met_by s t (whole_access p) pos known meets)))
     stepped_alike held (AtCondition c p) is =
         let meets = conditions_meet s t inv pos known c p is in
         staged (AtCondition c p) (stepped (with_words s v) t held (AtCondition c p)) (stepped s t held (AtCondition c p)) is
-        (went_alike s t pos known v held (mutex_of s.layout (OnCondition c)) (Condition (condition_of c)) (cond_access p) (λ a. led_at c p (cond_led p a)) meets (views _ (is_met_by s t (cond_access p) meets)))
+        (went_alike s t pos known v held (mutex_of s.layout (OnCondition c)) (Condition (condition_of c)) (cond_access p) (λ a. led_at c p (cond_led p a)) meets (views _ (is_met_by s t (cond_access p) pos known meets)))
     stepped_alike held (Dying w) is =
         let meets = walks_meet s t inv pos known w is in
         staged (Dying w) (stepped (with_words s v) t held (Dying w)) (stepped s t held (Dying w)) is
-        (walk_alike s t pos known v held w meets (views _ (is_met_by s t (exit.access_of w) meets)))
+        (walk_alike s t pos known v held w meets (views _ (is_met_by s t (exit.access_of w) pos known meets)))
 
   module _ (t : ℕ) (pos : 1 ≤ t) (known : t ≤ s.layout.threads) where
     abbrev head : ℕ → ℕ
@@ -266,21 +270,7 @@ module _ (s : State) (v : ℕ → ℕ) where
     reinited_alike : may_reinit s t m ≡ true → Comes s v (Reinit t m) (reinited (with_words s v) t m) (reinited s t m)
     reinited_alike e =
         let inside : m < s.layout.mutexes = grind (arith, nat_tests) in
-        let pos : 1 ≤ t = grind (arith, nat_tests) in
-        let known : t ≤ s.layout.threads = grind (arith, nat_tests) in
-        let at = cell_place s.layout m in
-        record {
-          note = refl;
-          rest = refl;
-          does = (
-            pos,
-            known,
-            at,
-            inr (inl (m, inside, refl)),
-            put-same v at 0 ∙ sym (put-same s.words at 0),
-            λ p apart. (put-other v at 0 p apart, put-other s.words at 0 p apart),
-          );
-        }
+        record { note = refl; rest = refl; does = shared_put t (cell_place s.layout m) 0 (inl (m, inside, refl)) }
 
     reinit_alike : Comes s v (Reinit t m) (happens (with_words s v) (Reinit t m)) (happens s (Reinit t m))
     reinit_alike = subst (λ (c : Bool). Comes s v (Reinit t m) (if c then reinited (with_words s v) t m else nothing (with_words s v)) (happens s (Reinit t m)))
@@ -288,7 +278,7 @@ module _ (s : State) (v : ℕ → ℕ) where
         (chosen (Reinit t m) (may_reinit s t m) (reinited (with_words s v) t m) (reinited s t m) reinited_alike)
 
 -- each event, on its thread's view
-pub events_alike : (s : State) (v : ℕ → ℕ) (e : Event) → Kept s → (1 ≤ caller e → caller e ≤ s.layout.threads → Views s (caller e) v) → ((m : ℕ) → m < s.layout.mutexes → v (cell_place s.layout m) ≡ s.words (cell_place s.layout m))
+pub events_alike : (s : State) (v : ℕ → ℕ) (e : Event) → Kept s → Views s (caller e) v → ((m : ℕ) → m < s.layout.mutexes → v (cell_place s.layout m) ≡ s.words (cell_place s.layout m))
     → Comes s v e (happens (with_words s v) e) (happens s e)
 events_alike s v (Begin t o) inv views cells =
     let first = first_stage s.layout t (s.threads t).held o in
@@ -300,11 +290,11 @@ events_alike s v (Step t) inv views cells = go (has_thread s t) refl
     go true e =
         let pos : 1 ≤ t = grind (arith, nat_tests) in
         let known : t ≤ s.layout.threads = grind (arith, nat_tests) in
-        stepped_alike s v t inv pos known (views pos known) (s.threads t).held (s.threads t).stage refl
+        stepped_alike s v t inv pos known views (s.threads t).held (s.threads t).stage refl
     go false e = record { note = refl; rest = refl; does = λ p. refl }
 events_alike s v (Kill t) inv views cells =
     chosen s v (Kill t) (has_thread s t && is_alive (s.threads t).stage) (killed (with_words s v) t) (killed s t)
-    (λ on. let there = known_thread s t (is_alive (s.threads t).stage) on in killed_alike s v t there.0 there.1 (views there.0 there.1))
+    (λ on. let there = known_thread s t (is_alive (s.threads t).stage) on in killed_alike s v t there.0 there.1 views)
 events_alike s v (Leave t) inv views cells =
     chosen s v (Leave t) (has_thread s t && is_asleep s t) (departed (with_words s v) t) (departed s t) (λ on. record { note = refl; rest = refl; does = λ p. refl })
 events_alike s v (Decline t) inv views cells =

@@ -1,4 +1,4 @@
--- Who dies by an event.
+-- Who is dead behind an event.
 use Rattle.std.proofs.Common.{◌≡◌, ◌≢◌, ◌⊎◌, inl, inr, ℕ, Bool, true, false, Result, Ok, Err, refl, sym, ap, ◌∙◌, arith}
 use Rattle.std.specs.Prelude.{if◌then◌else◌}
 use Rattle.lockword.specs.declared.reply.Reply.{Reply}
@@ -18,7 +18,7 @@ use Rattle.protocol.specs.declared.thread.Stage.{Stage}
 use Rattle.protocol.specs.declared.thread.Thread.{Thread}
 use Rattle.protocol.specs.declared.thread.Stage.TheVariants.{Dying}
 use Rattle.protocol.specs.declared.note.Note.TheVariants.{Nothing}
-use Rattle.protocol.specs.Machine.{State, After, happens, put, is_exiting, stage_after, stage_at, begun}
+use Rattle.protocol.specs.Machine.{State, After, happens, put, is_alive, stage_after, stage_at, begun}
 use Rattle.protocol.proofs.Puts.{put-same, put-other}
 use Rattle.protocol.proofs.Kept.{Kept}
 use Rattle.protocol.proofs.Events.{by_event, by_stage, begins_at}
@@ -30,7 +30,7 @@ use Rattle.protocol.proofs.Working.{by_step}
 use Rattle.protocol.specs.Explained.{caller}
 use Rattle.storebuffers.specs.Buffers.{Way, way, way_at, way_of}
 
--- who makes no step of its own stands where it stood
+-- whoever makes no step of its own stands where it stood
 begun_other : (s : State) (t : ℕ) (o : Op) (r : Result Stage Reply) (u : ℕ) → t ≢ u → (begun s t o r).state.threads u ≡ s.threads u
 begun_other s t o (Ok g) u apart = put-other s.threads t _ u (λ e. apart (sym e))
 begun_other s t o (Err x) u apart = refl
@@ -48,31 +48,31 @@ others_stand s e inv u = by_event s (λ e a. caller e ≢ u → a.state.threads 
     e
 
 -- a call leads nobody to its death
-alive_after : (o : Op) (p : Whole) (f : Phase) → is_exiting (stage_after o p f) ≡ false
+alive_after : (o : Op) (p : Whole) (f : Phase) → is_alive (stage_after o p f) ≡ true
 alive_after o p f = grind (arith)
 
-alive_at : (c : CondCall) (p : CondWhole) (f : CondPhase) → is_exiting (stage_at c p f) ≡ false
+alive_at : (c : CondCall) (p : CondWhole) (f : CondPhase) → is_alive (stage_at c p f) ≡ true
 alive_at c p f = grind (arith)
 
 walk_keeps : (l : Layout') (t h : ℕ) (r : walk_row.Row) → (way_of l t (exit.row_access h r) ≡ Keeps) ⊎ (way_of l t (exit.row_access h r) ≡ Flushes)
 walk_keeps l t h r = grind (arith)
 
--- whoever is dying behind its event was dying before it, and then that leaves the buffer; or all that waited has reached memory
+-- whoever is dead behind its event was dead before it, and then that leaves the buffer; or all that waited has reached memory
 abbrev pub Dies : State → ℕ → Way → After → Type 0
-Dies s t y a = is_exiting (a.state.threads t).stage ≡ true → (y ≡ Flushes) ⊎ ((is_exiting (s.threads t).stage ≡ true) × (y ≡ Keeps))
+Dies s t y a = is_alive (a.state.threads t).stage ≡ false → (y ≡ Flushes) ⊎ ((is_alive (s.threads t).stage ≡ false) × (y ≡ Keeps))
 
-alive_begun : (l : Layout') (t : ℕ) (o : Op) → is_exiting (begins_at l t o) ≡ false
+alive_begun : (l : Layout') (t : ℕ) (o : Op) → is_alive (begins_at l t o) ≡ true
 alive_begun l t o = grind (arith)
 
 begun_dies : (s : State) (t : ℕ) (o : Op) (b : Bool) → Dies s t (way s (Begin t o) (begun s t o (if b then Err XHELD else Ok (begins_at s.layout t o))).note) (begun s t o (if b then Err XHELD else Ok (begins_at s.layout t o)))
 begun_dies s t o true e = inr (e, refl)
-begun_dies s t o false e = absurd (cc (sym (alive_begun s.layout t o), sym (ap (λ (z : Thread). is_exiting z.stage) (put-same s.threads t (record (s.threads t) { stage = begins_at s.layout t o }))) ∙ e))
+begun_dies s t o false e = absurd (cc (sym (alive_begun s.layout t o), sym (ap (λ (z : Thread). is_alive z.stage) (put-same s.threads t (record (s.threads t) { stage = begins_at s.layout t o }))) ∙ e))
 
-lives : (s : State) (t : ℕ) (th : Thread) (y : Way) → is_exiting th.stage ≡ false → is_exiting (put s.threads t th t).stage ≡ true → (y ≡ Flushes) ⊎ ((is_exiting (s.threads t).stage ≡ true) × (y ≡ Keeps))
-lives s t th y alive e = absurd (cc (sym alive, sym (ap (λ (z : Thread). is_exiting z.stage) (put-same s.threads t th)) ∙ e))
+lives : (s : State) (t : ℕ) (th : Thread) (y : Way) → is_alive th.stage ≡ true → is_alive (put s.threads t th t).stage ≡ false → (y ≡ Flushes) ⊎ ((is_alive (s.threads t).stage ≡ false) × (y ≡ Keeps))
+lives s t th y alive e = absurd (cc (sym alive, sym (ap (λ (z : Thread). is_alive z.stage) (put-same s.threads t th)) ∙ e))
 
-walk_dies : (s : State) (t : ℕ) (w : walks.Standing) → (s.threads t).stage ≡ Dying w → (way_at s.layout t (s.threads t).stage ≡ Flushes) ⊎ ((is_exiting (s.threads t).stage ≡ true) × (way_at s.layout t (s.threads t).stage ≡ Keeps))
-walk_dies s t w is = ⊎_elim (λ keeps. inr (ap is_exiting is, ap (way_at s.layout t) is ∙ keeps)) (λ flushes. inl (ap (way_at s.layout t) is ∙ flushes)) (walk_keeps s.layout t w.head w.row)
+walk_dies : (s : State) (t : ℕ) (w : walks.Standing) → (s.threads t).stage ≡ Dying w → (way_at s.layout t (s.threads t).stage ≡ Flushes) ⊎ ((is_alive (s.threads t).stage ≡ false) × (way_at s.layout t (s.threads t).stage ≡ Keeps))
+walk_dies s t w is = ⊎_elim (λ keeps. inr (ap is_alive is, ap (way_at s.layout t) is ∙ keeps)) (λ flushes. inl (ap (way_at s.layout t) is ∙ flushes)) (walk_keeps s.layout t w.head w.row)
 
 pub dies_so : (s : State) (e : Event) → Dies s (caller e) (way s e (happens s e).note) (happens s e)
 dies_so s e = by_event s (λ e a. Dies s (caller e) (way s e a.note) a)

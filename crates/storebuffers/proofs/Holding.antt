@@ -8,6 +8,7 @@ use Rattle.posixmutex.specs.Objects.{object_of, fresh}
 use Rattle.memorymap.specs.Layouts.{Layout', IsLayout, entry_place, cell_place, counter_place}
 use Rattle.protocol.specs.declared.event.Event.{Event}
 use Rattle.protocol.specs.declared.note.Note.{Note}
+use Rattle.protocol.specs.declared.note.Note.TheVariants.{Nothing}
 use Rattle.protocol.specs.Machine.{State, After, put, start, happens, run, notes}
 use Rattle.protocol.specs.Headline.{seen}
 use Rattle.protocol.proofs.Puts.{by_put, put-same, put-other}
@@ -22,7 +23,7 @@ use Rattle.storebuffers.specs.Buffers.Way.{Keeps, Appends, Flushes}
 use Rattle.storebuffers.specs.Buffers.Happening.{Happens, Drain}
 use Rattle.storebuffers.proofs.Stores.{stored-out, stored-same, stored-on, waits-on, waits_or_not, same_or_not, waits-left, waits-right}
 use Rattle.storebuffers.proofs.Owning.{IsOwn, own_is_its, own_apart, own_no_cell, own_no_counter, met_apart}
-use Rattle.protocol.specs.Machine.{is_exiting}
+use Rattle.protocol.specs.Machine.{is_alive}
 use Rattle.protocol.specs.declared.thread.Thread.{Thread}
 use Rattle.protocol.specs.declared.thread.Stage.{Stage}
 use Rattle.protocol.specs.declared.thread.Stage.TheVariants.{Idle, Calling, AtCondition, Dying, Reaped}
@@ -37,7 +38,7 @@ buffered w waits s = record { memory = with_words s w; buffers = waits }
 pub record Holds (w : ℕ → ℕ) (waits : ℕ → List Store) (s : State) : Type 0 where
   pub kept : Kept s
   pub own : (t p : ℕ) → Waits p (waits t) → (1 ≤ t) × (t ≤ s.layout.threads) × IsOwn s t p
-  pub dead : (t : ℕ) → is_exiting (s.threads t).stage ≡ true → waits t ≡ []
+  pub dead : (t : ℕ) → is_alive (s.threads t).stage ≡ false → waits t ≡ []
   pub sees : (t p : ℕ) → ((u : ℕ) → t ≢ u → Waits p (waits u) → ⊥) → stored (waits t) w p ≡ s.words p
 
 module _ (w : ℕ → ℕ) (waits : ℕ → List Store) (s : State) (h : Holds w waits s) where
@@ -45,8 +46,8 @@ module _ (w : ℕ → ℕ) (waits : ℕ → List Store) (s : State) (h : Holds w
   pub apart_there : (t u p : ℕ) → t ≢ u → Waits p (waits t) → Waits p (waits u) → ⊥
   apart_there t u p apart a b = let x = h.own t p a in let y = h.own u p b in own_apart s t u p x.0 x.1 y.0 y.1 apart x.2 y.2
 
-  pub views : (t : ℕ) → 1 ≤ t → t ≤ s.layout.threads → Views s t (stored (waits t) w)
-  views t pos known p met = h.sees t p (λ u apart there. let x = h.own u p there in met_apart s t u p pos known x.0 x.1 apart met x.2)
+  pub views : (t : ℕ) → Views s t (stored (waits t) w)
+  views t p met = h.sees t p (λ u apart there. let x = h.own u p there in met_apart s t u p x.0 x.1 apart met x.2)
 
   pub cells : (t m : ℕ) → m < s.layout.mutexes → stored (waits t) w (cell_place s.layout m) ≡ s.words (cell_place s.layout m)
   cells t m inside = h.sees t (cell_place s.layout m) (λ u apart there. let x = h.own u _ there in own_no_cell s u _ m x.0 x.1 inside x.2 refl)
@@ -54,33 +55,33 @@ module _ (w : ℕ → ℕ) (waits : ℕ → List Store) (s : State) (h : Holds w
   -- ---- one store reaches memory
 
   module _ (t : ℕ) (x : Store) (xs : List Store) (is : waits t ≡ x ∷ xs) where
-    abbrev w1 : ℕ → ℕ
-    w1 = put w x.at x.value
+    abbrev then_words : ℕ → ℕ
+    then_words = put w x.at x.value
 
-    abbrev waits1 : ℕ → List Store
-    waits1 = put waits t xs
+    abbrev then_waits : ℕ → List Store
+    then_waits = put waits t xs
 
     had : (p : ℕ) → Waits p (x ∷ xs) → Waits p (waits t)
     had p there = subst (Waits p) (sym is) there
 
     -- whose it still is, it was
-    before : (u p : ℕ) → Waits p (waits1 u) → Waits p (waits u)
+    before : (u p : ℕ) → Waits p (then_waits u) → Waits p (waits u)
     before u p = by_put (λ ys. Waits p ys → Waits p (waits u)) waits t xs u (λ e there. subst (λ (k : ℕ). Waits p (waits k)) (sym e) (had p (inr there))) (λ other there. there)
 
-    still : (u p : ℕ) → t ≢ u → Waits p (waits u) → Waits p (waits1 u)
+    still : (u p : ℕ) → t ≢ u → Waits p (waits u) → Waits p (then_waits u)
     still u p apart there = subst (Waits p) (sym (put-other waits t xs u (λ e. apart (sym e)))) there
 
-    its : waits1 t ≡ xs
+    its : then_waits t ≡ xs
     its = put-same waits t xs
 
-    own1 : (u p : ℕ) → Waits p (waits1 u) → (1 ≤ u) × (u ≤ s.layout.threads) × IsOwn s u p
-    own1 u p there = h.own u p (before u p there)
+    then_own : (u p : ℕ) → Waits p (then_waits u) → (1 ≤ u) × (u ≤ s.layout.threads) × IsOwn s u p
+    then_own u p there = h.own u p (before u p there)
 
-    of_t : (p : ℕ) → ((u : ℕ) → t ≢ u → Waits p (waits1 u) → ⊥) → stored xs w1 p ≡ s.words p
+    of_t : (p : ℕ) → ((u : ℕ) → t ≢ u → Waits p (then_waits u) → ⊥) → stored xs then_words p ≡ s.words p
     of_t p out = sym (ap (λ (ys : List Store). stored ys w p) is) ∙ h.sees t p (λ u apart there. out u apart (still u p apart there))
 
-    of_other : (u p : ℕ) → t ≢ u → ((y : ℕ) → u ≢ y → Waits p (waits1 y) → ⊥) → stored (waits u) w1 p ≡ s.words p
-    of_other u p apart out = ⊎_elim at_it (λ other. stored-same (waits u) w1 w p (put-other w x.at x.value p other) ∙ h.sees u p (λ y differs there. none y differs other there)) (same_or_not p x.at)
+    of_other : (u p : ℕ) → t ≢ u → ((y : ℕ) → u ≢ y → Waits p (then_waits y) → ⊥) → stored (waits u) then_words p ≡ s.words p
+    of_other u p apart out = ⊎_elim at_it (λ other. stored-same (waits u) then_words w p (put-other w x.at x.value p other) ∙ h.sees u p (λ y differs there. none y differs other there)) (same_or_not p x.at)
       where
         gone : Waits p xs → ⊥
         gone there = out t (λ e. apart (sym e)) (subst (Waits p) (sym its) there)
@@ -91,26 +92,26 @@ module _ (w : ℕ → ℕ) (waits : ℕ → List Store) (s : State) (h : Holds w
             (λ another. out y differs (still y p another there))
             (same_or_not t y)
 
-        at_it : p ≡ x.at → stored (waits u) w1 p ≡ s.words p
+        at_it : p ≡ x.at → stored (waits u) then_words p ≡ s.words p
         at_it e =
             let here = had p (inl (sym e)) in
-            stored-out (waits u) w1 p (λ there. apart_there t u p apart here there)
-            ∙ sym (stored-out xs w1 p gone)
+            stored-out (waits u) then_words p (λ there. apart_there t u p apart here there)
+            ∙ sym (stored-out xs then_words p gone)
             ∙ sym (ap (λ (ys : List Store). stored ys w p) is)
             ∙ h.sees t p (λ y differs there. apart_there t y p differs here there)
 
-    pub drain_holds : Holds w1 waits1 s
+    pub drain_holds : Holds then_words then_waits s
     drain_holds = record {
       kept = h.kept;
-      own = own1;
+      own = then_own;
       dead = λ u dying. ⊎_elim
           (λ e. absurd (cc (sym (h.dead u dying) ∙ ap waits (sym e) ∙ is)))
           (λ apart. put-other waits t xs u (λ e. apart (sym e)) ∙ h.dead u dying)
           (same_or_not t u);
       sees = λ u p out. ⊎_elim
-          (λ e. subst (λ (k : ℕ). ((y : ℕ) → k ≢ y → Waits p (waits1 y) → ⊥) → stored (waits1 k) w1 p ≡ s.words p) e
-          (λ none. ap (λ (ys : List Store). stored ys w1 p) its ∙ of_t p none) out)
-          (λ apart. ap (λ (ys : List Store). stored ys w1 p) (put-other waits t xs u (λ e. apart (sym e))) ∙ of_other u p apart out)
+          (λ e. subst (λ (k : ℕ). ((y : ℕ) → k ≢ y → Waits p (then_waits y) → ⊥) → stored (then_waits k) then_words p ≡ s.words p) e
+          (λ none. ap (λ (ys : List Store). stored ys then_words p) its ∙ of_t p none) out)
+          (λ apart. ap (λ (ys : List Store). stored ys then_words p) (put-other waits t xs u (λ e. apart (sym e))) ∙ of_other u p apart out)
           (same_or_not t u);
     }
 
@@ -159,7 +160,7 @@ module _ (w : ℕ → ℕ) (waits : ℕ → List Store) (s s' : State) (t : ℕ)
   unlike : (ys : List Store) (u : ℕ) → t ≢ u → put waits t ys u ≡ waits u
   unlike ys u apart = put-other waits t ys u (λ e. apart (sym e))
 
-  way_holds : (y : Way) → ((u : ℕ) → is_exiting (s'.threads u).stage ≡ true → waits_by y t waits u ≡ []) → Does s t v y a s'.words → Holds (words_by y w a) (waits_by y t waits) s'
+  way_holds : (y : Way) → ((u : ℕ) → is_alive (s'.threads u).stage ≡ false → waits_by y t waits u ≡ []) → Does s t v y a s'.words → Holds (words_by y w a) (waits_by y t waits) s'
   way_holds Keeps dead does = record {
     kept = kept;
     dead = dead;
@@ -199,7 +200,7 @@ module _ (w : ℕ → ℕ) (waits : ℕ → List Store) (s s' : State) (t : ℕ)
           (same_or_not t y))
           ∙ sym (stored-out xs s.words p (λ there. none (waits-right p (waits t) xs there)))
           ∙ sym (words p)
-  way_holds Flushes dead (pos, known, at, met, same_there, elsewhere) = record {
+  way_holds Flushes dead (at, met, same_there, elsewhere) = record {
     kept = kept;
     dead = dead;
     own = λ u p there. ⊎_elim
@@ -220,7 +221,7 @@ module _ (w : ℕ → ℕ) (waits : ℕ → List Store) (s s' : State) (t : ℕ)
 
       at_other : (u p : ℕ) → t ≢ u → ((y : ℕ) → u ≢ y → Waits p (put waits t [] y) → ⊥) → (p ≡ at) ⊎ (p ≢ at) → stored (waits u) a p ≡ s'.words p
       at_other u p apart out (inl e) =
-          stored-out (waits u) a p (λ there. let x = h.own u p there in met_apart s t u at pos known x.0 x.1 apart met (subst (IsOwn s u) e x.2))
+          stored-out (waits u) a p (λ there. let x = h.own u p there in met_apart s t u at x.0 x.1 apart met (subst (IsOwn s u) e x.2))
           ∙ ap a e ∙ same_there ∙ ap s'.words (sym e)
       at_other u p apart out (inr far) = ⊎_elim
           (λ has. stored-same (waits u) a w p ((elsewhere p far).0 ∙ stored-out (waits t) w p (λ there. apart_there w waits s h t u p apart there has))
@@ -235,20 +236,20 @@ unlike_by Keeps t waits u apart = refl
 unlike_by (Appends xs) t waits u apart = put-other waits t (waits t ++ xs) u (λ e. apart (sym e))
 unlike_by Flushes t waits u apart = put-other waits t [] u (λ e. apart (sym e))
 
-dead_by : (w : ℕ → ℕ) (waits : ℕ → List Store) (s : State) (e : Event) → Holds w waits s → (u : ℕ) → is_exiting ((happens s e).state.threads u).stage ≡ true → waits_by (way s e (happens s e).note) (caller e) waits u ≡ []
+dead_by : (w : ℕ → ℕ) (waits : ℕ → List Store) (s : State) (e : Event) → Holds w waits s → (u : ℕ) → is_alive ((happens s e).state.threads u).stage ≡ false → waits_by (way s e (happens s e).note) (caller e) waits u ≡ []
 dead_by w waits s e h u dying = ⊎_elim
-    (λ is. subst (λ (k : ℕ). is_exiting ((happens s e).state.threads k).stage ≡ true → waits_by (way s e (happens s e).note) (caller e) waits k ≡ []) is its dying)
-    (λ apart. unlike_by (way s e (happens s e).note) (caller e) waits u apart ∙ h.dead u (sym (ap (λ (z : Thread). is_exiting z.stage) (others_stand s e h.kept u apart)) ∙ dying))
+    (λ is. subst (λ (k : ℕ). is_alive ((happens s e).state.threads k).stage ≡ false → waits_by (way s e (happens s e).note) (caller e) waits k ≡ []) is its dying)
+    (λ apart. unlike_by (way s e (happens s e).note) (caller e) waits u apart ∙ h.dead u (sym (ap (λ (z : Thread). is_alive z.stage) (others_stand s e h.kept u apart)) ∙ dying))
     (same_or_not (caller e) u)
   where
-    its : is_exiting ((happens s e).state.threads (caller e)).stage ≡ true → waits_by (way s e (happens s e).note) (caller e) waits (caller e) ≡ []
+    its : is_alive ((happens s e).state.threads (caller e)).stage ≡ false → waits_by (way s e (happens s e).note) (caller e) waits (caller e) ≡ []
     its on = ⊎_elim
         (λ flushes. ap (λ (y : Way). waits_by y (caller e) waits (caller e)) flushes ∙ put-same waits (caller e) [])
         (λ (was, keeps). ap (λ (y : Way). waits_by y (caller e) waits (caller e)) keeps ∙ h.dead (caller e) was)
         (dies_so s e on)
 
 -- what a thread has is all that it stored
-view_is : (w : ℕ → ℕ) (xs : List Store) (g : Stage) → (is_exiting g ≡ true → xs ≡ []) → words_seen xs w g ≡ stored xs w
+view_is : (w : ℕ → ℕ) (xs : List Store) (g : Stage) → (is_alive g ≡ false → xs ≡ []) → words_seen xs w g ≡ stored xs w
 view_is w xs (Dying r) none = sym (ap (λ (ys : List Store). stored ys w) (none refl))
 view_is w xs Idle none = refl
 view_is w xs (Calling o p) none = refl
@@ -262,6 +263,7 @@ pub record Next (w : ℕ → ℕ) (waits : ℕ → List Store) (s : State) (e : 
   pub note : (seen_by (buffered w waits s) e).note ≡ (happens s e).note
   pub to : next (buffered w waits s) (Happens e) ≡ buffered words buffers (happens s e).state
   pub holds : Holds words buffers (happens s e).state
+  pub still : (happens s e).note ≡ Nothing → (words ≡ w) × (buffers ≡ waits)
 
 module _ (w : ℕ → ℕ) (waits : ℕ → List Store) (s : State) (e : Event) (h : Holds w waits s) where
   abbrev who : ℕ
@@ -296,6 +298,7 @@ module _ (w : ℕ → ℕ) (waits : ℕ → List Store) (s : State) (e : Event) 
         ∙ ap (λ (n : Note). left_by (buffered w waits s) e on_view (way s e n)) alike.note
         ∙ left_is its_way;
     holds = way_holds w waits s (happens s e).state who on_view.state.words h (sound s e h.kept).kept (sound s e h.kept).same (owner_stays s e h.kept) its_way (dead_by w waits s e h) alike.does;
+    still = λ quiet. (ap (λ (n : Note). words_by (way s e n) w on_view.state.words) quiet, ap (λ (n : Note). waits_by (way s e n) who waits) quiet);
   }
 
 -- ---- runs

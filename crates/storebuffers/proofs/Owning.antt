@@ -79,17 +79,17 @@ abbrev pub Meets : State → ℕ → Access → Type 0
 Meets s t a = IsOwn s t (place_met s.layout t a) ⊎ (IsNoStore a × IsShared s.layout (place_met s.layout t a))
 
 abbrev pub IsMet : State → ℕ → ℕ → Type 0
-IsMet s t p = IsOwn s t p ⊎ IsShared s.layout p
+IsMet s t p = ((1 ≤ t) × (t ≤ s.layout.threads) × IsOwn s t p) ⊎ IsShared s.layout p
 
-pub is_met_by : (s : State) (t : ℕ) (a : Access) → Meets s t a → IsMet s t (place_met s.layout t a)
-is_met_by s t a (inl own) = inl own
-is_met_by s t a (inr (none, shared)) = inr shared
+pub is_met_by : (s : State) (t : ℕ) (a : Access) → 1 ≤ t → t ≤ s.layout.threads → Meets s t a → IsMet s t (place_met s.layout t a)
+is_met_by s t a pos known (inl own) = inl (pos, known, own)
+is_met_by s t a pos known (inr (none, shared)) = inr shared
 
 -- so no other thread's own
-pub met_apart : (s : State) (t u p : ℕ) → 1 ≤ t → t ≤ s.layout.threads → 1 ≤ u → u ≤ s.layout.threads → t ≢ u → IsMet s t p → IsOwn s u p → ⊥
-met_apart s t u p pos known first most apart (inl own) b = own_apart s t u p pos known first most apart own b
-met_apart s t u p pos known first most apart (inr (inl (m, inside, is))) b = own_no_cell s u p m first most inside b is
-met_apart s t u p pos known first most apart (inr (inr (c, is))) b = own_no_counter s u p c first most b is
+pub met_apart : (s : State) (t u p : ℕ) → 1 ≤ u → u ≤ s.layout.threads → t ≢ u → IsMet s t p → IsOwn s u p → ⊥
+met_apart s t u p first most apart (inl (pos, known, own)) b = own_apart s t u p pos known first most apart own b
+met_apart s t u p first most apart (inr (inl (m, inside, is))) b = own_no_cell s u p m first most inside b is
+met_apart s t u p first most apart (inr (inr (c, is))) b = own_no_counter s u p c first most b is
 
 -- ---- which word each access meets
 

@@ -187,6 +187,14 @@ module _ (l : Layout') (counters : ℕ → ℕ) (is : IsLayout l) (hs : List Hap
   note_is : (e : Event) → (seen_by there e).note ≡ (happens last e).note
   note_is e = (happens_so ran.words ran.buffers last e ran.holds).note
 
+  -- where event e doesn't apply
+  idles : (e : Event) → ¬ Applies l last ns e → ((seen_by there e).note ≡ Nothing) × (next there (Happens e) ≡ there)
+  idles e off =
+      let one = happens_so ran.words ran.buffers last e ran.holds in
+      let none = next_applies.else_nothing e off in
+      let same_buffers = one.still none.0 in
+      (one.note ∙ none.0, one.to ∙ (λ i. buffered (same_buffers.0 i) (same_buffers.1 i) (none.1 i)))
+
   pub all_hold : PromisesHold l counters hs
   all_hold = record {
     history = carry (λ c told. IsHistory c.memory told) (subst (λ (f : ℕ → Object). Legal last.layout.mutexes opening (points_among ns) f) (sym same) (legal l counters events is));
@@ -200,9 +208,8 @@ module _ (l : Layout') (counters : ℕ → ℕ) (is : IsLayout l) (hs : List Hap
     applies = λ e. carry (λ c told. Applies l (settled c) told e → IsNotedAs l (settled c) e (seen_by c e).note)
         (subst (λ (z : State). Applies l z ns e → IsNotedAs l z e (seen_by there e).note) (sym settled_state)
         (λ on. subst (IsNotedAs l last e) (sym (note_is e)) (next_applies.happens_so e on)));
-    else_nothing = λ e. carry (λ c told. ¬ Applies l (settled c) told e → (seen_by c e).note ≡ Nothing)
-        (subst (λ (z : State). ¬ Applies l z ns e → (seen_by there e).note ≡ Nothing) (sym settled_state)
-        (λ off. note_is e ∙ (next_applies.else_nothing e off).0));
+    else_nothing = λ e. carry (λ c told. ¬ Applies l (settled c) told e → ((seen_by c e).note ≡ Nothing) × (next c (Happens e) ≡ c))
+        (subst (λ (z : State). ¬ Applies l z ns e → ((seen_by there e).note ≡ Nothing) × (next there (Happens e) ≡ there)) (sym settled_state) (idles e));
   }
 
 pub promises_hold : PromisesHoldWithBuffers

@@ -12,7 +12,7 @@ use Rattle.protocol.specs.declared.event.Event.{Event}
 use Rattle.protocol.specs.declared.event.Event.TheVariants.{Begin, Step, Kill}
 use Rattle.protocol.specs.declared.note.Note.TheVariants.{Nothing}
 use Rattle.protocol.specs.declared.thread.Stage.TheVariants.{Reaped}
-use Rattle.protocol.specs.Machine.{State, start, run, notes, has_thread, is_alive, is_exiting, is_asleep, may_begin, sleepers, stands_in}
+use Rattle.protocol.specs.Machine.{State, start, run, notes, has_thread, is_alive, is_asleep, may_begin, sleepers, stands_in}
 use Rattle.protocol.specs.Headline.{seen, facts_among, IsHistory, NoReapedOwns}
 use Rattle.protocol.specs.Explained.{IsExplained}
 use Rattle.protocol.specs.Deaths.{deaths, IsNotRenewed}
@@ -45,7 +45,7 @@ pub record WaitsApart (b : Buffered) : Type 0 where
       → b.memory.words (cell_place b.memory.layout m) ≡ (settled b).words (cell_place b.memory.layout m)
   pub counters : (c : ℕ)
       → b.memory.words (counter_place b.memory.layout c) ≡ (settled b).words (counter_place b.memory.layout c)
-  pub dead : (t : ℕ) → is_exiting (b.memory.threads t).stage ≡ true → b.buffers t ≡ []
+  pub dead : (t : ℕ) → is_alive (b.memory.threads t).stage ≡ false → b.buffers t ≡ []
 
 -- what is told is what the machine without buffers tells of the same events, and memory, with all that waits, is its
 -- state
@@ -123,8 +123,8 @@ ReportsDeaths b hs = (before after rest : List Happening) (t : ℕ)
 
 -- the points and deaths that were told are a legal history, after which every mutex is as its cell in memory says; the
 -- trace is explained; no reaped thread owns a mutex; nobody who sleeps on a mutex is stranded; who runs alone comes to
--- rest; undivided calls reply; deaths are told; no wait is passed by; and the next event is noted as what it is exactly
--- where it applies
+-- rest; undivided calls reply; deaths are told; no wait is passed by; and the next event is noted as what it is where it
+-- applies, and else does nothing, to no buffer either
 pub record PromisesHold (l : Layout') (counters : ℕ → ℕ) (hs : List Happening) : Type 0 where
   pub history : IsHistory (run_buffered (start_buffered l counters) hs).memory (noted (start_buffered l counters) hs)
   pub explained : IsExplained (without_drains hs) (noted (start_buffered l counters) hs)
@@ -140,7 +140,8 @@ pub record PromisesHold (l : Layout') (counters : ℕ → ℕ) (hs : List Happen
       (seen_by (run_buffered (start_buffered l counters) hs) e).note
   pub else_nothing : (e : Event)
       → ¬ Applies l (settled (run_buffered (start_buffered l counters) hs)) (noted (start_buffered l counters) hs) e
-      → (seen_by (run_buffered (start_buffered l counters) hs) e).note ≡ Nothing
+      → ((seen_by (run_buffered (start_buffered l counters) hs) e).note ≡ Nothing)
+      × (next (run_buffered (start_buffered l counters) hs) (Happens e) ≡ run_buffered (start_buffered l counters) hs)
 
 -- whatever happens, and whenever stores reach memory, with any values of the counters at the beginning
 abbrev pub PromisesHoldWithBuffers : Type 0
