@@ -34,13 +34,14 @@ use Rattle.protocol.proofs.Kept.{Kept}
 use Rattle.protocol.proofs.Renewals.{renewed_word, renewed_elsewhere}
 use Rattle.protocol.specs.Explained.{caller}
 use Rattle.storebuffers.specs.Buffers.{stored, with_words, Way, way, way_at, way_of, head_stores, Waits}
-use Rattle.storebuffers.specs.Buffers.Way.{Keeps, Appends, Flushes}
+use Rattle.storebuffers.specs.Buffers.Way.{Keeps, Appends, Writes, Flushes}
 use Rattle.storebuffers.proofs.Owning.{IsOwn, IsShared, IsMet, Meets, is_met_by, calls_meet, conditions_meet, walks_meet}
 
 -- what an event of thread t, with its buffer so, makes of its view v of the words, and of the machine's
 abbrev pub Does : State → ℕ → (ℕ → ℕ) → Way → (ℕ → ℕ) → (ℕ → ℕ) → Type 0
 Does s t v Keeps a b = (p : ℕ) → b p ≡ s.words p
 Does s t v (Appends xs) a b = (1 ≤ t) × (t ≤ s.layout.threads) × ((p : ℕ) → b p ≡ stored xs s.words p) × ((p : ℕ) → Waits p xs → IsOwn s t p)
+Does s t v (Writes at) a b = IsShared s.layout at × (a at ≡ b at) × ((p : ℕ) → p ≢ at → b p ≡ s.words p)
 Does s t v Flushes a b = (at : ℕ) × IsMet s t at × (a at ≡ b at) × ((p : ℕ) → p ≢ at → (a p ≡ v p) × (b p ≡ s.words p))
 
 -- all but the words comes out the same
@@ -59,16 +60,20 @@ module _ (s : State) (t : ℕ) (pos : 1 ≤ t) (known : t ≤ s.layout.threads) 
   abbrev at_met : ℕ
   at_met = place_met s.layout t a
 
-  flushes : Does s t v Flushes (words_after (with_words s v) t a) (words_after s t a)
-  flushes = (at_met, is_met_by s t a pos known meets, here (is_met s.layout t a), λ p apart. (there (is_met s.layout t a) v p apart, there (is_met s.layout t a) s.words p apart))
-    where
-      here : (c : Bool) → (if c then put v at_met (word_among a (v at_met) (s.queues at_met)) else v) at_met ≡ (if c then put s.words at_met (word_among a (s.words at_met) (s.queues at_met)) else s.words) at_met
-      here true = put-same v at_met (word_among a (v at_met) (s.queues at_met)) ∙ ap (λ (x : ℕ). word_among a x (s.queues at_met)) same ∙ sym (put-same s.words at_met (word_among a (s.words at_met) (s.queues at_met)))
-      here false = same
+  -- at the word that it meets, and elsewhere
+  at_word : (c : Bool) → (if c then put v at_met (word_among a (v at_met) (s.queues at_met)) else v) at_met ≡ (if c then put s.words at_met (word_among a (s.words at_met) (s.queues at_met)) else s.words) at_met
+  at_word true = put-same v at_met (word_among a (v at_met) (s.queues at_met)) ∙ ap (λ (x : ℕ). word_among a x (s.queues at_met)) same ∙ sym (put-same s.words at_met (word_among a (s.words at_met) (s.queues at_met)))
+  at_word false = same
 
-      there : (c : Bool) (w : ℕ → ℕ) (p : ℕ) → p ≢ at_met → (if c then put w at_met (word_among a (w at_met) (s.queues at_met)) else w) p ≡ w p
-      there true w p apart = put-other w at_met (word_among a (w at_met) (s.queues at_met)) p apart
-      there false w p apart = refl
+  elsewhere : (c : Bool) (w : ℕ → ℕ) (p : ℕ) → p ≢ at_met → (if c then put w at_met (word_among a (w at_met) (s.queues at_met)) else w) p ≡ w p
+  elsewhere true w p apart = put-other w at_met (word_among a (w at_met) (s.queues at_met)) p apart
+  elsewhere false w p apart = refl
+
+  writes : IsShared s.layout at_met → Does s t v (Writes at_met) (words_after (with_words s v) t a) (words_after s t a)
+  writes shared = (shared, at_word (is_met s.layout t a), λ p apart. elsewhere (is_met s.layout t a) s.words p apart)
+
+  flushes : Does s t v Flushes (words_after (with_words s v) t a) (words_after s t a)
+  flushes = (at_met, is_met_by s t a pos known meets, at_word (is_met s.layout t a), λ p apart. (elsewhere (is_met s.layout t a) v p apart, elsewhere (is_met s.layout t a) s.words p apart))
 
 -- a load changes nothing
 load_stays : (w : ℕ → ℕ) (at p : ℕ) (c : Bool) → (if c then put w at (w at) else w) p ≡ w p
@@ -81,18 +86,23 @@ store_alike s t pos known v at y own false = λ p. refl
 
 words_alike : (s : State) (t : ℕ) → 1 ≤ t → t ≤ s.layout.threads → (v : ℕ → ℕ) (a : Access) → Meets s t a → v (place_met s.layout t a) ≡ s.words (place_met s.layout t a) → Does s t v (way_of s.layout t a) (words_after (with_words s v) t a) (words_after s t a)
 words_alike s t pos known v (access.Load x) meets same = λ p. load_stays s.words (place_met s.layout t (access.Load x)) p (is_met s.layout t (access.Load x))
-words_alike s t pos known v (access.Store x y) (inl own) same = store_alike s t pos known v (place_met s.layout t (access.Store x y)) y own (is_met s.layout t (access.Store x y))
+words_alike s t pos known v (access.Store x y) (inl (plain, own)) same = store_alike s t pos known v (place_met s.layout t (access.Store x y)) y own (is_met s.layout t (access.Store x y))
 words_alike s t pos known v (access.Store x y) (inr (none, shared)) same = absurd none
-words_alike s t pos known v (access.Exchange x o n) meets same = flushes s t pos known v (access.Exchange x o n) meets same
+words_alike s t pos known v (access.Exchange x o n) (inl (plain, own)) same = absurd plain
+words_alike s t pos known v (access.Exchange x o n) (inr (none, shared)) same = writes s t pos known v (access.Exchange x o n) (inr (none, shared)) same shared
 words_alike s t pos known v (access.FetchXor x o) meets same = flushes s t pos known v (access.FetchXor x o) meets same
-words_alike s t pos known v (access.FetchOr x o) meets same = flushes s t pos known v (access.FetchOr x o) meets same
-words_alike s t pos known v (access.FetchAnd x o) meets same = flushes s t pos known v (access.FetchAnd x o) meets same
-words_alike s t pos known v (access.FetchAdd x o) meets same = flushes s t pos known v (access.FetchAdd x o) meets same
+words_alike s t pos known v (access.FetchOr x o) (inl (plain, own)) same = absurd plain
+words_alike s t pos known v (access.FetchOr x o) (inr (none, shared)) same = writes s t pos known v (access.FetchOr x o) (inr (none, shared)) same shared
+words_alike s t pos known v (access.FetchAnd x o) (inl (plain, own)) same = absurd plain
+words_alike s t pos known v (access.FetchAnd x o) (inr (none, shared)) same = writes s t pos known v (access.FetchAnd x o) (inr (none, shared)) same shared
+words_alike s t pos known v (access.FetchAdd x o) (inl (plain, own)) same = absurd plain
+words_alike s t pos known v (access.FetchAdd x o) (inr (none, shared)) same = writes s t pos known v (access.FetchAdd x o) (inr (none, shared)) same shared
 words_alike s t pos known v (access.Wait x e) meets same = λ p. load_stays s.words (place_met s.layout t (access.Wait x e)) p (is_met s.layout t (access.Wait x e))
 words_alike s t pos known v (access.Wake x n) meets same = λ p. load_stays s.words (place_met s.layout t (access.Wake x n)) p (is_met s.layout t (access.Wake x n))
 words_alike s t pos known v (access.Requeue f n o k) meets same = λ p. load_stays s.words (place_met s.layout t (access.Requeue f n o k)) p (is_met s.layout t (access.Requeue f n o k))
 words_alike s t pos known v (access.CmpRequeue f e n o k) meets same = λ p. load_stays s.words (place_met s.layout t (access.CmpRequeue f e n o k)) p (is_met s.layout t (access.CmpRequeue f e n o k))
-words_alike s t pos known v (access.Trim x) meets same = flushes s t pos known v (access.Trim x) meets same
+words_alike s t pos known v (access.Trim x) (inl (plain, own)) same = absurd plain
+words_alike s t pos known v (access.Trim x) (inr (none, shared)) same = writes s t pos known v (access.Trim x) (inr (none, shared)) same shared
 
 -- of a call
 module _ (s : State) (t : ℕ) (pos : 1 ≤ t) (known : t ≤ s.layout.threads) (v : ℕ → ℕ) (held m : ℕ) (q : Queue) (a : Access) (g : Answer → Led) (meets : Meets s t a) (same : v (place_met s.layout t a) ≡ s.words (place_met s.layout t a)) where
@@ -178,8 +188,8 @@ module _ (s : State) (v : ℕ → ℕ) where
   chosen e false a b passes = record { note = refl; rest = refl; does = λ p. refl }
 
   -- a shared word that is written
-  shared_put : (t at x : ℕ) → IsShared s.layout at → Does s t v Flushes (put v at x) (put s.words at x)
-  shared_put t at x shared = (at, inr shared, put-same v at x ∙ sym (put-same s.words at x), λ p apart. (put-other v at x p apart, put-other s.words at x p apart))
+  shared_put : (t at x : ℕ) → IsShared s.layout at → Does s t v (Writes at) (put v at x) (put s.words at x)
+  shared_put t at x shared = (shared, put-same v at x ∙ sym (put-same s.words at x), λ p apart. put-other s.words at x p apart)
 
   begun_alike : (t : ℕ) (o : Op) (r : Result Stage Reply) → Comes s v (Begin t o) (begun (with_words s v) t o r) (begun s t o r)
   begun_alike t o (Ok g) = record { note = refl; rest = refl; does = λ p. refl }

@@ -23,9 +23,9 @@ use Rattle.protocol.proofs.Puts.{put-same, put-other}
 use Rattle.protocol.proofs.Kept.{Kept}
 use Rattle.protocol.proofs.Events.{by_event, by_stage, begins_at}
 use Rattle.lockword.specs.declared.reply.Reply.TheVariants.{XHELD}
-use Rattle.std.proofs.Common.{⊎_elim}
+use Rattle.std.proofs.Common.{subst}
 use Rattle.protocol.specs.Machine.{nothing}
-use Rattle.storebuffers.specs.Buffers.Way.{Keeps, Flushes}
+use Rattle.storebuffers.specs.Buffers.Way.{Keeps, Writes, Flushes}
 use Rattle.protocol.proofs.Working.{by_step}
 use Rattle.protocol.specs.Explained.{caller}
 use Rattle.storebuffers.specs.Buffers.{Way, way, way_at, way_of}
@@ -54,41 +54,47 @@ alive_after o p f = grind (arith)
 alive_at : (c : CondCall) (p : CondWhole) (f : CondPhase) → is_alive (stage_at c p f) ≡ true
 alive_at c p f = grind (arith)
 
-walk_keeps : (l : Layout') (t h : ℕ) (r : walk_row.Row) → (way_of l t (exit.row_access h r) ≡ Keeps) ⊎ (way_of l t (exit.row_access h r) ≡ Flushes)
-walk_keeps l t h r = grind (arith)
+-- the buffer stays
+abbrev pub IsStill : Way → Type 0
+IsStill Keeps = Unit {0}
+IsStill (Writes at) = Unit {0}
+IsStill y = ⊥
+
+walk_still : (l : Layout') (t h : ℕ) (r : walk_row.Row) → IsStill (way_of l t (exit.row_access h r))
+walk_still l t h r = grind (arith)
 
 -- whoever is dead behind its event was dead before it, and then that leaves the buffer; or all that waited has reached memory
 abbrev pub Dies : State → ℕ → Way → After → Type 0
-Dies s t y a = is_alive (a.state.threads t).stage ≡ false → (y ≡ Flushes) ⊎ ((is_alive (s.threads t).stage ≡ false) × (y ≡ Keeps))
+Dies s t y a = is_alive (a.state.threads t).stage ≡ false → (y ≡ Flushes) ⊎ ((is_alive (s.threads t).stage ≡ false) × IsStill y)
 
 alive_begun : (l : Layout') (t : ℕ) (o : Op) → is_alive (begins_at l t o) ≡ true
 alive_begun l t o = grind (arith)
 
 begun_dies : (s : State) (t : ℕ) (o : Op) (b : Bool) → Dies s t (way s (Begin t o) (begun s t o (if b then Err XHELD else Ok (begins_at s.layout t o))).note) (begun s t o (if b then Err XHELD else Ok (begins_at s.layout t o)))
-begun_dies s t o true e = inr (e, refl)
+begun_dies s t o true e = inr (e, tt)
 begun_dies s t o false e = absurd (cc (sym (alive_begun s.layout t o), sym (ap (λ (z : Thread). is_alive z.stage) (put-same s.threads t (record (s.threads t) { stage = begins_at s.layout t o }))) ∙ e))
 
-lives : (s : State) (t : ℕ) (th : Thread) (y : Way) → is_alive th.stage ≡ true → is_alive (put s.threads t th t).stage ≡ false → (y ≡ Flushes) ⊎ ((is_alive (s.threads t).stage ≡ false) × (y ≡ Keeps))
+lives : (s : State) (t : ℕ) (th : Thread) (y : Way) → is_alive th.stage ≡ true → is_alive (put s.threads t th t).stage ≡ false → (y ≡ Flushes) ⊎ ((is_alive (s.threads t).stage ≡ false) × IsStill y)
 lives s t th y alive e = absurd (cc (sym alive, sym (ap (λ (z : Thread). is_alive z.stage) (put-same s.threads t th)) ∙ e))
 
-walk_dies : (s : State) (t : ℕ) (w : walks.Standing) → (s.threads t).stage ≡ Dying w → (way_at s.layout t (s.threads t).stage ≡ Flushes) ⊎ ((is_alive (s.threads t).stage ≡ false) × (way_at s.layout t (s.threads t).stage ≡ Keeps))
-walk_dies s t w is = ⊎_elim (λ keeps. inr (ap is_alive is, ap (way_at s.layout t) is ∙ keeps)) (λ flushes. inl (ap (way_at s.layout t) is ∙ flushes)) (walk_keeps s.layout t w.head w.row)
+walk_dies : (s : State) (t : ℕ) (w : walks.Standing) → (s.threads t).stage ≡ Dying w → (is_alive (s.threads t).stage ≡ false) × IsStill (way_at s.layout t (s.threads t).stage)
+walk_dies s t w is = (ap is_alive is, subst (λ (g : Stage). IsStill (way_at s.layout t g)) (sym is) (walk_still s.layout t w.head w.row))
 
 pub dies_so : (s : State) (e : Event) → Dies s (caller e) (way s e (happens s e).note) (happens s e)
 dies_so s e = by_event s (λ e a. Dies s (caller e) (way s e a.note) a)
     nothing_dies
     (λ t o pos known named resting b is. begun_dies s t o b)
     (λ t pos known. by_stage s t (λ a. Dies s t (way s (Step t) a.note) a)
-    (λ rests e. inr (e, refl))
+    (λ rests e. inr (e, tt))
     (λ o p is awake. lives s t _ _ (alive_after o p _))
     (λ c p is awake. lives s t _ _ (alive_at c p _))
-    (λ w is awake e. walk_dies s t w is))
+    (λ w is awake e. inr (walk_dies s t w is)))
     (λ t pos known alive e. inl refl)
-    (λ t pos known asleep e. inr (e, refl))
+    (λ t pos known asleep e. inr (e, tt))
     (λ t o p pos known is awake trims. lives s t _ _ (alive_after o p _))
     (λ t pos known is. lives s t _ _ refl)
-    (λ t m may e. inl refl)
+    (λ t m may e. inr (e, tt))
     e
   where
     nothing_dies : (e : Event) → Dies s (caller e) (way s e Nothing) (nothing s)
-    nothing_dies e on = inr (on, refl)
+    nothing_dies e on = inr (on, tt)

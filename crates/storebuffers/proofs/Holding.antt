@@ -19,16 +19,16 @@ use Rattle.storebuffers.specs.Buffers.{Store, Buffered, Waits, stored, with_word
 use Rattle.storebuffers.specs.Runs.{all_stored, settled, WaitsApart, BuffersChangeNothing}
 use Rattle.protocol.specs.Changes.{IsItsOwn}
 use mathlib.Core.Path.{fun_ext}
-use Rattle.storebuffers.specs.Buffers.Way.{Keeps, Appends, Flushes}
+use Rattle.storebuffers.specs.Buffers.Way.{Keeps, Appends, Writes, Flushes}
 use Rattle.storebuffers.specs.Buffers.Happening.{Happens, Drain}
 use Rattle.storebuffers.proofs.Stores.{stored-out, stored-same, stored-on, waits-on, waits_or_not, same_or_not, waits-left, waits-right}
-use Rattle.storebuffers.proofs.Owning.{IsOwn, own_is_its, own_apart, own_no_cell, own_no_counter, met_apart}
+use Rattle.storebuffers.proofs.Owning.{IsOwn, own_is_its, own_apart, own_no_cell, own_no_counter, shared_apart, met_apart}
 use Rattle.protocol.specs.Machine.{is_alive}
 use Rattle.protocol.specs.declared.thread.Thread.{Thread}
 use Rattle.protocol.specs.declared.thread.Stage.{Stage}
 use Rattle.protocol.specs.declared.thread.Stage.TheVariants.{Idle, Calling, AtCondition, Dying, Reaped}
-use Rattle.storebuffers.proofs.Dying.{others_stand, dies_so}
-use Rattle.storebuffers.proofs.Staying.{owner_stays}
+use Rattle.storebuffers.proofs.Dying.{IsStill, others_stand, dies_so}
+use Rattle.storebuffers.proofs.Staying.{IsWritten, owner_stays, own_stays}
 use Rattle.storebuffers.proofs.Alike.{Does, Views, Comes, events_alike}
 
 abbrev pub buffered : (ℕ → ℕ) → (ℕ → List Store) → State → Buffered
@@ -137,104 +137,136 @@ own_moves s s' u p same keeps (inl (inr (inr (k, inside, place, own)))) =
 abbrev words_by : Way → (ℕ → ℕ) → (ℕ → ℕ) → ℕ → ℕ
 words_by Keeps w a = w
 words_by (Appends xs) w a = w
+words_by (Writes at) w a = put w at (a at)
 words_by Flushes w a = a
 
 abbrev waits_by : Way → ℕ → (ℕ → List Store) → ℕ → List Store
 waits_by Keeps t waits = waits
 waits_by (Appends xs) t waits = put waits t (waits t ++ xs)
+waits_by (Writes at) t waits = waits
 waits_by Flushes t waits = put waits t []
 
-module _ (w : ℕ → ℕ) (waits : ℕ → List Store) (s s' : State) (t : ℕ) (a : ℕ → ℕ) (h : Holds w waits s) (kept : Kept s') (same : s'.layout ≡ s.layout) (stays : (u k : ℕ) → t ≢ u → (seen s k).owner ≡ Some u → (seen s' k).owner ≡ Some u) where
-  abbrev v : ℕ → ℕ
-  v = stored (waits t) w
+module _ (w : ℕ → ℕ) (waits : ℕ → List Store) (s s' : State) (t : ℕ) (a : ℕ → ℕ) (h : Holds w waits s) (kept : Kept s') (same : s'.layout ≡ s.layout) (stays : (u k : ℕ) → t ≢ u → (seen s k).owner ≡ Some u → (seen s' k).owner ≡ Some u)
+  where
+    abbrev v : ℕ → ℕ
+    v = stored (waits t) w
 
-  there_own : (u p : ℕ) → ((k : ℕ) → (seen s k).owner ≡ Some u → (seen s' k).owner ≡ Some u) → (1 ≤ u) × (u ≤ s.layout.threads) × IsOwn s u p → (1 ≤ u) × (u ≤ s'.layout.threads) × IsOwn s' u p
-  there_own u p keeps (first, most, own) = (first, subst (λ (l : Layout'). u ≤ l.threads) (sym same) most, own_moves s s' u p same keeps own)
+    there_own : (u p : ℕ) → ((k : ℕ) → (seen s k).owner ≡ Some u → (seen s' k).owner ≡ Some u) → (1 ≤ u) × (u ≤ s.layout.threads) × IsOwn s u p → (1 ≤ u) × (u ≤ s'.layout.threads) × IsOwn s' u p
+    there_own u p keeps (first, most, own) = (first, subst (λ (l : Layout'). u ≤ l.threads) (sym same) most, own_moves s s' u p same keeps own)
 
-  others_own : (u p : ℕ) → t ≢ u → Waits p (waits u) → (1 ≤ u) × (u ≤ s'.layout.threads) × IsOwn s' u p
-  others_own u p apart there = there_own u p (λ k own. stays u k apart own) (h.own u p there)
+    others_own : (u p : ℕ) → t ≢ u → Waits p (waits u) → (1 ≤ u) × (u ≤ s'.layout.threads) × IsOwn s' u p
+    others_own u p apart there = there_own u p (λ k own. stays u k apart own) (h.own u p there)
 
-  all_own : ((k : ℕ) → k < s.layout.mutexes → s'.words (cell_place s.layout k) ≡ s.words (cell_place s.layout k)) → (u p : ℕ) → (1 ≤ u) × (u ≤ s.layout.threads) × IsOwn s u p → (1 ≤ u) × (u ≤ s'.layout.threads) × IsOwn s' u p
-  all_own cell u p x = there_own u p (λ k own. ap (λ (o : Object). o.owner) (seen_same s s' k same (cell k)) ∙ own) x
+    all_own : ((k : ℕ) → k < s.layout.mutexes → s'.words (cell_place s.layout k) ≡ s.words (cell_place s.layout k)) → (u p : ℕ) → (1 ≤ u) × (u ≤ s.layout.threads) × IsOwn s u p → (1 ≤ u) × (u ≤ s'.layout.threads) × IsOwn s' u p
+    all_own cell u p x = there_own u p (λ k own. ap (λ (o : Object). o.owner) (seen_same s s' k same (cell k)) ∙ own) x
 
-  unlike : (ys : List Store) (u : ℕ) → t ≢ u → put waits t ys u ≡ waits u
-  unlike ys u apart = put-other waits t ys u (λ e. apart (sym e))
+    unlike : (ys : List Store) (u : ℕ) → t ≢ u → put waits t ys u ≡ waits u
+    unlike ys u apart = put-other waits t ys u (λ e. apart (sym e))
 
-  way_holds : (y : Way) → ((u : ℕ) → is_alive (s'.threads u).stage ≡ false → waits_by y t waits u ≡ []) → Does s t v y a s'.words → Holds (words_by y w a) (waits_by y t waits) s'
-  way_holds Keeps dead does = record {
-    kept = kept;
-    dead = dead;
-    own = λ u p there. all_own (λ k inside. does (cell_place s.layout k)) u p (h.own u p there);
-    sees = λ u p out. h.sees u p out ∙ sym (does p);
-  }
-  way_holds (Appends xs) dead (pos, known, words, mine) = record {
-    kept = kept;
-    dead = dead;
-    own = λ u p there. ⊎_elim
-        (λ e. subst (λ (k : ℕ). Waits p (put waits t (waits t ++ xs) k) → (1 ≤ k) × (k ≤ s'.layout.threads) × IsOwn s' k p) e
-        (λ at_t. ⊎_elim (λ old. all_own cell t p (h.own t p old)) (λ new. all_own cell t p (pos, known, mine p new)) (waits-on p (waits t) xs (subst (Waits p) (put-same waits t (waits t ++ xs)) at_t))) there)
-        (λ apart. all_own cell u p (h.own u p (subst (Waits p) (unlike (waits t ++ xs) u apart) there)))
-        (same_or_not t u);
-    sees = λ u p out. ⊎_elim
-        (λ e. subst (λ (k : ℕ). ((y : ℕ) → k ≢ y → Waits p (put waits t (waits t ++ xs) y) → ⊥) → stored (put waits t (waits t ++ xs) k) w p ≡ s'.words p) e (λ none. at_t p none) out)
-        (λ apart. ap (λ (ys : List Store). stored ys w p) (unlike (waits t ++ xs) u apart) ∙ at_other u p apart out)
-        (same_or_not t u);
-  }
-    where
-      cell : (k : ℕ) → k < s.layout.mutexes → s'.words (cell_place s.layout k) ≡ s.words (cell_place s.layout k)
-      cell k inside = words (cell_place s.layout k) ∙ stored-out xs s.words (cell_place s.layout k) (λ there. own_no_cell s t _ k pos known inside (mine _ there) refl)
+    way_holds : (y : Way) → (IsWritten y → is_alive (s.threads t).stage ≡ true → (k : ℕ) → (seen s k).owner ≡ Some t → (seen s' k).owner ≡ Some t) → ((u : ℕ) → is_alive (s'.threads u).stage ≡ false → waits_by y t waits u ≡ []) → Does s t v y a s'.words → Holds (words_by y w a) (waits_by y t waits) s'
+    way_holds Keeps keeps dead does = record {
+      kept = kept;
+      dead = dead;
+      own = λ u p there. all_own (λ k inside. does (cell_place s.layout k)) u p (h.own u p there);
+      sees = λ u p out. h.sees u p out ∙ sym (does p);
+    }
+    way_holds (Appends xs) keeps dead (pos, known, words, mine) = record {
+      kept = kept;
+      dead = dead;
+      own = λ u p there. ⊎_elim
+          (λ e. subst (λ (k : ℕ). Waits p (put waits t (waits t ++ xs) k) → (1 ≤ k) × (k ≤ s'.layout.threads) × IsOwn s' k p) e
+          (λ at_t. ⊎_elim (λ old. all_own cell t p (h.own t p old)) (λ new. all_own cell t p (pos, known, mine p new)) (waits-on p (waits t) xs (subst (Waits p) (put-same waits t (waits t ++ xs)) at_t))) there)
+          (λ apart. all_own cell u p (h.own u p (subst (Waits p) (unlike (waits t ++ xs) u apart) there)))
+          (same_or_not t u);
+      sees = λ u p out. ⊎_elim
+          (λ e. subst (λ (k : ℕ). ((y : ℕ) → k ≢ y → Waits p (put waits t (waits t ++ xs) y) → ⊥) → stored (put waits t (waits t ++ xs) k) w p ≡ s'.words p) e (λ none. at_t p none) out)
+          (λ apart. ap (λ (ys : List Store). stored ys w p) (unlike (waits t ++ xs) u apart) ∙ at_other u p apart out)
+          (same_or_not t u);
+    }
+      where
+        cell : (k : ℕ) → k < s.layout.mutexes → s'.words (cell_place s.layout k) ≡ s.words (cell_place s.layout k)
+        cell k inside = words (cell_place s.layout k) ∙ stored-out xs s.words (cell_place s.layout k) (λ there. own_no_cell s t _ k pos known inside (mine _ there) refl)
 
-      at_t : (p : ℕ) → ((y : ℕ) → t ≢ y → Waits p (put waits t (waits t ++ xs) y) → ⊥) → stored (put waits t (waits t ++ xs) t) w p ≡ s'.words p
-      at_t p none =
-          ap (λ (ys : List Store). stored ys w p) (put-same waits t (waits t ++ xs))
-          ∙ ap (λ (f : ℕ → ℕ). f p) (stored-on (waits t) xs w)
-          ∙ stored-same xs v s.words p (h.sees t p (λ y apart there. none y apart (subst (Waits p) (sym (unlike (waits t ++ xs) y apart)) there)))
-          ∙ sym (words p)
+        at_t : (p : ℕ) → ((y : ℕ) → t ≢ y → Waits p (put waits t (waits t ++ xs) y) → ⊥) → stored (put waits t (waits t ++ xs) t) w p ≡ s'.words p
+        at_t p none =
+            ap (λ (ys : List Store). stored ys w p) (put-same waits t (waits t ++ xs))
+            ∙ ap (λ (f : ℕ → ℕ). f p) (stored-on (waits t) xs w)
+            ∙ stored-same xs v s.words p (h.sees t p (λ y apart there. none y apart (subst (Waits p) (sym (unlike (waits t ++ xs) y apart)) there)))
+            ∙ sym (words p)
 
-      at_other : (u p : ℕ) → t ≢ u → ((y : ℕ) → u ≢ y → Waits p (put waits t (waits t ++ xs) y) → ⊥) → stored (waits u) w p ≡ s'.words p
-      at_other u p apart out =
-          let none : Waits p (waits t ++ xs) → ⊥ = λ there. out t (λ e. apart (sym e)) (subst (Waits p) (sym (put-same waits t (waits t ++ xs))) there) in
-          h.sees u p (λ y differs there. ⊎_elim
-          (λ e. none (waits-left p (waits t) xs (subst (λ (k : ℕ). Waits p (waits k)) (sym e) there)))
-          (λ another. out y differs (subst (Waits p) (sym (unlike (waits t ++ xs) y another)) there))
-          (same_or_not t y))
-          ∙ sym (stored-out xs s.words p (λ there. none (waits-right p (waits t) xs there)))
-          ∙ sym (words p)
-  way_holds Flushes dead (at, met, same_there, elsewhere) = record {
-    kept = kept;
-    dead = dead;
-    own = λ u p there. ⊎_elim
-        (λ e. absurd (subst (Waits p) (put-same waits t []) (subst (λ (k : ℕ). Waits p (put waits t [] k)) (sym e) there)))
-        (λ apart. others_own u p apart (subst (Waits p) (unlike [] u apart) there))
-        (same_or_not t u);
-    sees = λ u p out. ⊎_elim
-        (λ e. subst (λ (k : ℕ). ((y : ℕ) → k ≢ y → Waits p (put waits t [] y) → ⊥) → stored (put waits t [] k) a p ≡ s'.words p) e (λ none. ap (λ (ys : List Store). stored ys a p) (put-same waits t []) ∙ at_t p none) out)
-        (λ apart. ap (λ (ys : List Store). stored ys a p) (unlike [] u apart) ∙ at_other u p apart out (same_or_not p at))
-        (same_or_not t u);
-  }
-    where
-      at_t : (p : ℕ) → ((y : ℕ) → t ≢ y → Waits p (put waits t [] y) → ⊥) → a p ≡ s'.words p
-      at_t p none = ⊎_elim
-          (λ e. ap a e ∙ same_there ∙ ap s'.words (sym e))
-          (λ apart. (elsewhere p apart).0 ∙ h.sees t p (λ y differs there. none y differs (subst (Waits p) (sym (unlike [] y differs)) there)) ∙ sym (elsewhere p apart).1)
-          (same_or_not p at)
+        at_other : (u p : ℕ) → t ≢ u → ((y : ℕ) → u ≢ y → Waits p (put waits t (waits t ++ xs) y) → ⊥) → stored (waits u) w p ≡ s'.words p
+        at_other u p apart out =
+            let none : Waits p (waits t ++ xs) → ⊥ = λ there. out t (λ e. apart (sym e)) (subst (Waits p) (sym (put-same waits t (waits t ++ xs))) there) in
+            h.sees u p (λ y differs there. ⊎_elim
+            (λ e. none (waits-left p (waits t) xs (subst (λ (k : ℕ). Waits p (waits k)) (sym e) there)))
+            (λ another. out y differs (subst (Waits p) (sym (unlike (waits t ++ xs) y another)) there))
+            (same_or_not t y))
+            ∙ sym (stored-out xs s.words p (λ there. none (waits-right p (waits t) xs there)))
+            ∙ sym (words p)
+    way_holds (Writes at) keeps dead (shared, same_there, elsewhere) = record {
+      kept = kept;
+      dead = dead;
+      own = λ u p there. ⊎_elim
+          (λ e. subst (λ (k : ℕ). Waits p (waits k) → (1 ≤ k) × (k ≤ s'.layout.threads) × IsOwn s' k p) e (λ at_t. there_own t p (keeps tt (alive_there p at_t)) (h.own t p at_t)) there)
+          (λ apart. others_own u p apart there)
+          (same_or_not t u);
+      sees = λ u p out. ⊎_elim
+          (λ e. stored-out (waits u) (put w at (a at)) p (λ there. not_there u (subst (λ (x : ℕ). Waits x (waits u)) e there))
+          ∙ ap (put w at (a at)) e ∙ put-same w at (a at) ∙ same_there ∙ ap s'.words (sym e))
+          (λ far. stored-same (waits u) (put w at (a at)) w p (put-other w at (a at) p far) ∙ h.sees u p out ∙ sym (elsewhere p far))
+          (same_or_not p at);
+    }
+      where
+        not_there : (u : ℕ) → Waits at (waits u) → ⊥
+        not_there u there = let x = h.own u at there in shared_apart s u at x.0 x.1 shared x.2
 
-      at_other : (u p : ℕ) → t ≢ u → ((y : ℕ) → u ≢ y → Waits p (put waits t [] y) → ⊥) → (p ≡ at) ⊎ (p ≢ at) → stored (waits u) a p ≡ s'.words p
-      at_other u p apart out (inl e) =
-          stored-out (waits u) a p (λ there. let x = h.own u p there in met_apart s t u at x.0 x.1 apart met (subst (IsOwn s u) e x.2))
-          ∙ ap a e ∙ same_there ∙ ap s'.words (sym e)
-      at_other u p apart out (inr far) = ⊎_elim
-          (λ has. stored-same (waits u) a w p ((elsewhere p far).0 ∙ stored-out (waits t) w p (λ there. apart_there w waits s h t u p apart there has))
-          ∙ h.sees u p (λ y differs there. apart_there w waits s h u y p differs has there) ∙ sym (elsewhere p far).1)
-          (λ hasnt. stored-out (waits u) a p hasnt ∙ (elsewhere p far).0
-          ∙ h.sees t p (λ y differs there. ⊎_elim (λ e. hasnt (subst (λ (k : ℕ). Waits p (waits k)) (sym e) there)) (λ another. out y another (subst (Waits p) (sym (unlike [] y differs)) there)) (same_or_not u y))
-          ∙ sym (elsewhere p far).1)
-          (waits_or_not p (waits u))
+        alive_there : (p : ℕ) → Waits p (waits t) → is_alive (s.threads t).stage ≡ true
+        alive_there p there = go (is_alive (s.threads t).stage) refl
+          where
+            go : (b : Bool) → is_alive (s.threads t).stage ≡ b → b ≡ true
+            go true e = refl
+            go false e = absurd (subst (Waits p) (h.dead t e) there)
+    way_holds Flushes keeps dead (at, met, same_there, elsewhere) = record {
+      kept = kept;
+      dead = dead;
+      own = λ u p there. ⊎_elim
+          (λ e. absurd (subst (Waits p) (put-same waits t []) (subst (λ (k : ℕ). Waits p (put waits t [] k)) (sym e) there)))
+          (λ apart. others_own u p apart (subst (Waits p) (unlike [] u apart) there))
+          (same_or_not t u);
+      sees = λ u p out. ⊎_elim
+          (λ e. subst (λ (k : ℕ). ((y : ℕ) → k ≢ y → Waits p (put waits t [] y) → ⊥) → stored (put waits t [] k) a p ≡ s'.words p) e (λ none. ap (λ (ys : List Store). stored ys a p) (put-same waits t []) ∙ at_t p none) out)
+          (λ apart. ap (λ (ys : List Store). stored ys a p) (unlike [] u apart) ∙ at_other u p apart out (same_or_not p at))
+          (same_or_not t u);
+    }
+      where
+        at_t : (p : ℕ) → ((y : ℕ) → t ≢ y → Waits p (put waits t [] y) → ⊥) → a p ≡ s'.words p
+        at_t p none = ⊎_elim
+            (λ e. ap a e ∙ same_there ∙ ap s'.words (sym e))
+            (λ apart. (elsewhere p apart).0 ∙ h.sees t p (λ y differs there. none y differs (subst (Waits p) (sym (unlike [] y differs)) there)) ∙ sym (elsewhere p apart).1)
+            (same_or_not p at)
+
+        at_other : (u p : ℕ) → t ≢ u → ((y : ℕ) → u ≢ y → Waits p (put waits t [] y) → ⊥) → (p ≡ at) ⊎ (p ≢ at) → stored (waits u) a p ≡ s'.words p
+        at_other u p apart out (inl e) =
+            stored-out (waits u) a p (λ there. let x = h.own u p there in met_apart s t u at x.0 x.1 apart met (subst (IsOwn s u) e x.2))
+            ∙ ap a e ∙ same_there ∙ ap s'.words (sym e)
+        at_other u p apart out (inr far) = ⊎_elim
+            (λ has. stored-same (waits u) a w p ((elsewhere p far).0 ∙ stored-out (waits t) w p (λ there. apart_there w waits s h t u p apart there has))
+            ∙ h.sees u p (λ y differs there. apart_there w waits s h u y p differs has there) ∙ sym (elsewhere p far).1)
+            (λ hasnt. stored-out (waits u) a p hasnt ∙ (elsewhere p far).0
+            ∙ h.sees t p (λ y differs there. ⊎_elim (λ e. hasnt (subst (λ (k : ℕ). Waits p (waits k)) (sym e) there)) (λ another. out y another (subst (Waits p) (sym (unlike [] y differs)) there)) (same_or_not u y))
+            ∙ sym (elsewhere p far).1)
+            (waits_or_not p (waits u))
 
 unlike_by : (y : Way) (t : ℕ) (waits : ℕ → List Store) (u : ℕ) → t ≢ u → waits_by y t waits u ≡ waits u
 unlike_by Keeps t waits u apart = refl
 unlike_by (Appends xs) t waits u apart = put-other waits t (waits t ++ xs) u (λ e. apart (sym e))
+unlike_by (Writes at) t waits u apart = refl
 unlike_by Flushes t waits u apart = put-other waits t [] u (λ e. apart (sym e))
+
+still_by : (y : Way) (t : ℕ) (waits : ℕ → List Store) (u : ℕ) → IsStill y → waits_by y t waits u ≡ waits u
+still_by Keeps t waits u still = refl
+still_by (Writes at) t waits u still = refl
+still_by y t waits u still = absurd still
 
 dead_by : (w : ℕ → ℕ) (waits : ℕ → List Store) (s : State) (e : Event) → Holds w waits s → (u : ℕ) → is_alive ((happens s e).state.threads u).stage ≡ false → waits_by (way s e (happens s e).note) (caller e) waits u ≡ []
 dead_by w waits s e h u dying = ⊎_elim
@@ -245,7 +277,7 @@ dead_by w waits s e h u dying = ⊎_elim
     its : is_alive ((happens s e).state.threads (caller e)).stage ≡ false → waits_by (way s e (happens s e).note) (caller e) waits (caller e) ≡ []
     its on = ⊎_elim
         (λ flushes. ap (λ (y : Way). waits_by y (caller e) waits (caller e)) flushes ∙ put-same waits (caller e) [])
-        (λ (was, keeps). ap (λ (y : Way). waits_by y (caller e) waits (caller e)) keeps ∙ h.dead (caller e) was)
+        (λ (was, still). still_by (way s e (happens s e).note) (caller e) waits (caller e) still ∙ h.dead (caller e) was)
         (dies_so s e on)
 
 -- what a thread has is all that it stored
@@ -287,6 +319,7 @@ module _ (w : ℕ → ℕ) (waits : ℕ → List Store) (s : State) (e : Event) 
   left_is : (y : Way) → left_by (buffered w waits s) e on_view y ≡ buffered (words_by y w on_view.state.words) (waits_by y who waits) (happens s e).state
   left_is Keeps = ap (λ (z : State). buffered w waits z) alike.rest
   left_is (Appends xs) = ap (λ (z : State). buffered w (put waits who (waits who ++ xs)) z) alike.rest
+  left_is (Writes at) = ap (λ (z : State). buffered (put w at (on_view.state.words at)) waits z) alike.rest
   left_is Flushes = ap (λ (z : State). record { memory = z; buffers = put waits who [] }) alike.rest
 
   pub happens_so : Next w waits s e
@@ -297,7 +330,7 @@ module _ (w : ℕ → ℕ) (waits : ℕ → List Store) (s : State) (e : Event) 
     to = ap (λ (f : ℕ → ℕ). left_by (buffered w waits s) e (happens (with_words s f) e) (way s e (happens (with_words s f) e).note)) view_is_all
         ∙ ap (λ (n : Note). left_by (buffered w waits s) e on_view (way s e n)) alike.note
         ∙ left_is its_way;
-    holds = way_holds w waits s (happens s e).state who on_view.state.words h (sound s e h.kept).kept (sound s e h.kept).same (owner_stays s e h.kept) its_way (dead_by w waits s e h) alike.does;
+    holds = way_holds w waits s (happens s e).state who on_view.state.words h (sound s e h.kept).kept (sound s e h.kept).same (owner_stays s e h.kept) its_way (own_stays s e h.kept) (dead_by w waits s e h) alike.does;
     still = λ quiet. (ap (λ (n : Note). words_by (way s e n) w on_view.state.words) quiet, ap (λ (n : Note). waits_by (way s e n) who waits) quiet);
   }
 

@@ -27,6 +27,7 @@ use Rattle.protocol.specs.declared.thread.Stage.TheVariants.{Calling, AtConditio
 use Rattle.protocol.specs.Machine.{State, place_met}
 use Rattle.protocol.proofs.Kept.{Kept, Fits, Serves, Listed, LeftToWalk}
 use Rattle.protocol.proofs.Seeing.{head_in, cell_in, head_again, head_word_again, cell_again, entry_again, counter_again}
+use Rattle.protocol.proofs.Phases.{IsPlain, link_plain, unlink_plain}
 use Rattle.protocol.proofs.Places.{IsMine, mine_is_no_cell, mine_is_no_counter, links_mine, list_links, more_links, treated_at}
 use Rattle.protocol.proofs.Accesses.{fits_in}
 use Rattle.protocol.proofs.CellSteps as cell
@@ -74,22 +75,26 @@ IsNoStore a = Unit {0}
 abbrev pub IsShared : Layout' → ℕ → Type 0
 IsShared l p = ((m : ℕ) × (m < l.mutexes) × (p ≡ cell_place l m)) ⊎ ((c : ℕ) × (p ≡ counter_place l c))
 
--- an access of thread t meets one of its own words, or a shared one, which it doesn't store
+-- an access of thread t is a load or a store of one of its own words; or it meets a shared one, which it doesn't store
 abbrev pub Meets : State → ℕ → Access → Type 0
-Meets s t a = IsOwn s t (place_met s.layout t a) ⊎ (IsNoStore a × IsShared s.layout (place_met s.layout t a))
+Meets s t a = (IsPlain a × IsOwn s t (place_met s.layout t a)) ⊎ (IsNoStore a × IsShared s.layout (place_met s.layout t a))
 
 abbrev pub IsMet : State → ℕ → ℕ → Type 0
 IsMet s t p = ((1 ≤ t) × (t ≤ s.layout.threads) × IsOwn s t p) ⊎ IsShared s.layout p
 
 pub is_met_by : (s : State) (t : ℕ) (a : Access) → 1 ≤ t → t ≤ s.layout.threads → Meets s t a → IsMet s t (place_met s.layout t a)
-is_met_by s t a pos known (inl own) = inl (pos, known, own)
+is_met_by s t a pos known (inl (plain, own)) = inl (pos, known, own)
 is_met_by s t a pos known (inr (none, shared)) = inr shared
+
+-- no shared word is a thread's own
+pub shared_apart : (s : State) (u p : ℕ) → 1 ≤ u → u ≤ s.layout.threads → IsShared s.layout p → IsOwn s u p → ⊥
+shared_apart s u p first most (inl (m, inside, is)) b = own_no_cell s u p m first most inside b is
+shared_apart s u p first most (inr (c, is)) b = own_no_counter s u p c first most b is
 
 -- so no other thread's own
 pub met_apart : (s : State) (t u p : ℕ) → 1 ≤ u → u ≤ s.layout.threads → t ≢ u → IsMet s t p → IsOwn s u p → ⊥
 met_apart s t u p first most apart (inl (pos, known, own)) b = own_apart s t u p pos known first most apart own b
-met_apart s t u p first most apart (inr (inl (m, inside, is))) b = own_no_cell s u p m first most inside b is
-met_apart s t u p first most apart (inr (inr (c, is))) b = own_no_counter s u p c first most b is
+met_apart s t u p first most apart (inr shared) b = shared_apart s u p first most shared b
 
 -- ---- which word each access meets
 
@@ -110,17 +115,17 @@ module _ (s : State) (t : ℕ) (inv : Kept s) (pos : 1 ≤ t) (known : t ≤ s.l
   pending_own h is = inl (inr (inl (ap (λ (z : ℕ). place_in l t (address_sum z 2)) is ∙ head_word_again l t inv.layout pos known 2 (omega arith))))
 
   call_meets : (c : Op) (p : Whole) (f : Phase) → Fits s t (s.threads t).held (mutex_of l c) (record p { phase = f }) → Serves l c p → Listed s t (Calling c (record p { phase = f })) → Meets s t (whole_access (record p { phase = f }))
-  call_meets c p (Announcing r) fits serves listed = inl (pending_own p.head fits.head)
+  call_meets c p (Announcing r) fits serves listed = inl (tt, pending_own p.head fits.head)
   call_meets c p (AtCell r) fits serves listed = inr (cell_no_store p.thread p.cell r, inl (mutex_of l c, fits.inside, cell.at_place s t c p r inv pos known fits serves))
   call_meets c p (Linking k x) fits serves (es, owned, ch) =
       let near = links.near (head_in l t) p.entry es k.row (view_of s t) ch in
       let mine : IsMine s t (place_met l t (link_access (head_in l t) p.entry k.row)) = links_mine s t _ (more_links s t inv.layout pos known (mutex_of l c) (Some (mutex_of l c)) p.entry es _ owned fits.inside fits.entry fits.stands.3 near) in
-      inl (inl (subst (λ (z : ℕ × ℕ). IsMine s t (place_met l t (link_access z.0 z.1 k.row))) (λ i. (sym (fits.stands.0 ∙ fits.head) i, sym fits.stands.1 i)) mine))
+      inl (link_plain k.head k.entry k.row, inl (subst (λ (z : ℕ × ℕ). IsMine s t (place_met l t (link_access z.0 z.1 k.row))) (λ i. (sym (fits.stands.0 ∙ fits.head) i, sym fits.stands.1 i)) mine))
   call_meets c p (Unlinking k d) fits serves (es, owned, ch) =
       let near = unlinks.near (head_in l t) p.entry es k.row (view_of s t) ch in
       let mine : IsMine s t (place_met l t (unlink_access (head_in l t) p.entry k.row)) = links_mine s t _ (list_links s t inv.layout pos known None es _ owned near) in
-      inl (inl (subst (λ (z : ℕ × ℕ). IsMine s t (place_met l t (unlink_access z.0 z.1 k.row))) (λ i. (sym (fits.stands.0 ∙ fits.head) i, sym fits.stands.1 i)) mine))
-  call_meets c p (Clearing x) fits serves listed = inl (pending_own p.head fits.head)
+      inl (unlink_plain k.head k.entry k.row, inl (subst (λ (z : ℕ × ℕ). IsMine s t (place_met l t (unlink_access z.0 z.1 k.row))) (λ i. (sym (fits.stands.0 ∙ fits.head) i, sym fits.stands.1 i)) mine))
+  call_meets c p (Clearing x) fits serves listed = inl (tt, pending_own p.head fits.head)
   call_meets c p (Ended x) fits serves listed = absurd fits.stands
 
   -- of a call on a mutex, or the lock that ends a wait
@@ -139,15 +144,15 @@ module _ (s : State) (t : ℕ) (inv : Kept s) (pos : 1 ≤ t) (known : t ≤ s.l
             (λ e. inr (condition_of c, ap (place_in l t) e ∙ counter_again l t inv.layout pos known (condition_of c) fits.there))
             (words_address t (cell_in l t (mutex_of l (OnCondition c))) (counter_in l t (condition_of c)) r),
       ))
-      (λ x q near. inl (inl near.mine)) p is
+      (λ x q near. inl (near.plain, inl near.mine)) p is
 
   walk_no_store : (h : ℕ) (r : walk_row.Row) → IsNoStore (exit.row_access h r)
   walk_no_store h r = grind (arith)
 
   row_meets : (r : walk_row.Row) → exit.IsGoing r → exit.Knows t (head_in l t) r → LeftToWalk s t r → Meets s t (exit.row_access (head_in l t) r)
-  row_meets walk.LoadFirst going knows left = inl (inl (inl (head_again l t inv.layout pos known)))
-  row_meets (walk.LoadOffset first) going knows left = inl (inr (head_word_again l t inv.layout pos known 1 (omega arith)))
-  row_meets (walk.LoadPending first offset) going knows left = inl (inl (inr (inl (head_word_again l t inv.layout pos known 2 (omega arith)))))
+  row_meets walk.LoadFirst going knows left = inl (tt, inl (inl (head_again l t inv.layout pos known)))
+  row_meets (walk.LoadOffset first) going knows left = inl (tt, inr (head_word_again l t inv.layout pos known 1 (omega arith)))
+  row_meets (walk.LoadPending first offset) going knows left = inl (tt, inl (inr (inl (head_word_again l t inv.layout pos known 2 (omega arith)))))
   row_meets (walk.LoadNext r) going knows (es, left, offset, few) = by_list es left
     where
       by_list : (es : List ℕ) → Left s t r.entry r.pending es None → Meets s t (exit.row_access (head_in l t) (walk.LoadNext r))
@@ -155,7 +160,7 @@ module _ (s : State) (t : ℕ) (inv : Kept s) (pos : 1 ≤ t) (known : t ≤ s.l
       by_list (x ∷ xs) left =
           let first : r.entry ≡ x = left.leads.0 in
           let k = left.entries x (inl refl) in
-          inl (inl (inr (inr (k.0, k.1, inl (ap (place_in l t) (first ∙ k.2) ∙ entry_again l t inv.layout pos known k.0 k.1), k.3))))
+          inl (tt, inl (inr (inr (k.0, k.1, inl (ap (place_in l t) (first ∙ k.2) ∙ entry_again l t inv.layout pos known k.0 k.1), k.3))))
   row_meets (walk.LoadWord at rest) going knows (k, treats, left) = inr (tt, inl (k, treats.0, treated_at s t inv.layout pos known at k treats))
   row_meets (walk.Mark at v again rest) going knows (k, treats, left, only) = inr (tt, inl (k, treats.0, treated_at s t inv.layout pos known at k treats))
   row_meets (walk.WakeOne at rest) going knows (k, treats, left) = inr (tt, inl (k, treats.0, treated_at s t inv.layout pos known at k treats))

@@ -1,9 +1,10 @@
 -- The machine with a store buffer for each thread, as x86-TSO describes processors (Sewell, Sarkar, Owens, Zappa Nardelli
--- and Myreen, 2010; Intel's Software Developer's Manual, volume 3A, "Memory Ordering").
+-- and Myreen, 2010; Intel's Software Developer's Manual, volume 3A, "Memory Ordering"). More may happen here than there:
+-- of all locked instructions only a release waits for the buffer.
 use Rattle.std.specs.Prelude.{ℕ, ◌≡◌, ◌+◌, ◌⊎◌, Bool, true, false, List, [], ◌∷◌, ◌++◌, if◌then◌else◌}
 use Rattle.stepprograms.specs.declared.access.Access.{Access}
 use Rattle.stepprograms.specs.declared.access.Access.TheVariants as access
-use Rattle.memorymap.specs.Layouts.{Layout', head_place, head_word}
+use Rattle.memorymap.specs.Layouts.{Layout', head_place, head_word, cell_place}
 use Rattle.mutex.specs.Whole.{whole_access}
 use Rattle.condvar.specs.Whole.{cond_access}
 use Rattle.exitwalk.specs.Walks as exit
@@ -71,17 +72,18 @@ view b t = with_words b.memory (words_seen (b.buffers t) b.memory.words (b.memor
 
 -- ---- what an event does with its thread's buffer
 
--- it leaves the buffer; these stores wait at its end; or all that waits reaches memory first, and what the event writes
--- is written there
+-- it leaves the buffer; these stores wait at its end; the word at this place is written in memory, whatever waits; or
+-- all that waits reaches memory before the event is made there
 pub data Way : Type 0 where
   Keeps : Way
   Appends : List Store → Way
+  Writes : ℕ → Way
   Flushes : Way
 
--- a load leaves it, and a store waits. Exchanges and fetches are locked instructions, and these flush. Of the kernel's
--- sections under a bucket's lock a trim alone changes its word, and so flushes; the others leave it, since a driver
--- makes no call at all where it knows that nobody sleeps. (Where it makes one stores may reach memory before that, as at
--- any moment)
+-- a load leaves it, and a store waits. An exchange or a fetch, a locked instruction, writes its word in memory. A release,
+-- which is the one fetch-xor, flushes first: behind it others may own the mutex, and store its links. (On x86 each
+-- locked instruction flushes: drains right before it.) A trim, by the kernel under a bucket's lock, writes its word too.
+-- The kernel's other sections change no word, and a driver that knows that nobody sleeps leaves them out
 abbrev pub way_of : Layout' → ℕ → Access → Way
 way_of l t (access.Load at) = Keeps
 way_of l t (access.Store at v) =
@@ -92,7 +94,8 @@ way_of l t (access.Wait at e) = Keeps
 way_of l t (access.Wake at n) = Keeps
 way_of l t (access.Requeue from n to k) = Keeps
 way_of l t (access.CmpRequeue from e n to k) = Keeps
-way_of l t a = Flushes
+way_of l t (access.FetchXor at o) = Flushes
+way_of l t a = Writes (place_met l t a)
 
 -- the next access of a thread that stands there
 abbrev pub way_at : Layout' → ℕ → Stage → Way
@@ -110,13 +113,12 @@ head_stores l t = head_store l t 0 ∷ head_store l t 1 ∷ head_store l t 2 ∷
 
 -- an event that applies: a thread that dies flushes, since the kernel says by a locked instruction of that very thread
 -- that it is dead (in the C driver it marks the thread's token: robust-futexes), and nobody begins a walk before; a
--- renewed thread makes the stores of its head itself; a reinit is an exchange; and a begin, a leave and a decline write
--- nothing
+-- renewed thread stores its head itself; a reinit is an exchange; and a begin, a leave and a decline write nothing
 abbrev pub way_by : State → Event → Way
 way_by s (Step t) = way_at s.layout t (s.threads t).stage
 way_by s (Kill t) = Flushes
 way_by s (Renew t) = Appends (head_stores s.layout t)
-way_by s (Reinit t m) = Flushes
+way_by s (Reinit t m) = Writes (cell_place s.layout m)
 way_by s e = Keeps
 
 abbrev pub is_noted : Note → Bool
@@ -133,13 +135,15 @@ way s e n = if is_noted n then way_by s e else Keeps
 abbrev pub seen_by : Buffered → Event → After
 seen_by b e = happens (view b (caller e)) e
 
--- what it leaves, that came to a on its thread's view: words are written in memory only behind a flush
+-- what it leaves, that came to a on its thread's view
 abbrev pub left_by : Buffered → Event → After → Way → Buffered
 left_by b e a Keeps = record { memory = with_words a.state b.memory.words; buffers = b.buffers }
 left_by b e a (Appends xs) = record {
   memory = with_words a.state b.memory.words;
   buffers = put b.buffers (caller e) (b.buffers (caller e) ++ xs);
 }
+left_by b e a (Writes at) =
+    record { memory = with_words a.state (put b.memory.words at (a.state.words at)); buffers = b.buffers }
 left_by b e a Flushes =
     record { memory = (happens (flushed b (caller e)).memory e).state; buffers = (flushed b (caller e)).buffers }
 

@@ -2,8 +2,9 @@
 //! memory, as on x86 processors (x86-TSO: Sewell, Sarkar, Owens, Zappa Nardelli and Myreen, 2010).
 //!
 //! Threads store nothing but own words: of their heads, and the links of mutexes that they own. Mutexes' words and
-//! counters they change by locked instructions, which have the buffer reach memory first; so does a thread's death.
-//! Between the events of `protocol` stores reach memory one by one, at any moment (`Happening`). The laws:
+//! counters they change by locked instructions. A release has its thread's buffer reach memory first, and so has a
+//! thread's death. Between the events of `protocol` stores reach memory one by one, at any moment (`Happening`): so it
+//! is no matter whether other locked instructions have them do so, as those of x86 have. The laws:
 //!
 //! - `buffers_change_nothing`: what is told is what the machine without buffers tells, and memory, with all that waits,
 //!   is its state. So whatever the laws of `protocol` say of notes and states holds with buffers too;
@@ -19,7 +20,7 @@
 //! Happens (Begin 1 (OnMutex (Lock 0))) ∷ Happens (Step 1)
 //! // Its load of the mutex's word finds memory.
 //! ∷ Happens (Step 1)
-//! // The pending word reaches memory now, or, without this line, with the exchange that takes the mutex.
+//! // The pending word reaches memory, and an exchange takes the mutex; or the other way round.
 //! ∷ Drain 1
 //! ∷ Happens (Step 1) ∷ []
 //! ```
