@@ -187,6 +187,10 @@ module _ (s : State) (v : ℕ → ℕ) where
   chosen e true a b passes = passes refl
   chosen e false a b passes = record { note = refl; rest = refl; does = λ p. refl }
 
+  -- so it is where the test looks at words, and comes out the same
+  chosen_alike : (e : Event) (on_view on_words : Bool) → on_view ≡ on_words → (a b : After) → (on_words ≡ true → Comes s v e a b) → Comes s v e (if on_view then a else nothing (with_words s v)) (if on_words then b else nothing s)
+  chosen_alike e on_view on_words same a b passes = subst (λ (c : Bool). Comes s v e (if c then a else nothing (with_words s v)) (if on_words then b else nothing s)) (sym same) (chosen e on_words a b passes)
+
   -- a shared word that is written
   shared_put : (t at x : ℕ) → IsShared s.layout at → Does s t v (Writes at) (put v at x) (put s.words at x)
   shared_put t at x shared = (shared, put-same v at x ∙ sym (put-same s.words at x), λ p apart. put-other s.words at x p apart)
@@ -283,9 +287,7 @@ module _ (s : State) (v : ℕ → ℕ) where
         record { note = refl; rest = refl; does = shared_put t (cell_place s.layout m) 0 (inl (m, inside, refl)) }
 
     reinit_alike : Comes s v (Reinit t m) (happens (with_words s v) (Reinit t m)) (happens s (Reinit t m))
-    reinit_alike = subst (λ (c : Bool). Comes s v (Reinit t m) (if c then reinited (with_words s v) t m else nothing (with_words s v)) (happens s (Reinit t m)))
-        (sym (same_may (nat_lt m s.layout.mutexes) refl))
-        (chosen (Reinit t m) (may_reinit s t m) (reinited (with_words s v) t m) (reinited s t m) reinited_alike)
+    reinit_alike = chosen_alike (Reinit t m) (may_reinit (with_words s v) t m) (may_reinit s t m) (same_may (nat_lt m s.layout.mutexes) refl) (reinited (with_words s v) t m) (reinited s t m) reinited_alike
 
 -- each event, on its thread's view
 pub events_alike : (s : State) (v : ℕ → ℕ) (e : Event) → Kept s → Views s (caller e) v → ((m : ℕ) → m < s.layout.mutexes → v (cell_place s.layout m) ≡ s.words (cell_place s.layout m))

@@ -1,6 +1,6 @@
--- The machine with a store buffer for each thread, as x86-TSO describes processors (Sewell, Sarkar, Owens, Zappa Nardelli
--- and Myreen, 2010; Intel's Software Developer's Manual, volume 3A, "Memory Ordering"). More may happen here than there:
--- of all locked instructions only a release waits for the buffer.
+-- The machine with a store buffer for each thread, as x86-TSO describes processors (Sewell, Sarkar, Owens, Zappa
+-- Nardelli and Myreen, 2010; Intel's Software Developer's Manual, volume 3A, "Memory Ordering"). More may happen here
+-- than there: of all locked instructions only a release waits for the buffer.
 use Rattle.std.specs.Prelude.{ℕ, ◌≡◌, ◌+◌, ◌⊎◌, Bool, true, false, List, [], ◌∷◌, ◌++◌, if◌then◌else◌}
 use Rattle.stepprograms.specs.declared.access.Access.{Access}
 use Rattle.stepprograms.specs.declared.access.Access.TheVariants as access
@@ -80,10 +80,10 @@ pub data Way : Type 0 where
   Writes : ℕ → Way
   Flushes : Way
 
--- a load leaves it, and a store waits. An exchange or a fetch, a locked instruction, writes its word in memory. A release,
--- which is the one fetch-xor, flushes first: behind it others may own the mutex, and store its links. (On x86 each
--- locked instruction flushes: drains right before it.) A trim, by the kernel under a bucket's lock, writes its word too.
--- The kernel's other sections change no word, and a driver that knows that nobody sleeps leaves them out
+-- a load leaves it, and a store waits. An exchange or a fetch, a locked instruction, writes its word in memory. A
+-- release, which is the one fetch-xor, flushes first: behind it others may own the mutex, and store its links. (On x86
+-- each locked instruction flushes: drains right before it.) A trim, by the kernel under a bucket's lock, writes its
+-- word too. The kernel's other sections change no word, and a driver that knows that nobody sleeps leaves them out
 abbrev pub way_of : Layout' → ℕ → Access → Way
 way_of l t (access.Load at) = Keeps
 way_of l t (access.Store at v) =

@@ -1,5 +1,6 @@
 -- What holds of every run with store buffers.
-use Rattle.std.specs.Prelude.{ℕ, zero, suc, ◌≡◌, ◌≢◌, ◌<◌, ◌≤◌, ◌⊎◌, true, false, Some, List, [], ◌∷◌, ◌++◌, length, replicate}
+use Rattle.std.specs.Prelude.{ℕ, zero, suc, ◌≡◌, ◌≢◌, ◌<◌, ◌≤◌, ◌⊎◌, true, false, Some}
+use Rattle.std.specs.Prelude.{List, [], ◌∷◌, ◌++◌, length, replicate}
 use Rattle.lockword.specs.declared.reply.Reply.{Reply}
 use Rattle.lockword.specs.declared.reply.Reply.TheVariants.{XRACED}
 use Rattle.posixmutex.specs.Histories.{held_by}
@@ -12,7 +13,8 @@ use Rattle.protocol.specs.declared.event.Event.{Event}
 use Rattle.protocol.specs.declared.event.Event.TheVariants.{Begin, Step, Kill}
 use Rattle.protocol.specs.declared.note.Note.TheVariants.{Nothing}
 use Rattle.protocol.specs.declared.thread.Stage.TheVariants.{Reaped}
-use Rattle.protocol.specs.Machine.{State, start, run, notes, has_thread, is_alive, is_asleep, may_begin, sleepers, stands_in}
+use Rattle.protocol.specs.Machine.{State, start, run, notes}
+use Rattle.protocol.specs.Machine.{has_thread, is_alive, is_asleep, may_begin, sleepers, stands_in}
 use Rattle.protocol.specs.Headline.{seen, facts_among, IsHistory, NoReapedOwns}
 use Rattle.protocol.specs.Explained.{IsExplained}
 use Rattle.protocol.specs.Deaths.{deaths, IsNotRenewed}
@@ -20,7 +22,8 @@ use Rattle.protocol.specs.Sleepers.{IsAwake, IsAtRest, IsUnowned, Sleeps, IsAmon
 use Rattle.protocol.specs.PassedBy.{ArePresets, IsPassedBy}
 use Rattle.protocol.specs.Applies.{Applies, IsNotedAs}
 use Rattle.protocol.specs.Changes.{IsItsOwn}
-use Rattle.storebuffers.specs.Buffers.{Buffered, start_buffered, Waits, stored, with_words, seen_by, Happening, next, run_buffered, noted, without_drains}
+use Rattle.storebuffers.specs.Buffers.{Buffered, start_buffered, Waits, stored, with_words}
+use Rattle.storebuffers.specs.Buffers.{Happening, seen_by, next, run_buffered, noted, without_drains}
 use Rattle.storebuffers.specs.Buffers.Happening.{Happens, Drain}
 
 -- ---- memory, with all that waits
@@ -123,8 +126,8 @@ ReportsDeaths b hs = (before after rest : List Happening) (t : ℕ)
 
 -- the points and deaths that were told are a legal history, after which every mutex is as its cell in memory says; the
 -- trace is explained; no reaped thread owns a mutex; nobody who sleeps on a mutex is stranded; who runs alone comes to
--- rest; undivided calls reply; deaths are told; no wait is passed by; and the next event is noted as what it is where it
--- applies, and else does nothing, to no buffer either
+-- rest; undivided calls reply; deaths are told; no wait is passed by; and the next event is noted as what it is where
+-- it applies, and else does nothing, to no buffer either
 pub record PromisesHold (l : Layout') (counters : ℕ → ℕ) (hs : List Happening) : Type 0 where
   pub history : IsHistory (run_buffered (start_buffered l counters) hs).memory (noted (start_buffered l counters) hs)
   pub explained : IsExplained (without_drains hs) (noted (start_buffered l counters) hs)
