@@ -126,7 +126,7 @@ seen_same s s' k same cell = ap (λ (l : Layout'). if nat_lt k l.mutexes then ob
     go false e = refl
 
 -- a thread's own word is its own still, where what it owns is
-own_moves : (s s' : State) (u p : ℕ) → s'.layout ≡ s.layout → ((k : ℕ) → (seen s k).owner ≡ Some u → (seen s' k).owner ≡ Some u) → IsOwn s u p → IsOwn s' u p
+pub own_moves : (s s' : State) (u p : ℕ) → s'.layout ≡ s.layout → ((k : ℕ) → (seen s k).owner ≡ Some u → (seen s' k).owner ≡ Some u) → IsOwn s u p → IsOwn s' u p
 own_moves s s' u p same keeps (inr offset) = inr offset
 own_moves s s' u p same keeps (inl (inl first)) = inl (inl first)
 own_moves s s' u p same keeps (inl (inr (inl pending))) = inl (inr (inl pending))

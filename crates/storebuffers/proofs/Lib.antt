@@ -6,3 +6,4 @@ pub mod Alike
 pub mod Holding
 pub mod Drains
 pub mod Promises
+pub mod OwnWords

@@ -1,4 +1,5 @@
 //! What holds of every run with store buffers.
+ghost use Rattle.storebuffers.specs.OwnWords.{OwnWordsStay};
 ghost use Rattle.storebuffers.specs.Runs.{BuffersChangeNothing, BuffersDrain, PromisesHoldWithBuffers};
 
 /// Whatever happens, and whenever stores reach memory: what is told is what the machine without buffers tells of the
@@ -22,4 +23,11 @@ pub fn promises_hold_with_buffers()
 /// and nothing of it waits; nothing else changes. So no store waits for an event of any thread.
 pub fn buffers_drain()
     ensures { BuffersDrain }
+{}
+
+/// Whatever happened before, and whatever others do then: the words of a thread's head, and the links of the mutexes
+/// that it owns, are as it left them, and its own. So a load of one of them finds the same wherever it stands between
+/// the thread's own stores: before the first one too.
+pub fn own_words_stay()
+    ensures { OwnWordsStay }
 {}

@@ -9,7 +9,8 @@
 //! - `buffers_change_nothing`: what is told is what the machine without buffers tells, and memory, with all that waits,
 //!   is its state. So whatever the laws of `protocol` say of notes and states holds with buffers too;
 //! - `promises_hold_with_buffers`: the headline again, of memory as it stands;
-//! - `buffers_drain`: a buffer can always be emptied, whatever others do.
+//! - `buffers_drain`: a buffer can always be emptied, whatever others do;
+//! - `own_words_stay`: nobody else changes what a thread stores, so it may load that as early as it likes.
 //!
 //! Stands on `protocol`, for the machine, its laws and its invariant, on `mutex`, `condvar`, `robustlist` and
 //! `exitwalk`, for the accesses of calls and walks, on `stepprograms`, `memorymap`, `posixmutex` and `lockword`, for
@@ -28,4 +29,4 @@
 
 mod laws;
 
-pub use laws::{buffers_change_nothing, buffers_drain, promises_hold_with_buffers};
+pub use laws::{buffers_change_nothing, buffers_drain, own_words_stay, promises_hold_with_buffers};
