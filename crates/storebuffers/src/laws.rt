@@ -12,9 +12,10 @@ pub fn buffers_change_nothing()
 
 /// Whatever happens, and whenever stores reach memory, of memory as it stands, whatever waits: the points and deaths
 /// told are one legal history, which says of each mutex what its word in memory says; the trace is explained; no reaped
-/// thread owns a mutex; wherever sleepers of a mutex have no owner to wake them, some awake thread, run alone, takes
-/// the mutex or wakes one of them within 9,000 steps; whoever runs alone comes to rest within as many; calls that no
-/// other event divides reply as their mutex has it; and deaths are told, once.
+/// thread owns a mutex; wherever a mutex that nobody owns has sleepers, some awake thread, run alone, takes it or wakes
+/// one of them within 9,000 steps; whoever runs alone comes to rest within as many; calls that no other event divides
+/// reply as their mutex has it; deaths are told, once; no wait is passed by a signal or a broadcast; and the next event
+/// is noted as what it is where it applies, and else does nothing.
 pub fn promises_hold_with_buffers()
     ensures { PromisesHoldWithBuffers }
 {}

@@ -2,9 +2,9 @@
 //! memory, as on x86 processors (x86-TSO: Sewell, Sarkar, Owens, Zappa Nardelli and Myreen, 2010).
 //!
 //! Threads store nothing but own words: of their heads, and the links of mutexes that they own. Mutexes' words and
-//! counters they change by locked instructions. A release has its thread's buffer reach memory first, and so has a
-//! thread's death. Between the events of `protocol` stores reach memory one by one, at any moment (`Happening`): so it
-//! is no matter whether other locked instructions have them do so, as those of x86 have. The laws:
+//! counters they change by locked instructions. Before a release, and before a death, all that waits of the thread
+//! reaches memory. Between the events of `protocol` stores reach memory one by one, at any moment (`Happening`): so may
+//! all that waits before any other locked instruction, as on x86. The laws:
 //!
 //! - `buffers_change_nothing`: what is told is what the machine without buffers tells, and memory, with all that waits,
 //!   is its state. So whatever the laws of `protocol` say of notes and states holds with buffers too;
