@@ -11,6 +11,7 @@ use Rattle.condvar.specs.declared.op.Op.{Op}
 use Rattle.condvar.specs.Ops.{mutex_of, operation_of, condition_of}
 use Rattle.protocol.specs.declared.event.Event.{Event}
 use Rattle.protocol.specs.declared.event.Event.TheVariants.{Begin, Step, Kill}
+use Rattle.protocol.specs.declared.note.Note.{Note}
 use Rattle.protocol.specs.declared.note.Note.TheVariants.{Nothing}
 use Rattle.protocol.specs.declared.thread.Stage.TheVariants.{Reaped}
 use Rattle.protocol.specs.Machine.{State, start, run, notes}
@@ -50,12 +51,19 @@ pub record WaitsApart (b : Buffered) : Type 0 where
       → b.memory.words (counter_place b.memory.layout c) ≡ (settled b).words (counter_place b.memory.layout c)
   pub dead : (t : ℕ) → is_alive (b.memory.threads t).stage ≡ false → b.buffers t ≡ []
 
+-- where this leads from the beginning, and what it tells
+abbrev pub reached : Layout' → (ℕ → ℕ) → List Happening → Buffered
+reached l counters hs = run_buffered (start_buffered l counters) hs
+
+abbrev pub told : Layout' → (ℕ → ℕ) → List Happening → List Note
+told l counters hs = noted (start_buffered l counters) hs
+
 -- what is told is what the machine without buffers tells of the same events, and memory, with all that waits, is its
 -- state
 pub record RunsAsWithout (l : Layout') (counters : ℕ → ℕ) (hs : List Happening) : Type 0 where
-  pub notes : noted (start_buffered l counters) hs ≡ notes (start l counters) (without_drains hs)
-  pub state : settled (run_buffered (start_buffered l counters) hs) ≡ run (start l counters) (without_drains hs)
-  pub waits : WaitsApart (run_buffered (start_buffered l counters) hs)
+  pub notes : told l counters hs ≡ notes (start l counters) (without_drains hs)
+  pub state : settled (reached l counters hs) ≡ run (start l counters) (without_drains hs)
+  pub waits : WaitsApart (reached l counters hs)
 
 -- whatever happens, and whenever stores reach memory, with any values of the counters at the beginning
 abbrev pub BuffersChangeNothing : Type 0
@@ -129,22 +137,21 @@ ReportsDeaths b hs = (before after rest : List Happening) (t : ℕ)
 -- rest; undivided calls reply; deaths are told; no wait is passed by; and the next event is noted as what it is where
 -- it applies, and else does nothing, to no buffer either
 pub record PromisesHold (l : Layout') (counters : ℕ → ℕ) (hs : List Happening) : Type 0 where
-  pub history : IsHistory (run_buffered (start_buffered l counters) hs).memory (noted (start_buffered l counters) hs)
-  pub explained : IsExplained (without_drains hs) (noted (start_buffered l counters) hs)
-  pub reaped : NoReapedOwns (run_buffered (start_buffered l counters) hs).memory
-  pub owed : SomebodyOwes (run_buffered (start_buffered l counters) hs)
-  pub ends : (t : ℕ) → EndsAlone (run_buffered (start_buffered l counters) hs) t
-  pub undivided : (t : ℕ) → AreUndivided (run_buffered (start_buffered l counters) hs) t
+  pub history : IsHistory (reached l counters hs).memory (told l counters hs)
+  pub explained : IsExplained (without_drains hs) (told l counters hs)
+  pub reaped : NoReapedOwns (reached l counters hs).memory
+  pub owed : SomebodyOwes (reached l counters hs)
+  pub ends : (t : ℕ) → EndsAlone (reached l counters hs) t
+  pub undivided : (t : ℕ) → AreUndivided (reached l counters hs) t
   pub deaths : ReportsDeaths (start_buffered l counters) hs
-  pub passed : ArePresets counters → (t k : ℕ) → ¬ IsPassedBy t k (noted (start_buffered l counters) hs)
+  pub passed : ArePresets counters → (t k : ℕ) → ¬ IsPassedBy t k (told l counters hs)
   pub applies : (e : Event)
-      → Applies l (settled (run_buffered (start_buffered l counters) hs)) (noted (start_buffered l counters) hs) e
-      → IsNotedAs l (settled (run_buffered (start_buffered l counters) hs)) e
-      (seen_by (run_buffered (start_buffered l counters) hs) e).note
+      → Applies l (settled (reached l counters hs)) (told l counters hs) e
+      → IsNotedAs l (settled (reached l counters hs)) e (seen_by (reached l counters hs) e).note
   pub else_nothing : (e : Event)
-      → ¬ Applies l (settled (run_buffered (start_buffered l counters) hs)) (noted (start_buffered l counters) hs) e
-      → ((seen_by (run_buffered (start_buffered l counters) hs) e).note ≡ Nothing)
-      × (next (run_buffered (start_buffered l counters) hs) (Happens e) ≡ run_buffered (start_buffered l counters) hs)
+      → ¬ Applies l (settled (reached l counters hs)) (told l counters hs) e
+      → ((seen_by (reached l counters hs) e).note ≡ Nothing)
+      × (next (reached l counters hs) (Happens e) ≡ reached l counters hs)
 
 -- whatever happens, and whenever stores reach memory, with any values of the counters at the beginning
 abbrev pub PromisesHoldWithBuffers : Type 0
