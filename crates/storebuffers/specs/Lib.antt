@@ -1,0 +1,3 @@
+pub mod Buffers
+pub mod OwnWords
+pub mod Runs
