@@ -18,10 +18,10 @@ use Rattle.protocol.specs.declared.thread.Stage.{Stage}
 use Rattle.protocol.specs.declared.thread.Thread.{Thread}
 use Rattle.protocol.specs.declared.thread.Stage.TheVariants.{Dying}
 use Rattle.protocol.specs.declared.note.Note.TheVariants.{Nothing}
-use Rattle.protocol.specs.Machine.{State, After, happens, put, is_alive, stage_after, stage_at, begun}
+use Rattle.protocol.specs.Machine.{State, After, Led, happens, put, is_alive, stage_after, stage_at, begun}
 use Rattle.protocol.proofs.Puts.{put-same, put-other}
 use Rattle.protocol.proofs.Kept.{Kept}
-use Rattle.protocol.proofs.Events.{by_event, by_stage, begins_at}
+use Rattle.protocol.proofs.Events.{by_event, by_stage, begins_at, HowSpared, Of_unlock, Of_wait}
 use Rattle.lockword.specs.declared.reply.Reply.TheVariants.{XHELD}
 use Rattle.std.proofs.Common.{subst}
 use Rattle.protocol.specs.Machine.{nothing}
@@ -45,6 +45,10 @@ others_stand s e inv u = by_event s (λ e a. caller e ≢ u → a.state.threads 
     (λ t o p pos known is awake trims apart. put-other s.threads t _ u (λ e. apart (sym e)))
     (λ t pos known is apart. put-other s.threads t _ u (λ e. apart (sym e)))
     (λ t m may apart. refl)
+    (λ k may apart. refl)
+    (λ t m g is apart. put-other s.threads t _ u (λ e. apart (sym e)))
+    (λ t c p pos known is stands apart. refl)
+    (λ t w pos known is unmarked apart. refl)
     e
 
 -- a call leads nobody to its death
@@ -53,6 +57,10 @@ alive_after o p f = grind (arith)
 
 alive_at : (c : CondCall) (p : CondWhole) (f : CondPhase) → is_alive (stage_at c p f) ≡ true
 alive_at c p f = grind (arith)
+
+alive_spared : (s : State) (t m : ℕ) (g : Led) → HowSpared s t m g → is_alive g.stage ≡ true
+alive_spared s t m g (Of_unlock o p is mutex at leads) = ap (λ (z : Led). is_alive z.stage) leads ∙ alive_after o p _
+alive_spared s t m g (Of_wait c p seen is mutex at leads) = ap (λ (z : Led). is_alive z.stage) leads ∙ alive_at c p _
 
 -- the buffer stays
 abbrev pub IsStill : Way → Type 0
@@ -94,6 +102,10 @@ dies_so s e = by_event s (λ e a. Dies s (caller e) (way s e a.note) a)
     (λ t o p pos known is awake trims. lives s t _ _ (alive_after o p _))
     (λ t pos known is. lives s t _ _ refl)
     (λ t m may e. inr (e, tt))
+    (λ k may e. inr (e, tt))
+    (λ t m g is. lives s t _ _ (alive_spared s t m g is.how))
+    (λ t c p pos known is stands e. inr (e, tt))
+    (λ t w pos known is unmarked e. inr (e, tt))
     e
   where
     nothing_dies : (e : Event) → Dies s (caller e) (way s e Nothing) (nothing s)

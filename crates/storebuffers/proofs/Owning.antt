@@ -26,7 +26,8 @@ use Rattle.robustlist.proofs.Unlinks as unlinks
 use Rattle.protocol.specs.declared.thread.Stage.TheVariants.{Calling, AtCondition, Dying}
 use Rattle.protocol.specs.Machine.{State, place_met}
 use Rattle.protocol.proofs.Kept.{Kept, Fits, Serves, Listed, LeftToWalk}
-use Rattle.protocol.proofs.Seeing.{head_in, cell_in, head_again, head_word_again, cell_again, entry_again, counter_again}
+use Rattle.protocol.proofs.Seeing.{head_in, cell_in, head_again, cell_again, entry_again, counter_again}
+use Rattle.mutex.proofs.Addresses.{head_word_again}
 use Rattle.protocol.proofs.Phases.{IsPlain, link_plain, unlink_plain}
 use Rattle.protocol.proofs.Places.{IsMine, mine_is_no_cell, mine_is_no_counter, links_mine, list_links, more_links, treated_at}
 use Rattle.protocol.proofs.Accesses.{fits_in}

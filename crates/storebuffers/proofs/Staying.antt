@@ -13,6 +13,7 @@ use Rattle.protocol.proofs.Events.{by_event}
 use Rattle.protocol.proofs.Working.{by_step}
 use Rattle.protocol.proofs.Renewals.{renewed_seen}
 use Rattle.protocol.proofs.Reinits.{unowned, reinited_far}
+use Rattle.protocol.proofs.Recounting.{recounted_seen}
 use Rattle.storebuffers.proofs.Stores.{same_or_not}
 use Rattle.std.proofs.Common.{ℕ, ◌≤◌, true, refl, subst, arith}
 use Rattle.lockword.specs.declared.reply.Reply.TheVariants.{OK}
@@ -92,6 +93,10 @@ owner_stays s e inv = by_event s (OwnerStays s)
     (λ is. absurd (cc (sym own ∙ ap (λ (j : ℕ). (seen s j).owner) is ∙ unowned s t m may inv)))
     (λ other. ap (λ (o : Object). o.owner) (reinited_far s t m may k other) ∙ own)
     (same_or_not k m))
+    (λ c may u k apart own. ap (λ (o : Object). o.owner) (recounted_seen s c k) ∙ own)
+    (λ t m g is u k apart own. own)
+    (λ t c p pos known is stands u k apart own. own)
+    (λ t w pos known is unmarked u k apart own. own)
     e
 
 -- ---- what a thread's own event leaves it
@@ -196,4 +201,8 @@ own_stays s e inv = by_event s (OwnStays s)
     (λ is. absurd (cc (sym own ∙ ap (λ (j : ℕ). (seen s j).owner) is ∙ unowned s t m may inv)))
     (λ other. ap (λ (o : Object). o.owner) (reinited_far s t m may k other) ∙ own)
     (same_or_not k m))
+    (λ c may written alive k own. ap (λ (o : Object). o.owner) (recounted_seen s c k) ∙ own)
+    (λ t m g is written. absurd written)
+    (λ t c p pos known is stands written. absurd written)
+    (λ t w pos known is unmarked written. absurd written)
     e
