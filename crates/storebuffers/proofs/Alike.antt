@@ -11,6 +11,8 @@ use Rattle.stepprograms.specs.declared.access.Answer.TheVariants.{Fault, Trimmed
 use Rattle.stepprograms.specs.Accesses.{word_among, answer_among, is_nobody, sleeps_at}
 use Rattle.posixmutex.specs.declared.point.Operation.TheVariants as operation
 use Rattle.memorymap.specs.Layouts.{head_place, head_word, cell_place}
+use Rattle.exitwalk.specs.Standings as walks
+use Rattle.exitwalk.specs.Walks as exit
 use Rattle.facts.specs.declared.fact.Queue.{Queue}
 use Rattle.facts.specs.declared.fact.Queue.TheVariants.{Mutex, Condition}
 use Rattle.mutex.specs.Whole.{whole_access, whole_led}
@@ -19,16 +21,12 @@ use Rattle.condvar.specs.Calls.{condition_of}
 use Rattle.condvar.specs.declared.op.Op.{Op}
 use Rattle.condvar.specs.declared.op.Op.TheVariants.{OnCondition}
 use Rattle.condvar.specs.Whole.{cond_access, cond_led}
-use Rattle.exitwalk.specs.Standings as walks
-use Rattle.exitwalk.specs.Walks as exit
 use Rattle.protocol.specs.declared.event.Event.{Event}
 use Rattle.protocol.specs.declared.event.Event.TheVariants.{Begin, Step, Kill, Leave, Decline, Renew, Reinit}
 use Rattle.protocol.specs.declared.thread.Stage.{Stage}
 use Rattle.protocol.specs.declared.thread.Stage.TheVariants.{Idle, Calling, AtCondition, Dying, Reaped}
 use Rattle.protocol.specs.declared.note.Note.TheVariants.{Stepped, Walked}
-use Rattle.protocol.specs.Machine.{State, After, put, place_met, is_met, words_after, answer_of, joined, moved_by, woken_by, queue_after, happens, nothing, begun, first_stage, went, walked}
-use Rattle.protocol.specs.Machine.{Led, led, led_at, held_after, decision, slept_in, stepped, declined, spared, killed, departed, renewed, reinited, has_thread, is_alive, is_asleep, is_gone, is_trim, sleeps}
-use Rattle.protocol.specs.Machine.{may_begin, may_reinit, is_idle, sleepers, death_at, told_of, has_ended, stage_walked}
+use Rattle.protocol.specs.Machine.{State, After, put, place_met, is_met, words_after, answer_of, joined, moved_by, woken_by, queue_after, happens, nothing, begun, first_stage, went, walked, Led, led, led_at, held_after, decision, slept_in, stepped, declined, spared, killed, departed, renewed, reinited, has_thread, is_alive, is_asleep, is_gone, is_trim, sleeps, may_begin, may_reinit, is_idle, sleepers, death_at, told_of, has_ended, stage_walked}
 use Rattle.protocol.proofs.Puts.{by_put, put-same, put-other}
 use Rattle.protocol.proofs.Kept.{Kept}
 use Rattle.protocol.proofs.Renewals.{renewed_word, renewed_elsewhere}

@@ -1,33 +1,31 @@
 -- Who is dead behind an event.
-use Rattle.std.proofs.Common.{◌≡◌, ◌≢◌, ◌⊎◌, inl, inr, ℕ, Bool, true, false, Result, Ok, Err, refl, sym, ap, ◌∙◌, arith}
+use Rattle.std.proofs.Common.{◌≡◌, ◌≢◌, ◌⊎◌, inl, inr, ℕ, Bool, true, false, Result, Ok, Err, refl, sym, ap, ◌∙◌, arith, subst}
 use Rattle.std.specs.Prelude.{if◌then◌else◌}
 use Rattle.lockword.specs.declared.reply.Reply.{Reply}
+use Rattle.lockword.specs.declared.reply.Reply.TheVariants.{XHELD}
+use Rattle.memorymap.specs.Layouts.{Layout'}
+use Rattle.exitwalk.specs.declared.row.Row as walk_row
+use Rattle.exitwalk.specs.Standings as walks
+use Rattle.exitwalk.specs.Walks as exit
 use Rattle.mutex.specs.Standings.{Whole}
 use Rattle.mutex.specs.declared.phase.Phase.{Phase}
 use Rattle.condvar.specs.declared.phase.CondPhase.{CondPhase}
 use Rattle.condvar.specs.Standings.{CondWhole}
 use Rattle.condvar.specs.declared.op.Op.{Op}
 use Rattle.condvar.specs.declared.call.CondCall.{CondCall}
-use Rattle.exitwalk.specs.declared.row.Row as walk_row
-use Rattle.exitwalk.specs.Standings as walks
-use Rattle.exitwalk.specs.Walks as exit
-use Rattle.memorymap.specs.Layouts.{Layout'}
 use Rattle.protocol.specs.declared.event.Event.{Event}
 use Rattle.protocol.specs.declared.event.Event.TheVariants.{Begin, Step}
 use Rattle.protocol.specs.declared.thread.Stage.{Stage}
 use Rattle.protocol.specs.declared.thread.Thread.{Thread}
 use Rattle.protocol.specs.declared.thread.Stage.TheVariants.{Dying}
 use Rattle.protocol.specs.declared.note.Note.TheVariants.{Nothing}
-use Rattle.protocol.specs.Machine.{State, After, happens, put, is_alive, stage_after, stage_at, begun}
+use Rattle.protocol.specs.Machine.{State, After, happens, put, is_alive, stage_after, stage_at, begun, nothing}
 use Rattle.protocol.proofs.Puts.{put-same, put-other}
 use Rattle.protocol.proofs.Kept.{Kept}
 use Rattle.protocol.proofs.Events.{by_event, by_stage, begins_at}
-use Rattle.lockword.specs.declared.reply.Reply.TheVariants.{XHELD}
-use Rattle.std.proofs.Common.{subst}
-use Rattle.protocol.specs.Machine.{nothing}
-use Rattle.storebuffers.specs.Buffers.Way.{Keeps, Writes, Flushes}
 use Rattle.protocol.proofs.Working.{by_step}
 use Rattle.protocol.specs.Explained.{caller}
+use Rattle.storebuffers.specs.Buffers.Way.{Keeps, Writes, Flushes}
 use Rattle.storebuffers.specs.Buffers.{Way, way, way_at, way_of}
 
 -- whoever makes no step of its own stands where it stood

@@ -1,12 +1,23 @@
 -- Whose the word is that an access meets.
-use Rattle.std.proofs.Common.{◌≡◌, ◌≢◌, ◌⊎◌, inl, inr, ⊎_elim, ℕ, ◌+◌, ◌<◌, ◌≤◌, Some, None, List, [], ◌∷◌, refl, sym, ap, ◌∙◌, subst, arith}
+use Rattle.std.proofs.Common.{◌≡◌, ◌≢◌, ◌⊎◌, inl, inr, ⊎_elim, ℕ, ◌+◌, ◌<◌, ◌≤◌, Some, None, List, [], ◌∷◌, refl, sym, ap, ◌∙◌, subst, arith, eq-eqb, add-zero}
 use Rattle.stepprograms.specs.declared.access.Access.{Access}
 use Rattle.stepprograms.specs.Accesses.{address_of}
 use Rattle.memorymap.specs.Layouts.{Layout', head_place, cell_place, counter_place, place_in}
+use Rattle.memorymap.specs.Chains.{address_sum}
+use Rattle.robustlist.specs.Link.{link_access}
+use Rattle.robustlist.specs.Unlink.{unlink_access}
+use Rattle.robustlist.proofs.Links as links
+use Rattle.robustlist.proofs.Unlinks as unlinks
+use Rattle.exitwalk.specs.declared.row.Row as walk_row
+use Rattle.exitwalk.specs.declared.row.Row.TheVariants as walk
+use Rattle.exitwalk.specs.Standings as walks
+use Rattle.exitwalk.specs.Walks as exit
 use Rattle.mutex.specs.Standings.{Whole}
 use Rattle.mutex.specs.Whole.{whole_access}
 use Rattle.mutex.specs.declared.phase.Phase.{Phase}
 use Rattle.mutex.specs.declared.phase.Phase.TheVariants.{Announcing, AtCell, Linking, Unlinking, Clearing, Ended}
+use Rattle.mutex.specs.declared.row.Row.{Row}
+use Rattle.mutex.specs.Programs.{row_access}
 use Rattle.condvar.specs.Ops.{mutex_of}
 use Rattle.condvar.specs.Calls.{condition_of}
 use Rattle.condvar.specs.declared.op.Op.{Op}
@@ -15,32 +26,18 @@ use Rattle.condvar.specs.declared.call.CondCall.{CondCall}
 use Rattle.condvar.specs.declared.row.CondRow.{CondRow}
 use Rattle.condvar.specs.Standings.{CondWhole}
 use Rattle.condvar.specs.Whole.{cond_access}
-use Rattle.exitwalk.specs.declared.row.Row as walk_row
-use Rattle.exitwalk.specs.declared.row.Row.TheVariants as walk
-use Rattle.exitwalk.specs.Standings as walks
-use Rattle.exitwalk.specs.Walks as exit
-use Rattle.robustlist.specs.Link.{link_access}
-use Rattle.robustlist.specs.Unlink.{unlink_access}
-use Rattle.robustlist.proofs.Links as links
-use Rattle.robustlist.proofs.Unlinks as unlinks
+use Rattle.condvar.specs.Programs.{row_access as cond_row_access}
 use Rattle.protocol.specs.declared.thread.Stage.TheVariants.{Calling, AtCondition, Dying}
 use Rattle.protocol.specs.Machine.{State, place_met}
-use Rattle.protocol.proofs.Kept.{Kept, Fits, Serves, Listed, LeftToWalk}
-use Rattle.protocol.proofs.Seeing.{head_in, cell_in, head_again, head_word_again, cell_again, entry_again, counter_again}
+use Rattle.protocol.proofs.Kept.{Kept, Fits, Serves, Listed, LeftToWalk, view_of, Left}
+use Rattle.protocol.proofs.Seeing.{head_in, cell_in, head_again, head_word_again, cell_again, entry_again, counter_again, counter_in}
 use Rattle.protocol.proofs.Phases.{IsPlain, link_plain, unlink_plain}
 use Rattle.protocol.proofs.Places.{IsMine, mine_is_no_cell, mine_is_no_counter, links_mine, list_links, more_links, treated_at}
 use Rattle.protocol.proofs.Accesses.{fits_in}
 use Rattle.protocol.proofs.CellSteps as cell
 use Rattle.protocol.proofs.Working.{walk_is}
 use Rattle.protocol.proofs.Frames.{knows_at}
-use Rattle.protocol.proofs.Kept.{view_of, Left}
 use Rattle.protocol.proofs.CondAccesses.{by_access}
-use Rattle.mutex.specs.declared.row.Row.{Row}
-use Rattle.mutex.specs.Programs.{row_access}
-use Rattle.condvar.specs.Programs.{row_access as cond_row_access}
-use Rattle.memorymap.specs.Chains.{address_sum}
-use Rattle.protocol.proofs.Seeing.{counter_in}
-use Rattle.std.proofs.Common.{eq-eqb, add-zero}
 use Rattle.protocol.specs.Changes.{IsItsOwn}
 
 -- a word of thread t's own: of its head, or a link of a mutex that it owns

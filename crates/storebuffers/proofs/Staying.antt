@@ -1,27 +1,17 @@
 -- Whose mutex it is stays, whatever another thread does, and whatever its owner does but a release.
-use Rattle.std.proofs.Common.{◌≡◌, ◌≢◌, ⊎_elim, ℕ, Option, Some, None, sym, ap, ◌∙◌}
+use Rattle.std.proofs.Common.{◌≡◌, ◌≢◌, ⊎_elim, ℕ, Option, Some, None, sym, ap, ◌∙◌, ◌≤◌, true, refl, subst, arith, Result, Ok, Err}
 use Rattle.lockword.specs.declared.reply.Reply.{Reply}
-use Rattle.posixmutex.specs.declared.object.Object.{Object}
-use Rattle.posixmutex.proofs.Objects.{others_keep}
-use Rattle.protocol.specs.declared.event.Event.{Event}
-use Rattle.protocol.specs.Machine.{State, After, happens, begun}
-use Rattle.protocol.specs.Headline.{seen}
-use Rattle.protocol.proofs.Kept.{Kept}
-use Rattle.protocol.proofs.Steps.{Tells, Transition, after}
-use Rattle.protocol.proofs.Stepping.{Stepping}
-use Rattle.protocol.proofs.Events.{by_event}
-use Rattle.protocol.proofs.Working.{by_step}
-use Rattle.protocol.proofs.Renewals.{renewed_seen}
-use Rattle.protocol.proofs.Reinits.{unowned, reinited_far}
-use Rattle.storebuffers.proofs.Stores.{same_or_not}
-use Rattle.std.proofs.Common.{ℕ, ◌≤◌, true, refl, subst, arith}
 use Rattle.lockword.specs.declared.reply.Reply.TheVariants.{OK}
 use Rattle.stepprograms.specs.declared.access.Access.{Access}
 use Rattle.stepprograms.specs.declared.access.Answer.{Answer}
+use Rattle.posixmutex.specs.declared.object.Object.{Object}
+use Rattle.posixmutex.proofs.Objects.{others_keep}
 use Rattle.posixmutex.specs.declared.point.Operation.{Operation}
 use Rattle.posixmutex.specs.declared.point.Operation.TheVariants as operation
 use Rattle.posixmutex.specs.Objects.{Permits}
 use Rattle.memorymap.specs.Layouts.{Layout'}
+use Rattle.exitwalk.specs.Standings as walks
+use Rattle.facts.specs.declared.fact.Queue.TheVariants.{Mutex, Condition}
 use Rattle.mutex.specs.Standings.{Whole}
 use Rattle.mutex.specs.declared.phase.Phase.{Phase}
 use Rattle.mutex.specs.declared.phase.Phase.TheVariants.{Announcing, AtCell, Linking, Unlinking, Clearing, Ended}
@@ -33,30 +23,34 @@ use Rattle.condvar.specs.declared.row.CondRow.{CondRow}
 use Rattle.condvar.specs.Standings.{CondWhole}
 use Rattle.condvar.specs.Programs.{point_of}
 use Rattle.condvar.specs.Programs.{row_access as cond_row_access, resume_of as cond_resume_of}
-use Rattle.condvar.specs.Calls.{operation_of}
+use Rattle.condvar.specs.Calls.{operation_of, condition_of}
 use Rattle.condvar.specs.Whole.{cond_access, cond_led}
-use Rattle.exitwalk.specs.Standings as walks
-use Rattle.protocol.specs.declared.event.Event.TheVariants.{Begin, Step}
-use Rattle.protocol.specs.declared.thread.Stage.TheVariants.{Calling, AtCondition, Dying}
 use Rattle.condvar.specs.Ops.{mutex_of}
 use Rattle.condvar.specs.declared.op.Op.TheVariants.{OnCondition}
-use Rattle.protocol.specs.Machine.{went, led, led_at, answer_of, decided_at, reply_at, is_alive}
-use Rattle.protocol.proofs.Kept.{InPhase}
+use Rattle.condvar.specs.declared.op.Op.{Op}
+use Rattle.protocol.specs.declared.event.Event.{Event}
+use Rattle.protocol.specs.Machine.{State, After, happens, begun, went, led, led_at, answer_of, decided_at, reply_at, is_alive}
+use Rattle.protocol.specs.Headline.{seen}
+use Rattle.protocol.proofs.Kept.{Kept, InPhase}
+use Rattle.protocol.proofs.Steps.{Tells, Transition, after, call_step, cond_step, went-is}
+use Rattle.protocol.proofs.Stepping.{Stepping}
+use Rattle.protocol.proofs.Events.{by_event, by_stage}
+use Rattle.protocol.proofs.Working.{by_step}
+use Rattle.protocol.proofs.Renewals.{renewed_seen}
+use Rattle.protocol.proofs.Reinits.{unowned, reinited_far}
+use Rattle.protocol.specs.declared.event.Event.TheVariants.{Begin, Step}
+use Rattle.protocol.specs.declared.thread.Stage.TheVariants.{Calling, AtCondition, Dying}
 use Rattle.protocol.proofs.Phases.{IsPlain, link_plain, unlink_plain}
-use Rattle.protocol.proofs.Events.{by_stage}
 use Rattle.protocol.proofs.Accesses.{goes, fits_in}
 use Rattle.protocol.proofs.CallSteps.{call_stepping}
 use Rattle.protocol.proofs.CondAccesses.{by_access, cond_stepping}
-use Rattle.protocol.proofs.Steps.{call_step, cond_step, went-is}
-use Rattle.facts.specs.declared.fact.Queue.TheVariants.{Mutex, Condition}
-use Rattle.condvar.specs.Calls.{condition_of}
-use Rattle.storebuffers.specs.Buffers.{Way, way, way_at, way_of}
-use Rattle.storebuffers.specs.Buffers.Way.{Writes}
-use Rattle.std.proofs.Common.{Result, Ok, Err}
-use Rattle.condvar.specs.declared.op.Op.{Op}
 use Rattle.protocol.specs.declared.thread.Stage.{Stage}
 use Rattle.protocol.specs.Explained.{caller}
+use Rattle.storebuffers.proofs.Stores.{same_or_not}
+use Rattle.storebuffers.specs.Buffers.{Way, way, way_at, way_of}
+use Rattle.storebuffers.specs.Buffers.Way.{Writes}
 
+-- what any other than thread t owns it owns behind an event of t's
 abbrev pub StaysIn : State → ℕ → State → Type 0
 StaysIn s t s' = (u k : ℕ) → t ≢ u → (seen s k).owner ≡ Some u → (seen s' k).owner ≡ Some u
 
@@ -75,14 +69,15 @@ of_step s t v step u k apart own = ⊎_elim
         let owned : (seen s v.mutex).owner ≡ Some u = sym (ap (λ (j : ℕ). (seen s j).owner) is) ∙ own in
         ap (λ (j : ℕ). (seen (after s t v) j).owner) is ∙ ap (λ (o : Object). o.owner) (others_keep (seen s v.mutex) (seen (after s t v) v.mutex) t u v.operation x owned apart permits) ∙ owned
 
-by_refusal_of : (s : State) (t : ℕ) (o : Op) (r : Result Stage Reply) (u k : ℕ) → (seen s k).owner ≡ Some u → (seen (begun s t o r).state k).owner ≡ Some u
-by_refusal_of s t o (Ok g) u k own = own
-by_refusal_of s t o (Err x) u k own = own
+-- a begin changes no mutex, whether it is refused or not
+by_begin : (s : State) (t : ℕ) (o : Op) (r : Result Stage Reply) (u k : ℕ) → (seen s k).owner ≡ Some u → (seen (begun s t o r).state k).owner ≡ Some u
+by_begin s t o (Ok g) u k own = own
+by_begin s t o (Err x) u k own = own
 
 pub owner_stays : (s : State) (e : Event) → Kept s → OwnerStays s e (happens s e)
 owner_stays s e inv = by_event s (OwnerStays s)
     (λ e u k apart own. own)
-    (λ t o pos known named resting b is u k apart own. by_refusal_of s t o _ u k own)
+    (λ t o pos known named resting b is u k apart own. by_begin s t o _ u k own)
     (λ t pos known. by_step s t inv pos known (λ (a : After). StaysIn s t a.state) (λ rests u k apart own. own) (λ v n is awake step noted. of_step s t v step))
     (λ t pos known alive u k apart own. own)
     (λ t pos known asleep u k apart own. own)
@@ -107,9 +102,11 @@ Loses operation.Unlock OK = Unit {0}
 Loses operation.Death OK = Unit {0}
 Loses op x = ⊥
 
+-- by any other reply it stays its own
 owner_keeps : (o n : Object) (t : ℕ) (op : Operation) (x : Reply) → o.owner ≡ Some t → (Loses op x → ⊥) → Permits o t op x n → n.owner ≡ Some t
 owner_keeps o n t op x own keeps permits = grind (arith)
 
+-- what thread t owns it owns then
 abbrev pub StaysOwn : State → ℕ → State → Type 0
 StaysOwn s t s' = (k : ℕ) → (seen s k).owner ≡ Some t → (seen s' k).owner ≡ Some t
 
@@ -133,6 +130,7 @@ condition_keeps : (l : Layout') (u t cell counter : ℕ) (r : CondRow) (a : Answ
     → reply_at (point_of t cell (cond_resume_of t r a).decided) ≡ Some x → Loses (decided_at op (point_of t cell (cond_resume_of t r a).decided)) x → ⊥
 condition_keeps l u t cell counter r a op x written point loses = grind (arith)
 
+-- nor is a load or a store
 plain_unwritten : (l : Layout') (u : ℕ) (a : Access) → IsPlain a → IsWritten (way_of l u a) → ⊥
 plain_unwritten l u a plain written = grind (arith)
 
@@ -175,6 +173,7 @@ module _ (s : State) (t : ℕ) (inv : Kept s) (pos : 1 ≤ t) (known : t ≤ s.l
   not_dying : (w : walks.Standing) → (s.threads t).stage ≡ Dying w → is_alive (s.threads t).stage ≡ true → ⊥
   not_dying w is alive = cc (sym (ap is_alive is) ∙ alive)
 
+-- nor a begin
 begins_unwritten : (s : State) (t : ℕ) (o : Op) (r : Result Stage Reply) → IsWritten (way s (Begin t o) (begun s t o r).note) → ⊥
 begins_unwritten s t o (Ok g) written = written
 begins_unwritten s t o (Err x) written = written
