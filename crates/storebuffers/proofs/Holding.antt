@@ -2,6 +2,7 @@
 use Rattle.std.proofs.Common.{◌≡◌, ◌≢◌, ◌⊎◌, inl, inr, ⊎_elim, ℕ, zero, suc, ◌+◌, ◌<◌, ◌≤◌, Bool, true, false, Some, List, [], ◌∷◌, ◌++◌, refl, sym, ap, ◌∙◌, subst, arith}
 use Rattle.std.specs.Prelude.{if◌then◌else◌, nat_lt}
 use Rattle.std.proofs.lemmas.Bool.Decides.{nat_tests}
+use mathlib.Core.Path.{fun_ext}
 use Rattle.lockword.specs.Cells.{fields_of}
 use Rattle.posixmutex.specs.declared.object.Object.{Object}
 use Rattle.posixmutex.specs.Objects.{object_of, fresh}
@@ -9,28 +10,27 @@ use Rattle.memorymap.specs.Layouts.{Layout', IsLayout, entry_place, cell_place, 
 use Rattle.protocol.specs.declared.event.Event.{Event}
 use Rattle.protocol.specs.declared.note.Note.{Note}
 use Rattle.protocol.specs.declared.note.Note.TheVariants.{Nothing}
-use Rattle.protocol.specs.Machine.{State, After, put, start, happens, run, notes}
+use Rattle.protocol.specs.Machine.{State, After, put, start, happens, run, notes, is_alive}
 use Rattle.protocol.specs.Headline.{seen}
 use Rattle.protocol.proofs.Puts.{by_put, put-same, put-other}
 use Rattle.protocol.proofs.Kept.{Kept}
 use Rattle.protocol.proofs.Runs.{sound, start_kept}
 use Rattle.protocol.specs.Explained.{caller}
+use Rattle.protocol.specs.Changes.{IsItsOwn}
+use Rattle.protocol.specs.declared.thread.Thread.{Thread}
+use Rattle.protocol.specs.declared.thread.Stage.{Stage}
+use Rattle.protocol.specs.declared.thread.Stage.TheVariants.{Idle, Calling, AtCondition, Dying, Reaped}
 use Rattle.storebuffers.specs.Buffers.{Store, Buffered, Waits, stored, with_words, drained, words_seen, Way, way, seen_by, left_by, Happening, next, run_buffered, noted, without_drains}
 use Rattle.storebuffers.specs.Runs.{all_stored, settled, WaitsApart, BuffersChangeNothing}
-use Rattle.protocol.specs.Changes.{IsItsOwn}
-use mathlib.Core.Path.{fun_ext}
 use Rattle.storebuffers.specs.Buffers.Way.{Keeps, Appends, Writes, Flushes}
 use Rattle.storebuffers.specs.Buffers.Happening.{Happens, Drain}
 use Rattle.storebuffers.proofs.Stores.{stored-out, stored-same, stored-on, waits-on, waits_or_not, same_or_not, waits-left, waits-right}
 use Rattle.storebuffers.proofs.Owning.{IsOwn, own_is_its, own_apart, own_no_cell, own_no_counter, shared_apart, met_apart}
-use Rattle.protocol.specs.Machine.{is_alive}
-use Rattle.protocol.specs.declared.thread.Thread.{Thread}
-use Rattle.protocol.specs.declared.thread.Stage.{Stage}
-use Rattle.protocol.specs.declared.thread.Stage.TheVariants.{Idle, Calling, AtCondition, Dying, Reaped}
 use Rattle.storebuffers.proofs.Dying.{IsStill, others_stand, dies_so}
 use Rattle.storebuffers.proofs.Staying.{IsWritten, owner_stays, own_stays}
 use Rattle.storebuffers.proofs.Alike.{Does, Views, Comes, events_alike}
 
+-- the machine in state s, but with these words in memory, and these stores that wait
 abbrev pub buffered : (ℕ → ℕ) → (ℕ → List Store) → State → Buffered
 buffered w waits s = record { memory = with_words s w; buffers = waits }
 
@@ -257,6 +257,7 @@ module _ (w : ℕ → ℕ) (waits : ℕ → List Store) (s s' : State) (t : ℕ)
             ∙ sym (elsewhere p far).1)
             (waits_or_not p (waits u))
 
+-- whoever makes no event keeps its buffer
 unlike_by : (y : Way) (t : ℕ) (waits : ℕ → List Store) (u : ℕ) → t ≢ u → waits_by y t waits u ≡ waits u
 unlike_by Keeps t waits u apart = refl
 unlike_by (Appends xs) t waits u apart = put-other waits t (waits t ++ xs) u (λ e. apart (sym e))
@@ -268,6 +269,7 @@ still_by Keeps t waits u still = refl
 still_by (Writes at) t waits u still = refl
 still_by y t waits u still = absurd still
 
+-- nothing waits of whoever is dead behind an event
 dead_by : (w : ℕ → ℕ) (waits : ℕ → List Store) (s : State) (e : Event) → Holds w waits s → (u : ℕ) → is_alive ((happens s e).state.threads u).stage ≡ false → waits_by (way s e (happens s e).note) (caller e) waits u ≡ []
 dead_by w waits s e h u dying = ⊎_elim
     (λ is. subst (λ (k : ℕ). is_alive ((happens s e).state.threads k).stage ≡ false → waits_by (way s e (happens s e).note) (caller e) waits k ≡ []) is its dying)
