@@ -9,3 +9,6 @@ mod Trims
 mod Leaving
 mod Renewing
 mod Reiniting
+mod Recounting
+mod Sparing
+mod Repeating

@@ -95,7 +95,7 @@ begin_state l ws kernel ts k t o g th pos known at len inside e rests starts =
 -- ---- an access
 
 -- a function with the value that it has there anyway
-put-itself : {A : Type 0} (f : ℕ → A) (k : ℕ) → put f k (f k) ≡ f
+pub put-itself : {A : Type 0} (f : ℕ → A) (k : ℕ) → put f k (f k) ≡ f
 put-itself f k = fun_ext (λ p. by_put (λ x. x ≡ f p) f k (f k) p (λ is. ap f (sym is)) (λ apart. refl))
 
 module _ (l : Layout') (ws : List ℕ) (kernel : Kernel') (ts : List Thread) (room : length ws ≡ words_of l) (t : ℕ) where

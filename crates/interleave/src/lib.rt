@@ -33,8 +33,11 @@ mod deaths;
 mod leaves;
 mod machine;
 mod ops;
+mod recounts;
 mod reinits;
 mod renewals;
+mod repeats;
+mod spares;
 mod threads;
 mod trace;
 

@@ -18,8 +18,11 @@ use crate::accesses::{Performed, perform};
 use crate::deaths::{kill, walk_on};
 use crate::leaves::{decline, leave};
 use crate::ops::begun;
+use crate::recounts::recount;
 use crate::reinits::reinit;
 use crate::renewals::renew;
+use crate::repeats::{repeat, resleep};
+use crate::spares::spare;
 use condvar::{CondCall, CondProgram, Op};
 use facts::Queue;
 use lockword::{Reply, Tid};
@@ -60,7 +63,7 @@ pub(crate) fn stage_after(op: Op, program: &Program, progress: &Progress) -> Sta
 
 /// Where a thread stands after an access of a call on a condition variable. A wait that is awake again is in the lock
 /// that ends it.
-fn stage_at(call: CondCall, program: &CondProgram, progress: &Progress) -> Stage
+pub(crate) fn stage_at(call: CondCall, program: &CondProgram, progress: &Progress) -> Stage
     ensures { result ≡ stage_at_in call program.now progress.now }
 {
     match (*progress, program.lock()) {
@@ -389,5 +392,9 @@ pub(crate) fn apply(
         Event::Decline(thread) => decline(layout, kernel, threads, thread),
         Event::Renew(thread) => renew(layout, memory, threads, thread),
         Event::Reinit(thread, mutex) => reinit(layout, memory, kernel, threads, thread, mutex),
+        Event::Recount(condition) => recount(layout, memory, kernel, threads, condition),
+        Event::Spare(thread) => spare(layout, kernel, threads, thread),
+        Event::Resleep(thread) => resleep(layout, memory, kernel, threads, thread),
+        Event::Repeat(thread) => repeat(layout, memory, kernel, threads, thread),
     }
 }

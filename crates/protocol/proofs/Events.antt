@@ -94,7 +94,7 @@ may_again s t m may =
 
 -- ---- recounts
 
-none_so : (threads : ℕ → Thread) (k n t : ℕ) → none_counts threads k n ≡ true → 1 ≤ t → t ≤ n → holds_count k (threads t).stage ≡ false
+pub none_so : (threads : ℕ → Thread) (k n t : ℕ) → none_counts threads k n ≡ true → 1 ≤ t → t ≤ n → holds_count k (threads t).stage ≡ false
 none_so threads k zero t e pos known = absurd (omega arith)
 none_so threads k (suc n) t e pos known = go (suc n == t) refl (none_so threads k n t)
   where

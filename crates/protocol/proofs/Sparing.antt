@@ -46,7 +46,7 @@ another_is s t m (suc n) e = go (suc n == t) refl (is_asleep s (suc n)) refl (an
     go false apart true awake c looks e rest = later (rest e)
     go true is b awake c looks e rest = later (rest e)
 
-another_again : (s : State) (t m n u : ℕ) → 1 ≤ u → u ≤ n → u ≢ t → is_asleep s u ≡ false → answers s.layout m (s.threads u).stage ≡ true → another_answers s t m n ≡ true
+pub another_again : (s : State) (t m n u : ℕ) → 1 ≤ u → u ≤ n → u ≢ t → is_asleep s u ≡ false → answers s.layout m (s.threads u).stage ≡ true → another_answers s t m n ≡ true
 another_again s t m zero u first last apart awake looks = absurd (omega arith)
 another_again s t m (suc n) u first last apart awake looks = go (suc n == u) refl (another_again s t m n u first)
   where

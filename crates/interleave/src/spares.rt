@@ -1,0 +1,275 @@
+//! Wakes that are spared, since another thread answers for the mutex.
+ghost use Rattle.std.specs.Prelude.{◌≡◌, ◌≤◌, ◌==◌, ◌&&◌, not, ℕ, List, length, true};
+ghost use Rattle.mutex.specs.Whole.{IsUnderWay, PhaseKnows};
+ghost use Rattle.condvar.specs.Whole as condition;
+ghost use Rattle.condvar.specs.declared.op.Op.TheVariants.{OnCondition};
+ghost use Rattle.condvar.specs.Ops.{is_in, mutex_of};
+ghost use Rattle.protocol.specs.declared.event.Event.TheVariants.{Spare};
+ghost use Rattle.protocol.specs.declared.thread.Thread.{Thread};
+ghost use Rattle.protocol.specs.declared.thread.Stage.TheVariants.{AtCondition, Calling};
+ghost use Rattle.protocol.specs.Machine.{happens, answers_at, wakes_next, wakes_one, answers};
+ghost use Rattle.protocol.specs.Machine.{another_answers, is_asleep};
+ghost use Rattle.syscalls.specs.Kernels.{Kernel'};
+ghost use Rattle.interleave.specs.Shown.{state_at, thread_at};
+ghost use Rattle.interleave.specs.Steps.{IsOnItsWay, MayStep, SleepsInItsCall};
+
+use crate::accesses::quiet;
+use crate::threads::{held_after, point, stage_after, stage_at, stepped};
+use condvar::{CondCall, CondPhase, CondProgram, CondRow, Op, WaitRow};
+use facts::Queue;
+use lockword::Tid;
+use memorymap::Layout;
+use mutex::{Phase, Program, Row, UnlockRow};
+use protocol::{Note, Stage, Thread};
+use stepprograms::{Answer, StepProgram};
+use syscalls::Kernel;
+
+/// Whether a call that stands there takes its mutex, or wakes one that sleeps on it, unless it finds it owned.
+fn answers_at(phase: &Phase) -> bool
+    ensures { result ≡ answers_at phase.now }
+{
+    match *phase {
+        Phase::AtCell(Row::Lock(_) | Row::Unlock(UnlockRow::Wake { .. })) => true,
+        Phase::AtCell(
+            Row::TryLock(_)
+            | Row::Unlock(UnlockRow::Load | UnlockRow::Release { .. } | UnlockRow::Trim)
+            | Row::Consistent(_)
+            | Row::Ended(_),
+        ) => false,
+        Phase::Announcing { .. }
+        | Phase::Linking { .. }
+        | Phase::Unlinking { .. }
+        | Phase::Clearing { .. }
+        | Phase::Ended(_) => false,
+    }
+}
+
+/// Whether it is an unlock that is about to wake one sleeper.
+fn wakes_one(phase: &Phase) -> bool
+    ensures { result ≡ wakes_one phase.now }
+{
+    match *phase {
+        Phase::AtCell(Row::Unlock(UnlockRow::Wake { all })) => !all,
+        Phase::AtCell(
+            Row::Lock(_)
+            | Row::TryLock(_)
+            | Row::Unlock(UnlockRow::Load | UnlockRow::Release { .. } | UnlockRow::Trim)
+            | Row::Consistent(_)
+            | Row::Ended(_),
+        ) => false,
+        Phase::Announcing { .. }
+        | Phase::Linking { .. }
+        | Phase::Unlinking { .. }
+        | Phase::Clearing { .. }
+        | Phase::Ended(_) => false,
+    }
+}
+
+/// Whether it is a wait that is about to wake one sleeper of its mutex.
+fn wakes_next(phase: &CondPhase) -> bool
+    ensures { result ≡ wakes_next phase.now }
+{
+    match *phase {
+        CondPhase::AtWords(CondRow::Wait(WaitRow::Wake { .. })) => true,
+        CondPhase::AtWords(
+            CondRow::Wait(
+                WaitRow::LoadCell
+                | WaitRow::LoadCounter
+                | WaitRow::Release { .. }
+                | WaitRow::Sleep { .. },
+            )
+            | CondRow::Signal(_)
+            | CondRow::Broadcast(_)
+            | CondRow::Awake
+            | CondRow::Ended(_),
+        ) => false,
+        CondPhase::Announcing { .. }
+        | CondPhase::Unlinking { .. }
+        | CondPhase::Locking(_)
+        | CondPhase::Ended(_) => false,
+    }
+}
+
+/// Whether a thread that is there, unless it sleeps, answers for the mutex.
+fn answers(layout: &Layout, mutex: u16, stage: &Stage) -> bool
+    requires { IsOnItsWay layout.now stage.now }
+    ensures { result ≡ answers layout.now mutex stage.now }
+{
+    match *stage {
+        Stage::Calling(op, program) => op.mutex(layout) == mutex && answers_at(&program.phase()),
+        Stage::AtCondition(call, program) => {
+            Op::OnCondition(call).mutex(layout) == mutex && wakes_next(&program.phase())
+        }
+        Stage::Idle | Stage::Dying(_) | Stage::Reaped => false,
+    }
+}
+
+/// Whether that thread, where it is there, is another than this one, awake, and answers for the mutex.
+fn other_answers(
+    layout: &Layout,
+    kernel: &Kernel,
+    thread: Tid,
+    mutex: u16,
+    other: Tid,
+    stage: &Stage,
+) -> bool
+    requires { IsOnItsWay layout.now stage.now }
+    ensures { (ws : List ℕ) (ts : List Thread) → SleepsInItsCall (state_at layout.now ws kernel.now ts) other
+        → result
+        ≡ (not (other == thread) && not (is_asleep (state_at layout.now ws kernel.now ts) other)
+        && answers layout.now mutex stage.now) }
+{
+    if other.get() == thread.get() {
+        return false;
+    }
+    if kernel.asleep(other) {
+        return false;
+    }
+    answers(layout, mutex, stage)
+}
+
+/// Whether a thread but this one is awake and answers for the mutex.
+fn another_answers(
+    layout: &Layout,
+    kernel: &Kernel,
+    threads: &Vec<Thread>,
+    thread: Tid,
+    mutex: u16,
+) -> bool
+    requires threads { length threads.now.items ≡ layout.now.threads }
+    requires goes { (t : ℕ) → 1 ≤ t → t ≤ layout.now.threads → MayStep layout.now (thread_at threads.now.items t) }
+    ensures { (ws : List ℕ) → ((t : ℕ) → SleepsInItsCall (state_at layout.now ws kernel.now threads.now.items) t)
+        → result
+        ≡ another_answers (state_at layout.now ws kernel.now threads.now.items) thread mutex layout.now.threads }
+{
+    for index in 0..layout.threads() {
+        let Some(other) = Tid::new(index + 1) else {
+            unreachable!()
+        };
+        let stage = &threads[usize::from(index)].stage;
+        if other_answers(layout, kernel, thread, mutex, other, stage) {
+            return true;
+        }
+    }
+    false
+}
+
+/// An unlock goes on as one that woke a sleeper.
+fn spare_unlock(
+    layout: &Layout,
+    threads: &mut Vec<Thread>,
+    thread: Tid,
+    op: Op,
+    program: Program,
+) -> Note
+    requires threads { length threads.old.items ≡ layout.now.threads }
+    requires known { thread ≤ layout.now.threads }
+    requires stands { (thread_at threads.old.items thread).stage ≡ Calling op program }
+    requires goes { MayStep layout.now (thread_at threads.old.items thread) }
+    requires wakes { wakes_one program.phase ≡ true }
+    ensures state { (ws : List ℕ) (kernel : Kernel')
+        → another_answers (state_at layout.now ws kernel threads.old.items) thread (mutex_of layout.now op)
+        layout.now.threads ≡ true
+        → state_at layout.now ws kernel threads.new.items
+        ≡ (happens (state_at layout.now ws kernel threads.old.items) (Spare thread)).state }
+    ensures note { (ws : List ℕ) (kernel : Kernel')
+        → another_answers (state_at layout.now ws kernel threads.old.items) thread (mutex_of layout.now op)
+        layout.now.threads ≡ true
+        → result ≡ (happens (state_at layout.now ws kernel threads.old.items) (Spare thread)).note }
+    ensures threads { length threads.new.items ≡ length threads.old.items }
+{
+    let mut program = program;
+    let done = quiet(Answer::Count(1));
+    let progress = program.resume(done.answer);
+    let index = thread.as_index();
+    let held = threads[index].held;
+    threads[index] = Thread {
+        stage: stage_after(op, &program, &progress),
+        held: held_after(held, point(&progress)),
+    };
+    let mutex = op.mutex(layout);
+    stepped(thread, mutex, Queue::Mutex(mutex), &done, &progress)
+}
+
+/// And so does a wait.
+fn spare_wait(
+    layout: &Layout,
+    threads: &mut Vec<Thread>,
+    thread: Tid,
+    call: CondCall,
+    program: CondProgram,
+) -> Note
+    requires threads { length threads.old.items ≡ layout.now.threads }
+    requires known { thread ≤ layout.now.threads }
+    requires stands { (thread_at threads.old.items thread).stage ≡ AtCondition call program }
+    requires goes { MayStep layout.now (thread_at threads.old.items thread) }
+    requires wakes { wakes_next program.phase ≡ true }
+    ensures state { (ws : List ℕ) (kernel : Kernel')
+        → another_answers (state_at layout.now ws kernel threads.old.items) thread
+        (mutex_of layout.now (OnCondition call)) layout.now.threads ≡ true
+        → state_at layout.now ws kernel threads.new.items
+        ≡ (happens (state_at layout.now ws kernel threads.old.items) (Spare thread)).state }
+    ensures note { (ws : List ℕ) (kernel : Kernel')
+        → another_answers (state_at layout.now ws kernel threads.old.items) thread
+        (mutex_of layout.now (OnCondition call)) layout.now.threads ≡ true
+        → result ≡ (happens (state_at layout.now ws kernel threads.old.items) (Spare thread)).note }
+    ensures threads { length threads.new.items ≡ length threads.old.items }
+{
+    let mut program = program;
+    let done = quiet(Answer::Count(1));
+    let progress = program.resume(done.answer);
+    let index = thread.as_index();
+    let held = threads[index].held;
+    threads[index] = Thread {
+        stage: stage_at(call, &program, &progress),
+        held: held_after(held, point(&progress)),
+    };
+    let mutex = Op::OnCondition(call).mutex(layout);
+    let queue = Queue::Condition(call.condition());
+    stepped(thread, mutex, queue, &done, &progress)
+}
+
+/// The next access of the thread's call, where that is the wake of one sleeper of its mutex, is spared, if another
+/// thread answers for the mutex.
+pub(crate) fn spare(
+    layout: &Layout,
+    kernel: &Kernel,
+    threads: &mut Vec<Thread>,
+    thread: Tid,
+) -> Note
+    requires threads { length threads.old.items ≡ layout.now.threads }
+    requires goes { (t : ℕ) → 1 ≤ t → t ≤ layout.now.threads → MayStep layout.now (thread_at threads.old.items t) }
+    ensures state { (ws : List ℕ) → ((t : ℕ) → SleepsInItsCall (state_at layout.now ws kernel.now threads.old.items) t)
+        → state_at layout.now ws kernel.now threads.new.items
+        ≡ (happens (state_at layout.now ws kernel.now threads.old.items) (Spare thread)).state }
+    ensures note { (ws : List ℕ) → ((t : ℕ) → SleepsInItsCall (state_at layout.now ws kernel.now threads.old.items) t)
+        → result ≡ (happens (state_at layout.now ws kernel.now threads.old.items) (Spare thread)).note }
+    ensures threads { length threads.new.items ≡ length threads.old.items }
+{
+    if layout.threads() < thread.get() {
+        return Note::Nothing;
+    }
+    match threads[thread.as_index()].stage {
+        Stage::Calling(op, program) => {
+            if !wakes_one(&program.phase()) {
+                return Note::Nothing;
+            }
+            let mutex = op.mutex(layout);
+            if !another_answers(layout, kernel, threads, thread, mutex) {
+                return Note::Nothing;
+            }
+            spare_unlock(layout, threads, thread, op, program)
+        }
+        Stage::AtCondition(call, program) => {
+            if !wakes_next(&program.phase()) {
+                return Note::Nothing;
+            }
+            let mutex = Op::OnCondition(call).mutex(layout);
+            if !another_answers(layout, kernel, threads, thread, mutex) {
+                return Note::Nothing;
+            }
+            spare_wait(layout, threads, thread, call, program)
+        }
+        Stage::Idle | Stage::Dying(_) | Stage::Reaped => Note::Nothing,
+    }
+}
