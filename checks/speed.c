@@ -1,7 +1,7 @@
-/* What the C library's robust mutex and condition variables take, for checks/speed: in the words and the units of crates/roundtime and crates/contendtime.
+/* What the C library's robust mutex and condition variables take, for checks/speed: in the words and the units of crates/timings.
  *
  * speed round N                rounds of trylock and unlock in one thread
- * speed THREADS TIMES CASE     the cases of contendtime, which says what they are: one, own, pingpong, broadcast, death
+ * speed THREADS TIMES CASE     the cases of timings, which says what they are: one, own, pingpong, broadcast, death
  */
 #include <errno.h>
 #include <pthread.h>

@@ -1,9 +1,4 @@
 //! How long an event of the machine takes, with few threads and mutexes, with many, and with condition variables.
-//!
-//! `eventtime N` lets threads take N turns in each of the three, of which those of sleepers are passed over; then it
-//! makes the same events once more, and prints nanoseconds an event. Without N it measures nothing. The figures are the
-//! machine's; no test looks at them.
-#![tactic(auto)]
 
 use condvar::{CondCall, Op};
 use interleave::Machine;
@@ -12,8 +7,8 @@ use memorymap::{CONDITION_LIMIT, Layout};
 use mutex::Call;
 use protocol::{Event, Note};
 use std::alloc::{AllocError, Global};
+use std::io;
 use std::time::{Duration, Instant};
-use std::{env, io};
 
 /// Of so many of its calls a thread makes one on the mutex that all threads share.
 const SHARED: u64 = 8;
@@ -137,13 +132,10 @@ fn measure(
     tell(rt, machine.layout(), events.len(), done, took)
 }
 
-fn main(rt: HostRuntime) -> io::Result<()> {
-    for word in env::args(&rt)? {
-        if let Ok(count) = word.parse::<u64>() {
-            measure(&rt, 4, 16, &[], count)?;
-            measure(&rt, 64, 4096, &[], count)?;
-            return measure(&rt, 64, 4096, &[0; CONDITION_LIMIT], count);
-        }
-    }
-    Ok(())
+/// Lets threads take so many turns in each of the three, of which those of sleepers are passed over; then it makes the
+/// same events once more, and prints nanoseconds an event.
+pub(crate) fn tell_all(rt: &HostRuntime, count: u64) -> io::Result<()> {
+    measure(rt, 4, 16, &[], count)?;
+    measure(rt, 64, 4096, &[], count)?;
+    measure(rt, 64, 4096, &[0; CONDITION_LIMIT], count)
 }

@@ -43,14 +43,11 @@ impl Case {
 
 impl Load {
     /// The load that these words ask for.
-    pub(crate) fn of(words: &[String]) -> Option<Load> {
-        let [threads, times, case] = words else {
-            return None;
-        };
+    pub(crate) fn of(threads: &str, times: &str, case: &str) -> Option<Load> {
         Some(Load {
             threads: threads.parse::<u8>().ok()?,
             times: times.parse::<u32>().ok()?,
-            case: Case::named(case.as_str())?,
+            case: Case::named(case)?,
         })
     }
 

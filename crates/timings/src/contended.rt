@@ -1,23 +1,4 @@
 //! How long calls on a robust mutex and its condition variables take where several threads make them at once.
-//!
-//! `contendtime THREADS TIMES CASE` lets 1 to 64 threads make calls, and prints nanoseconds by the clock on the wall,
-//! of which case:
-//!
-//! ```text
-//! one        TIMES pairs of lock and unlock of one mutex, as many by each thread: a pair
-//! own        the same, each thread of a mutex of its own: a pair
-//! pingpong   two threads signal each other and wait for each other by turns, TIMES rounds: a round
-//! broadcast  one thread wakes all others by a broadcast, TIMES times: a broadcast, until all of them wait again
-//! death      a thread takes a mutex from a dead owner, declares it consistent and dies as its owner, and the next one
-//!            begins: a thread
-//! ```
-//!
-//! Without words it measures nothing. The figures are the machine's; no test looks at them.
-#![tactic(auto)]
-
-mod calls;
-mod load;
-mod meets;
 
 ghost use Rattle.std.specs.Prelude.{◌≡◌, All, IfOk};
 ghost use Rattle.ruledwords.specs.Passes.{IsLive};
@@ -30,10 +11,10 @@ use lockword::Reply;
 use memorymap::Layout;
 use ruledwords::{Live, Pass};
 use std::alloc::{AllocError, Global};
+use std::io;
 use std::sync::Wait;
 use std::thread::Threads;
 use std::time::{Clock, Duration, Instant};
-use std::{env, io};
 use threadbench::{Bench, Gate, Job, Open, Record, WorkerPass};
 
 /// The job of the thread that comes so many after the first.
@@ -143,7 +124,7 @@ fn made<R: Threads + Wait + Sync>(
 }
 
 /// How long the load's calls took, and how many went well; none where memory or threads can't be had.
-fn measure<R: Threads + Wait + Clock + Sync>(
+pub(crate) fn measure<R: Threads + Wait + Clock + Sync>(
     rt: &R,
     alloc: Global,
     load: &Load,
@@ -165,25 +146,10 @@ fn measure<R: Threads + Wait + Clock + Sync>(
     Ok(Some((took, well)))
 }
 
-fn tell(rt: &HostRuntime, load: &Load, well: u64, took: Duration) -> io::Result<()> {
+/// Prints nanoseconds by the clock on the wall.
+pub(crate) fn tell(rt: &HostRuntime, load: &Load, well: u64, took: Duration) -> io::Result<()> {
     let each = took.as_nanos() / u128::from(load.units().max(1));
     let threads = load.threads;
     let case = load.case.name();
     println!(rt; "{threads} {case}: {each} ns, {well} calls went well")
-}
-
-fn main(rt: HostRuntime) -> io::Result<()> {
-    let mut words = Vec::new(rt.alloc());
-    for word in env::args(&rt)?.skip(1) {
-        if words.push(word).is_err() {
-            return Ok(());
-        }
-    }
-    let Some(load) = Load::of(words.as_slice()) else {
-        return Ok(());
-    };
-    if let Some((took, well)) = measure(&rt, rt.alloc(), &load)? {
-        tell(&rt, &load, well, took)?;
-    }
-    Ok(())
 }

@@ -1,8 +1,4 @@
 //! How long an uncontended round of a robust mutex takes, beside what its accesses and its two exchanges alone take.
-//!
-//! `roundtime N` makes N rounds of each, in one thread, and prints nanoseconds a round. Without N it measures nothing.
-//! The figures are the machine's; no test looks at them.
-#![tactic(auto)]
 
 ghost use Rattle.std.specs.Prelude.{◌<◌, IfSome};
 ghost use Rattle.ruledwords.specs.Passes.{layout_of, IsLive};
@@ -10,9 +6,9 @@ ghost use Rattle.ruledwords.specs.Passes.{layout_of, IsLive};
 use lockword::Reply;
 use memorymap::Layout;
 use ruledwords::{Live, Never, Outcome, Pass, Released, Words};
+use std::io;
 use std::sync::atomic::{AtomicU64, Ordering};
 use std::time::{Duration, Instant};
-use std::{env, io};
 
 /// A compare-and-exchange and an exchange of one word, and whether both found what they left.
 fn plain_round(word: &AtomicU64) -> bool {
@@ -124,7 +120,8 @@ fn tell(rt: &HostRuntime, what: &str, count: u64, well: u64, took: Duration) -> 
     println!(rt; "{what}: {each} ns a round, {well} of {count} went well")
 }
 
-fn measure(rt: &HostRuntime, count: u64) -> io::Result<()> {
+/// Makes so many rounds of each, in one thread, and prints nanoseconds a round.
+pub(crate) fn tell_all(rt: &HostRuntime, count: u64) -> io::Result<()> {
     let Ok(layout) = Layout::new(1, 1, &[]) else {
         return Ok(());
     };
@@ -143,13 +140,4 @@ fn measure(rt: &HostRuntime, count: u64) -> io::Result<()> {
     let start = Instant::now(rt)?;
     let well = rounds(&words, pass, count);
     tell(rt, "robust mutex", count, well, start.elapsed(rt)?)
-}
-
-fn main(rt: HostRuntime) -> io::Result<()> {
-    for word in env::args(&rt)? {
-        if let Ok(count) = word.parse::<u64>() {
-            return measure(&rt, count);
-        }
-    }
-    Ok(())
 }

@@ -1,7 +1,7 @@
 use Rattle.std.proofs.Common.{◌≡◌, true, All}
 use Rattle.condvar.specs.Ops.{is_in}
 use Rattle.ruledwords.specs.Passes.{layout_of}
-use Rattle.contendtime.proofs.calls.around.Given as goal
+use Rattle.timings.proofs.calls.around.Given as goal
 
 -- all calls so far are on what the bench has
 abbrev pub invariant-loop-round : goal.invariant-loop-round

@@ -1,7 +1,7 @@
 use Rattle.std.proofs.Common.{◌≡◌, true, All}
 use Rattle.condvar.specs.Ops.{is_in}
 use Rattle.ruledwords.specs.Passes.{layout_of}
-use Rattle.contendtime.proofs.calls.with_all.Given as goal
+use Rattle.timings.proofs.calls.with_all.Given as goal
 
 -- all calls so far are on what the bench has
 abbrev pub invariant-loop-op : goal.invariant-loop-op

@@ -2,7 +2,7 @@ use Rattle.std.proofs.Common.{List, All, subst}
 use Rattle.std.proofs.lemmas.List.Elements.{All-tail}
 use Rattle.threadbench.specs.declared.job.Job.{Job}
 use Rattle.threadbench.specs.Jobs.{IsJobOf}
-use Rattle.contendtime.proofs.by_turns.Goals as goal
+use Rattle.timings.proofs.contended.by_turns.Goals as goal
 
 pub loop-job-preserved : goal.loop-job-preserved
 loop-job-preserved g c =

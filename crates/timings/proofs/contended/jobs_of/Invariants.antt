@@ -2,7 +2,7 @@ use Rattle.std.proofs.Common.{All}
 use Rattle.std.specs.Vec.Iter.{into_iter_items}
 use Rattle.ruledwords.specs.Passes.{IsLive}
 use Rattle.threadbench.specs.Jobs.{IsJobOf}
-use Rattle.contendtime.proofs.jobs_of.Given as goal
+use Rattle.timings.proofs.contended.jobs_of.Given as goal
 
 -- the passes left are the bench's, and so are the jobs so far
 abbrev pub invariant-loop-pass : goal.invariant-loop-pass

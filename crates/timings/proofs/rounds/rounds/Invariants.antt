@@ -1,5 +1,5 @@
 use Rattle.ruledwords.specs.Passes.{IsLive}
-use Rattle.roundtime.proofs.rounds.Given as goal
+use Rattle.timings.proofs.rounds.rounds.Given as goal
 
 abbrev pub invariant-loop : goal.invariant-loop
 invariant-loop l = IsLive l.words l.pass

@@ -5,7 +5,7 @@ use Rattle.ruledwords.specs.declared.pass.Pass.{Pass}
 use Rattle.ruledwords.specs.Passes.{IsLive}
 use Rattle.threadbench.specs.declared.job.Job.{Job}
 use Rattle.threadbench.specs.Jobs.{IsJobOf}
-use Rattle.contendtime.proofs.jobs_of.Goals as goal
+use Rattle.timings.proofs.contended.jobs_of.Goals as goal
 
 pub loop-pass-preserved : goal.loop-pass-preserved
 loop-pass-preserved c =

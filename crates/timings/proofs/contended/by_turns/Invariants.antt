@@ -1,7 +1,7 @@
 use Rattle.std.proofs.Common.{All}
 use Rattle.std.specs.Vec.Iter.{into_iter_items}
 use Rattle.threadbench.specs.Jobs.{IsJobOf}
-use Rattle.contendtime.proofs.by_turns.Given as goal
+use Rattle.timings.proofs.contended.by_turns.Given as goal
 
 -- the jobs left are the bench's
 abbrev pub invariant-loop-job : goal.invariant-loop-job
