@@ -6,8 +6,8 @@ use Rattle.ruledwords.specs.declared.pass.Pass.{Pass}
 use Rattle.ruledwords.specs.Outcomes.{Takes}
 use Rattle.ruledwords.specs.OwnWords.{owns_in}
 use Rattle.ruledwords.specs.Passes.{card, layout_of}
-use Rattle.recovery.proofs.Holding.{inherited, locked}
-use Rattle.recovery.proofs.guard.Guarded.lock.Goals as goal
+use Rattle.example_recovery.proofs.Holding.{inherited, locked}
+use Rattle.example_recovery.proofs.guard.Guarded.lock.Goals as goal
 
 pub returns-in-Lives-default-OK-clause-owns : goal.returns-in-Lives-default-OK-clause-owns
 returns-in-Lives-default-OK-clause-owns g c =

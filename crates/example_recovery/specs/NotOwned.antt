@@ -1,8 +1,8 @@
 -- Threads that don't own the mutex.
 use Rattle.ruledwords.specs.declared.pass.Words.{Words}
 use Rattle.ruledwords.specs.Passes.{IsLive, IsPassOf}
-use Rattle.recovery.specs.declared.guard.NotOwned.{NotOwned}
-use Rattle.recovery.specs.declared.guard.NotOwned.TheVariants.{Refused, Killed}
+use Rattle.example_recovery.specs.declared.guard.NotOwned.{NotOwned}
+use Rattle.example_recovery.specs.declared.guard.NotOwned.TheVariants.{Refused, Killed}
 
 -- its pass is one of these words
 abbrev pub IsNotOwnedOf : Words → NotOwned → Type 0

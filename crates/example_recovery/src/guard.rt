@@ -3,7 +3,7 @@ ghost use Rattle.std.specs.Prelude.{◌≡◌, ◌<◌, true, IfOk, IfErr};
 ghost use Rattle.ruledwords.specs.OwnWords.{owns_in};
 ghost use Rattle.ruledwords.specs.Passes.{card, layout_of, IsLive, IsPassOf};
 ghost use Rattle.threadbench.specs.Answered.{IsWorkerOf};
-ghost use Rattle.recovery.specs.NotOwned.{IsNotOwnedOf};
+ghost use Rattle.example_recovery.specs.NotOwned.{IsNotOwnedOf};
 
 use crate::accounts::Accounts;
 use lockword::Reply;

@@ -5,8 +5,8 @@ use Rattle.ruledwords.specs.declared.turn.Outcome.TheVariants.{Lives}
 use Rattle.ruledwords.specs.declared.pass.Words.{Words}
 use Rattle.ruledwords.specs.Outcomes.{Declared}
 use Rattle.ruledwords.specs.Passes.{card, layout_of}
-use Rattle.recovery.proofs.Holding.{declares}
-use Rattle.recovery.proofs.guard.declared.Goals as goal
+use Rattle.example_recovery.proofs.Holding.{declares}
+use Rattle.example_recovery.proofs.guard.declared.Goals as goal
 
 pub returns-clause-owns : goal.returns-clause-owns
 returns-clause-owns c =
