@@ -10,6 +10,7 @@ struct seen {
     _Atomic int state[MUTEXES]; /* what the owner had, as it knew */
     _Atomic int done, walked;
     _Atomic int woken_dies; /* whoever is marked dies once it is woken */
+    _Atomic int is_there, may_lock;
 };
 static pz *p;
 static struct seen *seen;
@@ -211,11 +212,31 @@ static int was_killed(pid_t is)
     return WIFSIGNALED(status);
 }
 
-/* An heir dies before each instruction of its wait, or lives on to get the mutex: who comes behind it gets it too. */
+/* An heir dies before each instruction of its wait, or lives on to get the mutex: who comes behind it gets it too. (That
+ * one takes part before, so it doesn't reap the dead one for its id.) */
 static void until_it_rests(pid_t is)
 {
     while (!strchr("SZ", state_of(is)))
         rest(20);
+}
+static pid_t one_behind(void)
+{
+    atomic_store(&seen->is_there, 0);
+    atomic_store(&seen->may_lock, 0);
+    pid_t is = child(0, 0);
+    if (!is) {
+        SAME(pz_thread_begin(p), 0);
+        atomic_store(&seen->is_there, 1);
+        while (!atomic_load(&seen->may_lock))
+            ;
+        int r = pz_mutex_lock(p, 0);
+        if (r == EOWNERDEAD)
+            r = pz_mutex_consistent(p, 0);
+        _exit(r || pz_mutex_unlock(p, 0));
+    }
+    while (!atomic_load(&seen->is_there))
+        rest(20);
+    return is;
 }
 static void take_and_repair(void)
 {
@@ -227,11 +248,11 @@ static long heirs_die(void)
     long n = 0;
     for (int died = 1, status; died; n++) {
         take_and_repair();
-        pid_t first = child(n + 1, 0);
+        pid_t second = one_behind(), first = child(n + 1, 0);
         if (!first)
             _exit(pz_mutex_lock(p, 0) || pz_mutex_unlock(p, 0));
         until_it_rests(first);
-        pid_t second = a_sleeper();
+        atomic_store(&seen->may_lock, 1);
         until_it_rests(second);
         SAME(pz_mutex_unlock(p, 0), 0);
         died = was_killed(first);

@@ -9,7 +9,7 @@ static void pz_between(void);
 #include "try.h"
 #include <ucontext.h>
 
-enum { MOST_CHOICES = 64, STACK = 1 << 16 };
+enum { MOST_CHOICES = 64, MOST_TURNS = 1000, STACK = 1 << 16 };
 
 static struct {
     void (*job)(void);
@@ -80,10 +80,11 @@ static int who_goes_on(int last, int *interrupted)
  * else one waits for good. */
 static int take_turns(void (*first)(void), void (*second)(void))
 {
-    int who = -1, interrupted = 0;
+    int who = -1, interrupted = 0, turns = 0;
     begin_job(0, first);
     begin_job(1, second);
     for (choices = 0; can_go_on(0) || can_go_on(1);) {
+        CHECK(turns++ < MOST_TURNS);
         who = me = who_goes_on(who, &interrupted);
         swapcontext(&chooser, &of_two[who].context);
         me = -1;
