@@ -22,13 +22,35 @@ static uint32_t exchange(word *w, const struct pz_access *x, uint64_t *value)
     return PZ_CHANGED;
 }
 
+static long wake_asleep(const pz *p, uint64_t at, uint32_t most)
+{
+    long n = futex(&p->words[at], FUTEX_WAKE, most, 0, NULL, 0);
+    return n > 0 ? n : 0;
+}
+
+/* One sleeper of a mutex, where there is no heir that looks at the word (heir.c). A wake that woke nobody, as who was
+ * killed asleep has its bit until it is reaped, is made once more, and no more, behind the end of COMES: others may have
+ * left theirs to it meanwhile. */
+static long wake_one(const pz *p, uint64_t cell)
+{
+    if (!pz_let_come(p, cell))
+        return 1;
+    long n = wake_asleep(p, cell, 1);
+    if (n)
+        return n;
+    pz_disinherit(p, 0, cell);
+    return wake_asleep(p, cell, 1);
+}
+
 /* Nobody has a bit: nobody sleeps there, and whoever is about to will find the word changed. */
 static uint32_t wake(const pz *p, const struct pz_access *x, uint64_t *value)
 {
-    long n = 0;
+    int cell = !is_counter(p, x->at);
+    *value = 0;
+    if (cell && (SEE(heir(p, x->at)) & NAPS))
+        pz_end_nap(p, x->at);
     if (SEE(sleepers(p, x->at)))
-        n = futex(&p->words[x->at], FUTEX_WAKE, x->most, 0, NULL, 0);
-    *value = n > 0 ? (uint64_t)n : 0;
+        *value = (uint64_t)(cell && x->most == 1 ? wake_one(p, x->at) : wake_asleep(p, x->at, x->most));
     return PZ_COUNT;
 }
 

@@ -84,10 +84,10 @@ static const struct {
      "there: nobody knows who owns what, so end all who use the file and delete it"},
     {"pz_mutex_reinit", 0, "the mutex is free: an unusable one is usable again, and what a dead owner left is "
      "declared consistent"},
-    {"pz_mutex_reinit", EBUSY, "a living thread owns it or sleeps on it; or it became unusable just now, or another "
-     "thread is cleaning up after one that died asleep on it: try again; or rarely though nobody sleeps on it: a "
-     "waiter was killed in the middle of a broadcast, and its id was used again. That ends once the id's new thread "
-     "sleeps on this mutex, waits on a condition variable of it, or leaves"},
+    {"pz_mutex_reinit", EBUSY, "a living thread owns it, sleeps on it, or is the next to get it; or it became "
+     "unusable just now, or another thread is cleaning up after one that died asleep on it: try again; or rarely "
+     "though nobody sleeps on it: a waiter was killed in the middle of a broadcast, and its id was used again. That "
+     "ends once the id's new thread sleeps on this mutex, waits on a condition variable of it, or leaves"},
     {"pz_mutex_reinit", EAGAIN, "it isn't unusable, and the thread holds 2,048 mutexes of this file; or it is the "
      "thread's first call, and 64 threads take part already (pz_thread_begin); nothing was done"},
     {"pz_mutex_reinit", EINVAL, "there is no such mutex or condition variable; nothing was done; or somebody wrote "

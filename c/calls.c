@@ -68,6 +68,7 @@ static __attribute__((noinline)) uint32_t run_on(pz *p, unsigned t, struct pz_ca
     }
     if (state == PZ_RETURNED)
         tell(t, call, &x, state);
+    pz_disinherit(p, t, call->cell);
     errno = saved;
     return state == PZ_RETURNED ? call->phase.lock.reply : EINVAL;
 }
@@ -212,17 +213,18 @@ int pz_mutex_trylock(pz *p, unsigned m)
     }
 }
 
-/* Somebody who lives may sleep there. Of those that were killed asleep nobody has told yet; and one that is reaped
- * already may be noted by a broadcast that looked before. */
+/* Somebody who lives may sleep there, or is its heir, who may nap. Of those that were killed nobody has told yet; and one
+ * that is reaped already may be noted by a broadcast that looked before. */
 static int has_sleepers(pz *p, uint64_t cell)
 {
-    if (!atomic_load(sleepers(p, cell)))
+    if (!atomic_load(sleepers(p, cell)) && !atomic_load(heir(p, cell)))
         return 0;
     pz_reap(p);
     for (uint64_t who = atomic_load(sleepers(p, cell)); who; who &= who - 1)
         if (pz_fate(p, (unsigned)__builtin_ctzll(who) + 1) != GONE)
             return 1;
-    return 0;
+    uint64_t next = atomic_load(heir(p, cell)) & WHO;
+    return next && next <= THREADS && pz_fate(p, (unsigned)next) != GONE;
 }
 
 /* An unusable mutex, seen so, is made free by one exchange of its word: nobody owns it, no living thread's list has it,

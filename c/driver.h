@@ -11,10 +11,9 @@
 #ifndef PZ_TRACE
 #define PZ_TRACE 0
 #endif
-/* For how many microseconds a thread pauses before it sleeps on a mutex's word, at most; some more, so that a look
- * comes last. */
+/* For how many microseconds the heir of a mutex pauses before it naps, at most; some more, so that a look comes last. */
 #ifndef PZ_SPIN
-#define PZ_SPIN 600
+#define PZ_SPIN 100
 #endif
 /* How many of those that sleep on a mutex already a sleeper watches, beside its owner. */
 #ifndef PZ_WATCH
@@ -40,7 +39,7 @@ enum { THREADS = PZ_THREADS, LINE = 8, HELD = 2048, FILES = PZ_FILES, MOST_MUTEX
 
 /* Of files, and of the companions of libpazdrig_pthread.so: another number for each other layout, and for each change
  * after which old and new drivers may not share one. */
-enum { FORMAT = 1 };
+enum { FORMAT = 2 };
 
 typedef _Atomic uint64_t word;
 
@@ -92,10 +91,12 @@ struct pz {
     uint64_t cell_of[MOST_CONDS]; /* of condition variables: kept here, as the file's words may be spoiled */
 };
 
-/* What a thread is in a file: its id, 0 for none, the one that it had last, and how many mutexes it holds. */
+/* What a thread is in a file: its id, 0 for none, the one that it had last, how many mutexes it holds, and the one that
+ * it freed while its heir was due, plus 1, or 0. */
 struct self {
     uint8_t id, last;
     uint16_t held;
+    uint32_t owes;
 };
 extern _Thread_local struct self pz_self[FILES] __attribute__((tls_model("initial-exec")));
 
@@ -108,12 +109,20 @@ static inline uint64_t counter_place(const pz *p, unsigned c)
     return LINE * (uint64_t)(1 + THREADS + p->mutexes + c);
 }
 static inline int is_counter(const pz *p, uint64_t at) { return at >= counter_place(p, 0); }
+static inline uint64_t cell_of(const pz *p, uint64_t counter) { return p->cell_of[counter / LINE - 1 - THREADS - p->mutexes]; }
 static inline unsigned mutex_at(uint64_t cell) { return (unsigned)(cell / LINE) - 1 - THREADS; }
 
 /* Word 3 of a line: the threads that may sleep on its first word, a bit each. The kernel's queue has no others: a bit
  * is set before the sleep and cleared behind it. So a wake of nobody costs no system call. */
 static inline word *sleepers(const pz *p, uint64_t at) { return &p->words[(at | (LINE - 1)) - 4]; }
 static inline uint64_t bit_of(unsigned t) { return 1ull << (t - 1); }
+
+/* Word 4 of a mutex's line: its heir (heir.c), by its id; or COMES, one that was woken and hasn't come yet. DUE: who frees
+ * the mutex gives way to it. NAPS: it sleeps on this word, and an unlock wakes it. AWAITED: others do, until it has had
+ * the mutex. The upper half is a time. */
+enum { WHO = 0xff, COMES = 0x100, DUE = 0x200, NAPS = 0x400, AWAITED = 0x800 };
+static inline word *heir(const pz *p, uint64_t at) { return sleepers(p, at) + 1; }
+
 static inline uint32_t owner_of(uint64_t cell) { return (uint32_t)cell & 0x3fffffff; }
 
 /* A program that is built with the thread sanitizer is told what a mutex orders: it doesn't see the accesses of this
@@ -134,7 +143,17 @@ static inline void tell_given(word *cell)
 /* ---- access.c */
 uint32_t pz_make(pz *p, const struct pz_access *x, uint64_t *value);
 
+/* ---- heir.c */
+int pz_let_come(const pz *p, uint64_t cell);
+void pz_comes(const pz *p, unsigned t, uint64_t cell);
+void pz_disinherit(const pz *p, unsigned t, uint64_t cell);
+void pz_end_nap(const pz *p, uint64_t cell);
+int pz_changes(pz *p, unsigned t, uint64_t at, uint32_t expected);
+void pz_give_way(pz *p, unsigned t, unsigned m);
+
 /* ---- sleep.c */
+int pz_has_died(pz *p, unsigned t);
+void pz_reap_if_dead(pz *p, unsigned self, unsigned t);
 uint32_t pz_sleep(pz *p, unsigned t, uint64_t at, uint32_t expected);
 void pz_awake(pz *p, unsigned t, uint64_t cell);
 void pz_sleep_for_id(pz *p, _Atomic uint32_t *given, uint32_t seen);

@@ -171,6 +171,8 @@ static void begin_boot(pz *p, const char boot[40])
         pz_walk_on(p, t);
     for (uint64_t at = cell_place(0); at < p->places; at += LINE)
         atomic_store(sleepers(p, at), 0);
+    for (uint64_t at = cell_place(0); at < counter_place(p, 0); at += LINE)
+        atomic_store(heir(p, at), 0);
     memcpy(p->header->boot, boot, sizeof p->header->boot);
 }
 

@@ -32,6 +32,8 @@ static inline __attribute__((always_inline)) int pz_take(pz *p, unsigned m, unsi
     if (PZ_TRACE || m >= p->mutexes || !t || self->held >= HELD)
         return pz_by_steps(p, m, operation);
     word *words = p->words, *h = &words[head], *w = &words[cell];
+    if (operation == PZ_OP_LOCK && own(w + 4))
+        pz_give_way(p, t, m);
     uint64_t seen = atomic_load_explicit(w, memory_order_acquire), found = seen, first = own(h);
     if (seen & (OWNED | UNUSABLE))
         return pz_refused(p, m, operation, seen);
@@ -71,9 +73,16 @@ static inline __attribute__((always_inline)) int pz_give(pz *p, unsigned m)
         STORE(&words[next + 1], previous);
     uint64_t found = XOR(w, t);
     /* WAITERS alone is no sleeper: where none has a bit, the wake of nobody and the trim that is declined are left out.
-     */
-    if ((found & WAITERS) && SEE(w + 3))
-        return pz_released(p, m, found);
+     * The wake of one is where an heir answers for it (heir.c). */
+    if (found & WAITERS) {
+        uint64_t next = SEE(w + 4);
+        if (next & NAPS)
+            pz_end_nap(p, cell);
+        if (next & DUE)
+            self->owes = m + 1;
+        if (!next && SEE(w + 3))
+            return pz_released(p, m, found);
+    }
     STORE(h + 2, 0);
     self->held--;
     return 0;

@@ -85,10 +85,20 @@ static void forget(pz *p, unsigned t)
             AND(sleepers(p, at), ~bit_of(t));
 }
 
+/* It is nobody's heir, and nobody waits for one that it woke: before the walk looks at what it had pending. */
+static void disinherit(pz *p, unsigned t)
+{
+    for (uint64_t at = cell_place(0); at < counter_place(p, 0); at += LINE) {
+        pz_disinherit(p, t, at);
+        pz_disinherit(p, 0, at);
+    }
+}
+
 /* With the token of a dead thread in hand. */
 static void bury(pz *p, unsigned t)
 {
     atomic_store(&p->life[t].tid, 0);
+    disinherit(p, t);
     pz_walk_on(p, t);
     forget(p, t);
     pthread_mutex_consistent(&p->life[t].token);

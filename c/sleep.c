@@ -12,7 +12,6 @@
 #endif
 
 enum { ASLEEP = 0, FIRST_LOOK_MS = 20, LAST_LOOK_MS = 500 };
-enum { FIRST_PAUSES = 256, LAST_PAUSES = 8192, LEAST_US = 2, TRY_ALL = 16 };
 
 struct sleeper {
     pz *p;
@@ -21,58 +20,11 @@ struct sleeper {
     uint32_t expected;
     uint64_t before; /* who sleeps there already: they are woken first, and one that is killed then hands nothing on */
     long look_ms;
+    int is_woken; /* by its last system call, maybe: not where that says otherwise */
 };
 
 /* An older kernel has no futex_waitv: then a sleeper looks now and then. */
 static _Atomic int no_waitv;
-
-/* How long it pays to pause before a sleep: half as long after each time that it didn't, twice as long after each that
- * it did, and now and then as long as may be. */
-static _Thread_local struct {
-    long us;
-    unsigned sleeps;
-} patience = {PZ_SPIN, 0};
-
-static long now_us(void)
-{
-    struct timespec now;
-    clock_gettime(CLOCK_MONOTONIC, &now);
-    return now.tv_sec * 1000000 + now.tv_nsec / 1000;
-}
-
-static void pause_once(void)
-{
-#if defined __x86_64__
-    __builtin_ia32_pause();
-#elif defined __aarch64__
-    __asm__ volatile("isb"); /* a yield is over at once there */
-#else
-    __asm__ volatile("" ::: "memory");
-#endif
-}
-
-static void pause_for(int pauses)
-{
-    for (int i = 0; i < pauses; i++)
-        pause_once();
-}
-
-/* Looks are few, each after twice as many pauses: one takes the word's line from its owner, who is about to change it.
- */
-static int changes_soon(word *w, uint32_t expected)
-{
-    long most = ++patience.sleeps % TRY_ALL ? patience.us : PZ_SPIN, since = now_us();
-    for (int next = FIRST_PAUSES; now_us() - since < most; next = next < LAST_PAUSES ? 2 * next : next) {
-        pause_for(next);
-        if ((uint32_t)atomic_load_explicit(w, memory_order_relaxed) != expected) {
-            patience.us = 2 * patience.us < PZ_SPIN ? 2 * patience.us : PZ_SPIN;
-            return 1;
-        }
-    }
-    if (patience.us > LEAST_US)
-        patience.us /= 2;
-    return 0;
-}
 
 static uint32_t low_half(const struct sleeper *s) { return (uint32_t)SEE(&s->p->words[s->at]); }
 static uint32_t unless_changed(const struct sleeper *s, uint32_t answer)
@@ -81,13 +33,20 @@ static uint32_t unless_changed(const struct sleeper *s, uint32_t answer)
 }
 
 /* The kernel has marked its token. */
-static int has_died(pz *p, unsigned t)
+int pz_has_died(pz *p, unsigned t)
 {
     return (__atomic_load_n(pz_token_word(p, t), __ATOMIC_SEQ_CST) & FUTEX_OWNER_DIED) != 0;
 }
 
+/* An owner, or an heir, as a word names it, which may be spoiled; never the thread itself. */
+void pz_reap_if_dead(pz *p, unsigned self, unsigned t)
+{
+    if (t && t <= THREADS && t != self && pz_has_died(p, t))
+        pz_reap_one(p, t);
+}
+
 /* What a sleeper waits for: the word first, then the ends of threads. */
-enum { MOST_WATCHED = 1 + (THREADS > 1 + PZ_WATCH ? THREADS : 1 + PZ_WATCH) };
+enum { MOST_WATCHED = 1 + (THREADS > 2 + PZ_WATCH ? THREADS : 2 + PZ_WATCH) };
 struct watched {
     struct futex_waitv v[MOST_WATCHED];
     unsigned thread[MOST_WATCHED];
@@ -111,16 +70,26 @@ static int watch(pz *p, unsigned t, struct watched *all)
     return 1;
 }
 
-/* The word, its owner's token, and those of some who slept there before. The id of one that died; 0: all are watched.
- */
+/* Another one than the sleeper itself. */
+static unsigned heir_of(const struct sleeper *s)
+{
+    unsigned next = is_counter(s->p, s->at) ? 0 : SEE(heir(s->p, s->at)) & WHO;
+    return next <= THREADS && next != s->thread ? next : 0;
+}
+
+/* The word, the tokens of its owner and of its heir, and those of some who slept there before. The id of one that died;
+ * 0: all are watched. */
 static unsigned watch_all(const struct sleeper *s, unsigned owner, struct watched *all)
 {
     all->v[0] = (struct futex_waitv){.val = s->expected, .uaddr = (uintptr_t)&s->p->words[s->at], .flags = FUTEX_32};
     all->n = 1;
     if (!watch(s->p, owner, all))
         return owner;
+    unsigned next = heir_of(s);
+    if (next && next != owner && !watch(s->p, next, all))
+        return next;
     uint64_t others = s->before & SEE(sleepers(s->p, s->at)) & ~bit_of(owner);
-    for (; others && all->n < 2 + PZ_WATCH; others &= others - 1) {
+    for (unsigned most = all->n + PZ_WATCH; others && all->n < most; others &= others - 1) {
         unsigned t = (unsigned)__builtin_ctzll(others) + 1;
         if (!watch(s->p, t, all))
             return t;
@@ -148,7 +117,7 @@ static uint32_t ended(const struct sleeper *s, unsigned owner, int error)
     case ETIMEDOUT:
     case EINTR: /* it looks here too: handlers may come more often than time runs out */
         if (owner)
-            pz_reap_one(s->p, owner);
+            pz_reap(s->p); /* it, or an heir that nobody watches */
         return unless_changed(s, ASLEEP);
     default:
         return PZ_FAULT;
@@ -163,6 +132,7 @@ static uint32_t wait_looking(struct sleeper *s, unsigned owner)
     if (s->look_ms < LAST_LOOK_MS)
         s->look_ms *= 2;
     long r = syscall(SYS_futex, (uint32_t *)&s->p->words[s->at], FUTEX_WAIT, s->expected, &most, NULL, 0);
+    s->is_woken = r >= 0;
     return ended(s, owner, r < 0 ? errno : 0);
 }
 
@@ -179,8 +149,9 @@ static uint32_t wait_watching(struct sleeper *s, unsigned owner)
     struct timespec until = from_now(PZ_POLL_S * 1000l);
     long r = syscall(SYS_futex_waitv, all.v, all.n, 0, &until, CLOCK_MONOTONIC);
     int error = r < 0 ? errno : 0;
+    s->is_woken = r >= 0; /* by a token too: that another woke it by the word meanwhile isn't told */
     for (unsigned i = 1; i < all.n; i++)
-        if (has_died(s->p, all.thread[i]))
+        if (pz_has_died(s->p, all.thread[i]))
             pz_reap_one(s->p, all.thread[i]);
     if (is_known(error))
         return ended(s, owner, error);
@@ -194,6 +165,7 @@ static uint32_t sleep_once(struct sleeper *s)
     unsigned owner = is_counter(s->p, s->at) ? 0 : owner_of(s->expected);
     if (owner > THREADS || owner == s->thread)
         owner = 0; /* a word that was spoiled */
+    s->is_woken = 0;
     /* anew each time: the kernel has it stand behind those that came while it looked */
     s->before = SEE(sleepers(s->p, s->at)) & ~bit_of(s->thread);
     return owner && !atomic_load(&no_waitv) ? wait_watching(s, owner) : wait_looking(s, owner);
@@ -203,7 +175,7 @@ static uint32_t sleep_once(struct sleeper *s)
 static int is_reaped(const struct sleeper *s)
 {
     unsigned owner = owner_of(s->expected);
-    return owner && owner <= THREADS && owner != s->thread && has_died(s->p, owner) && pz_reap_one(s->p, owner) == GONE;
+    return owner && owner <= THREADS && owner != s->thread && pz_has_died(s->p, owner) && pz_reap_one(s->p, owner) == GONE;
 }
 
 uint32_t pz_sleep(pz *p, unsigned t, uint64_t at, uint32_t expected)
@@ -212,13 +184,17 @@ uint32_t pz_sleep(pz *p, unsigned t, uint64_t at, uint32_t expected)
     struct sleeper s = {.p = p, .thread = t, .at = at, .expected = expected, .look_ms = FIRST_LOOK_MS};
     if (!counter && is_reaped(&s))
         return unless_changed(&s, PZ_WOKEN);
-    if (!counter && changes_soon(&p->words[at], expected))
+    if (!counter && pz_changes(p, t, at, expected))
         return PZ_AGAIN;
     OR(sleepers(p, at), bit_of(t));
+    if (!counter)
+        pz_disinherit(p, t, at); /* who releases from here on wakes */
     uint32_t answer;
     do
         answer = sleep_once(&s);
     while (answer == ASLEEP);
+    if (s.is_woken)
+        pz_comes(p, t, counter ? cell_of(p, at) : at); /* a broadcast may have moved it there */
     AND(sleepers(p, at), ~bit_of(t));
     return answer;
 }
@@ -253,7 +229,7 @@ void pz_sleep_for_id(pz *p, _Atomic uint32_t *given, uint32_t seen)
     int is_told = !atomic_load(&no_waitv) &&
                   (syscall(SYS_futex_waitv, all.v, all.n, 0, &until, CLOCK_MONOTONIC) >= 0 || is_known(errno));
     for (unsigned i = 1; i < all.n; i++) /* a sleeper on its mutex may have been meant */
-        if (has_died(p, all.thread[i]))
+        if (pz_has_died(p, all.thread[i]))
             pz_reap_one(p, all.thread[i]);
     if (is_told)
         return;

@@ -4,6 +4,11 @@
 #include "turns.h"
 #include "../access.c"
 
+/* Nobody is woken here. */
+int pz_let_come(const pz *p, uint64_t cell) { return (void)p, (void)cell, 0; }
+void pz_disinherit(const pz *p, unsigned t, uint64_t cell) { (void)p, (void)t, (void)cell; }
+void pz_end_nap(const pz *p, uint64_t cell) { (void)p, (void)cell; }
+
 static struct pz file;
 static word words[80 * LINE];
 static struct {

@@ -1,4 +1,5 @@
 /* Each case of an edge once: who dies, forks, execs or asks for what isn't there, and what the next one is told. */
+#include "driver.h"
 #include "try.h"
 #include <fcntl.h>
 #include <pthread.h>
@@ -194,6 +195,61 @@ static void a_reinit_waits_for_sleepers(void)
     SAME(pz_mutex_reinit(p, 0), 0);
     SAME(pz_mutex_lock(p, 0), 0);
     pz_close(p);
+}
+
+/* A thread that waits for mutex 0 is stopped while it is its heir. (One that isn't any more is let go, and the next one
+ * is tried.) */
+static pid_t a_stopped_heir(pz *p, int wanted)
+{
+    for (;;) {
+        pid_t is = a_child();
+        int status;
+        if (!is)
+            _exit(pz_mutex_lock(p, 0) != wanted);
+        while (!(atomic_load(heir(p, cell_place(0))) & WHO) && state_of(is) != 'Z')
+            ;
+        kill(is, SIGSTOP);
+        CHECK(waitpid(is, &status, WUNTRACED) == is && WIFSTOPPED(status));
+        if (atomic_load(heir(p, cell_place(0))) & WHO)
+            return is;
+        kill_and_wait(is);
+    }
+}
+
+/* It has no bit of a sleeper, and is told all the same: until then the mutex isn't made anew. */
+static void a_reinit_waits_for_the_heir(void)
+{
+    pz *p = open_new("heir", 1, 0);
+    int status;
+    kill_and_wait(holder(p, 0));
+    SAME(pz_mutex_lock(p, 0), EOWNERDEAD);
+    pid_t next = a_stopped_heir(p, ENOTRECOVERABLE);
+    SAME(pz_mutex_unlock(p, 0), 0);
+    SAME(pz_mutex_reinit(p, 0), EBUSY);
+    kill(next, SIGCONT);
+    CHECK(waitpid(next, &status, 0) == next && status == 0);
+    SAME(pz_mutex_reinit(p, 0), 0);
+    pz_close(p);
+}
+
+/* Who sleeps behind it is told that it is killed: the unlock may have left the wake to it. */
+static void an_heir_is_killed(void)
+{
+    for (int first = 0, status; first < 2; first++) {
+        pz *p = open_new("next", 1, 0);
+        SAME(pz_mutex_lock(p, 0), 0);
+        pid_t next = a_stopped_heir(p, 0), sleeper = a_child();
+        if (!sleeper)
+            _exit(pz_mutex_lock(p, 0));
+        until_asleep(sleeper);
+        if (first)
+            kill_and_wait(next);
+        SAME(pz_mutex_unlock(p, 0), 0);
+        if (!first)
+            kill_and_wait(next);
+        CHECK(waitpid(sleeper, &status, 0) == sleeper && status == 0);
+        pz_close(p);
+    }
 }
 
 /* Five sleep on a mutex that becomes unusable: each is told so. */
@@ -545,6 +601,8 @@ int main(void)
     what_answers_mean();
     a_reinit();
     a_reinit_waits_for_sleepers();
+    a_reinit_waits_for_the_heir();
+    an_heir_is_killed();
     spoiled_with_sleepers();
     a_waiter_that_was_moved();
     a_wait_of_a_mutex_that_becomes_unusable();

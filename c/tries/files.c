@@ -82,15 +82,15 @@ static void a_file_of_another_format(void)
     SAME(pz_mutex_lock(p, 1), 0);
     pz_close(p);
     int fd = open(path, O_RDWR);
-    CHECK(fd >= 0 && pread(fd, before, 8, 0) == 8 && !memcmp(before, "pazdrig1", 8));
-    for (const char *digit = "2/9\xff"; *digit; digit++) {
+    CHECK(fd >= 0 && pread(fd, before, 8, 0) == 8 && !memcmp(before, "pazdrig2", 8));
+    for (const char *digit = "13/9\xff"; *digit; digit++) {
         CHECK(pwrite(fd, digit, 1, 7) == 1);
         ssize_t n = pread(fd, before, sizeof before, 0);
         SAME(pz_open(path, 0600, 2, 1, NULL, 8, &p), EPROTO);
         SAME(pz_open(path, 0600, 3, 1, NULL, 8, &p), EPROTO); /* another one's numbers may stand elsewhere */
         CHECK(n > 0 && pread(fd, after, sizeof after, 0) == n && !memcmp(before, after, (size_t)n));
     }
-    CHECK(pwrite(fd, "1", 1, 7) == 1);
+    CHECK(pwrite(fd, "2", 1, 7) == 1);
     SAME(pz_open(path, 0600, 2, 1, NULL, 8, &p), 0);
     SAME(pz_mutex_lock(p, 1), EOWNERDEAD);
     pz_close(p);
@@ -108,7 +108,7 @@ static void the_numbers_of_a_file(void)
     SAME(pz_open(path, 0600, 30, 4, NULL, 10000, &p), 0);
     SAME(pz_info(p, &info), 0);
     CHECK(stat(path, &st) == 0 && (size_t)st.st_size == info.size);
-    CHECK(info.format == 1 && info.mutexes == 30 && info.conds == 4 && info.data == 10000);
+    CHECK(info.format == 2 && info.mutexes == 30 && info.conds == 4 && info.data == 10000);
     pz_close(p);
     unlink(path);
 }

@@ -42,6 +42,7 @@ static void maybe_die(void)
 }
 
 void pz_let_go(pz *p) { (void)p; }
+void pz_disinherit(const pz *p, unsigned t, uint64_t cell) { (void)p, (void)t, (void)cell; }
 
 uint32_t pz_make(pz *p, const struct pz_access *x, uint64_t *value)
 {

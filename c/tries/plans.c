@@ -80,6 +80,7 @@ static void begin(unsigned t, unsigned m)
     cell = cell_place(m);
     counter = counter_place(&file, 0);
     file.cell_of[0] = cell;
+    *heir(&file, cell) = 0;
     pz_self[0] = (struct self){.id = (uint8_t)t, .held = 7};
     looks = changes = begins = steps = 0;
 }
@@ -197,6 +198,7 @@ static void a_lock(unsigned t, unsigned m, unsigned operation, uint64_t seen, ui
     begin(t, m);
     is[cell] = seen;
     is[head_place(t)] = first;
+    is[cell + 4] = meanwhile ? 0 : 5 | DUE; /* an heir to whom it owes nothing */
     go();
     changes_meanwhile = meanwhile;
     changed_to = seen ^ 1ull << 31;
@@ -223,15 +225,25 @@ static void a_lock(unsigned t, unsigned m, unsigned operation, uint64_t seen, ui
     planned++;
 }
 
-static void an_unlock(unsigned t, unsigned m, uint64_t seen, uint64_t next, uint64_t previous, int sleeps)
+/* Who sleeps on the mutex, and who is its heir: an unlock wakes one where somebody sleeps and nobody is; else it is as its
+ * plan, but that it ends the heir's nap, and keeps in mind that the heir is due. */
+static const struct {
+    int sleeps;
+    uint64_t heir;
+} others[] = {{0, 0}, {1, 0}, {1, 5}, {1, COMES}, {0, 6 | NAPS}, {1, 6 | NAPS | DUE}, {1, 64 | DUE | 7ull << 32}};
+enum { OTHERS = sizeof others / sizeof *others };
+
+static void an_unlock(unsigned t, unsigned m, uint64_t seen, uint64_t next, uint64_t previous, unsigned k)
 {
     struct pz_plan plan;
+    uint64_t its = seen & WAITERS ? others[k].heir : 0;
     begin(t, m);
     is[cell] = seen;
     is[cell + 1] = next;
     is[cell + 2] = previous;
-    if (!sleeps)
+    if (!others[k].sleeps)
         is[cell + 3] = 0;
+    is[cell + 4] = others[k].heir;
     go();
     int fits = next >= LINE && next < PLACES - 2 && previous >= LINE && previous < PLACES - 2;
     int may = fits && pz_plan_unlock(&plan, (uint8_t)t, head_place(t), cell + 1, seen, next, previous);
@@ -243,7 +255,7 @@ static void an_unlock(unsigned t, unsigned m, uint64_t seen, uint64_t next, uint
     for (unsigned i = 0; i < plan.before; i++)
         same_change(i, plan.at[i], plan.value[i]);
     same_change(plan.before, cell, seen ^ plan.operand);
-    if (sleeps && (seen & WAITERS)) {
+    if (others[k].sleeps && (seen & WAITERS) && !its) {
         uint64_t loaded[] = {seen, next, previous};
         struct pz_call call = proved(t, PZ_OP_UNLOCK, loaded, PZ_XOR);
         CHECK(steps == 1 && changes == plan.before + 1 && answered == PZ_VALUE && with == seen &&
@@ -251,9 +263,13 @@ static void an_unlock(unsigned t, unsigned m, uint64_t seen, uint64_t next, uint
         went_on++;
         return;
     }
+    unsigned naps = (its & NAPS) != 0;
+    if (naps)
+        same_change(plan.before + 1, cell + 4, its & ~(uint64_t)NAPS);
     for (unsigned i = plan.before; i < plan.stores; i++)
-        same_change(i + 1, plan.at[i], plan.value[i]);
-    CHECK(steps == 0 && changes == plan.stores + 1 && pz_self[0].held == 6);
+        same_change(i + 1 + naps, plan.at[i], plan.value[i]);
+    CHECK(steps == 0 && changes == plan.stores + 1 + naps && pz_self[0].held == 6);
+    CHECK(pz_self[0].owes == (its & DUE ? m + 1 : 0));
     SAME(r, (int)plan.reply);
     planned++;
 }
@@ -326,8 +342,8 @@ static void takes_and_gives(unsigned t, unsigned m, uint64_t seen)
             a_lock(t, m, PZ_OP_TRYLOCK, seen, link, meanwhile);
         }
         for (unsigned j = 0; j < LINKS; j++)
-            for (int sleeps = 0; sleeps < 2; sleeps++)
-                an_unlock(t, m, seen, link, link_of_case(j, t, m), sleeps);
+            for (unsigned k = 0; k < (i + j ? 2 : OTHERS); k++)
+                an_unlock(t, m, seen, link, link_of_case(j, t, m), k);
     }
 }
 

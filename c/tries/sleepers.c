@@ -1,19 +1,24 @@
-/* One thread goes to sleep while another changes the word and wakes, in every order of their instructions, over a
- * kernel that is played: nobody is left asleep, and no sleeper's bit is left behind. */
+/* One thread goes to sleep, as a mutex's heir first, while another changes the word and wakes, in orders of their
+ * instructions over a kernel that is played: nobody is left asleep, no sleeper's bit is left behind, and nobody waits for
+ * one that was woken. */
 #define PZ_SPIN 0
 #include "turns.h"
 #include <linux/futex.h>
 #include <stdarg.h>
 #include <sys/syscall.h>
 
-#define syscall played_call
+#define syscall       played_call
+#define clock_gettime played_clock
 static long played_call(long number, ...);
+static int played_clock(clockid_t clock, struct timespec *now);
 #include "../access.c"
+#include "../heir.c"
 #include "../sleep.c"
 #undef syscall
+#undef clock_gettime
 #include "../calls.c"
 
-enum { OWNER = 1, SLEEPER = 2, TID = 77 };
+enum { OWNER = 1, SLEEPER = 2, DEAD = 3, TID = 77, INTERRUPTIONS = 4 };
 
 static struct pz file;
 static word words[80 * LINE];
@@ -25,7 +30,6 @@ static uint32_t *asleep_on; /* the one futex queue with somebody in it */
 _Thread_local struct self pz_self[FILES];
 uint32_t *pz_token_word(pz *p, unsigned t) { return (void)p, &tokens[t]; }
 enum fate pz_fate(pz *p, unsigned t) { return (void)p, (void)t, LIVES; }
-int pz_reap(pz *p) { return (void)p, 0; }
 int pz_take_part(pz *p) { return (void)p, 0; }
 void pz_leave(pz *p) { (void)p; }
 pz *pz_opened(unsigned number) { return (void)number, &file; }
@@ -36,21 +40,27 @@ void pz_leave_closed(void) {}
 static long refused(int why) { return errno = why, -1; }
 static int is_awake(void) { return !asleep_on; }
 
-/* How many of the next sleeps a signal's handler ends (EINTR); and whether one has just ended so: then, and only then,
- * the sleeper asks whether the owner, who lives, has died. */
+/* How many of the next sleeps on that word a signal's handler ends (EINTR); and whether one has just ended so: then the sleeper asks
+ * whether somebody has died. */
 static int interruptions, is_interrupted;
 
-enum fate pz_reap_one(pz *p, unsigned t)
+int pz_reap(pz *p) { return (void)p, is_interrupted = 0; }
+enum fate pz_reap_one(pz *p, unsigned t) { return (void)p, (void)t, LIVES; }
+
+/* Naps take so long that there is one, which nothing but a wake ends. */
+static int played_clock(clockid_t clock, struct timespec *now)
 {
-    (void)p, (void)t;
-    CHECK(is_interrupted);
-    is_interrupted = 0;
-    return LIVES;
+    static long ms;
+    (void)clock;
+    *now = (struct timespec){++ms * 21 / 1000, ms * 21 % 1000 * 1000000};
+    return 0;
 }
+
+static uint64_t slept_at;
 
 static long fall_asleep(uint32_t *on)
 {
-    if (interruptions-- > 0)
+    if (on == (uint32_t *)&words[slept_at] && interruptions-- > 0)
         return is_interrupted = 1, refused(EINTR);
     asleep_on = on;
     wait_until(is_awake);
@@ -107,7 +117,6 @@ static long played_call(long number, ...)
 
 /* ---- Who sleeps, and who wakes. */
 
-static uint64_t slept_at;
 static uint32_t slept_while, answer;
 static struct pz_access made[8];
 
@@ -122,6 +131,15 @@ static void sleeps_there(void)
         pz_awake(&file, SLEEPER, cell_place(0));
 }
 
+/* As a lock does, up to where it finds the mutex free. */
+static void locks_there(void)
+{
+    uint64_t cell = cell_place(0), seen;
+    while (owner_of(seen = SEE(&words[cell])))
+        answer = pz_sleep(&file, SLEEPER, cell, (uint32_t)seen);
+    pz_disinherit(&file, SLEEPER, cell);
+}
+
 static void makes_them(void)
 {
     uint64_t value;
@@ -130,23 +148,25 @@ static void makes_them(void)
 }
 
 /* The short ways, without accesses of their own. */
-static void unlocks(void)
+static void unlocks(void) { SAME(pz_give(&file, 0), 0); }
+static void unlocks_twice(void)
 {
-    pz_self[0] = (struct self){.id = OWNER, .held = 1};
+    unlocks();
+    SAME(pz_take(&file, 0, PZ_OP_LOCK), 0);
     SAME(pz_give(&file, 0), 0);
 }
 static void signals(void)
 {
-    pz_self[0] = (struct self){.id = OWNER, .held = 1};
     SAME(pz_count(&file, 0, PZ_OP_SIGNAL), 0);
     SAME(pz_give(&file, 0), 0);
 }
 static void broadcasts(void)
 {
-    pz_self[0] = (struct self){.id = OWNER, .held = 1};
     SAME(pz_count(&file, 0, PZ_OP_BROADCAST), 0);
     SAME(pz_give(&file, 0), 0);
 }
+
+/* ---- In how many orders. */
 
 static long orders;
 
@@ -161,20 +181,22 @@ static void begin_words(void)
     words[head + 1] = UINT64_MAX;
     words[counter_place(&file, 0)] = 7;
     tokens[OWNER] = TID;
+    pz_self[0] = (struct self){.id = OWNER, .held = 1};
 }
 
-static void in_every_order(uint64_t at, void (*wakes)(void), int interrupted)
+/* Those that the words say still sleep there: none, but for one that was killed and isn't reaped. */
+static void in_orders(void (*wakes)(void), void (*sleeps)(void), uint64_t bits, int interrupted)
 {
     uint64_t cell = cell_place(0), counter = counter_place(&file, 0);
     do {
         begin_words();
+        *sleepers(&file, cell) = bits;
         interruptions = interrupted;
-        slept_at = at;
-        slept_while = (uint32_t)words[at];
-        if (!take_turns(wakes, sleeps_there))
+        slept_while = (uint32_t)words[slept_at];
+        if (!take_turns(wakes, sleeps))
             fail(__FILE__, __LINE__, "left asleep");
-        CHECK(answer == PZ_WOKEN || answer == PZ_AGAIN);
-        CHECK(*sleepers(&file, cell) == 0 && *sleepers(&file, counter) == 0);
+        CHECK(!is_interrupted && (answer == PZ_WOKEN || answer == PZ_AGAIN));
+        CHECK(*sleepers(&file, cell) == bits && *sleepers(&file, counter) == 0 && !(*heir(&file, cell) & COMES));
         orders++;
     } while (next_order());
 }
@@ -183,29 +205,43 @@ static void nobody_is_left(uint64_t at, const struct pz_access *accesses, size_t
 {
     memset(made, 0, sizeof made);
     memcpy(made, accesses, size);
-    in_every_order(at, makes_them, 0);
+    slept_at = at;
+    in_orders(makes_them, sleeps_there, 0, 0);
+}
+
+static void on_a_counter(uint64_t cell, uint64_t counter)
+{
+    struct pz_access count = {.kind = PZ_ADD, .at = counter, .a = 1},
+                     waiters = {.kind = PZ_OR, .at = cell, .a = WAITERS};
+    struct pz_access signal = {.kind = PZ_WAKE, .at = counter, .most = 1};
+    struct pz_access move_all = {.kind = PZ_CMP_REQUEUE, .at = counter, .a = 8, .b = cell, .most = 64};
+    struct pz_access release = {.kind = PZ_XOR, .at = cell, .a = OWNER},
+                     wake = {.kind = PZ_WAKE, .at = cell, .most = 1};
+    nobody_is_left(counter, (struct pz_access[]){count, signal, release}, 3 * sizeof wake);
+    nobody_is_left(counter, (struct pz_access[]){count, waiters, move_all, release, wake}, 5 * sizeof wake);
+    in_orders(signals, sleeps_there, 0, 0);
+    in_orders(broadcasts, sleeps_there, 0, 0);
+}
+
+static void on_a_cell(uint64_t cell)
+{
+    struct pz_access release = {.kind = PZ_XOR, .at = cell, .a = OWNER},
+                     wake = {.kind = PZ_WAKE, .at = cell, .most = 1};
+    nobody_is_left(cell, (struct pz_access[]){release, wake}, 2 * sizeof wake);
+    in_orders(unlocks, sleeps_there, 0, 0);
+    in_orders(unlocks_twice, locks_there, 0, 0);
+    in_orders(unlocks_twice, locks_there, bit_of(DEAD), 0);
+    in_orders(unlocks, sleeps_there, 0, 1);
 }
 
 int main(void)
 {
     file = (struct pz){.words = words, .places = 80 * LINE, .mutexes = 8, .conds = 2};
     file.cell_of[0] = cell_place(0);
-    uint64_t cell = cell_place(0), counter = counter_place(&file, 0);
-    struct pz_access release = {.kind = PZ_XOR, .at = cell, .a = OWNER},
-                     wake = {.kind = PZ_WAKE, .at = cell, .most = 1};
-    struct pz_access count = {.kind = PZ_ADD, .at = counter, .a = 1},
-                     waiters = {.kind = PZ_OR, .at = cell, .a = WAITERS};
-    struct pz_access signal = {.kind = PZ_WAKE, .at = counter, .most = 1};
-    struct pz_access move_all = {.kind = PZ_CMP_REQUEUE, .at = counter, .a = 8, .b = cell, .most = 64};
-    nobody_is_left(counter, (struct pz_access[]){count, signal, release}, 3 * sizeof wake);
-    nobody_is_left(counter, (struct pz_access[]){count, waiters, move_all, release, wake}, 5 * sizeof wake);
-    in_every_order(counter, signals, 0);
-    in_every_order(counter, broadcasts, 0);
-    for (no_waitv = 0; no_waitv < 2; no_waitv++) {
-        nobody_is_left(cell, (struct pz_access[]){release, wake}, 2 * sizeof wake);
-        in_every_order(cell, unlocks, 0);
-        in_every_order(cell, unlocks, 1);
-    }
+    most_interruptions = INTERRUPTIONS;
+    on_a_counter(cell_place(0), counter_place(&file, 0));
+    for (no_waitv = 0; no_waitv < 2; no_waitv++)
+        on_a_cell(cell_place(0));
     printf("sleepers: nobody was left asleep in any of %ld orders of instructions\n", orders);
     CHECK(orders > 20000);
     return 0;

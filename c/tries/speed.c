@@ -1,11 +1,12 @@
 /* Calls beside the C library's robust, process-shared, error-checking mutex, in one run and in turn: locks and unlocks
  * alone, by 2 and by 4 processes; a lock, a signal to nobody and an unlock; refusals; and the time from a SIGKILL until
  * a sleeper has EOWNERDEAD, or of a lock behind one. Prints a row a case: ours, the C library's, the quotient, in ns or
- * us, the middle of RUNS. (Work inside and outside the mutex, and more processes: load.c.) usage: speed RUNS */
+ * us, the middle of RUNS; of a pair alone of 20 times as many short ones, so that both meet what else the machine does.
+ * (Work inside and outside the mutex, and more processes: load.c.) usage: speed RUNS */
 #include "libc.h"
 #include "try.h"
 
-enum { MOST_RUNS = 101, PAIRS = 200000 };
+enum { MOST_RUNS = 101, PAIRS = 200000, SLICES = 20 };
 
 struct both {
     pthread_mutex_t libc;
@@ -35,6 +36,15 @@ static void pairs(int ours, long n)
         if (ours ? pz_mutex_unlock(p, 0) : pthread_mutex_unlock(&b->libc))
             _exit(1);
     }
+}
+
+/* ns a pair. */
+static double alone(int unused, int ours)
+{
+    (void)unused;
+    double since = now();
+    pairs(ours, PAIRS / SLICES);
+    return (now() - since) * 1e9 / (PAIRS / SLICES);
 }
 
 /* ns a pair, of all processes together. */
@@ -171,7 +181,7 @@ static int below(const void *x, const void *y)
 
 static void row(const char *name, double (*take)(int, int), int processes, int runs, double goal)
 {
-    static double is[2][MOST_RUNS];
+    static double is[2][SLICES * MOST_RUNS];
     for (int k = 0; k < runs; k++)
         for (int ours = 0; ours < 2; ours++)
             is[ours][k] = take(processes, ours);
@@ -191,7 +201,7 @@ int main(int argc, char **argv)
     make_libc(&b->libc);
     make_libc_condition(&b->told);
     puts("                                        ours   libc's  times");
-    row("lock and unlock alone, ns", contended, 1, runs, 1.1);
+    row("lock and unlock alone, ns", alone, 0, SLICES * runs, 1.1);
     row("one mutex, 2 processes, ns", contended, 2, runs, 1.1);
     row("one mutex, 4 processes, ns", contended, 4, runs, 1.1);
     row("lock, signal, unlock, ns", notified, 0, runs, 1.5);

@@ -10,6 +10,7 @@ struct seen {
     _Atomic int state[MUTEXES]; /* what the owner had, as it knew */
     _Atomic int done, walked;
     _Atomic int woken_dies; /* whoever is marked dies once it is woken */
+    _Atomic int is_there, may_lock;
 };
 static pz *p;
 static struct seen *seen;
@@ -211,6 +212,57 @@ static int was_killed(pid_t is)
     return WIFSIGNALED(status);
 }
 
+/* An heir dies before each instruction of its wait, or lives on to get the mutex: who comes behind it gets it too. (That
+ * one takes part before, so it doesn't reap the dead one for its id.) */
+static void until_it_rests(pid_t is)
+{
+    while (!strchr("SZ", state_of(is)))
+        rest(20);
+}
+static pid_t one_behind(void)
+{
+    atomic_store(&seen->is_there, 0);
+    atomic_store(&seen->may_lock, 0);
+    pid_t is = child(0, 0);
+    if (!is) {
+        SAME(pz_thread_begin(p), 0);
+        atomic_store(&seen->is_there, 1);
+        while (!atomic_load(&seen->may_lock))
+            ;
+        int r = pz_mutex_lock(p, 0);
+        if (r == EOWNERDEAD)
+            r = pz_mutex_consistent(p, 0);
+        _exit(r || pz_mutex_unlock(p, 0));
+    }
+    while (!atomic_load(&seen->is_there))
+        rest(20);
+    return is;
+}
+static void take_and_repair(void)
+{
+    int r = pz_mutex_lock(p, 0);
+    SAME(r == EOWNERDEAD ? pz_mutex_consistent(p, 0) : r, 0);
+}
+static long heirs_die(void)
+{
+    long n = 0;
+    for (int died = 1, status; died; n++) {
+        take_and_repair();
+        pid_t second = one_behind(), first = child(n + 1, 0);
+        if (!first)
+            _exit(pz_mutex_lock(p, 0) || pz_mutex_unlock(p, 0));
+        until_it_rests(first);
+        atomic_store(&seen->may_lock, 1);
+        until_it_rests(second);
+        SAME(pz_mutex_unlock(p, 0), 0);
+        died = was_killed(first);
+        CHECK(waitpid(second, &status, 0) == second && status == 0);
+    }
+    take_and_repair();
+    give(0);
+    return n;
+}
+
 /* Killed amid the walk over what it owned itself, a thread that leaves is a dead one until that has ended. */
 static void leavers_die(void)
 {
@@ -296,12 +348,14 @@ int main(void)
             if (atomic_load(&seen->walked) - before < k)
                 break; /* it had ended before */
         }
+    long waits = heirs_die();
     a_trylock_beside_a_reaper();
     leavers_die();
     openers_die_after_a_reboot();
     makers_die();
-    printf("steps: dead before each of %ld instructions, and %ld times amid the walk\n", instructions, walks);
-    CHECK(instructions >= 50 && walks > 500);
+    printf("steps: dead before each of %ld instructions, and of %ld of a wait, and %ld times amid the walk\n", instructions,
+           waits, walks);
+    CHECK(instructions >= 50 && waits >= 20 && walks > 500);
     pz_close(p);
     unlink(path);
     return 0;

@@ -76,8 +76,9 @@ static inline void *shared(size_t size)
     return p;
 }
 
-/* Whether a process sleeps in a system call, as the kernel tells it: what a try waits for, in place of a time. */
-static inline int sleeps(pid_t thread)
+/* What a process does, as the kernel tells it: what a try waits for, in place of a time. S: it sleeps in a system call;
+ * Z: it has ended. */
+static inline char state_of(pid_t thread)
 {
     char path[64], state = 0;
     snprintf(path, sizeof path, "/proc/%d/stat", (int)thread);
@@ -87,12 +88,14 @@ static inline int sleeps(pid_t thread)
     if (fscanf(f, "%*d %*[^)]) %c", &state) != 1)
         state = 0;
     fclose(f);
-    return state == 'S';
+    return state;
 }
+static inline int sleeps(pid_t thread) { return state_of(thread) == 'S'; }
 
+/* So long that it doesn't nap any more, as a mutex's heir does for 20 ms at most. */
 static inline void until_asleep(pid_t thread)
 {
-    for (int quiet = 0; quiet < 20; quiet = sleeps(thread) ? quiet + 1 : 0)
+    for (int quiet = 0; quiet < 60; quiet = sleeps(thread) ? quiet + 1 : 0)
         rest(500);
 }
 #endif

@@ -1,6 +1,6 @@
-/* Two jobs whose instructions take turns, in every order that there is: for tries that are built with a driver which
- * calls pz_between before each instruction. Each is a context of its own (makecontext(3)), so no thread and no load has
- * a say. */
+/* Two jobs whose instructions take turns, in every order that there is, or in each in which a job that could go on is
+ * interrupted so many times at most: for tries that are built with a driver which calls pz_between before each
+ * instruction. Each is a context of its own (makecontext(3)), so no thread and no load has a say. */
 #ifndef TURNS_H
 #define TURNS_H
 #define PZ_BETWEEN() pz_between()
@@ -9,7 +9,7 @@ static void pz_between(void);
 #include "try.h"
 #include <ucontext.h>
 
-enum { MOST_CHOICES = 64, STACK = 1 << 16 };
+enum { MOST_CHOICES = 64, MOST_TURNS = 1000, STACK = 1 << 16 };
 
 static struct {
     void (*job)(void);
@@ -21,8 +21,8 @@ static struct {
 static ucontext_t chooser;
 static int me = -1;
 
-/* Whose turn it was where both could go on, and how often that was asked. */
-static int chosen[MOST_CHOICES], choices;
+/* Whose turn it was where both could go on, and how often that was asked; and how often a job may be interrupted. */
+static int chosen[MOST_CHOICES], choices, most_interruptions = MOST_CHOICES;
 
 static void pz_between(void)
 {
@@ -62,19 +62,30 @@ static void begin_job(int which, void (*job)(void))
     makecontext(&of_two[which].context, (void (*)(void))run_job, 1, which);
 }
 
+/* Whose turn it is. */
+static int who_goes_on(int last, int *interrupted)
+{
+    int who = can_go_on(1);
+    if (!can_go_on(0) || !who)
+        return who;
+    if (*interrupted == most_interruptions)
+        return last;
+    CHECK(choices < MOST_CHOICES);
+    who = chosen[choices++];
+    *interrupted += last >= 0 && who != last;
+    return who;
+}
+
 /* Both jobs, in the order that `chosen` gives, and behind its end the first one first. Whether both came to their end:
  * else one waits for good. */
 static int take_turns(void (*first)(void), void (*second)(void))
 {
+    int who = -1, interrupted = 0, turns = 0;
     begin_job(0, first);
     begin_job(1, second);
     for (choices = 0; can_go_on(0) || can_go_on(1);) {
-        int who = can_go_on(1);
-        if (can_go_on(0) && can_go_on(1)) {
-            CHECK(choices < MOST_CHOICES);
-            who = chosen[choices++];
-        }
-        me = who;
+        CHECK(turns++ < MOST_TURNS);
+        who = me = who_goes_on(who, &interrupted);
         swapcontext(&chooser, &of_two[who].context);
         me = -1;
     }
