@@ -113,9 +113,9 @@ static const struct {
     {"pz_cond_signal", 0, "it took effect: a signal wakes one waiter, if there is any; a broadcast has all take the "
      "mutex in turn"},
     {"pz_cond_signal", EPERM, "the thread doesn't own the mutex"},
-    {"pz_cond_signal", EOVERFLOW, "this condition variable had 2^32 - 1 signals and broadcasts, those counted that "
-     "nobody waited for: it is refused from then on, and only a new file helps. At a million a second that is "
-     "reached in 72 minutes, so signal only where somebody may wait"},
+    {"pz_cond_signal", EOVERFLOW, "it had 2^32 - 1 signals and broadcasts, those counted that nobody waited for, and "
+     "at none of the last 2^31 there was a moment without a waiter (one that was killed counts until somebody cleans "
+     "up after it). It is refused until there is one: then it counts from 0"},
     {"pz_cond_signal", EINVAL, "there is no such mutex or condition variable; nothing was done; or somebody wrote "
      "stray values into the library's words, and the call was stopped there: nobody knows who owns what, so end all "
      "who use the file and delete it"},
@@ -128,9 +128,9 @@ static const struct {
     {"pz_cond_broadcast", 0, "it took effect: a signal wakes one waiter, if there is any; a broadcast has all take "
      "the mutex in turn"},
     {"pz_cond_broadcast", EPERM, "the thread doesn't own the mutex"},
-    {"pz_cond_broadcast", EOVERFLOW, "this condition variable had 2^32 - 1 signals and broadcasts, those counted "
-     "that nobody waited for: it is refused from then on, and only a new file helps. At a million a second that is "
-     "reached in 72 minutes, so signal only where somebody may wait"},
+    {"pz_cond_broadcast", EOVERFLOW, "it had 2^32 - 1 signals and broadcasts, those counted that nobody waited for, "
+     "and at none of the last 2^31 there was a moment without a waiter (one that was killed counts until somebody "
+     "cleans up after it). It is refused until there is one: then it counts from 0"},
     {"pz_cond_broadcast", EINVAL, "there is no such mutex or condition variable; nothing was done; or somebody wrote "
      "stray values into the library's words, and the call was stopped there: nobody knows who owns what, so end all "
      "who use the file and delete it"},

@@ -275,6 +275,15 @@ static struct pz_call cond_call_of(const pz *p, unsigned t, unsigned c)
     return call;
 }
 
+/* By the mutex's owner: nobody else counts. Where nobody has a bit, nobody sleeps there, and no wait has loaded the counter
+ * and is still to sleep, as its bit is set before it releases the mutex. So no signal is missed (`Recount`, an event of
+ * the machine in crates/protocol). */
+uint64_t pz_begin_again(word *counter, uint64_t count)
+{
+    return !SEE(counter + 3) && EXCHANGE(counter, &count, 0) ? 0 : count;
+}
+
+/* By its steps. A waiter is noted from before its release on, until it is awake. */
 int pz_cond_by_steps(pz *p, unsigned c, unsigned operation)
 {
     int why = 0;
@@ -286,15 +295,23 @@ int pz_cond_by_steps(pz *p, unsigned c, unsigned operation)
     struct pz_call call = cond_call_of(p, t, c);
     word *w = &p->words[p->cell_of[c]];
     int owned = owner_of(atomic_load(w)) == t;
+    word *counter = &p->words[call.counter];
+    uint64_t count = atomic_load(counter);
     if (owned)
         tell_given(w);
+    if (owned && operation == PZ_OP_WAIT)
+        OR(counter + 3, bit_of(t));
+    else if (owned && count - AGAIN <= FULL - AGAIN)
+        pz_begin_again(counter, count);
     uint32_t reply = run(p, &call, operation, (int)c);
     if (owned)
         tell_taken(w);
     if (owned && owner_of(atomic_load(w)) != t)
         pz_self[p->number].held--; /* a wait released it, and hasn't it again */
-    if (operation == PZ_OP_WAIT)
+    if (operation == PZ_OP_WAIT) {
+        pz_awake(p, t, call.counter); /* it may have been refused */
         pz_awake(p, t, p->cell_of[c]);
+    }
     return number_of(reply);
 }
 

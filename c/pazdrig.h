@@ -41,7 +41,7 @@ int pz_mutex_unlock(pz *, unsigned m);      /* EPERM */
 int pz_mutex_consistent(pz *, unsigned m);  /* EPERM, EINVAL: there is nothing to declare */
 int pz_mutex_reinit(pz *, unsigned m);      /* 0: free again, unusable or not; EBUSY: owned or slept on; EAGAIN */
 int pz_cond_wait(pz *, unsigned c);         /* EOWNERDEAD, ENOTRECOVERABLE, EPERM, EINVAL: declare consistent first */
-int pz_cond_signal(pz *, unsigned c);       /* EPERM, EOVERFLOW: it had 2^32 - 1 of them */
+int pz_cond_signal(pz *, unsigned c);       /* EPERM, EOVERFLOW: it had too many, see docs/C.md */
 int pz_cond_broadcast(pz *, unsigned c);    /* the same */
 
 /* Cleans up after threads that died, without waiting for anything: how many. */

@@ -9,8 +9,8 @@
 
 static const uint64_t OWNED = 0x3fffffff, DIED = 0x40000000, WAITERS = 0x80000000, UNUSABLE = 0x100000000;
 
-/* What a counter stays at: who would count on is refused. */
-static const uint64_t FULL = 0xffffffff;
+/* What a counter stays at: who would count on is refused. From AGAIN on it begins again, where nobody waits. */
+static const uint64_t FULL = 0xffffffff, AGAIN = 0x80000000;
 
 /* ---- calls.c: what isn't as the ways below want it goes by its steps; so does, from there on, whose exchange failed,
  * whose release found that somebody may sleep, and whose signal did. */
@@ -20,6 +20,7 @@ int pz_lost(pz *p, unsigned m, unsigned operation, uint64_t seen, uint64_t found
 int pz_released(pz *p, unsigned m, uint64_t found);
 int pz_cond_by_steps(pz *p, unsigned c, unsigned operation);
 int pz_counted(pz *p, unsigned c, unsigned operation, uint64_t count, uint64_t found);
+uint64_t pz_begin_again(word *counter, uint64_t count);
 
 static inline uint64_t own(const word *w) { return atomic_load_explicit(w, memory_order_relaxed); }
 static inline int is_entry(const pz *p, uint64_t at) { return at - LINE < p->places - 2 - LINE; }
@@ -116,6 +117,8 @@ static inline int pz_count(pz *p, unsigned c, unsigned operation)
     if ((seen & OWNED) != t)
         return EPERM;
     uint64_t count = atomic_load_explicit(counter, memory_order_acquire);
+    if (count - AGAIN <= FULL - AGAIN)
+        count = pz_begin_again(counter, count);
     if (count == FULL)
         return EOVERFLOW;
     uint64_t found = ADD(counter, 1);

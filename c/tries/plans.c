@@ -296,7 +296,8 @@ static int has_plan(struct pz_short *plan, unsigned t, unsigned operation, uint6
                                      : pz_plan_broadcast(plan, (uint8_t)t, cell, counter, seen, count);
 }
 
-/* A signal or a broadcast. What it has to wake or move, its last change, is left to its steps where somebody sleeps. */
+/* A signal or a broadcast. What it has to wake or move, its last change, is left to its steps where somebody sleeps; and
+ * where nobody does a large counter begins again first. */
 static void a_count(unsigned t, unsigned m, unsigned operation, uint64_t seen, uint64_t count, int sleeps)
 {
     struct pz_short plan;
@@ -308,6 +309,11 @@ static void a_count(unsigned t, unsigned m, unsigned operation, uint64_t seen, u
     go();
     int r = pz_count(&file, 0, operation), is_signal = operation == PZ_OP_SIGNAL;
     end();
+    if ((seen & OWNED) == t && !sleeps && count >= AGAIN && count <= FULL) {
+        same_change(0, counter, 0);
+        memmove(made, made + 1, --changes * sizeof *made);
+        first[counter] = count = 0;
+    }
     if (!has_plan(&plan, t, operation, seen, count))
         return isnt_planned(t, operation, seen, count, r);
     CHECK(begins == 0 && pz_self[0].held == 7);
