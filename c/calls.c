@@ -228,8 +228,9 @@ static int has_sleepers(pz *p, uint64_t cell)
 }
 
 /* An unusable mutex, seen so, is made free by one exchange of its word: nobody owns it, no living thread's list has it,
- * and who looks at it then finds it one or the other. A trace tells it of the calling thread, which takes part for
- * that. */
+ * and who looks at it then finds it one or the other. WAITERS stays: since its sleepers were looked for others may have
+ * made it free, slept on it, and left it unusable with the same word; the next owner is to wake them. A trace tells it
+ * of the calling thread, which takes part for that. */
 static int is_freed(pz *p, unsigned m, uint64_t seen)
 {
     int why = 0;
@@ -239,7 +240,7 @@ static int is_freed(pz *p, unsigned m, uint64_t seen)
         return 0;
     pz_trace_lock();
     tell_given(&p->words[cell_place(m)]);
-    int freed = atomic_compare_exchange_strong(&p->words[cell_place(m)], &seen, 0);
+    int freed = EXCHANGE(&p->words[cell_place(m)], &seen, seen & WAITERS);
     if (freed)
         PZ_TELL(pz_trace_reinit(t, m));
     pz_trace_unlock();
@@ -256,7 +257,7 @@ int pz_mutex_reinit(pz *p, unsigned m)
     uint64_t seen = atomic_load(&p->words[cell_place(m)]);
     if (has_sleepers(p, cell_place(m)))
         return EBUSY;
-    if (seen == 0 || ((seen & UNUSABLE) && is_freed(p, m, seen)))
+    if (!(seen & ~WAITERS) || ((seen & UNUSABLE) && is_freed(p, m, seen)))
         return 0;
     int r = pz_mutex_trylock(p, m);
     if (r == ENOTRECOVERABLE)
