@@ -293,7 +293,7 @@ static void another_format(void)
     struct stat before, after;
     SAME(comes(path, 0, "init", 1), 0);
     int fd = open(companion_of(path), O_RDWR);
-    CHECK(fd >= 0 && pwrite(fd, "2", 1, 6) == 1 && fstat(fd, &before) == 0);
+    CHECK(fd >= 0 && pwrite(fd, "1", 1, 6) == 1 && fstat(fd, &before) == 0);
     SAME(comes(path, 0, "lock", 1), EINVAL);
     SAME(comes(path, 0, "init", 1), EPROTO);
     CHECK(ftruncate(fd, before.st_size * 2) == 0 && fstat(fd, &before) == 0);
