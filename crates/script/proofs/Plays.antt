@@ -195,6 +195,10 @@ has_mutexes p n m k (action.Leave t) few h = tt
 has_mutexes p n m k (action.Decline t) few h = tt
 has_mutexes p n m k (action.Renew t) few h = tt
 has_mutexes p n m k (action.Reinit t j) few h = tt
+has_mutexes p n m k (action.Recount c) few h = tt
+has_mutexes p n m k (action.Spare t) few h = tt
+has_mutexes p n m k (action.Resleep t) few h = tt
+has_mutexes p n m k (action.Repeat t) few h = tt
 has_mutexes p n m k (action.Go t) few h = tt
 has_mutexes p n m k (action.Call t c) few h = tt
 has_mutexes p n m k (action.Locks t j i) few h = let last = h.3 in omega arith

@@ -59,6 +59,10 @@ pub data Form : Type 0 where
   declines : List ℕ → Form
   renews : List ℕ → Form
   reinits : List ℕ → List ℕ → Form
+  recounts : List ℕ → Form
+  spares : List ℕ → Form
+  resleeps : List ℕ → Form
+  repeats : List ℕ → Form
   calls : List ℕ → CallForm → Form
   locks : List ℕ → List ℕ → Option ℕ → Form
   phase : Form
@@ -69,7 +73,8 @@ abbrev pub is_silent : List ℕ → Bool
 is_silent [] = true
 is_silent (b ∷ bs) = b == 35
 
--- `thread NAME` and `mutex NAME`, `kill T`, `killall PROCESS`, `go T`, `leave T`, `decline T` and `renew T`
+-- `thread NAME` and `mutex NAME`, `kill T`, `killall PROCESS`, `go T`, `leave T`, `decline T` and `renew T`;
+-- `recount C`, `spare T`, `resleep T` and `repeat T`
 abbrev pub name_form : List ℕ → List ℕ → Option Form
 name_form w a = if not (is_name a) then None
     else (if bytes_eq w (codes "thread") then Some (thread a)
@@ -79,7 +84,11 @@ name_form w a = if not (is_name a) then None
     else (if bytes_eq w (codes "go") then Some (goes a)
     else (if bytes_eq w (codes "leave") then Some (leaves a)
     else (if bytes_eq w (codes "decline") then Some (declines a)
-    else (if bytes_eq w (codes "renew") then Some (renews a) else None))))))))
+    else (if bytes_eq w (codes "renew") then Some (renews a)
+    else (if bytes_eq w (codes "recount") then Some (recounts a)
+    else (if bytes_eq w (codes "spare") then Some (spares a)
+    else (if bytes_eq w (codes "resleep") then Some (resleeps a)
+    else (if bytes_eq w (codes "repeat") then Some (repeats a) else None))))))))))))
 
 -- `step T N`
 abbrev pub step_form : List ℕ → List ℕ → List ℕ → Option Form
@@ -189,6 +198,10 @@ threads_have (leaves t) = false
 threads_have (declines t) = false
 threads_have (renews t) = false
 threads_have (reinits t m) = false
+threads_have (recounts c) = false
+threads_have (spares t) = false
+threads_have (resleeps t) = false
+threads_have (repeats t) = false
 threads_have (calls t c) = true
 threads_have (locks t m n) = false
 threads_have phase = true

@@ -7,7 +7,8 @@ use Rattle.condvar.specs.declared.op.Op.TheVariants.{OnMutex, OnCondition}
 use Rattle.script.specs.declared.command.Mode.{Mode}
 use Rattle.script.specs.declared.command.Action.{Action}
 use Rattle.script.specs.declared.command.Action.TheVariants.{Begin, Step, Kill, KillAll, Leave, Decline}
-use Rattle.script.specs.declared.command.Action.TheVariants.{Renew, Reinit, Go, Call, Locks, Phase, Die}
+use Rattle.script.specs.declared.command.Action.TheVariants.{Renew, Reinit, Recount, Spare, Resleep, Repeat}
+use Rattle.script.specs.declared.command.Action.TheVariants.{Go, Call, Locks, Phase, Die}
 use Rattle.script.specs.declared.command.Command.{Command}
 use Rattle.script.specs.declared.command.Condition.{Condition}
 use Rattle.script.specs.Deaths.{deaths_by}
@@ -44,6 +45,10 @@ IsPossible processes threads mutexes conditions (Leave t) = (1 ≤ t) × (t ≤ 
 IsPossible processes threads mutexes conditions (Decline t) = (1 ≤ t) × (t ≤ threads)
 IsPossible processes threads mutexes conditions (Renew t) = (1 ≤ t) × (t ≤ threads)
 IsPossible processes threads mutexes conditions (Reinit t m) = (1 ≤ t) × (t ≤ threads) × (m < mutexes)
+IsPossible processes threads mutexes conditions (Recount k) = k < conditions
+IsPossible processes threads mutexes conditions (Spare t) = (1 ≤ t) × (t ≤ threads)
+IsPossible processes threads mutexes conditions (Resleep t) = (1 ≤ t) × (t ≤ threads)
+IsPossible processes threads mutexes conditions (Repeat t) = (1 ≤ t) × (t ≤ threads)
 IsPossible processes threads mutexes conditions (Go t) = (1 ≤ t) × (t ≤ threads)
 IsPossible processes threads mutexes conditions (Call t o) = (1 ≤ t) × (t ≤ threads) × Names mutexes conditions o
 IsPossible processes threads mutexes conditions (Locks t m n) = (1 ≤ t) × (t ≤ threads) × (1 ≤ n) × (m + n ≤ mutexes)

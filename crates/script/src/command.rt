@@ -41,6 +41,14 @@ pub enum Action {
     Renew(Tid),
     /// One reinit event, of the mutex with this number.
     Reinit(Tid, u16),
+    /// One recount event, of the condition variable with this number.
+    Recount(u16),
+    /// One spare event.
+    Spare(Tid),
+    /// One resleep event.
+    Resleep(Tid),
+    /// One repeat event.
+    Repeat(Tid),
     /// Step events until the thread rests: until it is in no call and not dying, or sleeps.
     Go(Tid),
     /// A begin event, and then step events until the thread rests; for real threads one call.

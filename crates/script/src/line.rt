@@ -46,6 +46,11 @@ pub enum Line<'a> {
     Renew(&'a str),
     /// A thread and a mutex.
     Reinit(&'a str, &'a str),
+    /// A condition variable.
+    Recount(&'a str),
+    Spare(&'a str),
+    Resleep(&'a str),
+    Repeat(&'a str),
     Go(&'a str),
     Call(&'a str, NamedCall<'a>),
     Locks(&'a str, &'a str, Option<u32>),
@@ -79,6 +84,10 @@ fn of_a_name<'a>(keyword: &'a str, name: &'a str) -> Option<Line<'a>>
         "leave" => Some(Line::Leave(name)),
         "decline" => Some(Line::Decline(name)),
         "renew" => Some(Line::Renew(name)),
+        "recount" => Some(Line::Recount(name)),
+        "spare" => Some(Line::Spare(name)),
+        "resleep" => Some(Line::Resleep(name)),
+        "repeat" => Some(Line::Repeat(name)),
         _ => None,
     }
 }
@@ -264,6 +273,8 @@ fn is_of_threads(line: &Line<'_>) -> bool
         Line::Leave(_) | Line::Decline(_) => false,
         Line::Renew(_) => false,
         Line::Reinit(..) => false,
+        Line::Recount(_) | Line::Spare(_) => false,
+        Line::Resleep(_) | Line::Repeat(_) => false,
     }
 }
 
