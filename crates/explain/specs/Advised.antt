@@ -215,10 +215,14 @@ uses_of w call = if bytes_eq w (codes "thread") then (Processes, 2) ∷ []
     else (if bytes_eq w (codes "decline") then (Threads, 1) ∷ []
     else (if bytes_eq w (codes "go") then (Threads, 1) ∷ []
     else (if bytes_eq w (codes "die") then (Threads, 1) ∷ []
+    else (if bytes_eq w (codes "recount") then (Conditions, 1) ∷ []
+    else (if bytes_eq w (codes "spare") then (Threads, 1) ∷ []
+    else (if bytes_eq w (codes "resleep") then (Threads, 1) ∷ []
+    else (if bytes_eq w (codes "repeat") then (Threads, 1) ∷ []
     else (if bytes_eq w (codes "killall") then (Processes, 1) ∷ []
     else (if bytes_eq w (codes "locks") then (Mutexes, 2) ∷ (Threads, 1) ∷ []
     else (if bytes_eq w (codes "begin") then uses_of_call call
-    else (if bytes_eq w (codes "call") then uses_of_call call else [])))))))))))))
+    else (if bytes_eq w (codes "call") then uses_of_call call else [])))))))))))))))))
 
 -- word i of line n names such a thing, and no line before declares the name
 abbrev pub is_undeclared : List ℕ → ℕ → Things → ℕ → Bool

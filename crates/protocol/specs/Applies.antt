@@ -4,8 +4,9 @@
 -- mutex or condition variable is one of the layout; a step where it is in a call, or killed and not reaped, and sleeps
 -- nowhere; a kill where it lives; a leave where it stands in a queue; a decline where its next access is a trim
 -- (`IsAboutToTrim`); a renewal where it was reaped, and hasn't been renewed since; a reinit where it lives and is in no
--- call, and the mutex, one of the layout, is unusable and nobody sleeps on it. Such an event is noted as what it is,
--- every other as nothing, and that changes nothing: the law `events_apply`.
+-- call, and the mutex, one of the layout, is unusable and nobody sleeps on it; a recount, a spare (`IsSparedAccessOf`),
+-- a resleep and a repeat (`IsAboutToRead`) where they happen. Such an event is noted as what it is, every other as
+-- nothing, and that changes nothing: the law `events_apply`.
 use Rattle.std.specs.Prelude.{ℕ, length, ◌≡◌, ◌<◌, ◌≤◌, ◌==◌, ◌&&◌, nat_le, true}
 use Rattle.std.specs.Prelude.{false, Option, Some, None, List, [], ◌∷◌, if◌then◌else◌}
 use Rattle.lockword.specs.declared.reply.Reply.{Reply}

@@ -1,8 +1,8 @@
 -- Counters of condition variables: how often it was signalled.
 --
 -- *Counting up.* With counters that are at most 2^32 - 1 at the beginning each is what it was then, and one more for
--- each signal and broadcast with OK whose call, as it was told, is on that condition variable: the law
--- `counters_count_up`.
+-- each signal and broadcast with OK whose call, as it was told, is on that condition variable; and from any moment on,
+-- so long as it doesn't go back to 0, what it was then and those since: the law `counters_count_up`.
 use Rattle.std.specs.Prelude.{ℕ, length, ◌≡◌, ◌+◌, ◌<◌, ◌==◌, Option, Some, None, List, [], ◌∷◌, if◌then◌else◌}
 use Rattle.lockword.specs.declared.reply.Reply.{Reply}
 use Rattle.lockword.specs.declared.reply.Reply.TheVariants.{OK}

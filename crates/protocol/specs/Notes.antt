@@ -1,8 +1,8 @@
 -- The lines that notes stand for, in their order.
 --
 -- *What a note tells.* Facts, one after the other: a begin, a point, a sleep, wakes, moves, a return; a kill, a death
--- of a mutex's owner, a reaping, a renewal; of a leave a wake; of a reinit a begin, a point and a return. A call that
--- is refused at once is decided and returns at its begin.
+-- of a mutex's owner, a reaping, a renewal; of a leave a wake; of a reinit a begin, a point and a return; of a resleep
+-- a wake and a sleep; of a recount nothing. A call that is refused at once is decided and returns at its begin.
 use Rattle.std.specs.Prelude.{ℕ, ◌+◌, Bool, true, false, Option, Some, None, List, [], ◌∷◌, ◌++◌, map}
 use Rattle.lockword.specs.declared.reply.Reply.{Reply}
 use Rattle.lockword.specs.declared.reply.Reply.TheVariants.{OK}

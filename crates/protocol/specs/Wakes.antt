@@ -6,10 +6,10 @@
 -- directly behind the event of the call's last point (`left_by`), and nobody before it has had one; of a signal the
 -- first of its condition variable's queue; of a trylock, a declaration and a broadcast nobody. It tells the moves of
 -- nobody, or of a broadcast those of all its condition variable's queue to its mutex's. A step of a dead thread's walk
--- tells the wake of nobody, or of the first of a mutex's queue; a leave tells the wake of its own thread or none, and
--- no move (`WakesItself`); a begin, a kill and a decline tell no wake and no move. Of every state that events lead to:
--- the law `wakes_are_right`. Source: pthread_mutex_unlock(3p), pthread_cond_signal(3p), pthread_cond_broadcast(3p),
--- pthread_mutexattr_getrobust(3p), robust-futexes.
+-- tells the wake of nobody, or of the first of a mutex's queue; so does a repeat; a leave and a resleep tell the wake
+-- of their own thread or none, and no move (`WakesItself`); a begin, a kill, a decline, a recount and a spare tell no
+-- wake and no move. Of every state that events lead to: the law `wakes_are_right`. Source: pthread_mutex_unlock(3p),
+-- pthread_cond_signal(3p), pthread_cond_broadcast(3p), pthread_mutexattr_getrobust(3p), robust-futexes.
 use Rattle.std.specs.Prelude.{ℕ, ◌≡◌, ◌<◌, ◌==◌, ◌⊎◌, Option, Some, None, List, [], ◌∷◌, map, take, if◌then◌else◌}
 use Rattle.posixmutex.specs.declared.object.Object.{Object}
 use Rattle.posixmutex.specs.declared.point.Operation.{Operation}

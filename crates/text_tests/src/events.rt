@@ -121,6 +121,7 @@ static OF_TWO_THREADS: Commands = Commands {
         ("call a lock m0\ncall b lock m0\ngo b\n", 14),
         ("call a lock m0\ncall b lock m0\nkill b\ngo b\n", 19),
         ("leave a\ndecline a\n", 2),
+        ("spare a\nresleep a\nrepeat a\n", 3),
         ("kill a\ngo a\nrenew a\nrenew a\ncall a lock m0\n", 15),
         ("reinit a m0\ncall a lock m0\nreinit a m0\n", 11),
         (

@@ -87,6 +87,7 @@ fn reply_in(note: &Note, thread: Tid) -> Option<Reply>
         Note::Reinited { thread: caller, .. } => reply_to(thread, caller, Some(Reply::OK)),
         Note::Nothing | Note::Killed { .. } | Note::Left { .. } => None,
         Note::Walked { .. } | Note::Renewed { .. } => None,
+        Note::Recounted { .. } | Note::Reslept { .. } => None,
     }
 }
 

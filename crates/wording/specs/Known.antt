@@ -24,7 +24,8 @@ reply_words = map reply_word all_replies
 abbrev pub keywords : Mode → List (List ℕ)
 keywords Run = codes "process" ∷ codes "thread" ∷ codes "mutex" ∷ codes "mutexes" ∷ codes "cond" ∷ codes "call"
     ∷ codes "begin" ∷ codes "step" ∷ codes "kill" ∷ codes "killall" ∷ codes "renew" ∷ codes "reinit" ∷ codes "leave"
-    ∷ codes "decline" ∷ codes "go" ∷ codes "locks" ∷ []
+    ∷ codes "decline" ∷ codes "recount" ∷ codes "spare" ∷ codes "resleep" ∷ codes "repeat" ∷ codes "go"
+    ∷ codes "locks" ∷ []
 keywords Threads = codes "process" ∷ codes "thread" ∷ codes "mutex" ∷ codes "mutexes" ∷ codes "cond" ∷ codes "call"
     ∷ codes "phase" ∷ codes "die" ∷ []
 

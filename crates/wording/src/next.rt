@@ -167,6 +167,8 @@ fn of_run(word: &str) -> Option<Next>
         "kill" | "killall" | "renew" => Some(Next::Name),
         "reinit" => Some(Next::NameName),
         "leave" | "decline" | "go" => Some(Next::Name),
+        "recount" | "spare" => Some(Next::Name),
+        "resleep" | "repeat" => Some(Next::Name),
         "locks" => Some(Next::NameNameNumber),
         _ => None,
     }

@@ -332,10 +332,20 @@ static KILLS: Lines = Lines {
     no_such_name: &["kill b", "go m", "killall p", "killall a"],
 };
 
-/// Sleepers that leave, trims that are declined, renewals, and mutexes made anew.
+/// Sleepers that leave or sleep again, trims that are declined, renewals, mutexes made anew, counters that go back to 0,
+/// wakes that are spared, and accesses of walks that are made once more.
 static LEAVES: Lines = Lines {
     frame: THIRD,
-    good: &["leave a", "decline a", "renew a", "reinit a m"],
+    good: &[
+        "leave a",
+        "decline a",
+        "renew a",
+        "reinit a m",
+        "cond c m 1\nrecount c",
+        "spare a",
+        "resleep a",
+        "repeat a",
+    ],
     unknown_word: &[
         "leave",
         "leave a 1",
@@ -348,6 +358,15 @@ static LEAVES: Lines = Lines {
         "reinit a m m",
         "reinits a m",
         "call a reinit m",
+        "cond c m 1\nrecount",
+        "cond c m 1\nrecount c 0",
+        "cond c m 1\nrecount a c",
+        "spare a m",
+        "spares a",
+        "resleep",
+        "Resleep a",
+        "repeat a 1",
+        "repeat a\nthread b",
     ],
     out_of_range: &[],
     no_such_name: &[
@@ -357,6 +376,11 @@ static LEAVES: Lines = Lines {
         "reinit b m",
         "reinit a n",
         "reinit m a",
+        "cond c m 1\nrecount a",
+        "cond c m 1\nrecount m",
+        "spare b",
+        "resleep m",
+        "cond c m 1\nrepeat c",
     ],
 };
 
@@ -485,6 +509,10 @@ static FOR_A_RUN_ALONE: Lines = Lines {
         "decline a",
         "renew a",
         "reinit a m",
+        "spare a",
+        "resleep a",
+        "repeat a",
+        "cond c m 0\nrecount c",
         "killall p",
         "process p 0\nkillall p",
     ],
