@@ -173,6 +173,7 @@ static void begin_boot(pz *p, const char boot[40])
         atomic_store(sleepers(p, at), 0);
     for (uint64_t at = cell_place(0); at < counter_place(p, 0); at += LINE)
         atomic_store(heir(p, at), 0);
+    atomic_thread_fence(memory_order_release); /* who finds it written doesn't ask for the lock */
     memcpy(p->header->boot, boot, sizeof p->header->boot);
 }
 
@@ -188,6 +189,12 @@ static int is_as_asked(const pz *p, const struct asked *a)
     return 1;
 }
 
+static void note_cells(pz *p, const struct asked *a)
+{
+    for (unsigned c = 0; c < a->conds; c++)
+        p->cell_of[c] = cell_asked(a, c);
+}
+
 /* Whole, as it was asked for, and of this boot. */
 static int ready(pz *p, const struct asked *a, int whole)
 {
@@ -201,8 +208,7 @@ static int ready(pz *p, const struct asked *a, int whole)
         return EINVAL;
     else if (memcmp(p->header->boot, boot, sizeof boot))
         begin_boot(p, boot);
-    for (unsigned c = 0; c < a->conds; c++)
-        p->cell_of[c] = cell_asked(a, c);
+    note_cells(p, a);
     return 0;
 }
 
@@ -249,9 +255,30 @@ static int open_locked(int fd, const struct asked *a, pz *p)
     return r;
 }
 
+/* One that is whole, as it was asked for, and of this boot is opened without the file's lock: so whoever has that, by
+ * no more than the right to read it, keeps nobody out. What else is there is looked at again behind the lock: it may be
+ * in the making. */
+static int is_open_at_once(int fd, const struct asked *a, pz *p)
+{
+    struct layout l = layout_of(a);
+    char boot[40];
+    int whole = 0;
+    if (look_at(fd, l.size, &whole) || !whole || map(fd, a, &l, p))
+        return 0;
+    if (pz_boot_id(boot) == 0 && is_as_asked(p, a) && !memcmp(p->header->boot, boot, sizeof boot)) {
+        note_cells(p, a);
+        return 1;
+    }
+    munmap(p->header, p->mapped);
+    p->mapped = 0;
+    return 0;
+}
+
 /* One opener at a time, of all processes by the file's lock, which a maker that dies lets go of. */
 static int open_alone(int fd, const struct asked *a, pz *p)
 {
+    if (is_open_at_once(fd, a, p))
+        return 0;
     while (flock(fd, LOCK_EX) < 0)
         if (errno != EINTR)
             return errno;

@@ -41,7 +41,7 @@ static int find_first(struct mutex *x)
     pthread_setcancelstate(PTHREAD_CANCEL_DISABLE, &state);
     sh_begin();
     if (!x->c)
-        x->c = sh_attach(x->bytes, x->bytes->nonce, &why);
+        x->c = sh_attach(x->bytes, &why);
     x->p = x->c ? sh_open_bank(x->c, x->bank, 1) : NULL;
     if (x->c && !x->p) {
         why = x->bank < atomic_load(&x->c->table->banks) ? EAGAIN : EINVAL;
@@ -228,6 +228,7 @@ static void write_bytes(pthread_mutex_t *m, const struct companion *c, uint32_t 
     o->number = number;
     o->nonce = atomic_load(&c->nonce);
     o->type = (uint32_t)type;
+    o->place = c->place;
     atomic_store(&o->kind, KIND);
 }
 

@@ -3,6 +3,7 @@
 #include <errno.h>
 #include <string.h>
 #include <sys/mman.h>
+#include <unistd.h>
 
 /* Under `adding` alone they change, but for `calls`. */
 struct companion sh_all[COMPANIONS];
@@ -114,6 +115,7 @@ static void put(struct companion *c, const struct companion *new)
 {
     c->dev = new->dev;
     c->ino = new->ino;
+    c->place = new->place;
     c->table = new->table;
     c->presence = new->presence;
     atomic_store(&c->used, 1);
@@ -122,9 +124,9 @@ static void put(struct companion *c, const struct companion *new)
 }
 
 /* One that was had already may have been opened again: then that one stays. */
-static struct companion *add(const struct object *o, uint64_t nonce, int *why)
+static struct companion *add(const struct object *o, struct place at, uint64_t nonce, int *why)
 {
-    struct companion new = {0};
+    struct companion new = {.place = at};
     *why = sh_open_place(o, nonce, &new);
     if (*why)
         return NULL;
@@ -140,16 +142,17 @@ static struct companion *add(const struct object *o, uint64_t nonce, int *why)
 }
 
 /* By a mutex of this nonce, which isn't among those had. Whoever has one so leaves it, as behind sh_enter. */
-struct companion *sh_attach(const void *mutex, uint64_t nonce, int *why)
+struct companion *sh_attach(const struct ours *mutex, int *why)
 {
     struct object o;
+    uint64_t nonce = mutex->nonce;
     *why = EINVAL;
     if (!nonce || sh_object_at(mutex, &o) || o.anonymous)
         return NULL;
     sh_real_lock(&adding);
     struct companion *c = sh_find(nonce);
     if (!c)
-        c = add(&o, nonce, why);
+        c = add(&o, mutex->place, nonce, why);
     if (c)
         sh_enter(c);
     sh_real_unlock(&adding);
@@ -160,7 +163,7 @@ struct companion *sh_attach(const void *mutex, uint64_t nonce, int *why)
 
 static int is_of(const struct companion *c, const struct object *o)
 {
-    return atomic_load(&c->nonce) && c->table->dev == o->dev && c->table->ino == o->ino && sh_is_in_place(o, c);
+    return atomic_load(&c->nonce) && c->table->dev == o->dev && c->table->ino == o->ino && sh_is_in_place(c);
 }
 
 /* (A first opener makes many mutexes of one object.) */
@@ -182,11 +185,32 @@ struct companion *sh_attach_object(const struct object *o, int *why)
     sh_real_lock(&adding);
     struct companion *c = o->anonymous ? anonymous : had_of(o);
     if (!c && !o->anonymous)
-        c = add(o, 0, why);
+        c = add(o, (struct place){0}, 0, why);
     if (c)
         sh_enter(c);
     sh_real_unlock(&adding);
     return c;
+}
+
+/* What this user has made of it, or its owner, where that is there. */
+static void attach_any(const struct object *o)
+{
+    int why;
+    add(o, sh_own_place(), ANY, &why);
+    add(o, (struct place){.maker = o->uid}, ANY, &why);
+}
+
+/* Of each object that is mapped. */
+void sh_attach_mapped(void)
+{
+    int saved = errno, state;
+    pthread_setcancelstate(PTHREAD_CANCEL_DISABLE, &state);
+    sh_begin();
+    sh_real_lock(&adding);
+    sh_see_objects(attach_any);
+    sh_real_unlock(&adding);
+    pthread_setcancelstate(state, NULL);
+    errno = saved;
 }
 
 static void *bank_memory(struct companion *c, unsigned bank)
@@ -247,19 +271,28 @@ void sh_begin(void) { pthread_once(&once, begin); }
 
 static __attribute__((constructor)) void loaded(void) { sh_begin(); }
 
-/* The companions stay mapped, for calls that come late. */
+/* Only its maker may remove one. */
+static void let_go_at_end(struct companion *c, struct companion **own)
+{
+    munmap(c->presence, PAGE);
+    c->presence = NULL;
+    if (c->place.maker != geteuid())
+        return;
+    sh_look_over(c);
+    *own = c;
+}
+
+/* The companions stay mapped, for calls that come late. Those that this process had are looked over, and a few others
+ * of its user. */
 static __attribute__((destructor)) void unloaded(void)
 {
-    int any = 0;
+    struct companion *own = NULL;
     if (sh_real_trylock(&adding))
         return;
-    for (unsigned i = 0; i < COMPANIONS; i++)
-        if (atomic_load(&sh_all[i].nonce) && sh_all[i].presence) {
-            munmap(sh_all[i].presence, PAGE);
-            sh_all[i].presence = NULL;
-            any = 1;
-        }
-    if (any)
-        sh_sweep_all();
+    for (struct companion *c = sh_all; c < sh_all + COMPANIONS; c++)
+        if (atomic_load(&c->nonce) && c->presence)
+            let_go_at_end(c, &own);
+    if (own)
+        sh_sweep(own->place);
     sh_real_unlock(&adding);
 }

@@ -103,6 +103,17 @@ static void find_owner(struct object *o)
     o->mode = o->known ? st.st_mode & 0666 : 0600;
 }
 
+static void read_object(const struct region *r, uint64_t offset, struct object *o)
+{
+    *o = (struct object){.dev = makedev(r->dev_major, r->dev_minor),
+                         .ino = r->ino,
+                         .offset = offset,
+                         .anonymous = !strcmp(r->path, "/dev/zero (deleted)")};
+    memcpy(o->path, r->path, sizeof o->path);
+    if (!o->anonymous)
+        find_owner(o);
+}
+
 /* ENOENT: nothing that other processes share is mapped there. */
 int sh_object_at(const void *at, struct object *o)
 {
@@ -110,13 +121,7 @@ int sh_object_at(const void *at, struct object *o)
     int answer = region_of(at, &r);
     if (answer || !r.shared)
         return ENOENT;
-    *o = (struct object){.dev = makedev(r.dev_major, r.dev_minor),
-                         .ino = r.ino,
-                         .offset = r.offset + ((uintptr_t)at - r.begin),
-                         .anonymous = !strcmp(r.path, "/dev/zero (deleted)")};
-    memcpy(o->path, r.path, sizeof o->path);
-    if (!o->anonymous)
-        find_owner(o);
+    read_object(&r, r.offset + ((uintptr_t)at - r.begin), o);
     return 0;
 }
 
@@ -134,5 +139,25 @@ int sh_see_mapped(seen *see)
 {
     struct region r;
     int answer = among_all(show, &see, &r);
+    return answer == ENOENT ? 0 : answer;
+}
+
+typedef void seen_object(const struct object *o);
+static int show_object(const struct region *r, const void *what)
+{
+    seen_object *const *see = what;
+    struct object o;
+    if (r->shared)
+        read_object(r, r->offset, &o);
+    if (r->shared && !o.anonymous)
+        (*see)(&o);
+    return 0;
+}
+
+/* Each object of which something is mapped, once or more often. */
+int sh_see_objects(seen_object *see)
+{
+    struct region r;
+    int answer = among_all(show_object, &see, &r);
     return answer == ENOENT ? 0 : answer;
 }

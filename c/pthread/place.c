@@ -18,9 +18,6 @@
 static const uint64_t MAGIC = 0x30737a6170616e + ((uint64_t)FORMAT << 48), DIGIT = (uint64_t)0xff << 48;
 static const char COMMON[] = "/run/pazdrig", DELETED[] = " (deleted)";
 
-/* The folder that was used last: it is looked over at the process's end. */
-static char used[PATHS];
-
 size_t sh_bank_at(unsigned bank)
 {
     size_t at = PAGE;
@@ -73,7 +70,11 @@ void sh_name(struct table *t, const struct object *o)
     t->namespace = namespace();
 }
 
-/* ---- The folder: the one that is given, or the one for all users, or the one of the object's owner. */
+/* ---- Folders. Each user has one, which nobody else writes: in the folder that is given, or in the one for all users,
+ * or in /dev/shm. Anybody may make something of its name there before him. Then it is one with a number that nobody can
+ * guess, which he looks for among all, and others have from the mutex's bytes. */
+
+enum { FOLDER = PATHS + 32 };
 
 static int is_folder(const char *path)
 {
@@ -81,43 +82,121 @@ static int is_folder(const char *path)
     return stat(path, &st) == 0 && S_ISDIR(st.st_mode);
 }
 
-static int make_folder(const struct object *o, const char *path)
-{
-    struct stat st;
-    int may = geteuid() == 0 || geteuid() == o->uid; /* else the owner wouldn't trust it */
-    if (may && mkdir(path, 0711) == 0 && geteuid() != o->uid && chown(path, o->uid, o->gid) < 0)
-        return errno;
-    if (lstat(path, &st) < 0)
-        return errno == ENOENT && !may ? EACCES : errno;
-    return S_ISDIR(st.st_mode) && (st.st_uid == o->uid || st.st_uid == 0) ? 0 : EPERM;
-}
-
-static int find_folder(const struct object *o, int make, char path[PATHS])
+static void path_of(struct place at, char path[FOLDER])
 {
     const char *given = secure_getenv("PAZDRIG_DIR");
     if (!given && is_folder(COMMON))
         given = COMMON;
-    if (given)
-        snprintf(path, PATHS, "%s", given);
-    else
-        snprintf(path, PATHS, "/dev/shm/pazdrig-%u", (unsigned)o->uid);
-    return given || !make ? 0 : make_folder(o, path);
+    int n = given ? snprintf(path, FOLDER, "%.*s/%u", PATHS, given, at.maker)
+                  : snprintf(path, FOLDER, "/dev/shm/pazdrig-%u", at.maker);
+    if (at.folder)
+        snprintf(path + n, FOLDER - (size_t)n, "-%08x", at.folder);
 }
 
-static int find_place(const struct object *o, int make, char folder[PATHS], char path[PATHS + 48])
+static void name_of(uint64_t dev, uint64_t ino, char name[48])
 {
-    int r = find_folder(o, make, folder);
-    snprintf(path, PATHS + 48, "%s/%llx-%llx", folder, (unsigned long long)o->dev, (unsigned long long)o->ino);
-    return r;
+    snprintf(name, 48, "%llx-%llx", (unsigned long long)dev, (unsigned long long)ino);
+}
+
+/* By no link of anybody's. */
+static int open_folder(const char *path) { return open(path, O_PATH | O_DIRECTORY | O_NOFOLLOW | O_CLOEXEC); }
+
+/* EEXIST: it is another user's, or no folder. */
+static int open_own(const char *path)
+{
+    struct stat st;
+    int fd = open_folder(path);
+    if (fd >= 0 && fstat(fd, &st) == 0 && st.st_uid == geteuid())
+        return fd;
+    if (fd >= 0)
+        close(fd);
+    else if (errno != ENOTDIR || lstat(path, &st) < 0)
+        return -1;
+    errno = EEXIST;
+    return -1;
+}
+
+/* Whoever may write the objects passes through it, whatever the umask is. Nobody else lists it. */
+static int make_own(struct place at)
+{
+    char path[FOLDER];
+    struct stat st;
+    path_of(at, path);
+    int fd = open_own(path);
+    if (fd < 0 && errno == ENOENT && (mkdir(path, 0711) == 0 || errno == EEXIST))
+        fd = open_own(path);
+    if (fd >= 0 && fstat(fd, &st) == 0 && !(st.st_mode & 1))
+        chmod(path, 0711);
+    return fd;
+}
+
+static int open_place(struct place at)
+{
+    char path[FOLDER];
+    path_of(at, path);
+    return open_folder(path);
+}
+
+static int is_own(struct place at)
+{
+    char path[FOLDER];
+    path_of(at, path);
+    int fd = open_own(path);
+    return fd >= 0 && close(fd) == 0;
+}
+
+/* The least one of the user's own folders that have a number; 0: none has. */
+static uint32_t least_number(uint32_t maker)
+{
+    char path[FOLDER];
+    uint32_t least = 0, is;
+    path_of((struct place){maker, 0}, path);
+    char *slash = strrchr(path, '/'), *name = slash + 1;
+    *slash = 0;
+    DIR *d = opendir(path);
+    struct dirent *e;
+    while (d && (e = readdir(d)))
+        if (!strncmp(e->d_name, name, strlen(name)) && sscanf(e->d_name + strlen(name), "-%8x", &is) == 1 &&
+            (!least || is < least) && is_own((struct place){maker, is}))
+            least = is;
+    if (d)
+        closedir(d);
+    return least;
+}
+
+/* The calling user's. (Under the lock of who adds a companion.) */
+static int open_own_folder(struct place *at)
+{
+    static struct place own;
+    int fd;
+    if (own.maker != geteuid())
+        own = (struct place){.maker = geteuid()};
+    while ((fd = make_own(own)) < 0 && errno == EEXIST) {
+        uint32_t least = own.folder ? 0 : least_number(own.maker);
+        own.folder = least ? least : (uint32_t)(new_nonce() >> 32);
+    }
+    *at = own;
+    return fd;
+}
+
+/* As it is, or isn't. */
+struct place sh_own_place(void)
+{
+    struct place at = {.maker = geteuid()};
+    if (!is_own(at))
+        at.folder = least_number(at.maker);
+    return at;
 }
 
 /* ---- Making one: without a name until it is whole. */
 
-/* Of the object's owner, where it can be; and of its group, whose members couldn't open it otherwise. */
+/* Of the object's owner, where it can be; and of its group, whose members couldn't open it otherwise, unless anybody
+ * may.
+ */
 static int give_to_owner(int fd, const struct object *o)
 {
-    int root = geteuid() == 0;
-    return fchown(fd, root ? o->uid : (uid_t)-1, o->gid) < 0 && (root || (o->mode & 020)) ? errno : 0;
+    int root = geteuid() == 0, by_group = (o->mode & 022) == 020;
+    return fchown(fd, root ? o->uid : (uid_t)-1, o->gid) < 0 && (root || by_group) ? errno : 0;
 }
 
 /* Who may write the object may read and write it, and nobody else may lock it (flock(2)). */
@@ -148,16 +227,16 @@ static int fill(int fd, const struct object *o)
     return r;
 }
 
-/* EEXIST: somebody else has made one. */
-static int make_one(const char *folder, const char *path, const struct object *o)
+/* EEXIST: another process has made one. */
+static int make_one(int folder, const char *name, const struct object *o)
 {
     char by[32];
-    int fd = open(folder, O_TMPFILE | O_RDWR | O_CLOEXEC, 0600);
+    int fd = openat(folder, ".", O_TMPFILE | O_RDWR | O_CLOEXEC, 0600);
     if (fd < 0)
         return errno == EACCES ? EPERM : errno;
     int r = fill(fd, o);
     snprintf(by, sizeof by, "/proc/thread-self/fd/%d", fd);
-    if (!r && linkat(AT_FDCWD, by, AT_FDCWD, path, AT_SYMLINK_FOLLOW) < 0)
+    if (!r && linkat(AT_FDCWD, by, folder, name, AT_SYMLINK_FOLLOW) < 0)
         r = errno;
     close(fd);
     return r;
@@ -210,19 +289,26 @@ static int look_at_table(const struct table *t, const struct stat *st, const str
     return is_whole && t->dev == o->dev && t->ino == o->ino ? 0 : EPERM;
 }
 
+/* Where the companion of an object is to be. */
+struct at {
+    const struct object *object;
+    int folder;
+    char name[48];
+};
+
 /* EAGAIN: it was removed meanwhile, or is of an earlier boot, where nobody lives any more. */
-static int look_at(int fd, const char *path, const struct object *o, uint64_t nonce, struct companion *c)
+static int look_at(int fd, const struct at *at, uint64_t nonce, struct companion *c)
 {
     struct stat st;
     struct table t;
-    int r = lock_trusted(fd, o, &st);
+    int r = lock_trusted(fd, at->object, &st);
     if (r)
         return r;
     if (st.st_nlink == 0)
         return EAGAIN;
     if (pread(fd, &t, sizeof t, 0) != sizeof t)
         return EPERM;
-    r = look_at_table(&t, &st, o);
+    r = look_at_table(&t, &st, at->object);
     if (r)
         return r;
     r = look_at_boot(&t);
@@ -230,13 +316,13 @@ static int look_at(int fd, const char *path, const struct object *o, uint64_t no
         return r;
     if (r) {
         if (!nonce && flock(fd, LOCK_EX | LOCK_NB) == 0 && fstat(fd, &st) == 0 && st.st_nlink)
-            unlink(path);
+            unlinkat(at->folder, at->name, 0);
         return nonce ? EINVAL : EAGAIN;
     }
     c->dev = st.st_dev;
     c->ino = st.st_ino;
     atomic_store(&c->nonce, t.nonce);
-    return nonce && nonce != t.nonce ? EINVAL : 0;
+    return nonce > ANY && nonce != t.nonce ? EINVAL : 0;
 }
 
 /* The page that is mapped by fd keeps its lock when fd is closed. The rest is mapped by another description, so that
@@ -266,44 +352,54 @@ static int map(int fd, struct companion *c)
 /* How often it may change under the opener's hands: others get on each time. */
 enum { MOST_TIMES = 10000 };
 
-/* The object's companion. nonce 0: a first opener asks, and it is made where there is none. Else the one of this nonce,
- * or EINVAL: by a mutex's bytes none is made, since those who had the old one would own them too. */
-int sh_open_place(const struct object *o, uint64_t nonce, struct companion *c)
+/* Opened, or made where there is none and it is a first opener who asks. */
+static int open_at(const struct at *at, uint64_t nonce, struct companion *c, int *made)
 {
-    char folder[PATHS], path[PATHS + 48];
-    int r = find_place(o, !nonce, folder, path), made = 0;
-    if (r)
-        return r;
-    for (int times = 0; times < MOST_TIMES; times++) {
-        int fd = open(path, O_RDWR | O_CLOEXEC | O_NOFOLLOW);
+    int r = EAGAIN;
+    for (int times = 0; times < MOST_TIMES && r == EAGAIN; times++) {
+        int fd = openat(at->folder, at->name, O_RDWR | O_CLOEXEC | O_NOFOLLOW);
         if (fd < 0 && (errno != ENOENT || nonce))
             return errno == EACCES ? EPERM : errno == ENOENT ? EINVAL : errno;
-        r = fd < 0 ? make_one(folder, path, o) : look_at(fd, path, o, nonce, c);
         if (fd < 0) {
-            made = 1;
-            if (r && r != EEXIST)
-                return r;
+            *made = 1;
+            r = make_one(at->folder, at->name, at->object);
+            r = r && r != EEXIST ? r : EAGAIN;
             continue;
         }
+        r = look_at(fd, at, nonce, c);
         if (!r)
             r = map(fd, c);
         close(fd);
-        if (r != EAGAIN)
-            break;
     }
-    if (!r)
-        memcpy(used, folder, sizeof used);
+    return r;
+}
+
+/* The object's companion. nonce 0: a first opener asks, and it is made where there is none. Else the one of this nonce
+ * (or ANY), at its place, or EINVAL: by a mutex's bytes none is made, since those who had the old one would own them
+ * too. */
+int sh_open_place(const struct object *o, uint64_t nonce, struct companion *c)
+{
+    int made = 0;
+    struct at at = {.object = o, .folder = nonce ? open_place(c->place) : open_own_folder(&c->place)};
+    if (at.folder < 0)
+        return nonce && (errno == ENOENT || errno == ENOTDIR) ? EINVAL : errno;
+    name_of(o->dev, o->ino, at.name);
+    int r = open_at(&at, nonce, c, &made);
+    close(at.folder);
     if (made)
-        sh_sweep(folder);
+        sh_sweep(c->place);
     return r;
 }
 
 /* Whether a first opener would find this one. */
-int sh_is_in_place(const struct object *o, const struct companion *c)
+int sh_is_in_place(const struct companion *c)
 {
-    char folder[PATHS], path[PATHS + 48];
     struct stat st;
-    return find_place(o, 0, folder, path) == 0 && lstat(path, &st) == 0 && st.st_dev == c->dev && st.st_ino == c->ino;
+    char path[FOLDER + 48];
+    path_of(c->place, path);
+    strcat(path, "/");
+    name_of(c->table->dev, c->table->ino, path + strlen(path));
+    return c->place.maker == geteuid() && lstat(path, &st) == 0 && st.st_dev == c->dev && st.st_ino == c->ino;
 }
 
 /* ---- Cleaning up. */
@@ -340,19 +436,50 @@ static void look_over(int folder, const char *name)
     close(fd);
 }
 
-void sh_sweep(const char *folder)
+/* One that this process had. */
+void sh_look_over(const struct companion *c)
 {
-    DIR *d = opendir(folder);
-    struct dirent *e;
-    while (d && (e = readdir(d)))
-        if (e->d_name[0] != '.')
-            look_over(dirfd(d), e->d_name);
-    if (d)
-        closedir(d);
+    char name[48];
+    int folder = open_place(c->place);
+    if (folder < 0)
+        return;
+    name_of(c->table->dev, c->table->ino, name);
+    look_over(folder, name);
+    close(folder);
 }
 
-void sh_sweep_all(void)
+static const char *next_name(DIR *d)
 {
-    if (used[0])
-        sh_sweep(used);
+    struct dirent *e;
+    while ((e = readdir(d)) && e->d_name[0] == '.')
+        continue;
+    return e ? e->d_name : NULL;
+}
+
+/* A few of a folder, from anywhere in it. */
+enum { LOOKS = 16 };
+static void look_over_some(DIR *d)
+{
+    const char *name;
+    unsigned n = 0;
+    while (next_name(d))
+        n++;
+    unsigned from = n ? (unsigned)((new_nonce() >> 32) % n) : 0;
+    rewinddir(d);
+    for (unsigned i = 0; i < n && (name = next_name(d)); i++)
+        if ((i + n - from) % n < LOOKS)
+            look_over(dirfd(d), name);
+}
+
+void sh_sweep(struct place at)
+{
+    char path[FOLDER];
+    path_of(at, path);
+    int fd = open(path, O_RDONLY | O_DIRECTORY | O_NOFOLLOW | O_CLOEXEC);
+    DIR *d = fd < 0 ? NULL : fdopendir(fd);
+    if (d) {
+        look_over_some(d);
+        closedir(d);
+    } else if (fd >= 0)
+        close(fd);
 }

@@ -19,7 +19,11 @@ static int clocklock(pthread_mutex_t *m, clockid_t clock, const struct timespec 
     return resolve(), sh_real.clocklock(m, clock, until);
 }
 
-struct real sh_real = {init, destroy, lock, trylock, unlock, consistent, timedlock, clocklock};
+static int set(uid_t u) { return resolve(), sh_real.setuid(u); }
+static int set_re(uid_t r, uid_t e) { return resolve(), sh_real.setreuid(r, e); }
+static int set_res(uid_t r, uid_t e, uid_t s) { return resolve(), sh_real.setresuid(r, e, s); }
+
+struct real sh_real = {init, destroy, lock, trylock, unlock, consistent, timedlock, clocklock, set, set_re, set_res};
 
 static void resolve(void)
 {
@@ -31,6 +35,9 @@ static void resolve(void)
     *(void **)&sh_real.consistent = dlsym(RTLD_NEXT, "pthread_mutex_consistent");
     *(void **)&sh_real.timedlock = dlsym(RTLD_NEXT, "pthread_mutex_timedlock");
     *(void **)&sh_real.clocklock = dlsym(RTLD_NEXT, "pthread_mutex_clocklock");
+    *(void **)&sh_real.setuid = dlsym(RTLD_NEXT, "setuid");
+    *(void **)&sh_real.setreuid = dlsym(RTLD_NEXT, "setreuid");
+    *(void **)&sh_real.setresuid = dlsym(RTLD_NEXT, "setresuid");
 }
 
 /* The driver's calls are linked to these (Makefile). */

@@ -20,12 +20,19 @@
  * of a robust nor of a priority's mutex. A nonce is even, and not 0 in its high half, so that its consistent and its
  * destroy refuse as well. */
 enum { KIND = 0x7a61700c };
+
+/* Where a companion is: in the folder of the user who made it. Where others had made something of its name, it has a
+ * number besides. */
+struct place {
+    uint32_t maker, folder;
+};
 struct ours {
     uint32_t number, count; /* in its companion; how often its owner has it besides the first time */
     uint64_t nonce;         /* of its companion */
     _Atomic uint32_t kind;
     uint32_t type;
-    uint64_t unused[(sizeof(pthread_mutex_t) - 24) / sizeof(uint64_t)];
+    struct place place;
+    uint64_t unused[(sizeof(pthread_mutex_t) - 32) / sizeof(uint64_t)];
 };
 _Static_assert(sizeof(struct ours) == sizeof(pthread_mutex_t), "all of its bytes");
 _Static_assert(offsetof(struct ours, kind) == offsetof(pthread_mutex_t, __data.__kind), "the type's place");
@@ -71,6 +78,7 @@ struct companion {
     _Atomic uint32_t turns; /* how often one was let go here */
     dev_t dev;              /* of the companion's file */
     ino_t ino;
+    struct place place;
     struct table *table; /* and the banks behind it */
     void *presence;      /* a page mapped by the description that has the shared lock, which stays as long as it */
     _Atomic(pz *) bank[BANKS];
@@ -87,6 +95,7 @@ struct object {
 };
 int sh_object_at(const void *at, struct object *o);
 int sh_see_mapped(void (*see)(uint64_t dev, uint64_t ino));
+int sh_see_objects(void (*see)(const struct object *o));
 
 /* ---- tell.c */
 void sh_tell(const struct object *o, int why);
@@ -96,18 +105,21 @@ size_t sh_size(void);
 size_t sh_bank_at(unsigned bank);
 int sh_make_table(struct table *t);
 void sh_name(struct table *t, const struct object *o);
+enum { ANY = 1 }; /* no companion's nonce */
 int sh_open_place(const struct object *o, uint64_t nonce, struct companion *c);
-int sh_is_in_place(const struct object *o, const struct companion *c);
-void sh_sweep(const char *directory);
-void sh_sweep_all(void);
+struct place sh_own_place(void);
+int sh_is_in_place(const struct companion *c);
+void sh_look_over(const struct companion *c);
+void sh_sweep(struct place at);
 
 /* ---- companion.c: each stands at the place that its nonce says, or behind that. A call that has found one says so
  * first, and then looks whether it is still the one: so it isn't let go under the call. */
 enum { COMPANIONS = 1024, FEW = 64 };
 extern struct companion sh_all[COMPANIONS];
 void sh_begin(void);
-struct companion *sh_attach(const void *mutex, uint64_t nonce, int *why);
+struct companion *sh_attach(const struct ours *mutex, int *why);
 struct companion *sh_attach_object(const struct object *o, int *why);
+void sh_attach_mapped(void);
 struct companion *sh_find(uint64_t nonce);
 static inline unsigned at_of(uint64_t nonce) { return (unsigned)(nonce >> 54); }
 static inline void sh_enter(struct companion *c) { atomic_fetch_add(&c->calls, 1); }
@@ -152,6 +164,9 @@ extern struct real {
     one *destroy, *lock, *trylock, *unlock, *consistent;
     int (*timedlock)(pthread_mutex_t *, const struct timespec *);
     int (*clocklock)(pthread_mutex_t *, clockid_t, const struct timespec *);
+    int (*setuid)(uid_t);
+    int (*setreuid)(uid_t, uid_t);
+    int (*setresuid)(uid_t, uid_t, uid_t);
 } sh_real;
 int sh_real_init(pthread_mutex_t *, const pthread_mutexattr_t *);
 int sh_real_lock(pthread_mutex_t *);

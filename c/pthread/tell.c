@@ -19,9 +19,9 @@ static const char *reason(int why)
         return "it has no companion here (another PAZDRIG_DIR, or an earlier boot?), and only pthread_mutex_init makes "
                "one";
     case EPERM:
-        return "its companion may not be opened, or somebody else has made it";
+        return "its companion may not be opened, or was made by somebody who may not write the file that it is of";
     case EACCES:
-        return "the folder of its owner's companions isn't there, and only its owner can make that";
+        return "this user's folder of companions can't be made";
     case EPROTO:
         return "its companion is of another version's format";
     case EAGAIN:

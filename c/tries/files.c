@@ -239,7 +239,7 @@ static void interrupt(pthread_t thread, pid_t tid)
  * keeps nobody from forking. */
 static struct {
     _Atomic int leased, forked;
-} *lease;
+} * lease;
 static const char *leased_file;
 static void asked_for(int unused) { (void)unused; }
 static void has_the_lease(void)
@@ -314,6 +314,24 @@ static void an_interrupted_open(void)
     interrupt(t, atomic_load(&opener));
     CHECK(flock(fd, LOCK_UN) == 0 && !pthread_join(t, NULL) && close(fd) == 0);
     pz_close(p);
+    unlink(path);
+}
+
+/* Who may only read a file has its lock (flock(2)): it is opened all the same, once it is made. */
+static void a_reader_with_the_lock(void)
+{
+    const char *path = a_file("read-lock");
+    pz *p, *again;
+    SAME(pz_open(path, 0644, 1, 1, NULL, 8, &p), 0);
+    int fd = open(path, O_RDONLY);
+    CHECK(fd >= 0 && flock(fd, LOCK_EX) == 0);
+    SAME(pz_open(path, 0644, 1, 1, NULL, 8, &again), 0);
+    SAME(pz_mutex_lock(again, 0), 0);
+    SAME(pz_mutex_trylock(p, 0), EBUSY);
+    SAME(pz_cond_signal(again, 0), 0);
+    pz_close(again);
+    pz_close(p);
+    close(fd);
     unlink(path);
 }
 
@@ -745,6 +763,7 @@ int main(void)
     a_file_that_cannot_be_written();
     a_lease();
     an_interrupted_open();
+    a_reader_with_the_lock();
     a_child_of_an_opener();
     no_room();
     a_full_disk();

@@ -5,6 +5,7 @@
 #include <fcntl.h>
 #include <pthread.h>
 #include <sched.h>
+#include <sys/inotify.h>
 #include <sys/mount.h>
 #include <sys/prctl.h>
 #include <sys/shm.h>
@@ -53,10 +54,18 @@ static pthread_mutex_t *map(const char *path, size_t mutexes)
     return map_fd(fd, size, MAP_SHARED);
 }
 
-/* How many companions there are. */
-static int companions(void)
+/* The folder of a user's companions. */
+static const char *folder_of(uid_t maker)
 {
-    DIR *d = opendir(getenv("PAZDRIG_DIR"));
+    static char path[520];
+    snprintf(path, sizeof path, "%s/%u", getenv("PAZDRIG_DIR"), (unsigned)maker);
+    return path;
+}
+
+/* How many files and folders it has. */
+static int how_many_in(const char *path)
+{
+    DIR *d = opendir(path);
     struct dirent *e;
     int n = 0;
     CHECK(d);
@@ -65,10 +74,11 @@ static int companions(void)
     closedir(d);
     return n;
 }
+static int companions(void) { return how_many_in(folder_of(geteuid())); }
 
 static void remove_companions(void)
 {
-    DIR *d = opendir(getenv("PAZDRIG_DIR"));
+    DIR *d = opendir(folder_of(geteuid()));
     struct dirent *e;
     CHECK(d);
     while ((e = readdir(d)))
@@ -77,12 +87,13 @@ static void remove_companions(void)
     closedir(d);
 }
 
+/* (Here its owner has made each object's mutexes.) */
 static const char *companion_of(const char *path)
 {
     static char at[600];
     struct stat st;
     CHECK(stat(path, &st) == 0);
-    snprintf(at, sizeof at, "%s/%llx-%llx", getenv("PAZDRIG_DIR"), (unsigned long long)st.st_dev,
+    snprintf(at, sizeof at, "%s/%llx-%llx", folder_of(st.st_uid), (unsigned long long)st.st_dev,
              (unsigned long long)st.st_ino);
     return at;
 }
@@ -859,33 +870,196 @@ static void a_linked_companion(void)
     unlink(path);
 }
 
-/* Another user, who may write the object, comes to its companion. */
-static void another_user(void)
+enum { NOBODY = 65534 };
+static void as_another_user(void (*what)(void))
 {
-    const char *path = file("user");
-    if (geteuid() != 0) {
-        puts("cases: another user isn't tried, as this one isn't root");
-        return;
-    }
-    CHECK(chmod(folder, 0777) == 0 && chmod(getenv("PAZDRIG_DIR"), 01777) == 0);
-    pthread_mutex_t *m = map(path, 1);
-    CHECK(chmod(path, 0666) == 0);
-    SAME(init(m), 0);
     pid_t it = fork();
     int status;
     if (!it) {
-        CHECK(setgid(65534) == 0 && setuid(65534) == 0);
-        SAME(comes(path, 0, "lock", 1), 0);
-        SAME(comes(file("own"), 0, "init", 1), 0);
-        SAME(comes(file("own"), 0, "die", 1), 0);
+        CHECK(setgid(NOBODY) == 0 && setuid(NOBODY) == 0);
+        what();
         _exit(0);
     }
     CHECK(waitpid(it, &status, 0) == it && status == 0);
+}
+
+static int is_tried_as_root(const char *what)
+{
+    if (geteuid() == 0)
+        return 1;
+    printf("cases: %s isn't tried, as this isn't root\n", what);
+    return 0;
+}
+
+static void comes_and_makes(void)
+{
+    SAME(comes(file("user"), 0, "lock", 1), 0);
+    SAME(comes(file("user"), 1, "init", 1), 0);
+    SAME(comes(file("own"), 0, "init", 1), 0);
+    SAME(comes(file("own"), 0, "die", 1), 0);
+}
+static void makes_the_last(void) { SAME(comes(file("own"), 0, "last", 1), 0); }
+
+/* Another user, who may write the object, comes to its companion, and makes mutexes of it in one of his own. */
+static void another_user(void)
+{
+    const char *path = file("user");
+    if (!is_tried_as_root("another user"))
+        return;
+    CHECK(chmod(folder, 0777) == 0 && chmod(getenv("PAZDRIG_DIR"), 01777) == 0);
+    pthread_mutex_t *m = map(path, 2);
+    CHECK(chmod(path, 0666) == 0);
+    SAME(init(m), 0);
+    as_another_user(comes_and_makes);
+    SAME(how_many_in(folder_of(NOBODY)), 2);
     SAME(comes(file("own"), 0, "lock", 1), EOWNERDEAD);
+    SAME(comes(path, 1, "lock", 1), 0);
     looks_like(path, 0666);
     looks_like(file("own"), 0600);
-    unlink(file("own"));
     unlink(path);
+    as_another_user(makes_the_last);
+}
+
+/* Root maps it, becomes another user, who mayn't open it, and locks only then. */
+static const char *mapped_path;
+static int becomes;
+static void maps_and_becomes_another(void)
+{
+    const uid_t another = NOBODY - 1;
+    pthread_mutex_t *m = map(mapped_path, 1);
+    if (becomes == 0)
+        CHECK(setuid(another) == 0);
+    else if (becomes == 1)
+        CHECK(setreuid(another, another) == 0);
+    else
+        CHECK(setresuid(another, another, another) == 0);
+    CHECK(open(mapped_path, O_RDWR) < 0);
+    SAME(pthread_mutex_lock(m), 0);
+    SAME(pthread_mutex_unlock(m), 0);
+}
+
+static void makes_a_strangers(void) { SAME(comes(file("own"), 0, "init", 1), 0); }
+
+static void a_user_who_was_root(void)
+{
+    if (!is_tried_as_root("who was root"))
+        return;
+    mapped_path = file("rooted");
+    SAME(comes(mapped_path, 0, "init", 1), 0);
+    for (becomes = 0; becomes < 3; becomes++)
+        in_child(maps_and_becomes_another);
+    unlink(mapped_path);
+    mapped_path = file("own");
+    as_another_user(makes_a_strangers);
+    in_child(maps_and_becomes_another);
+    as_another_user(makes_the_last);
+}
+
+/* The mutexes of another user's file, copied into one that he mayn't write, and a companion of his that says it is of
+ * that. */
+static void a_strangers_companion(void)
+{
+    const char *path = file("copied"), *own = file("own");
+    char as[600];
+    struct stat st;
+    if (!is_tried_as_root("a stranger's companion"))
+        return;
+    as_another_user(makes_a_strangers);
+    *map(path, 1) = *map(own, 1);
+    CHECK(stat(path, &st) == 0);
+    snprintf(as, sizeof as, "%s/%llx-%llx", folder_of(NOBODY), (unsigned long long)st.st_dev,
+             (unsigned long long)st.st_ino);
+    CHECK(link(companion_of(own), as) == 0);
+    int fd = open(as, O_RDWR);
+    uint64_t of[2] = {st.st_dev, st.st_ino};
+    CHECK(fd >= 0 && pwrite(fd, of, sizeof of, 16) == sizeof of && close(fd) == 0);
+    SAME(comes(path, 0, "lock", 1), EINVAL);
+    CHECK(chmod(path, 0666) == 0); /* but now he may */
+    SAME(comes(path, 0, "lock", 1), 0);
+    unlink(path);
+    CHECK(unlink(as) == 0 && unlink(companion_of(own)) == 0);
+    as_another_user(makes_the_last);
+}
+
+/* ---- Others have made something of the name of this user's folder, in the folder for all, before he came. */
+static void new_place(const char *name)
+{
+    const char *path = file(name);
+    CHECK(mkdir(path, 01777) == 0 && chmod(path, 01777) == 0);
+    setenv("PAZDRIG_DIR", path, 1);
+}
+
+static void makes_despite(const char *name, int others)
+{
+    char one[40], two[40];
+    snprintf(one, sizeof one, "%s.one", name);
+    snprintf(two, sizeof two, "%s.two", name);
+    SAME(comes(file(one), 0, "init", 1), 0);
+    SAME(comes(file(two), 0, "init", 1), 0);
+    SAME(comes(file(one), 0, "lock", 1), 0);
+    SAME(comes(file(two), 0, "lock", 1), 0);
+    SAME(how_many_in(getenv("PAZDRIG_DIR")), others + 1); /* one, of his own, for both */
+    unlink(file(one));
+    unlink(file(two));
+}
+
+static void a_name_is_taken(void)
+{
+    new_place("by-file");
+    CHECK(close(open(folder_of(geteuid()), O_WRONLY | O_CREAT, 0600)) == 0);
+    makes_despite("file", 1);
+    new_place("elsewhere");
+    new_place("by-link");
+    CHECK(symlink("../elsewhere", folder_of(geteuid())) == 0);
+    makes_despite("link", 1);
+    SAME(how_many_in(file("elsewhere")), 0);
+    if (!is_tried_as_root("another user's folder"))
+        return;
+    new_place("by-folder");
+    char numbered[600];
+    snprintf(numbered, sizeof numbered, "%s-00000001", folder_of(0));
+    CHECK(mkdir(folder_of(0), 0777) == 0 && chown(folder_of(0), NOBODY, NOBODY) == 0);
+    CHECK(mkdir(numbered, 0777) == 0 && chown(numbered, NOBODY, NOBODY) == 0);
+    makes_despite("folder", 2);
+    CHECK(how_many_in(folder_of(0)) == 0 && how_many_in(numbered) == 0);
+}
+
+static void a_narrow_umask(void)
+{
+    struct stat st;
+    new_place("narrow");
+    umask(077);
+    SAME(comes(file("masked"), 0, "init", 1), 0);
+    CHECK(stat(folder_of(geteuid()), &st) == 0 && (st.st_mode & 0777) == 0711);
+    unlink(file("masked"));
+}
+
+/* Of many companions a process that comes and goes opens its own and a few. */
+static void few_are_looked_at(void)
+{
+    enum { MANY = 100, LOOKS = 16 };
+    char events[1 << 16], name[32];
+    ssize_t n;
+    int opened = 0, fd = inotify_init1(IN_NONBLOCK | IN_CLOEXEC);
+    new_place("many");
+    for (int i = 0; i < MANY; i++) {
+        snprintf(name, sizeof name, "many%d", i);
+        SAME(init(map(file(name), 1)), 0);
+    }
+    CHECK(fd >= 0 && companions() == MANY && inotify_add_watch(fd, folder_of(geteuid()), IN_OPEN) >= 0);
+    SAME(comes(file("many0"), 0, "lock", 1), 0);
+    while ((n = read(fd, events, sizeof events)) > 0)
+        for (char *at = events; at < events + n; at += sizeof(struct inotify_event) + ((struct inotify_event *)at)->len)
+            opened += ((struct inotify_event *)at)->len != 0;
+    CHECK(opened > LOOKS && opened < 2 * LOOKS);
+    for (int i = 0; i < 8; i++) {
+        SAME(comes(file("few"), 0, "last", 1), 0);
+        SAME(companions(), MANY);
+    }
+    for (int i = 0; i < MANY; i++) {
+        snprintf(name, sizeof name, "many%d", i);
+        unlink(file(name));
+    }
 }
 
 int main(int argc, char **argv)
@@ -926,6 +1100,11 @@ int main(int argc, char **argv)
     in_child(a_reader);
     in_child(a_linked_companion);
     in_child(another_user);
+    in_child(a_user_who_was_root);
+    in_child(a_strangers_companion);
+    in_child(a_name_is_taken);
+    in_child(a_narrow_umask);
+    in_child(few_are_looked_at);
     puts("cases: each told what it should be");
     return 0;
 }
