@@ -239,7 +239,7 @@ static void interrupt(pthread_t thread, pid_t tid)
  * keeps nobody from forking. */
 static struct {
     _Atomic int leased, forked;
-} *lease;
+} * lease;
 static const char *leased_file;
 static void asked_for(int unused) { (void)unused; }
 static void has_the_lease(void)
