@@ -29,8 +29,8 @@ static long wake_asleep(const pz *p, uint64_t at, uint32_t most)
 }
 
 /* One sleeper of a mutex, where there is no heir that looks at the word (heir.c). A wake that woke nobody, as who was
- * killed asleep has its bit until it is reaped, is made once more, and no more, behind the end of COMES: others may have
- * left theirs to it meanwhile. */
+ * killed asleep has its bit until it is reaped, is made once more, and no more, behind the end of COMES: others may
+ * have left theirs to it meanwhile. */
 static long wake_one(const pz *p, uint64_t cell)
 {
     if (!pz_let_come(p, cell))

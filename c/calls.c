@@ -213,8 +213,8 @@ int pz_mutex_trylock(pz *p, unsigned m)
     }
 }
 
-/* Somebody who lives may sleep there, or is its heir, who may nap. Of those that were killed nobody has told yet; and one
- * that is reaped already may be noted by a broadcast that looked before. */
+/* Somebody who lives may sleep there, or is its heir, who may nap. Of those that were killed nobody has told yet; and
+ * one that is reaped already may be noted by a broadcast that looked before. */
 static int has_sleepers(pz *p, uint64_t cell)
 {
     if (!atomic_load(sleepers(p, cell)) && !atomic_load(heir(p, cell)))

@@ -11,7 +11,8 @@
 #ifndef PZ_TRACE
 #define PZ_TRACE 0
 #endif
-/* For how many microseconds the heir of a mutex pauses before it naps, at most; some more, so that a look comes last. */
+/* For how many microseconds the heir of a mutex pauses before it naps, at most; some more, so that a look comes last.
+ */
 #ifndef PZ_SPIN
 #define PZ_SPIN 100
 #endif
@@ -109,7 +110,10 @@ static inline uint64_t counter_place(const pz *p, unsigned c)
     return LINE * (uint64_t)(1 + THREADS + p->mutexes + c);
 }
 static inline int is_counter(const pz *p, uint64_t at) { return at >= counter_place(p, 0); }
-static inline uint64_t cell_of(const pz *p, uint64_t counter) { return p->cell_of[counter / LINE - 1 - THREADS - p->mutexes]; }
+static inline uint64_t cell_of(const pz *p, uint64_t counter)
+{
+    return p->cell_of[counter / LINE - 1 - THREADS - p->mutexes];
+}
 static inline unsigned mutex_at(uint64_t cell) { return (unsigned)(cell / LINE) - 1 - THREADS; }
 
 /* Word 3 of a line: the threads that may sleep on its first word, a bit each. The kernel's queue has no others: a bit
@@ -117,9 +121,9 @@ static inline unsigned mutex_at(uint64_t cell) { return (unsigned)(cell / LINE) 
 static inline word *sleepers(const pz *p, uint64_t at) { return &p->words[(at | (LINE - 1)) - 4]; }
 static inline uint64_t bit_of(unsigned t) { return 1ull << (t - 1); }
 
-/* Word 4 of a mutex's line: its heir (heir.c), by its id; or COMES, one that was woken and hasn't come yet. DUE: who frees
- * the mutex gives way to it. NAPS: it sleeps on this word, and an unlock wakes it. AWAITED: others do, until it has had
- * the mutex. The upper half is a time. */
+/* Word 4 of a mutex's line: its heir (heir.c), by its id; or COMES, one that was woken and hasn't come yet. DUE: who
+ * frees the mutex gives way to it. NAPS: it sleeps on this word, and an unlock wakes it. AWAITED: others do, until it
+ * has had the mutex. The upper half is a time. */
 enum { WHO = 0xff, COMES = 0x100, DUE = 0x200, NAPS = 0x400, AWAITED = 0x800 };
 static inline word *heir(const pz *p, uint64_t at) { return sleepers(p, at) + 1; }
 

@@ -1,12 +1,12 @@
-/* One heir a mutex: a thread that waits for it awake, named in a word of the mutex's line. While there is one, an unlock
- * wakes nobody, and nobody else pauses.
+/* One heir a mutex: a thread that waits for it awake, named in a word of the mutex's line. While there is one, an
+ * unlock wakes nobody, and nobody else pauses.
  *
  * **An unlock leaves its wake to the heir.** The heir names itself, then looks at the mutex's word, and looks again
- * until it has the mutex or gives the name up: that it does before it sleeps, and where its call ends. An unlock changes
- * the mutex's word, and then looks for the name. All of these are sequentially consistent. So an unlock that finds the
- * name changed the word before the heir's last look, or the kernel's for its sleep: the heir finds the mutex free. One
- * that is killed stays named until it is reaped; that is before the walk looks at the mutex that it had pending, so the
- * walk wakes a sleeper in its place. Sleepers watch the heir as they watch the owner.
+ * until it has the mutex or gives the name up: that it does before it sleeps, and where its call ends. An unlock
+ * changes the mutex's word, and then looks for the name. All of these are sequentially consistent. So an unlock that
+ * finds the name changed the word before the heir's last look, or the kernel's for its sleep: the heir finds the mutex
+ * free. One that is killed stays named until it is reaped; that is before the walk looks at the mutex that it had
+ * pending, so the walk wakes a sleeper in its place. Sleepers watch the heir as they watch the owner.
  *
  * **COMES stands for one that is woken and hasn't named itself yet.** It is set before the wake, so an unlock between
  * the two leaves its own to that one, which is made again if it woke nobody. If the waker is killed there, or the one
@@ -26,7 +26,7 @@
 
 /* In nanoseconds: the times above; looks, the first and the longest between two; pauses, the shortest bound of them and
  * that where more threads wait than there are processors; naps, one and all; and how long who gives way stays awake. */
-enum { FAIR = 100000, LATE = 50000, WAY = 2000000, WAY_AWAKE = 20000 };
+enum { FAIR = 500000, LATE = 50000, WAY = 2000000, WAY_AWAKE = 20000 };
 enum { FIRST_LOOK = 500, LAST_LOOK = 10000, LEAST_PAUSE = 2000, CROWDED_PAUSE = 20000 };
 enum { LONGEST_PAUSE = PZ_SPIN * 1000, NAP = 1000000, ALL_NAPS = 20000000 };
 
@@ -184,8 +184,8 @@ static int changes_soon(const pz *p, unsigned t, uint64_t at, uint32_t expected)
     return paid(0);
 }
 
-/* NAPS is set before the look at the word: an unlock that doesn't see it has changed the word before that. (It naps only
- * so long at a time, as the owner may die.) */
+/* NAPS is set before the look at the word: an unlock that doesn't see it has changed the word before that. (It naps
+ * only so long at a time, as the owner may die.) */
 static int changes_in_a_nap(pz *p, unsigned t, uint64_t at, uint32_t expected)
 {
     word *h = heir(p, at);
@@ -232,8 +232,8 @@ static void help_late(const pz *p, uint64_t cell, uint64_t is)
         syscall(SYS_futex, (uint32_t *)&p->words[cell], FUTEX_WAKE, 1, NULL, NULL, 0);
 }
 
-/* Until it has had the mutex, or isn't due any more: awake at first, then asleep on its word. After WAY it isn't due any
- * more, and may be dead. */
+/* Until it has had the mutex, or isn't due any more: awake at first, then asleep on its word. After WAY it isn't due
+ * any more, and may be dead. */
 static void wait_for_it(pz *p, unsigned t, uint64_t cell)
 {
     word *h = heir(p, cell);

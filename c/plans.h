@@ -1,7 +1,7 @@
 /* Calls in one go, where nobody is in the way, and refusals at the first look: the changes of a plan written out, in
- * its order (Plans.antt and Shorts.antt in crates/pazdrig_c/specs; tries/plans compares them with pz_plan_*). The thread's
- * own words are stored by it alone; what it loads of them may have been spoiled, so nothing is stored where it doesn't
- * lie in the file. */
+ * its order (Plans.antt and Shorts.antt in crates/pazdrig_c/specs; tries/plans compares them with pz_plan_*). The
+ * thread's own words are stored by it alone; what it loads of them may have been spoiled, so nothing is stored where it
+ * doesn't lie in the file. */
 #ifndef PZ_PLANS_H
 #define PZ_PLANS_H
 #include "driver.h"

@@ -175,7 +175,8 @@ static uint32_t sleep_once(struct sleeper *s)
 static int is_reaped(const struct sleeper *s)
 {
     unsigned owner = owner_of(s->expected);
-    return owner && owner <= THREADS && owner != s->thread && pz_has_died(s->p, owner) && pz_reap_one(s->p, owner) == GONE;
+    return owner && owner <= THREADS && owner != s->thread && pz_has_died(s->p, owner) &&
+           pz_reap_one(s->p, owner) == GONE;
 }
 
 uint32_t pz_sleep(pz *p, unsigned t, uint64_t at, uint32_t expected)

@@ -1,8 +1,8 @@
-/* How a thread waits for a mutex awake, by a clock and a kernel that are played. The heir pauses PZ_SPIN microseconds at
- * most, half as long after each time that it didn't pay, twice as long after each that it did, and now and then PZ_SPIN
- * again; less where many sleep, and not at all where the word's owner is dead. It falls due, and whoever owes it the
- * mutex waits for it, and not too long. Only who was woken takes the place of one that was. And how long a waiter sleeps
- * until it looks by itself. */
+/* How a thread waits for a mutex awake, by a clock and a kernel that are played. The heir pauses PZ_SPIN microseconds
+ * at most, half as long after each time that it didn't pay, twice as long after each that it did, and now and then
+ * PZ_SPIN again; less where many sleep, and not at all where the word's owner is dead. It falls due, and whoever owes
+ * it the mutex waits for it, and not too long. Only who was woken takes the place of one that was. And how long a
+ * waiter sleeps until it looks by itself. */
 #include <sched.h>
 #include <time.h>
 #include <unistd.h>
@@ -178,7 +178,8 @@ static void it_falls_due(void)
     CHECK(*heir(&file, cell) == 0 && wakes == 1 && asked.on == (uint32_t *)heir(&file, cell));
 }
 
-/* Who freed the mutex waits for the heir, on its word, for so long; then the heir isn't due any more, and may be dead. */
+/* Who freed the mutex waits for the heir, on its word, for so long; then the heir isn't due any more, and may be dead.
+ */
 static void it_does_not_come(void)
 {
     begin(0, OTHER | DUE);
@@ -208,7 +209,8 @@ static void it_comes(void)
     CHECK(pz_self[0].owes == 2);
 }
 
-/* One that was woken is late: another one is woken by who locks now and then, once in LATE, as the eighth of its locks. */
+/* One that was woken is late: another one is woken by who locks now and then, once in LATE, as the eighth of its locks.
+ */
 static void one_is_late(void)
 {
     begin(0, COMES | since(clock_ns));

@@ -225,8 +225,8 @@ static void a_lock(unsigned t, unsigned m, unsigned operation, uint64_t seen, ui
     planned++;
 }
 
-/* Who sleeps on the mutex, and who is its heir: an unlock wakes one where somebody sleeps and nobody is; else it is as its
- * plan, but that it ends the heir's nap, and keeps in mind that the heir is due. */
+/* Who sleeps on the mutex, and who is its heir: an unlock wakes one where somebody sleeps and nobody is; else it is as
+ * its plan, but that it ends the heir's nap, and keeps in mind that the heir is due. */
 static const struct {
     int sleeps;
     uint64_t heir;

@@ -1,6 +1,6 @@
 /* One thread goes to sleep, as a mutex's heir first, while another changes the word and wakes, in orders of their
- * instructions over a kernel that is played: nobody is left asleep, no sleeper's bit is left behind, and nobody waits for
- * one that was woken. */
+ * instructions over a kernel that is played: nobody is left asleep, no sleeper's bit is left behind, and nobody waits
+ * for one that was woken. */
 #define PZ_SPIN 0
 #include "turns.h"
 #include <linux/futex.h>
@@ -40,8 +40,8 @@ void pz_leave_closed(void) {}
 static long refused(int why) { return errno = why, -1; }
 static int is_awake(void) { return !asleep_on; }
 
-/* How many of the next sleeps on that word a signal's handler ends (EINTR); and whether one has just ended so: then the sleeper asks
- * whether somebody has died. */
+/* How many of the next sleeps on that word a signal's handler ends (EINTR); and whether one has just ended so: then the
+ * sleeper asks whether somebody has died. */
 static int interruptions, is_interrupted;
 
 int pz_reap(pz *p) { return (void)p, is_interrupted = 0; }

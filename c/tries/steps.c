@@ -212,8 +212,8 @@ static int was_killed(pid_t is)
     return WIFSIGNALED(status);
 }
 
-/* An heir dies before each instruction of its wait, or lives on to get the mutex: who comes behind it gets it too. (That
- * one takes part before, so it doesn't reap the dead one for its id.) */
+/* An heir dies before each instruction of its wait, or lives on to get the mutex: who comes behind it gets it too.
+ * (That one takes part before, so it doesn't reap the dead one for its id.) */
 static void until_it_rests(pid_t is)
 {
     while (!strchr("SZ", state_of(is)))
@@ -353,8 +353,8 @@ int main(void)
     leavers_die();
     openers_die_after_a_reboot();
     makers_die();
-    printf("steps: dead before each of %ld instructions, and of %ld of a wait, and %ld times amid the walk\n", instructions,
-           waits, walks);
+    printf("steps: dead before each of %ld instructions, and of %ld of a wait, and %ld times amid the walk\n",
+           instructions, waits, walks);
     CHECK(instructions >= 50 && waits >= 20 && walks > 500);
     pz_close(p);
     unlink(path);
