@@ -202,7 +202,8 @@ pub fn events_leave_the_rest()
 {}
 
 /// Whatever happens, with counters that are at most 2^32 - 1 at the beginning: each counter is what it was then, and
-/// one more for each signal and each broadcast on its condition variable that had its point with OK, by what was told.
+/// one more for each signal and each broadcast on its condition variable that had its point with OK, by what was told;
+/// and from any moment on what it was then, and one more for each since, as long as it doesn't go back to 0.
 pub fn counters_count_up()
     ensures { CountersCountUp }
 {}

@@ -1,0 +1,153 @@
+//! Sleepers that sleep again, counters that go back to 0, wakes that are spared, and accesses of walks that are made
+//! once more.
+
+use crate::machine_rows::{LOCK, UNLOCK, machine, play, thread};
+use buckets::Batch;
+use condvar::{CondCall, Op};
+use interleave::Machine;
+use lockword::Tid;
+use protocol::{Event, Note};
+use std::test::Fail;
+
+const WAIT: Op = Op::OnCondition(CondCall::Wait(0));
+
+const SIGNAL: Op = Op::OnCondition(CondCall::Signal(0));
+
+/// The thread begins a call, and goes on until it sleeps or has returned.
+fn goes(machine: &mut Machine, thread: Tid, op: Op) {
+    let _ = machine.step(Event::Begin(thread, op));
+    for _ in 0..20 {
+        let _ = machine.step(Event::Step(thread));
+    }
+}
+
+/// Whether those who sleep there have these ids, in their order.
+fn sleep_there(machine: &Machine, place: u64, ids: &[u8]) -> bool {
+    let sleepers = machine.sleepers(place);
+    if sleepers.len() != ids.len() {
+        return false;
+    }
+    for (index, id) in ids.iter().enumerate() {
+        if sleepers.get(index).map(Tid::get) != Some(*id) {
+            return false;
+        }
+    }
+    true
+}
+
+/// Two wait. The first goes to the end, so that a signal wakes the second first; and once both are awake the counter
+/// goes back to 0.
+#[test]
+fn a_waiter_sleeps_again_and_the_counter_goes_back(rt: HostRuntime) -> Result<(), Fail> {
+    let mut machine = machine(rt.alloc(), 3, 1, &[0])?;
+    let (one, two, three) = (thread(1)?, thread(2)?, thread(3)?);
+    let counter = 13;
+    goes(&mut machine, one, Op::OnMutex(LOCK));
+    goes(&mut machine, one, WAIT);
+    goes(&mut machine, two, Op::OnMutex(LOCK));
+    goes(&mut machine, two, WAIT);
+    assert!(rt; sleep_there(&machine, counter, &[1, 2]));
+    assert!(rt; machine.step(Event::Recount(0)) == Note::Nothing);
+    assert!(rt; machine.step(Event::Resleep(three)) == Note::Nothing);
+    let again = Note::Reslept {
+        thread: one,
+        condition: 0,
+    };
+    assert!(rt; machine.step(Event::Resleep(one)) == again);
+    assert!(rt; sleep_there(&machine, counter, &[2, 1]));
+    goes(&mut machine, three, Op::OnMutex(LOCK));
+    goes(&mut machine, three, SIGNAL);
+    assert!(rt; sleep_there(&machine, counter, &[1]));
+    goes(&mut machine, three, SIGNAL);
+    assert!(rt; machine.word(counter) == Some(2));
+    assert!(rt; machine.step(Event::Resleep(one)) == Note::Nothing);
+    assert!(rt; machine.step(Event::Recount(1)) == Note::Nothing);
+    assert!(rt; machine.step(Event::Recount(0)) == Note::Recounted { condition: 0 });
+    assert!(rt; machine.word(counter) == Some(0));
+    Ok(())
+}
+
+/// Another wait has loaded the counter, and isn't asleep yet: the counter stays what it is.
+#[test]
+fn a_counter_in_hand_stays(rt: HostRuntime) -> Result<(), Fail> {
+    let mut machine = machine(rt.alloc(), 2, 1, &[0])?;
+    let (one, two) = (thread(1)?, thread(2)?);
+    let counter = 10;
+    goes(&mut machine, two, Op::OnMutex(LOCK));
+    goes(&mut machine, two, SIGNAL);
+    goes(&mut machine, two, Op::OnMutex(UNLOCK));
+    goes(&mut machine, one, Op::OnMutex(LOCK));
+    let _ = machine.step(Event::Begin(one, WAIT));
+    for _ in 0..7 {
+        let _ = machine.step(Event::Step(one));
+    }
+    assert!(rt; machine.step(Event::Recount(0)) == Note::Nothing);
+    assert!(rt; machine.word(counter) == Some(1));
+    Ok(())
+}
+
+/// Thread 1 has unlocked and is about to wake thread 2. Nobody else would: it has to. Thread 3 begins a lock, and looks
+/// at the word: the wake is spared, and thread 3's unlock wakes thread 2.
+#[test]
+fn a_wake_is_spared_where_another_answers(rt: HostRuntime) -> Result<(), Fail> {
+    let mut machine = machine(rt.alloc(), 3, 1, &[])?;
+    let (one, two, three) = (thread(1)?, thread(2)?, thread(3)?);
+    goes(&mut machine, one, Op::OnMutex(LOCK));
+    goes(&mut machine, two, Op::OnMutex(LOCK));
+    assert!(rt; machine.asleep(two));
+    play(&mut machine, one, UNLOCK, 6);
+    assert!(rt; machine.step(Event::Spare(one)) == Note::Nothing);
+    play(&mut machine, three, LOCK, 1);
+    let spared = Note::Stepped {
+        thread: one,
+        mutex: 0,
+        point: None,
+        slept: None,
+        woken: Batch::new(),
+        moved: Batch::new(),
+        returned: None,
+    };
+    assert!(rt; machine.step(Event::Spare(three)) == Note::Nothing);
+    assert!(rt; machine.step(Event::Spare(one)) == spared);
+    assert!(rt; machine.asleep(two));
+    let _ = machine.step(Event::Step(one));
+    assert!(rt; !machine.busy(one));
+    for _ in 0..20 {
+        let _ = machine.step(Event::Step(three));
+    }
+    goes(&mut machine, three, Op::OnMutex(UNLOCK));
+    assert!(rt; !machine.asleep(two));
+    Ok(())
+}
+
+/// The walk over thread 1's list marks one word, which is made once, and wakes thread 2, by the first of the two.
+#[test]
+fn a_walk_makes_all_but_its_marks_twice(rt: HostRuntime) -> Result<(), Fail> {
+    let mut machine = machine(rt.alloc(), 2, 1, &[])?;
+    let (one, two) = (thread(1)?, thread(2)?);
+    goes(&mut machine, one, Op::OnMutex(LOCK));
+    goes(&mut machine, two, Op::OnMutex(LOCK));
+    let _ = machine.step(Event::Kill(one));
+    let (mut once, mut woken) = (0u32, 0usize);
+    for _ in 0..12 {
+        if !machine.dying(one) {
+            break;
+        }
+        match machine.step(Event::Repeat(one)) {
+            Note::Nothing => once = once.wrapping_add(1),
+            Note::Walked {
+                death: None,
+                woken: some,
+                reaped: false,
+                ..
+            } => woken = woken.wrapping_add(some.len()),
+            _ => Err("a repeat is noted as something else")?,
+        }
+        let _ = machine.step(Event::Step(one));
+    }
+    assert!(rt; machine.reaped(one));
+    assert_eq!(rt; (once, woken), (1, 1));
+    assert!(rt; !machine.asleep(two));
+    assert!(rt; machine.step(Event::Repeat(one)) == Note::Nothing);
+    Ok(())
+}
