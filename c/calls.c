@@ -142,7 +142,8 @@ int pz_by_steps(pz *p, unsigned m, unsigned operation)
     return counted(p, m, operation, run(p, &call, operation, -1));
 }
 
-/* Whose exchange failed, or whose release found that somebody sleeps: it goes on by its steps from there. */
+/* Whose exchange failed, or whose release found that somebody sleeps, and no heir: it goes on by its steps from there.
+ */
 int pz_lost(pz *p, unsigned m, unsigned operation, uint64_t seen, uint64_t found)
 {
     struct self *self = &pz_self[p->number];
@@ -152,13 +153,35 @@ int pz_lost(pz *p, unsigned m, unsigned operation, uint64_t seen, uint64_t found
     return counted(p, m, operation, run_on(p, self->id, &call, PZ_CHANGED, found));
 }
 
-int pz_released(pz *p, unsigned m, uint64_t found)
+static int released(pz *p, unsigned m, uint64_t found)
 {
     struct self *self = &pz_self[p->number];
     struct pz_call call = call_of(self->id, cell_place(m));
     call.program = PZ_OP_UNLOCK;
     call.phase.lock = (struct pz_phase){.kind = AT_RELEASE};
     return counted(p, m, PZ_OP_UNLOCK, run_on(p, self->id, &call, PZ_VALUE, found));
+}
+
+/* Whose release found that somebody may sleep, or an heir, leaves the wake of one to that (heir.c). */
+int pz_hand_on(pz *p, unsigned m, uint64_t found)
+{
+    struct self *self = &pz_self[p->number];
+    uint64_t cell = cell_place(m), next = SEE(heir(p, cell));
+    if (next & NAPS)
+        pz_end_nap(p, cell);
+    if (next & DUE)
+        self->owes = m + 1;
+    if (!next && SEE(sleepers(p, cell)))
+        return released(p, m, found);
+    STORE(&p->words[head_place(self->id) + 2], 0);
+    self->held--;
+    return 0;
+}
+
+int pz_take_behind(pz *p, unsigned m)
+{
+    pz_give_way(p, pz_self[p->number].id, m);
+    return pz_take_now(p, m, PZ_OP_LOCK, 1);
 }
 
 /* The cell was seen owned, or unusable. A lock that isn't the owner's waits, and one that finds sleepers of an unusable

@@ -13,11 +13,12 @@ static const uint64_t OWNED = 0x3fffffff, DIED = 0x40000000, WAITERS = 0x8000000
 static const uint64_t FULL = 0xffffffff, AGAIN = 0x80000000;
 
 /* ---- calls.c: what isn't as the ways below want it goes by its steps; so does, from there on, whose exchange failed,
- * whose release found that somebody may sleep, and whose signal did. */
+ * whose release found that somebody may sleep, and whose signal did. Where there is an heir who locks may give way. */
 int pz_by_steps(pz *p, unsigned m, unsigned operation);
 int pz_refused(pz *p, unsigned m, unsigned operation, uint64_t seen);
 int pz_lost(pz *p, unsigned m, unsigned operation, uint64_t seen, uint64_t found);
-int pz_released(pz *p, unsigned m, uint64_t found);
+int pz_hand_on(pz *p, unsigned m, uint64_t found);
+int pz_take_behind(pz *p, unsigned m);
 int pz_cond_by_steps(pz *p, unsigned c, unsigned operation);
 int pz_counted(pz *p, unsigned c, unsigned operation, uint64_t count, uint64_t found);
 uint64_t pz_begin_again(word *counter, uint64_t count);
@@ -26,15 +27,15 @@ static inline uint64_t own(const word *w) { return atomic_load_explicit(w, memor
 static inline int is_entry(const pz *p, uint64_t at) { return at - LINE < p->places - 2 - LINE; }
 
 /* The cell is free, and the thread may hold one more. */
-static inline __attribute__((always_inline)) int pz_take(pz *p, unsigned m, unsigned operation)
+static inline __attribute__((always_inline)) int pz_take_now(pz *p, unsigned m, unsigned operation, int has_given_way)
 {
     struct self *self = &pz_self[p->number];
     uint64_t t = self->id, head = head_place(self->id), cell = cell_place(m), entry = cell + 1;
     if (PZ_TRACE || m >= p->mutexes || !t || self->held >= HELD)
         return pz_by_steps(p, m, operation);
     word *words = p->words, *h = &words[head], *w = &words[cell];
-    if (operation == PZ_OP_LOCK && own(w + 4))
-        pz_give_way(p, t, m);
+    if (!has_given_way && operation == PZ_OP_LOCK && own(w + 4))
+        return pz_take_behind(p, m);
     uint64_t seen = atomic_load_explicit(w, memory_order_acquire), found = seen, first = own(h);
     if (seen & (OWNED | UNUSABLE))
         return pz_refused(p, m, operation, seen);
@@ -52,6 +53,11 @@ static inline __attribute__((always_inline)) int pz_take(pz *p, unsigned m, unsi
     tell_taken(w);
     self->held++;
     return seen & DIED ? EOWNERDEAD : 0;
+}
+
+static inline __attribute__((always_inline)) int pz_take(pz *p, unsigned m, unsigned operation)
+{
+    return pz_take_now(p, m, operation, 0);
 }
 
 /* The cell is the thread's, and consistent. */
@@ -73,17 +79,10 @@ static inline __attribute__((always_inline)) int pz_give(pz *p, unsigned m)
     if (next != head)
         STORE(&words[next + 1], previous);
     uint64_t found = XOR(w, t);
-    /* WAITERS alone is no sleeper: where none has a bit, the wake of nobody and the trim that is declined are left out.
-     * The wake of one is where an heir answers for it (heir.c). */
-    if (found & WAITERS) {
-        uint64_t next = SEE(w + 4);
-        if (next & NAPS)
-            pz_end_nap(p, cell);
-        if (next & DUE)
-            self->owes = m + 1;
-        if (!next && SEE(w + 3))
-            return pz_released(p, m, found);
-    }
+    /* WAITERS alone is no sleeper: where there is no heir, and none has a bit, the wake of nobody and the trim that is
+     * declined are left out. */
+    if ((found & WAITERS) && (SEE(w + 4) || SEE(w + 3)))
+        return pz_hand_on(p, m, found);
     STORE(h + 2, 0);
     self->held--;
     return 0;

@@ -231,7 +231,7 @@ static void on_a_cell(uint64_t cell)
     in_orders(unlocks, sleeps_there, 0, 0);
     in_orders(unlocks_twice, locks_there, 0, 0);
     in_orders(unlocks_twice, locks_there, bit_of(DEAD), 0);
-    in_orders(unlocks, sleeps_there, 0, 1);
+    in_orders(unlocks, sleeps_there, bit_of(DEAD), 1);
 }
 
 int main(void)
