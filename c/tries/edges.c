@@ -197,8 +197,8 @@ static void a_reinit_waits_for_sleepers(void)
     pz_close(p);
 }
 
-/* A thread that waits for mutex 0 is stopped while it is its heir. (One that isn't any more is let go, and the next one
- * is tried.) */
+/* A thread that waits for mutex 0 is stopped while it is its heir. (One that has fallen asleep before that is killed,
+ * and the next one is tried.) */
 static pid_t a_stopped_heir(pz *p, int wanted)
 {
     for (;;) {
@@ -206,13 +206,14 @@ static pid_t a_stopped_heir(pz *p, int wanted)
         int status;
         if (!is)
             _exit(pz_mutex_lock(p, 0) != wanted);
-        while (!(atomic_load(heir(p, cell_place(0))) & WHO) && state_of(is) != 'Z')
+        while (!(atomic_load(heir(p, cell_place(0))) & WHO) && !atomic_load(sleepers(p, cell_place(0))))
             ;
         kill(is, SIGSTOP);
         CHECK(waitpid(is, &status, WUNTRACED) == is && WIFSTOPPED(status));
         if (atomic_load(heir(p, cell_place(0))) & WHO)
             return is;
         kill_and_wait(is);
+        SAME(pz_reap(p), 1);
     }
 }
 

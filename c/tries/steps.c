@@ -331,7 +331,7 @@ int main(void)
 {
     const char *path = a_file("steps");
     long instructions = 0, walks = 0;
-    alarm(200);
+    alarm(280);
     SAME(pz_open(path, 0600, MUTEXES, 1, NULL, 0, &p), 0);
     seen = shared(sizeof *seen);
     for (long n = 1; !one(n, 0, 0, 0); n++)

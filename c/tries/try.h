@@ -92,10 +92,13 @@ static inline char state_of(pid_t thread)
 }
 static inline int sleeps(pid_t thread) { return state_of(thread) == 'S'; }
 
-/* So long that it doesn't nap any more, as a mutex's heir does for 20 ms at most. */
+/* Seen asleep for so long that it doesn't nap any more, as a mutex's heir does for 20 ms at most. */
 static inline void until_asleep(pid_t thread)
 {
-    for (int quiet = 0; quiet < 60; quiet = sleeps(thread) ? quiet + 1 : 0)
+    double since = now();
+    for (int quiet = 0; quiet < 5 || now() - since < 0.03; quiet = sleeps(thread) ? quiet + 1 : 0) {
+        since = quiet ? since : now();
         rest(500);
+    }
 }
 #endif
