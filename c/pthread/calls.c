@@ -27,6 +27,7 @@ static struct companion *entered(uint64_t nonce)
     struct companion *c = sh_find(nonce);
     if (!c)
         return NULL;
+    PZ_ENTERING();
     sh_enter(c);
     if (atomic_load(&c->nonce) == nonce)
         return c;

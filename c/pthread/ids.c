@@ -59,9 +59,10 @@ static int wait_for_id(struct companion *c, unsigned bank, pz *p)
     uint32_t seen = atomic_load(returned);
     sh_ask_for_id(c, bank);
     int r = sh_borrow_now(p);
-    if (r == EAGAIN)
+    if (r == EAGAIN) {
+        PZ_NO_ID();
         pz_sleep_for_id(p, returned, seen);
-    else if (!r) {
+    } else if (!r) {
         sh_ask_for_id(c, bank); /* others may wait still, */
         wake_one(returned);     /* there may be one for the next of them, */
         pz_watch_me(p);         /* and they are to be told of this thread's death */

@@ -7,12 +7,19 @@
 #include <sys/types.h>
 #include <time.h>
 
-/* Tries stop who lets a companion go, and who has found one, where these stand. */
+/* Tries stop who lets a companion go, who is about to say that it has found one, and who has; and who is about to sleep
+ * for an id. */
 #ifndef PZ_LETTING_GO
 #define PZ_LETTING_GO() ((void)0)
 #endif
+#ifndef PZ_ENTERING
+#define PZ_ENTERING() ((void)0)
+#endif
 #ifndef PZ_FOUND
 #define PZ_FOUND() ((void)0)
+#endif
+#ifndef PZ_NO_ID
+#define PZ_NO_ID() ((void)0)
 #endif
 
 /* ---- The bytes of a mutex, 40 or 48, name it. `kind` stands where the C library has the type, and is none of its

@@ -2,6 +2,7 @@
  * made. usage: cases FOLDER; libpazdrig_pthread.so is loaded in front, and PAZDRIG_DIR is a folder of its own. */
 #include "../../tries/try.h"
 #include <dirent.h>
+#include <dlfcn.h>
 #include <fcntl.h>
 #include <pthread.h>
 #include <sched.h>
@@ -635,6 +636,17 @@ static void nested_crowds(void)
     unlink(two);
 }
 
+/* (With polling off too, by another build: run.) */
+static void more_threads_than_ids(void)
+{
+    many_threads();
+    many_processes();
+    all_ids_are_had();
+    in_child(init_beside_a_crowd);
+    in_child(all_owners_die);
+    in_child(nested_crowds);
+}
+
 /* ---- First openers are killed while they make mutexes: the next one makes them all. */
 static void first_openers_are_killed(void)
 {
@@ -686,6 +698,21 @@ static void as_many_as_there_are(void)
     unlink(path);
 }
 
+/* How many companions this process has mapped, or whether one, as it keeps its lock of each by a page. */
+static int mapped_of(const char *path)
+{
+    char line[1024];
+    int n = 0;
+    FILE *f = fopen("/proc/self/maps", "r");
+    CHECK(f);
+    while (fgets(line, sizeof line, f))
+        n += strstr(line, path) && strstr(line, " r--s ");
+    fclose(f);
+    return n;
+}
+
+enum { AT_ONCE = 64, SOON = 16 }; /* once so many are had, those in no use are let go; some are once more are */
+
 /* Of those that it has unmapped a process lets go. */
 static void many_objects(void)
 {
@@ -700,10 +727,95 @@ static void many_objects(void)
         }
         munmap(m, 20 * sizeof *m);
         unlink(file(name));
+        CHECK(mapped_of(getenv("PAZDRIG_DIR")) <= AT_ONCE);
     }
 }
 
-/* So many are mapped at once. */
+/* So it does of those where another of its threads has an id still, which that gives up at its next call. */
+static pthread_mutex_t *_Atomic for_another;
+static void *locks_each(void *unused)
+{
+    (void)unused;
+    for (pthread_mutex_t *m; (m = atomic_load(&for_another)) != MAP_FAILED;) {
+        if (m) {
+            SAME(pthread_mutex_lock(m), 0);
+            SAME(pthread_mutex_unlock(m), 0);
+            atomic_store(&for_another, NULL);
+        }
+        sched_yield();
+    }
+    return NULL;
+}
+
+static void many_objects_of_two(void)
+{
+    pthread_t t;
+    CHECK(!pthread_create(&t, NULL, locks_each, NULL));
+    for (int i = 0; i < 300; i++) {
+        char name[32];
+        snprintf(name, sizeof name, "of-two%d", i);
+        pthread_mutex_t *m = map(file(name), 1);
+        SAME(init(m), 0);
+        for (atomic_store(&for_another, m); atomic_load(&for_another);)
+            sched_yield();
+        munmap(m, sizeof *m);
+        unlink(file(name));
+        CHECK(mapped_of(getenv("PAZDRIG_DIR")) <= AT_ONCE + 2 * SOON);
+    }
+    atomic_store(&for_another, (pthread_mutex_t *)MAP_FAILED);
+    CHECK(!pthread_join(t, NULL));
+}
+
+/* A child doesn't keep what only another thread of its parent was in a call on. */
+static _Atomic pid_t who_sleeps;
+static void *sleeps_on(void *m)
+{
+    atomic_store(&who_sleeps, gettid());
+    SAME(pthread_mutex_lock(m), 0);
+    SAME(pthread_mutex_unlock(m), 0);
+    return NULL;
+}
+
+static void a_child_amid_a_call(void)
+{
+    pthread_t t;
+    int status;
+    char companion[600];
+    const char *path = file("amid");
+    pthread_mutex_t *m = map(path, 1);
+    SAME(init(m), 0);
+    strcpy(companion, companion_of(path));
+    SAME(pthread_mutex_lock(m), 0);
+    CHECK(!pthread_create(&t, NULL, sleeps_on, m));
+    while (!atomic_load(&who_sleeps))
+        rest(100);
+    until_asleep(atomic_load(&who_sleeps));
+    pid_t it = fork();
+    if (!it) {
+        munmap(m, sizeof *m);
+        SAME(mapped_of(companion), 1);
+        many_objects();
+        _exit(mapped_of(companion));
+    }
+    CHECK(waitpid(it, &status, 0) == it && status == 0);
+    SAME(pthread_mutex_unlock(m), 0);
+    CHECK(!pthread_join(t, NULL));
+    unlink(path);
+}
+
+/* The C library's, and how often the library has looked at all that is mapped. */
+static int looks;
+FILE *fopen(const char *path, const char *how)
+{
+    static FILE *(*real)(const char *, const char *);
+    if (!real)
+        *(void **)&real = dlsym(RTLD_NEXT, "fopen");
+    looks += !strcmp(path, "/proc/thread-self/maps");
+    return real(path, how);
+}
+
+/* So many are mapped at once: it is looked for unused ones ever more seldom. (Before Linux 6.11 each mutex that is made
+ * is a look.) */
 static void many_objects_at_once(void)
 {
     enum { OBJECTS = 200 };
@@ -714,7 +826,10 @@ static void many_objects_at_once(void)
         m[i] = map(file(name), 1);
         SAME(init(m[i]), 0);
         SAME(pthread_mutex_lock(m[i]), 0);
+        if (i == 0)
+            looks = looks ? -OBJECTS : 0;
     }
+    CHECK(looks < 10);
     for (int i = 0; i < OBJECTS; i++) {
         SAME(pthread_mutex_unlock(m[i]), 0);
         snprintf(name, sizeof name, "at-once%d", i);
@@ -1073,6 +1188,10 @@ int main(int argc, char **argv)
     folder = argv[1];
     if (argc > 2 && !strcmp(argv[2], "changing"))
         return changing_objects(), 0;
+    if (argc > 2 && !strcmp(argv[2], "objects"))
+        return many_objects(), 0;
+    if (argc > 2 && !strcmp(argv[2], "ids"))
+        return more_threads_than_ids(), 0;
     in_child(newcomers);
     in_child(without_it);
     in_child(a_companion_is_removed);
@@ -1083,15 +1202,12 @@ int main(int argc, char **argv)
     in_child(memory_without_a_name);
     in_child(private_memory);
     in_child(other_memory);
-    many_threads();
-    many_processes();
-    all_ids_are_had();
-    in_child(init_beside_a_crowd);
-    in_child(all_owners_die);
-    in_child(nested_crowds);
+    more_threads_than_ids();
     in_child(first_openers_are_killed);
     in_child(as_many_as_there_are);
     in_child(many_objects);
+    in_child(many_objects_of_two);
+    in_child(a_child_amid_a_call);
     in_child(many_objects_at_once);
     changing_objects();
     in_child(made_over_one_that_is_owned);
