@@ -128,20 +128,17 @@ fn a_walk_makes_all_but_its_marks_twice(rt: HostRuntime) -> Result<(), Fail> {
     goes(&mut machine, one, Op::OnMutex(LOCK));
     goes(&mut machine, two, Op::OnMutex(LOCK));
     let _ = machine.step(Event::Kill(one));
-    let (mut once, mut woken) = (0u32, 0usize);
+    let (mut once, mut woken) = (0u32, 0u32);
     for _ in 0..12 {
         if !machine.dying(one) {
             break;
         }
-        match machine.step(Event::Repeat(one)) {
-            Note::Nothing => once = once.wrapping_add(1),
-            Note::Walked {
-                death: None,
-                woken: some,
-                reaped: false,
-                ..
-            } => woken = woken.wrapping_add(some.len()),
-            _ => Err("a repeat is noted as something else")?,
+        let slept = machine.asleep(two);
+        if machine.step(Event::Repeat(one)) == Note::Nothing {
+            once = once.wrapping_add(1);
+        }
+        if slept && !machine.asleep(two) {
+            woken = woken.wrapping_add(1);
         }
         let _ = machine.step(Event::Step(one));
     }
