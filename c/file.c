@@ -173,8 +173,8 @@ static void begin_boot(pz *p, const char boot[40])
         atomic_store(sleepers(p, at), 0);
     for (uint64_t at = cell_place(0); at < counter_place(p, 0); at += LINE)
         atomic_store(heir(p, at), 0);
-    atomic_thread_fence(memory_order_release); /* who finds it written doesn't ask for the lock */
-    memcpy(p->header->boot, boot, sizeof p->header->boot);
+    for (size_t i = 0; i < sizeof p->header->boot; i++) /* last, since who finds it written doesn't ask for the lock */
+        atomic_store_explicit((_Atomic char *)&p->header->boot[i], boot[i], memory_order_release);
 }
 
 /* With as many of each, and with each condition variable of the mutex that was asked for. */
