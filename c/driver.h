@@ -92,14 +92,22 @@ struct pz {
     uint64_t cell_of[MOST_CONDS]; /* of condition variables: kept here, as the file's words may be spoiled */
 };
 
-/* What a thread is in a file: its id, 0 for none, the one that it had last, how many mutexes it holds, and the one that
- * it freed while its heir was due, plus 1, or 0. */
+/* What a thread is in a file: its id, 0 for none, the one that it had last, how many mutexes it holds, the one that it
+ * freed while its heir was due, plus 1, or 0, and how many locks it has begun where there was an heir. */
 struct self {
     uint8_t id, last;
     uint16_t held;
-    uint32_t owes;
+    uint32_t owes, locks;
 };
 extern _Thread_local struct self pz_self[FILES] __attribute__((tls_model("initial-exec")));
+
+/* Each so many locks a thread looks whether the heir is late. */
+enum { LOCKS = 8 };
+/* Whether it does so before this one, or gives way. */
+static inline int looks_at_heir(struct self *self, unsigned m)
+{
+    return self->owes == m + 1 || ++self->locks % LOCKS == 0;
+}
 
 /* ---- Places. A line of 8 words for each head, mutex and condition variable: no two of them share a cache line. Links
  * hold places and no addresses, so whoever walks a list needs no translation. */

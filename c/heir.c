@@ -30,9 +30,8 @@ enum { FAIR = 500000, LATE = 50000, WAY = 2000000, WAY_AWAKE = 20000 };
 enum { FIRST_LOOK = 500, LAST_LOOK = 10000, LEAST_PAUSE = 2000, CROWDED_PAUSE = 20000 };
 enum { LONGEST_PAUSE = PZ_SPIN * 1000, NAP = 1000000, ALL_NAPS = 20000000 };
 
-/* Each so many sleeps a thread pauses as long as may be; each so many locks it looks whether the heir is late; and who
- * makes these in less time does nothing else. */
-enum { TRY_ALL = 16, LOCKS = 8, BUSY = LOCKS * 3000 };
+/* Each so many sleeps a thread pauses as long as may be; and who makes LOCKS of locks in less time does nothing else. */
+enum { TRY_ALL = 16, BUSY = LOCKS * 3000 };
 
 static long now_ns(void)
 {
@@ -218,10 +217,7 @@ int pz_changes(pz *p, unsigned t, uint64_t at, uint32_t expected)
  * nothing but lock; elsewhere another one is woken. */
 static void help_late(const pz *p, uint64_t cell, uint64_t is)
 {
-    static _Thread_local unsigned locks;
     static _Thread_local long last;
-    if (++locks % LOCKS)
-        return;
     long now = now_ns(), took = now - last;
     last = now;
     if (age(is, now) < (is & COMES ? LATE : FAIR + LATE) || !EXCHANGE(heir(p, cell), &is, (uint32_t)is | since(now)))
@@ -253,7 +249,7 @@ static void wait_for_it(pz *p, unsigned t, uint64_t cell)
     pz_reap(p);
 }
 
-/* Before a lock where there is an heir. */
+/* Before a lock that looks at the heir. */
 void pz_give_way(pz *p, unsigned t, unsigned m)
 {
     struct self *self = &pz_self[p->number];

@@ -13,7 +13,7 @@ static const uint64_t OWNED = 0x3fffffff, DIED = 0x40000000, WAITERS = 0x8000000
 static const uint64_t FULL = 0xffffffff, AGAIN = 0x80000000;
 
 /* ---- calls.c: what isn't as the ways below want it goes by its steps; so does, from there on, whose exchange failed,
- * whose release found that somebody may sleep, and whose signal did. Where there is an heir who locks may give way. */
+ * whose release found that somebody may sleep, and whose signal did. Who finds an heir may give way to it. */
 int pz_by_steps(pz *p, unsigned m, unsigned operation);
 int pz_refused(pz *p, unsigned m, unsigned operation, uint64_t seen);
 int pz_lost(pz *p, unsigned m, unsigned operation, uint64_t seen, uint64_t found);
@@ -34,7 +34,7 @@ static inline __attribute__((always_inline)) int pz_take_now(pz *p, unsigned m, 
     if (PZ_TRACE || m >= p->mutexes || !t || self->held >= HELD)
         return pz_by_steps(p, m, operation);
     word *words = p->words, *h = &words[head], *w = &words[cell];
-    if (!has_given_way && operation == PZ_OP_LOCK && own(w + 4))
+    if (!has_given_way && operation == PZ_OP_LOCK && own(w + 4) && looks_at_heir(self, m))
         return pz_take_behind(p, m);
     uint64_t seen = atomic_load_explicit(w, memory_order_acquire), found = seen, first = own(h);
     if (seen & (OWNED | UNUSABLE))
@@ -80,8 +80,9 @@ static inline __attribute__((always_inline)) int pz_give(pz *p, unsigned m)
         STORE(&words[next + 1], previous);
     uint64_t found = XOR(w, t);
     /* WAITERS alone is no sleeper: where there is no heir, and none has a bit, the wake of nobody and the trim that is
-     * declined are left out. */
-    if ((found & WAITERS) && (SEE(w + 4) || SEE(w + 3)))
+     * declined are left out; where there is an heir who is awake, and not due, the wake is. */
+    uint64_t its = found & WAITERS ? SEE(w + 4) : 0;
+    if ((found & WAITERS) && (its ? its & (NAPS | DUE) : SEE(w + 3)))
         return pz_hand_on(p, m, found);
     STORE(h + 2, 0);
     self->held--;

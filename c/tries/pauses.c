@@ -216,7 +216,8 @@ static void one_is_late(void)
     begin(0, COMES | since(clock_ns));
     *sleepers(&file, cell) = bit_of(OTHER);
     for (int i = 0; i < 10 * LOCKS; i++) {
-        pz_give_way(&file, SELF, 0);
+        if (looks_at_heir(&pz_self[0], 0))
+            pz_give_way(&file, SELF, 0);
         clock_ns += LATE / 2 / LOCKS;
     }
     CHECK(wakes >= 4 && wakes <= 5 && asked.on == (uint32_t *)&words[cell]);
