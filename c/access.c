@@ -28,29 +28,30 @@ static long wake_asleep(const pz *p, uint64_t at, uint32_t most)
     return n > 0 ? n : 0;
 }
 
-/* One sleeper of a mutex, where there is no heir that looks at the word (heir.c). A wake that woke nobody, as who was
- * killed asleep has its bit until it is reaped, is made once more, and no more, behind the end of COMES: others may
- * have left theirs to it meanwhile. */
-static long wake_one(const pz *p, uint64_t cell)
+/* One sleeper of a mutex. A call leaves it to an heir, who looks at the word (heir.c); a walk doesn't. A wake that woke
+ * nobody, as who was killed asleep has its bit until it is reaped, is made once more, and no more, behind the end of
+ * COMES: others may have left theirs to it meanwhile. */
+static long wake_one(const pz *p, uint64_t cell, int is_walk)
 {
-    if (!pz_let_come(p, cell))
+    int comes = pz_let_come(p, cell);
+    if (!comes && !is_walk)
         return 1;
     long n = wake_asleep(p, cell, 1);
-    if (n)
+    if (n || !comes)
         return n;
     pz_disinherit(p, 0, cell);
     return wake_asleep(p, cell, 1);
 }
 
 /* Nobody has a bit: nobody sleeps there, and whoever is about to will find the word changed. */
-static uint32_t wake(const pz *p, const struct pz_access *x, uint64_t *value)
+static uint32_t wake(const pz *p, const struct pz_access *x, uint64_t *value, int is_walk)
 {
     int cell = !is_counter(p, x->at);
     *value = 0;
     if (cell && (SEE(heir(p, x->at)) & NAPS))
         pz_end_nap(p, x->at);
     if (SEE(sleepers(p, x->at)))
-        *value = (uint64_t)(cell && x->most == 1 ? wake_one(p, x->at) : wake_asleep(p, x->at, x->most));
+        *value = (uint64_t)(cell && x->most == 1 ? wake_one(p, x->at, is_walk) : wake_asleep(p, x->at, x->most));
     return PZ_COUNT;
 }
 
@@ -98,7 +99,7 @@ uint32_t pz_make(pz *p, const struct pz_access *x, uint64_t *value)
         *value = ADD(w, x->a);
         return PZ_VALUE;
     case PZ_WAKE:
-        return wake(p, x, value);
+        return wake(p, x, value, 0);
     case PZ_CMP_REQUEUE:
         return requeue(p, x, value);
     case PZ_TRIM: /* needs the kernel's bucket lock, so is declined: WAITERS stays, and the sleepers' bits make that
@@ -108,4 +109,12 @@ uint32_t pz_make(pz *p, const struct pz_access *x, uint64_t *value)
     default:
         return PZ_FAULT;
     }
+}
+
+/* A mark hands the mutex on, as an unlock does: by a thread that leaves its own. */
+uint32_t pz_make_of_walk(pz *p, const struct pz_access *x, uint64_t *value)
+{
+    if (x->kind == PZ_EXCHANGE && x->at < p->places)
+        tell_given(&p->words[x->at]);
+    return x->kind == PZ_WAKE && is_there(p, x->at) ? wake(p, x, value, 1) : pz_make(p, x, value);
 }

@@ -154,6 +154,7 @@ static inline void tell_given(word *cell)
 
 /* ---- access.c */
 uint32_t pz_make(pz *p, const struct pz_access *x, uint64_t *value);
+uint32_t pz_make_of_walk(pz *p, const struct pz_access *x, uint64_t *value);
 
 /* ---- heir.c */
 int pz_let_come(const pz *p, uint64_t cell);

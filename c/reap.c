@@ -25,14 +25,6 @@ enum fate pz_fate(pz *p, unsigned t)
     return (token & FUTEX_TID_MASK) == atomic_load(&p->life[t].tid) ? LIVES : DYING;
 }
 
-/* A mark hands the mutex on, as an unlock does: by a thread that leaves its own. */
-static uint32_t make_of_walk(pz *p, const struct pz_access *x, uint64_t *value)
-{
-    if (x->kind == PZ_EXCHANGE && x->at < p->places)
-        tell_given(&p->words[x->at]);
-    return pz_make(p, x, value);
-}
-
 /* One access of a walk, and the record of it. The first access of a walk that was kept may have been made: at a mark
  * the word shows it. */
 static uint32_t walk_once(pz *p, struct pz_walk *w, struct pz_access *x, int kept)
@@ -40,7 +32,7 @@ static uint32_t walk_once(pz *p, struct pz_walk *w, struct pz_access *x, int kep
     uint64_t value = 0;
     uint32_t answer = PZ_EXCHANGED;
     if (!kept || x->at >= p->places || pz_walk_again(w, atomic_load(&p->words[x->at])) != 1)
-        answer = make_of_walk(p, x, &value);
+        answer = pz_make_of_walk(p, x, &value);
     if (x->kind == PZ_EXCHANGE && answer == PZ_EXCHANGED)
         PZ_TELL(pz_trace_death(w->thread, mutex_at(x->at)));
     PZ_AT_WALK();

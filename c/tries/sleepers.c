@@ -18,7 +18,7 @@ static int played_clock(clockid_t clock, struct timespec *now);
 #undef clock_gettime
 #include "../calls.c"
 
-enum { OWNER = 1, SLEEPER = 2, DEAD = 3, TID = 77, INTERRUPTIONS = 4 };
+enum { OWNER = 1, SLEEPER = 2, DEAD = 3, OTHER = 4, TID = 77, INTERRUPTIONS = 4 };
 
 static struct pz file;
 static word words[80 * LINE];
@@ -234,12 +234,27 @@ static void on_a_cell(uint64_t cell)
     in_orders(unlocks, sleeps_there, bit_of(DEAD), 1);
 }
 
+/* A call's wake is left to who is the heir; a walk's is made. */
+static void beside_an_heir(uint64_t cell)
+{
+    struct pz_access wake = {.kind = PZ_WAKE, .at = cell, .most = 1};
+    uint64_t value = 0;
+    begin_words();
+    *sleepers(&file, cell) = bit_of(SLEEPER);
+    *heir(&file, cell) = OTHER;
+    asleep_on = (uint32_t *)&words[cell];
+    CHECK(pz_make(&file, &wake, &value) == PZ_COUNT && value == 1 && asleep_on);
+    CHECK(pz_make_of_walk(&file, &wake, &value) == PZ_COUNT && value == 1 && !asleep_on);
+    CHECK(*heir(&file, cell) == OTHER);
+}
+
 int main(void)
 {
     file = (struct pz){.words = words, .places = 80 * LINE, .mutexes = 8, .conds = 2};
     file.cell_of[0] = cell_place(0);
     most_interruptions = INTERRUPTIONS;
     on_a_counter(cell_place(0), counter_place(&file, 0));
+    beside_an_heir(cell_place(0));
     for (no_waitv = 0; no_waitv < 2; no_waitv++)
         on_a_cell(cell_place(0));
     printf("sleepers: nobody was left asleep in any of %ld orders of instructions\n", orders);
