@@ -1,5 +1,5 @@
 /* A sleep on a word: it ends when the thread is woken, when the word differs, and when the mutex's owner turns out to
- * be dead, since then nobody but this thread may be there to reap it. */
+ * be dead, since then nobody but this thread may be there to reap it. (What is waited awake before it: heir.c.) */
 #include "driver.h"
 #include <errno.h>
 #include <linux/futex.h>
