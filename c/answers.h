@@ -9,7 +9,7 @@ static const struct {
     {"pz_open", EPROTO, "the file is of another format, as an older or newer version of the library makes it: it is "
      "left as it is"},
     {"pz_open", EMFILE, "this process has 16 files open, those that it closed and a thread hasn't left yet among "
-     "them (a file that wasn't there may be made); or it has no descriptor left"},
+     "them (the file may have been made all the same); or it has no descriptor left"},
     {"pz_open", ENOSPC, "there is no room for all of it, which is taken here: so no later store meets a full disk"},
     {"pz_open", EFBIG, "there is no room for all of it, which is taken here: so no later store meets a full disk"},
     {"pz_open", ENOMEM, "no memory, or no room to map it"},
@@ -19,7 +19,7 @@ static const struct {
     {"pz_open_fd", EPROTO, "the file is of another format, as an older or newer version of the library makes it: it "
      "is left as it is"},
     {"pz_open_fd", EMFILE, "this process has 16 files open, those that it closed and a thread hasn't left yet among "
-     "them (a file that wasn't there may be made); or it has no descriptor left"},
+     "them (the file may have been made all the same); or it has no descriptor left"},
     {"pz_open_fd", ENOSPC, "there is no room for all of it, which is taken here: so no later store meets a full disk"},
     {"pz_open_fd", EFBIG, "there is no room for all of it, which is taken here: so no later store meets a full disk"},
     {"pz_open_fd", ENOMEM, "no memory, or no room to map it"},
@@ -113,9 +113,9 @@ static const struct {
     {"pz_cond_signal", 0, "it took effect: a signal wakes one waiter, if there is any; a broadcast has all take the "
      "mutex in turn"},
     {"pz_cond_signal", EPERM, "the thread doesn't own the mutex"},
-    {"pz_cond_signal", EOVERFLOW, "it had 2^32 - 1 signals and broadcasts, those counted that nobody waited for, and "
-     "at none of the last 2^31 there was a moment without a waiter (one that was killed counts until somebody cleans "
-     "up after it). It is refused until there is one: then it counts from 0"},
+    {"pz_cond_signal", EOVERFLOW, "somebody waited during all of the last 2^31 signals and broadcasts (one that was "
+     "killed counts until somebody cleans up after it), and the counter is full. It begins at 0 again once nobody "
+     "waits"},
     {"pz_cond_signal", EINVAL, "there is no such mutex or condition variable; nothing was done; or somebody wrote "
      "stray values into the library's words, and the call was stopped there: nobody knows who owns what, so end all "
      "who use the file and delete it"},
@@ -128,9 +128,9 @@ static const struct {
     {"pz_cond_broadcast", 0, "it took effect: a signal wakes one waiter, if there is any; a broadcast has all take "
      "the mutex in turn"},
     {"pz_cond_broadcast", EPERM, "the thread doesn't own the mutex"},
-    {"pz_cond_broadcast", EOVERFLOW, "it had 2^32 - 1 signals and broadcasts, those counted that nobody waited for, "
-     "and at none of the last 2^31 there was a moment without a waiter (one that was killed counts until somebody "
-     "cleans up after it). It is refused until there is one: then it counts from 0"},
+    {"pz_cond_broadcast", EOVERFLOW, "somebody waited during all of the last 2^31 signals and broadcasts (one that "
+     "was killed counts until somebody cleans up after it), and the counter is full. It begins at 0 again once "
+     "nobody waits"},
     {"pz_cond_broadcast", EINVAL, "there is no such mutex or condition variable; nothing was done; or somebody wrote "
      "stray values into the library's words, and the call was stopped there: nobody knows who owns what, so end all "
      "who use the file and delete it"},
