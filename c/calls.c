@@ -82,12 +82,10 @@ static __attribute__((noinline)) uint32_t run(pz *p, struct pz_call *call, unsig
     pz_trace_lock();
     PZ_TELL(pz_trace_begin(t, operation, mutex_at(call->cell), c));
     uint32_t reply = EINVAL;
-    int saved = errno;
     if (pz_begin(call, &x, operation) == PZ_GOES) {
-        uint32_t answer = answer_of(p, t, &x, &value);
+        uint32_t answer = answer_of(p, t, &x, &value); /* no call begins with a sleep */
         reply = run_on(p, t, call, answer, value);
     }
-    errno = saved;
     pz_trace_unlock();
     return reply;
 }
@@ -299,9 +297,9 @@ static struct pz_call cond_call_of(const pz *p, unsigned t, unsigned c)
     return call;
 }
 
-/* By the mutex's owner: nobody else counts. Where nobody has a bit, nobody sleeps there, and no wait has loaded the counter
- * and is still to sleep, as its bit is set before it releases the mutex. So no signal is missed (`Recount`, an event of
- * the machine in crates/protocol). */
+/* By the mutex's owner: nobody else counts. Where nobody has a bit, nobody sleeps there, and no wait has loaded the
+ * counter and is still to sleep, as its bit is set before it releases the mutex. So no signal is missed (`Recount`, an
+ * event of the machine in crates/protocol). */
 uint64_t pz_begin_again(word *counter, uint64_t count)
 {
     return !SEE(counter + 3) && EXCHANGE(counter, &count, 0) ? 0 : count;

@@ -35,6 +35,9 @@
 #ifndef PZ_BETWEEN
 #define PZ_BETWEEN() ((void)0)
 #endif
+#ifndef PZ_AT
+#define PZ_AT(moment) ((void)0)
+#endif
 
 enum { THREADS = PZ_THREADS, LINE = 8, HELD = 2048, FILES = PZ_FILES, MOST_MUTEXES = 4096, MOST_CONDS = 256 };
 

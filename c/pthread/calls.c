@@ -27,7 +27,7 @@ static struct companion *entered(uint64_t nonce)
     struct companion *c = sh_find(nonce);
     if (!c)
         return NULL;
-    PZ_ENTERING();
+    PZ_AT(entering);
     sh_enter(c);
     if (atomic_load(&c->nonce) == nonce)
         return c;
@@ -171,7 +171,7 @@ static __attribute__((noinline)) int kept(int (*call)(struct mutex *), struct ou
     struct mutex x;
     int saved = errno, r = find(o, &x);
     if (!r) {
-        PZ_FOUND();
+        PZ_AT(found);
         r = call(&x);
         sh_leave(x.c);
     }
@@ -270,6 +270,7 @@ static inline int at_hand(struct ours *o, struct mutex *x)
     if (x->bank >= BANKS || atomic_load_explicit(&x->c->nonce, memory_order_acquire) != o->nonce)
         return 0;
     x->p = atomic_load_explicit(&x->c->bank[x->bank], memory_order_acquire);
+    PZ_AT(at_hand);
     if (!x->p || !pz_self[x->p->number].id)
         return 0;
     atomic_thread_fence(memory_order_acquire);

@@ -860,7 +860,24 @@ static void *changes_objects(void *which)
     return NULL;
 }
 
-/* (The gap of whoever lets go is widened for it, by another build: run.) */
+/* In another build whoever lets go stands still meanwhile, and so does who has found one. */
+static int are_slow;
+void try_letting_go(void)
+{
+    if (are_slow)
+        rest(200);
+}
+void try_entering(void)
+{
+    if (are_slow)
+        rest(1000);
+}
+void try_found(void)
+{
+    if (are_slow)
+        rest(4000);
+}
+
 static void changing_objects(void)
 {
     int which[3] = {0, 33, 66};
@@ -1187,7 +1204,7 @@ int main(int argc, char **argv)
     self = argv[0];
     folder = argv[1];
     if (argc > 2 && !strcmp(argv[2], "changing"))
-        return changing_objects(), 0;
+        return are_slow = 1, changing_objects(), 0;
     if (argc > 2 && !strcmp(argv[2], "objects"))
         return many_objects(), 0;
     if (argc > 2 && !strcmp(argv[2], "ids"))
