@@ -1,8 +1,8 @@
-/* What a try has the library do at a moment: that is built with `-include pthread/tries/hooks.h`, and calls these of the
- * program over it, where it has them. */
+/* What a try has the library do at a moment: that is built with `-include pthread/tries/hooks.h`, and calls these of
+ * the program over it, where it has them. */
 #ifndef PZ_PTHREAD_HOOKS_H
 #define PZ_PTHREAD_HOOKS_H
-#define PZ_AT(moment) (try_##moment ? try_##moment() : (void)0)
+#define PZ_AT(moment)  (try_##moment ? try_##moment() : (void)0)
 #define MOMENT(moment) void try_##moment(void) __attribute__((weak))
 MOMENT(letting_go); /* a companion, before it isn't found any more, and behind that */
 MOMENT(used_again); /* what an open file was, emptied */
