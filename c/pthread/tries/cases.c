@@ -317,6 +317,24 @@ static void another_format(void)
     unlink(path);
 }
 
+/* Where its object is stands in it without an end, as one may write who may write the object: so nobody can tell, and
+ * it stays. */
+static void a_path_without_an_end(void)
+{
+    enum { AT = 204, SIZE = 3076 }; /* of the path, and of what is behind it in the same struct */
+    const char *path = file("endless");
+    char endless[SIZE];
+    for (int i = 0; i < SIZE; i++)
+        endless[i] = i % 2 ? 'x' : '/';
+    SAME(comes(path, 0, "init", 1), 0);
+    int n = companions(), fd = open(companion_of(path), O_RDWR);
+    CHECK(fd >= 0 && pwrite(fd, endless, SIZE, AT) == SIZE && close(fd) == 0);
+    SAME(comes(path, 0, "lock", 1), 0);
+    SAME(companions(), n);
+    CHECK(unlink(companion_of(path)) == 0);
+    unlink(path);
+}
+
 /* ---- Descriptors are closed: nothing depends on one. */
 static void closes_all(void)
 {
@@ -728,6 +746,28 @@ static void many_objects(void)
         munmap(m, 20 * sizeof *m);
         unlink(file(name));
         CHECK(mapped_of(getenv("PAZDRIG_DIR")) <= AT_ONCE);
+    }
+}
+
+/* With room for so few banks, all of objects that are mapped, another one can't be had: until one is unmapped. */
+static void as_many_objects_as_banks(void)
+{
+    enum { ROOM = 32 };
+    pthread_mutex_t *m[ROOM + 1];
+    char name[32];
+    for (int i = 0; i <= ROOM; i++) {
+        snprintf(name, sizeof name, "bank%d", i);
+        SAME(comes(file(name), 0, "init", 1), 0);
+        m[i] = map(file(name), 1);
+        SAME(pthread_mutex_lock(m[i]), i < ROOM ? 0 : EAGAIN);
+        SAME(pthread_mutex_unlock(m[i]), i < ROOM ? 0 : EAGAIN);
+    }
+    munmap(m[0], sizeof *m[0]);
+    SAME(pthread_mutex_lock(m[ROOM]), 0);
+    SAME(pthread_mutex_unlock(m[ROOM]), 0);
+    for (int i = 0; i <= ROOM; i++) {
+        snprintf(name, sizeof name, "bank%d", i);
+        unlink(file(name));
     }
 }
 
@@ -1206,7 +1246,7 @@ int main(int argc, char **argv)
     if (argc > 2 && !strcmp(argv[2], "changing"))
         return are_slow = 1, changing_objects(), 0;
     if (argc > 2 && !strcmp(argv[2], "objects"))
-        return many_objects(), 0;
+        return in_child(as_many_objects_as_banks), many_objects(), 0;
     if (argc > 2 && !strcmp(argv[2], "ids"))
         return more_threads_than_ids(), 0;
     in_child(newcomers);
@@ -1215,6 +1255,7 @@ int main(int argc, char **argv)
     in_child(a_reason_is_told);
     in_child(an_earlier_boot);
     in_child(another_format);
+    in_child(a_path_without_an_end);
     in_child(closes_all);
     in_child(memory_without_a_name);
     in_child(private_memory);
