@@ -156,12 +156,9 @@ static int consistent(struct mutex *x)
 
 static int destroy(struct mutex *x)
 {
-    int state;
-    pthread_setcancelstate(PTHREAD_CANCEL_DISABLE, &state);
     sh_lock_table(x->c);
     int r = sh_give_number(x->c, x->bytes);
     sh_unlock_table(x->c);
-    pthread_setcancelstate(state, NULL);
     return r;
 }
 
