@@ -482,7 +482,7 @@ static struct timespec from_now(long ms)
 static void errno_stays(void)
 {
     const char *path = file("errno"), *missing = file("missing");
-    struct itimerval often = {{0, 2000}, {0, 2000}};
+    struct itimerval often = {{0, 2000}, {0, 2000}}, never = {{0, 0}, {0, 0}};
     pthread_mutex_t *m = map(path, 1), *n = map(missing, 1);
     SAME(comes(missing, 0, "init", 1), 0);
     CHECK(unlink(companion_of(missing)) == 0);
@@ -498,6 +498,7 @@ static void errno_stays(void)
     errno = WAS;
     SAME(pthread_mutex_timedlock(m, &until), ETIMEDOUT);
     SAME(errno, WAS);
+    CHECK(!setitimer(ITIMER_REAL, &never, NULL));
     kill_and_wait(it);
     unlink(path);
     unlink(missing);

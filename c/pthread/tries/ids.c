@@ -7,7 +7,7 @@
 #include <sys/stat.h>
 
 enum { IDS = 64, WAITERS = 4, ALL = IDS + WAITERS, FIRST = 30 }; /* its mutexes are of the second bank */
-enum order { STAY, UNLOCK, TAKE_A_DEAD_ONES, LEAVE };
+enum order { STAY, UNLOCK, TAKE_A_DEAD_ONES, SLEEP_FOR_A_DEAD_ONES, LEAVE };
 enum moment { ASKING, ASKED, NO_ID, GIVING, MOMENTS };
 enum at_moment { GO_ON, STOP, DIE };
 
@@ -39,6 +39,9 @@ static void do_as_told(struct part *p)
         break;
     case TAKE_A_DEAD_ONES:
         SAME(pthread_mutex_trylock(&m[dead_one]), EOWNERDEAD);
+        break;
+    case SLEEP_FOR_A_DEAD_ONES:
+        SAME(pthread_mutex_lock(&m[dead_one]), EOWNERDEAD);
         break;
     case LEAVE:
         pthread_exit(NULL);
@@ -251,25 +254,50 @@ static int have_it(int from)
     return n;
 }
 
-/* The death of the first mutex's owner is told to those who sleep on that, and so nobody knows of its id. One that is
- * told of another id wakes the next one, who has that. */
+/* The death of the first mutex's owner is told to those who sleep on that, of whom one has it then: so nobody who waits
+ * for an id knows of its own. */
+static void an_id_is_free(int asleep)
+{
+    is_killed(0);
+    while (!have_it(IDS - asleep))
+        rest(100);
+    for (int i = IDS - asleep; i < ALL; i++)
+        if (process[i] && !is_done(i, 1))
+            until_asleep(process[i]);
+    SAME(have_it(IDS - asleep), 1);
+    CHECK(!is_done(IDS, 1) && !is_done(IDS + 1, 1));
+}
+
+/* One that is told of another id wakes the next one, who has that. */
 static void one_more_is_free(const char *path)
 {
     enum { ASLEEP = 3 };
     begin(path, ASLEEP);
     sleeps_for_one(IDS);
     sleeps_for_one(IDS + 1);
-    is_killed(0);
-    while (!have_it(IDS - ASLEEP))
-        rest(100);
-    for (int i = IDS - ASLEEP; i < IDS + 2; i++)
-        if (!is_done(i, 1))
-            until_asleep(process[i]);
-    SAME(have_it(IDS - ASLEEP), 1);
-    CHECK(!is_done(IDS, 1) && !is_done(IDS + 1, 1));
+    an_id_is_free(ASLEEP);
     atomic_store(&part[20].order, LEAVE);
     until_done(IDS, 1);
     until_done(IDS + 1, 1);
+    end(path);
+}
+
+/* Nobody knows of one id, as above. The death of a thread is told to one who waits for an id, and takes that one;
+ * another one sleeps on the dead thread's mutex. */
+static void one_who_need_not_know(const char *path)
+{
+    enum { ASLEEP = 3, SLEEPER = 40 };
+    dead_one = 20;
+    begin(path, ASLEEP);
+    sleeps_for_one(IDS);
+    atomic_store(&part[SLEEPER].order, SLEEP_FOR_A_DEAD_ONES);
+    while (atomic_load(&part[SLEEPER].order) != STAY)
+        rest(100);
+    until_asleep(process[SLEEPER]);
+    an_id_is_free(ASLEEP);
+    is_killed(dead_one);
+    until_done(IDS, 1);
+    until_done(SLEEPER, 2);
     end(path);
 }
 
@@ -323,6 +351,7 @@ int main(int argc, char **argv)
     who_is_woken_dies(path);
     a_giver_dies(path);
     one_more_is_free(path);
+    one_who_need_not_know(path);
     who_had_to_wait_dies(path);
     puts("ids: each who waited for one had one");
     return 0;
