@@ -556,6 +556,22 @@ static void as_often_as_can_be(void)
     unlink(file("often"));
 }
 
+/* Its bytes were spoiled: they name a mutex that there isn't, or that nobody has made. */
+static void a_number_that_none_has(void)
+{
+    static const uint32_t numbers[] = {5000, MOST, UINT32_MAX};
+    pthread_mutex_t *m = map(file("number"), 1);
+    SAME(init(m), 0);
+    for (size_t i = 0; i < sizeof numbers / sizeof *numbers; i++) {
+        *(uint32_t *)m = numbers[i];
+        SAME(pthread_mutex_lock(m), EINVAL);
+        SAME(pthread_mutex_trylock(m), EINVAL);
+        SAME(pthread_mutex_unlock(m), EINVAL);
+        SAME(pthread_mutex_destroy(m), EINVAL);
+    }
+    unlink(file("number"));
+}
+
 /* ---- More threads than ids. */
 static pthread_mutex_t *crowd;
 static long count;
@@ -1301,6 +1317,19 @@ static void maps_and_becomes_another(void)
     SAME(pthread_mutex_unlock(m), 0);
 }
 
+/* One that it has used before it has once, as before. */
+static void uses_and_becomes_another(void)
+{
+    char companion[600];
+    pthread_mutex_t *m = map(mapped_path, 1);
+    strcpy(companion, companion_of(mapped_path));
+    SAME(pthread_mutex_lock(m), 0);
+    SAME(mapped_of(companion), 1);
+    CHECK(setuid(NOBODY - 1) == 0);
+    SAME(mapped_of(companion), 1);
+    SAME(pthread_mutex_unlock(m), 0);
+}
+
 static void makes_a_strangers(void) { SAME(comes(file("own"), 0, "init", 1), 0); }
 
 static void a_user_who_was_root(void)
@@ -1311,6 +1340,7 @@ static void a_user_who_was_root(void)
     SAME(comes(mapped_path, 0, "init", 1), 0);
     for (becomes = 0; becomes < 3; becomes++)
         in_child(maps_and_becomes_another);
+    in_child(uses_and_becomes_another);
     unlink(mapped_path);
     mapped_path = file("own");
     as_another_user(makes_a_strangers);
@@ -1455,6 +1485,7 @@ int main(int argc, char **argv)
     in_child(errno_stays);
     in_child(cancelled_later);
     in_child(as_often_as_can_be);
+    in_child(a_number_that_none_has);
     more_threads_than_ids();
     in_child(first_openers_are_killed);
     in_child(as_many_as_there_are);

@@ -7,7 +7,7 @@
 #include <sys/stat.h>
 
 enum { IDS = 64, WAITERS = 4, ALL = IDS + WAITERS, FIRST = 30 }; /* its mutexes are of the second bank */
-enum order { STAY, UNLOCK, TAKE_A_DEAD_ONES, SLEEP_FOR_A_DEAD_ONES, LEAVE };
+enum order { STAY, UNLOCK, TRY_A_BUSY_ONE, TAKE_A_DEAD_ONES, SLEEP_FOR_A_DEAD_ONES, LEAVE };
 enum moment { ASKING, ASKED, NO_ID, GIVING, MOMENTS };
 enum at_moment { GO_ON, STOP, DIE };
 
@@ -36,6 +36,9 @@ static void do_as_told(struct part *p)
     switch (atomic_exchange(&p->order, STAY)) {
     case UNLOCK:
         SAME(pthread_mutex_unlock(&m[its]), 0);
+        break;
+    case TRY_A_BUSY_ONE:
+        SAME(pthread_mutex_trylock(&m[0]), EBUSY);
         break;
     case TAKE_A_DEAD_ONES:
         SAME(pthread_mutex_trylock(&m[dead_one]), EOWNERDEAD);
@@ -187,6 +190,18 @@ static void an_id_comes_and_goes_before_the_sleep(const char *path)
     kill(process[IDS], SIGCONT);
     until_asleep(process[IDS]);
     tell(1, UNLOCK);
+    until_done(IDS, 1);
+    end(path);
+}
+
+/* One of the last ids is given back by who was refused, as it owns nothing. */
+static void who_is_refused_keeps_none(const char *path)
+{
+    enum { REFUSED = 40 };
+    begin(path, 0);
+    tell(REFUSED, UNLOCK);
+    tell(REFUSED, TRY_A_BUSY_ONE);
+    comes(IDS);
     until_done(IDS, 1);
     end(path);
 }
@@ -346,6 +361,7 @@ int main(int argc, char **argv)
     an_id_comes_before_the_sleep(path, 0);
     an_id_comes_before_the_sleep(path, 1);
     an_id_comes_and_goes_before_the_sleep(path);
+    who_is_refused_keeps_none(path);
     a_keeper_is_asked(path);
     a_giver_wakes(path);
     who_is_woken_dies(path);
