@@ -3,6 +3,7 @@
  * the first to open the file after a reboot. (The words are written by hand, as a death at the worst moment leaves
  * them.) */
 #include "driver.h"
+#include "plans.h"
 #include "try.h"
 
 enum { NOBODYS = 60 };
@@ -54,6 +55,7 @@ static void one_is_killed(void)
     atomic_store(its_sleepers[1], bit_of(id));
     kill_and_wait(it);
     SAME(pz_reap(p), 1);
+    SAME(pz_thread_id(p), 0);
     all_are_clean();
     pz_close(p);
 }
@@ -73,6 +75,33 @@ static void one_is_made_anew(void)
     pz_close(p);
 }
 
+/* Whoever makes an unusable mutex free takes no part in the file. */
+static void one_takes_no_part(void)
+{
+    open_new();
+    atomic_store(&p->words[cell_place(0)], UNUSABLE | WAITERS);
+    SAME(pz_mutex_reinit(p, 0), 0);
+    SAME(pz_thread_id(p), 0);
+    SAME(pz_mutex_lock(p, 0), 0);
+    pz_close(p);
+}
+
+/* Who waits for an owner that there isn't, or for itself, as a word says that was spoiled, sleeps. */
+static void one_owner_is_a_stray(uint32_t owner)
+{
+    open_new();
+    atomic_store(&p->words[cell_place(0)], owner);
+    pid_t it = a_child();
+    if (!it)
+        _exit(pz_mutex_lock(p, 0));
+    while (!sleeps(it) || !atomic_load(its_sleepers[0]))
+        CHECK(waitpid(it, NULL, WNOHANG) == 0);
+    until_asleep(it);
+    CHECK(waitpid(it, NULL, WNOHANG) == 0);
+    kill_and_wait(it);
+    pz_close(p);
+}
+
 /* A broadcast has noted it that looked while the id was another's. */
 static void one_leaves(void)
 {
@@ -83,6 +112,17 @@ static void one_leaves(void)
     SAME(pz_thread_end(p), 0);
     SAME(pz_mutex_reinit(p, 0), 0);
     all_are_clean();
+    pz_close(p);
+}
+
+/* Who saw a thread dead tries its id, which somebody else has freed meanwhile: it stays free. */
+static void one_is_reaped_already(void)
+{
+    struct pz_info info;
+    open_new();
+    SAME((int)pz_reap_one(p, NOBODYS), GONE);
+    SAME(pz_info(p, &info), 0);
+    SAME(info.thread[NOBODYS].life, PZ_ID_FREE);
     pz_close(p);
 }
 
@@ -106,7 +146,11 @@ int main(void)
     alarm(100);
     one_is_killed();
     one_is_made_anew();
+    one_takes_no_part();
+    one_owner_is_a_stray(THREADS + 1);
+    one_owner_is_a_stray((uint32_t)OWNED);
     one_leaves();
+    one_is_reaped_already();
     a_reboot();
     unlink(a_file("left"));
     puts("left: taken back each time");
