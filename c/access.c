@@ -55,15 +55,14 @@ static uint32_t wake(const pz *p, const struct pz_access *x, uint64_t *value, in
     return PZ_COUNT;
 }
 
-/* Whoever is moved sleeps on the other word then, so has its bit there before. */
+/* Whoever is moved sleeps on the other word then, so has its bit there before. (That is the cell of the call itself,
+ * and was read from no word.) */
 static uint32_t requeue(const pz *p, const struct pz_access *x, uint64_t *value)
 {
     *value = 0;
     uint64_t who = SEE(sleepers(p, x->at));
     if (!who)
         return PZ_COUNTS;
-    if (!is_there(p, x->b))
-        return PZ_FAULT;
     OR(sleepers(p, x->b), who);
     long n = futex(&p->words[x->at], FUTEX_CMP_REQUEUE, x->wakes, x->most, &p->words[x->b], (uint32_t)x->a);
     if (n < 0)

@@ -1,33 +1,12 @@
 /* The calls: each runs its step program, or a plan of it where nobody is in the way. */
 #include "plans.h"
+#include "replies.h"
+#include "steps/rows.h"
 #include <errno.h>
 #include <string.h>
 #include <sys/syscall.h>
 #include <time.h>
 #include <unistd.h>
-
-/* Where a call goes on by its steps whose last access was made by a plan (Codings.antt in crates/mutex/specs and
- * crates/condvar/specs). */
-enum { AT_LOCK_TAKE = 17, AT_TRYLOCK_TAKE = 22, AT_RELEASE = 24 };
-enum { ON_CONDITION = 4, AT_SIGNAL_COUNT = 8, AT_BROADCAST_SET_WAITERS = 13 };
-
-static int number_of(uint32_t reply)
-{
-    switch (reply) {
-    case PZ_X_NOMEM:
-        return ENOMEM;
-    case PZ_X_RACED: /* lost four races: others are at it */
-        return EBUSY;
-    case PZ_X_HELD:
-        return EAGAIN;
-    case PZ_X_FULL:
-        return EOVERFLOW;
-    case PZ_X_STATE:
-        return EINVAL;
-    default:
-        return (int)reply;
-    }
-}
 
 /* ---- By steps. */
 
@@ -44,15 +23,6 @@ static uint32_t answer_of(pz *p, unsigned t, const struct pz_access *x, uint64_t
     return answer;
 }
 
-static void tell(unsigned t, const struct pz_call *call, const struct pz_access *x, uint32_t state)
-{
-    (void)t, (void)call, (void)x, (void)state;
-    if (x->point != PZ_NO_POINT)
-        PZ_TELL(pz_trace_point(t, x->operation, mutex_at(call->cell), x->point));
-    if (state == PZ_RETURNED)
-        PZ_TELL(pz_trace_return(t, call->phase.lock.reply));
-}
-
 /* Goes on with an answer until the call has returned. Out of line: it is the slow path. errno stays what it was. */
 static __attribute__((noinline)) uint32_t run_on(pz *p, unsigned t, struct pz_call *call, uint32_t answer,
                                                  uint64_t value)
@@ -61,13 +31,13 @@ static __attribute__((noinline)) uint32_t run_on(pz *p, unsigned t, struct pz_ca
     uint32_t state;
     int saved = errno;
     while ((state = pz_step(call, &x, answer, value)) == PZ_GOES) {
-        tell(t, call, &x, state);
+        PZ_TELL(pz_trace_step(call, &x, state));
         pz_trace_unlock();
         pz_trace_lock();
         answer = answer_of(p, t, &x, &value);
     }
     if (state == PZ_RETURNED)
-        tell(t, call, &x, state);
+        PZ_TELL(pz_trace_step(call, &x, state));
     pz_disinherit(p, t, call->cell);
     errno = saved;
     return state == PZ_RETURNED ? call->phase.lock.reply : EINVAL;
@@ -82,12 +52,10 @@ static __attribute__((noinline)) uint32_t run(pz *p, struct pz_call *call, unsig
     pz_trace_lock();
     PZ_TELL(pz_trace_begin(t, operation, mutex_at(call->cell), c));
     uint32_t reply = EINVAL;
-    int saved = errno;
     if (pz_begin(call, &x, operation) == PZ_GOES) {
-        uint32_t answer = answer_of(p, t, &x, &value);
+        uint32_t answer = answer_of(p, t, &x, &value); /* no call begins with a sleep */
         reply = run_on(p, t, call, answer, value);
     }
-    errno = saved;
     pz_trace_unlock();
     return reply;
 }
@@ -120,7 +88,7 @@ static int counted(pz *p, unsigned m, unsigned operation, uint32_t reply)
         ++*held;
     else if (operation == PZ_OP_UNLOCK && reply == 0)
         --*held;
-    return number_of(reply);
+    return answer_to(reply);
 }
 
 /* By its steps: what isn't as the ways below want it. */
@@ -149,7 +117,7 @@ int pz_lost(pz *p, unsigned m, unsigned operation, uint64_t seen, uint64_t found
     struct self *self = &pz_self[p->number];
     struct pz_call call = call_of(self->id, cell_place(m));
     call.program = (uint8_t)operation;
-    call.phase.lock = (struct pz_phase){.kind = operation == PZ_OP_LOCK ? AT_LOCK_TAKE : AT_TRYLOCK_TAKE, .x = seen};
+    call.phase.lock = (struct pz_phase){.kind = operation == PZ_OP_LOCK ? LOCK_TAKE : TRY_TAKE, .x = seen};
     return counted(p, m, operation, run_on(p, self->id, &call, PZ_CHANGED, found));
 }
 
@@ -158,7 +126,7 @@ static int released(pz *p, unsigned m, uint64_t found)
     struct self *self = &pz_self[p->number];
     struct pz_call call = call_of(self->id, cell_place(m));
     call.program = PZ_OP_UNLOCK;
-    call.phase.lock = (struct pz_phase){.kind = AT_RELEASE};
+    call.phase.lock = (struct pz_phase){.kind = UNLOCK_RELEASE};
     return counted(p, m, PZ_OP_UNLOCK, run_on(p, self->id, &call, PZ_VALUE, found));
 }
 
@@ -299,9 +267,9 @@ static struct pz_call cond_call_of(const pz *p, unsigned t, unsigned c)
     return call;
 }
 
-/* By the mutex's owner: nobody else counts. Where nobody has a bit, nobody sleeps there, and no wait has loaded the counter
- * and is still to sleep, as its bit is set before it releases the mutex. So no signal is missed (`Recount`, an event of
- * the machine in crates/protocol). */
+/* By the mutex's owner: nobody else counts. Where nobody has a bit, nobody sleeps there, and no wait has loaded the
+ * counter and is still to sleep, as its bit is set before it releases the mutex. So no signal is missed (`Recount`, an
+ * event of the machine in crates/protocol). */
 uint64_t pz_begin_again(word *counter, uint64_t count)
 {
     return !SEE(counter + 3) && EXCHANGE(counter, &count, 0) ? 0 : count;
@@ -336,7 +304,7 @@ int pz_cond_by_steps(pz *p, unsigned c, unsigned operation)
         pz_awake(p, t, call.counter); /* it may have been refused */
         pz_awake(p, t, p->cell_of[c]);
     }
-    return number_of(reply);
+    return answer_to(reply);
 }
 
 /* Whose count, and a broadcast's WAITERS, are made, and who found that somebody may sleep. */
@@ -345,9 +313,9 @@ int pz_counted(pz *p, unsigned c, unsigned operation, uint64_t count, uint64_t f
     unsigned t = pz_self[p->number].id;
     struct pz_call call = cond_call_of(p, t, c);
     call.program = ON_CONDITION;
-    call.phase.kind = operation == PZ_OP_SIGNAL ? AT_SIGNAL_COUNT : AT_BROADCAST_SET_WAITERS;
+    call.phase.kind = operation == PZ_OP_SIGNAL ? SIGNAL_COUNT : BROADCAST_SET_WAITERS;
     call.phase.seen = operation == PZ_OP_SIGNAL ? 0 : (uint32_t)count;
-    return number_of(run_on(p, t, &call, PZ_VALUE, found));
+    return answer_to(run_on(p, t, &call, PZ_VALUE, found));
 }
 
 int pz_cond_wait(pz *p, unsigned c) { return pz_cond_by_steps(p, c, PZ_OP_WAIT); }

@@ -7,10 +7,6 @@
 #include <pthread.h>
 #include <stdatomic.h>
 
-/* Built with PZ_TRACE=1 the driver tells what it does, as a trace that `rfx check` judges (trace.c). */
-#ifndef PZ_TRACE
-#define PZ_TRACE 0
-#endif
 /* For how many microseconds the heir of a mutex pauses before it naps, at most; some more, so that a look comes last.
  */
 #ifndef PZ_SPIN
@@ -34,6 +30,9 @@
 #endif
 #ifndef PZ_BETWEEN
 #define PZ_BETWEEN() ((void)0)
+#endif
+#ifndef PZ_AT
+#define PZ_AT(moment) ((void)0)
 #endif
 
 enum { THREADS = PZ_THREADS, LINE = 8, HELD = 2048, FILES = PZ_FILES, MOST_MUTEXES = 4096, MOST_CONDS = 256 };
@@ -191,24 +190,5 @@ int pz_ready_for_forks(void);
 size_t pz_size_in(unsigned mutexes);
 int pz_open_in(void *memory, int whole, unsigned mutexes, pz **out);
 
-/* ---- trace.c */
-#if PZ_TRACE
-void pz_trace_lock(void);
-void pz_trace_unlock(void);
-void pz_trace_begin(unsigned t, unsigned operation, unsigned m, int c);
-void pz_trace_point(unsigned t, unsigned operation, unsigned m, unsigned reply);
-void pz_trace_sleep(const pz *p, unsigned t, uint64_t at);
-void pz_trace_wake(unsigned t);
-void pz_trace_return(unsigned t, unsigned reply);
-void pz_trace_reinit(unsigned t, unsigned m);
-void pz_trace_death(unsigned t, unsigned m);
-void pz_trace_reaped(unsigned t);
-void pz_trace_leave(unsigned t);
-void pz_trace_life(unsigned t);
-#define PZ_TELL(call) (call)
-#else
-#define PZ_TELL(call) ((void)0)
-static inline void pz_trace_lock(void) {}
-static inline void pz_trace_unlock(void) {}
-#endif
+#include "trace.h"
 #endif

@@ -352,6 +352,7 @@ static pz *new_one(int of_memory)
     if (!p)
         return calloc(1, sizeof *p);
     memset(p, 0, sizeof *p);
+    PZ_AT(used_again);
     return p;
 }
 

@@ -26,7 +26,8 @@ static enum pz_life life_of(enum fate fate)
     }
 }
 
-/* The number is that of the thread whose life it says: of no other one that had the id before or has it behind. */
+/* The number is that of the thread whose life it says: of no other one that had the id before or has it behind. (It is
+ * 0 before an id is free.) */
 static struct pz_thread thread_of(pz *p, unsigned t)
 {
     enum fate fate;
@@ -35,7 +36,7 @@ static struct pz_thread thread_of(pz *p, unsigned t)
         fate = pz_fate(p, t);
         tid = atomic_load(&p->life[t].tid);
     } while (pz_fate(p, t) != fate || atomic_load(&p->life[t].tid) != tid);
-    return (struct pz_thread){fate == GONE ? 0 : (pid_t)tid, life_of(fate)};
+    return (struct pz_thread){(pid_t)tid, life_of(fate)};
 }
 
 int pz_info(pz *p, struct pz_info *info)

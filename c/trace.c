@@ -1,11 +1,11 @@
 /* What the driver does, told as a trace that `rfx check` judges (docs/FORMATS.md): only where it is built with
  * PZ_TRACE=1. An access and the lines that tell of it are made under one lock, and whoever kills a thread takes that
  * lock too: so nobody dies between the two. */
-#include "trace.h"
-#include <pthread.h>
+#define PZ_TRACE 1
+#include "driver.h"
+#include "replies.h"
 #include <signal.h>
 #include <stdarg.h>
-#include <stdio.h>
 #include <stdlib.h>
 #include <sys/mman.h>
 #include <sys/wait.h>
@@ -21,31 +21,17 @@ struct trace {
 };
 static struct trace *trace;
 
-static const char *const operations[] = {"lock", "trylock", "unlock",    "consistent",
-                                         "wait", "signal",  "broadcast", "death"};
+static const char *const operations[] = {
+    [PZ_OP_LOCK] = "lock",           [PZ_OP_TRYLOCK] = "trylock",
+    [PZ_OP_UNLOCK] = "unlock",       [PZ_OP_CONSISTENT] = "consistent",
+    [PZ_OP_WAIT] = "wait",           [PZ_OP_SIGNAL] = "signal",
+    [PZ_OP_BROADCAST] = "broadcast", [PZ_OP_DEATH] = "death",
+};
 
 static const char *word_of(unsigned reply)
 {
-    static const struct {
-        unsigned number;
-        const char *word;
-    } replies[] = {{0, "OK"},
-                   {1, "EPERM"},
-                   {3, "ESRCH"},
-                   {11, "EAGAIN"},
-                   {14, "EFAULT"},
-                   {16, "EBUSY"},
-                   {22, "EINVAL"},
-                   {35, "EDEADLK"},
-                   {130, "EOWNERDEAD"},
-                   {131, "ENOTRECOVERABLE"},
-                   {PZ_X_NOMEM, "X_NOMEM"},
-                   {PZ_X_RACED, "X_RACED"},
-                   {PZ_X_HELD, "X_HELD"},
-                   {PZ_X_FULL, "X_FULL"},
-                   {PZ_X_STATE, "X_STATE"}};
-    for (size_t i = 0; i < sizeof replies / sizeof *replies; i++)
-        if (replies[i].number == reply)
+    for (size_t i = 0; i < REPLIES; i++)
+        if (replies[i].reply == reply)
             return replies[i].word;
     return "?";
 }
@@ -110,9 +96,14 @@ void pz_trace_begin(unsigned t, unsigned operation, unsigned m, int c)
         tell("begin t%u %s c%d m%u\n", t, operations[operation], c, m);
 }
 
-void pz_trace_point(unsigned t, unsigned operation, unsigned m, unsigned reply)
+/* The point that the last answer decided, and the call's end. */
+void pz_trace_step(const struct pz_call *call, const struct pz_access *x, uint32_t state)
 {
-    tell("point t%u m%u %s %s\n", t, m, operations[operation], word_of(reply));
+    unsigned t = call->thread;
+    if (x->point != PZ_NO_POINT)
+        tell("point t%u m%u %s %s\n", t, mutex_at(call->cell), operations[x->operation], word_of(x->point));
+    if (state == PZ_RETURNED)
+        tell("return t%u %s\n", t, word_of(call->phase.lock.reply));
 }
 
 void pz_trace_sleep(const pz *p, unsigned t, uint64_t at)
@@ -124,7 +115,6 @@ void pz_trace_sleep(const pz *p, unsigned t, uint64_t at)
 }
 
 void pz_trace_wake(unsigned t) { tell("wake t%u\n", t); }
-void pz_trace_return(unsigned t, unsigned reply) { tell("return t%u %s\n", t, word_of(reply)); }
 
 /* No call of the steps: a thread in no call made an unusable mutex free. */
 void pz_trace_reinit(unsigned t, unsigned m)

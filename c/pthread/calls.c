@@ -27,7 +27,7 @@ static struct companion *entered(uint64_t nonce)
     struct companion *c = sh_find(nonce);
     if (!c)
         return NULL;
-    PZ_ENTERING();
+    PZ_AT(entering);
     sh_enter(c);
     if (atomic_load(&c->nonce) == nonce)
         return c;
@@ -156,12 +156,9 @@ static int consistent(struct mutex *x)
 
 static int destroy(struct mutex *x)
 {
-    int state;
-    pthread_setcancelstate(PTHREAD_CANCEL_DISABLE, &state);
     sh_lock_table(x->c);
     int r = sh_give_number(x->c, x->bytes);
     sh_unlock_table(x->c);
-    pthread_setcancelstate(state, NULL);
     return r;
 }
 
@@ -171,7 +168,7 @@ static __attribute__((noinline)) int kept(int (*call)(struct mutex *), struct ou
     struct mutex x;
     int saved = errno, r = find(o, &x);
     if (!r) {
-        PZ_FOUND();
+        PZ_AT(found);
         r = call(&x);
         sh_leave(x.c);
     }
@@ -270,6 +267,7 @@ static inline int at_hand(struct ours *o, struct mutex *x)
     if (x->bank >= BANKS || atomic_load_explicit(&x->c->nonce, memory_order_acquire) != o->nonce)
         return 0;
     x->p = atomic_load_explicit(&x->c->bank[x->bank], memory_order_acquire);
+    PZ_AT(at_hand);
     if (!x->p || !pz_self[x->p->number].id)
         return 0;
     atomic_thread_fence(memory_order_acquire);

@@ -59,13 +59,13 @@ static void unmap(struct companion *c)
  * again by now.) */
 static int let_go(struct companion *c)
 {
-    PZ_LETTING_GO();
+    PZ_AT(letting_go);
     uint64_t nonce = atomic_exchange(&c->nonce, 0);
     if (atomic_load(&c->calls) || !is_idle(c)) {
         atomic_store(&c->nonce, nonce);
         return 0;
     }
-    PZ_LETTING_GO();
+    PZ_AT(letting_go);
     atomic_fetch_add(&c->turns, 1);
     for (unsigned k = 0; k < BANKS; k++) {
         pz *p = atomic_exchange(&c->bank[k], NULL);

@@ -56,11 +56,13 @@ static long wake_one(_Atomic uint32_t *returned)
 static int wait_for_id(struct companion *c, unsigned bank, pz *p)
 {
     _Atomic uint32_t *returned = &c->table->ids[bank].returned;
+    PZ_AT(asking);
     uint32_t seen = atomic_load(returned);
     sh_ask_for_id(c, bank);
+    PZ_AT(asked);
     int r = sh_borrow_now(p);
     if (r == EAGAIN) {
-        PZ_NO_ID();
+        PZ_AT(no_id);
         pz_sleep_for_id(p, returned, seen);
     } else if (!r) {
         sh_ask_for_id(c, bank); /* others may wait still, */
@@ -87,8 +89,11 @@ void sh_give_back(struct companion *c, unsigned bank, pz *p)
     atomic_fetch_add(&p->users, 1);
     _Atomic uint32_t *wanted = &c->table->ids[bank].wanted, *returned = &c->table->ids[bank].returned;
     pz_give_back(p);
-    if (atomic_load(wanted) && atomic_exchange(wanted, 0) && wake_one(returned) > 0)
-        atomic_store(wanted, 1); /* others may wait behind that one */
+    if (atomic_load(wanted) && atomic_exchange(wanted, 0)) {
+        PZ_AT(giving);
+        if (wake_one(returned) > 0)
+            atomic_store(wanted, 1); /* others may wait behind that one */
+    }
     pz_let_go(p);
     errno = saved;
 }

@@ -47,8 +47,8 @@ static int grow(struct companion *c)
     return 0;
 }
 
-/* A dead owner's is taken and declared, so an id may be needed. It isn't waited for: the table's lock is held, and those
- * who have the ids may want that. */
+/* A dead owner's is taken and declared, so an id may be needed. It isn't waited for: the table's lock is held, and
+ * those who have the ids may want that. */
 static int reinit(struct companion *c, unsigned bank, unsigned m)
 {
     pz *p = bank_in(c, bank);

@@ -413,11 +413,11 @@ static int is_gone(const struct table *t)
     int r = look_at_boot(t);
     if (r)
         return r == EINVAL;
-    if (t->namespace != namespace() || t->path[0] != '/')
+    if (t->namespace != namespace() || t->path[0] != '/' || !memchr(t->path, 0, sizeof t->path))
         return 0;
     if (!strncmp(t->path, "/SYSV", 5))
         return shmctl((int)t->ino, IPC_STAT, &ds) < 0 && (errno == EINVAL || errno == EIDRM);
-    size_t n = strnlen(t->path, sizeof t->path), tail = sizeof DELETED - 1;
+    size_t n = strlen(t->path), tail = sizeof DELETED - 1;
     if (n > tail && !memcmp(t->path + n - tail, DELETED, tail))
         return 1;
     return stat(t->path, &st) < 0 ? errno == ENOENT || errno == ENOTDIR : st.st_ino != t->ino;

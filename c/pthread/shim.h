@@ -7,21 +7,6 @@
 #include <sys/types.h>
 #include <time.h>
 
-/* Tries stop who lets a companion go, who is about to say that it has found one, and who has; and who is about to sleep
- * for an id. */
-#ifndef PZ_LETTING_GO
-#define PZ_LETTING_GO() ((void)0)
-#endif
-#ifndef PZ_ENTERING
-#define PZ_ENTERING() ((void)0)
-#endif
-#ifndef PZ_FOUND
-#define PZ_FOUND() ((void)0)
-#endif
-#ifndef PZ_NO_ID
-#define PZ_NO_ID() ((void)0)
-#endif
-
 /* ---- The bytes of a mutex, 40 or 48, name it. `kind` stands where the C library has the type, and is none of its
  * types, so a process without the shim is told EINVAL: its low 7 bits are none that it lists, and have neither the bit
  * of a robust nor of a priority's mutex. A nonce is even, and not 0 in its high half, so that its consistent and its

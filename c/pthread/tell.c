@@ -12,23 +12,24 @@
 #include <sys/stat.h>
 #include <unistd.h>
 
-static const char *reason(int why)
+static const struct {
+    int why;
+    const char *says;
+} reasons[] = {
+    {EINVAL,
+     "it has no companion here (another PAZDRIG_DIR, or an earlier boot?), and only pthread_mutex_init makes one"},
+    {EPERM, "its companion may not be opened, or was made by somebody who may not write the file that it is of"},
+    {EACCES, "this user's folder of companions can't be made"},
+    {EPROTO, "its companion is of another version's format"},
+    {EAGAIN, "there is no room for more mutexes, or for more objects that have some"},
+};
+
+static const char *reason(int why, char unlisted[64])
 {
-    switch (why) {
-    case EINVAL:
-        return "it has no companion here (another PAZDRIG_DIR, or an earlier boot?), and only pthread_mutex_init makes "
-               "one";
-    case EPERM:
-        return "its companion may not be opened, or was made by somebody who may not write the file that it is of";
-    case EACCES:
-        return "this user's folder of companions can't be made";
-    case EPROTO:
-        return "its companion is of another version's format";
-    case EAGAIN:
-        return "there is no room for more mutexes, or for more objects that have some";
-    default:
-        return NULL;
-    }
+    for (size_t i = 0; i < sizeof reasons / sizeof *reasons; i++)
+        if (reasons[i].why == why)
+            return reasons[i].says;
+    return strerror_r(why, unlisted, 64);
 }
 
 /* To a pipe that nobody reads any more: the signal of that is taken away again, unless it was pending before. */
@@ -64,6 +65,6 @@ void sh_tell(const struct object *o, int why)
     if (secure_getenv("PAZDRIG_QUIET") || atomic_exchange(&told, 1))
         return;
     int n = snprintf(line, sizeof line, "libpazdrig_pthread.so: a mutex in %.*s can't be used: %s\n", PATHS, o->path,
-                     reason(why) ? reason(why) : strerror_r(why, unlisted, sizeof unlisted));
+                     reason(why, unlisted));
     put(line, (size_t)n);
 }

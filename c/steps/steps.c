@@ -4,6 +4,7 @@
  * function answers what the proved one answers, and writes what it writes, for every input. Here are no plans: plans.h
  * writes them out. */
 #include "pz_steps.h"
+#include "rows.h"
 #include <errno.h>
 
 /* Ids of threads; how many entries of a list a walk loads, how many exchanges a trylock makes, how many are woken as
@@ -12,57 +13,6 @@ enum { THREADS = 64, HELD = 2048, RACES = 4, ALL = 64 };
 
 /* The cell: an owner, and three marks. */
 static const uint64_t OWNER = 0x3fffffff, OWNER_DIED = 0x40000000, WAITERS = 0x80000000, UNUSABLE = 0x100000000;
-
-/* Where a call on a mutex stands. */
-enum {
-    ENDED,
-    CLEARING,
-    LINK_LOAD_FIRST,
-    LINK_STORE_NEXT,
-    LINK_STORE_PREVIOUS,
-    LINK_STORE_BEHIND,
-    LINK_STORE_FIRST,
-    UNLINK_LOAD_NEXT,
-    UNLINK_LOAD_PREVIOUS,
-    UNLINK_STORE_NEXT,
-    UNLINK_STORE_PREVIOUS,
-    LOCK_LOAD = 16,
-    LOCK_TAKE,
-    LOCK_SET_WAITERS,
-    LOCK_SLEEP,
-    LOCK_WAKE_ALL,
-    TRY_LOAD,
-    TRY_TAKE,
-    UNLOCK_LOAD,
-    UNLOCK_RELEASE,
-    UNLOCK_WAKE,
-    UNLOCK_TRIM,
-    CONSISTENT_LOAD,
-    CONSISTENT_DECLARE,
-    ANNOUNCING = 32 /* and the row of the cell that comes next */
-};
-
-/* Where a call on a condition variable stands; `program` says that it is one. */
-enum {
-    WAIT_LOAD_CELL = 1,
-    WAIT_LOAD_COUNTER,
-    WAIT_RELEASE,
-    WAIT_WAKE,
-    WAIT_SLEEP,
-    SIGNAL_LOAD_CELL,
-    SIGNAL_LOAD_COUNTER,
-    SIGNAL_COUNT,
-    SIGNAL_WAKE,
-    BROADCAST_LOAD_CELL,
-    BROADCAST_LOAD_COUNTER,
-    BROADCAST_COUNT,
-    BROADCAST_SET_WAITERS,
-    BROADCAST_MOVE,
-    WAIT_ANNOUNCING,
-    WAIT_UNLINKING, /* four rows, in the order of UNLINK_LOAD_NEXT and the others */
-    WAIT_LOCKING = 20
-};
-enum { ON_CONDITION = 4 };
 
 /* Where a walk stands. */
 enum {

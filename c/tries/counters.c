@@ -1,5 +1,5 @@
-/* A condition variable's counter begins again where nobody waits, whatever it was, and nowhere else: beside a waiter that is
- * asleep, one that has released the mutex and isn't asleep yet, and one that was killed, it counts on. */
+/* A condition variable's counter begins again where nobody waits, whatever it was, and nowhere else: beside a waiter
+ * that is asleep, one that has released the mutex and isn't asleep yet, and one that was killed, it counts on. */
 #include "driver.h"
 #include "plans.h"
 #include "try.h"

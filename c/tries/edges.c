@@ -592,10 +592,29 @@ static void two_reapers(void)
     pz_close(p);
 }
 
+/* The process has no key left (pthread_key_create(3)), by which ends of threads are told. */
+static void no_key_is_left(void)
+{
+    int status;
+    pid_t child = a_child();
+    if (!child) {
+        pthread_key_t key;
+        pz *p = open_new("keys", 1, 0);
+        while (pthread_key_create(&key, NULL) == 0)
+            continue;
+        SAME(pz_thread_begin(p), ENOMEM);
+        SAME(pz_mutex_lock(p, 0), ENOMEM);
+        SAME(pz_thread_id(p), 0);
+        _exit(0);
+    }
+    CHECK(waitpid(child, &status, 0) == child && status == 0);
+}
+
 int main(void)
 {
     alarm(120);
     CHECK(!pthread_atfork(NULL, NULL, in_the_child));
+    no_key_is_left();
     calls_and_refusals();
     an_owner_dies();
     who_owns_and_who_lives();

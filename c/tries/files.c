@@ -647,6 +647,62 @@ static void a_pool(void)
     unlink(another);
 }
 
+/* Who takes part in a file that another thread has closed leaves it as it opens another one. */
+struct closed {
+    pz *file;
+    const char *path;
+    pthread_barrier_t both;
+};
+static void *opens_another(void *of)
+{
+    struct closed *c = of;
+    const char *another = a_file("another");
+    pz *p;
+    SAME(pz_thread_begin(c->file), 0);
+    pthread_barrier_wait(&c->both);
+    pthread_barrier_wait(&c->both);
+    CHECK(is_mapped(c->path));
+    SAME(pz_open(another, 0600, 1, 0, NULL, 0, &p), 0);
+    CHECK(!is_mapped(c->path));
+    pz_close(p);
+    unlink(another);
+    return NULL;
+}
+
+static void a_closed_file(void)
+{
+    struct closed c = {.path = a_file("closed")};
+    pthread_t thread;
+    CHECK(!pthread_barrier_init(&c.both, NULL, 2));
+    SAME(pz_open(c.path, 0600, 1, 0, NULL, 0, &c.file), 0);
+    CHECK(!pthread_create(&thread, NULL, opens_another, &c));
+    pthread_barrier_wait(&c.both);
+    pz_close(c.file);
+    pthread_barrier_wait(&c.both);
+    CHECK(!pthread_join(thread, NULL));
+    unlink(c.path);
+}
+
+/* A child counts as having opened it itself, whoever takes part in it in its parent. */
+static void a_child_closes(void)
+{
+    const char *path = a_file("forked");
+    pz *p;
+    int status;
+    SAME(pz_open(path, 0600, 1, 0, NULL, 0, &p), 0);
+    SAME(pz_thread_begin(p), 0);
+    pid_t child = a_child();
+    if (!child) {
+        CHECK(is_mapped(path));
+        pz_close(p);
+        _exit(is_mapped(path));
+    }
+    CHECK(waitpid(child, &status, 0) == child && status == 0);
+    pz_close(p);
+    CHECK(!is_mapped(path));
+    unlink(path);
+}
+
 /* Refused, as its condition variable is to be of another mutex than it is, and left as it was. */
 static void is_left_as_it_is(const char *path)
 {
@@ -775,6 +831,8 @@ int main(void)
     makers_are_killed();
     sixteen_files();
     a_pool();
+    a_closed_file();
+    a_child_closes();
     a_reboot();
     a_reboot_that_no_token_tells();
     puts("files: each opened, made or refused as it should be");

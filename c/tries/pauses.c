@@ -163,6 +163,24 @@ static void a_dead_owner(void)
     CHECK(reads == 0 && !*sleepers(&file, cell) && !*heir(&file, cell));
 }
 
+/* Naps too end where it dies. */
+static void an_owner_dies_meanwhile(void)
+{
+    begin(DEAD, SELF);
+    long since = heir_since = clock_ns;
+    CHECK(changes_in_a_nap(&file, SELF, cell, DEAD) && clock_ns - since < ALL_NAPS);
+}
+
+/* Whoever sleeps already has it before one that comes. */
+static void who_comes_behind_sleepers(void)
+{
+    begin(OTHER, 0);
+    *sleepers(&file, cell) = bit_of(SELF) | bit_of(64);
+    CHECK(!is_heir(&file, SELF, cell) && !*heir(&file, cell));
+    *sleepers(&file, cell) = bit_of(SELF);
+    CHECK(is_heir(&file, SELF, cell));
+}
+
 /* ---- It falls due. */
 
 static void it_falls_due(void)
@@ -261,6 +279,8 @@ int main(void)
     a_word_that_changes();
     where_many_sleep();
     a_dead_owner();
+    an_owner_dies_meanwhile();
+    who_comes_behind_sleepers();
     it_falls_due();
     it_does_not_come();
     it_comes();

@@ -188,7 +188,7 @@ static void isnt_planned(unsigned t, unsigned operation, uint64_t seen, uint64_t
     }
     CHECK(begins == 0);
     same_changes(&plan, plan.changes);
-    SAME(r, number_of(plan.reply));
+    SAME(r, answer_to(plan.reply));
     refused++;
 }
 
@@ -296,8 +296,8 @@ static int has_plan(struct pz_short *plan, unsigned t, unsigned operation, uint6
                                      : pz_plan_broadcast(plan, (uint8_t)t, cell, counter, seen, count);
 }
 
-/* A signal or a broadcast. What it has to wake or move, its last change, is left to its steps where somebody sleeps; and
- * where nobody does a large counter begins again first. */
+/* A signal or a broadcast. What it has to wake or move, its last change, is left to its steps where somebody sleeps;
+ * and where nobody does a large counter begins again first. */
 static void a_count(unsigned t, unsigned m, unsigned operation, uint64_t seen, uint64_t count, int sleeps)
 {
     struct pz_short plan;

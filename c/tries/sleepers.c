@@ -140,6 +140,15 @@ static void locks_there(void)
     pz_disinherit(&file, SLEEPER, cell);
 }
 
+/* A whole lock by its steps: behind its end it isn't the heir. */
+static void locks_by_its_steps(void)
+{
+    struct pz_call lock = call_of(SLEEPER, cell_place(0));
+    SAME((int)run(&file, &lock, PZ_OP_LOCK, -1), 0);
+    CHECK((*heir(&file, cell_place(0)) & WHO) != SLEEPER);
+    answer = PZ_WOKEN;
+}
+
 static void makes_them(void)
 {
     uint64_t value;
@@ -179,6 +188,7 @@ static void begin_words(void)
     words[cell + 1] = words[cell + 2] = head;
     words[head] = cell + 1;
     words[head + 1] = UINT64_MAX;
+    words[head_place(SLEEPER)] = head_place(SLEEPER);
     words[counter_place(&file, 0)] = 7;
     tokens[OWNER] = TID;
     pz_self[0] = (struct self){.id = OWNER, .held = 1};
@@ -232,6 +242,7 @@ static void on_a_cell(uint64_t cell)
     in_orders(unlocks_twice, locks_there, 0, 0);
     in_orders(unlocks_twice, locks_there, bit_of(DEAD), 0);
     in_orders(unlocks, sleeps_there, bit_of(DEAD), 1);
+    in_orders(unlocks, locks_by_its_steps, 0, 0);
 }
 
 /* A call's wake is left to who is the heir; a walk's is made. */

@@ -9,8 +9,12 @@
 #include <sys/inotify.h>
 #include <sys/mount.h>
 #include <sys/prctl.h>
+#include <stdarg.h>
+#include <sys/ioctl.h>
 #include <sys/shm.h>
 #include <sys/stat.h>
+#include <sys/syscall.h>
+#include <sys/time.h>
 
 enum { OURS = 0x7a61700c, MOST = 32768, IDS = 64 };
 
@@ -18,16 +22,17 @@ static const char *folder, *self;
 
 static int is_ours(const pthread_mutex_t *m) { return m->__data.__kind == OURS; }
 
-static int init(pthread_mutex_t *m)
+static int init_type(pthread_mutex_t *m, int type)
 {
     pthread_mutexattr_t a;
     pthread_mutexattr_init(&a);
     pthread_mutexattr_setpshared(&a, PTHREAD_PROCESS_SHARED);
     pthread_mutexattr_setrobust(&a, PTHREAD_MUTEX_ROBUST);
-    pthread_mutexattr_settype(&a, PTHREAD_MUTEX_ERRORCHECK);
+    pthread_mutexattr_settype(&a, type);
     memset(m, 0, sizeof *m);
     return pthread_mutex_init(m, &a);
 }
+static int init(pthread_mutex_t *m) { return init_type(m, PTHREAD_MUTEX_ERRORCHECK); }
 
 static const char *file(const char *name)
 {
@@ -317,6 +322,24 @@ static void another_format(void)
     unlink(path);
 }
 
+/* Where its object is stands in it without an end, as one may write who may write the object: so nobody can tell, and
+ * it stays. */
+static void a_path_without_an_end(void)
+{
+    enum { AT = 204, SIZE = 3076 }; /* of the path, and of what is behind it in the same struct */
+    const char *path = file("endless");
+    char endless[SIZE];
+    for (int i = 0; i < SIZE; i++)
+        endless[i] = i % 2 ? 'x' : '/';
+    SAME(comes(path, 0, "init", 1), 0);
+    int n = companions(), fd = open(companion_of(path), O_RDWR);
+    CHECK(fd >= 0 && pwrite(fd, endless, SIZE, AT) == SIZE && close(fd) == 0);
+    SAME(comes(path, 0, "lock", 1), 0);
+    SAME(companions(), n);
+    CHECK(unlink(companion_of(path)) == 0);
+    unlink(path);
+}
+
 /* ---- Descriptors are closed: nothing depends on one. */
 static void closes_all(void)
 {
@@ -403,6 +426,150 @@ static void other_memory(void)
     fd = open(file("nameless"), O_RDWR | O_CREAT, 0600);
     CHECK(fd >= 0 && ftruncate(fd, 4096) == 0 && unlink(file("nameless")) == 0);
     dies_with(map_fd(fd, 4096, MAP_SHARED));
+}
+
+/* Before Linux 6.11 the kernel isn't asked for one mapping. */
+static int is_older;
+int ioctl(int fd, unsigned long request, ...)
+{
+    va_list all;
+    va_start(all, request);
+    void *with = va_arg(all, void *);
+    va_end(all);
+    if (is_older)
+        return errno = ENOTTY, -1;
+    return (int)syscall(SYS_ioctl, fd, request, with);
+}
+
+static void on_an_older_kernel(void)
+{
+    is_older = 1;
+    newcomers();
+    private_memory();
+    other_memory();
+    memory_without_a_name();
+}
+
+/* ---- What these functions never do: set errno, or end a thread that is to be cancelled. */
+enum { WAS = 77 };
+static void handle(int number) { (void)number; }
+
+static void owns_for_long(pthread_mutex_t *m)
+{
+    SAME(pthread_mutex_lock(m), 0);
+    for (;;)
+        pause();
+}
+
+/* By a child, which is asleep then. */
+static pid_t an_owner(pthread_mutex_t *m)
+{
+    pid_t it = a_child();
+    if (!it)
+        owns_for_long(m);
+    until_asleep(it);
+    return it;
+}
+
+static struct timespec from_now(long ms)
+{
+    struct timespec t;
+    clock_gettime(CLOCK_REALTIME, &t);
+    long ns = t.tv_nsec + ms * 1000000;
+    return (struct timespec){t.tv_sec + ns / 1000000000, ns % 1000000000};
+}
+
+static void errno_stays(void)
+{
+    const char *path = file("errno"), *missing = file("missing");
+    struct itimerval often = {{0, 2000}, {0, 2000}}, never = {{0, 0}, {0, 0}};
+    pthread_mutex_t *m = map(path, 1), *n = map(missing, 1);
+    SAME(comes(missing, 0, "init", 1), 0);
+    CHECK(unlink(companion_of(missing)) == 0);
+    errno = WAS;
+    SAME(init(m), 0);
+    SAME(errno, WAS);
+    SAME(pthread_mutex_lock(n), EINVAL);
+    SAME(errno, WAS);
+    pid_t it = an_owner(m);
+    struct timespec until = from_now(100);
+    CHECK(!sigaction(SIGALRM, &(struct sigaction){.sa_handler = handle}, NULL) &&
+          !setitimer(ITIMER_REAL, &often, NULL));
+    errno = WAS;
+    SAME(pthread_mutex_timedlock(m, &until), ETIMEDOUT);
+    SAME(errno, WAS);
+    CHECK(!setitimer(ITIMER_REAL, &never, NULL));
+    kill_and_wait(it);
+    unlink(path);
+    unlink(missing);
+}
+
+static pthread_mutex_t *made, *to_make;
+static int went_on;
+static void *is_cancelled(void *owned)
+{
+    struct timespec until = from_now(20);
+    pthread_cancel(pthread_self());
+    SAME(pthread_mutex_lock(made), 0);
+    SAME(init(to_make), 0);
+    SAME(pthread_mutex_timedlock(owned, &until), ETIMEDOUT);
+    SAME(pthread_mutex_unlock(made), 0);
+    SAME(pthread_mutex_destroy(made), 0);
+    went_on = 1;
+    pthread_testcancel();
+    return NULL;
+}
+
+static void cancelled_later(void)
+{
+    pthread_t t;
+    void *end;
+    pthread_mutex_t *owned = map(file("owned"), 1);
+    SAME(comes(file("made"), 0, "init", 1), 0);
+    made = map(file("made"), 1);
+    to_make = map(file("to-make"), 1);
+    SAME(init(owned), 0);
+    pid_t it = an_owner(owned);
+    CHECK(!pthread_create(&t, NULL, is_cancelled, owned) && !pthread_join(t, &end));
+    CHECK(went_on && end == PTHREAD_CANCELED);
+    kill_and_wait(it);
+    unlink(file("owned"));
+    unlink(file("made"));
+    unlink(file("to-make"));
+}
+
+/* A recursive one that its owner has as often as can be counted (in its bytes). */
+static void as_often_as_can_be(void)
+{
+    pthread_mutex_t *m = map(file("often"), 1);
+    uint32_t *counted = (uint32_t *)m + 1;
+    SAME(init_type(m, PTHREAD_MUTEX_RECURSIVE), 0);
+    SAME(pthread_mutex_lock(m), 0);
+    SAME(pthread_mutex_lock(m), 0);
+    CHECK(*counted == 1);
+    *counted = UINT32_MAX;
+    SAME(pthread_mutex_lock(m), EAGAIN);
+    SAME(pthread_mutex_trylock(m), EAGAIN);
+    SAME(pthread_mutex_unlock(m), 0);
+    SAME(pthread_mutex_lock(m), 0);
+    CHECK(*counted == UINT32_MAX);
+    unlink(file("often"));
+}
+
+/* Its bytes were spoiled: they name a mutex that there isn't, or that nobody has made. */
+static void a_number_that_none_has(void)
+{
+    static const uint32_t numbers[] = {5000, MOST, UINT32_MAX};
+    pthread_mutex_t *m = map(file("number"), 1);
+    SAME(init(m), 0);
+    for (size_t i = 0; i < sizeof numbers / sizeof *numbers; i++) {
+        *(uint32_t *)m = numbers[i];
+        SAME(pthread_mutex_lock(m), EINVAL);
+        SAME(pthread_mutex_trylock(m), EINVAL);
+        SAME(pthread_mutex_unlock(m), EINVAL);
+        SAME(pthread_mutex_destroy(m), EINVAL);
+    }
+    unlink(file("number"));
 }
 
 /* ---- More threads than ids. */
@@ -731,6 +898,28 @@ static void many_objects(void)
     }
 }
 
+/* With room for so few banks, all of objects that are mapped, another one can't be had: until one is unmapped. */
+static void as_many_objects_as_banks(void)
+{
+    enum { ROOM = 32 };
+    pthread_mutex_t *m[ROOM + 1];
+    char name[32];
+    for (int i = 0; i <= ROOM; i++) {
+        snprintf(name, sizeof name, "bank%d", i);
+        SAME(comes(file(name), 0, "init", 1), 0);
+        m[i] = map(file(name), 1);
+        SAME(pthread_mutex_lock(m[i]), i < ROOM ? 0 : EAGAIN);
+        SAME(pthread_mutex_unlock(m[i]), i < ROOM ? 0 : EAGAIN);
+    }
+    munmap(m[0], sizeof *m[0]);
+    SAME(pthread_mutex_lock(m[ROOM]), 0);
+    SAME(pthread_mutex_unlock(m[ROOM]), 0);
+    for (int i = 0; i <= ROOM; i++) {
+        snprintf(name, sizeof name, "bank%d", i);
+        unlink(file(name));
+    }
+}
+
 /* So it does of those where another of its threads has an id still, which that gives up at its next call. */
 static pthread_mutex_t *_Atomic for_another;
 static void *locks_each(void *unused)
@@ -860,7 +1049,24 @@ static void *changes_objects(void *which)
     return NULL;
 }
 
-/* (The gap of whoever lets go is widened for it, by another build: run.) */
+/* In another build whoever lets go stands still meanwhile, and so does who has found one. */
+static int are_slow;
+void try_letting_go(void)
+{
+    if (are_slow)
+        rest(200);
+}
+void try_entering(void)
+{
+    if (are_slow)
+        rest(1000);
+}
+void try_found(void)
+{
+    if (are_slow)
+        rest(4000);
+}
+
 static void changing_objects(void)
 {
     int which[3] = {0, 33, 66};
@@ -895,6 +1101,66 @@ static void made_over_one_that_is_owned(void)
     SAME(pthread_mutex_lock(m), 0);
     SAME(pthread_mutex_unlock(m), 0);
     unlink(path);
+}
+
+/* Numbers of those that were made over while they were owned come back once their owners have died. */
+static void makes_over_its_own(void)
+{
+    pthread_mutex_t *m = map(file("again"), 1);
+    for (int i = 0; i < 400; i++) {
+        SAME(init(m), 0);
+        SAME(pthread_mutex_lock(m), 0);
+    }
+}
+
+static void numbers_come_back(void)
+{
+    for (int i = 0; i < 2 * MOST / 400; i++)
+        in_child(makes_over_its_own);
+    unlink(file("again"));
+}
+
+/* ---- Where an object is. By its new name it is there once a mutex of it has been made by that; else its companion
+ * goes with whoever uses it last. */
+static void a_renamed_file(void)
+{
+    const char *was = file("was"), *is = file("is");
+    SAME(comes(was, 0, "init", 1), 0);
+    CHECK(rename(was, is) == 0);
+    SAME(comes(is, 0, "init", 1), 0);
+    SAME(comes(is, 0, "lock", 1), 0);
+    SAME(comes(is, 0, "lock", 1), 0);
+    CHECK(rename(is, was) == 0);
+    SAME(comes(was, 0, "lock", 1), 0);
+    SAME(comes(was, 0, "lock", 1), EINVAL);
+    unlink(was);
+}
+
+static int may_mount(const char *what)
+{
+    if (unshare(CLONE_NEWNS) == 0 && mount("none", "/", NULL, MS_REC | MS_PRIVATE, NULL) == 0)
+        return 1;
+    printf("cases: %s isn't tried, as nothing may be mounted here\n", what);
+    return 0;
+}
+
+/* A process that doesn't see it there any more is in another namespace. */
+static void ends_elsewhere(void)
+{
+    pthread_mutex_t *m = map(file("elsewhere"), 1);
+    SAME(pthread_mutex_lock(m), 0);
+    SAME(pthread_mutex_unlock(m), 0);
+    if (may_mount("another namespace"))
+        CHECK(mount("try", folder, "tmpfs", 0, "size=64k") == 0 && access(file("elsewhere"), F_OK) < 0);
+    exit(0);
+}
+
+static void another_namespace(void)
+{
+    SAME(comes(file("elsewhere"), 0, "init", 1), 0);
+    in_child(ends_elsewhere);
+    SAME(comes(file("elsewhere"), 0, "lock", 1), 0);
+    unlink(file("elsewhere"));
 }
 
 /* ---- A fork while another thread of the process comes to objects. */
@@ -942,11 +1208,9 @@ static void no_room(void)
     char small[512];
     snprintf(small, sizeof small, "%s/small", folder);
     CHECK(mkdir(small, 0700) == 0);
-    if (unshare(CLONE_NEWNS) < 0 || mount("none", "/", NULL, MS_REC | MS_PRIVATE, NULL) < 0 ||
-        mount("try", small, "tmpfs", 0, "size=64k") < 0) {
-        puts("cases: a full folder isn't tried, as nothing may be mounted here");
+    if (!may_mount("a full folder"))
         return;
-    }
+    CHECK(mount("try", small, "tmpfs", 0, "size=64k") == 0);
     setenv("PAZDRIG_DIR", small, 1);
     pthread_mutex_t *m = map(file("full"), 300);
     int n = 0, r;
@@ -1053,6 +1317,19 @@ static void maps_and_becomes_another(void)
     SAME(pthread_mutex_unlock(m), 0);
 }
 
+/* One that it has used before it has once, as before. */
+static void uses_and_becomes_another(void)
+{
+    char companion[600];
+    pthread_mutex_t *m = map(mapped_path, 1);
+    strcpy(companion, companion_of(mapped_path));
+    SAME(pthread_mutex_lock(m), 0);
+    SAME(mapped_of(companion), 1);
+    CHECK(setuid(NOBODY - 1) == 0);
+    SAME(mapped_of(companion), 1);
+    SAME(pthread_mutex_unlock(m), 0);
+}
+
 static void makes_a_strangers(void) { SAME(comes(file("own"), 0, "init", 1), 0); }
 
 static void a_user_who_was_root(void)
@@ -1063,6 +1340,7 @@ static void a_user_who_was_root(void)
     SAME(comes(mapped_path, 0, "init", 1), 0);
     for (becomes = 0; becomes < 3; becomes++)
         in_child(maps_and_becomes_another);
+    in_child(uses_and_becomes_another);
     unlink(mapped_path);
     mapped_path = file("own");
     as_another_user(makes_a_strangers);
@@ -1187,9 +1465,9 @@ int main(int argc, char **argv)
     self = argv[0];
     folder = argv[1];
     if (argc > 2 && !strcmp(argv[2], "changing"))
-        return changing_objects(), 0;
+        return are_slow = 1, changing_objects(), 0;
     if (argc > 2 && !strcmp(argv[2], "objects"))
-        return many_objects(), 0;
+        return in_child(as_many_objects_as_banks), many_objects(), 0;
     if (argc > 2 && !strcmp(argv[2], "ids"))
         return more_threads_than_ids(), 0;
     in_child(newcomers);
@@ -1198,10 +1476,16 @@ int main(int argc, char **argv)
     in_child(a_reason_is_told);
     in_child(an_earlier_boot);
     in_child(another_format);
+    in_child(a_path_without_an_end);
     in_child(closes_all);
     in_child(memory_without_a_name);
     in_child(private_memory);
     in_child(other_memory);
+    in_child(on_an_older_kernel);
+    in_child(errno_stays);
+    in_child(cancelled_later);
+    in_child(as_often_as_can_be);
+    in_child(a_number_that_none_has);
     more_threads_than_ids();
     in_child(first_openers_are_killed);
     in_child(as_many_as_there_are);
@@ -1211,6 +1495,9 @@ int main(int argc, char **argv)
     in_child(many_objects_at_once);
     changing_objects();
     in_child(made_over_one_that_is_owned);
+    numbers_come_back();
+    in_child(a_renamed_file);
+    another_namespace();
     in_child(forks_meanwhile);
     in_child(no_room);
     in_child(a_reader);

@@ -7,34 +7,47 @@
 #include <sys/stat.h>
 
 enum { IDS = 64, WAITERS = 4, ALL = IDS + WAITERS, FIRST = 30 }; /* its mutexes are of the second bank */
-enum order { STAY, UNLOCK, TAKE_A_DEAD_ONES };
-enum at_no_id { SLEEP, STOP, DIE };
+enum order { STAY, UNLOCK, TRY_A_BUSY_ONE, TAKE_A_DEAD_ONES, SLEEP_FOR_A_DEAD_ONES, LEAVE };
+enum moment { ASKING, ASKED, NO_ID, GIVING, MOMENTS };
+enum at_moment { GO_ON, STOP, DIE };
 
 /* One process: what it is told to do, and how often it has done that; its mutex was the first. */
 struct part {
-    _Atomic int order, done, no_id;
+    _Atomic int order, done, at[MOMENTS];
 };
 static struct part *part;
 static pthread_mutex_t *m;
 static pid_t process[ALL];
-static int self = -1, dead_one;
+static int self = -1, its, dead_one;
 
-void try_no_id(void)
+static void stands_at(enum moment moment)
 {
-    int what = self < 0 ? SLEEP : atomic_exchange(&part[self].no_id, SLEEP);
-    if (what != SLEEP)
+    int what = self < 0 ? GO_ON : atomic_exchange(&part[self].at[moment], GO_ON);
+    if (what != GO_ON)
         kill(getpid(), what == STOP ? SIGSTOP : SIGKILL);
 }
+void try_asking(void) { stands_at(ASKING); }
+void try_asked(void) { stands_at(ASKED); }
+void try_no_id(void) { stands_at(NO_ID); }
+void try_giving(void) { stands_at(GIVING); }
 
 static void do_as_told(struct part *p)
 {
     switch (atomic_exchange(&p->order, STAY)) {
     case UNLOCK:
-        SAME(pthread_mutex_unlock(&m[self]), 0);
+        SAME(pthread_mutex_unlock(&m[its]), 0);
+        break;
+    case TRY_A_BUSY_ONE:
+        SAME(pthread_mutex_trylock(&m[0]), EBUSY);
         break;
     case TAKE_A_DEAD_ONES:
         SAME(pthread_mutex_trylock(&m[dead_one]), EOWNERDEAD);
         break;
+    case SLEEP_FOR_A_DEAD_ONES:
+        SAME(pthread_mutex_lock(&m[dead_one]), EOWNERDEAD);
+        break;
+    case LEAVE:
+        pthread_exit(NULL);
     default:
         rest(100);
         return;
@@ -42,20 +55,25 @@ static void do_as_told(struct part *p)
     atomic_fetch_add(&p->done, 1);
 }
 
-static void comes(int i)
+/* It locks this mutex, of its own or of another's, who may die. */
+static void comes_to(int i, int mutex)
 {
     process[i] = a_child();
     if (process[i])
         return;
     self = i;
-    SAME(pthread_mutex_lock(&m[i]), 0);
+    its = mutex;
+    int r = pthread_mutex_lock(&m[its]);
+    CHECK(r == 0 || (r == EOWNERDEAD && its != i));
     for (atomic_fetch_add(&part[i].done, 1);;)
         do_as_told(&part[i]);
 }
+static void comes(int i) { comes_to(i, i); }
 
+static int is_done(int i, int times) { return atomic_load(&part[i].done) >= times; }
 static void until_done(int i, int times)
 {
-    for (; atomic_load(&part[i].done) < times; rest(100))
+    for (; !is_done(i, times); rest(100))
         CHECK(waitpid(process[i], NULL, WNOHANG) == 0);
 }
 
@@ -67,18 +85,32 @@ static void tell(int i, enum order order)
 }
 
 /* Who is to be woken first sleeps first. */
-static void sleeps_for_one(int i)
+static void sleeps_on(int i, int mutex)
 {
-    comes(i);
+    comes_to(i, mutex);
     until_asleep(process[i]);
 }
+static void sleeps_for_one(int i) { sleeps_on(i, i); }
 
-static void stops_at_no_id(int i)
+static void stops_at(int i, enum moment moment)
 {
     int status;
-    atomic_store(&part[i].no_id, STOP);
+    atomic_store(&part[i].at[moment], STOP);
     comes(i);
     CHECK(waitpid(process[i], &status, WUNTRACED) == process[i] && WIFSTOPPED(status));
+}
+
+/* As it was told to. */
+static void dies(int i)
+{
+    CHECK(waitpid(process[i], NULL, 0) == process[i]);
+    process[i] = 0;
+}
+
+static void is_killed(int i)
+{
+    kill(process[i], SIGKILL);
+    dies(i);
 }
 
 static void make_all(void)
@@ -91,8 +123,8 @@ static void make_all(void)
         SAME(pthread_mutex_init(&m[i], &a), 0);
 }
 
-/* A file of its own; each owner has the next id. (Another process makes the mutexes, as it may have an id.) */
-static void begin(const char *path)
+/* (Another process makes the mutexes, as it may have an id.) */
+static void make_file(const char *path)
 {
     size_t size = (FIRST + ALL) * sizeof *m;
     int fd = open(path, O_RDWR | O_CREAT | O_TRUNC, 0600), status;
@@ -100,24 +132,27 @@ static void begin(const char *path)
     m = mmap(NULL, size, PROT_READ | PROT_WRITE, MAP_SHARED, fd, 0);
     CHECK(m != MAP_FAILED && close(fd) == 0);
     m += FIRST;
-    part = shared(ALL * sizeof *part);
-    memset(process, 0, sizeof process);
     pid_t maker = a_child();
     if (!maker) {
         make_all();
         _exit(0);
     }
     CHECK(waitpid(maker, &status, 0) == maker && status == 0);
-    for (int i = 0; i < IDS; i++) {
+}
+
+/* A file of its own. Each owner has the next id; so have the last ones, so many of which sleep on the first mutex. */
+static void begin(const char *path, int asleep)
+{
+    alarm(100);
+    part = shared(ALL * sizeof *part);
+    memset(process, 0, sizeof process);
+    make_file(path);
+    for (int i = 0; i < IDS - asleep; i++) {
         comes(i);
         until_done(i, 1);
     }
-}
-
-static void is_killed(int i)
-{
-    kill_and_wait(process[i]);
-    process[i] = 0;
+    for (int i = IDS - asleep; i < IDS; i++)
+        sleeps_on(i, 0);
 }
 
 static void end(const char *path)
@@ -133,8 +168,8 @@ static void end(const char *path)
 /* Between its look for an id and its sleep one of those who have one dies; and somebody else reaps that one. */
 static void an_id_comes_before_the_sleep(const char *path, int is_reaped)
 {
-    begin(path);
-    stops_at_no_id(IDS);
+    begin(path, 0);
+    stops_at(IDS, NO_ID);
     dead_one = 20;
     is_killed(dead_one);
     if (is_reaped)
@@ -144,13 +179,140 @@ static void an_id_comes_before_the_sleep(const char *path, int is_reaped)
     end(path);
 }
 
+/* It is given back there, and another one has it: that one is asked for another. */
+static void an_id_comes_and_goes_before_the_sleep(const char *path)
+{
+    begin(path, 0);
+    stops_at(IDS, NO_ID);
+    tell(0, UNLOCK);
+    comes(IDS + 1);
+    until_done(IDS + 1, 1);
+    kill(process[IDS], SIGCONT);
+    until_asleep(process[IDS]);
+    tell(1, UNLOCK);
+    until_done(IDS, 1);
+    end(path);
+}
+
+/* One of the last ids is given back by who was refused, as it owns nothing. */
+static void who_is_refused_keeps_none(const char *path)
+{
+    enum { REFUSED = 40 };
+    begin(path, 0);
+    tell(REFUSED, UNLOCK);
+    tell(REFUSED, TRY_A_BUSY_ONE);
+    comes(IDS);
+    until_done(IDS, 1);
+    end(path);
+}
+
 /* The first one keeps its id, where nobody wants one. */
 static void a_keeper_is_asked(const char *path)
 {
-    begin(path);
+    begin(path, 0);
     sleeps_for_one(IDS);
     tell(0, UNLOCK);
     until_done(IDS, 1);
+    end(path);
+}
+
+/* Those who sleep on its mutex are told first that a thread gives its id up. So who sleeps for one is woken besides. */
+static void a_giver_wakes(const char *path)
+{
+    begin(path, 2);
+    sleeps_for_one(IDS);
+    tell(0, UNLOCK);
+    until_done(IDS, 1);
+    end(path);
+}
+
+/* The one that it wakes dies before it asks anew: who waits behind that one is asked for still. */
+static void who_is_woken_dies(const char *path)
+{
+    begin(path, 2);
+    sleeps_for_one(IDS);
+    sleeps_for_one(IDS + 1);
+    atomic_store(&part[IDS].at[ASKING], DIE);
+    tell(0, UNLOCK);
+    dies(IDS);
+    tell(1, UNLOCK);
+    until_done(IDS + 1, 1);
+    end(path);
+}
+
+/* A giver dies before it wakes anybody. One that has asked, and hasn't looked yet, finds the id, and asks for those who
+ * wait behind it: of these it wakes one, which dies. Once it owns nothing, another one has the id. */
+static void a_giver_dies(const char *path)
+{
+    begin(path, 2);
+    stops_at(IDS, ASKED);
+    sleeps_for_one(IDS + 1);
+    sleeps_for_one(IDS + 2);
+    atomic_store(&part[0].at[GIVING], DIE);
+    atomic_store(&part[0].order, UNLOCK);
+    dies(0);
+    atomic_store(&part[IDS + 1].at[ASKING], DIE);
+    kill(process[IDS], SIGCONT);
+    until_done(IDS, 1);
+    dies(IDS + 1);
+    tell(IDS, UNLOCK);
+    until_done(IDS + 2, 1);
+    end(path);
+}
+
+/* How many of those who sleep on a mutex have it. */
+static int have_it(int from)
+{
+    int n = 0;
+    for (int i = from; i < IDS; i++)
+        n += is_done(i, 1);
+    return n;
+}
+
+/* The death of the first mutex's owner is told to those who sleep on that, of whom one has it then: so nobody who waits
+ * for an id knows of its own. */
+static void an_id_is_free(int asleep)
+{
+    is_killed(0);
+    while (!have_it(IDS - asleep))
+        rest(100);
+    for (int i = IDS - asleep; i < ALL; i++)
+        if (process[i] && !is_done(i, 1))
+            until_asleep(process[i]);
+    SAME(have_it(IDS - asleep), 1);
+    CHECK(!is_done(IDS, 1) && !is_done(IDS + 1, 1));
+}
+
+/* One that is told of another id wakes the next one, who has that. */
+static void one_more_is_free(const char *path)
+{
+    enum { ASLEEP = 3 };
+    begin(path, ASLEEP);
+    sleeps_for_one(IDS);
+    sleeps_for_one(IDS + 1);
+    an_id_is_free(ASLEEP);
+    atomic_store(&part[20].order, LEAVE);
+    until_done(IDS, 1);
+    until_done(IDS + 1, 1);
+    end(path);
+}
+
+/* Nobody knows of one id, as above. The death of a thread is told to one who waits for an id, and takes that one;
+ * another one sleeps on the dead thread's mutex. */
+static void one_who_need_not_know(const char *path)
+{
+    enum { ASLEEP = 3, SLEEPER = 40 };
+    dead_one = 20;
+    begin(path, ASLEEP);
+    sleeps_for_one(IDS);
+    atomic_store(&part[SLEEPER].order, SLEEP_FOR_A_DEAD_ONES);
+    while (atomic_load(&part[SLEEPER].order) != STAY)
+        rest(100);
+    until_asleep(process[SLEEPER]);
+    an_id_is_free(ASLEEP);
+    is_killed(dead_one);
+    until_done(IDS, 1);
+    until_done(SLEEPER, 2);
     end(path);
 }
 
@@ -170,14 +332,14 @@ static int stays_asleep(int i)
 static void who_had_to_wait_dies(const char *path)
 {
     int has = 0, asleep = 0;
-    begin(path);
+    begin(path, 0);
     for (int i = IDS; i < ALL; i++)
         sleeps_for_one(i);
     for (int i = IDS; i < ALL; i++)
-        atomic_store(&part[i].no_id, DIE);
+        atomic_store(&part[i].at[NO_ID], DIE);
     is_killed(20);
     for (int i = IDS; !has; i = i + 1 < ALL ? i + 1 : IDS)
-        has = atomic_load(&part[i].done) ? i : 0;
+        has = is_done(i, 1) ? i : 0;
     for (int i = IDS; i < ALL; i++)
         if (i != has && stays_asleep(i)) {
             if (asleep)
@@ -185,7 +347,7 @@ static void who_had_to_wait_dies(const char *path)
             asleep = i;
         }
     CHECK(asleep);
-    atomic_store(&part[asleep].no_id, SLEEP);
+    atomic_store(&part[asleep].at[NO_ID], GO_ON);
     is_killed(has);
     until_done(asleep, 1);
     end(path);
@@ -196,10 +358,16 @@ int main(int argc, char **argv)
     char path[512];
     CHECK(argc > 1);
     snprintf(path, sizeof path, "%s/ids", argv[1]);
-    alarm(300);
     an_id_comes_before_the_sleep(path, 0);
     an_id_comes_before_the_sleep(path, 1);
+    an_id_comes_and_goes_before_the_sleep(path);
+    who_is_refused_keeps_none(path);
     a_keeper_is_asked(path);
+    a_giver_wakes(path);
+    who_is_woken_dies(path);
+    a_giver_dies(path);
+    one_more_is_free(path);
+    one_who_need_not_know(path);
     who_had_to_wait_dies(path);
     puts("ids: each who waited for one had one");
     return 0;
