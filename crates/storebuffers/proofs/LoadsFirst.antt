@@ -1,5 +1,5 @@
 -- Calls that load before they store.
-use Rattle.std.proofs.Common.{◌≡◌, ◌≢◌, ◌⊎◌, inl, inr, ⊎_elim, ℕ, ◌+◌, ◌<◌, ◌≤◌, Bool, true, false, ◌&&◌, Ok, Err, Some, List, [], ◌∷◌, refl, sym, ap, ◌∙◌, subst, arith}
+use Rattle.std.proofs.Common.{◌≡◌, ◌≢◌, inl, inr, ⊎_elim, ℕ, ◌+◌, ◌<◌, ◌≤◌, Bool, true, false, ◌&&◌, Ok, Err, Some, List, [], ◌∷◌, refl, sym, ap, ◌∙◌, subst, arith}
 use Rattle.std.specs.Prelude.{if◌then◌else◌, nat_le}
 use Rattle.std.proofs.lemmas.Bool.Decides.{nat_tests}
 use Rattle.lockword.specs.Cells.{fields_of}
@@ -7,7 +7,7 @@ use Rattle.lockword.specs.declared.reply.Reply.TheVariants.{XHELD}
 use Rattle.stepprograms.specs.declared.access.Access.TheVariants as access
 use Rattle.stepprograms.specs.declared.access.Answer.{Answer}
 use Rattle.memorymap.specs.Chains.{address_sum}
-use Rattle.memorymap.specs.Layouts.{Layout', IsLayout, head_place, entry_place, cell_place, place_in}
+use Rattle.memorymap.specs.Layouts.{Layout', IsLayout, head_place, cell_place, place_in}
 use Rattle.posixmutex.specs.Objects.{acquires, held_limit}
 use Rattle.posixmutex.specs.declared.object.Object.{Object}
 use Rattle.robustlist.specs.declared.unlink.UnlinkRow.{UnlinkRow}
@@ -51,7 +51,6 @@ use Rattle.storebuffers.specs.Buffers.{Store, Buffered, Waits, stored, Way, way_
 use Rattle.storebuffers.specs.Buffers.Way.{Keeps, Appends, Writes, Flushes}
 use Rattle.storebuffers.specs.Buffers.Happening.{Happens}
 use Rattle.storebuffers.specs.OwnWords.{AreOthers}
-use Rattle.storebuffers.specs.Runs.{reached}
 use Rattle.storebuffers.specs.LoadsFirst.{finds, IsNext, NobodyCrosses, AreOfOthers, begins_now, steps_now, IsLink, LockLoadsFirst, UnlockLoadsFirst, LoadsComeFirst, LoadsMayComeFirst}
 use Rattle.storebuffers.proofs.Stores.{stored-out}
 use Rattle.storebuffers.proofs.Owning.{IsOwn, own_no_cell, shared_apart}

@@ -1,17 +1,14 @@
 -- Where a lock, a trylock and an unlock that nobody crosses load the words of their thread's list.
-use Rattle.std.proofs.Common.{◌≡◌, ◌≢◌, ℕ, ◌<◌, ◌≤◌, ◌==◌, Bool, true, false, ◌&&◌, Ok, Err, Some, List, refl, sym, ap, ◌∙◌, subst, eq-eqb, eqb-true, arith}
+use Rattle.std.proofs.Common.{◌≡◌, ℕ, ◌<◌, ◌≤◌, ◌==◌, Bool, true, false, ◌&&◌, Ok, Err, Some, List, refl, sym, ap, ◌∙◌, subst, eq-eqb, eqb-true, arith}
 use Rattle.std.specs.Prelude.{if◌then◌else◌, nat_le, not}
 use Rattle.std.proofs.lemmas.Bool.Decides.{nat_tests}
 use Rattle.lockword.specs.Cells.{Fields, fields_of, word_of, taken}
 use Rattle.lockword.specs.Coding.{word_of-fields_of}
-use Rattle.lockword.specs.declared.reply.Reply.{Reply}
-use Rattle.lockword.specs.declared.reply.Reply.TheVariants.{OK, EPERM, EDEADLK, EBUSY, EOWNERDEAD, ENOTRECOVERABLE, XHELD, XRACED}
+use Rattle.lockword.specs.declared.reply.Reply.TheVariants.{OK, EPERM, EDEADLK, EBUSY, EOWNERDEAD, ENOTRECOVERABLE, XHELD}
 use Rattle.stepprograms.specs.declared.access.Access.{Access}
 use Rattle.stepprograms.specs.declared.access.Access.TheVariants as access
-use Rattle.stepprograms.specs.declared.access.Answer.{Answer}
-use Rattle.stepprograms.specs.declared.access.Answer.TheVariants.{Value, Stored, Exchanged, Changed}
+use Rattle.stepprograms.specs.declared.access.Answer.TheVariants.{Value, Exchanged, Changed}
 use Rattle.stepprograms.specs.Accesses.{answer_among}
-use Rattle.memorymap.specs.Chains.{previous_place}
 use Rattle.memorymap.specs.Layouts.{Layout', IsLayout, cell_place, place_in}
 use Rattle.posixmutex.specs.declared.object.Object.{Object}
 use Rattle.posixmutex.specs.declared.point.Operation.{Operation}
@@ -43,16 +40,14 @@ use Rattle.mutex.specs.Whole.{whole_at, whole_access, whole_led, from_cell}
 use Rattle.condvar.specs.declared.op.Op.{Op}
 use Rattle.condvar.specs.declared.op.Op.TheVariants.{OnMutex}
 use Rattle.protocol.specs.declared.event.Event.TheVariants.{Begin, Step}
-use Rattle.protocol.specs.declared.thread.Stage.{Stage}
 use Rattle.protocol.specs.declared.thread.Stage.TheVariants.{Idle, Calling}
 use Rattle.protocol.specs.declared.thread.Thread.{Thread}
-use Rattle.protocol.specs.Applies.{IsInNoQueue}
 use Rattle.protocol.specs.Headline.{seen}
 use Rattle.protocol.specs.Machine.{State, After, put, happens, nothing, begun, first_stage, stage_begun, may_begin, is_idle, is_asleep, stage_after, place_met, stands_in, joined, moved_by, queue_after}
 use Rattle.protocol.proofs.Events.{is_known}
 use Rattle.protocol.proofs.Kept.{Kept}
 use Rattle.protocol.proofs.Puts.{by_put, put-same}
-use Rattle.protocol.proofs.Queued.{Queued, in_none, out_awake}
+use Rattle.protocol.proofs.Queued.{Queued, out_awake}
 use Rattle.protocol.proofs.Seeing.{head_in, entry_in, cell_in, cell_again}
 use Rattle.protocol.proofs.Stepping.{SleepsAs}
 use Rattle.protocol.proofs.Steps.{onto, seen-inside}
