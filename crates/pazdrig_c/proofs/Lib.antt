@@ -1,3 +1,4 @@
+pub mod Loads
 pub mod Locks
 pub mod Unlocks
 pub mod Refusals

@@ -1,5 +1,5 @@
 -- A lock, and a trylock, of a free mutex that is answered as it expects.
-use Rattle.std.proofs.Common.{◌≡◌, ℕ, ◌≤◌, ◌==◌, Bool, true, false, not, List, [], ◌∷◌, refl, sym, ap, subst, ◌∙◌, arith, eqb-true}
+use Rattle.std.proofs.Common.{◌≡◌, ◌≢◌, ℕ, ◌≤◌, ◌==◌, Bool, true, false, not, List, [], ◌∷◌, refl, sym, ap, subst, ◌∙◌, arith, eqb-true}
 use Rattle.std.specs.Prelude.{◌&&◌, if◌then◌else◌}
 use Rattle.lockword.specs.Cells.{Fields, fields_of, word_of, taken}
 use Rattle.lockword.specs.Coding.{word_of-fields_of}
@@ -7,11 +7,13 @@ use Rattle.lockword.specs.declared.reply.Reply.{Reply}
 use Rattle.lockword.specs.declared.reply.Reply.TheVariants.{OK, EDEADLK, EBUSY, EOWNERDEAD, ENOTRECOVERABLE}
 use Rattle.stepprograms.specs.declared.access.Access.{Access}
 use Rattle.stepprograms.specs.declared.access.Access.TheVariants as access
+use Rattle.stepprograms.specs.Accesses.{changed}
 use Rattle.stepprograms.specs.declared.access.Answer.{Answer}
 use Rattle.stepprograms.specs.declared.access.Answer.TheVariants.{Value, Stored, Exchanged}
 use Rattle.posixmutex.specs.declared.point.Operation.{Operation}
 use Rattle.posixmutex.specs.declared.point.Operation.TheVariants as operation
 use Rattle.memorymap.specs.Chains.{previous_place}
+use Rattle.robustlist.specs.Words.{after}
 use Rattle.robustlist.specs.declared.link.LinkRow.{LinkRow}
 use Rattle.robustlist.specs.declared.link.LinkRow.TheVariants as link
 use Rattle.mutex.specs.declared.call.Call.TheVariants as call
@@ -26,7 +28,8 @@ use Rattle.mutex.specs.Lock.{lock_sees, after_loss}
 use Rattle.mutex.specs.TryLock.{try_sees}
 use Rattle.mutex.specs.Standings.{Whole}
 use Rattle.mutex.specs.Whole.{whole_at, begun_at, linked_at, leaving, from_cell, pending_place}
-use Rattle.pazdrig_c.specs.Plans.{run, asked, tail_answers, tail_plan, lock_answers, lock_plan, take_row, is_free, LockByPlan, LocksByPlan}
+use Rattle.pazdrig_c.specs.Plans.{run, asked, tail_answers, tail_plan, lock_answers, lock_plan, take_row, is_free, LoadAlike, LockByPlan, LocksByPlan}
+use Rattle.pazdrig_c.proofs.Loads.{elsewhere, first_apart}
 
 -- ---- a free cell is one that is taken
 
@@ -122,10 +125,22 @@ taking t h e c w f v = access.Exchange c v (word_of (taken (fields_of w) t)) ∷
 abbrev whole : ℕ → ℕ → ℕ → ℕ → ℕ → ℕ → ℕ → List Access
 whole t h e c w f v = access.Store (pending_place h) e ∷ access.Load c ∷ taking t h e c w f v
 
+-- ---- its loads come first
+
+-- neither the announcement nor the exchange is at the head's first word
+head_stays : (t h e c w : ℕ) (words : ℕ → ℕ) → c ≢ h → after (access.Exchange c w (word_of (taken (fields_of w) t))) (after (access.Store (pending_place h) e) words) h ≡ words h
+head_stays t h e c w words far =
+    elsewhere h c (changed (access.Exchange c w (word_of (taken (fields_of w) t))) (after (access.Store (pending_place h) e) words h)) (after (access.Store (pending_place h) e) words h) (λ is. far (sym is))
+    ∙ elsewhere h (pending_place h) e (words h) (first_apart h)
+
+loads_alike : (b : Bool) (t h e c w f : ℕ) → c ≢ h → c ≢ pending_place h → LoadAlike (lock_plan t h e c w f b)
+loads_alike true t h e c w f far apart words = λ i. sym (elsewhere c (pending_place h) e (words c) apart) i ∷ (sym (head_stays t h e c w words far) i ∷ [])
+loads_alike false t h e c w f far apart words = λ i. sym (elsewhere c (pending_place h) e (words c) apart) i ∷ (sym (head_stays t h e c w words far) i ∷ [])
+
 -- ---- a lock
 
 lock_plan_is : (t h e c w f : ℕ) → lock_sees t (fields_of w) ≡ goes (row.Lock (lock.Take (fields_of w))) → LockByPlan (call.Lock 0) t h e c w f
-lock_plan_is t h e c w f sees = record { asks = asks; returns = returns; takes = takes }
+lock_plan_is t h e c w f sees = record { asks = asks; returns = returns; takes = takes; loads = loads_alike (f == h) t h e c w f }
   where
     s : Fields
     s = fields_of w
@@ -163,7 +178,7 @@ lock_plan_is t h e c w f sees = record { asks = asks; returns = returns; takes =
 -- ---- a trylock
 
 try_plan_is : (t h e c w f : ℕ) → try_sees 0 (fields_of w) ≡ goes (row.TryLock (try.Take (fields_of w) 0)) → LockByPlan (call.TryLock 0) t h e c w f
-try_plan_is t h e c w f sees = record { asks = asks; returns = returns; takes = takes }
+try_plan_is t h e c w f sees = record { asks = asks; returns = returns; takes = takes; loads = loads_alike (f == h) t h e c w f }
   where
     s : Fields
     s = fields_of w
@@ -200,7 +215,7 @@ try_plan_is t h e c w f sees = record { asks = asks; returns = returns; takes = 
 
 -- (a call's number of its mutex isn't in its program)
 pub by_plan : LocksByPlan
-by_plan (call.Lock m) t h e c w f k pos free = let is : LockByPlan (call.Lock 0) t h e c w f = lock_plan_is t h e c w f (lock_takes t (fields_of w) pos free) in record { asks = is.asks; returns = is.returns; takes = is.takes }
-by_plan (call.TryLock m) t h e c w f k pos free = let is : LockByPlan (call.TryLock 0) t h e c w f = try_plan_is t h e c w f (try_takes (fields_of w) free) in record { asks = is.asks; returns = is.returns; takes = is.takes }
+by_plan (call.Lock m) t h e c w f k pos free = let is : LockByPlan (call.Lock 0) t h e c w f = lock_plan_is t h e c w f (lock_takes t (fields_of w) pos free) in record { asks = is.asks; returns = is.returns; takes = is.takes; loads = is.loads }
+by_plan (call.TryLock m) t h e c w f k pos free = let is : LockByPlan (call.TryLock 0) t h e c w f = try_plan_is t h e c w f (try_takes (fields_of w) free) in record { asks = is.asks; returns = is.returns; takes = is.takes; loads = is.loads }
 by_plan (call.Unlock m) t h e c w f k pos free = absurd k
 by_plan (call.Consistent m) t h e c w f k pos free = absurd k

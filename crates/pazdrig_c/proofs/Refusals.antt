@@ -1,15 +1,18 @@
 -- Calls that are refused where they look.
-use Rattle.std.proofs.Common.{◌≡◌, ◌==◌, ℕ, Bool, true, false, Some, None, refl, rules}
+use Rattle.std.proofs.Common.{◌≡◌, ◌≢◌, ◌==◌, ℕ, Bool, true, false, Some, None, [], ◌∷◌, refl, sym, rules}
 use Rattle.lockword.specs.Cells.{fields_of}
 use Rattle.lockword.specs.declared.reply.Reply.{Reply}
 use Rattle.posixmutex.specs.declared.point.Operation.{Operation}
 use Rattle.posixmutex.specs.declared.point.Operation.TheVariants as operation
+use Rattle.mutex.specs.Whole.{pending_place}
 use Rattle.condvar.specs.Rows.{full}
 use Rattle.pazdrig_c.specs.Accesses.{operation_number}
 use Rattle.pazdrig_c.specs.Running.{begun}
-use Rattle.pazdrig_c.specs.Shorts.{RefusalByPlan, RefusalsByPlan, GoesOnUndecided, refused, progresses, up_to_look, wakes_all, is_own}
+use Rattle.pazdrig_c.specs.Plans.{LoadAlike}
+use Rattle.pazdrig_c.specs.Shorts.{refusal_plan, RefusalByPlan, RefusalsByPlan, GoesOnUndecided, refused, progresses, up_to_look, wakes_all, is_own}
 use Rattle.pazdrig_c.specs.declared.structs.PzCall.{PzCall}
 use Rattle.pazdrig_c.specs.declared.running.Running.{Running}
+use Rattle.pazdrig_c.proofs.Loads.{elsewhere}
 
 -- (the tests of a trylock, a signal and a broadcast are split by hand: the search would split too much)
 refuses : (op : Operation) (k : PzCall) (r : Running) (w s : ℕ) (x : Reply) → begun (operation_number op) k ≡ Some r → refused op k.thread (fields_of w) s ≡ Some x → RefusalByPlan op k r w s x
@@ -49,5 +52,14 @@ else_goes_on operation.Broadcast k r w s is none one = search rules
 else_goes_on operation.Death k r w s is none one = search rules
 else_goes_on operation.Reinit k r w s is none one = search rules
 
+loads : (op : Operation) (k : PzCall) (own : Bool) → k.cell ≢ pending_place k.head → LoadAlike (refusal_plan op own k.head k.entry k.cell k.counter)
+loads operation.Lock k own apart words = λ i. sym (elsewhere k.cell (pending_place k.head) k.entry (words k.cell) apart) i ∷ []
+loads operation.TryLock k own apart words = λ i. sym (elsewhere k.cell (pending_place k.head) k.entry (words k.cell) apart) i ∷ []
+loads operation.Signal k true apart words = refl
+loads operation.Signal k false apart words = refl
+loads operation.Broadcast k true apart words = refl
+loads operation.Broadcast k false apart words = refl
+loads op k own apart words = refl
+
 pub by_plan : RefusalsByPlan
-by_plan = record { refuses = refuses; else_goes_on = else_goes_on }
+by_plan = record { refuses = refuses; loads = loads; else_goes_on = else_goes_on }

@@ -1,5 +1,5 @@
 -- An unlock of a consistent mutex by its owner.
-use Rattle.std.proofs.Common.{◌≡◌, ℕ, ◌==◌, Bool, true, false, not, List, [], ◌∷◌, ◌++◌, refl, sym, ap, ◌∙◌, subst}
+use Rattle.std.proofs.Common.{◌≡◌, ◌≢◌, ℕ, ◌==◌, Bool, true, false, not, List, [], ◌∷◌, ◌++◌, refl, sym, ap, ◌∙◌, subst}
 use Rattle.std.specs.Prelude.{◌&&◌, if◌then◌else◌}
 use Rattle.lockword.specs.Cells.{Fields, fields_of}
 use Rattle.lockword.specs.declared.reply.Reply.TheVariants.{OK, EPERM}
@@ -20,7 +20,8 @@ use Rattle.mutex.specs.Rows.{goes, decides, ends}
 use Rattle.mutex.specs.Unlock.{unlock_sees}
 use Rattle.mutex.specs.Standings.{Whole}
 use Rattle.mutex.specs.Whole.{whole_at, whole_access, whole_led, whole_moved, unlinked_at, from_cell, pending_place}
-use Rattle.pazdrig_c.specs.Plans.{run, asked, behind_answers, behind_plan, unlock_begun, unlink_answers, unlink_plan, unlock_plan, wake_answers, wake_plan, release_answers, release_plan, release_row, is_held, UnlocksByPlan}
+use Rattle.pazdrig_c.specs.Plans.{run, asked, behind_answers, behind_plan, unlock_begun, unlink_answers, unlink_plan, unlock_plan, wake_answers, wake_plan, release_answers, release_plan, release_row, is_held, LoadAlike, UnlocksByPlan}
+use Rattle.pazdrig_c.proofs.Loads.{elsewhere}
 
 abbrev at : ℕ → ℕ → ℕ → ℕ → Phase → Whole
 at t h e c p = whole_at t operation.Unlock h e c p
@@ -62,6 +63,12 @@ behind_stands : (b : Bool) (t h e c n p : ℕ) → run (at t h e c (unlinking b 
 behind_stands true t h e c n p = refl
 behind_stands false t h e c n p = refl
 
+-- ---- its loads come first
+
+loads_alike : (b : Bool) (t h e c n p : ℕ) → e ≢ pending_place h → previous_place e ≢ pending_place h → LoadAlike (unlock_plan t h e c n p b)
+loads_alike true t h e c n p apart before words = λ i. words c ∷ (sym (elsewhere e (pending_place h) e (words e) apart) i ∷ (sym (elsewhere (previous_place e) (pending_place h) e (words (previous_place e)) before) i ∷ []))
+loads_alike false t h e c n p apart before words = λ i. words c ∷ (sym (elsewhere e (pending_place h) e (words e) apart) i ∷ (sym (elsewhere (previous_place e) (pending_place h) e (words (previous_place e)) before) i ∷ []))
+
 -- ---- the whole of it
 
 asked_further : (p : Whole) (xs ys : List Answer) → asked p (xs ++ ys) ≡ asked p xs ++ asked (run p xs) ys
@@ -69,7 +76,7 @@ asked_further p [] ys = refl
 asked_further p (a ∷ xs) ys = ap (λ (l : List Access). whole_access p ∷ l) (asked_further (whole_moved p (whole_led p a)) xs ys)
 
 pub by_plan : UnlocksByPlan
-by_plan t h e c w n p v pos held = record { unlinks = unlinks; stands = stands; releases = releases_cell; returns = returns; asks = asks }
+by_plan t h e c w n p v pos held = record { unlinks = unlinks; stands = stands; releases = releases_cell; returns = returns; asks = asks; loads = loads_alike (n == h) t h e c n p }
   where
     loading : Phase
     loading = AtCell (row.Unlock unlock.Load)

@@ -2,8 +2,9 @@
 --
 -- *A plan.* A call where nobody is in the way, whole: some stores, one access at the cell, the other stores. `asked`
 -- and `run` are what a program asks, and what is left of it, where it is answered so and so; `changes_in` leaves the
--- loads out. The laws `locks_by_plan`, `unlocks_by_plan`.
-use Rattle.std.specs.Prelude.{ℕ, ◌≡◌, ◌==◌, ◌≤◌, ◌&&◌, Bool, true, false, not, nat_le, List, [], ◌∷◌, ◌++◌, take, drop}
+-- loads out. `loads_first` is the order in which C makes it: all loads, and then the changes. The laws `locks_by_plan`,
+-- `unlocks_by_plan`; and `loads_may_come_first` of `storebuffers`, whatever others do in between.
+use Rattle.std.specs.Prelude.{ℕ, ◌≡◌, ◌≢◌, ◌==◌, ◌≤◌, ◌&&◌, Bool, true, false, not, nat_le, List, [], ◌∷◌, ◌++◌, take, drop}
 use Rattle.lockword.specs.Cells.{Fields, word_of, fields_of, taken}
 use Rattle.lockword.specs.declared.reply.Reply.TheVariants.{OK}
 use Rattle.stepprograms.specs.declared.access.Access.{Access}
@@ -12,6 +13,7 @@ use Rattle.stepprograms.specs.declared.access.Answer.{Answer}
 use Rattle.stepprograms.specs.declared.access.Answer.TheVariants.{Value, Stored, Exchanged, Count, Trimmed}
 use Rattle.posixmutex.specs.declared.point.Operation.TheVariants as operation
 use Rattle.memorymap.specs.Chains.{previous_place}
+use Rattle.robustlist.specs.Words.{after}
 use Rattle.mutex.specs.declared.call.Call.{Call}
 use Rattle.mutex.specs.declared.call.Call.TheVariants as call
 use Rattle.mutex.specs.declared.row.Row.{Row}
@@ -36,6 +38,33 @@ run p (a ∷ rest) = run (whole_moved p (whole_led p a)) rest
 abbrev pub asked : Whole → List Answer → List Access
 asked p [] = []
 asked p (a ∷ rest) = whole_access p ∷ asked (whole_moved p (whole_led p a)) rest
+
+-- ---- loads and changes
+
+-- accesses but loads
+abbrev pub changes_in : List Access → List Access
+changes_in [] = []
+changes_in (access.Load at ∷ rest) = changes_in rest
+changes_in (x ∷ rest) = x ∷ changes_in rest
+
+abbrev pub loads_in : List Access → List Access
+loads_in [] = []
+loads_in (access.Load at ∷ rest) = access.Load at ∷ loads_in rest
+loads_in (x ∷ rest) = loads_in rest
+
+-- as whoever makes a call by its plan makes them: all that it loads before all that it changes
+abbrev pub loads_first : List Access → List Access
+loads_first plan = loads_in plan ++ changes_in plan
+
+-- what the loads among these accesses find, one after the other, on such words, which nobody else changes
+abbrev pub loads_find : (ℕ → ℕ) → List Access → List ℕ
+loads_find words [] = []
+loads_find words (access.Load at ∷ rest) = words at ∷ loads_find words rest
+loads_find words (x ∷ rest) = loads_find (after x words) rest
+
+-- each finds the same where all come first
+abbrev pub LoadAlike : List Access → Type 0
+LoadAlike plan = (words : ℕ → ℕ) → loads_find words (loads_first plan) ≡ loads_find words plan
 
 -- ---- the lock of a free mutex, and the trylock of one
 
@@ -69,11 +98,13 @@ IsTaker (call.TryLock m) = Unit {0}
 IsTaker k = ⊥
 
 -- it makes just these accesses, and returns the reply of whoever takes such a cell; the exchange is made by the row
--- that takes, so a call whose exchange fails goes on from there
+-- that takes, so a call whose exchange fails goes on from there; and its loads may come first, where the cell is no
+-- word of the thread's head
 pub record LockByPlan (k : Call) (t h e c w f : ℕ) : Type 0 where
   pub asks : asked (begun_at t h e c k) (lock_answers w f (f == h)) ≡ lock_plan t h e c w f (f == h)
   pub returns : (run (begun_at t h e c k) (lock_answers w f (f == h))).phase ≡ Ended (acquired (fields_of w))
   pub takes : (run (begun_at t h e c k) (Stored ∷ Value w ∷ [])).phase ≡ AtCell (take_row k (fields_of w))
+  pub loads : c ≢ h → c ≢ pending_place h → LoadAlike (lock_plan t h e c w f (f == h))
 
 -- whether a thread finds a cell that it may take
 abbrev pub is_free : Fields → Bool
@@ -127,6 +158,8 @@ release_answers v = Value v ∷ wake_answers (fields_of v).waiters
 abbrev pub release_plan : ℕ → ℕ → ℕ → ℕ → List Access
 release_plan t h c v = access.FetchXor c t ∷ wake_plan (fields_of v).waiters h c
 
+-- it makes just these accesses, stands at the row that releases when it does, and returns OK; and its loads may come
+-- first, where its entry is no word of the thread's head
 pub record UnlockByPlan (t h e c w n p v : ℕ) : Type 0 where
   pub unlinks : asked (unlock_begun t h e c) (unlink_answers w n p (n == h)) ≡ unlink_plan h e c n p (n == h)
   pub stands : run (unlock_begun t h e c) (unlink_answers w n p (n == h))
@@ -137,6 +170,7 @@ pub record UnlockByPlan (t h e c w n p v : ℕ) : Type 0 where
   pub asks : (fields_of v).waiters ≡ false
       → asked (unlock_begun t h e c) (unlink_answers w n p (n == h) ++ release_answers v)
       ≡ unlock_plan t h e c n p (n == h)
+  pub loads : e ≢ pending_place h → previous_place e ≢ pending_place h → LoadAlike (unlock_plan t h e c n p (n == h))
 
 -- whether a thread finds a cell that it may release so
 abbrev pub is_held : Fields → ℕ → Bool
@@ -150,12 +184,6 @@ UnlocksByPlan = (t h e c w n p v : ℕ) → 1 ≤ t → is_held (fields_of w) t 
 
 abbrev pub is_thread : ℕ → Bool
 is_thread t = nat_le 1 t && nat_le t 64
-
--- accesses but loads, which whoever makes the call by a plan has made before
-abbrev pub changes_in : List Access → List Access
-changes_in [] = []
-changes_in (access.Load at ∷ rest) = changes_in rest
-changes_in (x ∷ rest) = x ∷ changes_in rest
 
 abbrev pub stores_of : List ℕ → List ℕ → List Access
 stores_of (at ∷ ats) (value ∷ values) = access.Store at value ∷ stores_of ats values

@@ -8,7 +8,7 @@
 -- far each answer brings it, and what is left of it, where it is answered so and so. The laws `signals_by_plan`,
 -- `broadcasts_by_plan`, `declares_by_plan`, `refusals_by_plan`. Source: pthread_cond_signal, pthread_cond_broadcast,
 -- pthread_mutex_consistent and the errors of each call.
-use Rattle.std.specs.Prelude.{ℕ, ◌≡◌, ◌==◌, ◌+◌, ◌%◌, ◌^◌, ◌&&◌, Bool, true, false, not, Option, Some, None}
+use Rattle.std.specs.Prelude.{ℕ, ◌≡◌, ◌≢◌, ◌==◌, ◌+◌, ◌%◌, ◌^◌, ◌&&◌, Bool, true, false, not, Option, Some, None}
 use Rattle.std.specs.Prelude.{List, [], ◌∷◌, ◌++◌, take, length, if◌then◌else◌}
 use Rattle.lockword.specs.Cells.{Fields, fields_of}
 use Rattle.lockword.specs.Replies.{number_of}
@@ -37,7 +37,7 @@ use Rattle.condvar.specs.Rows.{full}
 use Rattle.condvar.specs.Whole.{cond_at}
 use Rattle.pazdrig_c.specs.Accesses.{operation_number, access_code, no_access}
 use Rattle.pazdrig_c.specs.Running.{access_of, moved, progress_of, begun}
-use Rattle.pazdrig_c.specs.Plans.{is_thread, changes_in}
+use Rattle.pazdrig_c.specs.Plans.{is_thread, changes_in, LoadAlike}
 use Rattle.pazdrig_c.specs.declared.structs.PzCall.{PzCall}
 use Rattle.pazdrig_c.specs.declared.structs.PzAccess.{PzAccess}
 use Rattle.pazdrig_c.specs.declared.structs.PzShort.{PzShort}
@@ -236,11 +236,14 @@ abbrev pub wakes_all : Operation → Fields → Bool
 wakes_all operation.Lock c = c.unusable && c.waiters
 wakes_all op c = false
 
--- and whatever doesn't refuse it leaves it undecided, but for a lock that wakes all
+-- its look may come first, where the cell isn't the pending word; and whatever doesn't refuse it leaves it undecided,
+-- but for a lock that wakes all
 pub record RefusalsByPlan : Type 0 where
   pub refuses : (op : Operation) (k : PzCall) (r : Running) (w s : ℕ) (x : Reply)
       → begun (operation_number op) k ≡ Some r → refused op k.thread (fields_of w) s ≡ Some x
       → RefusalByPlan op k r w s x
+  pub loads : (op : Operation) (k : PzCall) (own : Bool) → k.cell ≢ pending_place k.head
+      → LoadAlike (refusal_plan op own k.head k.entry k.cell k.counter)
   pub else_goes_on : (op : Operation) (k : PzCall) (r : Running) (w s : ℕ)
       → begun (operation_number op) k ≡ Some r → refused op k.thread (fields_of w) s ≡ None
       → wakes_all op (fields_of w) ≡ false

@@ -3,14 +3,16 @@ ghost use Rattle.pazdrig_c.specs.Plans.{LocksByPlan, UnlocksByPlan};
 ghost use Rattle.pazdrig_c.specs.Shorts.{SignalsByPlan, BroadcastsByPlan, DeclaresByPlan, RefusalsByPlan};
 
 /// The lock, or the trylock, of a free mutex that is answered as it expects makes just the accesses of its plan,
-/// returns the reply of whoever takes such a cell, and makes its exchange where it takes.
+/// returns the reply of whoever takes such a cell, and makes its exchange where it takes. Its loads find the same where
+/// they come before its first store.
 pub fn locks_by_plan()
     ensures { LocksByPlan }
 {}
 
 /// The unlock of a consistent mutex by its owner makes just the accesses of its plan, where its release finds that
 /// nobody waits. Up to the release it does so in any case, and stands there at the row that releases; and it returns
-/// OK, where somebody may wait and nobody was woken too.
+/// OK, where somebody may wait and nobody was woken too. Its loads find the same where they come before its first
+/// store.
 pub fn unlocks_by_plan()
     ensures { UnlocksByPlan }
 {}
@@ -38,11 +40,12 @@ pub fn declares_by_plan()
 
 /// A call that its look at the cell refuses, or of a signal or broadcast that at the counter, makes no access behind
 /// that look, and before it none but looks; but a lock and a trylock store the entry as the pending one before, and 0
-/// behind. The look is its point, and it returns what refuses it: a trylock of an owned mutex EBUSY, and of an unusable
-/// one ENOTRECOVERABLE; a lock of the thread's own mutex EDEADLK, and of an unusable one without WAITERS
-/// ENOTRECOVERABLE; each other call of who isn't the owner EPERM; consistent of a consistent mutex EINVAL; a wait of an
-/// inconsistent one X_STATE; a signal or broadcast whose counter is full X_FULL. What isn't refused so goes on
-/// undecided, but for a lock of an unusable mutex with WAITERS: that wakes all who sleep there, and isn't told here.
+/// behind; and they find the same where they look before that. The look is its point, and it returns what refuses it: a
+/// trylock of an owned mutex EBUSY, and of an unusable one ENOTRECOVERABLE; a lock of the thread's own mutex EDEADLK,
+/// and of an unusable one without WAITERS ENOTRECOVERABLE; each other call of who isn't the owner EPERM; consistent of
+/// a consistent mutex EINVAL; a wait of an inconsistent one X_STATE; a signal or broadcast whose counter is full
+/// X_FULL. What isn't refused so goes on undecided, but for a lock of an unusable mutex with WAITERS: that wakes all
+/// who sleep there, and isn't told here.
 pub fn refusals_by_plan()
     ensures { RefusalsByPlan }
 {}

@@ -118,7 +118,7 @@ module _ (w : ℕ → ℕ) (waits : ℕ → List Store) (s : State) (h : Holds w
 -- ---- one event
 
 -- a mutex is as it was where its cell is
-seen_same : (s s' : State) (k : ℕ) → s'.layout ≡ s.layout → (k < s.layout.mutexes → s'.words (cell_place s.layout k) ≡ s.words (cell_place s.layout k)) → seen s' k ≡ seen s k
+pub seen_same : (s s' : State) (k : ℕ) → s'.layout ≡ s.layout → (k < s.layout.mutexes → s'.words (cell_place s.layout k) ≡ s.words (cell_place s.layout k)) → seen s' k ≡ seen s k
 seen_same s s' k same cell = ap (λ (l : Layout'). if nat_lt k l.mutexes then object_of (fields_of (s'.words (cell_place l k))) else fresh) same ∙ go (nat_lt k s.layout.mutexes) refl
   where
     go : (b : Bool) → nat_lt k s.layout.mutexes ≡ b → (if b then object_of (fields_of (s'.words (cell_place s.layout k))) else fresh) ≡ (if b then object_of (fields_of (s.words (cell_place s.layout k))) else fresh)
@@ -257,6 +257,17 @@ module _ (w : ℕ → ℕ) (waits : ℕ → List Store) (s s' : State) (t : ℕ)
             ∙ sym (elsewhere p far).1)
             (waits_or_not p (waits u))
 
+-- memory stays
+abbrev pub IsUnwritten : Way → Type 0
+IsUnwritten Keeps = Unit {0}
+IsUnwritten (Appends xs) = Unit {0}
+IsUnwritten y = ⊥
+
+memory_stays : (y : Way) (w a : ℕ → ℕ) → IsUnwritten y → words_by y w a ≡ w
+memory_stays Keeps w a stays = refl
+memory_stays (Appends xs) w a stays = refl
+memory_stays y w a stays = absurd stays
+
 -- whoever makes no event keeps its buffer
 unlike_by : (y : Way) (t : ℕ) (waits : ℕ → List Store) (u : ℕ) → t ≢ u → waits_by y t waits u ≡ waits u
 unlike_by Keeps t waits u apart = refl
@@ -283,7 +294,7 @@ dead_by w waits s e h u dying = ⊎_elim
         (dies_so s e on)
 
 -- what a thread has is all that it stored
-view_is : (w : ℕ → ℕ) (xs : List Store) (g : Stage) → (is_alive g ≡ false → xs ≡ []) → words_seen xs w g ≡ stored xs w
+pub view_is : (w : ℕ → ℕ) (xs : List Store) (g : Stage) → (is_alive g ≡ false → xs ≡ []) → words_seen xs w g ≡ stored xs w
 view_is w xs (Dying r) none = sym (ap (λ (ys : List Store). stored ys w) (none refl))
 view_is w xs Idle none = refl
 view_is w xs (Calling o p) none = refl
@@ -297,6 +308,7 @@ pub record Next (w : ℕ → ℕ) (waits : ℕ → List Store) (s : State) (e : 
   pub note : (seen_by (buffered w waits s) e).note ≡ (happens s e).note
   pub to : next (buffered w waits s) (Happens e) ≡ buffered words buffers (happens s e).state
   pub holds : Holds words buffers (happens s e).state
+  pub unwritten : IsUnwritten (way s e (happens s e).note) → words ≡ w
   pub still : (happens s e).note ≡ Nothing → (words ≡ w) × (buffers ≡ waits)
 
 module _ (w : ℕ → ℕ) (waits : ℕ → List Store) (s : State) (e : Event) (h : Holds w waits s) where
@@ -333,6 +345,7 @@ module _ (w : ℕ → ℕ) (waits : ℕ → List Store) (s : State) (e : Event) 
         ∙ ap (λ (n : Note). left_by (buffered w waits s) e on_view (way s e n)) alike.note
         ∙ left_is its_way;
     holds = way_holds w waits s (happens s e).state who on_view.state.words h (sound s e h.kept).kept (sound s e h.kept).same (owner_stays s e h.kept) its_way (own_stays s e h.kept) (dead_by w waits s e h) alike.does;
+    unwritten = λ stays. memory_stays its_way w on_view.state.words stays;
     still = λ quiet. (ap (λ (n : Note). words_by (way s e n) w on_view.state.words) quiet, ap (λ (n : Note). waits_by (way s e n) who waits) quiet);
   }
 

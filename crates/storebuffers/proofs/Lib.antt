@@ -7,3 +7,5 @@ pub mod Holding
 pub mod Drains
 pub mod Promises
 pub mod OwnWords
+pub mod NextLoads
+pub mod LoadsFirst

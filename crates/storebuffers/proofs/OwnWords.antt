@@ -41,7 +41,7 @@ module _ (u p : ℕ) (first : 1 ≤ u) where
     own_moves s (happens s e).state u p (sound s e inv).same (λ k owns. owner_stays s e inv u k apart owns) own,
   )
 
-  all_stay : (s : State) (others : List Event) → Kept s → u ≤ s.layout.threads → AreOthers u others → IsOwn s u p → ((run s others).words p ≡ s.words p) × IsOwn (run s others) u p
+  pub all_stay : (s : State) (others : List Event) → Kept s → u ≤ s.layout.threads → AreOthers u others → IsOwn s u p → ((run s others).words p ≡ s.words p) × IsOwn (run s others) u p
   all_stay s [] inv most none own = (refl, own)
   all_stay s (e ∷ es) inv most (apart, rest) own =
       let one = one_stays s e inv most apart own in

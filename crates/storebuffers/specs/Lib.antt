@@ -1,3 +1,4 @@
 pub mod Buffers
+pub mod LoadsFirst
 pub mod OwnWords
 pub mod Runs

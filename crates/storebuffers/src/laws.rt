@@ -1,4 +1,5 @@
 //! What holds of every run with store buffers.
+ghost use Rattle.storebuffers.specs.LoadsFirst.{LoadsMayComeFirst};
 ghost use Rattle.storebuffers.specs.OwnWords.{OwnWordsStay};
 ghost use Rattle.storebuffers.specs.Runs.{BuffersChangeNothing, BuffersDrain, PromisesHoldWithBuffers};
 
@@ -31,4 +32,13 @@ pub fn buffers_drain()
 /// the thread's own stores: before the first one too.
 pub fn own_words_stay()
     ensures { OwnWordsStay }
+{}
+
+/// Whatever happened before, whatever others do meanwhile, and whenever stores reach memory: a lock, a trylock and an
+/// unlock may load all that they need before they store anything. What they announce waits; up to there memory is as it
+/// was. A lock or a trylock finds the cell as it was before it announced. The first entry of its list is the same from
+/// then on, up to its exchange, and behind that, where it loads it if nobody was in its way. The links of an unlock's
+/// entry are the same before it announces, and behind that, where it loads one and then the other.
+pub fn loads_may_come_first()
+    ensures { LoadsMayComeFirst }
 {}

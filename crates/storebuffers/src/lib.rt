@@ -10,7 +10,8 @@
 //!   is its state. So whatever the laws of `protocol` say of notes and states holds with buffers too;
 //! - `promises_hold_with_buffers`: the headline again, of memory as it stands;
 //! - `buffers_drain`: a buffer can always be emptied, whatever others do;
-//! - `own_words_stay`: nobody else changes what a thread stores, so it may load that as early as it likes.
+//! - `own_words_stay`: nobody else changes what a thread stores, so it may load that as early as it likes;
+//! - `loads_may_come_first`: so a lock, a trylock and an unlock may load all that they need before they store anything.
 //!
 //! Stands on `protocol`, for the machine, its laws and its invariant, on `mutex`, `condvar`, `robustlist` and
 //! `exitwalk`, for the accesses of calls and walks, on `stepprograms`, `memorymap`, `posixmutex` and `lockword`, for
@@ -29,4 +30,7 @@
 
 mod laws;
 
-pub use laws::{buffers_change_nothing, buffers_drain, own_words_stay, promises_hold_with_buffers};
+pub use laws::{
+    buffers_change_nothing, buffers_drain, loads_may_come_first, own_words_stay,
+    promises_hold_with_buffers,
+};
