@@ -1,7 +1,10 @@
--- The forms of a command line.
-use Rattle.std.specs.Prelude.{ℕ, ◌==◌, ◌&&◌, List, [], ◌∷◌, length, Option}
-use Rattle.std.specs.Prelude.{Some, None, option_map, codes, if◌then◌else◌}
-use Rattle.std.specs.Str.{bytes_eq}
+-- What a command line asks for.
+--
+-- *What a command line asks for.* A picture, where its words are those of its parts in any order, each part once at
+-- most: `--svg`, `--script` with SCRIPT behind it, and FILE. What signs mean, where `--legend` stands alone. Else the
+-- usage. SCRIPT and FILE don't begin with a hyphen.
+use Rattle.std.specs.Prelude.{ℕ, suc, ◌≡◌, true, List, [], ◌∷◌, ◌++◌, codes, Option}
+use Rattle.std.specs.Prelude.{option_map, option_to_list, unwrap_or, IfSome}
 use Rattle.draw_report.specs.declared.asking.Form.{Form}
 use Rattle.draw_report.specs.declared.asking.Form.TheVariants.{Picture, Legend, Usage}
 use Rattle.draw_report.specs.declared.asking.Kind.{Kind}
@@ -15,44 +18,84 @@ pub data Asked : Type 0 where
   Meaning : Asked
   Nothing : Asked
 
--- the file that is drawn where none is named
-abbrev pub standard_input : List ℕ
-standard_input = codes "/dev/stdin"
-
-abbrev pub asked_of_file : Kind → List ℕ → Asked
-asked_of_file kind file = if is_file_word file then Drawing kind None file else Nothing
-
-abbrev pub asked_by_script : Kind → List ℕ → List ℕ → Asked
-asked_by_script kind script file =
-    if is_file_word script && is_file_word file then Drawing kind (Some script) file else Nothing
-
-abbrev pub asked_of_option : Kind → List ℕ → List ℕ → List ℕ → Asked
-asked_of_option kind option script file =
-    if bytes_eq option (codes "--script") then asked_by_script kind script file else Nothing
-
--- what the words behind the kind of picture ask for: FILE, or --script SCRIPT [FILE]
-abbrev pub asked_behind : Kind → List ℕ → List (List ℕ) → Asked
-asked_behind kind word [] = asked_of_file kind word
-asked_behind kind word (script ∷ []) = asked_of_option kind word script standard_input
-asked_behind kind word (script ∷ file ∷ []) = asked_of_option kind word script file
-asked_behind kind word (a ∷ b ∷ c ∷ ws) = Nothing
-
-abbrev pub asked_of_svg : List (List ℕ) → Asked
-asked_of_svg [] = Drawing Svg None standard_input
-asked_of_svg (word ∷ ws) = asked_behind Svg word ws
-
-abbrev pub asked_of_words : List ℕ → List (List ℕ) → Asked
-asked_of_words word ws = if bytes_eq word (codes "--svg") then asked_of_svg ws
-    else (if bytes_eq word (codes "--legend") && length ws == 0 then Meaning else asked_behind Text word ws)
-
--- what the words of a command line ask for, of which the first is the program's name
-abbrev pub asked_of : List (List ℕ) → Asked
-asked_of [] = Nothing
-asked_of (program ∷ []) = Drawing Text None standard_input
-asked_of (program ∷ word ∷ ws) = asked_of_words word ws
-
 -- what a form says
 abbrev pub asked_by : Form → Asked
 asked_by (Picture kind script file) = Drawing kind (option_map (λ s. s.now) script) file.now
 asked_by Legend = Meaning
 asked_by Usage = Nothing
+
+-- the file that is drawn where none is named
+abbrev pub standard_input : List ℕ
+standard_input = codes "/dev/stdin"
+
+-- ---- the parts of a picture's command line
+
+-- that it is SVG; whose names it has; which trace it is of
+pub data Part : Type 0 where
+  AsSvg : Part
+  NamedBy : List ℕ → Part
+  OfTrace : List ℕ → Part
+
+-- the words that say so
+abbrev pub said_by : Part → List (List ℕ)
+said_by AsSvg = codes "--svg" ∷ []
+said_by (NamedBy script) = codes "--script" ∷ script ∷ []
+said_by (OfTrace file) = file ∷ []
+
+abbrev pub said_by_all : List Part → List (List ℕ)
+said_by_all [] = []
+said_by_all (p ∷ ps) = said_by p ++ said_by_all ps
+
+-- how often they say that it is SVG, and by which words they name a script and a file
+abbrev pub svgs : List Part → ℕ
+svgs [] = 0
+svgs (AsSvg ∷ ps) = suc (svgs ps)
+svgs (NamedBy script ∷ ps) = svgs ps
+svgs (OfTrace file ∷ ps) = svgs ps
+
+abbrev pub scripts : List Part → List (List ℕ)
+scripts [] = []
+scripts (AsSvg ∷ ps) = scripts ps
+scripts (NamedBy script ∷ ps) = script ∷ scripts ps
+scripts (OfTrace file ∷ ps) = scripts ps
+
+abbrev pub files : List Part → List (List ℕ)
+files [] = []
+files (AsSvg ∷ ps) = files ps
+files (NamedBy script ∷ ps) = files ps
+files (OfTrace file ∷ ps) = file ∷ files ps
+
+-- once, or not at all
+abbrev pub times : Kind → ℕ
+times Text = 0
+times Svg = 1
+
+abbrev pub IsFile : List ℕ → Type 0
+IsFile word = is_file_word word ≡ true
+
+-- the words are those of parts, in any order, which ask for this picture
+pub record AskForPicture (words : List (List ℕ)) (kind : Kind) (script trace : Option (List ℕ)) : Type 0 where
+  pub parts : List Part
+  pub said : words ≡ said_by_all parts
+  pub as_svg : svgs parts ≡ times kind
+  pub named_by : scripts parts ≡ option_to_list script
+  pub of_trace : files parts ≡ option_to_list trace
+  pub script_is_file : IfSome script IsFile
+  pub trace_is_file : IfSome trace IsFile
+
+-- ---- all command lines
+
+-- the words behind the program's name ask for a picture or for the meaning of signs
+abbrev pub AskFor : List (List ℕ) → Asked → Type 0
+AskFor words (Drawing kind script file) =
+    (trace : Option (List ℕ)) × (file ≡ unwrap_or trace standard_input) × AskForPicture words kind script trace
+AskFor words Meaning = words ≡ codes "--legend" ∷ []
+AskFor words Nothing = ⊥
+
+-- what the words of a command line ask for, of which the first is the program's name: the usage, where they ask for
+-- nothing else
+abbrev pub Asks : List (List ℕ) → Asked → Type 0
+Asks [] a = a ≡ Nothing
+Asks (program ∷ words) (Drawing kind script file) = AskFor words (Drawing kind script file)
+Asks (program ∷ words) Meaning = AskFor words Meaning
+Asks (program ∷ words) Nothing = (a : Asked) → AskFor words a → ⊥

@@ -13,9 +13,10 @@ use Rattle.streams.specs.Leaves.{AppendsFront}
 use Rattle.draw_report.specs.declared.asking.Kind.{Kind}
 use Rattle.draw_report.specs.declared.messages.Failure.{Failure}
 use Rattle.draw_report.specs.declared.messages.Failure.TheVariants.{Usage, CannotRead, CannotWrite, OutOfMemory}
-use Rattle.draw_report.specs.Asked.{Asked, Drawing, Meaning, Nothing, asked_of}
+use Rattle.draw_report.specs.Asked.{Asked, Drawing, Meaning, Nothing}
 use Rattle.draw_report.specs.Legend.{legend}
 use Rattle.draw_report.specs.Messages.{failure_text, failure_status}
+use Rattle.draw_report.specs.Reading.{asked_of}
 use Rattle.script.specs.Scope.{Scope}
 use Rattle.draw_report.specs.Scripts.{FailsScript, GivesScript}
 use Rattle.draw_report.specs.Served.{Fails, Serves}

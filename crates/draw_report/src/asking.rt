@@ -1,8 +1,9 @@
 //! What the words of a command line ask for.
 
-ghost use Rattle.std.specs.Prelude.{◌≡◌, map};
-ghost use Rattle.draw_report.specs.Asked.{asked_behind, asked_by, asked_by_script, asked_of};
-ghost use Rattle.draw_report.specs.Asked.{asked_of_file, asked_of_option, asked_of_svg};
+ghost use Rattle.std.specs.Prelude.{◌≡◌, map, option_map, Some};
+ghost use Rattle.draw_report.specs.Asked.{asked_by, Asked, Asks};
+ghost use Rattle.draw_report.specs.Reading.{asked_behind, asked_of, is_legend, no_wish, seen, wished_for};
+ghost use Rattle.draw_report.specs.Reading.{with_file, with_option, with_script, with_svg, with_word};
 
 use streams::is_file;
 
@@ -18,10 +19,10 @@ pub enum Kind {
 /// What a command line asks for.
 #[derive(Clone, Copy, Debug, PartialEq, Eq)]
 pub enum Form<'a> {
-    /// `rfx-draw [--svg] [--script SCRIPT] [FILE]`: the trace in this file is drawn, or the one on standard input, with
-    /// the names of the script. No name of a file begins with a hyphen.
+    /// `--svg`, `--script SCRIPT` and FILE, in any order, each once at most: the trace in this file is drawn, or the
+    /// one on standard input, with the names of the script. No name of a file begins with a hyphen.
     Picture(Kind, Option<&'a str>, &'a str),
-    /// `rfx-draw --legend`: what the signs of pictures in text mean.
+    /// `--legend` alone: what the signs of pictures in text mean.
     Legend,
     /// Every other command line, those that ask for help or the version among them.
     Usage,
@@ -30,73 +31,143 @@ pub enum Form<'a> {
 /// The file that is drawn where none is named.
 pub const STANDARD_INPUT: &str = "/dev/stdin";
 
-fn form_of_file<'a>(kind: Kind, file: &'a str) -> Form<'a>
-    ensures { asked_by result ≡ asked_of_file kind file.now }
-{
-    if is_file(file) {
-        Form::Picture(kind, None, file)
-    } else {
-        Form::Usage
+/// What the words of a command line said so far.
+#[derive(Clone, Copy)]
+struct Said<'a> {
+    svg: bool,
+    /// Whether the last word was `--script`: the next one names the script.
+    awaits_script: bool,
+    script: Option<&'a str>,
+    file: Option<&'a str>,
+}
+
+impl<'a> Said<'a> {
+    fn nothing() -> Said<'a>
+        ensures { seen result ≡ no_wish }
+    {
+        Said {
+            svg: false,
+            awaits_script: false,
+            script: None,
+            file: None,
+        }
+    }
+
+    fn with_svg(self) -> Option<Said<'a>>
+        ensures { option_map seen result ≡ with_svg (seen self.entry) }
+    {
+        if self.svg {
+            return None;
+        }
+        Some(Said { svg: true, ..self })
+    }
+
+    fn with_option(self) -> Option<Said<'a>>
+        ensures { option_map seen result ≡ with_option (seen self.entry) }
+    {
+        if self.script.is_some() {
+            return None;
+        }
+        Some(Said {
+            awaits_script: true,
+            ..self
+        })
+    }
+
+    fn with_script(self, word: &'a str) -> Option<Said<'a>>
+        ensures { option_map seen result ≡ with_script (seen self.entry) word.now }
+    {
+        if !is_file(word) {
+            return None;
+        }
+        Some(Said {
+            awaits_script: false,
+            script: Some(word),
+            ..self
+        })
+    }
+
+    fn with_file(self, word: &'a str) -> Option<Said<'a>>
+        ensures { option_map seen result ≡ with_file (seen self.entry) word.now }
+    {
+        if self.file.is_some() || !is_file(word) {
+            return None;
+        }
+        Some(Said {
+            file: Some(word),
+            ..self
+        })
+    }
+
+    /// What is said with one word more; nothing, where it can't stand there.
+    fn with(self, word: &'a str) -> Option<Said<'a>>
+        ensures { option_map seen result ≡ with_word (seen self.entry) word.now }
+    {
+        if self.awaits_script {
+            self.with_script(word)
+        } else if word == "--svg" {
+            self.with_svg()
+        } else if word == "--script" {
+            self.with_option()
+        } else {
+            self.with_file(word)
+        }
+    }
+
+    fn form(self) -> Form<'a>
+        ensures { asked_by result ≡ wished_for (seen self.entry) }
+    {
+        if self.awaits_script {
+            return Form::Usage;
+        }
+        let kind = if self.svg { Kind::Svg } else { Kind::Text };
+        Form::Picture(kind, self.script, self.file.unwrap_or(STANDARD_INPUT))
     }
 }
 
-fn form_by_script<'a>(kind: Kind, script: &'a str, file: &'a str) -> Form<'a>
-    ensures { asked_by result ≡ asked_by_script kind script.now file.now }
-{
-    if is_file(script) && is_file(file) {
-        Form::Picture(kind, Some(script), file)
-    } else {
-        Form::Usage
-    }
-}
-
-fn form_of_option<'a>(kind: Kind, option: &str, script: &'a str, file: &'a str) -> Form<'a>
-    ensures { asked_by result ≡ asked_of_option kind option.now script.now file.now }
-{
-    if option == "--script" {
-        form_by_script(kind, script, file)
-    } else {
-        Form::Usage
-    }
-}
-
-/// The form of the words behind the kind of picture, of which there is one or more.
-fn form_behind<'a>(kind: Kind, word: &'a str, words: &'a [&'a str]) -> Form<'a>
-    ensures { asked_by result ≡ asked_behind kind word.now (map (λ w. w.now) words.now) }
+/// The form of a picture's words, behind those that said this.
+fn form_behind<'a>(said: Said<'a>, words: &'a [&'a str]) -> Form<'a>
+    ensures { asked_by result ≡ asked_behind (Some (seen said.entry)) (map (λ w. w.now) words.now) }
 {
     match words {
-        [] => form_of_file(kind, word),
-        [script] => form_of_option(kind, word, script, STANDARD_INPUT),
-        [script, file] => form_of_option(kind, word, script, file),
-        [_, _, _, ..] => Form::Usage,
+        [] => said.form(),
+        [word, rest @ ..] => match said.with(word) {
+            Some(said) => form_behind(said, rest),
+            None => Form::Usage,
+        },
     }
 }
 
-/// The form of the words behind `--svg`.
-fn form_of_svg<'a>(words: &'a [&'a str]) -> Form<'a>
-    ensures { asked_by result ≡ asked_of_svg (map (λ w. w.now) words.now) }
+fn is_legend(words: &[&str]) -> bool
+    ensures { result ≡ is_legend (map (λ w. w.now) words.now) }
 {
     match words {
-        [] => Form::Picture(Kind::Svg, None, STANDARD_INPUT),
-        [word, rest @ ..] => form_behind(Kind::Svg, word, rest),
+        [word] => *word == "--legend",
+        [] | [_, _, ..] => false,
     }
 }
 
-/// The form of a command line, of which the first word is the program's name.
-pub fn form_of_words<'a>(words: &'a [&'a str]) -> Form<'a>
+fn read<'a>(words: &'a [&'a str]) -> Form<'a>
     ensures { asked_by result ≡ asked_of (map (λ w. w.now) words.now) }
 {
     match words {
         [] => Form::Usage,
-        [_] => Form::Picture(Kind::Text, None, STANDARD_INPUT),
-        [_, word, rest @ ..] => {
-            if *word == "--svg" {
-                form_of_svg(rest)
-            } else if *word == "--legend" && rest.is_empty() {
+        [_, rest @ ..] => {
+            if is_legend(rest) {
                 Form::Legend
             } else {
-                form_behind(Kind::Text, word, rest)
+                form_behind(Said::nothing(), rest)
             }
         }
     }
+}
+
+/// The form of a command line, of which the first word is the program's name. It is the only one that these words ask
+/// for.
+pub fn form_of_words<'a>(words: &'a [&'a str]) -> Form<'a>
+    ensures value { asked_by result ≡ asked_of (map (λ w. w.now) words.now) }
+    ensures asks { Asks (map (λ w. w.now) words.now) (asked_by result) }
+    ensures alone { (a : Asked) → Asks (map (λ w. w.now) words.now) a → a ≡ asked_by result }
+{
+    read(words)
 }

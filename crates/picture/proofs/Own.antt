@@ -39,14 +39,14 @@ columns-stays (Asleep op) = refl
 columns-stays Dying = refl
 columns-stays Reaped = refl
 
+some_either : (b : Bool) (m n : ℕ) → 1 ≤ m → 1 ≤ (if b then max m n else m)
+some_either true m n some = omega (arith, some)
+some_either false m n some = some
+
 pub width_some : (x : Extent) → 1 ≤ width x
 width_some x =
     let plain : 1 ≤ plain_width x.threads = grind (arith, nat_tests) in
-    go (is_wide x) plain
-  where
-    go : (b : Bool) → 1 ≤ plain_width x.threads → 1 ≤ (if b then max (plain_width x.threads) (x.letters + 5) else plain_width x.threads)
-    go true plain = omega (arith, plain)
-    go false plain = plain
+    some_either (is_wide x) (plain_width x.threads) _ plain
 
 -- ---- what stands in the lanes before the line's own
 

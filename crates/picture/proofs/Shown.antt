@@ -15,7 +15,7 @@ use Rattle.picture.specs.declared.bands.Extent.{Extent}
 use Rattle.picture.specs.declared.lane.Lane.{Lane}
 use Rattle.picture.specs.declared.rows.Part.TheVariants as part
 use Rattle.picture.specs.declared.scene.Scene.{Scene}
-use Rattle.picture.specs.Laws.{AreNames, EndsWithABlank, HasNumbersOfATrace, HasRoomForNames, ShownLanesStandInTheirColumns, Shows, StandsInItsColumns, columns}
+use Rattle.picture.specs.Laws.{AreNames, EndsWithABlank, HasNumbersOfATrace, HasRoomForNames, PartsItsWords, ShownLanesStandInTheirColumns, Shows, StandsInItsColumns, columns}
 use Rattle.picture.specs.Layouts.{band_width, gap, is_wide, plain_width, width}
 use Rattle.picture.specs.Bands.{mutex_at}
 use Rattle.picture.specs.Names.{Called, mutex_head, mutex_tail, thread_head, thread_tail}
@@ -43,15 +43,11 @@ up_to_next n w some =
     let split = mod-add-div n w in
     grind (arith, split, some)
 
--- a lane that has room for words has room for those of an arrow, with its sign and a blank
-wide_room : (x : Extent) → is_wide x ≡ true → 5 + max x.letters 5 ≤ width x
+-- a lane that has room for words has room for those of an arrow, with its sign and a blank on both sides
+wide_room : (x : Extent) → is_wide x ≡ true → 6 + max x.letters 5 ≤ width x
 wide_room x isw =
-    let plain : 10 ≤ plain_width x.threads = grind (arith, nat_tests, isw) in
-    go (is_wide x) isw plain
-  where
-    go : (b : Bool) → b ≡ true → 10 ≤ plain_width x.threads → 5 + max x.letters 5 ≤ (if b then max (plain_width x.threads) (x.letters + 5) else plain_width x.threads)
-    go true e plain = omega (arith, plain)
-    go false e plain = absurd cc
+    let plain : 11 ≤ plain_width x.threads = grind (arith, nat_tests, isw) in
+    subst (λ (b : Bool). 6 + max x.letters 5 ≤ (if b then max (plain_width x.threads) (x.letters + 6) else plain_width x.threads)) (sym isw) (omega (arith, plain))
 
 module _ (x : Extent) (t : ℕ) (from : Option ℕ) (s : List ℕ) (ws : List (List ℕ)) (one : columns s ≡ 1) (letters : Letters (concat ws) 60) (short : is_from_right t from ≡ true → length (concat ws) ≤ 3 + max x.letters 5) where
   signed : (rest : List ℕ) → columns ((s ++ codes " ") ++ (concat ws ++ rest)) ≡ 2 + (length (concat ws) + columns rest)
@@ -61,12 +57,11 @@ module _ (x : Extent) (t : ℕ) (from : Option ℕ) (s : List ℕ) (ws : List (L
       let c = columns-append (concat ws) rest in
       omega (arith, a, b, c, one, letters.single)
 
-  ends_wide : (n : ℕ) → columns (arrow_end n) ≡ n
-  ends_wide n =
-      let a = columns-append (repeat (min n 1) (codes " ")) (repeat (n - 1) dash) in
-      let b = columns-repeat (min n 1) (codes " ") refl in
-      let c = columns-repeat (n - 1) dash refl in
-      omega (arith, a, b, c)
+  ends_wide : (n : ℕ) → 1 ≤ n → columns (arrow_end n) ≡ n
+  ends_wide n some =
+      let a = columns-append (codes " ") (repeat (n - 1) dash) in
+      let b = columns-repeat (n - 1) dash refl in
+      omega (arith, a, b, some)
 
   all_taken : taken ws ≡ 2 + length (concat ws)
   all_taken = omega (arith, less_is 62 ws, letters.few)
@@ -77,7 +72,8 @@ module _ (x : Extent) (t : ℕ) (from : Option ℕ) (s : List ℕ) (ws : List (L
       let n = less (width x - 2) ws in
       let wide = ap (λ b. columns (if b then wide_mark x t from s ws else narrow_mark x t from s)) isw in
       let arrow = ap (λ b. columns ((s ++ codes " ") ++ (concat ws ++ (if b then arrow_end n else repeat (blanks x t ws) (codes " "))))) isr in
-      wide ∙ arrow ∙ omega (arith, signed (arrow_end n), ends_wide n, less_is (width x - 2) ws, short isr, ten)
+      let some : 1 ≤ n = omega (arith, less_is (width x - 2) ws, short isr, ten) in
+      wide ∙ arrow ∙ omega (arith, signed (arrow_end n), ends_wide n some, less_is (width x - 2) ws, short isr, ten)
   mark_wide true false isw isr fits =
       let some = width_some x in
       let behind : nat_le (x.threads - t) (reach x ws) ≡ false = grind (arith, nat_tests, fits) in
@@ -394,9 +390,35 @@ mutex_letters n x names room i lt small = elim (cases_lt (mutex_at x.bands i) 10
 two_letters : (a b : List ℕ) (k : ℕ) → Letters (a ++ b) k → Letters (concat (a ∷ b ∷ [])) k
 two_letters a b k p = record { single = ap (λ y. columns (a ++ y)) (append-nil b) ∙ p.single ∙ ap (λ y. length (a ++ y)) (sym (append-nil b)); few = subst (λ (y : List ℕ). length (a ++ y) ≤ k) (sym (append-nil b)) p.few }
 
+-- a blank parts a line's words from its arrow
+apart : (n : Called) (x : Extent) (s : Scene) (l : Line) → is_wide x ≡ true → is_from_right (thread_of l.fact) (from_at s l) ≡ true → PartsItsWords n x s l
+apart n x s l isw isr = record { dashes = less (width x - 2) ws - 1; whole = wide ∙ arrow ∙ sym (append_assoc (sg ++ codes " ") (concat ws) end) ∙ ap (λ z. z ++ end) (append_assoc sg (codes " ") (concat ws)) }
+  where
+    t : ℕ
+    t = thread_of l.fact
+
+    from : Option ℕ
+    from = from_at s l
+
+    ws : List (List ℕ)
+    ws = words_at n s l
+
+    sg : List ℕ
+    sg = sign l.fact from
+
+    end : List ℕ
+    end = arrow_end (less (width x - 2) ws)
+
+    wide : mark x t from sg ws ≡ wide_mark x t from sg ws
+    wide = ap (λ b. if b then wide_mark x t from sg ws else narrow_mark x t from sg) isw
+
+    arrow : wide_mark x t from sg ws ≡ (sg ++ codes " ") ++ (concat ws ++ end)
+    arrow = ap (λ b. (sg ++ codes " ") ++ (concat ws ++ (if b then end else repeat (blanks x t ws) (codes " ")))) isr
+
 pub shown : ShownLanesStandInTheirColumns
 shown = record {
   lanes = stands;
+  arrows = apart;
   bands = λ n x s l names room numbers i. padded_ends (band_width x) (max x.letters 3 + 1) (owner_pieces n (slice_index_or s.objects i fresh)) (owner_letters n x names room (slice_index_or s.objects i fresh) (numbers.owners i)) (omega arith);
   heads = λ n x names room i lt small.
       let p = both_letters _ _ _ (mutex_letters n x names room i lt small) in

@@ -7,7 +7,7 @@
 -- *A lane that shows something stands in its columns.* A row is a text of 8 columns for the event, those of each band
 -- and of each lane before this one, then what stands in the lane, then the rest: of each lane that no words of another
 -- one cover, where the numbers of the line and the owners have as many digits as a trace's, and names are as a
--- script's. The last column of a band is blank.
+-- script's. The last column of a band is blank. Where an arrow goes on behind the words of a line, a blank parts them.
 --
 -- *Texts have room.* A letter is taken to be 7.5 pixels wide at most, which is more than one of a monospaced font at 11
 -- pixels takes: then the words of a line end within the picture, up to five threads before the next lane's marks, and
@@ -15,7 +15,7 @@
 use Rattle.std.specs.Prelude.{All, Any, IsSomeAnd, Some, None, ℕ, ◌≡◌, ◌≢◌, ◌≤◌, ◌<◌, ◌+◌, ◌-◌}
 use Rattle.std.specs.Prelude.{◌*◌, ◌/◌, ◌^◌, ◌==◌, nat_lt, Bool, true, false, List, [], ◌∷◌, ◌++◌}
 use Rattle.std.specs.Prelude.{length, codes, decimal, slice_index_or, IfSome, if◌then◌else◌}
-use Rattle.std.specs.List.{concat}
+use Rattle.std.specs.List.{concat, repeat}
 use Rattle.posixmutex.specs.Objects.{fresh}
 use Rattle.facts.specs.declared.fact.Line.{Line}
 use Rattle.facts.specs.Facts.{decision_of, thread_of}
@@ -26,11 +26,13 @@ use Rattle.picture.specs.declared.bands.Extent.{Extent}
 use Rattle.picture.specs.Bands.{band_of, mutex_at, shown}
 use Rattle.picture.specs.Drawn.{extent_in}
 use Rattle.picture.specs.Heads.{band_head}
-use Rattle.picture.specs.Layouts.{band_width, width}
+use Rattle.picture.specs.Layouts.{band_width, is_wide, width}
 use Rattle.picture.specs.Names.{Called, most_letters, mutex_head, mutex_tail, thread_head, thread_tail}
 use Rattle.picture.specs.Places.{band_x, lane_x, number_x, row_y, words_x}
-use Rattle.picture.specs.Rows.{band_at, cell_at, cells, from_at, mark, part_of, row_text, sign, words_at}
+use Rattle.picture.specs.Rows.{band_at, cell_at, cells, from_at, is_from_right}
+use Rattle.picture.specs.Rows.{mark, part_of, row_text, sign, words_at}
 use Rattle.picture.specs.Shapes.{words_y}
+use Rattle.picture.specs.Signs.{dash}
 use Rattle.picture.specs.Style.{shapes_style, style}
 use Rattle.picture.specs.Svg.{line_marks, svg_width}
 use Rattle.picture.specs.Words.{first_number, second_number}
@@ -120,11 +122,20 @@ pub record EndsWithABlank (text : List ℕ) : Type 0 where
   pub name : List ℕ
   pub whole : text ≡ name ++ codes " "
 
+-- a line's words, and behind a blank the arrow that goes on to the right
+pub record PartsItsWords (n : Called) (x : Extent) (s : Scene) (l : Line) : Type 0 where
+  pub dashes : ℕ
+  pub whole : mark_of_line n x s l
+      ≡
+      (sign l.fact (from_at s l) ++ (codes " " ++ concat (words_at n s l))) ++ (codes " " ++ repeat dashes dash)
+
 -- so does each lane that shows something, whatever the line's words and its arrow, where there is room for the names
 pub record ShownLanesStandInTheirColumns : Type 0 where
   pub lanes : (n : Called) (x : Extent) (s : Scene) (l : Line) → AreNames n → HasRoomForNames n x
       → HasNumbersOfATrace s l → 1 ≤ thread_of l.fact → thread_of l.fact ≤ x.threads → (u : ℕ) → 1 ≤ u → u ≤ x.threads
       → Shows n x s l u → StandsInItsColumns n x s l u
+  pub arrows : (n : Called) (x : Extent) (s : Scene) (l : Line) → is_wide x ≡ true
+      → is_from_right (thread_of l.fact) (from_at s l) ≡ true → PartsItsWords n x s l
   pub bands : (n : Called) (x : Extent) (s : Scene) (l : Line) → AreNames n → HasRoomForNames n x
       → HasNumbersOfATrace s l → (i : ℕ) → EndsWithABlank (band_at n x s.objects i)
   pub heads : (n : Called) (x : Extent) → AreNames n → HasRoomForNames n x → (i : ℕ) → i < x.bands.count

@@ -12,13 +12,13 @@ plain_width threads = if nat_le threads 3 then 24
     else (if threads == 4 then 18
     else (if threads == 5 then 14
     else (if threads == 6 then 12
-    else (if nat_le threads 8 then 10
+    else (if nat_le threads 8 then 11
     else (if nat_le threads 16 then 4
     else (if nat_le threads 32 then 2 else 1))))))
 
--- how many columns a lane takes: one that has room for words has room for a sign and `to NAME` beside it
+-- how many columns a lane takes: one that has room for words has room for a sign, `to NAME` beside it and a blank
 abbrev pub width : Extent → ℕ
-width x = if is_wide x then max (plain_width x.threads) (x.letters + 5) else plain_width x.threads
+width x = if is_wide x then max (plain_width x.threads) (x.letters + 6) else plain_width x.threads
 
 -- how many columns a band takes: it has room for a name, a mark and a blank
 abbrev pub band_width : Extent → ℕ

@@ -63,10 +63,9 @@ is_from_right t (Some a) = nat_lt t a
 abbrev pub blanks : Extent → ℕ → List (List ℕ) → ℕ
 blanks x t ws = if nat_le (x.threads - t) (reach x ws) then 0 else width x - (taken ws % width x)
 
--- the end of an arrow from the right, in so many columns behind its words: a blank where there is one, and the arrow in
--- the others
+-- the end of an arrow from the right, in so many columns behind its words: a blank, and the arrow in the others
 abbrev pub arrow_end : ℕ → List ℕ
-arrow_end n = repeat (min n 1) (codes " ") ++ repeat (n - 1) dash
+arrow_end n = codes " " ++ repeat (n - 1) dash
 
 -- sign and words; an arrow from the right begins behind them
 abbrev pub wide_mark : Extent → ℕ → Option ℕ → List ℕ → List (List ℕ) → List ℕ

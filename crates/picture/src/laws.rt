@@ -10,7 +10,7 @@ pub fn marks_stand_in_their_lanes()
 {}
 
 /// Each lane that shows something at a row stands behind as many columns as the event, the bands and the lanes before
-/// it have, and a blank stands behind each band.
+/// it have, and a blank stands behind each band, and behind the words of a line where its arrow goes on to the right.
 pub fn shown_lanes_stand_in_their_columns()
     ensures { ShownLanesStandInTheirColumns }
 {}

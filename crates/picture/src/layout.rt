@@ -25,21 +25,21 @@ fn plain_width(threads: u8) -> usize
         4 => 18,
         5 => 14,
         6 => 12,
-        7 | 8 => 10,
+        7 | 8 => 11,
         9..=16 => 4,
         17..=32 => 2,
         _ => 1,
     }
 }
 
-/// How many columns a lane takes.
+/// How many columns a lane takes: with room for words it has room for a sign, `to NAME` and a blank.
 pub fn width(extent: &Extent) -> usize
     ensures value { result ≡ width extent.now }
     ensures some { 1 ≤ result }
 {
     let plain = plain_width(extent.threads);
     if is_wide(extent) {
-        plain.max(usize::from(extent.letters) + 5)
+        plain.max(usize::from(extent.letters) + 6)
     } else {
         plain
     }

@@ -154,12 +154,11 @@ fn blanks(row: &Row<'_>) -> usize
     width.saturating_sub(taken(row.words) % width)
 }
 
-/// The end of an arrow from the right, in so many columns behind its words: a blank where there is one, and the arrow
-/// in the others.
+/// The end of an arrow from the right, in so many columns behind its words: a blank, and the arrow in the others.
 fn add_arrow_end(text: &mut String, columns: usize) -> Result<(), AllocError>
     ensures { IfOk result (λ _. string_bytes text.new ≡ string_bytes text.old ++ arrow_end columns) }
 {
-    fill(text, " ", columns.min(1))?;
+    add(text, &[" "])?;
     fill(text, "─", columns.saturating_sub(1))
 }
 

@@ -5,7 +5,8 @@ use std::alloc::Global;
 use std::io;
 use text_fixtures::{Answered, Folder, words};
 
-pub(crate) const USAGE: &str = "usage: rfx-draw [--svg] [--script SCRIPT] [FILE] | --legend\n";
+pub(crate) const USAGE: &str =
+    "usage: rfx-draw [--svg] [--script SCRIPT] [FILE] (in any order) | --legend\n";
 
 /// What the program answers these words, or the error of having them, among these files.
 pub(crate) fn answer_of(

@@ -29,16 +29,19 @@ static DRAWN: [(&[&str], &str, usize); 4] = [
 ];
 
 /// Other command lines.
-static OTHERS: [&[&str]; 10] = [
+static OTHERS: [&[&str]; 13] = [
     &["rfx-draw", "-f"],
     &["rfx-draw", "-"],
     &["rfx-draw", "--help"],
     &["rfx-draw", "f", "f"],
-    &["rfx-draw", "f", "--svg"],
+    &["rfx-draw", "f", "--svg", "f"],
     &["rfx-draw", "--svg", "-f"],
     &["rfx-draw", "--svg", "--svg"],
     &["rfx-draw", "--svg", "f", "f"],
+    &["rfx-draw", "--svg", "f", "--svg"],
     &["rfx-draw", "--legend", "f"],
+    &["rfx-draw", "f", "--legend"],
+    &["rfx-draw", "--legend", "--legend"],
     &[],
 ];
 
@@ -117,7 +120,11 @@ const SVG_END: &str =
     "<text class=\"n\" x=\"48\" y=\"52\">1</text><path class=\"b\" d=\"M110 48m-7 0h14\"/><text class=\"t\" x=\"120\" y=\"52\">lock m0</text>\n<text class=\"n\" x=\"48\" y=\"70\">1</text><text x=\"54\" y=\"70\">end</text>\n</svg>\n";
 
 /// Command lines that ask for SVG.
-static SVG_LINES: [&[&str]; 2] = [&["rfx-draw", "--svg"], &["rfx-draw", "--svg", "f"]];
+static SVG_LINES: [&[&str]; 3] = [
+    &["rfx-draw", "--svg"],
+    &["rfx-draw", "--svg", "f"],
+    &["rfx-draw", "f", "--svg"],
+];
 
 #[test]
 fn svg_is_drawn(rt: HostRuntime) {

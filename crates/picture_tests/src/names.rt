@@ -1,9 +1,9 @@
 //! `rfx-draw --script`: pictures with the names of a script, and scripts that are refused.
 
-use crate::answers::Wanted;
+use crate::answers::{Wanted, answer_of};
 use crate::commands::{SCRIPT, TRACE, draws_or_wants_memory};
 use std::alloc::Global;
-use text_fixtures::Folder;
+use text_fixtures::{Folder, words};
 
 /// With the names of the script.
 const NAMED: &str = " event  accounts  alice\n     1  -         ┌ lock accounts\n     1  end\n";
@@ -12,9 +12,10 @@ const UNLIKE: &str =
     "rfx-draw: script: not of this trace, which has other numbers of threads, mutexes or condition variables\n";
 
 /// Scripts, command lines, and the pictures with the scripts' names.
-static DRAWN: [(&[u8], &[&str], &str); 3] = [
+static DRAWN: [(&[u8], &[&str], &str); 4] = [
     (SCRIPT, &["rfx-draw", "--script", "s"], NAMED),
     (SCRIPT, &["rfx-draw", "--script", "s", "f"], NAMED),
+    (SCRIPT, &["rfx-draw", "f", "--script", "s"], NAMED),
     (
         b"# commands say nothing of names\nthread t2\nmutex m\ncall t2 lock m\nkill t2\n",
         &["rfx-draw", "--script", "s", "f"],
@@ -30,13 +31,14 @@ const WITH_A_CONDITION: (&[u8], &[u8], &str) = (
 );
 
 /// Other command lines.
-static OTHERS: [&[&str]; 9] = [
+static OTHERS: [&[&str]; 10] = [
     &["rfx-draw", "--script"],
     &["rfx-draw", "--scripts", "s"],
     &["rfx-draw", "--script", "-s"],
     &["rfx-draw", "--script", "s", "-f"],
     &["rfx-draw", "--script", "s", "f", "f"],
-    &["rfx-draw", "--script", "s", "--svg"],
+    &["rfx-draw", "--script", "s", "--script", "s"],
+    &["rfx-draw", "f", "--script"],
     &["rfx-draw", "--script", "--svg", "s"],
     &["rfx-draw", "--svg", "--script"],
     &["rfx-draw", "--legend", "--script", "s"],
@@ -152,6 +154,33 @@ fn scripts_give_names(rt: HostRuntime) {
         assert!(rt;
             are_answered(rt.alloc(), *script, *line, wanted),
             "of {script:?}"
+        );
+    }
+}
+
+/// The options of a picture in SVG with names, and its trace, in each order.
+static ORDERS: [&[&str]; 6] = [
+    &["rfx-draw", "--svg", "--script", "s", "f"],
+    &["rfx-draw", "--svg", "f", "--script", "s"],
+    &["rfx-draw", "--script", "s", "--svg", "f"],
+    &["rfx-draw", "--script", "s", "f", "--svg"],
+    &["rfx-draw", "f", "--svg", "--script", "s"],
+    &["rfx-draw", "f", "--script", "s", "--svg"],
+];
+
+const NAMED_END: &str =
+    "lock accounts</text>\n<text class=\"n\" x=\"48\" y=\"70\">1</text><text x=\"54\" y=\"70\">end</text>\n</svg>\n";
+
+#[test]
+fn options_stand_in_any_order(rt: HostRuntime) {
+    for line in &ORDERS {
+        let files = Folder::with_script(SCRIPT, TRACE);
+        let answered = answer_of(rt.alloc(), words(rt.alloc(), *line), &files);
+        assert!(rt; answered.status == 0 && answered.told.is_empty() && files.opened.get() == 2);
+        assert!(rt;
+            answered.printed.starts_with(b"<svg xmlns")
+                && answered.printed.ends_with(NAMED_END.as_bytes()),
+            "of {line:?}"
         );
     }
 }

@@ -51,12 +51,12 @@ static PICTURES: [(&str, &str); 24] = [
     // Words that are longer than their lane cover the next one; and of three mutexes the one that is used has a band.
     (
         "trace 8 3 0\n1 begin t7 consistent m0\n2 begin t8 lock m1\n3 point t7 m0 consistent EPERM\nend 3\n",
-        " event  m0   t1        t2        t3        t4        t5        t6        t7        t8\n     1  -    ·         ·         ·         ·         ·         ·         ┌ consistent m0\n     2  -    ·         ·         ·         ·         ·         ·         │         ┌ lock m1\n     3  -    ·         ·         ·         ·         ·         ·         ● m0 EPERM\n     3  end\n",
+        " event  m0   t1         t2         t3         t4         t5         t6         t7         t8\n     1  -    ·          ·          ·          ·          ·          ·          ┌ consistent m0\n     2  -    ·          ·          ·          ·          ·          ·          │          ┌ lock m1\n     3  -    ·          ·          ·          ·          ·          ·          ● m0 EPERM │\n     3  end\n",
     ),
-    // Words behind an arrow that fill their lane hide the next one's sign.
+    // Words that fill their lane hide the next one's sign; the longest ones behind an arrow don't.
     (
-        "trace 7 1001 0\n1 begin t1 lock m0\n1 move t2 m1000\n1 move t1 m2\nend 1\n",
-        " event  t1        t2        t3        t4        t5        t6        t7\n     1  ┌ lock m0 ·         ·         ·         ·         ·         ·\n     1  ├─────────> to m1000          ·         ·         ·         ·\n     1  ○ to m2   ·         ·         ·         ·         ·         ·\n     1  end\n",
+        "trace 7 1001 0\n1 begin t1 lock m100\n1 move t2 m1000\n1 move t1 m2\nend 1\n",
+        " event  t1         t2         t3         t4         t5         t6         t7\n     1  ┌ lock m100           ·          ·          ·          ·          ·\n     1  ├──────────> to m1000 ·          ·          ·          ·          ·\n     1  ○ to m2    ·          ·          ·          ·          ·          ·\n     1  end\n",
     ),
     // Two lanes of 24 columns, and bands for eight mutexes.
     (
@@ -89,10 +89,10 @@ static PICTURES: [(&str, &str); 24] = [
         "trace 6 1 0\n1 begin t2 lock m0\nend 1\n",
         " event  m0   t1          t2          t3          t4          t5          t6\n     1  -    ·           ┌ lock m0   ·           ·           ·           ·\n     1  end\n",
     ),
-    // Words behind an arrow from the right that fill their lane: the next one begins where it should.
+    // The longest words that an arrow from the right goes on behind: a blank parts them.
     (
-        "trace 7 1001 1\n1 begin t3 lock m0\n1 move t2 m1000\n2 begin t1 lock m1\nend 2\n",
-        " event  t1        t2        t3        t4        t5        t6        t7\n     1  ·         ·         ┌ lock m0 ·         ·         ·         ·\n     1  ·         < to m1000┤         ·         ·         ·         ·\n     2  ┌ lock m1 ·         │         ·         ·         ·         ·\n     2  end\n",
+        "trace 7 1001 1\n1 begin t3 lock m0\n1 move t2 m1000\n1 move t1 m1000\n2 begin t1 lock m1\nend 2\n",
+        " event  t1         t2         t3         t4         t5         t6         t7\n     1  ·          ·          ┌ lock m0  ·          ·          ·          ·\n     1  ·          < to m1000 ┤          ·          ·          ·          ·\n     1  < to m1000 ───────────┤          ·          ·          ·          ·\n     2  ┌ lock m1  ·          │          ·          ·          ·          ·\n     2  end\n",
     ),
     // Sixteen lanes of 4 columns.
     (
@@ -194,7 +194,7 @@ static NAMED: [(Called, &str, &str); 3] = [
         "trace 2 1 0\n1 begin t1 lock m0\n4 point t1 m0 lock OK\n9 return t1 OK\n10 kill t1\n16 death t1 m0\n16 reaped t1\n17 begin t2 lock m0\n20 point t2 m0 lock EOWNERDEAD\n25 return t2 EOWNERDEAD\n26 begin t2 consistent m0\n28 point t2 m0 consistent OK\n28 return t2 OK\nend 28\n",
         " event  accounts  alice                   bob\n     1  -         ┌ lock accounts         ·\n     4  alice     ● accounts OK           ·\n     9  alice     └ OK                    ·\n    10  alice     ╳ killed                ·\n    16  -!        ! accounts owner died   ·\n    16  -!        † reaped                ·\n    17  -!        †                       ┌ lock accounts\n    20  bob!      †                       ● accounts EOWNERDEAD\n    25  bob!      †                       └ EOWNERDEAD\n    26  bob!      †                       ┌ consistent accounts\n    28  bob       †                       ● accounts OK\n    28  bob       †                       └ OK\n    28  end\n",
     ),
-    // Eight threads, and a name of sixteen letters: an arrow from the right begins behind it.
+    // Eight threads, and a name of sixteen letters: an arrow from the right begins behind it, and a blank parts them.
     (
         (
             &["a", "b", "c", "d", "e", "f", "g", "h"],
@@ -202,7 +202,7 @@ static NAMED: [(Called, &str, &str); 3] = [
             &["nonempty"],
         ),
         "trace 8 1 1\n1 begin t3 wait c0 m0\n1 move t2 m0\nend 1\n",
-        " event  abcdefghijklmnop  a                    b                    c                    d                    e                    f                    g                    h\n     1  -                 ·                    ·                    ┌ wait nonempty abcdefghijklmnop          ·                    ·                    ·                    ·\n     1  -                 ·                    < to abcdefghijklmnop┤                    ·                    ·                    ·                    ·                    ·\n     1  end\n",
+        " event  abcdefghijklmnop  a                     b                     c                     d                     e                     f                     g                     h\n     1  -                 ·                     ·                     ┌ wait nonempty abcdefghijklmnop            ·                     ·                     ·                     ·\n     1  -                 ·                     < to abcdefghijklmnop ┤                     ·                     ·                     ·                     ·                     ·\n     1  end\n",
     ),
     // Nine: names are written downwards.
     (
