@@ -155,7 +155,7 @@ static uint32_t wait_watching(struct sleeper *s, unsigned owner)
             pz_reap_one(s->p, all.thread[i]);
     if (is_known(error))
         return ended(s, owner, error);
-    if (error == ENOSYS || error == EPERM) /* an older kernel, or a filter of calls that doesn't know it */
+    if (error == ENOSYS || error == EPERM) /* an older kernel, or a filter of calls: so it isn't asked each time */
         atomic_store(&no_waitv, 1);
     return wait_looking(s, owner);
 }
