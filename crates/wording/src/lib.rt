@@ -30,6 +30,6 @@ mod wrong;
 pub use known::known_words;
 pub use laws::known_words_are_those_that_fit;
 pub use near::nearest;
-pub use next::{Next, mode_of_word};
+pub use next::{Next, is_scripted, mode_of_word};
 pub use place::{place_of, word_at};
 pub use wrong::{Kind, Wrong, first_wrong, is_line};

@@ -10,11 +10,12 @@ use strsim::osa_distance;
 fn most_edits(word: &str) -> usize
     ensures { result ≡ most_edits word.now }
 {
-    word.len().max(3) / 3
+    let letters = word.chars().count();
+    (word.len().max(3) / 3).min(letters.saturating_sub(1))
 }
 
 /// The first of these words that is as near to the word as any, by letters that are more, less, others or swapped; None
-/// where all are too far: more than a third of its bytes, and more than one.
+/// where all are too far: more than a third of its bytes, and more than one; or as many as the word has letters.
 pub fn nearest<'a>(
     alloc: Global,
     word: &str,

@@ -126,7 +126,7 @@ fn is_call(word: &str) -> bool
 }
 
 /// Whether the word is that of a call that scripts make.
-fn is_scripted(word: &str) -> bool
+pub fn is_scripted(word: &str) -> bool
     ensures { result ≡ is_scripted word.now }
 {
     match word.parse::<Operation>() {
