@@ -6,7 +6,8 @@ use Rattle.std.proofs.lemmas.List.{at_drop_more, take_all}
 use Rattle.lines.specs.Lines.{words_of}
 use Rattle.explain.specs.declared.explanation.Advice.{Advice}
 use Rattle.explain.specs.declared.explanation.Things.{Things}
-use Rattle.explain.specs.Advised.{IsNameAdvice, IsUndeclared, first_declared, first_earlier, first_undeclared, is_undeclared, listed, names_in, single_name, twice, uses_of, word_at}
+use Rattle.explain.specs.Advised.{IsNameAdvice, IsUndeclared, first_declared, first_earlier, first_undeclared, is_undeclared, listed, names_in, single_name, twice, word_at}
+use Rattle.explain.specs.Roles.{uses_of}
 use Rattle.explain.specs.Sought.{count_of, declares, is_clashing}
 use Rattle.explain.specs.Stray.{word_of}
 use Rattle.explain.proofs.Earlier.{taken}

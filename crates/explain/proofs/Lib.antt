@@ -1,7 +1,10 @@
 pub mod Earlier
 pub mod Pieces
+pub mod Showing
 pub mod Ends
+pub mod Beginnings
 pub mod Titles
 pub mod Declared
 pub mod Letters
-pub mod Modes
+pub mod Pointing
+pub mod Allowing

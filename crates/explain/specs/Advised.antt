@@ -1,10 +1,12 @@
 -- What is told of the line that a title names: which of its words is marked, what is said of it, and which earlier
 -- line it goes back to.
-use Rattle.std.specs.Prelude.{ℕ, ◌≡◌, ◌⊎◌, ◌+◌, ◌-◌, ◌==◌, ◌++◌, nat_le, nat_lt, Bool, true, not}
+use Rattle.std.specs.Prelude.{ℕ, ◌≡◌, ◌⊎◌, ◌+◌, ◌-◌, ◌==◌, ◌++◌, ◌||◌, nat_eq, nat_le, nat_lt, Bool, true, not}
 use Rattle.std.specs.Prelude.{◌&&◌, List, [], ◌∷◌, length, take, reverse, Option, Some, None}
-use Rattle.std.specs.Prelude.{option_map, Ok, codes, if◌then◌else◌, MatchBool, MatchOption}
-use Rattle.std.specs.Option.{is_none}
+use Rattle.std.specs.Prelude.{option_and_then, option_map, slice_get, Ok, codes, if◌then◌else◌, MatchBool, MatchOption}
+use Rattle.std.specs.List.{list_any, starts_with}
+use Rattle.std.specs.Option.{is_none, is_some}
 use Rattle.std.specs.Str.{bytes_eq}
+use Rattle.std.specs.Str.Lossy.{utf8_valid_len}
 use Rattle.std.specs.Str.Parse.{digits_value}
 use Rattle.lines.specs.Lines.{lines_of, words_of}
 use Rattle.lines.specs.Numbers.{is_number, within}
@@ -14,6 +16,11 @@ use Rattle.script.specs.declared.fault.Fault.{Fault as ScriptReason}
 use Rattle.script.specs.Limits as script
 use Rattle.verdict.specs.declared.fault.Fault.TheVariants as of_trace
 use Rattle.verdict.specs.declared.fault.Fault.{Fault as TraceReason}
+use Rattle.posixmutex.specs.declared.point.Decision.{Decision}
+use Rattle.facts.specs.declared.fact.Line.{Line}
+use Rattle.facts.specs.Facts.{decision_of}
+use Rattle.verdict.specs.declared.misfit.Misfit.{Misfit}
+use Rattle.verdict.specs.declared.misfit.Misfit.TheVariants.{NotAllowed}
 use Rattle.verdict.specs.declared.misfit.TraceMisfit.{TraceMisfit}
 use Rattle.verdict.specs.Limits as trace
 use Rattle.verdict.specs.Reading.{Trace, trace_read}
@@ -24,33 +31,49 @@ use Rattle.wording.specs.Wrongs.{IsFirstWrong, is_line}
 use Rattle.explain.specs.declared.explanation.Advice.{Advice}
 use Rattle.explain.specs.declared.explanation.Mark.{Mark}
 use Rattle.explain.specs.declared.explanation.Note.{Note}
-use Rattle.explain.specs.declared.explanation.Note.TheVariants.{NoLineFeed, BehindCommand, Range, TooMany, PastLast}
-use Rattle.explain.specs.declared.explanation.Note.TheVariants.{NothingDeclared, Undeclared, DeclaredTwice, DiesTwice}
+use Rattle.explain.specs.declared.explanation.Looks.{Looks}
+use Rattle.explain.specs.declared.explanation.Looks.TheVariants.{Utf16, Binary, Latin1}
+use Rattle.explain.specs.declared.explanation.Note.TheVariants.{NoLineFeed, BadByte, LooksSo, BehindCommand}
+use Rattle.explain.specs.declared.explanation.Note.TheVariants.{Range, TooMany, PastLast}
+use Rattle.explain.specs.declared.explanation.Note.TheVariants.{NothingDeclared, Undeclared, OtherThing}
+use Rattle.explain.specs.declared.explanation.Note.TheVariants.{DeclaredTwice, DiesTwice, Allowed}
 use Rattle.explain.specs.declared.explanation.Note.TheVariants.{Bytes, Lines, Events, Uncounted, NoEnd, BehindEnd}
 use Rattle.explain.specs.declared.explanation.Title.{Title}
 use Rattle.explain.specs.declared.explanation.Title.TheVariants.{Good, Script, Legal, Illegal, Trace as TraceTitle}
 use Rattle.explain.specs.declared.explanation.Things.{Things}
 use Rattle.explain.specs.declared.explanation.Things.TheVariants.{Processes, Threads, Mutexes, Conditions}
+use Rattle.explain.specs.Allowed.{standing_of}
 use Rattle.explain.specs.Origins.{origin_of}
-use Rattle.explain.specs.Sought.{count_of, declares, first_line, is_clashing, is_command, is_of, things_of}
+use Rattle.explain.specs.Roles.{lack_note, uses_of}
+use Rattle.explain.specs.Sought.{count_of, declares, declares_any, first_line, is_clashing, is_command, is_of}
+use Rattle.explain.specs.Sought.{things_of}
 use Rattle.explain.specs.Stray.{IsExpected, is_last, line_of, lines_in, stray_note, word_of}
 
 -- ---- what may be told
 
 abbrev pub nothing : Advice
-nothing = record { mark = None; note = None; origin = None }
+nothing = record { mark = None; note = None; also = None; origin = None }
 
 -- something is said, and nothing marked
 abbrev pub saying : Note → Advice
-saying n = record { mark = None; note = Some n; origin = None }
+saying n = record { mark = None; note = Some n; also = None; origin = None }
 
 -- word i is marked, which is of the right kind, and something said of it
 abbrev pub marking : ℕ → Note → Advice
-marking i n = record { mark = Some (record { word = i; expected = None; near = None }); note = Some n; origin = None }
+marking i n = record {
+  mark = Some (record { word = i; expected = None; near = None });
+  note = Some n;
+  also = None;
+  origin = None;
+}
+
+-- and something is said besides
+abbrev pub besides : Note → Advice → Advice
+besides n a = record { mark = a.mark; note = a.note; also = Some n; origin = a.origin }
 
 -- and it goes back to an earlier line, if there is one
 abbrev pub back_to : Option ℕ → Advice → Advice
-back_to o a = record { mark = a.mark; note = a.note; origin = o }
+back_to o a = record { mark = a.mark; note = a.note; also = a.also; origin = o }
 
 -- word i of line n
 abbrev pub word_at : List ℕ → ℕ → ℕ → List ℕ
@@ -62,22 +85,28 @@ first_earlier text n p = first_line p 1 (take (n - 1) (lines_of text))
 
 -- ---- unknown words
 
+abbrev pub note_or : Option Note → Option Note → Option Note
+note_or (Some n) o = Some n
+note_or None o = o
+
 -- the first word of the line at which no line of the kind can go on is marked, with what it has to be, the known word
--- that it is nearest to, and what is said beside such a word
-pub record MarksFirstWrong (k : Kind) (line : List ℕ) (a : Advice) : Type 0 where
+-- that it is nearest to, and what is said beside such a word, or what is missing; and what would be told of a right
+-- line is said too
+pub record MarksFirstWrong (k : Kind) (line : List ℕ) (here a : Advice) : Type 0 where
   pub mark : Mark
   pub marked : a.mark ≡ Some mark
   pub first : IsFirstWrong k (words_of line) mark.word
   pub expected : IsExpected k (words_of line) mark.word mark.expected (option_map (λ w. w.now) mark.near)
-  pub note : a.note ≡ stray_note k line mark.word
-  pub origin : a.origin ≡ None
+  pub note : a.note ≡ note_or (stray_note k line mark.word) (lack_note k (words_of line) mark.word)
+  pub also : a.also ≡ here.note
+  pub origin : a.origin ≡ here.origin
 
 -- line n isn't one of the kind, or not here: no line feed ends it; or its first wrong word is marked; or it is one,
 -- and then this is told
 abbrev pub IsStray : Kind → List ℕ → ℕ → Advice → Advice → Type 0
 IsStray k text n here a = MatchBool (is_last (lines_of text) n)
     (a ≡ saying NoLineFeed)
-    (MarksFirstWrong k (line_of text n) a ⊎ ((is_line k (words_of (line_of text n)) ≡ true) × (a ≡ here)))
+    (MarksFirstWrong k (line_of text n) here a ⊎ ((is_line k (words_of (line_of text n)) ≡ true) × (a ≡ here)))
 
 -- ---- numbers
 
@@ -150,10 +179,6 @@ missing_of things first count None = None
 missing_of things first count (Some digits) =
     if is_uncounted first count digits then Some (Uncounted things count) else None
 
-abbrev pub note_or : Option Note → Option Note → Option Note
-note_or (Some n) o = Some n
-note_or None o = o
-
 -- what the first line counts of that which this word is, where it doesn't count the word's
 abbrev pub uncounted : List ℕ → List ℕ → Option Note
 uncounted head w = note_or (missing_of Threads 1 (counted_in head 1) (behind 116 w))
@@ -195,35 +220,6 @@ abbrev pub names_in : Things → List (List ℕ) → List (List ℕ)
 names_in things [] = []
 names_in things (t ∷ ts) = listed (single_name things t) ++ names_in things ts
 
--- what a call names: its thread, and the condition variable or the mutex that it is made on
-abbrev pub uses_of_call : List ℕ → List (Things × ℕ)
-uses_of_call w = if bytes_eq w (codes "wait") then (Threads, 1) ∷ (Conditions, 3) ∷ []
-    else (if bytes_eq w (codes "signal") then (Threads, 1) ∷ (Conditions, 3) ∷ []
-    else (if bytes_eq w (codes "broadcast") then (Threads, 1) ∷ (Conditions, 3) ∷ []
-    else (Threads, 1) ∷ (Mutexes, 3) ∷ []))
-
--- the words of a line with this first word, and this third one, that name what is declared before, in the order in
--- which they are looked up
-abbrev pub uses_of : List ℕ → List ℕ → List (Things × ℕ)
-uses_of w call = if bytes_eq w (codes "thread") then (Processes, 2) ∷ []
-    else (if bytes_eq w (codes "cond") then (Mutexes, 2) ∷ []
-    else (if bytes_eq w (codes "step") then (Threads, 1) ∷ []
-    else (if bytes_eq w (codes "kill") then (Threads, 1) ∷ []
-    else (if bytes_eq w (codes "renew") then (Threads, 1) ∷ []
-    else (if bytes_eq w (codes "reinit") then (Threads, 1) ∷ (Mutexes, 2) ∷ []
-    else (if bytes_eq w (codes "leave") then (Threads, 1) ∷ []
-    else (if bytes_eq w (codes "decline") then (Threads, 1) ∷ []
-    else (if bytes_eq w (codes "go") then (Threads, 1) ∷ []
-    else (if bytes_eq w (codes "die") then (Threads, 1) ∷ []
-    else (if bytes_eq w (codes "recount") then (Conditions, 1) ∷ []
-    else (if bytes_eq w (codes "spare") then (Threads, 1) ∷ []
-    else (if bytes_eq w (codes "resleep") then (Threads, 1) ∷ []
-    else (if bytes_eq w (codes "repeat") then (Threads, 1) ∷ []
-    else (if bytes_eq w (codes "killall") then (Processes, 1) ∷ []
-    else (if bytes_eq w (codes "locks") then (Mutexes, 2) ∷ (Threads, 1) ∷ []
-    else (if bytes_eq w (codes "begin") then uses_of_call call
-    else (if bytes_eq w (codes "call") then uses_of_call call else [])))))))))))))))))
-
 -- word i of line n names such a thing, and no line before declares the name
 abbrev pub is_undeclared : List ℕ → ℕ → Things → ℕ → Bool
 is_undeclared text n things i = not (length (word_at text n i) == 0)
@@ -234,7 +230,22 @@ abbrev pub first_undeclared : List ℕ → ℕ → List (Things × ℕ) → Opti
 first_undeclared text n [] = None
 first_undeclared text n (u ∷ us) = if is_undeclared text n u.0 u.1 then Some u else first_undeclared text n us
 
--- that word is marked, with the name declared so far that it is nearest to
+-- of the lines before line n, the first that declares the name, as whatever
+abbrev pub first_named : List ℕ → ℕ → List ℕ → Option ℕ
+first_named text n name = first_earlier text n (λ t. declares_any (words_of t) name)
+
+-- what that line declares
+abbrev pub things_at : List ℕ → Option ℕ → Option Things
+things_at text None = None
+things_at text (Some n) = things_of (word_at text n 0)
+
+-- what is said of a name that no line declares as such a thing: which other thing has it, if one does
+abbrev pub missing_note : Things → Option Things → Note
+missing_note things None = Undeclared things
+missing_note things (Some other) = OtherThing other things
+
+-- that word is marked, with the name declared so far that it is nearest to. Where another thing has its name, it goes
+-- back to the line that declares that
 pub record IsUndeclared (text : List ℕ) (n : ℕ) (things : Things) (i : ℕ) (a : Advice) : Type 0 where
   pub mark : Mark
   pub marked : a.mark ≡ Some mark
@@ -242,8 +253,9 @@ pub record IsUndeclared (text : List ℕ) (n : ℕ) (things : Things) (i : ℕ) 
   pub expected : mark.expected ≡ None
   pub near : IsNearest (word_at text n i) (names_in things (take (n - 1) (lines_of text)))
       (option_map (λ w. w.now) mark.near)
-  pub note : a.note ≡ Some (Undeclared things)
-  pub origin : a.origin ≡ None
+  pub note : a.note ≡ Some (missing_note things (things_at text (first_named text n (word_at text n i))))
+  pub also : a.also ≡ None
+  pub origin : a.origin ≡ first_named text n (word_at text n i)
 
 -- of the lines before line n, which has these words, the first that has its thread die
 abbrev pub first_death : List ℕ → ℕ → List (List ℕ) → Option ℕ
@@ -276,18 +288,40 @@ abbrev pub script_length : List ℕ → ℕ → Advice
 script_length text n = if nat_lt script.max_bytes (length text) then saying (Bytes script.max_bytes)
     else (if nat_lt script.max_lines n then saying (Lines script.max_lines) else marking 0 (Events script.max_events))
 
+-- of the lines before line n, the first command, if that is a declaration
+abbrev pub command_before : List ℕ → ℕ → Option ℕ
+command_before text n = if is_some (things_of (word_at text n 0)) then first_earlier text n is_command else None
+
+abbrev pub late : Option ℕ → Advice
+late None = nothing
+late (Some m) = back_to (Some m) (marking 0 BehindCommand)
+
 -- a declaration behind a command goes back to the first one
 abbrev pub behind_command : List ℕ → ℕ → Advice
-behind_command text n = back_to (first_earlier text n is_command) (marking 0 BehindCommand)
+behind_command text n = late (command_before text n)
 
--- what is told of line n of a script for this mode, for this fault
-abbrev pub IsScriptAdvice : Mode → List ℕ → ℕ → ScriptReason → Advice → Type 0
-IsScriptAdvice k text n of_script.NotUtf8 a = a ≡ nothing
-IsScriptAdvice k text n of_script.UnknownWord a = IsStray (kind.Script k) text n (behind_command text n) a
-IsScriptAdvice k text n of_script.OutOfRange a = a ≡ script_range text n
-IsScriptAdvice k text n of_script.NoSuchName a = IsNameAdvice text n a
-IsScriptAdvice k text n of_script.TooLong a = a ≡ script_length text n
-IsScriptAdvice k text n of_script.OutOfMemory a = a ≡ nothing
+-- ---- what is no text
+
+-- what bytes look like that aren't UTF-8: they begin with a byte order mark of UTF-16; a byte is 0, which no text has; or
+-- neither
+abbrev pub looks_of : List ℕ → Looks
+looks_of bytes = if starts_with nat_eq bytes (255 ∷ 254 ∷ []) || starts_with nat_eq bytes (254 ∷ 255 ∷ []) then Utf16
+    else (if list_any (λ b. b == 0) bytes then Binary else Latin1)
+
+-- the first byte that is no part of a character is told
+abbrev pub no_text : List ℕ → Advice
+no_text bytes = besides (LooksSo (looks_of bytes)) (saying (BadByte (utf8_valid_len bytes + 1)))
+
+-- ---- faults of scripts
+
+-- what is told of line n of a script for this mode, for this fault; the text is that of the bytes
+abbrev pub IsScriptAdvice : Mode → List ℕ → List ℕ → ℕ → ScriptReason → Advice → Type 0
+IsScriptAdvice k bytes text n of_script.NotUtf8 a = a ≡ no_text bytes
+IsScriptAdvice k bytes text n of_script.UnknownWord a = IsStray (kind.Script k) text n (behind_command text n) a
+IsScriptAdvice k bytes text n of_script.OutOfRange a = a ≡ script_range text n
+IsScriptAdvice k bytes text n of_script.NoSuchName a = IsNameAdvice text n a
+IsScriptAdvice k bytes text n of_script.TooLong a = a ≡ script_length text n
+IsScriptAdvice k bytes text n of_script.OutOfMemory a = a ≡ nothing
 
 -- ---- traces
 
@@ -299,26 +333,42 @@ abbrev pub cut_short : List ℕ → ℕ → Advice
 cut_short text n = if (length (line_of text n) == 0) && is_last (lines_of text) n then saying NoEnd
     else saying BehindEnd
 
--- what is told of line n of a trace, for this fault
-abbrev pub IsTraceAdvice : List ℕ → ℕ → TraceReason → Advice → Type 0
-IsTraceAdvice text n of_trace.NotUtf8 a = a ≡ nothing
-IsTraceAdvice text n of_trace.UnknownWord a = IsStray (kind_of n) text n nothing a
-IsTraceAdvice text n of_trace.OutOfRange a = a ≡ trace_range text n
-IsTraceAdvice text n of_trace.TooLong a = a ≡ saying (Bytes trace.max_bytes)
-IsTraceAdvice text n of_trace.Cut a = a ≡ cut_short text n
-IsTraceAdvice text n of_trace.OutOfMemory a = a ≡ nothing
+-- what is told of line n of a trace, for this fault; the text is that of the bytes
+abbrev pub IsTraceAdvice : List ℕ → List ℕ → ℕ → TraceReason → Advice → Type 0
+IsTraceAdvice bytes text n of_trace.NotUtf8 a = a ≡ no_text bytes
+IsTraceAdvice bytes text n of_trace.UnknownWord a = IsStray (kind_of n) text n nothing a
+IsTraceAdvice bytes text n of_trace.OutOfRange a = a ≡ trace_range text n
+IsTraceAdvice bytes text n of_trace.TooLong a = a ≡ saying (Bytes trace.max_bytes)
+IsTraceAdvice bytes text n of_trace.Cut a = a ≡ cut_short text n
+IsTraceAdvice bytes text n of_trace.OutOfMemory a = a ≡ nothing
+
+-- of a reply that a mutex doesn't allow, those are told that it does
+abbrev pub allowed_note : Misfit → Option Decision → Option Note
+allowed_note (NotAllowed o x) (Some d) = Some (Allowed (standing_of o d.thread) d.operation)
+allowed_note m d = None
+
+-- the step of the line that doesn't fit, of these lines, the first of which is line 2
+abbrev pub step_at : List Line → ℕ → Option Decision
+step_at es line = option_and_then (λ e. decision_of e.fact) (slice_get es (line - 2))
+
+abbrev pub misfit_advice : List Line → TraceMisfit → Advice
+misfit_advice es why = record {
+  mark = None;
+  note = allowed_note why.misfit (step_at es why.line);
+  also = None;
+  origin = origin_of es why;
+}
 
 -- of a line that doesn't fit the line is told that its reason goes back to
 abbrev pub IsMisfitAdvice : List ℕ → TraceMisfit → Advice → Type 0
-IsMisfitAdvice bytes why a = (t : Trace) × (trace_read bytes ≡ Ok t)
-    × (a ≡ back_to (origin_of (reverse t.told) why) nothing)
+IsMisfitAdvice bytes why a = (t : Trace) × (trace_read bytes ≡ Ok t) × (a ≡ misfit_advice (reverse t.told) why)
 
 -- ---- all of them
 
 -- what is told beside this title of these bytes
 abbrev pub IsAdvised : List ℕ → Title → Advice → Type 0
 IsAdvised bytes (Good run threads) a = a ≡ nothing
-IsAdvised bytes (Script k e) a = IsScriptAdvice k (lines_in bytes) e.line e.fault a
+IsAdvised bytes (Script k e) a = IsScriptAdvice k bytes (lines_in bytes) e.line e.fault a
 IsAdvised bytes (Legal points) a = a ≡ nothing
 IsAdvised bytes (Illegal why) a = IsMisfitAdvice bytes why a
-IsAdvised bytes (TraceTitle e) a = IsTraceAdvice (lines_in bytes) e.line e.fault a
+IsAdvised bytes (TraceTitle e) a = IsTraceAdvice bytes (lines_in bytes) e.line e.fault a

@@ -1,8 +1,10 @@
 -- What is told of a file's bytes.
-use Rattle.std.specs.Prelude.{ℕ, ◌≡◌, ◌⊎◌, ◌||◌, Bool, true, false, List, []}
-use Rattle.std.specs.Prelude.{◌∷◌, Option, Some, None, Ok, Err, codes, nat_eq}
+use Rattle.std.specs.Prelude.{ℕ, ◌≡◌, ◌⊎◌, ◌||◌, ◌==◌, Bool, true, false, List, [], ◌∷◌, map, take, drop}
+use Rattle.std.specs.Prelude.{Option, Some, None, Ok, Err, codes, nat_eq, if◌then◌else◌}
+use Rattle.std.specs.Char.{to_ascii_lowercase}
 use Rattle.std.specs.List.{starts_with}
 use Rattle.std.specs.Option.{is_none}
+use Rattle.std.specs.Str.{bytes_eq}
 use Rattle.lines.specs.Lines.{lines_of, words_of}
 use Rattle.script.specs.declared.command.Mode.{Mode}
 use Rattle.script.specs.declared.command.Mode.TheVariants.{Run, Threads}
@@ -20,12 +22,24 @@ use Rattle.explain.specs.declared.explanation.Title.{Title}
 use Rattle.explain.specs.declared.explanation.Title.TheVariants.{Good, Script, Legal, Illegal, Trace}
 use Rattle.explain.specs.declared.explanation.Explanation.{Explanation}
 use Rattle.explain.specs.Advised.{IsAdvised}
-use Rattle.explain.specs.Stray.{lines_in, word_of}
+use Rattle.explain.specs.Stray.{byte_order_mark, lines_in, word_of}
 use Rattle.explain.specs.Texts.{explanation_text}
 
--- a trace's first line begins so
+-- the bytes behind blanks and tabs, and those behind a byte order mark, if they begin so
+abbrev pub behind_blanks : List ℕ → List ℕ
+behind_blanks [] = []
+behind_blanks (b ∷ bs) = if (b == 32) || (b == 9) then behind_blanks bs else b ∷ bs
+
+abbrev pub behind_mark : List ℕ → List ℕ
+behind_mark bytes = if starts_with nat_eq bytes byte_order_mark then drop 3 bytes else bytes
+
+-- it begins as a trace's first line does, or in capitals
+abbrev pub begins_trace : List ℕ → Bool
+begins_trace bytes = bytes_eq (map to_ascii_lowercase (take 6 bytes)) (codes "trace ")
+
+-- a trace begins so, as it should or behind what mustn't stand there
 abbrev pub is_trace : List ℕ → Bool
-is_trace bytes = starts_with nat_eq bytes (codes "trace ")
+is_trace bytes = begins_trace (behind_blanks (behind_mark bytes))
 
 -- as a script of this mode the bytes have this first fault, or none: the reader's; or the one that the machine meets in
 -- running it, too many events
@@ -37,15 +51,14 @@ IsFaultOf Run bytes (Some e) = (script_read Run bytes ≡ Err e)
     ⊎ ((s : Scope) × (script_read Run bytes ≡ Ok s) × (overlong s ≡ Some e.line) × (e.fault ≡ fault.TooLong))
 
 -- the mode that the first line points to which only scripts of one mode have, and the machine's where none does; what
--- stands behind the last line feed is no line
+-- stands behind the last line feed is a line too, and none need be text
 abbrev pub mode_or : Option Mode → Mode → Mode
 mode_or (Some k) other = k
 mode_or None other = other
 
 abbrev pub mode_in : List (List ℕ) → Mode
 mode_in [] = Run
-mode_in (t ∷ []) = Run
-mode_in (t ∷ u ∷ ts) = mode_or (mode_of_word (word_of (words_of t) 0)) (mode_in (u ∷ ts))
+mode_in (t ∷ ts) = mode_or (mode_of_word (word_of (words_of t) 0)) (mode_in ts)
 
 -- of the faults that the machine and real threads find, that of this mode
 abbrev pub fault_of : Mode → ScriptFault → ScriptFault → ScriptFault
@@ -58,7 +71,7 @@ pub record IsRefused (bytes : List ℕ) (k : Mode) (e : ScriptFault) : Type 0 wh
   pub of_threads : ScriptFault
   pub run : IsFaultOf Run bytes (Some of_run)
   pub threads : IsFaultOf Threads bytes (Some of_threads)
-  pub mode : k ≡ mode_in (lines_of (lines_in bytes))
+  pub mode : k ≡ mode_in (lines_of bytes)
   pub fault : e ≡ fault_of k of_run of_threads
 
 -- one mode at least takes it

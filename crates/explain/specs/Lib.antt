@@ -1,9 +1,11 @@
 pub mod Stray
 pub mod Sought
+pub mod Roles
 pub mod Origins
 pub mod Words
 pub mod Shown
 pub mod Misfits
+pub mod Allowed
 pub mod Notes
 pub mod Texts
 pub mod Asked

@@ -12,7 +12,7 @@ use Rattle.script.specs.Reading.{is_numbered}
 use Rattle.explain.specs.declared.explanation.Things.{Things}
 use Rattle.explain.specs.declared.explanation.Things.TheVariants.{Processes, Threads, Mutexes, Conditions}
 use Rattle.explain.specs.declared.sought.Sought.{Sought}
-use Rattle.explain.specs.declared.sought.Sought.TheVariants.{Declaration, Numbered, Any, Command, Death}
+use Rattle.explain.specs.declared.sought.Sought.TheVariants.{Declaration, Name, Numbered, Any, Command, Death}
 use Rattle.explain.specs.Stray.{word_of}
 
 -- what a line with this first word declares
@@ -38,14 +38,20 @@ is_of things (Some other) = are_same other things
 abbrev pub count_of : List ℕ → ℕ
 count_of w = if is_number w then unwrap_or (within 0 max_mutexes (digits_value 10 w)) 0 else 0
 
--- a line of these words declares the name: it is the second word, or of `mutexes` that word with a number below the
+-- a declaration of these words gives the name: it is the second word, or of `mutexes` that word with a number below the
 -- count behind it
-abbrev pub declares : List (List ℕ) → Things → List ℕ → Bool
-declares ws things name = is_of things (things_of (word_of ws 0))
-    &&
-    (if bytes_eq (word_of ws 0) (codes "mutexes")
+abbrev pub gives : List (List ℕ) → List ℕ → Bool
+gives ws name = if bytes_eq (word_of ws 0) (codes "mutexes")
     then is_numbered (word_of ws 1) (count_of (word_of ws 2)) name
-    else bytes_eq (word_of ws 1) name)
+    else bytes_eq (word_of ws 1) name
+
+-- a line of these words declares the name as such a thing
+abbrev pub declares : List (List ℕ) → Things → List ℕ → Bool
+declares ws things name = is_of things (things_of (word_of ws 0)) && gives ws name
+
+-- as whatever
+abbrev pub declares_any : List (List ℕ) → List ℕ → Bool
+declares_any ws name = is_some (things_of (word_of ws 0)) && gives ws name
 
 -- a name that it declares is the stem with a number below n behind it, as a single name has it, or one of the same stem
 abbrev pub is_clashing : List (List ℕ) → List ℕ → ℕ → Bool
@@ -58,6 +64,7 @@ is_command text = not (is_silent text) && not (is_some (things_of (word_of (word
 
 abbrev pub is_sought : Sought → List ℕ → Bool
 is_sought (Declaration things name) text = declares (words_of text) things name.now
+is_sought (Name name) text = declares_any (words_of text) name.now
 is_sought (Numbered stem n) text = is_clashing (words_of text) stem.now n
 is_sought (Any things) text = is_of things (things_of (word_of (words_of text) 0))
 is_sought Command text = is_command text

@@ -1,8 +1,8 @@
 -- What is said of words at which no line of a kind can go on.
-use Rattle.std.specs.Prelude.{ℕ, ◌≡◌, ◌-◌, Bool, true, false, not, ◌||◌, ◌==◌, List, [], ◌∷◌, length}
+use Rattle.std.specs.Prelude.{ℕ, ◌≡◌, ◌-◌, Bool, true, false, not, ◌||◌, ◌&&◌, ◌==◌, nat_eq, nat_le, List, [], ◌∷◌, length, codes}
 use Rattle.std.specs.Prelude.{take, slice_get, Option, Some, None, option_map, unwrap_or, if◌then◌else◌}
 use Rattle.std.specs.Option.{is_some}
-use Rattle.std.specs.List.{list_any}
+use Rattle.std.specs.List.{list_any, starts_with}
 use Rattle.std.specs.Str.{is_utf8}
 use Rattle.lines.specs.Lines.{lines_of, words_of}
 use Rattle.script.specs.declared.command.Mode.TheVariants.{Run, Threads}
@@ -10,7 +10,7 @@ use Rattle.script.specs.declared.command.Mode.{Mode}
 use Rattle.wording.specs.declared.wrong.Kind.{Kind}
 use Rattle.wording.specs.declared.wrong.Kind.TheVariants.{Script, Head, Trace}
 use Rattle.wording.specs.declared.next.Next.{Next}
-use Rattle.wording.specs.Nexts.{mode_of_word}
+use Rattle.wording.specs.Nexts.{is_scripted, mode_of_word}
 use Rattle.wording.specs.Known.{known_words}
 use Rattle.wording.specs.Near.{IsNearest}
 use Rattle.wording.specs.Wrongs.{Awaits, IsFirstWrong, ends_at, is_line}
@@ -18,7 +18,8 @@ use Rattle.explain.specs.declared.explanation.Mark.{Mark}
 use Rattle.explain.specs.declared.explanation.Note.{Note}
 use Rattle.explain.specs.declared.explanation.Note.TheVariants.{CarriageReturn, LeadingBlank, TwoBlanks}
 use Rattle.explain.specs.declared.explanation.Note.TheVariants.{TrailingBlank, Tab, Remark, EmptyLine, NoRemarks}
-use Rattle.explain.specs.declared.explanation.Note.TheVariants.{OtherMode, OfTrace, OfScript}
+use Rattle.explain.specs.declared.explanation.Note.TheVariants.{OtherMode, OfTrace, OfScript, ByteOrderMark}
+use Rattle.explain.specs.declared.explanation.Note.TheVariants.{Capitals, Slashes, CallWord}
 
 -- ---- what is said
 
@@ -39,6 +40,13 @@ ends_in_return text = is_return (slice_get text (length text - 1))
 abbrev pub has_tab : List ℕ → Bool
 has_tab w = list_any (λ b. b == 9) w
 
+abbrev pub has_capital : List ℕ → Bool
+has_capital w = list_any (λ b. nat_le 65 b && nat_le b 90) w
+
+-- U+FEFF, in UTF-8
+abbrev pub byte_order_mark : List ℕ
+byte_order_mark = 239 ∷ 187 ∷ 191 ∷ []
+
 abbrev pub is_remark : List ℕ → Bool
 is_remark [] = false
 is_remark (b ∷ bs) = b == 35
@@ -49,22 +57,40 @@ remark_note (Script k) = Remark
 remark_note Head = NoRemarks
 remark_note Trace = NoRemarks
 
+-- as remarks begin elsewhere
+abbrev pub is_slashes : List ℕ → Bool
+is_slashes w = starts_with nat_eq w (codes "//")
+
+abbrev pub slashes_note : Kind → Note
+slashes_note (Script k) = Slashes
+slashes_note Head = NoRemarks
+slashes_note Trace = NoRemarks
+
 abbrev pub mode_note : Option Mode → Option Note → Option Note
 mode_note (Some k) n = Some (OtherMode k)
 mode_note None n = n
 
--- the line is one of the other mode, or of a trace; or it is one of scripts
+-- the line is one of the other mode, or of a trace, or begins with a call; or it is one of scripts
 abbrev pub kind_note : Kind → List (List ℕ) → List ℕ → Option Note
-kind_note (Script k) ws w =
-    mode_note (mode_of_word w) (if is_line Trace ws || is_line Head ws then Some OfTrace else None)
+kind_note (Script k) ws w = mode_note (mode_of_word w)
+    (if is_line Trace ws || is_line Head ws then Some OfTrace else (if is_scripted w then Some CallWord else None))
 kind_note Head ws w = if is_line (Script Run) ws || is_line (Script Threads) ws then Some OfScript else None
 kind_note Trace ws w = if is_line (Script Run) ws || is_line (Script Threads) ws then Some OfScript else None
+
+abbrev pub capitals_note : List ℕ → Option Note → Option Note
+capitals_note w (Some n) = Some n
+capitals_note w None = if has_capital w then Some Capitals else None
+
+-- the first word of a line
+abbrev pub first_note : Kind → List (List ℕ) → List ℕ → Option Note
+first_note k ws w = if starts_with nat_eq w byte_order_mark then Some ByteOrderMark
+    else (if is_slashes w then Some (slashes_note k) else capitals_note w (kind_note k ws w))
 
 abbrev pub word_note : Kind → List ℕ → ℕ → List ℕ → Option Note
 word_note k text i w = if ends_in_return text then Some CarriageReturn
     else (if has_tab w then Some Tab
     else (if is_remark w then Some (remark_note k)
-    else (if i == 0 then kind_note k (words_of text) w else None)))
+    else (if i == 0 then first_note k (words_of text) w else None)))
 
 abbrev pub note_of : Kind → List ℕ → ℕ → Option (List ℕ) → Option Note
 note_of k text i None = None

@@ -1,5 +1,5 @@
 -- The text of what is told of a file.
-use Rattle.std.specs.Prelude.{ℕ, ◌-◌, Bool, true, false, ◌==◌, min, max, List, [], ◌∷◌, ◌++◌, length, take}
+use Rattle.std.specs.Prelude.{ℕ, ◌+◌, ◌-◌, Bool, true, false, ◌==◌, min, max, List, [], ◌∷◌, ◌++◌, length, take}
 use Rattle.std.specs.Prelude.{drop, replicate, Option, Some, None, option_map, codes, decimal, if◌then◌else◌}
 use Rattle.std.specs.List.{concat, flat_map}
 use Rattle.lines.specs.Lines.{words_of}
@@ -19,7 +19,7 @@ use Rattle.explain.specs.declared.explanation.Explanation.{Explanation}
 use Rattle.explain.specs.Words.{expected_words, mode_words}
 use Rattle.explain.specs.Misfits.{misfit_text}
 use Rattle.explain.specs.Notes.{note_text}
-use Rattle.explain.specs.Shown.{columns, shown}
+use Rattle.explain.specs.Shown.{columns, shown, width}
 use Rattle.explain.specs.Stray.{line_of}
 
 -- ---- what the file is
@@ -49,8 +49,12 @@ abbrev pub trace_text : List ℕ → TraceFault → List ℕ
 trace_text file e = place_text file e.line
     ++ (fault_text (traces.number_of e.fault) (traces.words_of e.fault) ++ concat (codes " (a trace)\n" ∷ []))
 
+unfoldable pub point_words : ℕ → List ℕ
+point_words n = if n == 1 then codes " point\n" else codes " points\n"
+
 abbrev pub legal_text : List ℕ → ℕ → List ℕ
-legal_text file points = concat (file ∷ codes ": a legal trace, of " ∷ decimal points ∷ codes " points\n" ∷ [])
+legal_text file points =
+    concat (file ∷ codes ": a legal trace, of " ∷ []) ++ concat (decimal points ∷ point_words points ∷ [])
 
 abbrev pub illegal_text : List ℕ → TraceMisfit → List ℕ
 illegal_text file why = place_text file why.line
@@ -77,13 +81,15 @@ abbrev pub line_text : List ℕ → List ℕ
 line_text line = concat (codes "  | " ∷ []) ++ (shown line ++ concat (codes "\n" ∷ []))
 
 -- under the bytes from start to end of the line stand carets, one at least, and blanks before them; a start one behind
--- the line's end is a column more
+-- the line's end is a column more. What stands behind the columns that are shown is marked by one caret, at the ellipsis
 abbrev pub carets : List ℕ → ℕ → ℕ → List ℕ
 carets line start end =
     let front = min start (length line) in
     let back = min end (length line) in
-    concat (codes "  | " ∷ []) ++ (replicate (columns (take front line)) 32 ++ (replicate (start - front) 32
-    ++ (replicate (max (columns (take (back - front) (drop front line))) 1) 94 ++ concat (codes "\n" ∷ []))))
+    let before = min (columns (take front line)) width in
+    let marked = max (columns (take (back - front) (drop front line))) 1 in
+    concat (codes "  | " ∷ []) ++ (replicate before 32 ++ (replicate (start - front) 32
+    ++ (replicate (min marked (width + 1 - before)) 94 ++ concat (codes "\n" ∷ []))))
 
 -- word i of the line is marked
 abbrev pub caret_text : List ℕ → ℕ → List ℕ
@@ -131,4 +137,5 @@ origin_text lines (Some n) = earlier_text lines n
 -- of a file of this name, whose text is this
 abbrev pub explanation_text : List ℕ → List ℕ → Explanation → List ℕ
 explanation_text file lines x = title_text file x.title
-    ++ (quote_text lines x.title x.advice.mark ++ (note_text x.advice.note ++ origin_text lines x.advice.origin))
+    ++ (quote_text lines x.title x.advice.mark
+    ++ (note_text x.advice.note ++ (note_text x.advice.also ++ origin_text lines x.advice.origin)))

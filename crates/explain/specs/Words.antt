@@ -1,9 +1,13 @@
 -- The words of what is told.
-use Rattle.std.specs.Prelude.{ℕ, List, codes}
+use Rattle.std.specs.Prelude.{ℕ, ◌==◌, List, codes, if◌then◌else◌}
 use Rattle.script.specs.declared.command.Mode.{Mode}
 use Rattle.script.specs.declared.command.Mode.TheVariants.{Run, Threads}
 use Rattle.wording.specs.declared.next.Next.{Next}
 use Rattle.wording.specs.declared.next.Next.TheVariants as next
+use Rattle.explain.specs.declared.explanation.Lack.{Lack}
+use Rattle.explain.specs.declared.explanation.Lack.TheVariants as lack
+use Rattle.explain.specs.declared.explanation.Looks.{Looks}
+use Rattle.explain.specs.declared.explanation.Looks.TheVariants as looks
 use Rattle.explain.specs.declared.explanation.Things.{Things}
 use Rattle.explain.specs.declared.explanation.Things.TheVariants as things
 
@@ -16,6 +20,34 @@ things_words things.Processes = codes "process"
 things_words things.Threads = codes "thread"
 things_words things.Mutexes = codes "mutex"
 things_words things.Conditions = codes "condition variable"
+
+-- as many of them
+abbrev pub many_words : ℕ → Things → List ℕ
+many_words n things.Processes = if n == 1 then codes " process" else codes " processes"
+many_words n things.Threads = if n == 1 then codes " thread" else codes " threads"
+many_words n things.Mutexes = if n == 1 then codes " mutex" else codes " mutexes"
+many_words n things.Conditions = if n == 1 then codes " condition variable" else codes " condition variables"
+
+-- what a line lacks
+abbrev pub lack_words : Lack → List ℕ
+lack_words (lack.Name things.Processes) = codes "the name of a process"
+lack_words (lack.Name things.Threads) = codes "the name of a thread"
+lack_words (lack.Name things.Mutexes) = codes "the name of a mutex"
+lack_words (lack.Name things.Conditions) = codes "the name of a condition variable"
+lack_words (lack.Count things.Processes) = codes "how many processes"
+lack_words (lack.Count things.Threads) = codes "how many threads"
+lack_words (lack.Count things.Mutexes) = codes "how many mutexes"
+lack_words (lack.Count things.Conditions) = codes "how many condition variables"
+lack_words lack.Base = codes "at which address the process maps the words"
+lack_words lack.Counter = codes "what the counter begins with"
+lack_words lack.Accesses = codes "how many accesses"
+lack_words lack.Death = codes "before which access the thread dies"
+lack_words lack.Events = codes "how many events"
+
+abbrev pub looks_words : Looks → List ℕ
+looks_words looks.Utf16 = codes "it begins as UTF-16 does: save it as UTF-8"
+looks_words looks.Binary = codes "it has a byte 0, which no text has"
+looks_words looks.Latin1 = codes "it may be Latin-1, or the like: save it as UTF-8"
 
 abbrev pub a_name : List ℕ
 a_name = codes "a name: 1 to 16 of a to z, 0 to 9 and _, the first a letter"

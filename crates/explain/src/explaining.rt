@@ -2,7 +2,8 @@
 
 ghost use Rattle.std.specs.Prelude.{◌≡◌, ◌<◌, ◌^◌, length, IfOk};
 ghost use Rattle.explain.specs.Advised.{IsAdvised};
-ghost use Rattle.explain.specs.Explains.{IsOfKind, IsTitle, IsTold, is_trace, status_of};
+ghost use Rattle.explain.specs.Explains.{IsOfKind, IsTitle, IsTold, begins_trace, behind_blanks, behind_mark};
+ghost use Rattle.explain.specs.Explains.{is_trace, status_of};
 ghost use Rattle.explain.specs.Stray.{lines_in};
 ghost use Rattle.explain.specs.Texts.{explanation_text};
 
@@ -13,14 +14,50 @@ use crate::telling::explanation_text;
 use crate::traces::explain_trace;
 use std::alloc::{AllocError, Global};
 
-/// Whether the bytes are to be a trace: its first line begins so.
+/// The bytes behind a byte order mark, if they begin with one.
+fn behind_mark(bytes: &[u8]) -> &[u8]
+    ensures { result.now ≡ behind_mark bytes.now }
+{
+    if bytes.starts_with(&[0xef, 0xbb, 0xbf]) {
+        &bytes[3..]
+    } else {
+        bytes
+    }
+}
+
+/// The bytes behind blanks and tabs, if they begin with some.
+fn behind_blanks(bytes: &[u8]) -> &[u8]
+    ensures { result.now ≡ behind_blanks bytes.now }
+{
+    let mut rest = bytes;
+    'blanks: while let [first, behind @ ..] = rest {
+        if *first != b' ' && *first != b'\t' {
+            return rest;
+        }
+        rest = behind;
+    }
+    rest
+}
+
+/// Whether the bytes begin as a trace's first line does, or in capitals.
+fn begins_trace(bytes: &[u8]) -> bool
+    ensures { result ≡ begins_trace bytes.now }
+{
+    if bytes.len() < 6 {
+        return false;
+    }
+    bytes[..6].eq_ignore_ascii_case(b"trace ")
+}
+
+/// Whether the bytes are to be a trace.
 fn is_trace(bytes: &[u8]) -> bool
     ensures { result ≡ is_trace bytes.now }
 {
-    bytes.starts_with(b"trace ")
+    begins_trace(behind_blanks(behind_mark(bytes)))
 }
 
-/// What is told of the bytes: of a trace, where they begin with `trace `, and else of a script.
+/// What is told of the bytes: of a trace, where they begin with `trace `, in capitals too, and behind blanks or a byte
+/// order mark; else of a script.
 pub fn explain<'a>(alloc: Global, bytes: &'a [u8]) -> Result<Explanation<'a>, AllocError>
     requires { length bytes.now < 2 ^ 32 }
     ensures kind { IfOk result (λ x. IsOfKind (is_trace bytes.entry.now) x.title) }

@@ -1,8 +1,9 @@
 //! What is told of a file.
 
 ghost use Rattle.std.specs.Prelude.{◌≡◌};
-ghost use Rattle.explain.specs.Advised.{back_to, marking, nothing, saying};
+ghost use Rattle.explain.specs.Advised.{back_to, besides, marking, nothing, saying};
 
+use posixmutex::Operation;
 use script::{Mode, ScriptFault};
 use verdict::{TraceFault, TraceMisfit};
 use wording::Next;
@@ -45,18 +46,28 @@ pub enum Note {
     TrailingBlank,
     /// A tab stands in a word.
     Tab,
+    /// A byte order mark stands before the first word.
+    ByteOrderMark,
+    /// The first word has capitals.
+    Capitals,
     /// A remark stands behind words.
     Remark,
+    /// The line begins as a remark does elsewhere.
+    Slashes,
     /// A line of a trace is empty.
     EmptyLine,
     /// A remark stands in a trace.
     NoRemarks,
     /// The line is one of scripts of this mode alone.
     OtherMode(Mode),
+    /// The line begins with the word of a call.
+    CallWord,
     /// The line is one of traces.
     OfTrace,
     /// The line is one of scripts.
     OfScript,
+    /// A word is missing.
+    Missing(Lack),
     /// A declaration stands behind a command.
     BehindCommand,
     /// The number isn't from the first to the last of these.
@@ -69,10 +80,16 @@ pub enum Note {
     NothingDeclared(Things),
     /// No line before declares the name.
     Undeclared(Things),
+    /// The first of these has the name, and not the second.
+    OtherThing(Things, Things),
     /// A line before declares the name.
     DeclaredTwice(Things),
     /// A line before has the thread die.
     DiesTwice,
+    /// This byte of the file, from 1, is no part of a character in UTF-8.
+    BadByte(usize),
+    /// What the file may be that isn't UTF-8.
+    LooksSo(Looks),
     /// The file has more bytes than it may have.
     Bytes(u32),
     /// The file has more lines than it may have.
@@ -81,6 +98,8 @@ pub enum Note {
     Events(u32),
     /// The first line of the trace counts fewer.
     Uncounted(Things, u32),
+    /// The mutex, as it is, allows the thread's operation other replies.
+    Allowed(Standing, Operation),
     /// No `end` line ends the trace.
     NoEnd,
     /// Something stands behind the `end` line.
@@ -94,6 +113,46 @@ pub enum Things {
     Threads,
     Mutexes,
     Conditions,
+}
+
+/// How a mutex stands to a thread.
+#[derive(Clone, Copy, Debug, PartialEq, Eq)]
+pub struct Standing {
+    /// The thread owns it.
+    pub owns: bool,
+    /// Nobody owns it.
+    pub free: bool,
+    /// An owner died, and nobody has declared it consistent.
+    pub inconsistent: bool,
+    /// It can't be locked.
+    pub unusable: bool,
+}
+
+/// A word that a line lacks.
+#[derive(Clone, Copy, Debug, PartialEq, Eq)]
+pub enum Lack {
+    /// The name of such a thing.
+    Name(Things),
+    /// How many of them.
+    Count(Things),
+    /// Where a process maps the words.
+    Base,
+    /// What a counter begins with.
+    Counter,
+    /// How many accesses.
+    Accesses,
+    /// Before which access a thread dies.
+    Death,
+    /// How many events.
+    Events,
+}
+
+/// What bytes look like that are no text.
+#[derive(Clone, Copy, Debug, PartialEq, Eq)]
+pub enum Looks {
+    Utf16,
+    Binary,
+    Latin1,
 }
 
 /// A word of a line, and what is wrong with it.
@@ -112,6 +171,8 @@ pub struct Mark<'a> {
 pub struct Advice<'a> {
     pub mark: Option<Mark<'a>>,
     pub note: Option<Note>,
+    /// What is said besides.
+    pub also: Option<Note>,
     /// From 1.
     pub origin: Option<usize>,
 }
@@ -124,6 +185,7 @@ impl Advice<'_> {
         Advice {
             mark: None,
             note: None,
+            also: None,
             origin: None,
         }
     }
@@ -135,6 +197,7 @@ impl Advice<'_> {
         Advice {
             mark: None,
             note: Some(note),
+            also: None,
             origin: None,
         }
     }
@@ -150,7 +213,18 @@ impl Advice<'_> {
                 near: None,
             }),
             note: Some(note),
+            also: None,
             origin: None,
+        }
+    }
+
+    /// The same, and something said besides.
+    pub fn besides(self, note: Note) -> Self
+        ensures { result ≡ besides note self.entry }
+    {
+        Advice {
+            also: Some(note),
+            ..self
         }
     }
 

@@ -22,17 +22,21 @@
 #![tactic(auto)]
 
 mod adding;
+mod allowed;
 mod asking;
+mod encodings;
 mod explaining;
 mod explanation;
 mod messages;
 mod misfits;
+mod modes;
 mod names;
 mod notes;
 mod origins;
 mod program;
 mod quoting;
 mod ranges;
+mod roles;
 mod scripts;
 mod serving;
 mod sought;

@@ -2,44 +2,17 @@
 
 ghost use Rattle.std.specs.Prelude.{◌≡◌, ◌++◌, ◌-◌, map, option_map, take, IfOk, OnOk};
 ghost use Rattle.lines.specs.Lines.{lines_of, words_of};
-ghost use Rattle.explain.specs.Advised.{IsNameAdvice, IsUndeclared, first_death, first_declared};
-ghost use Rattle.explain.specs.Advised.{is_undeclared, listed, names_in, single_name, twice, uses_of, uses_of_call};
+ghost use Rattle.explain.specs.Advised.{IsNameAdvice, IsUndeclared, first_death, first_declared, first_named};
+ghost use Rattle.explain.specs.Advised.{is_undeclared, listed, missing_note, names_in, single_name, things_at};
+ghost use Rattle.explain.specs.Advised.{twice};
 
 use crate::explanation::{Advice, Mark, Note, Things};
 use crate::quoting::line_of;
+use crate::roles::uses_of;
 use crate::sought::{Sought, count_of, first_before, things_of, word_of};
 use lines::cut;
 use std::alloc::{AllocError, Global};
 use wording::nearest;
-
-/// The words of a line with such a call that name what is declared before.
-fn uses_of_call(call: &str) -> &'static [(Things, usize)]
-    ensures { result.now ≡ uses_of_call call.now }
-{
-    match call {
-        "wait" | "signal" | "broadcast" => &[(Things::Threads, 1), (Things::Conditions, 3)],
-        _ => &[(Things::Threads, 1), (Things::Mutexes, 3)],
-    }
-}
-
-/// The words of a line that name what is declared before, in the order in which they are looked up.
-fn uses_of(keyword: &str, call: &str) -> &'static [(Things, usize)]
-    ensures { result.now ≡ uses_of keyword.now call.now }
-{
-    match keyword {
-        "thread" => &[(Things::Processes, 2)],
-        "cond" => &[(Things::Mutexes, 2)],
-        "step" | "kill" | "renew" => &[(Things::Threads, 1)],
-        "reinit" => &[(Things::Threads, 1), (Things::Mutexes, 2)],
-        "leave" | "decline" | "go" | "die" => &[(Things::Threads, 1)],
-        "recount" => &[(Things::Conditions, 1)],
-        "spare" | "resleep" | "repeat" => &[(Things::Threads, 1)],
-        "killall" => &[(Things::Processes, 1)],
-        "locks" => &[(Things::Mutexes, 2), (Things::Threads, 1)],
-        "begin" | "call" => uses_of_call(call),
-        _ => &[],
-    }
-}
 
 /// The name of such a thing that a line declares, where it declares that name alone.
 fn single_name(line: &str, things: Things) -> Option<&str>
@@ -99,7 +72,34 @@ fn is_undeclared(text: &str, number: usize, things: Things, word: usize) -> bool
     !name.is_empty() && first_before(text, number, &sought).is_none()
 }
 
-/// A name that no line before declares.
+/// What a line declares, if it is one that does.
+fn things_at(text: &str, number: Option<usize>) -> Option<Things>
+    ensures { result ≡ things_at text.now number }
+{
+    match number {
+        Some(number) => things_of(word_of(line_of(text, number), 0)),
+        None => None,
+    }
+}
+
+/// What is said of a name that is to be of such a thing, and that another thing has, or none.
+fn missing_note(things: Things, other: Option<Things>) -> Note
+    ensures { result ≡ missing_note things other }
+{
+    match other {
+        Some(other) => Note::OtherThing(other, things),
+        None => Note::Undeclared(things),
+    }
+}
+
+/// The first line before line `number` that declares the name, as whatever.
+fn first_named(text: &str, number: usize, name: &str) -> Option<usize>
+    ensures { result ≡ first_named text.now number name.now }
+{
+    first_before(text, number, &Sought::Name(name))
+}
+
+/// A name that no line before declares as such a thing.
 fn undeclared<'a>(
     alloc: Global,
     text: &'a str,
@@ -109,17 +109,19 @@ fn undeclared<'a>(
 ) -> Result<Advice<'a>, AllocError>
     ensures { IfOk result (IsUndeclared text.entry.now number things word) }
 {
-    let line = line_of(text, number);
+    let name = word_of(line_of(text, number), word);
     let names = names_before(alloc, text, number, things)?;
-    let near = nearest(alloc, word_of(line, word), &names)?;
+    let near = nearest(alloc, name, &names)?;
+    let first = first_named(text, number, name);
     Ok(Advice {
         mark: Some(Mark {
             word,
             expected: None,
             near,
         }),
-        note: Some(Note::Undeclared(things)),
-        origin: None,
+        note: Some(missing_note(things, things_at(text, first))),
+        also: None,
+        origin: first,
     })
 }
 

@@ -1,11 +1,13 @@
 //! What is said of a line beside its fault.
 
 ghost use Rattle.std.specs.Prelude.{◌≡◌, ◌++◌, OnOk};
-ghost use Rattle.explain.specs.Notes.{counted_text, many_text, note_text, range_text, said_text, with_things};
+ghost use Rattle.explain.specs.Notes.{bad_text, counted_text, many_text, note_text, other_text, range_text};
+ghost use Rattle.explain.specs.Notes.{said_text, with_things};
 
 use crate::adding::add;
+use crate::allowed::add_allowed;
 use crate::explanation::{Note, Things};
-use crate::words::{mode_words, things_words};
+use crate::words::{lack_words, looks_words, many_words, mode_words, things_words};
 use itoa::Buffer;
 use std::alloc::AllocError;
 
@@ -23,12 +25,43 @@ fn add_things<'a>(
     add(text, &[behind, "\n"])
 }
 
+/// What has a name, and what hasn't.
+fn add_other(text: &mut Vec<u8>, has: Things, things: Things) -> Result<(), AllocError>
+    ensures { OnOk result (text.new.items ≡ text.old.items ++ other_text has things) }
+{
+    add(
+        text,
+        &[
+            "  = a ",
+            things_words(has),
+            " has this name, not a ",
+            things_words(things),
+            "\n",
+        ],
+    )
+}
+
 /// A limit that is passed.
 fn add_many(text: &mut Vec<u8>, before: &str, limit: u32, behind: &str) -> Result<(), AllocError>
     ensures { OnOk result (text.new.items ≡ text.old.items ++ many_text before.now limit behind.now) }
 {
     let mut numbers = Buffer::new();
     add(text, &["  = ", before, numbers.format(limit), behind, "\n"])
+}
+
+/// The byte that is no part of a character.
+fn add_bad(text: &mut Vec<u8>, number: usize) -> Result<(), AllocError>
+    ensures { OnOk result (text.new.items ≡ text.old.items ++ bad_text number) }
+{
+    let mut numbers = Buffer::new();
+    add(
+        text,
+        &[
+            "  = byte ",
+            numbers.format(number),
+            " of the file is no part of a character\n",
+        ],
+    )
 }
 
 /// A range of numbers.
@@ -54,8 +87,10 @@ fn add_counted(
 {
     let mut numbers = Buffer::new();
     add(text, &["  = ", before])?;
-    add(text, &[numbers.format(count), " of this kind: "])?;
-    add(text, &[things_words(things), "\n"])
+    add(
+        text,
+        &[numbers.format(count), many_words(count, things), "\n"],
+    )
 }
 
 /// What is said of blanks, line ends and remarks.
@@ -69,9 +104,15 @@ fn said_of(note: &Note) -> &'static str
         Note::TwoBlanks => "two blanks stand here: words have one between them",
         Note::TrailingBlank => "a blank stands behind the last word",
         Note::Tab => "a tab stands here: words have one blank between them",
+        Note::ByteOrderMark => "a byte order mark stands before the first word",
+        Note::Capitals => "words are written in small letters",
         Note::Remark => "a remark is a line of its own",
+        Note::Slashes => "a remark begins with `#`",
         Note::EmptyLine => "a trace has no empty lines",
         Note::NoRemarks => "a trace has no remarks",
+        Note::CallWord => {
+            "a call is written with its thread: `call T CALL`, such as `call a lock m`"
+        }
         Note::OfTrace => "this is a line of a trace, which begins with `trace T M C`",
         Note::OfScript => "this is a line of a script, which doesn't begin with `trace `",
         Note::BehindCommand => "declarations stand before the first command",
@@ -93,6 +134,7 @@ pub fn add_note(text: &mut Vec<u8>, note: Option<Note>) -> Result<(), AllocError
             text,
             &["  = a script for ", mode_words(mode), " has such lines\n"],
         ),
+        Some(Note::Missing(lack)) => add(text, &["  = what is missing: ", lack_words(lack), "\n"]),
         Some(Note::Range { low, high }) => add_range(text, low, high),
         Some(Note::TooMany(things, limit)) => add_counted(
             text,
@@ -112,12 +154,15 @@ pub fn add_note(text: &mut Vec<u8>, note: Option<Note>) -> Result<(), AllocError
             things,
             " of this name",
         ),
+        Some(Note::OtherThing(has, things)) => add_other(text, has, things),
         Some(Note::DeclaredTwice(things)) => add_things(
             text,
             "a line before declares a ",
             things,
             " of this name",
         ),
+        Some(Note::BadByte(number)) => add_bad(text, number),
+        Some(Note::LooksSo(looks)) => add(text, &["  = ", looks_words(looks), "\n"]),
         Some(Note::Bytes(limit)) => add_many(
             text,
             "a file of this kind has at most ",
@@ -137,6 +182,7 @@ pub fn add_note(text: &mut Vec<u8>, note: Option<Note>) -> Result<(), AllocError
             count,
             things,
         ),
+        Some(Note::Allowed(standing, operation)) => add_allowed(text, standing, operation),
         Some(other) => add(text, &["  = ", said_of(&other), "\n"]),
     }
 }

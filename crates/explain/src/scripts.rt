@@ -1,34 +1,48 @@
 //! What is told of a script.
 
 ghost use Rattle.std.specs.Prelude.{◌≡◌, ◌≢◌, ◌<◌, ◌^◌, false, length, Some, IfOk};
-ghost use Rattle.lines.specs.Lines.{lines_of, words_of};
-ghost use Rattle.explain.specs.Advised.{IsAdvised, IsScriptAdvice, behind_command, counted};
+ghost use Rattle.lines.specs.Lines.{words_of};
+ghost use Rattle.explain.specs.Advised.{IsAdvised, IsScriptAdvice, behind_command, command_before, counted};
 ghost use Rattle.explain.specs.Advised.{first_earlier, lacking, limit_of, range_of, script_length, script_range};
-ghost use Rattle.explain.specs.Explains.{IsFaultOf, IsOfKind, IsTitle, mode_in};
+ghost use Rattle.explain.specs.Explains.{IsFaultOf, IsOfKind, IsTitle};
 ghost use Rattle.explain.specs.Sought.{is_of, things_of};
 ghost use Rattle.explain.specs.Stray.{word_of};
 
+use crate::encodings::no_text;
 use crate::explanation::{Advice, Explanation, Note, Things, Title};
+use crate::modes::mode_of;
 use crate::names::unknown_name;
 use crate::quoting::{line_of, lines_in};
 use crate::ranges::ranged;
 use crate::sought::{Sought, first_before, things_of, word_of};
 use crate::stray::stray_advice;
-use lines::cut;
 use script::{
     Fault, MAX_ACCESS, MAX_BASE, MAX_BYTES, MAX_CONDITIONS, MAX_COUNTER, MAX_EVENTS, MAX_LINES,
     MAX_MUTEXES, MAX_PROCESSES, MAX_STEPS, MAX_THREADS, Mode, ScriptFault, first_machine, parse,
     play,
 };
 use std::alloc::{AllocError, Global};
-use wording::{Kind, mode_of_word};
+use wording::Kind;
+
+/// The first command before line `number`, if that is a declaration.
+fn command_before(text: &str, number: usize) -> Option<usize>
+    ensures { result ≡ command_before text.now number }
+{
+    if things_of(word_of(line_of(text, number), 0)).is_some() {
+        first_before(text, number, &Sought::Command)
+    } else {
+        None
+    }
+}
 
 /// A declaration behind a command.
 fn behind_command(text: &str, number: usize) -> Advice<'static>
     ensures { result ≡ behind_command text.now number }
 {
-    let first = first_before(text, number, &Sought::Command);
-    Advice::at(0, Note::BehindCommand).back_to(first)
+    match command_before(text, number) {
+        Some(first) => Advice::at(0, Note::BehindCommand).back_to(Some(first)),
+        None => Advice::none(),
+    }
 }
 
 /// From where to where the number of a line with this first word goes, and which word it is.
@@ -107,17 +121,20 @@ fn too_long(text: &str, number: usize) -> Advice<'static>
     Advice::at(0, Note::Events(MAX_EVENTS as u32))
 }
 
-/// What is told of a script's line beside its fault.
+/// What is told of a script's line beside its fault; the text is that of the bytes.
 fn advice<'a>(
     alloc: Global,
+    bytes: &[u8],
     text: &'a str,
     mode: Mode,
     fault: ScriptFault,
 ) -> Result<Advice<'a>, AllocError>
-    ensures { IfOk result (IsScriptAdvice mode text.entry.now fault.line fault.fault) }
+    requires { length bytes.now < 2 ^ 32 }
+    ensures { IfOk result (IsScriptAdvice mode bytes.entry.now text.entry.now fault.line fault.fault) }
 {
     match fault.fault {
-        Fault::NotUtf8 | Fault::OutOfMemory => Ok(Advice::none()),
+        Fault::NotUtf8 => Ok(no_text(bytes)),
+        Fault::OutOfMemory => Ok(Advice::none()),
         Fault::UnknownWord => {
             let here = behind_command(text, fault.line);
             stray_advice(alloc, Kind::Script(mode), text, fault.line, here)
@@ -166,20 +183,6 @@ fn known(fault: ScriptFault) -> Result<Option<ScriptFault>, AllocError>
     }
 }
 
-/// The mode that the first line points to which only scripts of one mode have; the machine's, where none does.
-fn mode_of(text: &str) -> Mode
-    ensures { result ≡ mode_in (lines_of text.now) }
-{
-    let mut rest = text;
-    'lines: while let Some((line, behind)) = cut(rest, '\n') {
-        if let Some(mode) = mode_of_word(word_of(line, 0)) {
-            return mode;
-        }
-        rest = behind;
-    }
-    Mode::Run
-}
-
 /// What is told of bytes that are no trace.
 pub fn explain_script<'a>(alloc: Global, bytes: &'a [u8]) -> Result<Explanation<'a>, AllocError>
     requires { length bytes.now < 2 ^ 32 }
@@ -191,7 +194,7 @@ pub fn explain_script<'a>(alloc: Global, bytes: &'a [u8]) -> Result<Explanation<
     let threads = threads_fault(alloc, bytes)?;
     let text = lines_in(bytes);
     let (mode, fault) = match (run, threads) {
-        (Some(run), Some(threads)) => match mode_of(text) {
+        (Some(run), Some(threads)) => match mode_of(bytes) {
             Mode::Run => (Mode::Run, run),
             Mode::Threads => (Mode::Threads, threads),
         },
@@ -207,6 +210,6 @@ pub fn explain_script<'a>(alloc: Global, bytes: &'a [u8]) -> Result<Explanation<
     };
     Ok(Explanation {
         title: Title::Script(mode, fault),
-        advice: advice(alloc, text, mode, fault)?,
+        advice: advice(alloc, bytes, text, mode, fault)?,
     })
 }

@@ -5,7 +5,8 @@ ghost use Rattle.std.specs.Str.Parse.{digits_value};
 ghost use Rattle.lines.specs.Numbers.{is_number};
 ghost use Rattle.lines.specs.Lines.{lines_of, words_of};
 ghost use Rattle.script.specs.Reading.{is_numbered};
-ghost use Rattle.explain.specs.Sought.{count_of, declares, is_clashing, is_command, first_line, is_sought, things_of};
+ghost use Rattle.explain.specs.Sought.{count_of, declares, declares_any, first_line, gives, is_clashing, is_command};
+ghost use Rattle.explain.specs.Sought.{is_sought, things_of};
 ghost use Rattle.explain.specs.Stray.{word_of};
 
 use crate::explanation::Things;
@@ -16,8 +17,10 @@ use wording::word_at;
 /// A line that is looked for.
 #[derive(Clone, Copy)]
 pub enum Sought<'a> {
-    /// It declares this name.
+    /// It declares this name as such a thing.
     Declaration(Things, &'a str),
+    /// It declares this name, as whatever.
+    Name(&'a str),
     /// It declares a mutex whose name is this word with a number below this behind it, or begins so.
     Numbered(&'a str, u32),
     /// It declares such a thing.
@@ -81,19 +84,29 @@ fn is_numbered(stem: &str, count: u32, name: &str) -> bool
     }
 }
 
-/// Whether the line declares the name.
-fn declares(line: &str, things: Things, name: &str) -> bool
-    ensures { result ≡ declares (words_of line.now) things name.now }
+/// Whether a declaration gives the name.
+fn gives(line: &str, name: &str) -> bool
+    ensures { result ≡ gives (words_of line.now) name.now }
 {
-    let keyword = word_of(line, 0);
-    if things_of(keyword) != Some(things) {
-        return false;
-    }
-    if keyword == "mutexes" {
+    if word_of(line, 0) == "mutexes" {
         is_numbered(word_of(line, 1), count_of(word_of(line, 2)), name)
     } else {
         word_of(line, 1) == name
     }
+}
+
+/// Whether the line declares the name as such a thing.
+fn declares(line: &str, things: Things, name: &str) -> bool
+    ensures { result ≡ declares (words_of line.now) things name.now }
+{
+    things_of(word_of(line, 0)) == Some(things) && gives(line, name)
+}
+
+/// Whether the line declares the name, as whatever.
+fn declares_any(line: &str, name: &str) -> bool
+    ensures { result ≡ declares_any (words_of line.now) name.now }
+{
+    things_of(word_of(line, 0)).is_some() && gives(line, name)
 }
 
 /// Whether a name that the line declares is the stem with a number below `count` behind it, so far as that is seen at
@@ -121,6 +134,7 @@ fn is_sought(sought: &Sought<'_>, line: &str) -> bool
 {
     match *sought {
         Sought::Declaration(things, name) => declares(line, things, name),
+        Sought::Name(name) => declares_any(line, name),
         Sought::Numbered(stem, count) => is_clashing(line, stem, count),
         Sought::Any(things) => things_of(word_of(line, 0)) == Some(things),
         Sought::Command => is_command(line),

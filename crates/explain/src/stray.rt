@@ -1,16 +1,22 @@
 //! Words at which no line of a kind can go on.
 
-ghost use Rattle.std.specs.Prelude.{◌≡◌, IfOk};
+ghost use Rattle.std.specs.Prelude.{◌≡◌, nat_eq, IfOk};
+ghost use Rattle.std.specs.List.{starts_with};
 ghost use Rattle.lines.specs.Lines.{words_of};
-ghost use Rattle.explain.specs.Advised.{IsStray};
-ghost use Rattle.explain.specs.Stray.{IsMarked, blank_note, ends_in_return, has_tab};
-ghost use Rattle.explain.specs.Stray.{is_remark, kind_note, remark_note, stray_note, word_note};
+ghost use Rattle.explain.specs.Advised.{IsStray, note_or};
+ghost use Rattle.explain.specs.Roles.{lack_note};
+ghost use Rattle.explain.specs.Stray.{IsMarked, blank_note, byte_order_mark, ends_in_return, first_note, has_capital};
+ghost use Rattle.explain.specs.Stray.{has_tab, is_remark, is_slashes, kind_note, remark_note, slashes_note};
+ghost use Rattle.explain.specs.Stray.{stray_note, word_note};
 
 use crate::explanation::{Advice, Mark, Note};
 use crate::quoting::{is_last, line_of};
+use crate::roles::lack_note;
 use script::Mode;
 use std::alloc::{AllocError, Global};
-use wording::{Kind, first_wrong, is_line, known_words, mode_of_word, nearest, place_of, word_at};
+use wording::{
+    Kind, first_wrong, is_line, is_scripted, known_words, mode_of_word, nearest, place_of, word_at,
+};
 
 /// What is said of a word without a letter: a blank too many, or nothing at all on a line of a trace (an empty line of a
 /// script is one of its lines).
@@ -47,6 +53,26 @@ fn has_tab(word: &str) -> bool
     word.as_bytes().iter().any(|b| *b == b'\t')
 }
 
+fn has_capital(word: &str) -> bool
+    ensures { result ≡ has_capital word.now }
+{
+    word.as_bytes().iter().any(|b| b'A' <= *b && *b <= b'Z')
+}
+
+/// Whether a byte order mark stands before the word.
+fn is_marked(word: &str) -> bool
+    ensures { result ≡ starts_with nat_eq word.now byte_order_mark }
+{
+    word.as_bytes().starts_with(&[0xef, 0xbb, 0xbf])
+}
+
+/// Whether the word begins as remarks do elsewhere.
+fn is_slashes(word: &str) -> bool
+    ensures { result ≡ is_slashes word.now }
+{
+    word.as_bytes().starts_with(b"//")
+}
+
 fn is_remark(word: &str) -> bool
     ensures { result ≡ is_remark word.now }
 {
@@ -66,7 +92,17 @@ fn remark_note(kind: Kind) -> Note
     }
 }
 
-/// What is said of a line that is of another kind.
+/// What is said of slashes.
+fn slashes_note(kind: Kind) -> Note
+    ensures { result ≡ slashes_note kind }
+{
+    match kind {
+        Kind::Script(_) => Note::Slashes,
+        Kind::Head | Kind::Trace => Note::NoRemarks,
+    }
+}
+
+/// What is said of a line that is of another kind, or that begins with a call.
 fn kind_note(kind: Kind, text: &str, word: &str) -> Option<Note>
     ensures { result ≡ kind_note kind (words_of text.now) word.now }
 {
@@ -78,6 +114,9 @@ fn kind_note(kind: Kind, text: &str, word: &str) -> Option<Note>
             if is_line(Kind::Trace, text) || is_line(Kind::Head, text) {
                 return Some(Note::OfTrace);
             }
+            if is_scripted(word) {
+                return Some(Note::CallWord);
+            }
             None
         }
         Kind::Head | Kind::Trace => {
@@ -88,6 +127,23 @@ fn kind_note(kind: Kind, text: &str, word: &str) -> Option<Note>
             }
             None
         }
+    }
+}
+
+/// What is said of a wrong word that stands first.
+fn first_note(kind: Kind, text: &str, word: &str) -> Option<Note>
+    ensures { result ≡ first_note kind (words_of text.now) word.now }
+{
+    if is_marked(word) {
+        return Some(Note::ByteOrderMark);
+    }
+    if is_slashes(word) {
+        return Some(slashes_note(kind));
+    }
+    match kind_note(kind, text, word) {
+        Some(note) => Some(note),
+        None if has_capital(word) => Some(Note::Capitals),
+        None => None,
     }
 }
 
@@ -105,7 +161,7 @@ fn word_note(kind: Kind, text: &str, index: usize, word: &str) -> Option<Note>
         return Some(remark_note(kind));
     }
     if index == 0 {
-        kind_note(kind, text, word)
+        first_note(kind, text, word)
     } else {
         None
     }
@@ -120,6 +176,16 @@ fn stray_note(kind: Kind, text: &str, index: usize) -> Option<Note>
         return Some(blank_note(text, index));
     }
     word_note(kind, text, index, word)
+}
+
+/// What is said of a wrong word, or of one that is missing.
+fn wrong_note(kind: Kind, text: &str, index: usize) -> Option<Note>
+    ensures { result ≡ note_or (stray_note kind text.now index) (lack_note kind (words_of text.now) index) }
+{
+    match stray_note(kind, text, index) {
+        Some(note) => Some(note),
+        None => lack_note(kind, text, index),
+    }
 }
 
 /// The first word at which no line of the kind can go on, what it has to be, and the known word that it is next to;
@@ -140,7 +206,7 @@ fn stray_mark(alloc: Global, kind: Kind, text: &str) -> Result<Option<Mark<'stat
 }
 
 /// What is told of line `number`, which isn't one of the kind, or not here: no line feed ends it; or its first word at
-/// which no such line can go on is marked; or it is one, and then this is told.
+/// which no such line can go on is marked, and what is said here is said too; or it is one, and then this is told.
 pub fn stray_advice(
     alloc: Global,
     kind: Kind,
@@ -159,7 +225,8 @@ pub fn stray_advice(
     };
     Ok(Advice {
         mark: Some(mark),
-        note: stray_note(kind, line, mark.word),
-        origin: None,
+        note: wrong_note(kind, line, mark.word),
+        also: here.note,
+        origin: here.origin,
     })
 }

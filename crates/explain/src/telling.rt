@@ -5,9 +5,10 @@ ghost use Rattle.explain.specs.Shown.{begins_character, columns};
 ghost use Rattle.explain.specs.Texts.{caret_text, earlier_text, expected_text, explanation_text};
 ghost use Rattle.explain.specs.Texts.{fault_text, good_text, illegal_text, known_text, legal_text};
 ghost use Rattle.explain.specs.Texts.{line_named, line_text, mark_text, near_text, origin_text, place_text};
+ghost use Rattle.explain.specs.Texts.{point_words};
 ghost use Rattle.explain.specs.Texts.{programs, quote_text, script_text, title_text, trace_text};
 
-use crate::adding::{add, add_run, add_shown};
+use crate::adding::{WIDTH, add, add_run, add_shown};
 use crate::explanation::{Explanation, Mark, Title};
 use crate::misfits::add_misfit;
 use crate::notes::add_note;
@@ -78,20 +79,21 @@ fn add_trace(text: &mut Vec<u8>, file: &str, fault: TraceFault) -> Result<(), Al
     add(text, &[" (a trace)\n"])
 }
 
+/// What so many points are called.
+#[tactic(auto, unfolding(crate::specs::Texts::point_words))]
+fn point_words(points: usize) -> &'static str
+    ensures { result.now ≡ point_words points }
+{
+    if points == 1 { " point\n" } else { " points\n" }
+}
+
 /// A legal trace.
 fn add_legal(text: &mut Vec<u8>, file: &str, points: usize) -> Result<(), AllocError>
     ensures { OnOk result (text.new.items ≡ text.old.items ++ legal_text file.now points) }
 {
     let mut numbers = Buffer::new();
-    add(
-        text,
-        &[
-            file,
-            ": a legal trace, of ",
-            numbers.format(points),
-            " points\n",
-        ],
-    )
+    add(text, &[file, ": a legal trace, of "])?;
+    add(text, &[numbers.format(points), point_words(points)])
 }
 
 /// A line of a trace that doesn't fit.
@@ -149,11 +151,11 @@ fn add_line(text: &mut Vec<u8>, line: &str) -> Result<(), AllocError>
     ensures { OnOk result (text.new.items ≡ text.old.items ++ line_text line.now) }
 {
     add(text, &["  | "])?;
-    add_shown(text, line.as_bytes())?;
+    add_shown(text, line)?;
     add(text, &["\n"])
 }
 
-/// The line that marks a word of the line above it: one column at least.
+/// The line that marks a word of the line above it: one column at least, and none behind what is shown of that.
 fn add_carets(text: &mut Vec<u8>, line: &str, word: usize) -> Result<(), AllocError>
     ensures { OnOk result (text.new.items ≡ text.old.items ++ caret_text line.now word) }
 {
@@ -162,9 +164,11 @@ fn add_carets(text: &mut Vec<u8>, line: &str, word: usize) -> Result<(), AllocEr
     let front = start.min(bytes.len());
     let back = end.min(bytes.len());
     add(text, &["  | "])?;
-    add_run(text, b' ', columns(&bytes[..front]))?;
+    let before = columns(&bytes[..front]).min(WIDTH);
+    let marked = columns(&bytes[front..back]).max(1);
+    add_run(text, b' ', before)?;
     add_run(text, b' ', start - front)?;
-    add_run(text, b'^', columns(&bytes[front..back]).max(1))?;
+    add_run(text, b'^', marked.min(WIDTH + 1 - before))?;
     add(text, &["\n"])
 }
 
@@ -269,6 +273,7 @@ pub fn explanation_text(
         explanation.advice.mark,
     )?;
     add_note(&mut text, explanation.advice.note)?;
+    add_note(&mut text, explanation.advice.also)?;
     add_origin(&mut text, lines, explanation.advice.origin)?;
     Ok(text)
 }

@@ -3,19 +3,24 @@
 ghost use Rattle.std.specs.Prelude.{◌≡◌, ◌≢◌, ◌<◌, ◌^◌, true, length, IfOk};
 ghost use Rattle.lines.specs.Lines.{words_of};
 ghost use Rattle.explain.specs.Advised.{IsAdvised, IsMisfitAdvice, IsTraceAdvice, cut_short};
-ghost use Rattle.explain.specs.Advised.{head_range, kind_of, line_range, trace_range, uncounted_at};
+ghost use Rattle.explain.specs.Advised.{allowed_note, head_range, kind_of, line_range, misfit_advice, step_at};
+ghost use Rattle.explain.specs.Advised.{trace_range, uncounted_at};
 ghost use Rattle.explain.specs.Explains.{IsOfKind, IsTitle, title_of};
 
+use crate::allowed::standing_of;
+use crate::encodings::no_text;
 use crate::explanation::{Advice, Explanation, Note, Things, Title};
 use crate::origins::origin_of;
 use crate::quoting::{is_last, line_of, lines_in};
 use crate::ranges::{ranged, uncounted};
 use crate::sought::word_of;
 use crate::stray::stray_advice;
+use facts::Line;
+use posixmutex::Decision;
 use std::alloc::{AllocError, Global};
 use verdict::{
-    Fault, Finding, MAX_BYTES, MAX_CONDITIONS, MAX_EVENTS, MAX_MUTEXES, MAX_THREADS, TraceFault,
-    TraceMisfit, explain, read_trace,
+    Fault, Finding, MAX_BYTES, MAX_CONDITIONS, MAX_EVENTS, MAX_MUTEXES, MAX_THREADS, Misfit,
+    TraceFault, TraceMisfit, explain, read_trace,
 };
 use wording::Kind;
 
@@ -87,18 +92,60 @@ fn cut_short(text: &str, number: usize) -> Advice<'static>
     }
 }
 
-/// What is told of a trace's line beside its fault.
-fn advice(alloc: Global, text: &str, fault: TraceFault) -> Result<Advice<'static>, AllocError>
-    ensures { IfOk result (IsTraceAdvice text.now fault.line fault.fault) }
+/// What is told of a trace's line beside its fault; the text is that of the bytes.
+fn advice(
+    alloc: Global,
+    bytes: &[u8],
+    text: &str,
+    fault: TraceFault,
+) -> Result<Advice<'static>, AllocError>
+    requires { length bytes.now < 2 ^ 32 }
+    ensures { IfOk result (IsTraceAdvice bytes.now text.now fault.line fault.fault) }
 {
     match fault.fault {
-        Fault::NotUtf8 | Fault::OutOfMemory => Ok(Advice::none()),
+        Fault::NotUtf8 => Ok(no_text(bytes)),
+        Fault::OutOfMemory => Ok(Advice::none()),
         Fault::UnknownWord => {
             stray_advice(alloc, kind_of(fault.line), text, fault.line, Advice::none())
         }
         Fault::OutOfRange => Ok(out_of_range(text, fault.line)),
         Fault::TooLong => Ok(Advice::only(Note::Bytes(MAX_BYTES as u32))),
         Fault::Cut => Ok(cut_short(text, fault.line)),
+    }
+}
+
+/// The step that the line with this number tells, of these, the first of which is line 2.
+fn step_at(entries: &[Line], line: usize) -> Option<Decision>
+    ensures { result ≡ step_at entries.now line }
+{
+    match entries.get(line.saturating_sub(2)) {
+        Some(entry) => entry.fact.decision(),
+        None => None,
+    }
+}
+
+/// What is said of a line that doesn't fit: of a reply that its mutex doesn't allow, those that it does.
+fn allowed_note(misfit: &Misfit, step: Option<Decision>) -> Option<Note>
+    ensures { result ≡ allowed_note misfit.now step }
+{
+    match *misfit {
+        Misfit::NotAllowed { object, .. } => match step {
+            Some(step) => Some(Note::Allowed(standing_of(&object, step.thread), step.operation)),
+            None => None,
+        },
+        _ => None,
+    }
+}
+
+/// What is told of a line of these that doesn't fit.
+fn misfit_advice(entries: &[Line], why: TraceMisfit) -> Advice<'static>
+    ensures { result ≡ misfit_advice entries.now why }
+{
+    Advice {
+        mark: None,
+        note: allowed_note(&why.misfit, step_at(entries, why.line)),
+        also: None,
+        origin: origin_of(entries, why),
     }
 }
 
@@ -109,7 +156,7 @@ fn illegal(alloc: Global, bytes: &[u8], why: TraceMisfit) -> Result<Advice<'stat
     let Ok(trace) = read_trace(alloc, bytes) else {
         return Err(AllocError);
     };
-    Ok(Advice::none().back_to(origin_of(&trace.lines, why)))
+    Ok(misfit_advice(&trace.lines, why))
 }
 
 /// The fault, where it isn't want of memory.
@@ -156,7 +203,7 @@ pub fn explain_trace<'a>(alloc: Global, bytes: &'a [u8]) -> Result<Explanation<'
             let fault = known(fault)?;
             Ok(Explanation {
                 title: Title::Trace(fault),
-                advice: advice(alloc, lines_in(bytes), fault)?,
+                advice: advice(alloc, bytes, lines_in(bytes), fault)?,
             })
         }
     }

@@ -1,9 +1,9 @@
 //! The words of what is told.
 
 ghost use Rattle.std.specs.Prelude.{◌≡◌};
-ghost use Rattle.explain.specs.Words.{expected_words, mode_words, things_words};
+ghost use Rattle.explain.specs.Words.{expected_words, lack_words, looks_words, many_words, mode_words, things_words};
 
-use crate::explanation::Things;
+use crate::explanation::{Lack, Looks, Things};
 use script::Mode;
 use wording::Next;
 
@@ -25,6 +25,58 @@ pub fn things_words(things: Things) -> &'static str
         Things::Threads => "thread",
         Things::Mutexes => "mutex",
         Things::Conditions => "condition variable",
+    }
+}
+
+/// What so many of them are called, behind the number.
+pub fn many_words(count: u32, things: Things) -> &'static str
+    ensures { result.now ≡ many_words count things }
+{
+    match (things, count == 1) {
+        (Things::Processes, true) => " process",
+        (Things::Processes, false) => " processes",
+        (Things::Threads, true) => " thread",
+        (Things::Threads, false) => " threads",
+        (Things::Mutexes, true) => " mutex",
+        (Things::Mutexes, false) => " mutexes",
+        (Things::Conditions, true) => " condition variable",
+        (Things::Conditions, false) => " condition variables",
+    }
+}
+
+/// What a line lacks.
+pub fn lack_words(lack: Lack) -> &'static str
+    ensures { result.now ≡ lack_words lack }
+{
+    match lack {
+        Lack::Name(things) => match things {
+            Things::Processes => "the name of a process",
+            Things::Threads => "the name of a thread",
+            Things::Mutexes => "the name of a mutex",
+            Things::Conditions => "the name of a condition variable",
+        },
+        Lack::Count(things) => match things {
+            Things::Processes => "how many processes",
+            Things::Threads => "how many threads",
+            Things::Mutexes => "how many mutexes",
+            Things::Conditions => "how many condition variables",
+        },
+        Lack::Base => "at which address the process maps the words",
+        Lack::Counter => "what the counter begins with",
+        Lack::Accesses => "how many accesses",
+        Lack::Death => "before which access the thread dies",
+        Lack::Events => "how many events",
+    }
+}
+
+/// What a file is that isn't UTF-8, as far as one sees.
+pub fn looks_words(looks: Looks) -> &'static str
+    ensures { result.now ≡ looks_words looks }
+{
+    match looks {
+        Looks::Utf16 => "it begins as UTF-16 does: save it as UTF-8",
+        Looks::Binary => "it has a byte 0, which no text has",
+        Looks::Latin1 => "it may be Latin-1, or the like: save it as UTF-8",
     }
 }
 

@@ -6,7 +6,7 @@ use std::test::Fail;
 use text_fixtures::words;
 
 /// Bytes of a file, and what is told of them.
-static MISTAKES: [(&[u8], u8, &str); 54] = [
+static MISTAKES: [(&[u8], u8, &str); 72] = [
     // scripts and traces without fault
     (
         b"thread a\nmutex m\ncall a lock m\n",
@@ -26,7 +26,7 @@ static MISTAKES: [(&[u8], u8, &str); 54] = [
     (
         b"trace 1 1 0\n1 begin t1 lock m0\n2 point t1 m0 lock OK\nend 2\n",
         0,
-        "f: a legal trace, of 1 points\n",
+        "f: a legal trace, of 1 point\n",
     ),
     // a misspelt word
     (
@@ -63,7 +63,7 @@ static MISTAKES: [(&[u8], u8, &str); 54] = [
     (
         b"thread a\nmutex m\nstep a\n",
         1,
-        "f: line 3: fault 2: unknown word (a script for `rfx run`)\n  | step a\n  |        ^\n  = expected a number: decimal digits without leading zeros\n",
+        "f: line 3: fault 2: unknown word (a script for `rfx run`)\n  | step a\n  |        ^\n  = expected a number: decimal digits without leading zeros\n  = what is missing: how many accesses\n",
     ),
     (
         b"thread a\nmutex m\nkill a a\n",
@@ -86,6 +86,12 @@ static MISTAKES: [(&[u8], u8, &str); 54] = [
         b"thread \xc3\xa4\xc3\xb6\n",
         1,
         "f: line 1: fault 2: unknown word (a script for `rfx run`)\n  | thread \u{e4}\u{f6}\n  |        ^^\n  = expected a name: 1 to 16 of a to z, 0 to 9 and _, the first a letter\n",
+    ),
+    // characters that can't be seen
+    (
+        b"thread \xc2\x85\xe2\x80\xae\n",
+        1,
+        "f: line 1: fault 2: unknown word (a script for `rfx run`)\n  | thread \u{fffd}\u{fffd}\n  |        ^^\n  = expected a name: 1 to 16 of a to z, 0 to 9 and _, the first a letter\n",
     ),
     // blanks, tabs, ends of lines
     (
@@ -134,6 +140,37 @@ static MISTAKES: [(&[u8], u8, &str); 54] = [
         1,
         "f: line 2: fault 2: unknown word (a trace)\n  | thread a\n  | ^^^^^^\n  = expected the number of an event, or `end`\n  = this is a line of a script, which doesn't begin with `trace `\n",
     ),
+    (
+        b"thread a\nmutex m\nphase\nlock a m\n",
+        1,
+        "f: line 4: fault 2: unknown word (a script for `rfx threads`)\n  | lock a m\n  | ^^^^\n  = expected one of `process` `thread` `mutex` `mutexes` `cond` `call` `phase` `die`\n  = a call is written with its thread: `call T CALL`, such as `call a lock m`\n",
+    ),
+    (
+        b"thread a\nmutex m\nphase\n// a dies\n",
+        1,
+        "f: line 4: fault 2: unknown word (a script for `rfx threads`)\n  | // a dies\n  | ^^\n  = expected one of `process` `thread` `mutex` `mutexes` `cond` `call` `phase` `die`\n  = a remark begins with `#`\n",
+    ),
+    // a trace that doesn't begin as it should
+    (
+        b" trace 1 1 0\nend 0\n",
+        1,
+        "f: line 1: fault 2: unknown word (a trace)\n  |  trace 1 1 0\n  | ^\n  = expected one of `trace`\n  = a blank stands before the first word\n",
+    ),
+    (
+        b"TRACE 1 1 0\nend 0\n",
+        1,
+        "f: line 1: fault 2: unknown word (a trace)\n  | TRACE 1 1 0\n  | ^^^^^\n  = expected one of `trace`\n  = words are written in small letters\n",
+    ),
+    (
+        b"\xef\xbb\xbftrace 1 1 0\nend 0\n",
+        1,
+        "f: line 1: fault 2: unknown word (a trace)\n  | \u{fffd}trace 1 1 0\n  | ^^^^^^\n  = expected one of `trace`\n  = did you mean `trace`?\n  = a byte order mark stands before the first word\n",
+    ),
+    (
+        b"trace 1 1\nend 0\n",
+        1,
+        "f: line 1: fault 2: unknown word (a trace)\n  | trace 1 1\n  |           ^\n  = expected a number: decimal digits without leading zeros\n  = what is missing: how many condition variables\n",
+    ),
     // what a script may have and a trace mayn't
     (
         b"trace 1 1 0\n\nend 1\n",
@@ -145,11 +182,16 @@ static MISTAKES: [(&[u8], u8, &str); 54] = [
         1,
         "f: line 2: fault 2: unknown word (a trace)\n  | # a dies\n  | ^\n  = expected the number of an event, or `end`\n  = a trace has no remarks\n",
     ),
-    // a declaration behind a command
+    // a declaration behind a command, right and wrong
     (
         b"thread a\nmutex m\ngo a\nthread b\n",
         1,
         "f: line 4: fault 2: unknown word (a script for `rfx run`)\n  | thread b\n  | ^^^^^^\n  = declarations stand before the first command\n  = see line 3:\n  | go a\n",
+    ),
+    (
+        b"thread a\nmutex m\ngo a\nthread B\n",
+        1,
+        "f: line 4: fault 2: unknown word (a script for `rfx run`)\n  | thread B\n  |        ^\n  = expected a name: 1 to 16 of a to z, 0 to 9 and _, the first a letter\n  = declarations stand before the first command\n  = see line 3:\n  | go a\n",
     ),
     // numbers
     (
@@ -170,13 +212,34 @@ static MISTAKES: [(&[u8], u8, &str); 54] = [
     (
         b"thread a\nmutexes m 4096\nmutex n\n",
         1,
-        "f: line 3: fault 3: number out of range (a script for `rfx run`)\n  | mutex n\n  | ^^^^^\n  = a script has at most 4096 of this kind: mutex\n",
+        "f: line 3: fault 3: number out of range (a script for `rfx run`)\n  | mutex n\n  | ^^^^^\n  = a script has at most 4096 mutexes\n",
     ),
     // names
     (
         b"thread writer\nmutex m\ngo writre\n",
         1,
         "f: line 3: fault 4: no such name (a script for `rfx run`)\n  | go writre\n  |    ^^^^^^\n  = did you mean `writer`?\n  = no line before declares a thread of this name\n",
+    ),
+    (
+        b"thread ab\nmutex m\ngo ba\n",
+        1,
+        "f: line 3: fault 4: no such name (a script for `rfx run`)\n  | go ba\n  |    ^^\n  = did you mean `ab`?\n  = no line before declares a thread of this name\n",
+    ),
+    // of another kind
+    (
+        b"thread a\nmutex m\ncond c m 0\ncall a wait m\n",
+        1,
+        "f: line 4: fault 4: no such name (a script for `rfx run`)\n  | call a wait m\n  |             ^\n  = a mutex has this name, not a condition variable\n  = see line 2:\n  | mutex m\n",
+    ),
+    (
+        b"thread a\nmutexes m 3\ngo m1\n",
+        1,
+        "f: line 3: fault 4: no such name (a script for `rfx run`)\n  | go m1\n  |    ^^\n  = a mutex has this name, not a thread\n  = see line 2:\n  | mutexes m 3\n",
+    ),
+    (
+        b"thread a\nmutex m\nkillall a\n",
+        1,
+        "f: line 3: fault 4: no such name (a script for `rfx run`)\n  | killall a\n  |         ^\n  = a thread has this name, not a process\n  = see line 1:\n  | thread a\n",
     ),
     (
         b"thread a\nmutexes m 3\nmutex m2\n",
@@ -197,18 +260,38 @@ static MISTAKES: [(&[u8], u8, &str); 54] = [
     (
         b"thread a\n\xff\n",
         1,
-        "f: line 2: fault 1: not UTF-8 (a script for `rfx run`)\n",
+        "f: line 2: fault 1: not UTF-8 (a script for `rfx run`)\n  = byte 10 of the file is no part of a character\n  = it may be Latin-1, or the like: save it as UTF-8\n",
+    ),
+    (
+        b"thread a\nmutex m\nphase\ncall a lock m # \xff\n",
+        1,
+        "f: line 4: fault 1: not UTF-8 (a script for `rfx threads`)\n  = byte 40 of the file is no part of a character\n  = it may be Latin-1, or the like: save it as UTF-8\n",
+    ),
+    (
+        b"thread a\nmutex m\nphase",
+        1,
+        "f: line 3: fault 2: unknown word (a script for `rfx threads`)\n  | phase\n  = the last line has no line feed at its end\n",
+    ),
+    (
+        b"\xff\xfet\0h\0",
+        1,
+        "f: line 1: fault 1: not UTF-8 (a script for `rfx run`)\n  = byte 1 of the file is no part of a character\n  = it begins as UTF-16 does: save it as UTF-8\n",
+    ),
+    (
+        b"thread a\n\0\xff\n",
+        1,
+        "f: line 2: fault 1: not UTF-8 (a script for `rfx run`)\n  = byte 11 of the file is no part of a character\n  = it has a byte 0, which no text has\n",
     ),
     // traces
     (
         b"trace 1 1 0\n1 begin t2 lock m0\nend 1\n",
         1,
-        "f: line 2: fault 3: number out of range (a trace)\n  | 1 begin t2 lock m0\n  |         ^^\n  = the first line counts 1 of this kind: thread\n",
+        "f: line 2: fault 3: number out of range (a trace)\n  | 1 begin t2 lock m0\n  |         ^^\n  = the first line counts 1 thread\n",
     ),
     (
         b"trace 1 1 1\n1 begin t1 wait c1 m0\nend 1\n",
         1,
-        "f: line 2: fault 3: number out of range (a trace)\n  | 1 begin t1 wait c1 m0\n  |                 ^^\n  = the first line counts 1 of this kind: condition variable\n",
+        "f: line 2: fault 3: number out of range (a trace)\n  | 1 begin t1 wait c1 m0\n  |                 ^^\n  = the first line counts 1 condition variable\n",
     ),
     (
         b"trace 1 1 0\n1 kill t1\n",
@@ -219,17 +302,27 @@ static MISTAKES: [(&[u8], u8, &str); 54] = [
     (
         b"trace 2 1 0\n1 begin t1 lock m0\n2 point t1 m0 lock OK\n3 begin t2 lock m0\n4 point t2 m0 lock OK\nend 4\n",
         1,
-        "f: line 5: illegal: the mutex doesn't allow the reply OK: t1 owns it\n  | 4 point t2 m0 lock OK\n  = see line 3:\n  | 2 point t1 m0 lock OK\n",
+        "f: line 5: illegal: the mutex doesn't allow the reply OK: t1 owns it\n  | 4 point t2 m0 lock OK\n  = lock sleeps here\n  = see line 3:\n  | 2 point t1 m0 lock OK\n",
     ),
     (
         b"trace 2 1 0\n1 begin t1 lock m0\n2 point t1 m0 lock OK\n3 kill t1\n4 death t1 m0\n5 begin t2 lock m0\n6 point t2 m0 lock OK\nend 6\n",
         1,
-        "f: line 7: illegal: the mutex doesn't allow the reply OK: nobody owns it, since its owner died\n  | 6 point t2 m0 lock OK\n  = see line 5:\n  | 4 death t1 m0\n",
+        "f: line 7: illegal: the mutex doesn't allow the reply OK: nobody owns it, since its owner died\n  | 6 point t2 m0 lock OK\n  = lock may reply EOWNERDEAD here\n  = see line 5:\n  | 4 death t1 m0\n",
     ),
     (
         b"trace 3 1 0\n1 begin t1 lock m0\n2 point t1 m0 lock OK\n3 kill t1\n4 death t1 m0\n5 begin t2 lock m0\n6 point t2 m0 lock EOWNERDEAD\n7 begin t3 trylock m0\n8 point t3 m0 trylock OK\nend 8\n",
         1,
-        "f: line 9: illegal: the mutex doesn't allow the reply OK: t2 owns it, and has not declared it consistent\n  | 8 point t3 m0 trylock OK\n  = see line 7:\n  | 6 point t2 m0 lock EOWNERDEAD\n",
+        "f: line 9: illegal: the mutex doesn't allow the reply OK: t2 owns it, and has not declared it consistent\n  | 8 point t3 m0 trylock OK\n  = trylock may reply EBUSY here\n  = see line 7:\n  | 6 point t2 m0 lock EOWNERDEAD\n",
+    ),
+    (
+        b"trace 1 1 0\n1 begin t1 lock m0\n2 point t1 m0 lock OK\n3 return t1 OK\n4 begin t1 consistent m0\n5 point t1 m0 consistent OK\nend 5\n",
+        1,
+        "f: line 6: illegal: the mutex doesn't allow the reply OK: t1 owns it\n  | 5 point t1 m0 consistent OK\n  = consistent may reply EINVAL here\n  = see line 3:\n  | 2 point t1 m0 lock OK\n",
+    ),
+    (
+        b"trace 1 1 0\n1 begin t1 trylock m0\n2 point t1 m0 trylock X_HELD\nend 2\n",
+        1,
+        "f: line 3: illegal: the mutex doesn't allow the reply X_HELD: nobody owns it\n  | 2 point t1 m0 trylock X_HELD\n  = trylock may reply OK or X_RACED here\n",
     ),
     (
         b"trace 1 1 0\n1 begin t1 lock m0\n2 begin t1 lock m0\nend 2\n",
@@ -265,18 +358,18 @@ static MISTAKES: [(&[u8], u8, &str); 54] = [
     (
         b"thread a\nmutex m\nrenew b\n",
         1,
-        "f: line 3: fault 4: no such name (a script for `rfx run`)\n  | renew b\n  |       ^\n  = did you mean `a`?\n  = no line before declares a thread of this name\n",
+        "f: line 3: fault 4: no such name (a script for `rfx run`)\n  | renew b\n  |       ^\n  = no line before declares a thread of this name\n",
     ),
     // mutexes made anew
     (
         b"thread a\nmutex m\nreinit a n\n",
         1,
-        "f: line 3: fault 4: no such name (a script for `rfx run`)\n  | reinit a n\n  |          ^\n  = did you mean `m`?\n  = no line before declares a mutex of this name\n",
+        "f: line 3: fault 4: no such name (a script for `rfx run`)\n  | reinit a n\n  |          ^\n  = no line before declares a mutex of this name\n",
     ),
     (
         b"thread a\nmutex m\nreinit a\n",
         1,
-        "f: line 3: fault 2: unknown word (a script for `rfx run`)\n  | reinit a\n  |          ^\n  = expected a name: 1 to 16 of a to z, 0 to 9 and _, the first a letter\n",
+        "f: line 3: fault 2: unknown word (a script for `rfx run`)\n  | reinit a\n  |          ^\n  = expected a name: 1 to 16 of a to z, 0 to 9 and _, the first a letter\n  = what is missing: the name of a mutex\n",
     ),
     (
         b"thread a\nmutex m\ncall a reinit m\n",
@@ -291,7 +384,7 @@ static MISTAKES: [(&[u8], u8, &str); 54] = [
     (
         b"trace 1 1 0\n1 begin t1 reinit m0\n1 point t1 m0 reinit OK\n1 return t1 OK\nend 1\n",
         1,
-        "f: line 3: illegal: the mutex doesn't allow the reply OK: nobody owns it\n  | 1 point t1 m0 reinit OK\n",
+        "f: line 3: illegal: the mutex doesn't allow the reply OK: nobody owns it\n  | 1 point t1 m0 reinit OK\n  = reinit has no reply here\n",
     ),
 ];
 
@@ -299,7 +392,7 @@ static MISTAKES: [(&[u8], u8, &str); 54] = [
 fn mistakes_are_told(rt: HostRuntime) {
     for (file, status, printed) in &MISTAKES {
         let answered = answer_of(rt.alloc(), words(rt.alloc(), &["rfx-explain", "f"]), *file);
-        assert!(rt; answered.is(*status, *printed, ""));
+        assert!(rt; answered.is(*status, *printed, ""), "not {printed}");
     }
 }
 
@@ -389,5 +482,32 @@ fn names_that_no_line_declares_are_told(rt: HostRuntime) -> Result<(), Fail> {
             "not {line}"
         );
     }
+    Ok(())
+}
+
+/// Whether a name of so many letters is shown so, and marked.
+fn is_cut(alloc: Global, letters: usize, shown: usize, mark: &str) -> Result<bool, AllocError> {
+    let name = "a".repeat(alloc, letters)?;
+    let front = "a".repeat(alloc, shown)?;
+    let carets = "^".repeat(alloc, shown)?;
+    let script = format!(in alloc; "thread {name}\n")?;
+    let told = format!(in alloc;
+        "f: line 1: fault 2: unknown word (a script for `rfx run`)\n  | thread {front}{mark}\n  |        {carets}{}\n  = expected a name: 1 to 16 of a to z, 0 to 9 and _, the first a letter\n",
+        if mark.is_empty() { "" } else { "^" }
+    )?;
+    let answered = answer_of(
+        alloc,
+        words(alloc, &["rfx-explain", "f"]),
+        script.as_bytes(),
+    );
+    Ok(answered.is(1, told.as_str(), ""))
+}
+
+/// 200 columns of a line are shown, of which `thread ` takes seven.
+#[test]
+fn long_lines_are_cut(rt: HostRuntime) -> Result<(), Fail> {
+    assert!(rt; is_cut(rt.alloc(), 193, 193, "")?);
+    assert!(rt; is_cut(rt.alloc(), 194, 193, "\u{2026}")?);
+    assert!(rt; is_cut(rt.alloc(), 5000, 193, "\u{2026}")?);
     Ok(())
 }

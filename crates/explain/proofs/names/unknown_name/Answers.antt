@@ -1,7 +1,8 @@
 use Rattle.std.proofs.Common.{sym, ap, ◌∙◌}
 use Rattle.std.proofs.lemmas.List.{at_drop_all}
 use Rattle.lines.specs.Lines.{words_of}
-use Rattle.explain.specs.Advised.{first_undeclared, uses_of, word_at}
+use Rattle.explain.specs.Advised.{first_undeclared, word_at}
+use Rattle.explain.specs.Roles.{uses_of}
 use Rattle.explain.specs.Stray.{word_of}
 use Rattle.explain.proofs.Declared.{other_use, tells_twice, tells_undeclared, this_use}
 use Rattle.explain.proofs.names.unknown_name.Goals as goal
