@@ -302,8 +302,8 @@ behind_command text n = late (command_before text n)
 
 -- ---- what is no text
 
--- what bytes look like that aren't UTF-8: they begin with a byte order mark of UTF-16; a byte is 0, which no text has; or
--- neither
+-- what bytes look like that aren't UTF-8: they begin with a byte order mark of UTF-16; or a byte is 0, which no text
+-- has; or neither
 abbrev pub looks_of : List ℕ → Looks
 looks_of bytes = if starts_with nat_eq bytes (255 ∷ 254 ∷ []) || starts_with nat_eq bytes (254 ∷ 255 ∷ []) then Utf16
     else (if list_any (λ b. b == 0) bytes then Binary else Latin1)

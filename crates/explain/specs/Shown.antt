@@ -9,8 +9,8 @@ use Rattle.std.specs.Str.{chars}
 abbrev pub width : ℕ
 width = 200
 
--- a character that can't be seen, or that turns others about: a control character behind DEL, the marks and overrides of
--- directions, the ends of lines and paragraphs, what has no width
+-- a character that can't be seen, or that turns others about: a control character behind DEL, the marks and overrides
+-- of directions, the ends of lines and paragraphs, what has no width
 abbrev pub is_hidden : ℕ → Bool
 is_hidden c = (nat_le 0x80 c && nat_le c 0x9f) || ((c == 0x61c) || ((nat_le 0x200b c && nat_le c 0x200f)
     || ((nat_le 0x2028 c && nat_le c 0x202e) || ((nat_le 0x2060 c && nat_le c 0x2069) || (c == 0xfeff)))))

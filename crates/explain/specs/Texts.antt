@@ -81,7 +81,8 @@ abbrev pub line_text : List ℕ → List ℕ
 line_text line = concat (codes "  | " ∷ []) ++ (shown line ++ concat (codes "\n" ∷ []))
 
 -- under the bytes from start to end of the line stand carets, one at least, and blanks before them; a start one behind
--- the line's end is a column more. What stands behind the columns that are shown is marked by one caret, at the ellipsis
+-- the line's end is a column more. What stands behind the columns that are shown is marked by one caret, at the
+-- ellipsis
 abbrev pub carets : List ℕ → ℕ → ℕ → List ℕ
 carets line start end =
     let front = min start (length line) in

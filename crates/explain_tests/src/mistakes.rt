@@ -5,8 +5,11 @@ use std::alloc::{AllocError, Global};
 use std::test::Fail;
 use text_fixtures::words;
 
-/// Bytes of a file, and what is told of them.
-static MISTAKES: [(&[u8], u8, &str); 72] = [
+/// Bytes of a file, the exit status, and what is told of them.
+type Told = (&'static [u8], u8, &'static str);
+
+/// Files without fault, and words that are wrong.
+static WORDS: [Told; 35] = [
     // scripts and traces without fault
     (
         b"thread a\nmutex m\ncall a lock m\n",
@@ -193,6 +196,10 @@ static MISTAKES: [(&[u8], u8, &str); 72] = [
         1,
         "f: line 4: fault 2: unknown word (a script for `rfx run`)\n  | thread B\n  |        ^\n  = expected a name: 1 to 16 of a to z, 0 to 9 and _, the first a letter\n  = declarations stand before the first command\n  = see line 3:\n  | go a\n",
     ),
+];
+
+/// Numbers, names, and lines that don't fit those before them.
+static SENSES: [Told; 37] = [
     // numbers
     (
         b"thread a\nmutex m\nstep a 0\n",
@@ -388,11 +395,25 @@ static MISTAKES: [(&[u8], u8, &str); 72] = [
     ),
 ];
 
+/// Whether the file is told so.
+fn is_told(alloc: Global, row: &Told) -> bool {
+    let (file, status, printed) = *row;
+    answer_of(alloc, words(alloc, &["rfx-explain", "f"]), file).is(status, printed, "")
+}
+
 #[test]
-fn mistakes_are_told(rt: HostRuntime) {
-    for (file, status, printed) in &MISTAKES {
-        let answered = answer_of(rt.alloc(), words(rt.alloc(), &["rfx-explain", "f"]), *file);
-        assert!(rt; answered.is(*status, *printed, ""), "not {printed}");
+fn wrong_words_are_told(rt: HostRuntime) {
+    for row in &WORDS {
+        let printed = row.2;
+        assert!(rt; is_told(rt.alloc(), row), "not {printed}");
+    }
+}
+
+#[test]
+fn wrong_numbers_names_and_lines_are_told(rt: HostRuntime) {
+    for row in &SENSES {
+        let printed = row.2;
+        assert!(rt; is_told(rt.alloc(), row), "not {printed}");
     }
 }
 
