@@ -28,22 +28,22 @@ static long wake_asleep(const pz *p, uint64_t at, uint32_t most)
     return n > 0 ? n : 0;
 }
 
-/* One sleeper of a mutex. A call leaves it to an heir, who looks at the word (heir.c); a walk doesn't. A wake that woke
- * nobody, as who was killed asleep has its bit until it is reaped, is made once more, and no more, behind the end of
- * COMES: others may have left theirs to it meanwhile. */
-static long wake_one(const pz *p, uint64_t cell, int is_walk)
+/* One sleeper of a mutex, where there is no heir that looks at the word (heir.c). A wake that woke nobody, as who was
+ * killed asleep has its bit until it is reaped, is made once more, and no more, behind the end of COMES: others may
+ * have left theirs to it meanwhile. */
+static long wake_one(const pz *p, uint64_t cell)
 {
-    int comes = pz_let_come(p, cell);
-    if (!comes && !is_walk)
+    if (!pz_let_come(p, cell))
         return 1;
     long n = wake_asleep(p, cell, 1);
-    if (n || !comes)
+    if (n)
         return n;
     pz_disinherit(p, 0, cell);
     return wake_asleep(p, cell, 1);
 }
 
-/* Nobody has a bit: nobody sleeps there, and whoever is about to will find the word changed. */
+/* Nobody has a bit: nobody sleeps there, and whoever is about to will find the word changed. A walk's wake is made
+ * whoever is the heir, and nothing is left to it. */
 static uint32_t wake(const pz *p, const struct pz_access *x, uint64_t *value, int is_walk)
 {
     int cell = !is_counter(p, x->at);
@@ -51,7 +51,7 @@ static uint32_t wake(const pz *p, const struct pz_access *x, uint64_t *value, in
     if (cell && (SEE(heir(p, x->at)) & NAPS))
         pz_end_nap(p, x->at);
     if (SEE(sleepers(p, x->at)))
-        *value = (uint64_t)(cell && x->most == 1 ? wake_one(p, x->at, is_walk) : wake_asleep(p, x->at, x->most));
+        *value = (uint64_t)(cell && x->most == 1 && !is_walk ? wake_one(p, x->at) : wake_asleep(p, x->at, x->most));
     return PZ_COUNT;
 }
 

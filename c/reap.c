@@ -141,8 +141,7 @@ int pz_reap(pz *p)
 }
 
 /* The list is emptied first, and then the walk is none: who is killed between the two leaves a walk that has ended, and
- * nothing to walk over. (No try sees that the pending entry is cleared: a walk that ended has left it so but for who
- * spoils words; the machine's renewal does it.) */
+ * nothing to walk over. (No try sees that the pending entry is cleared. The machine's renewal clears it.) */
 static void begin_life(pz *p, unsigned t)
 {
     uint64_t head = head_place(t);

@@ -257,6 +257,9 @@ static void beside_an_heir(uint64_t cell)
     CHECK(pz_make(&file, &wake, &value) == PZ_COUNT && value == 1 && asleep_on);
     CHECK(pz_make_of_walk(&file, &wake, &value) == PZ_COUNT && value == 1 && !asleep_on);
     CHECK(*heir(&file, cell) == OTHER);
+    *heir(&file, cell) = 0;
+    asleep_on = (uint32_t *)&words[cell];
+    CHECK(pz_make_of_walk(&file, &wake, &value) == PZ_COUNT && !asleep_on && *heir(&file, cell) == 0);
 }
 
 int main(void)
