@@ -1,11 +1,12 @@
-//! Sleepers that sleep again, counters that go back to 0, wakes that are spared, and accesses of walks that are made
-//! once more.
+//! Sleepers that sleep again, counters that go back to 0, wakes that are spared, accesses of walks that are made once
+//! more, and mutexes that are made anew late.
 
-use crate::machine_rows::{LOCK, UNLOCK, machine, play, thread};
+use crate::machine_rows::{LOCK, UNLOCK, first_owner, machine, play, thread};
 use buckets::Batch;
 use condvar::{CondCall, Op};
 use interleave::Machine;
-use lockword::Tid;
+use lockword::{Tid, UNUSABLE, WAITERS};
+use mutex::Call;
 use protocol::{Event, Note};
 use std::test::Fail;
 
@@ -117,6 +118,75 @@ fn a_wake_is_spared_where_another_answers(rt: HostRuntime) -> Result<(), Fail> {
     }
     goes(&mut machine, three, Op::OnMutex(UNLOCK));
     assert!(rt; !machine.asleep(two));
+    Ok(())
+}
+
+/// As above, but thread 3 is killed when it has announced a mutex. Where that is mutex 0 its walk will look at the word,
+/// so the wake is spared, as long as nobody has begun to walk; and the walk wakes thread 2.
+#[test]
+fn a_wake_is_spared_where_a_walk_will_answer(rt: HostRuntime) -> Result<(), Fail> {
+    for (mutex, walked, spares) in [(0, 0, true), (0, 1, false), (1, 0, false)] {
+        let mut machine = machine(rt.alloc(), 3, 2, &[])?;
+        let (one, two, three) = (thread(1)?, thread(2)?, thread(3)?);
+        goes(&mut machine, one, Op::OnMutex(LOCK));
+        goes(&mut machine, two, Op::OnMutex(LOCK));
+        play(&mut machine, one, UNLOCK, 6);
+        play(&mut machine, three, Call::Lock(mutex), 1);
+        let _ = machine.step(Event::Kill(three));
+        for _ in 0..walked {
+            let _ = machine.step(Event::Step(three));
+        }
+        assert_eq!(rt; machine.step(Event::Spare(one)) != Note::Nothing, spares);
+        assert!(rt; machine.asleep(two));
+        let _ = machine.step(Event::Step(one));
+        for _ in 0..20 {
+            let _ = machine.step(Event::Step(three));
+        }
+        assert!(rt; machine.reaped(three));
+        assert!(rt; !machine.asleep(two));
+    }
+    Ok(())
+}
+
+/// Thread 4 has seen nobody sleep on an unusable mutex, and comes late: others have made it anew, locked it, and made it
+/// unusable again, and thread 3 sleeps there. The mutex is free by thread 4's exchange, and thread 2, which made it
+/// unusable and is killed before its wake, leaves that to its walk.
+#[test]
+fn a_mutex_that_is_slept_on_is_made_anew(rt: HostRuntime) -> Result<(), Fail> {
+    let mut machine = machine(rt.alloc(), 4, 1, &[])?;
+    let (one, two, three, four) = (thread(1)?, thread(2)?, thread(3)?, thread(4)?);
+    let cell = 13;
+    goes(&mut machine, one, Op::OnMutex(LOCK));
+    let _ = machine.step(Event::Kill(one));
+    for _ in 0..12 {
+        let _ = machine.step(Event::Step(one));
+    }
+    assert!(rt; machine.step(Event::Remake(four, 0)) == Note::Nothing);
+    goes(&mut machine, two, Op::OnMutex(LOCK));
+    goes(&mut machine, three, Op::OnMutex(LOCK));
+    play(&mut machine, two, UNLOCK, 6);
+    assert!(rt; machine.word(cell) == Some(UNUSABLE | WAITERS));
+    assert!(rt; machine.step(Event::Reinit(four, 0)) == Note::Nothing);
+    assert!(rt; machine.step(Event::Remake(two, 0)) == Note::Nothing);
+    assert!(rt; machine.step(Event::Remake(one, 0)) == Note::Nothing);
+    assert!(rt; machine.step(Event::Remake(four, 1)) == Note::Nothing);
+    let anew = Note::Reinited {
+        thread: four,
+        mutex: 0,
+    };
+    assert!(rt; machine.step(Event::Remake(four, 0)) == anew);
+    assert!(rt; machine.step(Event::Remake(four, 0)) == Note::Nothing);
+    assert!(rt; machine.word(cell) == Some(WAITERS));
+    assert!(rt; sleep_there(&machine, cell, &[3]));
+    let _ = machine.step(Event::Kill(two));
+    for _ in 0..12 {
+        let _ = machine.step(Event::Step(two));
+    }
+    assert!(rt; machine.reaped(two));
+    for _ in 0..20 {
+        let _ = machine.step(Event::Step(three));
+    }
+    assert!(rt; first_owner(&machine) == Some(three));
     Ok(())
 }
 

@@ -28,7 +28,7 @@ pub fn uses_of(keyword: &str, call: &str) -> &'static [(Things, usize)]
         "thread" => &[(Things::Processes, 2)],
         "cond" => &[(Things::Mutexes, 2)],
         "step" | "kill" | "renew" => &[(Things::Threads, 1)],
-        "reinit" => &[(Things::Threads, 1), (Things::Mutexes, 2)],
+        "reinit" | "remake" => &[(Things::Threads, 1), (Things::Mutexes, 2)],
         "leave" | "decline" | "go" | "die" => &[(Things::Threads, 1)],
         "recount" => &[(Things::Conditions, 1)],
         "spare" | "resleep" | "repeat" => &[(Things::Threads, 1)],

@@ -35,7 +35,7 @@ static WORDS: [Told; 35] = [
     (
         b"thread a\nmutx m\n",
         1,
-        "f: line 2: fault 2: unknown word (a script for `rfx run`)\n  | mutx m\n  | ^^^^\n  = expected one of `process` `thread` `mutex` `mutexes` `cond` `call` `begin` `step` `kill` `killall` `renew` `reinit` `leave` `decline` `recount` `spare` `resleep` `repeat` `go` `locks`\n  = did you mean `mutex`?\n",
+        "f: line 2: fault 2: unknown word (a script for `rfx run`)\n  | mutx m\n  | ^^^^\n  = expected one of `process` `thread` `mutex` `mutexes` `cond` `call` `begin` `step` `kill` `killall` `renew` `reinit` `remake` `leave` `decline` `recount` `spare` `resleep` `repeat` `go` `locks`\n  = did you mean `mutex`?\n",
     ),
     (
         b"thread a\nmutex m\nphase\ncall a trylok m\n",
@@ -100,7 +100,7 @@ static WORDS: [Told; 35] = [
     (
         b"  thread a\n",
         1,
-        "f: line 1: fault 2: unknown word (a script for `rfx run`)\n  |   thread a\n  | ^\n  = expected one of `process` `thread` `mutex` `mutexes` `cond` `call` `begin` `step` `kill` `killall` `renew` `reinit` `leave` `decline` `recount` `spare` `resleep` `repeat` `go` `locks`\n  = a blank stands before the first word\n",
+        "f: line 1: fault 2: unknown word (a script for `rfx run`)\n  |   thread a\n  | ^\n  = expected one of `process` `thread` `mutex` `mutexes` `cond` `call` `begin` `step` `kill` `killall` `renew` `reinit` `remake` `leave` `decline` `recount` `spare` `resleep` `repeat` `go` `locks`\n  = a blank stands before the first word\n",
     ),
     (
         b"thread  a\n",
@@ -115,7 +115,7 @@ static WORDS: [Told; 35] = [
     (
         b"thread\ta\n",
         1,
-        "f: line 1: fault 2: unknown word (a script for `rfx run`)\n  | thread\u{2409}a\n  | ^^^^^^^^\n  = expected one of `process` `thread` `mutex` `mutexes` `cond` `call` `begin` `step` `kill` `killall` `renew` `reinit` `leave` `decline` `recount` `spare` `resleep` `repeat` `go` `locks`\n  = did you mean `thread`?\n  = a tab stands here: words have one blank between them\n",
+        "f: line 1: fault 2: unknown word (a script for `rfx run`)\n  | thread\u{2409}a\n  | ^^^^^^^^\n  = expected one of `process` `thread` `mutex` `mutexes` `cond` `call` `begin` `step` `kill` `killall` `renew` `reinit` `remake` `leave` `decline` `recount` `spare` `resleep` `repeat` `go` `locks`\n  = did you mean `thread`?\n  = a tab stands here: words have one blank between them\n",
     ),
     (
         b"mutex m\r\n",
@@ -131,12 +131,12 @@ static WORDS: [Told; 35] = [
     (
         b"thread a\nmutex m\nstep a 1\nphase\n",
         1,
-        "f: line 4: fault 2: unknown word (a script for `rfx run`)\n  | phase\n  | ^^^^^\n  = expected one of `process` `thread` `mutex` `mutexes` `cond` `call` `begin` `step` `kill` `killall` `renew` `reinit` `leave` `decline` `recount` `spare` `resleep` `repeat` `go` `locks`\n  = a script for `rfx threads` has such lines\n",
+        "f: line 4: fault 2: unknown word (a script for `rfx run`)\n  | phase\n  | ^^^^^\n  = expected one of `process` `thread` `mutex` `mutexes` `cond` `call` `begin` `step` `kill` `killall` `renew` `reinit` `remake` `leave` `decline` `recount` `spare` `resleep` `repeat` `go` `locks`\n  = a script for `rfx threads` has such lines\n",
     ),
     (
         b"1 kill t1\n",
         1,
-        "f: line 1: fault 2: unknown word (a script for `rfx run`)\n  | 1 kill t1\n  | ^\n  = expected one of `process` `thread` `mutex` `mutexes` `cond` `call` `begin` `step` `kill` `killall` `renew` `reinit` `leave` `decline` `recount` `spare` `resleep` `repeat` `go` `locks`\n  = this is a line of a trace, which begins with `trace T M C`\n",
+        "f: line 1: fault 2: unknown word (a script for `rfx run`)\n  | 1 kill t1\n  | ^\n  = expected one of `process` `thread` `mutex` `mutexes` `cond` `call` `begin` `step` `kill` `killall` `renew` `reinit` `remake` `leave` `decline` `recount` `spare` `resleep` `repeat` `go` `locks`\n  = this is a line of a trace, which begins with `trace T M C`\n",
     ),
     (
         b"trace 1 1 0\nthread a\nend 1\n",

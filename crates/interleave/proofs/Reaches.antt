@@ -27,12 +27,12 @@ use Rattle.condvar.specs.declared.op.Op.{Op}
 use Rattle.condvar.specs.declared.op.Op.TheVariants.{OnMutex, OnCondition}
 use Rattle.condvar.specs.Ops.{mutex_of, is_in}
 use Rattle.protocol.specs.declared.event.Event.{Event}
-use Rattle.protocol.specs.declared.event.Event.TheVariants.{Begin, Step, Kill, Leave, Decline, Renew, Reinit, Recount, Spare, Resleep, Repeat}
+use Rattle.protocol.specs.declared.event.Event.TheVariants.{Begin, Step, Kill, Leave, Decline, Renew, Reinit, Remake, Recount, Spare, Resleep, Repeat}
 use Rattle.protocol.specs.declared.thread.Thread.{Thread}
 use Rattle.protocol.specs.declared.thread.Stage.{Stage}
 use Rattle.protocol.specs.declared.thread.Stage.TheVariants.{Idle, Calling, AtCondition, Dying, Reaped}
 use Rattle.protocol.specs.declared.note.Note.{Note}
-use Rattle.protocol.specs.Machine.{State, After, put, idle, start, is_valid, has_thread, may_begin, may_reinit, first_stage, begun, nothing, is_alive, is_gone, killed, renewed, reinited, departed, declined, spared, is_asleep, is_trim, sleeps, led, went, stepped, answer_of, happens, run, notes}
+use Rattle.protocol.specs.Machine.{State, After, put, idle, start, is_valid, has_thread, may_begin, may_reinit, may_remake, waiters_of, first_stage, begun, nothing, is_alive, is_gone, killed, renewed, reinited, departed, declined, spared, is_asleep, is_trim, sleeps, led, went, stepped, answer_of, happens, run, notes}
 use Rattle.protocol.specs.Machine.{Led, led_at, another_answers, is_mark, may_recount, recounted, repeated, repeating, resleeping, reslept, sparing, stands_in, wakes_next, wakes_one}
 use Rattle.stepprograms.specs.declared.access.Answer.TheVariants.{Count}
 use Rattle.condvar.specs.Calls.{condition_of}
@@ -178,7 +178,15 @@ stays s (Renew t) = go (has_thread s t && is_gone (s.threads t).stage)
     go false h = refl
 stays s (Reinit t m) = go (may_reinit s t m)
   where
-    go : (b : Bool) → is_nothing (if b then reinited s t m else nothing s).note ≡ true → (if b then reinited s t m else nothing s).state ≡ s
+    go : (b : Bool) → is_nothing (if b then reinited s t m 0 else nothing s).note ≡ true → (if b then reinited s t m 0 else nothing s).state ≡ s
+    go true h = absurd cc
+    go false h = refl
+stays s (Remake t m) = go (may_remake s t m)
+  where
+    to : ℕ
+    to = waiters_of (s.words (cell_place s.layout m))
+
+    go : (b : Bool) → is_nothing (if b then reinited s t m to else nothing s).note ≡ true → (if b then reinited s t m to else nothing s).state ≡ s
     go true h = absurd cc
     go false h = refl
 stays s (Recount k) = go (may_recount s k)

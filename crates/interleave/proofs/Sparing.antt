@@ -98,17 +98,17 @@ other_holds true b c e f = absurd cc
 other_holds false true c e f = absurd cc
 
 -- none of one thread more
-pub one_more : (s : State) (t m i : ℕ) → another_answers s t m i ≡ false → (not (suc i == t) && not (is_asleep s (suc i)) && answers s.layout m (s.threads (suc i)).stage) ≡ false → another_answers s t m (i + 1) ≡ false
+pub one_more : (s : State) (t m i : ℕ) → another_answers s t m i ≡ false → (not (suc i == t) && not (is_asleep s (suc i)) && answers s.layout s.words m (suc i) (s.threads (suc i)).stage) ≡ false → another_answers s t m (i + 1) ≡ false
 one_more s t m i none here = subst (λ (n : ℕ). another_answers s t m n ≡ false) (one_suc i) (ap (λ (b : Bool). b || another_answers s t m i) here ∙ none)
   where
     one_suc : (i : ℕ) → suc i ≡ i + 1
     one_suc i = omega arith
 
 -- one does
-pub one_does : (s : State) (t m i n : ℕ) → i < n → (not (suc i == t) && not (is_asleep s (suc i)) && answers s.layout m (s.threads (suc i)).stage) ≡ true → true ≡ another_answers s t m n
-one_does s t m i n below here = go (suc i == t) refl (is_asleep s (suc i)) refl (answers s.layout m (s.threads (suc i)).stage) refl here
+pub one_does : (s : State) (t m i n : ℕ) → i < n → (not (suc i == t) && not (is_asleep s (suc i)) && answers s.layout s.words m (suc i) (s.threads (suc i)).stage) ≡ true → true ≡ another_answers s t m n
+one_does s t m i n below here = go (suc i == t) refl (is_asleep s (suc i)) refl (answers s.layout s.words m (suc i) (s.threads (suc i)).stage) refl here
   where
-    go : (a : Bool) → (suc i == t) ≡ a → (b : Bool) → is_asleep s (suc i) ≡ b → (c : Bool) → answers s.layout m (s.threads (suc i)).stage ≡ c → (not a && not b && c) ≡ true → true ≡ another_answers s t m n
+    go : (a : Bool) → (suc i == t) ≡ a → (b : Bool) → is_asleep s (suc i) ≡ b → (c : Bool) → answers s.layout s.words m (suc i) (s.threads (suc i)).stage ≡ c → (not a && not b && c) ≡ true → true ≡ another_answers s t m n
     go false apart false awake true looks e = sym (another_again s t m n (suc i) (omega arith) (omega arith) (eqb-false (suc i) t apart) awake looks)
     go true is b f c g e = absurd cc
     go false apart true f c g e = absurd cc

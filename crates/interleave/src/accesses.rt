@@ -1,6 +1,6 @@
 //! Accesses of the machine's threads: to its words, and to the kernel's queues. A thread names words by the addresses
 //! that they have in its process.
-ghost use Rattle.std.specs.Prelude.{◌≡◌, ◌≤◌, ℕ, [], true, false};
+ghost use Rattle.std.specs.Prelude.{◌≡◌, ◌≤◌, ◌<◌, ℕ, [], true, false, length, slice_index};
 ghost use Rattle.stepprograms.specs.declared.access.Access.TheVariants.{Wait, Wake};
 ghost use Rattle.stepprograms.specs.declared.access.Answer.TheVariants.{Value, Stored, Exchanged, Changed};
 ghost use Rattle.syscalls.specs.Kernels.{IsAwake};
@@ -11,7 +11,7 @@ use buckets::Batch;
 use lockword::{Reply, Tid};
 use memorymap::seen_at;
 use stepprograms::{Access, Answer};
-use syscalls::{Kernel, Memory};
+use syscalls::{Kernel, Memory, PlainMemory};
 
 /// What an access answered, whether its thread fell asleep by it, whom it woke, and whom it moved to another queue, in
 /// their order.
@@ -21,6 +21,18 @@ pub(crate) struct Performed {
     pub slept: bool,
     pub woken: Batch,
     pub moved: Batch,
+}
+
+/// The word at a place of the memory.
+pub(crate) fn word_at(memory: &PlainMemory, place: u64) -> u64
+    requires first { 1 ≤ place }
+    requires last { place < length memory.now }
+    ensures { result ≡ slice_index memory.now place }
+{
+    let Some(word) = memory.load(place) else {
+        unreachable!()
+    };
+    word
 }
 
 /// Of an access by which nobody falls asleep, is woken or is moved.

@@ -1,14 +1,15 @@
-//! Unusable mutexes that are made anew.
+//! Unusable mutexes that are made anew, by a reinit, or by the exchange alone that ends one.
 ghost use Rattle.std.specs.Prelude.{◌≡◌, ◌<◌, ◌&&◌, ℕ, List, length, nat_lt};
 ghost use Rattle.memorymap.specs.Layouts.{words_of};
-ghost use Rattle.protocol.specs.declared.event.Event.TheVariants.{Reinit};
+ghost use Rattle.protocol.specs.declared.event.Event.TheVariants.{Reinit, Remake};
 ghost use Rattle.protocol.specs.declared.thread.Thread.{Thread};
-ghost use Rattle.protocol.specs.Machine.{happens, has_thread, is_idle, is_unusable};
+ghost use Rattle.protocol.specs.Machine.{happens, has_thread, is_idle, is_unusable, waiters_of};
 ghost use Rattle.syscalls.specs.Kernels.{Kernel'};
 ghost use Rattle.interleave.specs.Shown.{state_at, thread_at};
 
+use crate::accesses::word_at;
 use crate::threads::is_idle;
-use lockword::{Cell, Tid};
+use lockword::{Cell, Tid, WAITERS};
 use memorymap::Layout;
 use protocol::{Note, Thread};
 use syscalls::{Kernel, Memory, PlainMemory};
@@ -71,5 +72,46 @@ pub(crate) fn reinit(
         return Note::Nothing;
     }
     let _ = memory.store(cell, 0);
+    Note::Reinited { thread, mutex }
+}
+
+/// WAITERS of a word, and nothing else of it.
+fn waiters_of(word: u64) -> u64
+    ensures { result ≡ waiters_of word }
+{
+    if Cell::new(word).waiters() {
+        WAITERS
+    } else {
+        0
+    }
+}
+
+/// The thread makes the mutex anew, if it is in no call, and the mutex is unusable, whoever sleeps on it: its word says
+/// nothing but WAITERS, where it has that.
+pub(crate) fn remake(
+    layout: &Layout,
+    memory: &mut PlainMemory,
+    threads: &Vec<Thread>,
+    thread: Tid,
+    mutex: u16,
+) -> Note
+    requires words { length memory.old ≡ words_of layout.now }
+    requires threads { length threads.now.items ≡ layout.now.threads }
+    ensures state { (kernel : Kernel')
+        → state_at layout.now memory.new kernel threads.now.items
+        ≡ (happens (state_at layout.now memory.old kernel threads.now.items) (Remake thread mutex)).state }
+    ensures note { (kernel : Kernel')
+        → result ≡ (happens (state_at layout.now memory.old kernel threads.now.items) (Remake thread mutex)).note }
+    ensures words { length memory.new ≡ length memory.old }
+{
+    if !is_resting(layout, threads, thread) {
+        return Note::Nothing;
+    }
+    if !is_unusable(layout, memory, mutex) {
+        return Note::Nothing;
+    }
+    let cell = layout.cell(mutex);
+    let word = word_at(memory, cell);
+    let _ = memory.store(cell, waiters_of(word));
     Note::Reinited { thread, mutex }
 }

@@ -9,7 +9,7 @@ ghost use Rattle.syscalls.specs.Kernels.{IsKernel};
 ghost use Rattle.interleave.specs.Shown.{state_at, thread_at};
 ghost use Rattle.interleave.specs.Steps.{MayStep, SleepsInItsCall};
 
-use crate::accesses::perform;
+use crate::accesses::{perform, word_at};
 use buckets::Batch;
 use condvar::Op;
 use exitwalk::Row;
@@ -40,10 +40,7 @@ fn low_half(memory: &PlainMemory, place: u64) -> u32
     requires last { place < length memory.now }
     ensures { result ≡ slice_index memory.now place % 2 ^ 32 }
 {
-    let Some(word) = memory.load(place) else {
-        unreachable!()
-    };
-    (word & 0xffff_ffff) as u32
+    (word_at(memory, place) & 0xffff_ffff) as u32
 }
 
 /// A thread that sleeps on a condition variable's counter goes to the end of its queue: it leaves it, and falls asleep

@@ -1,5 +1,6 @@
 //! Wakes that are spared, since another thread answers for the mutex.
-ghost use Rattle.std.specs.Prelude.{◌≡◌, ◌≤◌, ◌==◌, ◌&&◌, not, ℕ, List, length, true};
+ghost use Rattle.std.specs.Prelude.{◌≡◌, ◌≤◌, ◌<◌, ◌==◌, ◌&&◌, not, ℕ, List, length, slice_index, true};
+ghost use Rattle.memorymap.specs.Layouts.{words_of};
 ghost use Rattle.mutex.specs.Whole.{IsUnderWay, PhaseKnows};
 ghost use Rattle.condvar.specs.Whole as condition;
 ghost use Rattle.condvar.specs.declared.op.Op.TheVariants.{OnCondition};
@@ -8,21 +9,23 @@ ghost use Rattle.protocol.specs.declared.event.Event.TheVariants.{Spare};
 ghost use Rattle.protocol.specs.declared.thread.Thread.{Thread};
 ghost use Rattle.protocol.specs.declared.thread.Stage.TheVariants.{AtCondition, Calling};
 ghost use Rattle.protocol.specs.Machine.{happens, answers_at, wakes_next, wakes_one, answers};
-ghost use Rattle.protocol.specs.Machine.{another_answers, is_asleep};
+ghost use Rattle.protocol.specs.Machine.{another_answers, is_asleep, is_first, is_pending};
 ghost use Rattle.syscalls.specs.Kernels.{Kernel'};
 ghost use Rattle.interleave.specs.Shown.{state_at, thread_at};
 ghost use Rattle.interleave.specs.Steps.{IsOnItsWay, MayStep, SleepsInItsCall};
 
-use crate::accesses::quiet;
+use crate::accesses::{quiet, word_at};
+use crate::ops::mutex_of;
 use crate::threads::{held_after, point, stage_after, stage_at, stepped};
 use condvar::{CondCall, CondPhase, CondProgram, CondRow, Op, WaitRow};
+use exitwalk::{Row as WalkRow, Walk};
 use facts::Queue;
 use lockword::Tid;
 use memorymap::Layout;
 use mutex::{Phase, Program, Row, UnlockRow};
 use protocol::{Note, Stage, Thread};
 use stepprograms::{Answer, StepProgram};
-use syscalls::Kernel;
+use syscalls::{Kernel, PlainMemory};
 
 /// Whether a call that stands there takes its mutex, or wakes one that sleeps on it, unless it finds it owned.
 fn answers_at(phase: &Phase) -> bool
@@ -90,34 +93,59 @@ fn wakes_next(phase: &CondPhase) -> bool
     }
 }
 
-/// Whether a thread that is there, unless it sleeps, answers for the mutex.
-fn answers(layout: &Layout, mutex: u16, stage: &Stage) -> bool
-    requires { IsOnItsWay layout.now stage.now }
-    ensures { result ≡ answers layout.now mutex stage.now }
+/// Whether a walk hasn't begun.
+fn is_first(walk: &Walk) -> bool
+    ensures { result ≡ is_first walk.now.row }
+{
+    matches!(walk.row(), WalkRow::LoadFirst)
+}
+
+/// Whether the thread has an entry pending, which is the mutex's (list_op_pending in get_robust_list(2)).
+fn is_pending(layout: &Layout, memory: &PlainMemory, mutex: u16, thread: Tid) -> bool
+    requires words { length memory.now ≡ words_of layout.now }
+    requires inside { mutex < layout.now.mutexes }
+    requires known { thread ≤ layout.now.threads }
+    ensures { result ≡ is_pending layout.now (λ p. slice_index memory.now p) mutex thread }
+{
+    word_at(memory, layout.head(thread) + 2) == layout.address(thread, layout.entry(mutex))
+}
+
+/// Whether the thread, which is there, answers for the mutex, unless it sleeps.
+fn answers(layout: &Layout, memory: &PlainMemory, mutex: u16, thread: Tid, stage: &Stage) -> bool
+    requires words { length memory.now ≡ words_of layout.now }
+    requires inside { mutex < layout.now.mutexes }
+    requires known { thread ≤ layout.now.threads }
+    requires goes { IsOnItsWay layout.now stage.now }
+    ensures { result ≡ answers layout.now (λ p. slice_index memory.now p) mutex thread stage.now }
 {
     match *stage {
         Stage::Calling(op, program) => op.mutex(layout) == mutex && answers_at(&program.phase()),
         Stage::AtCondition(call, program) => {
             Op::OnCondition(call).mutex(layout) == mutex && wakes_next(&program.phase())
         }
-        Stage::Idle | Stage::Dying(_) | Stage::Reaped => false,
+        Stage::Dying(ref walk) => is_first(walk) && is_pending(layout, memory, mutex, thread),
+        Stage::Idle | Stage::Reaped => false,
     }
 }
 
 /// Whether that thread, where it is there, is another than this one, awake, and answers for the mutex.
 fn other_answers(
     layout: &Layout,
+    memory: &PlainMemory,
     kernel: &Kernel,
     thread: Tid,
     mutex: u16,
     other: Tid,
     stage: &Stage,
 ) -> bool
-    requires { IsOnItsWay layout.now stage.now }
-    ensures { (ws : List ℕ) (ts : List Thread) → SleepsInItsCall (state_at layout.now ws kernel.now ts) other
+    requires words { length memory.now ≡ words_of layout.now }
+    requires inside { mutex < layout.now.mutexes }
+    requires known { other ≤ layout.now.threads }
+    requires goes { IsOnItsWay layout.now stage.now }
+    ensures { (ts : List Thread) → SleepsInItsCall (state_at layout.now memory.now kernel.now ts) other
         → result
-        ≡ (not (other == thread) && not (is_asleep (state_at layout.now ws kernel.now ts) other)
-        && answers layout.now mutex stage.now) }
+        ≡ (not (other == thread) && not (is_asleep (state_at layout.now memory.now kernel.now ts) other)
+        && answers layout.now (λ p. slice_index memory.now p) mutex other stage.now) }
 {
     if other.get() == thread.get() {
         return false;
@@ -125,29 +153,33 @@ fn other_answers(
     if kernel.asleep(other) {
         return false;
     }
-    answers(layout, mutex, stage)
+    answers(layout, memory, mutex, other, stage)
 }
 
 /// Whether a thread but this one is awake and answers for the mutex.
 fn another_answers(
     layout: &Layout,
+    memory: &PlainMemory,
     kernel: &Kernel,
     threads: &Vec<Thread>,
     thread: Tid,
     mutex: u16,
 ) -> bool
+    requires words { length memory.now ≡ words_of layout.now }
+    requires inside { mutex < layout.now.mutexes }
     requires threads { length threads.now.items ≡ layout.now.threads }
     requires goes { (t : ℕ) → 1 ≤ t → t ≤ layout.now.threads → MayStep layout.now (thread_at threads.now.items t) }
-    ensures { (ws : List ℕ) → ((t : ℕ) → SleepsInItsCall (state_at layout.now ws kernel.now threads.now.items) t)
+    ensures { ((t : ℕ) → SleepsInItsCall (state_at layout.now memory.now kernel.now threads.now.items) t)
         → result
-        ≡ another_answers (state_at layout.now ws kernel.now threads.now.items) thread mutex layout.now.threads }
+        ≡ another_answers (state_at layout.now memory.now kernel.now threads.now.items) thread mutex
+        layout.now.threads }
 {
     for index in 0..layout.threads() {
         let Some(other) = Tid::new(index + 1) else {
             unreachable!()
         };
         let stage = &threads[usize::from(index)].stage;
-        if other_answers(layout, kernel, thread, mutex, other, stage) {
+        if other_answers(layout, memory, kernel, thread, mutex, other, stage) {
             return true;
         }
     }
@@ -233,17 +265,19 @@ fn spare_wait(
 /// thread answers for the mutex.
 pub(crate) fn spare(
     layout: &Layout,
+    memory: &PlainMemory,
     kernel: &Kernel,
     threads: &mut Vec<Thread>,
     thread: Tid,
 ) -> Note
+    requires words { length memory.now ≡ words_of layout.now }
     requires threads { length threads.old.items ≡ layout.now.threads }
     requires goes { (t : ℕ) → 1 ≤ t → t ≤ layout.now.threads → MayStep layout.now (thread_at threads.old.items t) }
-    ensures state { (ws : List ℕ) → ((t : ℕ) → SleepsInItsCall (state_at layout.now ws kernel.now threads.old.items) t)
-        → state_at layout.now ws kernel.now threads.new.items
-        ≡ (happens (state_at layout.now ws kernel.now threads.old.items) (Spare thread)).state }
-    ensures note { (ws : List ℕ) → ((t : ℕ) → SleepsInItsCall (state_at layout.now ws kernel.now threads.old.items) t)
-        → result ≡ (happens (state_at layout.now ws kernel.now threads.old.items) (Spare thread)).note }
+    requires sleeps { (t : ℕ) → SleepsInItsCall (state_at layout.now memory.now kernel.now threads.old.items) t }
+    ensures state { state_at layout.now memory.now kernel.now threads.new.items
+        ≡ (happens (state_at layout.now memory.now kernel.now threads.old.items) (Spare thread)).state }
+    ensures note { result
+        ≡ (happens (state_at layout.now memory.now kernel.now threads.old.items) (Spare thread)).note }
     ensures threads { length threads.new.items ≡ length threads.old.items }
 {
     if layout.threads() < thread.get() {
@@ -254,8 +288,8 @@ pub(crate) fn spare(
             if !wakes_one(&program.phase()) {
                 return Note::Nothing;
             }
-            let mutex = op.mutex(layout);
-            if !another_answers(layout, kernel, threads, thread, mutex) {
+            let mutex = mutex_of(layout, op);
+            if !another_answers(layout, memory, kernel, threads, thread, mutex) {
                 return Note::Nothing;
             }
             spare_unlock(layout, threads, thread, op, program)
@@ -264,8 +298,8 @@ pub(crate) fn spare(
             if !wakes_next(&program.phase()) {
                 return Note::Nothing;
             }
-            let mutex = Op::OnCondition(call).mutex(layout);
-            if !another_answers(layout, kernel, threads, thread, mutex) {
+            let mutex = mutex_of(layout, Op::OnCondition(call));
+            if !another_answers(layout, memory, kernel, threads, thread, mutex) {
                 return Note::Nothing;
             }
             spare_wait(layout, threads, thread, call, program)

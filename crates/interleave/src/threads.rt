@@ -19,7 +19,7 @@ use crate::deaths::{kill, walk_on};
 use crate::leaves::{decline, leave};
 use crate::ops::begun;
 use crate::recounts::recount;
-use crate::reinits::reinit;
+use crate::reinits::{reinit, remake};
 use crate::renewals::renew;
 use crate::repeats::{repeat, resleep};
 use crate::spares::spare;
@@ -392,8 +392,9 @@ pub(crate) fn apply(
         Event::Decline(thread) => decline(layout, kernel, threads, thread),
         Event::Renew(thread) => renew(layout, memory, threads, thread),
         Event::Reinit(thread, mutex) => reinit(layout, memory, kernel, threads, thread, mutex),
+        Event::Remake(thread, mutex) => remake(layout, memory, threads, thread, mutex),
         Event::Recount(condition) => recount(layout, memory, kernel, threads, condition),
-        Event::Spare(thread) => spare(layout, kernel, threads, thread),
+        Event::Spare(thread) => spare(layout, memory, kernel, threads, thread),
         Event::Resleep(thread) => resleep(layout, memory, kernel, threads, thread),
         Event::Repeat(thread) => repeat(layout, memory, kernel, threads, thread),
     }

@@ -1,7 +1,7 @@
 -- Which events apply.
 use Rattle.std.proofs.Common.{◌≡◌, ◌≢◌, ℕ, ◌≤◌, ◌==◌, Bool, true, false, ◌&&◌, Option, None, Ok, Err, List, [], ◌∷◌, ◌++◌, refl, sym, ap, ◌∙◌, subst, arith, eq-eqb}
-use Rattle.protocol.proofs.Vocabulary.{Left, Renewed, Reinited, Trimmed, spared, departed, renewed, reinited, Whole}
-use Rattle.protocol.specs.Machine.{is_gone, may_reinit}
+use Rattle.protocol.proofs.Vocabulary.{Left, Renewed, Reinited, Trimmed, spared, departed, renewed, reinited, waiters_of, MayRemake, Whole, cell_place}
+use Rattle.protocol.specs.Machine.{is_gone, may_reinit, may_remake}
 use Rattle.protocol.proofs.Departures.{asleep_where}
 use Rattle.protocol.proofs.Declines.{decline_goes, decline_rests}
 use Rattle.protocol.proofs.Queued.{asleep_there}
@@ -25,7 +25,7 @@ use Rattle.protocol.specs.Machine.{told_of as told_of_death}
 use Rattle.protocol.proofs.Puts.{by_put}
 use Rattle.protocol.proofs.Kept.{Kept}
 use Rattle.protocol.proofs.Runs.{start_kept, run_kept, run_layout}
-use Rattle.protocol.proofs.Events.{begins_at, by_event, may_so, may_again, IsWorking, by_stage}
+use Rattle.protocol.proofs.Events.{begins_at, by_event, reinit_so, reinit_again, remake_so, remake_again, IsWorking, by_stage}
 use Rattle.protocol.proofs.Endings.{EndsOrGoes, call_ends, cond_ends}
 use Rattle.protocol.proofs.Queued.{Queued, out_awake, in_none}
 use Rattle.protocol.proofs.QueueRuns.{run_queued}
@@ -152,6 +152,7 @@ next_agrees s e t w a =
     (λ u pos known asleep. a)
     (λ u o p pos known is awake trims. spared_agrees s u t (s.threads u).held (mutex_of s.layout o) (led o p (whole_led p (Trimmed false))) w (ap is_calling is) (call_ends o p (whole_led p (Trimmed false))) a)
     (λ u pos known gone. moved s u t w AtRest _ a tt)
+    (λ u m may. refused_agrees s u t w may.remake.resting a)
     (λ u m may. refused_agrees s u t w may.resting a)
     (λ k may. a)
     (λ u m g sp. spared_agrees s u t (s.threads u).held m g w (spared_calls s u m g sp.how) (spared_ends s u m g sp.how) a)
@@ -271,19 +272,34 @@ module _ (s : State) (ns : List Note) (inv : Kept s) (queued : Queued s) (agrees
   told_resting : (w : Told) (g : Stage) → Agrees w g → g ≡ Idle → w ≡ AtRest
   told_resting w g a idle = grind (arith)
 
+  remake_as : (t m : ℕ) → Applies s.layout s ns (Event.Remake t m) → MayRemake s t m
+  remake_as t m on = record { first = on.0.0; last = on.0.1; resting = resting_agrees (last_told t ns) (s.threads t).stage (agrees t) on.1; inside = on.2; unusable = on.3 }
+
+  as_remake : (t m : ℕ) → MayRemake s t m → Applies s.layout s ns (Event.Remake t m)
+  as_remake t m may = ((may.first, may.last), told_resting (last_told t ns) (s.threads t).stage (agrees t) may.resting, may.inside, may.unusable)
+
   reinits_so : (t m : ℕ) → Applies s.layout s ns (Event.Reinit t m) → (happens s (Event.Reinit t m)).note ≡ Reinited t m
   reinits_so t m on =
-      ap (λ (b : Bool). (if b then reinited s t m else nothing s).note)
-      (may_again s t m record { first = on.0.0; last = on.0.1; resting = resting_agrees (last_told t ns) (s.threads t).stage (agrees t) on.1; inside = on.2; unusable = on.3; unslept = on.4 })
+      ap (λ (b : Bool). (if b then reinited s t m 0 else nothing s).note)
+      (reinit_again s t m record { remake = remake_as t m (on.0, on.1, on.2, on.3); unslept = on.4 })
 
   reinits_else : (t m : ℕ) → ¬ Applies s.layout s ns (Event.Reinit t m) → happens s (Event.Reinit t m) ≡ nothing s
   reinits_else t m never = go (may_reinit s t m) refl
     where
-      go : (b : Bool) → may_reinit s t m ≡ b → (if b then reinited s t m else nothing s) ≡ nothing s
+      go : (b : Bool) → may_reinit s t m ≡ b → (if b then reinited s t m 0 else nothing s) ≡ nothing s
       go false e = refl
-      go true e =
-          let may = may_so s t m e in
-          absurd (never ((may.first, may.last), told_resting (last_told t ns) (s.threads t).stage (agrees t) may.resting, may.inside, may.unusable, may.unslept))
+      go true e = let may = reinit_so s t m e in let told = as_remake t m may.remake in absurd (never (told.0, told.1, told.2, told.3, may.unslept))
+
+  -- ---- remakes
+  remakes_so : (t m : ℕ) → Applies s.layout s ns (Event.Remake t m) → (happens s (Event.Remake t m)).note ≡ Reinited t m
+  remakes_so t m on = ap (λ (b : Bool). (if b then reinited s t m (waiters_of (s.words (cell_place s.layout m))) else nothing s).note) (remake_again s t m (remake_as t m on))
+
+  remakes_else : (t m : ℕ) → ¬ Applies s.layout s ns (Event.Remake t m) → happens s (Event.Remake t m) ≡ nothing s
+  remakes_else t m never = go (may_remake s t m) refl
+    where
+      go : (b : Bool) → may_remake s t m ≡ b → (if b then reinited s t m (waiters_of (s.words (cell_place s.layout m))) else nothing s) ≡ nothing s
+      go false e = refl
+      go true e = absurd (never (as_remake t m (remake_so s t m e)))
 
   -- ---- recounts
   recounts_so : (k : ℕ) → Applies s.layout s ns (Event.Recount k) → (happens s (Event.Recount k)).note ≡ Recounted k
@@ -339,6 +355,7 @@ module _ (s : State) (ns : List Note) (inv : Kept s) (queued : Queued s) (agrees
   so (Event.Decline t) on = declines_so t on
   so (Event.Renew t) on = renews_so t on
   so (Event.Reinit t m) on = reinits_so t m on
+  so (Event.Remake t m) on = remakes_so t m on
   so (Event.Recount k) on = recounts_so k on
   so (Event.Spare t) on = spares_so t on
   so (Event.Resleep t) on = resleeps_so t on
@@ -352,6 +369,7 @@ module _ (s : State) (ns : List Note) (inv : Kept s) (queued : Queued s) (agrees
   idles (Event.Decline t) never = declines_else t never
   idles (Event.Renew t) never = renews_else t never
   idles (Event.Reinit t m) never = reinits_else t m never
+  idles (Event.Remake t m) never = remakes_else t m never
   idles (Event.Recount k) never = recounts_else k never
   idles (Event.Spare t) never = spares_else t never
   idles (Event.Resleep t) never = resleeps_else t never

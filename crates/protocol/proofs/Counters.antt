@@ -24,9 +24,9 @@ use Rattle.protocol.proofs.Accesses as accesses
 use Rattle.protocol.proofs.WalkSteps.{walk_of, by_walked, walk_no_move, walk_access, row_then, death_then, walk_transition, walk_after, walked-is, DeathTells, WalkStep, walk_step}
 use Rattle.protocol.proofs.Declines.{declined_state, spared_is}
 use Rattle.protocol.proofs.Events.{begins_at, by_event, by_stage, IsTrimming}
-use Rattle.protocol.proofs.Vocabulary.{renewed, reinited}
+use Rattle.protocol.proofs.Vocabulary.{renewed, reinited, MayRemake}
 use Rattle.protocol.proofs.Renewals.{renewed_counter, renewed_thread, renewed_other}
-use Rattle.protocol.proofs.Reinits.{reinited_counter}
+use Rattle.protocol.proofs.Reinits.{Says_nothing, waiters_say_nothing, reinited_counter}
 use Rattle.protocol.proofs.Working.{walk_is}
 use Rattle.protocol.proofs.Runs.{sound}
 use Rattle.protocol.proofs.CondSteps.{cond_of, at_either, counter_here, leads}
@@ -261,6 +261,7 @@ recount_or (Event.Leave t) = inl tt
 recount_or (Event.Decline t) = inl tt
 recount_or (Event.Renew t) = inl tt
 recount_or (Event.Reinit t m) = inl tt
+recount_or (Event.Remake t m) = inl tt
 recount_or (Event.Spare t) = inl tt
 recount_or (Event.Resleep t) = inl tt
 recount_or (Event.Repeat t) = inl tt
@@ -293,18 +294,22 @@ passes s e inv counted =
       knows = λ first last. subst (λ (z : Thread). KnowsIn s.layout (renewed s t).state.words z.stage) (sym (renewed_thread s t pos known)) tt;
       theirs = λ u other. ap (λ (z : Thread). z.stage) (renewed_other s t pos known u other);
     })
-    (λ t m may other. record {
-      layout = refl;
-      rises = λ k. inl (reinited_counter s t m may k);
-      knows = λ first last. subst (KnowsIn s.layout (reinited s t m).state.words) (sym may.resting) tt;
-      theirs = λ u other. refl;
-    })
+    (λ t m may other. made_anew t m 0 refl may.remake)
+    (λ t m may other. made_anew t m _ (waiters_say_nothing (s.words (cell_place s.layout m))) may)
     (λ k may other. absurd other)
     (λ t m g sp other. subst (λ (a : After). Passes s t a.state) (sym (spare_is s t m g sp inv)) (spares t m g sp))
     (λ t c p pos known is there other. record { layout = refl; rises = λ k. inl refl; knows = λ first last. counted.knows t first last; theirs = λ u other. refl })
     (λ t w pos known is reads other. record { layout = refl; rises = λ k. inl refl; knows = λ first last. counted.knows t first last; theirs = λ u other. refl })
     e
   where
+    made_anew : (t m w : ℕ) → Says_nothing w → MayRemake s t m → Passes s t (reinited s t m w).state
+    made_anew t m w says may = record {
+      layout = refl;
+      rises = λ k. inl (reinited_counter s t m w says may k);
+      knows = λ first last. subst (KnowsIn s.layout (reinited s t m w).state.words) (sym may.resting) tt;
+      theirs = λ u other. refl;
+    }
+
     spares : (t m : ℕ) (g : Led) (sp : Sparing s t m g) → Passes s t (spared_state s t m g sp.how)
     spares t m g sp = record {
       layout = refl;

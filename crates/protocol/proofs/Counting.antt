@@ -25,7 +25,8 @@ use Rattle.protocol.proofs.WalkSteps.{walk_no_move, walk_access, walk_after, dea
 use Rattle.protocol.proofs.Working.{walk_is}
 use Rattle.protocol.proofs.Declines.{spared_is}
 use Rattle.protocol.proofs.Renewals.{renewed_counter}
-use Rattle.protocol.proofs.Reinits.{reinited_counter}
+use Rattle.protocol.proofs.Vocabulary.{cell_place}
+use Rattle.protocol.proofs.Reinits.{waiters_say_nothing, reinited_counter}
 use Rattle.protocol.proofs.Events.{begins_at, by_event, by_stage}
 use Rattle.protocol.proofs.NoteFacts.{IsOfSleep, behind_point, of_walk}
 use Rattle.protocol.proofs.PassedBy.{IsTold, told_on, told_run}
@@ -145,6 +146,7 @@ first_none k (Event.Leave t) es none = (tt, none)
 first_none k (Event.Decline t) es none = (tt, none)
 first_none k (Event.Renew t) es none = (tt, none)
 first_none k (Event.Reinit t m) es none = (tt, none)
+first_none k (Event.Remake t m) es none = (tt, none)
 first_none k (Event.Spare t) es none = (tt, none)
 first_none k (Event.Resleep t) es none = (tt, none)
 first_none k (Event.Repeat t) es none = (tt, none)
@@ -245,7 +247,8 @@ module _ (s : State) (k : ℕ) (calls : ℕ → Option Begun) (inv : Kept s) (co
       (λ u pos known asleep other. omega arith)
       (λ u o p pos known is awake trims other. subst CountsUp (sym (spared_is s u o p is trims inv pos known)) (omega arith))
       (λ u pos known gone other. let same = renewed_counter s u pos known k in omega (arith, same))
-      (λ u m may other. let same = reinited_counter s u m may k in let none = reinit_none k (if u == u then Some (reinit_of m) else calls u) in omega (arith, same, none))
+      (λ u m may other. let same = reinited_counter s u m 0 refl may.remake k in let none = reinit_none k (if u == u then Some (reinit_of m) else calls u) in omega (arith, same, none))
+      (λ u m may other. let same = reinited_counter s u m _ (waiters_say_nothing (s.words (cell_place s.layout m))) may k in let none = reinit_none k (if u == u then Some (reinit_of m) else calls u) in omega (arith, same, none))
       (λ j may other. let same = recounted_other s j k (λ is. other (sym is)) in omega (arith, same))
       (λ u m g sp other. subst CountsUp (sym (spare_is s u m g sp inv)) (omega arith))
       (λ u c p pos known is there other. omega arith)

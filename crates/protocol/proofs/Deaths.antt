@@ -2,11 +2,11 @@
 use Rattle.std.proofs.Common.{eqb-true, ◌≡◌, ◌≢◌, ◌⊎◌, inl, inr, ℕ, ◌+◌, ◌≤◌, ◌==◌, Bool, true, false, ◌&&◌, Option, Some, None, List, [], ◌∷◌, ◌++◌, map, refl, sym, ap, ◌∙◌, subst, arith}
 use Rattle.protocol.proofs.Declines.{spared_is}
 use Rattle.protocol.proofs.Renewals.{renewed_seen, renewed_other}
-use Rattle.protocol.proofs.Reinits.{unowned, reinited_seen, reinited_far}
+use Rattle.protocol.proofs.Reinits.{Says_nothing, waiters_say_nothing, unowned, reinited_seen, reinited_far}
 use Rattle.protocol.proofs.Vocabulary.{Operation, OK, eqb-false, Reply, CondCall, condition_of, CondWhole, cond_access, cond_led, Queue, Mutex, Condition, Fact, Access, sleeps_at, Object, XHELD}
 use Rattle.protocol.proofs.Vocabulary.{Whole, whole_access, whole_led, Op, OnCondition, mutex_of, Thread, Event, Stage, Idle, Calling, AtCondition, Reaped, facts_of, death_facts}
 use Rattle.protocol.proofs.Vocabulary.{reap_facts, State, After, place_met, start, run, notes, is_alive, begun, led, led_at, went, answer_of, decision, slept_in, woken_by}
-use Rattle.protocol.proofs.Vocabulary.{moved_by, renewed, reinited, MayReinit, walked, has_ended, stepped, happens, killed, seen, facts_among, if◌then◌else◌, nat_tests, Ok, Err}
+use Rattle.protocol.proofs.Vocabulary.{moved_by, renewed, reinited, MayRemake, cell_place, walked, has_ended, stepped, happens, killed, seen, facts_among, if◌then◌else◌, nat_tests, Ok, Err}
 use Rattle.protocol.proofs.CondAccesses.{cond_stepping}
 use Rattle.exitwalk.specs.declared.row.Row.{Row}
 use Rattle.exitwalk.specs.Standings as walks
@@ -136,7 +136,8 @@ module _ (t m : ℕ) where
     event_lost e = by_event s (λ (x : Event) (a : After). Lost s a) (λ x. omega arith) (λ u o pos known inside idle b full. begun_lost u o b) step_lost (λ u pos known alive. omega arith) (λ u pos known asleep. omega arith)
         (λ u o p pos known is awake trims. subst (Lost s) (sym (spared_is s u o p is trims inv pos known)) (omega arith))
         (λ u pos known gone. let kept : one t (seen (renewed s u).state m) ≡ one t (seen s m) = ap (one t) (renewed_seen s u pos known m) in omega arith)
-        (λ u k may. let kept = reinit_counts u k may in omega arith)
+        (λ u k may. let kept = reinit_counts u k 0 refl may.remake in omega arith)
+        (λ u k may. let kept = reinit_counts u k _ (waiters_say_nothing (s.words (cell_place s.layout k))) may in omega arith)
         (λ k may. let kept : one t (seen (recounted s k).state m) ≡ one t (seen s m) = ap (one t) (recounted_seen s k m) in omega arith)
         (λ u k g sp. subst (Lost s) (sym (spare_is s u k g sp inv)) (omega arith)) (λ u c p pos known is there. omega arith)
         (λ u w pos known is reads. let none = reaped_deaths t m u (woken s u (exit.access_of w)) false in omega arith) e
@@ -146,11 +147,11 @@ module _ (t m : ℕ) where
         begun_lost u o false = omega arith
 
         -- a mutex that is made anew was nobody's, and is
-        reinit_counts : (u k : ℕ) (may : MayReinit s u k) → one t (seen (reinited s u k).state m) ≡ one t (seen s m)
-        reinit_counts u k may =
-            at_or_else (λ (j : ℕ). one t (seen (reinited s u k).state j) ≡ one t (seen s j)) k m
-            (ap (one t) (reinited_seen s u k may) ∙ sym (one-none t (seen s k) (unowned s u k may inv)))
-            (λ apart. ap (one t) (reinited_far s u k may m apart))
+        reinit_counts : (u k w : ℕ) (says : Says_nothing w) (may : MayRemake s u k) → one t (seen (reinited s u k w).state m) ≡ one t (seen s m)
+        reinit_counts u k w says may =
+            at_or_else (λ (j : ℕ). one t (seen (reinited s u k w).state j) ≡ one t (seen s j)) k m
+            (ap (one t) (reinited_seen s u k w says may) ∙ sym (one-none t (seen s k) (unowned s u k w says may inv)))
+            (λ apart. ap (one t) (reinited_far s u k w says may m apart))
 
     calls_live : (g : Stage) → is_calling g ≡ true → is_alive g ≡ true
     calls_live g calls = grind (arith)
@@ -162,7 +163,7 @@ module _ (t m : ℕ) where
         (λ u pos known alive none. by_put (λ (z : Thread). is_alive z.stage ≡ false) s.threads u _ t (λ e. refl) (λ apart. dead)) (λ u pos known asleep none. dead)
         (λ u o p pos known is awake trims none. ap (λ (z : Thread). is_alive z.stage) (put-other s.threads u _ t (λ e. apart_from u (Calling o p) is refl (sym e))) ∙ dead)
         (λ u pos known gone none. ap (λ (z : Thread). is_alive z.stage) (renewed_other s u pos known t (λ e. none.0 (sym e))) ∙ dead)
-        (λ u k may none. dead) (λ k may none. dead)
+        (λ u k may none. dead) (λ u k may none. dead) (λ k may none. dead)
         (λ u k g sp none. ap (λ (z : Thread). is_alive z.stage) (put-other s.threads u _ t (λ e. apart_from u (s.threads u).stage refl (calls_live (s.threads u).stage (spared_calls s u k g sp.how)) (sym e))) ∙ dead)
         (λ u c p pos known is there none. dead) (λ u w pos known is reads none. dead) e
       where

@@ -7,9 +7,9 @@ use Rattle.std.proofs.lemmas.List.Elements.{All-get_or}
 use Rattle.mutex.specs.Whole.{begins}
 use Rattle.condvar.specs.Whole as condition
 use Rattle.exitwalk.specs.Standings as walks
-use Rattle.protocol.specs.declared.event.Event.TheVariants.{Begin, Kill, Leave, Decline, Renew, Reinit, Recount, Spare, Resleep, Repeat}
+use Rattle.protocol.specs.declared.event.Event.TheVariants.{Begin, Kill, Leave, Decline, Renew, Reinit, Remake, Recount, Spare, Resleep, Repeat}
 use Rattle.mutex.specs.declared.row.Row.TheVariants.{Unlock}
-use Rattle.protocol.proofs.Vocabulary.{departed, renewed, reinited, spared, sleeps, sleepers, Reaped, Trimmed, Phase, AtCell, UnlockRow, not, nat_lt, Object, MayReinit}
+use Rattle.protocol.proofs.Vocabulary.{departed, renewed, reinited, spared, sleeps, sleepers, Reaped, Trimmed, Phase, AtCell, UnlockRow, not, nat_lt, Object, MayReinit, MayRemake, waiters_of, cell_place}
 use Rattle.protocol.proofs.Vocabulary.{CondPhase, CondRow, WaitRow, cond_led, Count, Thread, eqb-false, is_calling, counter_place, stands_in, Led, another_answers, holds_count, none_counts, may_recount, recounted, MayRecount, sparing, wakes_one}
 use Rattle.protocol.proofs.Vocabulary.{resleeping, reslept, is_mark, repeating, repeated}
 use Rattle.protocol.proofs.Stepping.{wakes_next}
@@ -17,7 +17,7 @@ use Rattle.protocol.proofs.Endings.{EndsOrGoes, call_ends, cond_ends}
 use Rattle.stepprograms.specs.Accesses.{is_nobody}
 use Rattle.protocol.proofs.Steps.{seen-inside}
 use Rattle.condvar.specs.Ops.{operation_of, is_in}
-use Rattle.protocol.specs.Machine.{has_thread, is_gone, is_idle, is_trim, is_unusable, may_reinit, declined}
+use Rattle.protocol.specs.Machine.{has_thread, is_gone, is_idle, is_trim, is_unusable, may_reinit, may_remake, declined}
 
 -- whoever may begin is idle
 pub at_rest : (g : Stage) → is_idle g ≡ true → g ≡ Idle
@@ -67,9 +67,9 @@ nobody_there : (q : List ℕ) → is_nobody q ≡ true → q ≡ []
 nobody_there [] e = refl
 nobody_there (t ∷ ts) e = absurd cc
 
--- what the test says
-pub may_so : (s : State) (t m : ℕ) → may_reinit s t m ≡ true → MayReinit s t m
-may_so s t m e =
+-- what the tests say
+pub remake_so : (s : State) (t m : ℕ) → may_remake s t m ≡ true → MayRemake s t m
+remake_so s t m e =
     let inside : m < s.layout.mutexes = grind (arith, nat_tests) in
     let unusable : is_unusable s m ≡ true = grind (arith, nat_tests) in
     record {
@@ -78,19 +78,28 @@ may_so s t m e =
       resting = at_rest (s.threads t).stage (grind (arith, nat_tests));
       inside = inside;
       unusable = ap (λ (o : Object). o.unusable) (seen-inside s m inside) ∙ unusable;
-      unslept = nobody_there (sleepers s m) (grind (arith, nat_tests));
     }
 
--- where it may, the test says so
-pub may_again : (s : State) (t m : ℕ) → MayReinit s t m → may_reinit s t m ≡ true
-may_again s t m may =
+pub reinit_so : (s : State) (t m : ℕ) → may_reinit s t m ≡ true → MayReinit s t m
+reinit_so s t m e = go (may_remake s t m) refl (is_nobody (sleepers s m)) refl e
+  where
+    go : (a : Bool) → may_remake s t m ≡ a → (b : Bool) → is_nobody (sleepers s m) ≡ b → (a && b) ≡ true → MayReinit s t m
+    go true may true none e = record { remake = remake_so s t m may; unslept = nobody_there (sleepers s m) none }
+    go true may false some e = absurd cc
+    go false never b some e = absurd cc
+
+-- where it may, the tests say so
+pub remake_again : (s : State) (t m : ℕ) → MayRemake s t m → may_remake s t m ≡ true
+remake_again s t m may =
     let known : has_thread s t ≡ true = is_known s t may.first may.last in
     let resting : is_idle (s.threads t).stage ≡ true = ap is_idle may.resting in
     let below : m < s.layout.mutexes = may.inside in
     let inside : nat_lt m s.layout.mutexes ≡ true = grind (arith, nat_tests) in
     let unusable : is_unusable s m ≡ true = sym (ap (λ (o : Object). o.unusable) (seen-inside s m may.inside)) ∙ may.unusable in
-    let unslept : is_nobody (sleepers s m) ≡ true = ap is_nobody may.unslept in
     grind (arith)
+
+pub reinit_again : (s : State) (t m : ℕ) → MayReinit s t m → may_reinit s t m ≡ true
+reinit_again s t m may = λ i. remake_again s t m may.remake i && is_nobody (may.unslept i)
 
 -- ---- recounts
 
@@ -159,7 +168,7 @@ waits_at f e = absurd cc
 -- ---- events
 
 -- what holds where nothing happens, of a begin that isn't refused and of one that is, of a step, of a death, of a
--- sleeper's leave, of a trim that is declined, of a renewal and of a reinit, of a recount, of a wake that is spared, of
+-- sleeper's leave, of a trim that is declined, of a renewal, of a reinit and of a remake, of a recount, of a wake that is spared, of
 -- a sleeper that goes to the end of its queue, and of a walk's access that is made once more, holds of each event
 pub by_event : (s : State) (P : Event → After → Type 0) → ((e : Event) → P e (nothing s))
     → ((t : ℕ) (o : Op) → 1 ≤ t → t ≤ s.layout.threads → Names s.layout o → (s.threads t).stage ≡ Idle → (b : Bool) → (acquires (operation_of o) && nat_le 2048 (s.threads t).held) ≡ b → P (Begin t o) (begun s t o (if b then Err XHELD else Ok (begins_at s.layout t o))))
@@ -169,13 +178,14 @@ pub by_event : (s : State) (P : Event → After → Type 0) → ((e : Event) →
     → ((t : ℕ) (o : Op) (p : Whole) → 1 ≤ t → t ≤ s.layout.threads → (s.threads t).stage ≡ Calling o p → is_asleep s t ≡ false → IsTrimming p
     → P (Decline t) (spared s t (s.threads t).held (mutex_of s.layout o) (led o p (whole_led p (Trimmed false)))))
     → ((t : ℕ) → 1 ≤ t → t ≤ s.layout.threads → (s.threads t).stage ≡ Reaped → P (Renew t) (renewed s t))
-    → ((t m : ℕ) → MayReinit s t m → P (Reinit t m) (reinited s t m))
+    → ((t m : ℕ) → MayReinit s t m → P (Reinit t m) (reinited s t m 0))
+    → ((t m : ℕ) → MayRemake s t m → P (Remake t m) (reinited s t m (waiters_of (s.words (cell_place s.layout m)))))
     → ((k : ℕ) → MayRecount s k → P (Recount k) (recounted s k))
     → ((t m : ℕ) (g : Led) → Sparing s t m g → P (Spare t) (spared s t (s.threads t).held m g))
     → ((t : ℕ) (c : CondCall) (p : Whole) → 1 ≤ t → t ≤ s.layout.threads → (s.threads t).stage ≡ Calling (OnCondition c) p → stands_in t (s.queues (counter_place s.layout (condition_of c))) ≡ true → P (Resleep t) (reslept s t (condition_of c)))
     → ((t : ℕ) (w : walks.Standing) → 1 ≤ t → t ≤ s.layout.threads → (s.threads t).stage ≡ Dying w → is_mark w.row ≡ false → P (Repeat t) (repeated s t w))
     → (e : Event) → P e (happens s e)
-by_event s P none begins_so steps_so kills_so leaves_so declines_so renews_so reinits_so recounts_so spares_so resleeps_so repeats_so (Begin t o) = go (may_begin s t o) refl
+by_event s P none begins_so steps_so kills_so leaves_so declines_so renews_so reinits_so remakes_so recounts_so spares_so resleeps_so repeats_so (Begin t o) = go (may_begin s t o) refl
   where
     go : (b : Bool) → may_begin s t o ≡ b → P (Begin t o) (if b then begun s t o (first_stage s.layout t (s.threads t).held o) else nothing s)
     go true e =
@@ -185,10 +195,10 @@ by_event s P none begins_so steps_so kills_so leaves_so declines_so renews_so re
         subst (λ (r : Result Stage Reply). P (Begin t o) (begun s t o r)) (sym (first_is s.layout t (s.threads t).held o))
         (begins_so t o pos known (names_so s.layout o inside) (at_rest (s.threads t).stage (grind (arith, nat_tests))) (acquires (operation_of o) && nat_le 2048 (s.threads t).held) refl)
     go false e = none (Begin t o)
-by_event s P none begins_so steps_so kills_so leaves_so declines_so renews_so reinits_so recounts_so spares_so resleeps_so repeats_so (Step t) = grind (arith)
-by_event s P none begins_so steps_so kills_so leaves_so declines_so renews_so reinits_so recounts_so spares_so resleeps_so repeats_so (Kill t) = grind (arith)
-by_event s P none begins_so steps_so kills_so leaves_so declines_so renews_so reinits_so recounts_so spares_so resleeps_so repeats_so (Leave t) = grind (arith)
-by_event s P none begins_so steps_so kills_so leaves_so declines_so renews_so reinits_so recounts_so spares_so resleeps_so repeats_so (Decline t) = go (has_thread s t) refl
+by_event s P none begins_so steps_so kills_so leaves_so declines_so renews_so reinits_so remakes_so recounts_so spares_so resleeps_so repeats_so (Step t) = grind (arith)
+by_event s P none begins_so steps_so kills_so leaves_so declines_so renews_so reinits_so remakes_so recounts_so spares_so resleeps_so repeats_so (Kill t) = grind (arith)
+by_event s P none begins_so steps_so kills_so leaves_so declines_so renews_so reinits_so remakes_so recounts_so spares_so resleeps_so repeats_so (Leave t) = grind (arith)
+by_event s P none begins_so steps_so kills_so leaves_so declines_so renews_so reinits_so remakes_so recounts_so spares_so resleeps_so repeats_so (Decline t) = go (has_thread s t) refl
   where
     trims : (o : Op) (p : Whole) → has_thread s t ≡ true → (s.threads t).stage ≡ Calling o p → (a : Bool) → is_trim (whole_access p) ≡ a → (b : Bool) → sleeps s t (Calling o p) ≡ b
         → P (Decline t) (if a && not b then spared s t (s.threads t).held (mutex_of s.layout o) (led o p (whole_led p (Trimmed false))) else nothing s)
@@ -206,7 +216,7 @@ by_event s P none begins_so steps_so kills_so leaves_so declines_so renews_so re
     go : (b : Bool) → has_thread s t ≡ b → P (Decline t) (if b then declined s t (s.threads t).held (s.threads t).stage else nothing s)
     go true there = at there (s.threads t).stage refl
     go false e = none (Decline t)
-by_event s P none begins_so steps_so kills_so leaves_so declines_so renews_so reinits_so recounts_so spares_so resleeps_so repeats_so (Renew t) = go (has_thread s t && is_gone (s.threads t).stage) refl
+by_event s P none begins_so steps_so kills_so leaves_so declines_so renews_so reinits_so remakes_so recounts_so spares_so resleeps_so repeats_so (Renew t) = go (has_thread s t && is_gone (s.threads t).stage) refl
   where
     go : (b : Bool) → (has_thread s t && is_gone (s.threads t).stage) ≡ b → P (Renew t) (if b then renewed s t else nothing s)
     go true e =
@@ -214,17 +224,22 @@ by_event s P none begins_so steps_so kills_so leaves_so declines_so renews_so re
         let known : t ≤ s.layout.threads = grind (arith, nat_tests) in
         renews_so t pos known (reaped_is (s.threads t).stage (grind (arith, nat_tests)))
     go false e = none (Renew t)
-by_event s P none begins_so steps_so kills_so leaves_so declines_so renews_so reinits_so recounts_so spares_so resleeps_so repeats_so (Reinit t m) = go (may_reinit s t m) refl
+by_event s P none begins_so steps_so kills_so leaves_so declines_so renews_so reinits_so remakes_so recounts_so spares_so resleeps_so repeats_so (Reinit t m) = go (may_reinit s t m) refl
   where
-    go : (b : Bool) → may_reinit s t m ≡ b → P (Reinit t m) (if b then reinited s t m else nothing s)
-    go true e = reinits_so t m (may_so s t m e)
+    go : (b : Bool) → may_reinit s t m ≡ b → P (Reinit t m) (if b then reinited s t m 0 else nothing s)
+    go true e = reinits_so t m (reinit_so s t m e)
     go false e = none (Reinit t m)
-by_event s P none begins_so steps_so kills_so leaves_so declines_so renews_so reinits_so recounts_so spares_so resleeps_so repeats_so (Recount k) = go (may_recount s k) refl
+by_event s P none begins_so steps_so kills_so leaves_so declines_so renews_so reinits_so remakes_so recounts_so spares_so resleeps_so repeats_so (Remake t m) = go (may_remake s t m) refl
+  where
+    go : (b : Bool) → may_remake s t m ≡ b → P (Remake t m) (if b then reinited s t m (waiters_of (s.words (cell_place s.layout m))) else nothing s)
+    go true e = remakes_so t m (remake_so s t m e)
+    go false e = none (Remake t m)
+by_event s P none begins_so steps_so kills_so leaves_so declines_so renews_so reinits_so remakes_so recounts_so spares_so resleeps_so repeats_so (Recount k) = go (may_recount s k) refl
   where
     go : (b : Bool) → may_recount s k ≡ b → P (Recount k) (if b then recounted s k else nothing s)
     go true e = recounts_so k (recount_so s k e)
     go false e = none (Recount k)
-by_event s P none begins_so steps_so kills_so leaves_so declines_so renews_so reinits_so recounts_so spares_so resleeps_so repeats_so (Spare t) = go (has_thread s t) refl
+by_event s P none begins_so steps_so kills_so leaves_so declines_so renews_so reinits_so remakes_so recounts_so spares_so resleeps_so repeats_so (Spare t) = go (has_thread s t) refl
   where
     calls : (o : Op) (p : Whole) → has_thread s t ≡ true → (s.threads t).stage ≡ Calling o p → (a : Bool) → wakes_one p.phase ≡ a → (b : Bool) → another_answers s t (mutex_of s.layout o) s.layout.threads ≡ b
         → P (Spare t) (if a && b then spared s t (s.threads t).held (mutex_of s.layout o) (led o p (whole_led p (Count 1))) else nothing s)
@@ -249,7 +264,7 @@ by_event s P none begins_so steps_so kills_so leaves_so declines_so renews_so re
     go : (b : Bool) → has_thread s t ≡ b → P (Spare t) (if b then sparing s t (s.threads t).held (s.threads t).stage else nothing s)
     go true there = at there (s.threads t).stage refl
     go false e = none (Spare t)
-by_event s P none begins_so steps_so kills_so leaves_so declines_so renews_so reinits_so recounts_so spares_so resleeps_so repeats_so (Resleep t) = go (has_thread s t) refl
+by_event s P none begins_so steps_so kills_so leaves_so declines_so renews_so reinits_so remakes_so recounts_so spares_so resleeps_so repeats_so (Resleep t) = go (has_thread s t) refl
   where
     sleeps_on : (c : CondCall) (p : Whole) → has_thread s t ≡ true → (s.threads t).stage ≡ Calling (OnCondition c) p → (a : Bool) → stands_in t (s.queues (counter_place s.layout (condition_of c))) ≡ a
         → P (Resleep t) (if a then reslept s t (condition_of c) else nothing s)
@@ -263,7 +278,7 @@ by_event s P none begins_so steps_so kills_so leaves_so declines_so renews_so re
     go : (b : Bool) → has_thread s t ≡ b → P (Resleep t) (if b then resleeping s t (s.threads t).stage else nothing s)
     go true there = at there (s.threads t).stage refl
     go false e = none (Resleep t)
-by_event s P none begins_so steps_so kills_so leaves_so declines_so renews_so reinits_so recounts_so spares_so resleeps_so repeats_so (Repeat t) = go (has_thread s t) refl
+by_event s P none begins_so steps_so kills_so leaves_so declines_so renews_so reinits_so remakes_so recounts_so spares_so resleeps_so repeats_so (Repeat t) = go (has_thread s t) refl
   where
     reads : (w : walks.Standing) → has_thread s t ≡ true → (s.threads t).stage ≡ Dying w → (a : Bool) → is_mark w.row ≡ a → P (Repeat t) (if a then nothing s else repeated s t w)
     reads w there is true marks = none (Repeat t)

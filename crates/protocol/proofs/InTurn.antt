@@ -485,6 +485,7 @@ event_tells s e w inv queued said =
     (λ u o p pos known is awake trims. subst (Tells s w) (sym (spared_is s u o p is trims inv pos known)) (said, tt))
     (λ u pos known gone. (said, (tt, tt)))
     (λ u m may. (said, (tt, (tt, (tt, tt)))))
+    (λ u m may. (said, (tt, (tt, (tt, tt)))))
     (λ k may. (said, tt))
     (λ u m g sp. subst (Tells s w) (sym (spare_is s u m g sp inv)) (said, tt))
     (λ u c p pos known is there. (goes_again u c p pos known is there, ((fits_in s u (OnCondition c) p inv pos known is).1.2, ap (stands_in u) (sym (said (Condition (condition_of c)) (fits_in s u (OnCondition c) p inv pos known is).1.2)) ∙ there)))
@@ -580,7 +581,7 @@ no_leave : (s : State) (e : Event) → IsNoLeaving e → IsNoLeave (happens s e)
 no_leave s e =
     by_event s (λ (x : Event) (a : After). IsNoLeaving x → IsNoLeave a.note) (λ x none. tt) (λ u o pos known inside idle b full none. begins_so u o b)
     (λ u pos known none. by_stage s u (λ (a : After). IsNoLeave a.note) (λ rests. tt) (λ o p is awake. tt) (λ c p is awake. tt) (λ v is awake. tt)) (λ u pos known alive none. tt) (λ u pos known asleep none. absurd none)
-    (λ u o p pos known is awake trims none. tt) (λ u pos known gone none. tt) (λ u m may none. tt)
+    (λ u o p pos known is awake trims none. tt) (λ u pos known gone none. tt) (λ u m may none. tt) (λ u m may none. tt)
     (λ k may none. tt) (λ u m g sp none. tt) (λ u c p pos known is there none. absurd none) (λ u w pos known is reads none. tt) e
   where
     begins_so : (u : ℕ) (o : Op) (b : Bool) → IsNoLeave (begun s u o (if b then Err XHELD else Ok (begins_at s.layout u o))).note
@@ -600,6 +601,7 @@ noted_none s (Event.Spare t ∷ es) none = (no_leave s (Event.Spare t) tt, noted
 noted_none s (Event.Repeat t ∷ es) none = (no_leave s (Event.Repeat t) tt, noted_none (happens s (Event.Repeat t)).state es none)
 noted_none s (Event.Renew t ∷ es) none = (no_leave s (Event.Renew t) tt, noted_none (happens s (Event.Renew t)).state es none)
 noted_none s (Event.Reinit t m ∷ es) none = (no_leave s (Event.Reinit t m) tt, noted_none (happens s (Event.Reinit t m)).state es none)
+noted_none s (Event.Remake t m ∷ es) none = (no_leave s (Event.Remake t m) tt, noted_none (happens s (Event.Remake t m)).state es none)
 
 fronts_of : (l : Layout') (w : Queue → List ℕ) (n : Note) → IsNoLeave n → NotesFronts l w n → NameFronts l w (facts_of n)
 fronts_of l w (Left t) none h = absurd none

@@ -408,12 +408,12 @@ of_another {A} u t x y apart = go (u == t) refl
     go false e = refl
 
 -- nor is one that made a mutex anew
-reinit_teaches : (s : State) (u m : ℕ) → (s.threads u).stage ≡ Idle → Teaches s u (reinited s u m)
-reinit_teaches s u m idle = record {
+reinit_teaches : (s : State) (u m w : ℕ) → (s.threads u).stage ≡ Idle → Teaches s u (reinited s u m w)
+reinit_teaches s u m w idle = record {
   layout = refl;
-  own = λ b o h. subst (λ (g : Stage). Learnt s.layout g (last_begun u b (facts_of (reinited s u m).note)) (left_next u (reinited s u m).state o (facts_of (reinited s u m).note))) (sym idle) tt;
+  own = λ b o h. subst (λ (g : Stage). Learnt s.layout g (last_begun u b (facts_of (reinited s u m w).note)) (left_next u (reinited s u m w).state o (facts_of (reinited s u m w).note))) (sym idle) tt;
   theirs = λ t apart. refl;
-  others = λ t b o apart. (of_another u t (Some (reinit_of m)) b apart, of_another u t (Some (seen (reinited s u m).state m)) (if u == t then None else o) apart ∙ of_another u t None o apart);
+  others = λ t b o apart. (of_another u t (Some (reinit_of m)) b apart, of_another u t (Some (seen (reinited s u m w).state m)) (if u == t then None else o) apart ∙ of_another u t None o apart);
 }
 
 -- a call that begins
@@ -458,7 +458,8 @@ teaches s e inv =
     (λ t pos known asleep. leave_teaches s t)
     (λ t o p pos known is awake trims. subst (Teaches s t) (sym (spared_is s t o p is trims inv pos known)) (decline_teaches s t o p is trims))
     (λ t pos known gone. renew_teaches s t pos known)
-    (λ t m may. reinit_teaches s t m may.resting)
+    (λ t m may. reinit_teaches s t m 0 may.remake.resting)
+    (λ t m may. reinit_teaches s t m _ may.resting)
     (λ k may. recount_teaches s k)
     (λ t m g sp. subst (Teaches s t) (sym (spare_is s t m g sp inv)) (spare_teaches s t m g sp))
     (λ t c p pos known is there. resleep_teaches s t (condition_of c))

@@ -1,9 +1,9 @@
 -- The list of each thread.
-use Rattle.std.proofs.Common.{◌≡◌, ◌≢◌, ◌⊎◌, inl, inr, ⊎_elim, ℕ, zero, suc, ◌+◌, ◌<◌, ◌≤◌, ◌==◌, Bool, true, false, Option, Some, None, List, [], ◌∷◌, length, refl, sym, ap, ◌∙◌, subst, arith}
+use Rattle.std.proofs.Common.{◌≡◌, ◌≢◌, ◌⊎◌, inl, inr, ⊎_elim, ℕ, zero, suc, ◌+◌, ◌<◌, ◌≤◌, true, Option, Some, None, List, [], ◌∷◌, length, refl, sym, ap, ◌∙◌, subst, arith}
 use Rattle.protocol.proofs.Vocabulary.{CondPhase, Object, AreDifferent, Layout', head_place, held_by, Load, Release, Phase, AtCell, Linking, Clearing, Whole, Op, Leads}
 use Rattle.protocol.proofs.Vocabulary.{mutex_of, Stage, Idle, Calling, AtCondition, Dying, Reaped, State, is_alive, seen, OnCondition, UnlinkRow, LinkGoes, LinkRow, IsLayout}
-use Rattle.protocol.proofs.Vocabulary.{entries-different, without-among, if◌then◌else◌, WaitRow, CondRow}
-use Rattle.memorymap.specs.Chains.{IsAmong, IsApart, IsChain, without}
+use Rattle.protocol.proofs.Vocabulary.{entries-different, without-among, WaitRow, CondRow}
+use Rattle.memorymap.specs.Chains.{IsAmong, IsChain, without}
 use Rattle.memorymap.proofs.Entries.{length_without, different_without, is_there}
 use Rattle.robustlist.specs.LinkLaws as link_laws
 use Rattle.robustlist.specs.UnlinkLaws as unlink_laws

@@ -393,8 +393,8 @@ renews_so s u pos known gone = record {
 }
 
 -- it makes a mutex anew, in a call of this one event
-reinits_so : (s : State) (u m : ℕ) → (s.threads u).stage ≡ Idle → Adds s u (reinited s u m)
-reinits_so s u m idle = record {
+reinits_so : (s : State) (u m w : ℕ) → (s.threads u).stage ≡ Idle → Adds s u (reinited s u m w)
+reinits_so s u m w idle = record {
   fine = ((λ e. refl), (λ e. absurd cc), ((λ e. refl), (λ e. (refl, tt)), ((λ e. refl), (λ e. tt), tt)));
   alone = (refl, (refl, (refl, tt)));
   says = at_once (reinit_of m) OK;
@@ -419,7 +419,8 @@ adds s e inv =
     (λ u pos known asleep. leaves_so s u)
     (λ u o p pos known is awake trims. subst (Adds s u) (sym (spared_is s u o p is trims inv pos known)) (declines_so s u o p is trims))
     (λ u pos known gone. renews_so s u pos known gone)
-    (λ u m may. reinits_so s u m may.resting)
+    (λ u m may. reinits_so s u m 0 may.remake.resting)
+    (λ u m may. reinits_so s u m _ may.resting)
     (λ k may. recounts_so s k)
     (λ u m g sp. subst (Adds s u) (sym (spare_is s u m g sp inv)) (spares_so s u m g sp))
     (λ u c p pos known is there. resleeps_so s u (condition_of c))

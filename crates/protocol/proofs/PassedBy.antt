@@ -340,8 +340,8 @@ renew_makes s u pos known = record {
     no_point : (d : Decision) → IsAmong (Fact.Point d) (facts_of (renewed s u).note) → ⊥
     no_point d h = ⊎_elim (λ e. cc e) (λ none. none) h
 
-reinit_makes : (s : State) (u m : ℕ) → 1 ≤ u → u ≤ s.layout.threads → (s.threads u).stage ≡ Idle → Makes s u (reinited s u m)
-reinit_makes s u m pos known idle = grind (arith)
+reinit_makes : (s : State) (u m w : ℕ) → 1 ≤ u → u ≤ s.layout.threads → (s.threads u).stage ≡ Idle → Makes s u (reinited s u m w)
+reinit_makes s u m w pos known idle = grind (arith)
 
 -- a walk
 module _ (s : State) (u : ℕ) (v : walks.Standing) where
@@ -451,7 +451,8 @@ makes s e inv counted =
     (λ t pos known asleep. leave_makes s t)
     (λ t o p pos known is awake trims. subst (Makes s t) (sym (spared_is s t o p is trims inv pos known)) (decline_makes s t o p is trims))
     (λ t pos known gone. renew_makes s t pos known)
-    (λ t m may. reinit_makes s t m may.first may.last may.resting)
+    (λ t m may. reinit_makes s t m 0 may.remake.first may.remake.last may.remake.resting)
+    (λ t m may. reinit_makes s t m _ may.first may.last may.resting)
     (λ k may. recount_makes s k)
     (λ t m g sp. subst (Makes s t) (sym (spare_is s t m g sp inv)) (spare_makes s t m g sp))
     (λ t c p pos known is there. resleep_makes s t (condition_of c) pos known)

@@ -1,12 +1,11 @@
 -- Which words are whose.
-use Rattle.std.proofs.Common.{◌≡◌, ◌≢◌, ◌⊎◌, inl, inr, ℕ, ◌+◌, ◌<◌, ◌≤◌, ◌==◌, Bool, true, false, Option, Some, List, [], ◌∷◌, length, refl, sym, ap, ◌∙◌, subst, arith, eqb-true}
-use Rattle.protocol.proofs.Vocabulary.{Layout', IsLayout, head_place, entry_place, cell_place, counter_place, address_sum, AreDifferent, IsChainBothWays, State, is_valid, seen, words_of, address_in}
-use Rattle.protocol.proofs.Vocabulary.{place_in, Agree, if◌then◌else◌, eqb-false, nat_tests, chained, chain-same, both-ways, avoids-all, apart-among}
-use Rattle.memorymap.specs.Chains.{previous_place, IsAmong, IsApart, places_of, without}
+use Rattle.std.proofs.Common.{◌≡◌, ◌≢◌, ◌⊎◌, inl, inr, ℕ, ◌+◌, ◌<◌, ◌≤◌, true, Option, Some, List, ◌∷◌, length, refl, sym, ap, ◌∙◌, subst, arith}
+use Rattle.protocol.proofs.Vocabulary.{Layout', IsLayout, head_place, entry_place, cell_place, counter_place, State, is_valid, seen, words_of, address_in}
+use Rattle.protocol.proofs.Vocabulary.{place_in, nat_tests}
+use Rattle.memorymap.specs.Chains.{previous_place}
 use Rattle.robustlist.specs.Words.{IsOn}
-use Rattle.robustlist.specs.LinkLaws as link_laws
 use Rattle.protocol.proofs.Seeing.{head_in, entry_in, cell_again}
-use Rattle.mutex.proofs.Addresses.{again, same_place, further_on}
+use Rattle.mutex.proofs.Addresses.{again, further_on}
 use Rattle.protocol.proofs.Kept.{Owned, Treats}
 
 -- the word is thread t's own: its head's first entry or pending one, or a link of a mutex that it owns

@@ -1,7 +1,8 @@
--- Unusable mutexes that are made anew.
-use Rattle.std.proofs.Common.{◌≡◌, ◌≢◌, inl, ℕ, ◌+◌, ◌<◌, ◌≤◌, true, None, Some, refl, sym, ap, ◌∙◌, subst, arith}
+-- Unusable mutexes that are made anew, with a word that says nothing but that somebody may sleep there.
+use Rattle.std.proofs.Common.{◌≡◌, ◌≢◌, inl, ℕ, ◌+◌, ◌<◌, ◌≤◌, Bool, true, false, None, Some, refl, sym, ap, ◌∙◌, subst, arith}
 use Rattle.protocol.proofs.Vocabulary.{Object, Operation, Access, OK, head_place, cell_place, counter_place, fields_of, object_of, fresh, Sound, stands_in, Thread, Idle, State, put, seen}
-use Rattle.protocol.proofs.Vocabulary.{sleepers, if◌then◌else◌, nat_lt, place_in, reinited, MayReinit}
+use Rattle.protocol.proofs.Vocabulary.{sleepers, if◌then◌else◌, nat_lt, place_in, reinited, waiters_of, MayReinit, MayRemake}
+use Rattle.lockword.specs.Cells.{bit, waiters_alone}
 use mathlib.Core.Path.{fun_ext}
 use Rattle.protocol.proofs.Puts.{by_put, put-same, put-other}
 use Rattle.protocol.proofs.Seeing.{cell_in, head_in, cell_again}
@@ -16,20 +17,38 @@ use Rattle.protocol.proofs.Departures.{queues_kept}
 use Rattle.protocol.proofs.Queued.{Queued, Answering}
 use Rattle.protocol.proofs.Cases.{at_or_else, same_object}
 
-module _ (s : State) (t m : ℕ) (may : MayReinit s t m) where
+-- either word says that nobody owns it, and that it is neither inconsistent nor unusable
+abbrev pub Says_nothing : ℕ → Type 0
+Says_nothing w = object_of (fields_of w) ≡ fresh
+
+pub waiters_say_nothing : (w : ℕ) → Says_nothing (waiters_of w)
+waiters_say_nothing w = go (fields_of w).waiters
+  where
+    go : (b : Bool) → Says_nothing (bit b waiters_alone)
+    go true = refl
+    go false = refl
+
+pub waiters_kept : (w : ℕ) → (fields_of (waiters_of w)).waiters ≡ (fields_of w).waiters
+waiters_kept w = go (fields_of w).waiters
+  where
+    go : (b : Bool) → (fields_of (bit b waiters_alone)).waiters ≡ b
+    go true = refl
+    go false = refl
+
+module _ (s : State) (t m w : ℕ) (says : Says_nothing w) (may : MayRemake s t m) where
   abbrev s1 : State
-  s1 = (reinited s t m).state
+  s1 = (reinited s t m w).state
 
   abbrev place : ℕ
   place = cell_place s.layout m
 
   -- ---- words
 
-  pub reinited_word : s1.words place ≡ 0
-  reinited_word = put-same s.words place 0
+  pub reinited_word : s1.words place ≡ w
+  reinited_word = put-same s.words place w
 
   pub reinited_elsewhere : (p : ℕ) → p ≢ place → s1.words p ≡ s.words p
-  reinited_elsewhere p apart = put-other s.words place 0 p apart
+  reinited_elsewhere p apart = put-other s.words place w p apart
 
   pub reinited_cell : (k : ℕ) → k ≢ m → s1.words (cell_place s.layout k) ≡ s.words (cell_place s.layout k)
   reinited_cell k apart = reinited_elsewhere (cell_place s.layout k) (λ e. apart (omega (arith, e)))
@@ -43,10 +62,10 @@ module _ (s : State) (t m : ℕ) (may : MayReinit s t m) where
   -- ---- mutexes
 
   pub reinited_seen : seen s1 m ≡ fresh
-  reinited_seen = seen-inside s1 m may.inside ∙ ap (λ (w : ℕ). object_of (fields_of w)) reinited_word
+  reinited_seen = seen-inside s1 m may.inside ∙ ap (λ (v : ℕ). object_of (fields_of v)) reinited_word ∙ says
 
   pub reinited_far : (k : ℕ) → k ≢ m → seen s1 k ≡ seen s k
-  reinited_far k apart = ap (λ (w : ℕ). if nat_lt k s.layout.mutexes then object_of (fields_of w) else fresh) (reinited_cell k apart)
+  reinited_far k apart = ap (λ (v : ℕ). if nat_lt k s.layout.mutexes then object_of (fields_of v) else fresh) (reinited_cell k apart)
 
   module _ (inv : Kept s) where
     -- an unusable mutex is nobody's
@@ -58,7 +77,7 @@ module _ (s : State) (t m : ℕ) (may : MayReinit s t m) where
 
     -- it is as if the thread stored the word, in no call before and behind
     abbrev store : Access
-    store = Access.Store (cell_in s.layout t m) 0
+    store = Access.Store (cell_in s.layout t m) w
 
     abbrev resting : Thread
     resting = record { stage = Idle; held = (s.threads t).held }
@@ -67,7 +86,7 @@ module _ (s : State) (t m : ℕ) (may : MayReinit s t m) where
     s2 = done s t store resting
 
     words_are : s2.words ≡ s1.words
-    words_are = ap (λ (p : ℕ). put s.words p 0) (cell_again s.layout t inv.layout may.first may.last m may.inside)
+    words_are = ap (λ (p : ℕ). put s.words p w) (cell_again s.layout t inv.layout may.first may.last m may.inside)
 
     word_is : (p : ℕ) → s2.words p ≡ s1.words p
     word_is p = ap (λ (f : ℕ → ℕ). f p) words_are
@@ -123,10 +142,6 @@ module _ (s : State) (t m : ℕ) (may : MayReinit s t m) where
 
   -- ---- who sleeps
 
-  -- nobody there
-  nobody : (u : ℕ) → stands_in u (sleepers s m) ≡ true → ⊥
-  nobody u there = cc (sym (ap (stands_in u) may.unslept) ∙ there)
-
   answers_still : (k x : ℕ) → Answering s k x → Answering s1 k x
   answers_still k x a = record {
     first = a.first;
@@ -135,21 +150,38 @@ module _ (s : State) (t m : ℕ) (may : MayReinit s t m) where
     awake = a.awake;
   }
 
-  bits_still : Queued s → (k u : ℕ) → k < s.layout.mutexes → stands_in u (sleepers s k) ≡ true → HasWaiters s1 k
-  bits_still queued k u below =
-      at_or_else (λ (j : ℕ). stands_in u (sleepers s j) ≡ true → HasWaiters s1 j) m k (λ there. absurd (nobody u there))
-      (λ apart there. ap (λ (w : ℕ). (fields_of w).waiters) (reinited_cell k apart) ∙ queued.bits k u below there)
+  -- whoever sleeps on the mutex finds WAITERS still
+  abbrev Kept_for_sleepers : Type 0
+  Kept_for_sleepers = (u : ℕ) → stands_in u (sleepers s m) ≡ true → HasWaiters s m → (fields_of w).waiters ≡ true
 
-  answered_still : Queued s → (k u : ℕ) → k < s.layout.mutexes → (seen s1 k).owner ≡ None → stands_in u (sleepers s k) ≡ true → (x : ℕ) × Answering s1 k x
-  answered_still queued k u below =
-      at_or_else (λ (j : ℕ). (seen s1 j).owner ≡ None → stands_in u (sleepers s j) ≡ true → (x : ℕ) × Answering s1 j x) m k (λ none there. absurd (nobody u there))
-      (λ apart none there. let old = queued.answered k u below (sym (ap (λ (o : Object). o.owner) (reinited_far k apart)) ∙ none) there in (old.0, answers_still k old.0 old.1))
+  bits_still : Kept_for_sleepers → Queued s → (k u : ℕ) → k < s.layout.mutexes → stands_in u (sleepers s k) ≡ true → HasWaiters s1 k
+  bits_still stays queued k u below there =
+      at_or_else (λ (j : ℕ). stands_in u (sleepers s j) ≡ true → HasWaiters s j → HasWaiters s1 j) m k
+      (λ here on. ap (λ (v : ℕ). (fields_of v).waiters) reinited_word ∙ stays u here on)
+      (λ apart here on. ap (λ (v : ℕ). (fields_of v).waiters) (reinited_cell k apart) ∙ on) there (queued.bits k u below there)
 
-  pub reinit_queued : Queued s → Queued s1
-  reinit_queued queued = record {
+  -- nobody owned it before either
+  owner_before : Kept s → (k : ℕ) → (seen s1 k).owner ≡ None → (seen s k).owner ≡ None
+  owner_before inv k =
+      at_or_else (λ (j : ℕ). (seen s1 j).owner ≡ None → (seen s j).owner ≡ None) m k (λ none. unowned inv)
+      (λ apart none. sym (ap (λ (o : Object). o.owner) (reinited_far k apart)) ∙ none)
+
+  answered_still : Kept s → Queued s → (k u : ℕ) → k < s.layout.mutexes → (seen s1 k).owner ≡ None → stands_in u (sleepers s k) ≡ true → (x : ℕ) × Answering s1 k x
+  answered_still inv queued k u below none there = let old = queued.answered k u below (owner_before inv k none) there in (old.0, answers_still k old.0 old.1)
+
+  pub reinit_queued : Kept s → Kept_for_sleepers → Queued s → Queued s1
+  reinit_queued inv stays queued = record {
     sleeps = queued.sleeps;
     one = queued.one;
     once = queued.once;
-    bits = bits_still queued;
-    answered = answered_still queued;
+    bits = bits_still stays queued;
+    answered = answered_still inv queued;
   }
+
+-- ---- of either event
+
+pub nobody_kept : (s : State) (t m : ℕ) (may : MayReinit s t m) → (u : ℕ) → stands_in u (sleepers s m) ≡ true → HasWaiters s m → (fields_of 0).waiters ≡ true
+nobody_kept s t m may u there on = absurd (cc (sym (ap (stands_in u) may.unslept) ∙ there))
+
+pub sleepers_kept : (s : State) (m u : ℕ) → stands_in u (sleepers s m) ≡ true → HasWaiters s m → (fields_of (waiters_of (s.words (cell_place s.layout m)))).waiters ≡ true
+sleepers_kept s m u there on = waiters_kept (s.words (cell_place s.layout m)) ∙ on

@@ -4,9 +4,9 @@ use Rattle.std.proofs.Common.{eq-eqb, ◌%◌, ◌==◌}
 use Rattle.protocol.proofs.Vocabulary.{LoadFirst, Object, Operation, Decision, Layout', IsLayout, head_place, Does, Permits, acquires, fresh, held_by, Reply, XHELD, Op, mutex_of}
 use Rattle.protocol.proofs.Vocabulary.{Names, Event, Thread, Stage, Idle, Dying, Note, facts_of, State, After, put, start, nothing, is_alive, killed, begun, happens, run, notes}
 use Rattle.protocol.proofs.Vocabulary.{seen, if◌then◌else◌, nat_le, MatchBool, nat_tests, first_word, points_of, points_among, HistoryIsLegal, address_in}
-use Rattle.protocol.proofs.Vocabulary.{Calling, AtCondition, Reaped, departed, renewed, reinited, MayReinit, Whole}
+use Rattle.protocol.proofs.Vocabulary.{Calling, AtCondition, Reaped, departed, renewed, reinited, MayRemake, Whole, cell_place}
 use Rattle.protocol.proofs.Renewals.{renewed_seen, renew_kept}
-use Rattle.protocol.proofs.Reinits.{unowned, reinited_seen, reinited_far, reinit_kept}
+use Rattle.protocol.proofs.Reinits.{Says_nothing, waiters_say_nothing, unowned, reinited_seen, reinited_far, reinit_kept}
 use Rattle.posixmutex.specs.Histories.{Legal, opening}
 use Rattle.robustlist.proofs.Lists.{begins_empty}
 use Rattle.condvar.specs.Ops.{operation_of}
@@ -194,9 +194,9 @@ decline_sound s t o p is trims inv pos known = record { kept = decline_kept s t 
 renew_sound : (s : State) (t : ℕ) → Kept s → 1 ≤ t → t ≤ s.layout.threads → (s.threads t).stage ≡ Reaped → Sound' s (renewed s t)
 renew_sound s t inv pos known gone = record { kept = renew_kept s t pos known inv gone; same = refl; told = renewed_seen s t pos known }
 
--- and a reinit, which is a step of its mutex
-reinit_sound : (s : State) (t m : ℕ) → Kept s → MayReinit s t m → Sound' s (reinited s t m)
-reinit_sound s t m inv may = record { kept = reinit_kept s t m may inv; same = refl; told = (may.inside, (may.unusable, unowned s t m may inv, reinited_seen s t m may), reinited_far s t m may, refl) }
+-- and a reinit or a remake, which is a step of its mutex
+reinit_sound : (s : State) (t m w : ℕ) → Says_nothing w → Kept s → MayRemake s t m → Sound' s (reinited s t m w)
+reinit_sound s t m w says inv may = record { kept = reinit_kept s t m w says may inv; same = refl; told = (may.inside, (may.unusable, unowned s t m w says may inv, reinited_seen s t m w says may), reinited_far s t m w says may, refl) }
 
 -- and a recount, which changes no mutex
 recount_sound : (s : State) (k : ℕ) → Kept s → Sound' s (recounted s k)
@@ -228,7 +228,8 @@ sound s e inv =
     (λ t pos known asleep. leave_sound s t inv)
     (λ t o p pos known is awake trims. subst (Sound' s) (sym (spared_is s t o p is trims inv pos known)) (decline_sound s t o p is trims inv pos known))
     (λ t pos known gone. renew_sound s t inv pos known gone)
-    (λ t m may. reinit_sound s t m inv may)
+    (λ t m may. reinit_sound s t m 0 refl inv may.remake)
+    (λ t m may. reinit_sound s t m _ (waiters_say_nothing (s.words (cell_place s.layout m))) inv may)
     (λ k may. recount_sound s k inv)
     (λ t m g sp. subst (Sound' s) (sym (spare_is s t m g sp inv)) (spare_sound s t m g sp inv))
     (λ t c p pos known is there. resleep_sound s t (condition_of c) inv)

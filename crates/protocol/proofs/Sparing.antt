@@ -1,8 +1,8 @@
 -- Wakes that are spared.
-use Rattle.std.proofs.Common.{◌≡◌, ◌≢◌, ℕ, zero, suc, ◌≤◌, ◌==◌, ◌&&◌, Bool, true, false, None, List, [], ◌∷◌, refl, sym, ap, ◌∙◌, subst, arith, eqb-true}
+use Rattle.std.proofs.Common.{◌≡◌, ◌≢◌, ℕ, zero, suc, ◌+◌, ◌≤◌, ◌==◌, ◌&&◌, Bool, true, false, None, List, [], ◌∷◌, refl, sym, ap, ◌∙◌, subst, arith, eqb-true}
 use Rattle.protocol.proofs.Vocabulary.{CondCall, CondPhase, CondRow, WaitRow, CondWhole, cond_led, Operation, OK, Count, Phase, AtCell, Clearing, UnlockRow, Whole, whole_led, leaving, Op, OnCondition, mutex_of}
 use Rattle.protocol.proofs.Vocabulary.{Event, Thread, Stage, Idle, Calling, AtCondition, Dying, Reaped, Note, Stepped, State, After, Layout', put, place_met, nothing, is_asleep, Led, led, led_at, spared, stage_after, held_after, happens}
-use Rattle.protocol.proofs.Vocabulary.{Access, stands_in, if◌then◌else◌, not, ◌||◌, eqb-false, another_answers, answers, sparing, wakes_one, AnotherAnswers, In_unlock, In_wait, WakesOneOf, MaySpare}
+use Rattle.protocol.proofs.Vocabulary.{Access, stands_in, if◌then◌else◌, not, ◌||◌, eqb-false, another_answers, answers, sparing, wakes_one, AnotherAnswers, In_unlock, In_wait, WakesOneOf, MaySpare, head_place}
 use mathlib.Core.Path.{fun_ext}
 use Rattle.mutex.specs.Whole.{phase_led}
 use Rattle.mutex.specs.declared.row.Row.TheVariants.{Unlock}
@@ -13,7 +13,11 @@ use Rattle.protocol.specs.declared.event.Event.TheVariants.{Spare}
 use Rattle.protocol.proofs.Puts.{by_put, put-other}
 use Rattle.protocol.proofs.Kept.{Kept}
 use Rattle.protocol.proofs.Steps.{after, unmoved, call_step, cond_step}
-use Rattle.protocol.proofs.Stepping.{SleepsAs, AnswersAs, wakes_next}
+use Rattle.protocol.proofs.Stepping.{SleepsAs, Minds, AnswersAs, wakes_next}
+use Rattle.exitwalk.specs.declared.row.Row as walk_row
+use Rattle.exitwalk.specs.declared.row.Row.TheVariants as walk
+use Rattle.protocol.specs.Machine.{is_first, is_pending}
+use Rattle.protocol.proofs.Seeing.{entry_in}
 use Rattle.protocol.proofs.Phases.{answers_at}
 use Rattle.protocol.proofs.Accesses.{fits_in, goes}
 use Rattle.protocol.proofs.CondAccesses.{cond_stepping}
@@ -31,22 +35,22 @@ record Another (s : State) (t m n : ℕ) : Type 0 where
   last : other ≤ n
   apart : other ≢ t
   awake : is_asleep s other ≡ false
-  looks : answers s.layout m (s.threads other).stage ≡ true
+  looks : answers s.layout s.words m other (s.threads other).stage ≡ true
 
 another_is : (s : State) (t m n : ℕ) → another_answers s t m n ≡ true → Another s t m n
 another_is s t m zero e = absurd cc
-another_is s t m (suc n) e = go (suc n == t) refl (is_asleep s (suc n)) refl (answers s.layout m (s.threads (suc n)).stage) refl e (another_is s t m n)
+another_is s t m (suc n) e = go (suc n == t) refl (is_asleep s (suc n)) refl (answers s.layout s.words m (suc n) (s.threads (suc n)).stage) refl e (another_is s t m n)
   where
     later : Another s t m n → Another s t m (suc n)
     later a = record { other = a.other; first = a.first; last = let most = a.last in omega arith; apart = a.apart; awake = a.awake; looks = a.looks }
 
-    go : (a : Bool) → (suc n == t) ≡ a → (b : Bool) → is_asleep s (suc n) ≡ b → (c : Bool) → answers s.layout m (s.threads (suc n)).stage ≡ c → ((not a && not b && c) || another_answers s t m n) ≡ true → (another_answers s t m n ≡ true → Another s t m n) → Another s t m (suc n)
+    go : (a : Bool) → (suc n == t) ≡ a → (b : Bool) → is_asleep s (suc n) ≡ b → (c : Bool) → answers s.layout s.words m (suc n) (s.threads (suc n)).stage ≡ c → ((not a && not b && c) || another_answers s t m n) ≡ true → (another_answers s t m n ≡ true → Another s t m n) → Another s t m (suc n)
     go false apart false awake true looks e rest = record { other = suc n; first = omega arith; last = omega arith; apart = eqb-false (suc n) t apart; awake = awake; looks = looks }
     go false apart false awake false looks e rest = later (rest e)
     go false apart true awake c looks e rest = later (rest e)
     go true is b awake c looks e rest = later (rest e)
 
-pub another_again : (s : State) (t m n u : ℕ) → 1 ≤ u → u ≤ n → u ≢ t → is_asleep s u ≡ false → answers s.layout m (s.threads u).stage ≡ true → another_answers s t m n ≡ true
+pub another_again : (s : State) (t m n u : ℕ) → 1 ≤ u → u ≤ n → u ≢ t → is_asleep s u ≡ false → answers s.layout s.words m u (s.threads u).stage ≡ true → another_answers s t m n ≡ true
 another_again s t m zero u first last apart awake looks = absurd (omega arith)
 another_again s t m (suc n) u first last apart awake looks = go (suc n == u) refl (another_again s t m n u first)
   where
@@ -58,21 +62,21 @@ another_again s t m (suc n) u first last apart awake looks = go (suc n == u) ref
     off true is same = absurd (apart (same ∙ eqb-true (suc n) t is))
     off false is same = refl
 
-    go : (b : Bool) → (suc n == u) ≡ b → (u ≤ n → u ≢ t → is_asleep s u ≡ false → answers s.layout m (s.threads u).stage ≡ true → another_answers s t m n ≡ true)
-        → ((not (suc n == t) && not (is_asleep s (suc n)) && answers s.layout m (s.threads (suc n)).stage) || another_answers s t m n) ≡ true
+    go : (b : Bool) → (suc n == u) ≡ b → (u ≤ n → u ≢ t → is_asleep s u ≡ false → answers s.layout s.words m u (s.threads u).stage ≡ true → another_answers s t m n ≡ true)
+        → ((not (suc n == t) && not (is_asleep s (suc n)) && answers s.layout s.words m (suc n) (s.threads (suc n)).stage) || another_answers s t m n) ≡ true
     go true is rest =
         let same : u ≡ suc n = sym (eqb-true (suc n) u is) in
         let a : (suc n == t) ≡ false = off (suc n == t) refl same in
         let b : is_asleep s (suc n) ≡ false = subst (λ (v : ℕ). is_asleep s v ≡ false) same awake in
-        let c : answers s.layout m (s.threads (suc n)).stage ≡ true = subst (λ (v : ℕ). answers s.layout m (s.threads v).stage ≡ true) same looks in
+        let c : answers s.layout s.words m (suc n) (s.threads (suc n)).stage ≡ true = subst (λ (v : ℕ). answers s.layout s.words m v (s.threads v).stage ≡ true) same looks in
         λ i. (not (a i) && not (b i) && c i) || another_answers s t m n
     go false off rest =
         let other = eqb-false (suc n) u off in
-        ap (λ (x : Bool). (not (suc n == t) && not (is_asleep s (suc n)) && answers s.layout m (s.threads (suc n)).stage) || x) (rest (omega arith) apart awake looks)
-        ∙ or_else (not (suc n == t) && not (is_asleep s (suc n)) && answers s.layout m (s.threads (suc n)).stage)
+        ap (λ (x : Bool). (not (suc n == t) && not (is_asleep s (suc n)) && answers s.layout s.words m (suc n) (s.threads (suc n)).stage) || x) (rest (omega arith) apart awake looks)
+        ∙ or_else (not (suc n == t) && not (is_asleep s (suc n)) && answers s.layout s.words m (suc n) (s.threads (suc n)).stage)
 
 -- as the test says, and as the invariant does
-answers_as : (l : Layout') (words : ℕ → ℕ) (m u : ℕ) (g : Stage) → answers l m g ≡ true → AnswersAs l words m u g
+answers_as : (l : Layout') (words : ℕ → ℕ) (m u : ℕ) (g : Stage) → answers l words m u g ≡ true → AnswersAs l words m u g
 answers_as l words m u (Calling o p) e = go (mutex_of l o == m) refl e
   where
     go : (b : Bool) → (mutex_of l o == m) ≡ b → (b && answers_at p.phase) ≡ true → (mutex_of l o ≡ m) × (answers_at p.phase ≡ true)
@@ -84,7 +88,11 @@ answers_as l words m u (AtCondition c p) e = go (mutex_of l (OnCondition c) == m
     go true is e = (eqb-true (mutex_of l (OnCondition c)) m is, e)
     go false is e = absurd cc
 answers_as l words m u Idle e = absurd cc
-answers_as l words m u (Dying w) e = absurd cc
+answers_as l words m u (Dying w) e = go w.row e
+  where
+    go : (r : walk_row.Row) → (is_first r && is_pending l words m u) ≡ true → Minds l words m u r
+    go walk.LoadFirst e = eqb-true (words (head_place u + 2)) (entry_in l u m) e
+    go r e = absurd cc
 answers_as l words m u Reaped e = absurd cc
 
 -- ---- where the thread goes on
@@ -278,7 +286,7 @@ pub spare_goes : (s : State) (t m : ℕ) (g : Stage) → Kept s → Queued s →
 spare_goes s t m g inv queued pos known wakes another = ap (λ (b : Bool). if b then sparing s t (s.threads t).held (s.threads t).stage else nothing s) (is_known s t pos known) ∙ go wakes
   where
     answered : (k : ℕ) → m ≡ k → another_answers s t k s.layout.threads ≡ true
-    answered k same = another_again s t k s.layout.threads another.other another.first another.last another.apart (out_awake s another.other another.awake) (subst (λ (j : ℕ). answers s.layout j (s.threads another.other).stage ≡ true) same another.looks)
+    answered k same = another_again s t k s.layout.threads another.other another.first another.last another.apart (out_awake s another.other another.awake) (subst (λ (j : ℕ). answers s.layout s.words j another.other (s.threads another.other).stage ≡ true) same another.looks)
 
     To : Stage → ℕ → After
     To z k = record { state = record s { threads = put s.threads t (record { stage = z; held = (s.threads t).held }) }; note = unwoken t k }
@@ -312,7 +320,7 @@ spare_so s t m g queued sp = (m, next_of s t m g sp.how, go sp.how, record { oth
 pub spare_rests : (s : State) (t : ℕ) → Queued s → (1 ≤ t → t ≤ s.layout.threads → MaySpare s t → ⊥) → happens s (Spare t) ≡ nothing s
 spare_rests s t queued never =
     by_event s (λ (x : Event) (a : After). x ≡ Spare t → a ≡ nothing s) (λ x same. refl) (λ u o pos known named idle b full same. absurd cc) (λ u pos known same. absurd cc) (λ u pos known alive same. absurd cc) (λ u pos known asleep same. absurd cc)
-    (λ u o p pos known is awake trims same. absurd cc) (λ u pos known gone same. absurd cc) (λ u m may same. absurd cc) (λ k may same. absurd cc)
+    (λ u o p pos known is awake trims same. absurd cc) (λ u pos known gone same. absurd cc) (λ u m may same. absurd cc) (λ u m may same. absurd cc) (λ k may same. absurd cc)
     (λ u m g sp same. absurd (subst (λ (v : ℕ). 1 ≤ v → v ≤ s.layout.threads → MaySpare s v → ⊥) (sym (thread_is u t same)) never sp.first sp.last (spare_so s u m g queued sp)))
     (λ u c p pos known is there same. absurd cc) (λ u w pos known is reads same. absurd cc)
     (Spare t) refl

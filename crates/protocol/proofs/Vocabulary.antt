@@ -74,11 +74,11 @@ pub use Rattle.protocol.specs.Headline.{HistoryIsLegal, NoReapedOwner, NoReapedO
 pub use Rattle.protocol.specs.Machine.{After, State, answer_of, begun, decision, falls_asleep, first_stage, happens, has_ended, held_after, is_alive, is_asleep}
 pub use Rattle.protocol.specs.Machine.{is_calling, is_met, is_valid, joined, killed, Led, led, led_at, may_begin, moved_by, notes, nothing, place_met, put, queue_after, reply_at}
 pub use Rattle.protocol.specs.Machine.{returned, returned_at, run, sleepers, sleeps, slept_in, stage_after, stage_at, stage_walked, stands_in, start, stepped, told_of, walked}
-pub use Rattle.protocol.specs.Machine.{death_at, decided_at, departed, mutex_at, reinited, renewed, spared, stands_at, went, woken, woken_by}
+pub use Rattle.protocol.specs.Machine.{death_at, decided_at, departed, mutex_at, reinited, renewed, spared, waiters_of, stands_at, went, woken, woken_by}
 pub use Rattle.protocol.specs.Machine.{another_answers, answers, counts_on, has_count, holds_count, is_mark, may_recount, none_counts, recounted, repeated, repeating, resleeping, reslept, sparing, wakes_one}
 pub use Rattle.protocol.specs.Recounts.{MayRecount}
 pub use Rattle.protocol.specs.Spares.{AnotherAnswers, In_unlock, In_wait, MaySpare, WakesOneOf}
-pub use Rattle.protocol.specs.Reinits.{MayReinit}
+pub use Rattle.protocol.specs.Reinits.{MayReinit, MayRemake}
 pub use Rattle.protocol.specs.Notes.{death_facts, facts_of, line_of, lines_from, moves_to, point_facts, reap_facts, reinit_of, return_facts, sleep_facts}
 pub use Rattle.condvar.specs.Ops.{mutex_of}
 pub use Rattle.protocol.specs.Ops.{begun_of, queue_place}

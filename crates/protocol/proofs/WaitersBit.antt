@@ -1,7 +1,7 @@
 -- The WAITERS bit, event by event.
 use Rattle.std.proofs.Common.{◌≡◌, ◌⊎◌, inl, inr, ℕ, ◌≤◌, ◌==◌, ◌&&◌, Bool, true, false, List, [], drop, Ok, Err, refl, ap, ◌∙◌, subst}
 use Rattle.protocol.proofs.Vocabulary.{XHELD, Op, Event, Step, State, After, begun, happens, run, start, if◌then◌else◌, cell_place, Phase, AtCell, Whole, OnMutex, Calling, is_asleep}
-use Rattle.protocol.proofs.Vocabulary.{Access, answer_among, fields_of, word_among, Onward, stands_in, UnlockRow, put, stage_after, reinited, MayReinit, IsUnowned}
+use Rattle.protocol.proofs.Vocabulary.{Access, answer_among, fields_of, word_among, Onward, stands_in, UnlockRow, put, stage_after, reinited, MayRemake, IsUnowned}
 use Rattle.protocol.proofs.Cases.{at_or_else}
 use Rattle.protocol.specs.Machine.{sleepers}
 use Rattle.mutex.specs.Programs.{row_access, resume_of}
@@ -18,7 +18,7 @@ use Rattle.protocol.proofs.CellSteps as cell
 use Rattle.protocol.proofs.Accesses.{fits_in, goes}
 use Rattle.protocol.proofs.Events.{begins_at, by_event}
 use Rattle.protocol.proofs.Renewals.{renewed_cell}
-use Rattle.protocol.proofs.Reinits.{unowned, reinited_cell}
+use Rattle.protocol.proofs.Reinits.{Says_nothing, waiters_say_nothing, waiters_kept, unowned, reinited_word, reinited_cell}
 use Rattle.protocol.proofs.Working.{by_step, call_goes}
 use Rattle.protocol.proofs.Queued.{Queued, mine, out_awake}
 use Rattle.protocol.proofs.Queues.{not_true}
@@ -31,6 +31,10 @@ begins_stay : (s : State) (t : ℕ) (o : Op) (b : Bool) → WaitersStay s (begun
 begins_stay s t o true m below on = inl on
 begins_stay s t o false m below on = inl on
 
+-- WAITERS of mutex j stays from state s to z, or nobody sleeps there and nobody owned it
+abbrev Stays_in : State → State → ℕ → Type 0
+Stays_in s z j = HasWaiters s j → HasWaiters z j ⊎ ((sleepers z j ≡ []) × IsUnowned s j)
+
 stay_on : (s : State) (e : Event) → Kept s → WaitersStay s (happens s e).state
 stay_on s e inv =
     by_event s (λ (x : Event) (a : After). WaitersStay s a.state)
@@ -41,18 +45,18 @@ stay_on s e inv =
     (λ t pos known asleep m below on. inl on)
     (λ t o p pos known is awake trims m below on. inl on)
     (λ t pos known gone m below on. inl (ap (λ (w : ℕ). (fields_of w).waiters) (renewed_cell s t pos known m) ∙ on))
-    (λ t k may m below on. reinit_stays t k may m on)
+    (λ t k may m below on. reinit_stays t k 0 refl may.remake (λ on. inr (may.unslept, unowned s t k 0 refl may.remake inv)) m on)
+    (λ t k may m below on. let says = waiters_say_nothing (s.words (cell_place s.layout k)) in reinit_stays t k _ says may (λ on. inl (ap (λ (w : ℕ). (fields_of w).waiters) (reinited_word s t k _ says may) ∙ (waiters_kept (s.words (cell_place s.layout k)) ∙ on))) m on)
     (λ k may m below on. inl (ap (λ (w : ℕ). (fields_of w).waiters) (recounted_cell s k m below) ∙ on))
     (λ t k g sp m below on. inl on)
     (λ t c p pos known is there m below on. inl on)
     (λ t w pos known is reads m below on. inl on)
     e
   where
-    reinit_stays : (t k : ℕ) (may : MayReinit s t k) (m : ℕ) → HasWaiters s m → HasWaiters (reinited s t k).state m ⊎ ((sleepers (reinited s t k).state m ≡ []) × IsUnowned s m)
-    reinit_stays t k may m =
-        at_or_else (λ (j : ℕ). HasWaiters s j → HasWaiters (reinited s t k).state j ⊎ ((sleepers (reinited s t k).state j ≡ []) × IsUnowned s j)) k m
-        (λ on. inr (may.unslept, unowned s t k may inv))
-        (λ apart on. inl (ap (λ (w : ℕ). (fields_of w).waiters) (reinited_cell s t k may m apart) ∙ on))
+    reinit_stays : (t k w : ℕ) (says : Says_nothing w) (may : MayRemake s t k) → Stays_in s (reinited s t k w).state k → (m : ℕ) → Stays_in s (reinited s t k w).state m
+    reinit_stays t k w says may here m =
+        at_or_else (Stays_in s (reinited s t k w).state) k m here
+        (λ apart on. inl (ap (λ (v : ℕ). (fields_of v).waiters) (reinited_cell s t k w says may m apart) ∙ on))
 
 -- ---- an unlock that finds nobody to wake
 

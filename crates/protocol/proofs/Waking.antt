@@ -264,6 +264,7 @@ turn s e inv queued t =
     (λ u o p pos known is awake trims. subst (TurnOf s t (Event.Decline u)) (sym (spared_is s u o p is trims inv pos known)) (Stays refl (λ key. refl)))
     (λ u pos known gone. Stays refl (λ key. refl))
     (λ u m may. Stays refl (λ key. refl))
+    (λ u m may. Stays refl (λ key. refl))
     (λ k may. Stays refl (λ key. refl))
     (λ u m g sp. subst (TurnOf s t (Event.Spare u)) (sym (spare_is s u m g sp inv)) (Stays refl (λ key. refl)))
     (λ u c p pos known is there. resleep_turn s u (condition_of c) t (fits_in s u (OnCondition c) p inv pos known is).1.2 there)

@@ -4,9 +4,9 @@
 -- mutex or condition variable is one of the layout; a step where it is in a call, or killed and not reaped, and sleeps
 -- nowhere; a kill where it lives; a leave where it stands in a queue; a decline where its next access is a trim
 -- (`IsAboutToTrim`); a renewal where it was reaped, and hasn't been renewed since; a reinit where it lives and is in no
--- call, and the mutex, one of the layout, is unusable and nobody sleeps on it; a recount, a spare (`IsSparedAccessOf`),
--- a resleep and a repeat (`IsAboutToRead`) where they happen. Such an event is noted as what it is, every other as
--- nothing, and that changes nothing: the law `events_apply`.
+-- call, and the mutex, one of the layout, is unusable and nobody sleeps on it, and a remake whoever sleeps on it; a
+-- recount, a spare (`IsSparedAccessOf`), a resleep and a repeat (`IsAboutToRead`) where they happen. Such an event is
+-- noted as what it is, every other as nothing, and that changes nothing: the law `events_apply`.
 use Rattle.std.specs.Prelude.{ℕ, length, ◌≡◌, ◌<◌, ◌≤◌, ◌==◌, ◌&&◌, nat_le, true}
 use Rattle.std.specs.Prelude.{false, Option, Some, None, List, [], ◌∷◌, if◌then◌else◌}
 use Rattle.lockword.specs.declared.reply.Reply.{Reply}
@@ -116,9 +116,10 @@ IsAboutToRead s t = (w : Standing) × ((s.threads t).stage ≡ Dying w) × (is_m
 -- a begin applies where its thread lives, is in no call, and what it calls is in the layout; a step where its thread is
 -- in a call, or was killed and not reaped, and sleeps on nothing; a kill where its thread lives; a leave where it
 -- sleeps; a decline where it is about to trim; a renewal where its thread was reaped; a reinit where its thread lives
--- and is in no call, and its mutex, one of the layout, is unusable and nobody sleeps on it; a recount where nobody may
--- miss a signal by it; a spare where its thread is about to wake one of a mutex, for which another answers; a resleep
--- where its thread sleeps on a condition variable; a repeat where its thread's walk is about to load or to wake
+-- and is in no call, and its mutex, one of the layout, is unusable and nobody sleeps on it; a remake likewise, whoever
+-- sleeps on it; a recount where nobody may miss a signal by it; a spare where its thread is about to wake one of a mutex,
+-- for which another answers; a resleep where its thread sleeps on a condition variable; a repeat where its thread's walk
+-- is about to load or to wake
 abbrev pub Applies : Layout' → State → List Note → Event → Type 0
 Applies l s ns (event.Begin t o) = IsThread l t × Names l o × (last_told t ns ≡ AtRest)
 Applies l s ns (event.Step t) = IsThread l t × HasAccess (last_told t ns) × IsInNoQueue s t
@@ -128,6 +129,8 @@ Applies l s ns (event.Decline t) = IsThread l t × IsAboutToTrim s t
 Applies l s ns (event.Renew t) = IsThread l t × (last_told t ns ≡ Gone)
 Applies l s ns (event.Reinit t m) =
     IsThread l t × (last_told t ns ≡ AtRest) × (m < l.mutexes) × ((seen s m).unusable ≡ true) × (sleepers s m ≡ [])
+Applies l s ns (event.Remake t m) =
+    IsThread l t × (last_told t ns ≡ AtRest) × (m < l.mutexes) × ((seen s m).unusable ≡ true)
 Applies l s ns (event.Recount k) = MayRecount s k
 Applies l s ns (event.Spare t) = IsThread l t × MaySpare s t
 Applies l s ns (event.Resleep t) = (k : ℕ) × (k < length l.conditions) × StandsIn s t (Condition k)
@@ -165,6 +168,7 @@ IsNotedAs l s (event.Leave t) n = n ≡ Left t
 IsNotedAs l s (event.Decline t) n = IsQuietAccessOf l s t n
 IsNotedAs l s (event.Renew t) n = n ≡ Renewed t
 IsNotedAs l s (event.Reinit t m) n = n ≡ Reinited t m
+IsNotedAs l s (event.Remake t m) n = n ≡ Reinited t m
 IsNotedAs l s (event.Recount k) n = n ≡ Recounted k
 IsNotedAs l s (event.Spare t) n = IsSparedAccessOf l s t n
 IsNotedAs l s (event.Resleep t) n = (k : ℕ) → StandsIn s t (Condition k) → n ≡ Reslept t k

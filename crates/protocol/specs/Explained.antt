@@ -29,6 +29,7 @@ caller (event.Leave t) = t
 caller (event.Decline t) = t
 caller (event.Renew t) = t
 caller (event.Reinit t m) = t
+caller (event.Remake t m) = t
 caller (event.Recount k) = 0
 caller (event.Spare t) = t
 caller (event.Resleep t) = t

@@ -27,13 +27,18 @@
 -- point with OK and a return. Else nothing happens. The law `reinits_free_the_mutex`. Source:
 -- pthread_mutex_destroy(3p), pthread_mutex_init(3p).
 --
+-- *A remake.* A program that makes a mutex anew access by access loads its word, asks whether anybody sleeps there, and
+-- exchanges the word that it saw. The first two change nothing, so they are no events; what others do in between, the
+-- exchange meets. A remake is that exchange: it finds the mutex unusable, whoever sleeps on it by now, and clears all but
+-- WAITERS, so that nobody who sleeps is forgotten. It is told as a reinit. The law `remakes_forget_nobody`.
+--
 -- *Where an access meets its word.* Words and queues stand at places, and accesses have addresses of their thread's
 -- process: the word that one meets is that at the place of its address there. So threads of processes with different
 -- bases meet at one word, and in one queue. An access is refused where the place isn't one of the layout's, and a
 -- requeue also from a word to itself. Source: futex(2) on shared futexes.
 use Rattle.std.specs.Prelude.{ℕ, zero, suc, not, ◌==◌, ◌+◌, ◌-◌, ◌/◌, ◌%◌, ◌^◌, Bool, true, false, ◌&&◌, ◌||◌, nat_le, nat_lt}
 use Rattle.std.specs.Prelude.{Option, Some, None, Result, Ok, Err, List, [], ◌∷◌, ◌++◌, length, take, drop, if◌then◌else◌}
-use Rattle.lockword.specs.Cells.{fields_of}
+use Rattle.lockword.specs.Cells.{fields_of, bit, waiters_alone}
 use Rattle.lockword.specs.declared.reply.Reply.{Reply}
 use Rattle.lockword.specs.declared.reply.Reply.TheVariants.{OK, EOWNERDEAD}
 use Rattle.stepprograms.specs.declared.access.Access.{Access}
@@ -43,7 +48,7 @@ use Rattle.stepprograms.specs.declared.access.Answer.TheVariants.{Fault, Trimmed
 use Rattle.posixmutex.specs.declared.point.Operation.{Operation}
 use Rattle.posixmutex.specs.declared.point.Operation.TheVariants as operation
 use Rattle.posixmutex.specs.declared.point.Decision.{Decision}
-use Rattle.memorymap.specs.Layouts.{Layout', head_place, cell_place, counter_place}
+use Rattle.memorymap.specs.Layouts.{Layout', head_place, entry_place, cell_place, counter_place}
 use Rattle.memorymap.specs.Layouts.{words_of, address_in, place_in, head_word, first_word}
 use Rattle.buckets.specs.Queues.{without}
 use Rattle.stepprograms.specs.Accesses.{address_of, word_among, answer_among, sleeps_at, is_nobody}
@@ -80,7 +85,7 @@ use Rattle.condvar.specs.declared.op.Op.{Op}
 use Rattle.condvar.specs.declared.op.Op.TheVariants.{OnMutex, OnCondition}
 use Rattle.protocol.specs.declared.event.Event.{Event}
 use Rattle.protocol.specs.declared.event.Event.TheVariants.{Begin, Step, Kill, Leave, Decline, Renew, Reinit}
-use Rattle.protocol.specs.declared.event.Event.TheVariants.{Recount, Spare, Resleep, Repeat}
+use Rattle.protocol.specs.declared.event.Event.TheVariants.{Remake, Recount, Spare, Resleep, Repeat}
 use Rattle.protocol.specs.declared.thread.Thread.{Thread}
 use Rattle.protocol.specs.declared.thread.Stage.{Stage}
 use Rattle.protocol.specs.declared.thread.Stage.TheVariants.{Idle, Calling, AtCondition, Dying, Reaped}
@@ -473,15 +478,22 @@ renewed s t =
 abbrev pub is_unusable : State → ℕ → Bool
 is_unusable s m = (fields_of (s.words (cell_place s.layout m))).unusable
 
--- thread t is in no call, and mutex m, one of the layout, is unusable, and nobody sleeps on it. (So nobody owns it
--- either)
-abbrev pub may_reinit : State → ℕ → ℕ → Bool
-may_reinit s t m = has_thread s t && is_idle (s.threads t).stage && nat_lt m s.layout.mutexes && is_unusable s m
-    && is_nobody (sleepers s m)
+-- thread t is in no call, and mutex m, one of the layout, is unusable. (So nobody owns it)
+abbrev pub may_remake : State → ℕ → ℕ → Bool
+may_remake s t m =
+    has_thread s t && is_idle (s.threads t).stage && nat_lt m s.layout.mutexes && is_unusable s m
 
--- it makes the mutex anew (pthread_mutex_destroy(3p), pthread_mutex_init(3p)): its word is as at first
-abbrev pub reinited : State → ℕ → ℕ → After
-reinited s t m = record { state = record s { words = put s.words (cell_place s.layout m) 0 }; note = Reinited t m }
+-- and nobody sleeps on it
+abbrev pub may_reinit : State → ℕ → ℕ → Bool
+may_reinit s t m = may_remake s t m && is_nobody (sleepers s m)
+
+-- it makes the mutex anew (pthread_mutex_destroy(3p), pthread_mutex_init(3p)), whose word is w then
+abbrev pub reinited : State → ℕ → ℕ → ℕ → After
+reinited s t m w = record { state = record s { words = put s.words (cell_place s.layout m) w }; note = Reinited t m }
+
+-- WAITERS of a word, and nothing else of it
+abbrev pub waiters_of : ℕ → ℕ
+waiters_of w = bit (fields_of w).waiters waiters_alone
 
 -- ---- recounts
 
@@ -532,17 +544,28 @@ abbrev pub wakes_next : CondPhase → Bool
 wakes_next (cond.AtWords (cond_row.Wait (wait.Wake seen))) = true
 wakes_next f = false
 
--- so a thread there answers for mutex m, unless it sleeps
-abbrev pub answers : Layout' → ℕ → Stage → Bool
-answers l m (Calling o p) = (mutex_of l o == m) && answers_at p.phase
-answers l m (AtCondition c p) = (mutex_of l (OnCondition c) == m) && wakes_next p.phase
-answers l m g = false
+-- a walk that hasn't begun
+abbrev pub is_first : walk_row.Row → Bool
+is_first walk.LoadFirst = true
+is_first r = false
+
+-- thread t has an entry pending, which is mutex m's (list_op_pending in get_robust_list(2))
+abbrev pub is_pending : Layout' → (ℕ → ℕ) → ℕ → ℕ → Bool
+is_pending l words m t = words (head_place t + 2) == address_in l t (entry_place l m)
+
+-- so thread t, which is there, answers for mutex m, unless it sleeps; and where it was killed, and nobody has begun to
+-- walk its list, its walk will, if it had the mutex pending
+abbrev pub answers : Layout' → (ℕ → ℕ) → ℕ → ℕ → Stage → Bool
+answers l words m t (Calling o p) = (mutex_of l o == m) && answers_at p.phase
+answers l words m t (AtCondition c p) = (mutex_of l (OnCondition c) == m) && wakes_next p.phase
+answers l words m t (Dying w) = is_first w.row && is_pending l words m t
+answers l words m t g = false
 
 -- one of the first n threads, but not thread t, is awake and answers for mutex m
 abbrev pub another_answers : State → ℕ → ℕ → ℕ → Bool
 another_answers s t m zero = false
 another_answers s t m (suc n) =
-    (not (suc n == t) && not (is_asleep s (suc n)) && answers s.layout m (s.threads (suc n)).stage)
+    (not (suc n == t) && not (is_asleep s (suc n)) && answers s.layout s.words m (suc n) (s.threads (suc n)).stage)
     || another_answers s t m n
 
 -- an unlock that is about to wake one sleeper
@@ -627,7 +650,7 @@ repeating s t g = nothing s
 -- a begin of a busy, killed or unknown thread or of a call outside the layout, a step of an idle, sleeping, reaped or
 -- unknown thread, a kill of a killed or unknown thread, a leave of a thread that doesn't sleep, a decline of one that
 -- isn't about to trim, a renewal of one that wasn't reaped, a reinit by one that isn't idle, or of a mutex that is
--- usable or slept on, a recount of a counter that somebody sleeps on or knows, a spare of a thread that isn't about to
+-- usable or slept on, a remake by one that isn't idle, or of a mutex that is usable, a recount of a counter that somebody sleeps on or knows, a spare of a thread that isn't about to
 -- wake one of a mutex, or is alone to answer for it, a resleep of one that doesn't sleep on a counter, and a repeat of
 -- one whose walk isn't about to load or to wake, do nothing
 abbrev pub happens : State → Event → After
@@ -637,7 +660,9 @@ happens s (Kill t) = if has_thread s t && is_alive (s.threads t).stage then kill
 happens s (Leave t) = if has_thread s t && is_asleep s t then departed s t else nothing s
 happens s (Decline t) = if has_thread s t then declined s t (s.threads t).held (s.threads t).stage else nothing s
 happens s (Renew t) = if has_thread s t && is_gone (s.threads t).stage then renewed s t else nothing s
-happens s (Reinit t m) = if may_reinit s t m then reinited s t m else nothing s
+happens s (Reinit t m) = if may_reinit s t m then reinited s t m 0 else nothing s
+happens s (Remake t m) =
+    if may_remake s t m then reinited s t m (waiters_of (s.words (cell_place s.layout m))) else nothing s
 happens s (Recount k) = if may_recount s k then recounted s k else nothing s
 happens s (Spare t) = if has_thread s t then sparing s t (s.threads t).held (s.threads t).stage else nothing s
 happens s (Resleep t) = if has_thread s t then resleeping s t (s.threads t).stage else nothing s

@@ -1,9 +1,14 @@
--- Unusable mutexes that are made anew (pthread_mutex_destroy(3p), pthread_mutex_init(3p)).
+-- Unusable mutexes that are made anew (pthread_mutex_destroy(3p), pthread_mutex_init(3p)), by one event that looks who
+-- sleeps there, or by the exchange alone that ends it where the look came before.
+--
+-- *Nobody is forgotten.* The exchange may meet sleepers: who looked before it saw none, but the mutex may have been made
+-- anew in between, locked, slept on and made unusable again. So it keeps WAITERS: the law `remakes_forget_nobody`.
 --
 -- *Nobody joins.* Where a mutex is unusable, whoever sleeps on it behind the next event, or behind any events in which
 -- nobody makes it anew, slept there before: the law `nobody_joins_an_unusable_mutex`, of every state that events lead
 -- to.
 use Rattle.std.specs.Prelude.{ℕ, ◌≡◌, ◌≢◌, ◌<◌, ◌≤◌, true, None, List, [], ◌∷◌}
+use Rattle.lockword.specs.Cells.{fields_of}
 use Rattle.lockword.specs.declared.reply.Reply.TheVariants.{OK}
 use Rattle.posixmutex.specs.declared.point.Operation.TheVariants as operation
 use Rattle.memorymap.specs.Layouts.{Layout', IsLayout, cell_place}
@@ -11,7 +16,7 @@ use Rattle.posixmutex.specs.Objects.{fresh}
 use Rattle.facts.specs.declared.fact.Fact.{Fact}
 use Rattle.facts.specs.declared.fact.Fact.TheVariants.{Begin, Point, Return}
 use Rattle.protocol.specs.declared.event.Event.{Event}
-use Rattle.protocol.specs.declared.event.Event.TheVariants.{Reinit}
+use Rattle.protocol.specs.declared.event.Event.TheVariants.{Reinit, Remake}
 use Rattle.protocol.specs.declared.thread.Stage.TheVariants.{Idle}
 use Rattle.protocol.specs.Notes.{facts_of}
 use Rattle.protocol.specs.Machine.{State, nothing, start, happens, run, sleepers}
@@ -20,13 +25,17 @@ use Rattle.protocol.specs.Sleepers.{Sleeps}
 
 -- ---- a reinit
 
--- thread t, one of the layout, lives and is in no call, and mutex m is unusable and nobody sleeps on it
-pub record MayReinit (s : State) (t m : ℕ) : Type 0 where
+-- thread t, one of the layout, lives and is in no call, and mutex m is unusable
+pub record MayRemake (s : State) (t m : ℕ) : Type 0 where
   pub first : 1 ≤ t
   pub last : t ≤ s.layout.threads
   pub resting : (s.threads t).stage ≡ Idle
   pub inside : m < s.layout.mutexes
   pub unusable : (seen s m).unusable ≡ true
+
+-- and nobody sleeps on it
+pub record MayReinit (s : State) (t m : ℕ) : Type 0 where
+  pub remake : MayRemake s t m
   pub unslept : sleepers s m ≡ []
 
 -- mutex m is made anew, from state s to s': its word is 0, and it is free, as nobody had locked it yet; every other
@@ -56,12 +65,37 @@ abbrev pub ReinitsFreeTheMutex : Type 0
 ReinitsFreeTheMutex = (l : Layout') (counters : ℕ → ℕ) (events : List Event) → IsLayout l → (t m : ℕ)
     → ReinitsSo (run (start l counters) events) t m
 
+-- ---- a remake
+
+-- mutex m is made anew, from state s to s': it is free, as nobody had locked it yet, and its word has WAITERS where it
+-- had; every other word and mutex is as it was, and every queue and thread
+pub record OnlyRemakes (s s' : State) (m : ℕ) : Type 0 where
+  pub layout : s'.layout ≡ s.layout
+  pub free : seen s' m ≡ fresh
+  pub waiters : (fields_of (s'.words (cell_place s.layout m))).waiters ≡ (fields_of (s.words (cell_place s.layout m))).waiters
+  pub words : (p : ℕ) → p ≢ cell_place s.layout m → s'.words p ≡ s.words p
+  pub mutexes : (k : ℕ) → k ≢ m → seen s' k ≡ seen s k
+  pub queues : (key : ℕ) → s'.queues key ≡ s.queues key
+  pub threads : (u : ℕ) → s'.threads u ≡ s.threads u
+
+-- thread t makes mutex m anew where it may, which is told as a reinit; else nothing happens
+pub record RemakesSo (s : State) (t m : ℕ) : Type 0 where
+  pub anew : MayRemake s t m
+      → OnlyRemakes s (happens s (Remake t m)).state m × (facts_of (happens s (Remake t m)).note ≡ reinit_told t m)
+  pub else_nothing : ¬ MayRemake s t m → happens s (Remake t m) ≡ nothing s
+
+-- whatever happened, with any values of the counters at the beginning
+abbrev pub RemakesForgetNobody : Type 0
+RemakesForgetNobody = (l : Layout') (counters : ℕ → ℕ) (events : List Event) → IsLayout l → (t m : ℕ)
+    → RemakesSo (run (start l counters) events) t m
+
 -- ---- runs without reinits
 
 -- nobody makes mutex m anew
 abbrev pub NobodyReinits : ℕ → List Event → Type 0
 NobodyReinits m [] = Unit {0}
 NobodyReinits m (Reinit t k ∷ es) = (k ≢ m) × NobodyReinits m es
+NobodyReinits m (Remake t k ∷ es) = (k ≢ m) × NobodyReinits m es
 NobodyReinits m (e ∷ es) = NobodyReinits m es
 
 -- whatever happened, with any values of the counters at the beginning: where mutex m is unusable then, it stays so,

@@ -32,14 +32,15 @@ pub data WakesOneOf (s : State) (t m : ℕ) (then : Stage) : Type 0 where
       → then ≡ AtCondition c (record p { phase = AtWords (Wait (wait.Sleep seen)) }) → WakesOneOf s t m then
 
 -- another thread, awake, answers for mutex m: in a lock of it, or the lock that ends a wait, it has still to look at
--- the word; or in an unlock or a wait it is about to wake on it
+-- the word; or in an unlock or a wait it is about to wake on it; or it was killed with the mutex pending, and its walk,
+-- which hasn't begun, will look at the word
 pub record AnotherAnswers (s : State) (t m : ℕ) : Type 0 where
   pub other : ℕ
   pub first : 1 ≤ other
   pub last : other ≤ s.layout.threads
   pub apart : other ≢ t
   pub awake : (key : ℕ) → stands_in other (s.queues key) ≡ false
-  pub looks : answers s.layout m (s.threads other).stage ≡ true
+  pub looks : answers s.layout s.words m other (s.threads other).stage ≡ true
 
 abbrev pub MaySpare : State → ℕ → Type 0
 MaySpare s t = (m : ℕ) × (then : Stage) × WakesOneOf s t m then × AnotherAnswers s t m

@@ -26,12 +26,16 @@ pub enum Event {
     /// The thread, which is in no call, makes the mutex with this number anew: it was unusable, and nobody sleeps on it
     /// (pthread_mutex_destroy(3p), pthread_mutex_init(3p)).
     Reinit(Tid, u16),
+    /// The thread, which is in no call, makes the mutex with this number anew, as it is unusable still, by the exchange
+    /// that ends a reinit whose look at the word and question who sleeps came before, and changed nothing: whoever
+    /// sleeps on it by now, WAITERS stays for.
+    Remake(Tid, u16),
     /// The counter of the condition variable with this number goes back to 0: nobody sleeps on it, and no call has
     /// loaded it that is still to compare or to change it.
     Recount(u16),
     /// The next access of the thread's call, the wake of one sleeper of its mutex, is spared: nobody is woken, and the
     /// thread is answered as if one had been. Another thread, which is awake, answers for the mutex: it will look at
-    /// its word, or is about to wake one itself.
+    /// its word, or is about to wake one itself; or it was killed with the mutex pending, and its walk will look.
     Spare(Tid),
     /// The thread, which sleeps on a condition variable, goes to the end of that queue: it looked by itself, or a
     /// signal handler ran (futex(2), EINTR), and it sleeps again.

@@ -17,7 +17,7 @@ ghost use Rattle.protocol.specs.Bounded.{OnlyLocksAndWaitsWait};
 ghost use Rattle.protocol.specs.Changes.{EventsLeaveTheRest};
 ghost use Rattle.protocol.specs.Counting.{CountersCountUp};
 ghost use Rattle.protocol.specs.Releases.{WaitsReleaseConsistentMutexes};
-ghost use Rattle.protocol.specs.Reinits.{ReinitsFreeTheMutex, UnusableStays, NobodyJoinsAnUnusableMutex};
+ghost use Rattle.protocol.specs.Reinits.{NobodyJoinsAnUnusableMutex, ReinitsFreeTheMutex, RemakesForgetNobody, UnusableStays};
 ghost use Rattle.protocol.specs.Recounts.{RecountsAreLone};
 ghost use Rattle.protocol.specs.Spares.{SparesAreLone};
 ghost use Rattle.protocol.specs.Repeats.{ResleepsAndRepeatsAreLone};
@@ -171,6 +171,14 @@ pub fn without_renewals_as_before()
 /// begin, its point and its return with OK.
 pub fn reinits_free_the_mutex()
     ensures { ReinitsFreeTheMutex }
+{}
+
+/// Whatever happened before: a thread makes a mutex anew by the exchange alone exactly where it lives and is in no call,
+/// and the mutex is unusable, whoever sleeps on it by then; else its remake does nothing. The mutex is free then, as at
+/// first, and its word has WAITERS where it had, so that whoever sleeps there is woken. No other word changes, no other
+/// mutex, no queue and no thread, and it is told as a reinit is.
+pub fn remakes_forget_nobody()
+    ensures { RemakesForgetNobody }
 {}
 
 /// Whatever else happens, where nobody makes it anew: a mutex that became unusable stays so.

@@ -18,7 +18,7 @@
 //!   do;
 //! - `renewals_begin_anew`, `without_renewals_as_before`: what a reaped thread that lives anew finds, and leaves as it
 //!   is;
-//! - `reinits_free_the_mutex`, `without_reinits_as_before`, `nobody_joins_an_unusable_mutex`: what it is to make an
+//! - `reinits_free_the_mutex`, `remakes_forget_nobody`, `without_reinits_as_before`, `nobody_joins_an_unusable_mutex`: what it is to make an
 //!   unusable mutex anew, and that nothing else does;
 //! - `only_locks_and_waits_wait`: the other calls return in time, whatever others do;
 //! - `events_leave_the_rest`: what an event may change;
@@ -55,11 +55,11 @@ pub use laws::{
     counters_count_up, deaths_are_told, events_apply, events_leave_the_rest, history_is_legal,
     leaves_and_declines_are_lone, lists_are_kept, lone_threads_come_to_rest, no_reaped_owner,
     no_sleeper_is_stranded, nobody_is_passed_by, nobody_joins_an_unusable_mutex,
-    only_locks_and_waits_wait, recounts_are_lone, reinits_free_the_mutex, renewals_begin_anew,
-    resleeps_and_repeats_are_lone, signals_are_right, sleeps_are_told, spares_are_lone,
-    trace_is_explained, undivided_calls_reply, waiters_are_kept, waits_release_consistent_mutexes,
-    wakes_are_right, walks_go_on, without_leaves_as_before, without_reinits_as_before,
-    without_renewals_as_before,
+    only_locks_and_waits_wait, recounts_are_lone, reinits_free_the_mutex, remakes_forget_nobody,
+    renewals_begin_anew, resleeps_and_repeats_are_lone, signals_are_right, sleeps_are_told,
+    spares_are_lone, trace_is_explained, undivided_calls_reply, waiters_are_kept,
+    waits_release_consistent_mutexes, wakes_are_right, walks_go_on, without_leaves_as_before,
+    without_reinits_as_before, without_renewals_as_before,
 };
 pub use note::{Facts, Note};
 pub use thread::{Stage, Thread};

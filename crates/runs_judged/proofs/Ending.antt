@@ -164,11 +164,11 @@ module _ (s : State) (t : ℕ) where
   renewed_rightly u (inl f) = absurd cc
   renewed_rightly u (inr h) = absurd h
 
-  reinited_rightly : (u j : ℕ) → ReapsRightly (reinited s u j)
-  reinited_rightly u j (inl f) = absurd cc
-  reinited_rightly u j (inr (inl f)) = absurd cc
-  reinited_rightly u j (inr (inr (inl f))) = absurd cc
-  reinited_rightly u j (inr (inr (inr h))) = absurd h
+  reinited_rightly : (u j w : ℕ) → ReapsRightly (reinited s u j w)
+  reinited_rightly u j w (inl f) = absurd cc
+  reinited_rightly u j w (inr (inl f)) = absurd cc
+  reinited_rightly u j w (inr (inr (inl f))) = absurd cc
+  reinited_rightly u j w (inr (inr (inr h))) = absurd h
 
   reslept_rightly : (u k : ℕ) → ReapsRightly (reslept s u k)
   reslept_rightly u k (inl f) = absurd cc
@@ -183,7 +183,8 @@ module _ (s : State) (t : ℕ) where
       (λ u first most asleep. left_rightly u)
       (λ u o p first most is awake trims h. let g = led o p (whole_led p (Trimmed false)) in absurd (step_reaps_none t u (mutex_of s.layout o) (decision u (mutex_of s.layout o) g.operation g.point) None [] [] g.returned h))
       (λ u first most gone. renewed_rightly u)
-      (λ u j may. reinited_rightly u j)
+      (λ u j may. reinited_rightly u j 0)
+      (λ u j may. reinited_rightly u j 0)
       (λ c may h. absurd h)
       (λ u m g sp h. absurd (step_reaps_none t u m (decision u m g.operation g.point) None [] [] g.returned h))
       (λ u c p first most is there. reslept_rightly u (condition_of c))

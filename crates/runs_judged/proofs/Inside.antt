@@ -84,11 +84,11 @@ module _ (s : State) where
   renewed_own u first most f (inl e) active = its_own u f first most (ap thread_of e)
   renewed_own u first most f (inr h) active = absurd h
 
-  reinited_own : (u j : ℕ) → 1 ≤ u → u ≤ s.layout.threads → OwnThreads (reinited s u j)
-  reinited_own u j first most f (inl e) active = its_own u f first most (ap thread_of e)
-  reinited_own u j first most f (inr (inl e)) active = its_own u f first most (ap thread_of e)
-  reinited_own u j first most f (inr (inr (inl e))) active = its_own u f first most (ap thread_of e)
-  reinited_own u j first most f (inr (inr (inr h))) active = absurd h
+  reinited_own : (u j w : ℕ) → 1 ≤ u → u ≤ s.layout.threads → OwnThreads (reinited s u j w)
+  reinited_own u j w first most f (inl e) active = its_own u f first most (ap thread_of e)
+  reinited_own u j w first most f (inr (inl e)) active = its_own u f first most (ap thread_of e)
+  reinited_own u j w first most f (inr (inr (inl e))) active = its_own u f first most (ap thread_of e)
+  reinited_own u j w first most f (inr (inr (inr h))) active = absurd h
 
   reslept_own : (u k : ℕ) → 1 ≤ u → u ≤ s.layout.threads → OwnThreads (reslept s u k)
   reslept_own u k first most f (inl e) active = let never : true ≡ false = ap is_passive e ∙ active in absurd cc
@@ -129,7 +129,8 @@ module _ (s : State) where
       (λ u first most asleep. left_own u)
       (λ u o p first most is awake trims. let g = led o p (whole_led p (Trimmed false)) in stepped_own u (mutex_of s.layout o) g.operation g.point None [] [] g.returned first most)
       (λ u first most gone. renewed_own u first most)
-      (λ u j may. reinited_own u j may.first may.last)
+      (λ u j may. reinited_own u j 0 may.remake.first may.remake.last)
+      (λ u j may. reinited_own u j 0 may.first may.last)
       (λ c may f h active. absurd h)
       (λ u m g sp. stepped_own u m g.operation g.point None [] [] g.returned sp.first sp.last)
       (λ u c p first most is there. reslept_own u (condition_of c) first most)
@@ -193,11 +194,11 @@ module _ (s : State) where
   renewed_inside u t c (inl e) = absurd cc
   renewed_inside u t c (inr h) = absurd h
 
-  reinited_inside : (u j : ℕ) → j < s.layout.mutexes → CallsInside (reinited s u j)
-  reinited_inside u j inside t c (inl e) = subst BeginsInside (same_begun u t (reinit_of j) c e) (inside, tt)
-  reinited_inside u j inside t c (inr (inl e)) = absurd cc
-  reinited_inside u j inside t c (inr (inr (inl e))) = absurd cc
-  reinited_inside u j inside t c (inr (inr (inr h))) = absurd h
+  reinited_inside : (u j w : ℕ) → j < s.layout.mutexes → CallsInside (reinited s u j w)
+  reinited_inside u j w inside t c (inl e) = subst BeginsInside (same_begun u t (reinit_of j) c e) (inside, tt)
+  reinited_inside u j w inside t c (inr (inl e)) = absurd cc
+  reinited_inside u j w inside t c (inr (inr (inl e))) = absurd cc
+  reinited_inside u j w inside t c (inr (inr (inr h))) = absurd h
 
   reslept_inside : (u k : ℕ) → CallsInside (reslept s u k)
   reslept_inside u k t c (inl e) = absurd cc
@@ -214,7 +215,8 @@ module _ (s : State) where
       (λ u first most asleep. left_inside u)
       (λ u o p first most at awake trims t c h. let g = led o p (whole_led p (Trimmed false)) in absurd (step_begins_none t u (mutex_of s.layout o) c (decision u (mutex_of s.layout o) g.operation g.point) None [] [] g.returned h))
       (λ u first most gone. renewed_inside u)
-      (λ u j may. reinited_inside u j may.inside)
+      (λ u j may. reinited_inside u j 0 may.remake.inside)
+      (λ u j may. reinited_inside u j 0 may.inside)
       (λ k may t c h. absurd h)
       (λ u m g sp t c h. absurd (step_begins_none t u m c (decision u m g.operation g.point) None [] [] g.returned h))
       (λ u b p first most at there. reslept_inside u (condition_of b))

@@ -281,11 +281,11 @@ module _ (l : Layout') (s : State) (ns : List Note) (m : Moment l s ns) (t : ℕ
   begun_awake u o idle false d (inl f) is = absurd cc
   begun_awake u o idle false d (inr h) is = absurd h
 
-  reinited_awake : (u j : ℕ) → (s.threads u).stage ≡ Idle → PointsAwake (reinited s u j)
-  reinited_awake u j idle d (inl f) is = absurd cc
-  reinited_awake u j idle d (inr (inl f)) is = awake_now u (idle_out u idle) (ap thread_of f ∙ is)
-  reinited_awake u j idle d (inr (inr (inl f))) is = absurd cc
-  reinited_awake u j idle d (inr (inr (inr h))) is = absurd h
+  reinited_awake : (u j w : ℕ) → (s.threads u).stage ≡ Idle → PointsAwake (reinited s u j w)
+  reinited_awake u j w idle d (inl f) is = absurd cc
+  reinited_awake u j w idle d (inr (inl f)) is = awake_now u (idle_out u idle) (ap thread_of f ∙ is)
+  reinited_awake u j w idle d (inr (inr (inl f))) is = absurd cc
+  reinited_awake u j w idle d (inr (inr (inr h))) is = absurd h
 
   stepped_awake : (u k : ℕ) (op : Operation) (x : Option Reply) (z : Option Queue) (us vs : List ℕ) (y : Option Reply) → is_asleep s u ≡ false → (d : Decision) → IsAmong (Point d) (facts_of (Stepped u k (decision u k op x) z us vs y)) → d.thread ≡ t → told_asleep t ns ≡ None
   stepped_awake u k op x z us vs y awake d h is = go x (of_step u k (decision u k op x) z us vs y (Point d) h)
@@ -316,7 +316,8 @@ module _ (l : Layout') (s : State) (ns : List Note) (m : Moment l s ns) (t : ℕ
       (λ u first most asleep d h is. left u d h)
       (λ u o p first most is awake trims. let g = led o p (whole_led p (Trimmed false)) in stepped_awake u (mutex_of s.layout o) g.operation g.point None [] [] g.returned awake)
       (λ u first most gone d h is. anew u d h)
-      (λ u j may. reinited_awake u j may.resting)
+      (λ u j may. reinited_awake u j 0 may.remake.resting)
+      (λ u j may. reinited_awake u j 0 may.resting)
       (λ c may d h is. absurd h)
       (λ u k g sp. subst PointsAwake (sym (spare_is s u k g sp m.kept)) (λ d h is. absurd h))
       (λ u c p first most is there d h same. again u (condition_of c) d h)

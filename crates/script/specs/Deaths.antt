@@ -17,6 +17,7 @@ death_by t (action.Leave u) = None
 death_by t (action.Decline u) = None
 death_by t (action.Renew u) = None
 death_by t (action.Reinit u m) = None
+death_by t (action.Remake u m) = None
 death_by t (action.Recount k) = None
 death_by t (action.Spare u) = None
 death_by t (action.Resleep u) = None

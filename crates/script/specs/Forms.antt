@@ -59,6 +59,7 @@ pub data Form : Type 0 where
   declines : List ℕ → Form
   renews : List ℕ → Form
   reinits : List ℕ → List ℕ → Form
+  remakes : List ℕ → List ℕ → Form
   recounts : List ℕ → Form
   spares : List ℕ → Form
   resleeps : List ℕ → Form
@@ -126,6 +127,10 @@ member_form w t p = if bytes_eq w (codes "thread") && is_name t && is_name p the
 abbrev pub reinit_form : List ℕ → List ℕ → List ℕ → Option Form
 reinit_form w t m = if bytes_eq w (codes "reinit") && is_name t && is_name m then Some (reinits t m) else None
 
+-- `remake T M`
+abbrev pub remake_form : List ℕ → List ℕ → List ℕ → Option Form
+remake_form w t m = if bytes_eq w (codes "remake") && is_name t && is_name m then Some (remakes t m) else None
+
 -- the first that there is
 abbrev pub or_else : Option Form → Option Form → Option Form
 or_else (Some f) o = Some f
@@ -175,7 +180,9 @@ words_form (w ∷ []) = phase_form w
 words_form (w ∷ a ∷ []) = name_form w a
 words_form (w ∷ a ∷ n ∷ []) = or_else (step_form w a n)
     (or_else (die_form w a n)
-    (or_else (mutexes_form w a n) (or_else (process_form w a n) (or_else (member_form w a n) (reinit_form w a n)))))
+    (or_else (mutexes_form w a n)
+    (or_else (process_form w a n)
+    (or_else (member_form w a n) (or_else (reinit_form w a n) (remake_form w a n))))))
 words_form (w ∷ t ∷ c ∷ m ∷ []) =
     or_else (locks_form w t c m) (or_else (cond_form w t c m) (option_and_then (calling_form w t) (call_form c m)))
 words_form _ = None
@@ -198,6 +205,7 @@ threads_have (leaves t) = false
 threads_have (declines t) = false
 threads_have (renews t) = false
 threads_have (reinits t m) = false
+threads_have (remakes t m) = false
 threads_have (recounts c) = false
 threads_have (spares t) = false
 threads_have (resleeps t) = false

@@ -15,7 +15,7 @@ use Rattle.condvar.specs.declared.op.Op.{Op}
 use Rattle.condvar.specs.declared.op.Op.TheVariants.{OnMutex, OnCondition}
 use Rattle.script.specs.Forms.{CallForm, lock, trylock, unlock, consistent, wait, signal, broadcast, Form, silent}
 use Rattle.script.specs.Forms.{process, thread, member, mutex, mutexes, cond, begins, steps, kills, kills_all}
-use Rattle.script.specs.Forms.{goes, leaves, declines, renews, reinits, recounts, spares, resleeps, repeats}
+use Rattle.script.specs.Forms.{goes, leaves, declines, renews, reinits, remakes, recounts, spares, resleeps, repeats}
 use Rattle.script.specs.Forms.{calls, locks, phase, dies, form_of}
 use Rattle.lines.specs.Numbers.{is_number}
 use Rattle.lines.specs.Lines.{lines_of, bad_line}
@@ -170,6 +170,9 @@ renewed s t = thread_of s t >>= λ i. Ok (action.Renew i)
 abbrev pub reinited : Scope → List ℕ → List ℕ → Result Action Fault
 reinited s t m = thread_of s t >>= λ i. place_of m s.mutexes >>= λ j. Ok (action.Reinit i j)
 
+abbrev pub remade : Scope → List ℕ → List ℕ → Result Action Fault
+remade s t m = thread_of s t >>= λ i. place_of m s.mutexes >>= λ j. Ok (action.Remake i j)
+
 abbrev pub recounted : Scope → List ℕ → Result Action Fault
 recounted s c = place_of c (condition_names s) >>= λ k. Ok (action.Recount k)
 
@@ -224,6 +227,7 @@ enter n s (leaves t) = asked n s (left s t)
 enter n s (declines t) = asked n s (declined s t)
 enter n s (renews t) = asked n s (renewed s t)
 enter n s (reinits t m) = asked n s (reinited s t m)
+enter n s (remakes t m) = asked n s (remade s t m)
 enter n s (recounts c) = asked n s (recounted s c)
 enter n s (spares t) = asked n s (wake_spared s t)
 enter n s (resleeps t) = asked n s (slept_again s t)

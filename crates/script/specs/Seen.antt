@@ -3,7 +3,7 @@ use Rattle.std.specs.Prelude.{ℕ, List, map, String, string_bytes}
 use Rattle.std.specs.declared.alloc.Global.{Global}
 use Rattle.script.specs.Forms.{CallForm, lock, trylock, unlock, consistent, wait, signal, broadcast, Form}
 use Rattle.script.specs.Forms.{process, thread, member, mutex, mutexes, cond, begins, steps, kills}
-use Rattle.script.specs.Forms.{kills_all, goes, leaves, declines, renews, reinits, recounts, spares, resleeps, repeats}
+use Rattle.script.specs.Forms.{kills_all, goes, leaves, declines, renews, reinits, remakes, recounts, spares, resleeps, repeats}
 use Rattle.script.specs.Forms.{calls, locks, phase, dies}
 use Rattle.script.specs.Scope.{Scope}
 use Rattle.script.specs.declared.draft.Draft.{Draft}
@@ -39,6 +39,7 @@ form_seen (line.Leave a) = leaves a.now
 form_seen (line.Decline a) = declines a.now
 form_seen (line.Renew a) = renews a.now
 form_seen (line.Reinit a m) = reinits a.now m.now
+form_seen (line.Remake a m) = remakes a.now m.now
 form_seen (line.Recount a) = recounts a.now
 form_seen (line.Spare a) = spares a.now
 form_seen (line.Resleep a) = resleeps a.now

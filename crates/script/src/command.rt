@@ -41,6 +41,8 @@ pub enum Action {
     Renew(Tid),
     /// One reinit event, of the mutex with this number.
     Reinit(Tid, u16),
+    /// One remake event, of the mutex with this number.
+    Remake(Tid, u16),
     /// One recount event, of the condition variable with this number.
     Recount(u16),
     /// One spare event.

@@ -3,7 +3,7 @@
 ghost use Rattle.std.specs.Prelude.{◌≡◌, true, false, option_map, option_and_then};
 ghost use Rattle.script.specs.Forms.{call_form, calling_form, cond_form, die_form, form_of, has, is_silent};
 ghost use Rattle.script.specs.Forms.{is_stem, locks_form, member_form, mutexes_form, name_form, or_else};
-ghost use Rattle.script.specs.Forms.{phase_form, process_form, reinit_form, run_has, step_form, threads_have};
+ghost use Rattle.script.specs.Forms.{phase_form, process_form, reinit_form, remake_form, run_has, step_form, threads_have};
 ghost use Rattle.lines.specs.Numbers.{is_number, within};
 ghost use Rattle.script.specs.Seen.{call_seen, form_seen};
 
@@ -46,6 +46,8 @@ pub enum Line<'a> {
     Renew(&'a str),
     /// A thread and a mutex.
     Reinit(&'a str, &'a str),
+    /// A thread and a mutex.
+    Remake(&'a str, &'a str),
     /// A condition variable.
     Recount(&'a str),
     Spare(&'a str),
@@ -153,6 +155,15 @@ fn reinit<'a>(keyword: &'a str, thread: &'a str, mutex: &'a str) -> Option<Line<
     None
 }
 
+fn remake<'a>(keyword: &'a str, thread: &'a str, mutex: &'a str) -> Option<Line<'a>>
+    ensures { option_map form_seen result ≡ remake_form keyword.now thread.now mutex.now }
+{
+    if keyword == "remake" && is_word_name(thread) && is_word_name(mutex) {
+        return Some(Line::Remake(thread, mutex));
+    }
+    None
+}
+
 fn locks<'a>(keyword: &'a str, thread: &'a str, mutex: &'a str, number: &'a str) -> Option<Line<'a>>
     ensures { option_map form_seen result
         ≡ locks_form keyword.now thread.now mutex.now number.now }
@@ -220,7 +231,8 @@ fn of_three<'a>(keyword: &'a str, second: &'a str, third: &'a str) -> Option<Lin
         (or_else (die_form keyword.now second.now third.now)
         (or_else (mutexes_form keyword.now second.now third.now)
         (or_else (process_form keyword.now second.now third.now)
-        (or_else (member_form keyword.now second.now third.now) (reinit_form keyword.now second.now third.now))))) }
+        (or_else (member_form keyword.now second.now third.now)
+        (or_else (reinit_form keyword.now second.now third.now) (remake_form keyword.now second.now third.now)))))) }
 {
     if let Some(line) = step(keyword, second, third) {
         return Some(line);
@@ -234,9 +246,12 @@ fn of_three<'a>(keyword: &'a str, second: &'a str, third: &'a str) -> Option<Lin
     if let Some(line) = process(keyword, second, third) {
         return Some(line);
     }
-    match member(keyword, second, third) {
+    if let Some(line) = member(keyword, second, third) {
+        return Some(line);
+    }
+    match reinit(keyword, second, third) {
         Some(line) => Some(line),
-        None => reinit(keyword, second, third),
+        None => remake(keyword, second, third),
     }
 }
 
@@ -272,7 +287,7 @@ fn is_of_threads(line: &Line<'_>) -> bool
         Line::KillAll(_) | Line::Go(_) | Line::Locks(..) => false,
         Line::Leave(_) | Line::Decline(_) => false,
         Line::Renew(_) => false,
-        Line::Reinit(..) => false,
+        Line::Reinit(..) | Line::Remake(..) => false,
         Line::Recount(_) | Line::Spare(_) => false,
         Line::Resleep(_) | Line::Repeat(_) => false,
     }

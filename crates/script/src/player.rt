@@ -146,6 +146,9 @@ fn play_action(machine: &mut Machine, notes: &mut Vec<Note>, action: Action) -> 
         Action::Reinit(thread, mutex) => {
             play_event(machine, notes, Event::Reinit(thread, mutex))
         }
+        Action::Remake(thread, mutex) => {
+            play_event(machine, notes, Event::Remake(thread, mutex))
+        }
         Action::Recount(condition) => play_event(machine, notes, Event::Recount(condition)),
         Action::Spare(thread) => play_event(machine, notes, Event::Spare(thread)),
         Action::Resleep(thread) => play_event(machine, notes, Event::Resleep(thread)),

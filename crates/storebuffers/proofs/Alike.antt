@@ -10,7 +10,7 @@ use Rattle.stepprograms.specs.declared.access.Answer.{Answer}
 use Rattle.stepprograms.specs.declared.access.Answer.TheVariants.{Fault, Trimmed, Count}
 use Rattle.stepprograms.specs.Accesses.{word_among, answer_among, is_nobody, sleeps_at}
 use Rattle.posixmutex.specs.declared.point.Operation.TheVariants as operation
-use Rattle.memorymap.specs.Layouts.{head_place, head_word, cell_place, counter_place}
+use Rattle.memorymap.specs.Layouts.{head_place, head_word, entry_place, cell_place, counter_place, address_in}
 use Rattle.facts.specs.declared.fact.Queue.{Queue}
 use Rattle.facts.specs.declared.fact.Queue.TheVariants.{Mutex, Condition}
 use Rattle.mutex.specs.Whole.{whole_access, whole_led}
@@ -22,13 +22,13 @@ use Rattle.condvar.specs.Whole.{cond_access, cond_led}
 use Rattle.exitwalk.specs.Standings as walks
 use Rattle.exitwalk.specs.Walks as exit
 use Rattle.protocol.specs.declared.event.Event.{Event}
-use Rattle.protocol.specs.declared.event.Event.TheVariants.{Begin, Step, Kill, Leave, Decline, Renew, Reinit, Recount, Spare, Resleep, Repeat}
+use Rattle.protocol.specs.declared.event.Event.TheVariants.{Begin, Step, Kill, Leave, Decline, Renew, Reinit, Remake, Recount, Spare, Resleep, Repeat}
 use Rattle.protocol.specs.declared.thread.Stage.{Stage}
 use Rattle.protocol.specs.declared.thread.Stage.TheVariants.{Idle, Calling, AtCondition, Dying, Reaped}
 use Rattle.protocol.specs.declared.note.Note.TheVariants.{Stepped, Walked}
 use Rattle.protocol.specs.Machine.{State, After, put, place_met, is_met, words_after, answer_of, joined, moved_by, woken_by, queue_after, happens, nothing, begun, first_stage, went, walked}
 use Rattle.protocol.specs.Machine.{Led, led, led_at, held_after, decision, slept_in, stepped, declined, spared, killed, departed, renewed, reinited, has_thread, is_alive, is_asleep, is_gone, is_trim, sleeps}
-use Rattle.protocol.specs.Machine.{may_begin, may_reinit, is_idle, sleepers, death_at, told_of, has_ended, stage_walked}
+use Rattle.protocol.specs.Machine.{may_begin, may_reinit, may_remake, waiters_of, is_first, is_idle, sleepers, death_at, told_of, has_ended, stage_walked}
 use Rattle.protocol.specs.Machine.{may_recount, recounted, another_answers, answers, wakes_one, wakes_next, sparing, stands_in, reslept, resleeping, is_mark, repeated, repeating}
 use Rattle.protocol.proofs.Puts.{by_put, put-same, put-other}
 use Rattle.protocol.proofs.Kept.{Kept}
@@ -54,6 +54,10 @@ pub record Alike (s : State) (t : ℕ) (v : ℕ → ℕ) (y : Way) (a b : After)
 -- the words that thread t may meet are as the machine has them
 abbrev pub Views : State → ℕ → (ℕ → ℕ) → Type 0
 Views s t v = (p : ℕ) → IsMet s t p → v p ≡ s.words p
+
+-- what the dead had pending is as the machine has it
+abbrev pub Pending_as : State → (ℕ → ℕ) → Type 0
+Pending_as s v = (u : ℕ) → 1 ≤ u → u ≤ s.layout.threads → is_alive (s.threads u).stage ≡ false → v (head_place u + 2) ≡ s.words (head_place u + 2)
 
 -- ---- one access
 
@@ -240,27 +244,37 @@ module _ (s : State) (v : ℕ → ℕ) where
   recounted_alike : (k : ℕ) → Comes s v (Recount k) (recounted (with_words s v) k) (recounted s k)
   recounted_alike k = record { note = refl; rest = refl; does = shared_put 0 (counter_place s.layout k) 0 (inr (k, refl)) }
 
-  -- who answers for a mutex is no matter of words
-  another_same : (t m n : ℕ) → another_answers (with_words s v) t m n ≡ another_answers s t m n
-  another_same t m zero = refl
-  another_same t m (suc n) = ap (λ (b : Bool). (not (suc n == t) && not (is_asleep s (suc n)) && answers s.layout m (s.threads (suc n)).stage) || b) (another_same t m n)
+  -- who answers for a mutex is no matter of words, but of what the dead had pending
+  answers_same : (m u : ℕ) → 1 ≤ u → u ≤ s.layout.threads → Pending_as s v → (g : Stage) → (s.threads u).stage ≡ g → answers s.layout v m u g ≡ answers s.layout s.words m u g
+  answers_same m u first last pending (Calling o p) is = refl
+  answers_same m u first last pending (AtCondition c p) is = refl
+  answers_same m u first last pending (Dying w) is = ap (λ (x : ℕ). is_first w.row && (x == address_in s.layout u (entry_place s.layout m))) (pending u first last (ap is_alive is))
+  answers_same m u first last pending Idle is = refl
+  answers_same m u first last pending Reaped is = refl
 
-  sparing_alike : (t held : ℕ) (g : Stage) → Comes s v (Spare t) (sparing (with_words s v) t held g) (sparing s t held g)
-  sparing_alike t held (Calling o p) =
+  another_same : (t m n : ℕ) → n ≤ s.layout.threads → Pending_as s v → another_answers (with_words s v) t m n ≡ another_answers s t m n
+  another_same t m zero few pending = refl
+  another_same t m (suc n) few pending =
+      let here : answers s.layout v m (suc n) (s.threads (suc n)).stage ≡ answers s.layout s.words m (suc n) (s.threads (suc n)).stage = answers_same m (suc n) (omega arith) few pending (s.threads (suc n)).stage refl in
+      let later : another_answers (with_words s v) t m n ≡ another_answers s t m n = another_same t m n (omega arith) pending in
+      λ i. (not (suc n == t) && not (is_asleep s (suc n)) && here i) || later i
+
+  sparing_alike : Pending_as s v → (t held : ℕ) (g : Stage) → Comes s v (Spare t) (sparing (with_words s v) t held g) (sparing s t held g)
+  sparing_alike pending t held (Calling o p) =
       chosen_alike (Spare t) (wakes_one p.phase && another_answers (with_words s v) t (mutex_of s.layout o) s.layout.threads) (wakes_one p.phase && another_answers s t (mutex_of s.layout o) s.layout.threads)
-      (ap (λ (b : Bool). wakes_one p.phase && b) (another_same t (mutex_of s.layout o) s.layout.threads))
+      (ap (λ (b : Bool). wakes_one p.phase && b) (another_same t (mutex_of s.layout o) s.layout.threads (omega arith) pending))
       (spared (with_words s v) t held (mutex_of s.layout o) (led o p (whole_led p (Count 1))))
       (spared s t held (mutex_of s.layout o) (led o p (whole_led p (Count 1))))
       (λ on. record { note = refl; rest = refl; does = λ p. refl })
-  sparing_alike t held (AtCondition c p) =
+  sparing_alike pending t held (AtCondition c p) =
       chosen_alike (Spare t) (wakes_next p.phase && another_answers (with_words s v) t (mutex_of s.layout (OnCondition c)) s.layout.threads) (wakes_next p.phase && another_answers s t (mutex_of s.layout (OnCondition c)) s.layout.threads)
-      (ap (λ (b : Bool). wakes_next p.phase && b) (another_same t (mutex_of s.layout (OnCondition c)) s.layout.threads))
+      (ap (λ (b : Bool). wakes_next p.phase && b) (another_same t (mutex_of s.layout (OnCondition c)) s.layout.threads (omega arith) pending))
       (spared (with_words s v) t held (mutex_of s.layout (OnCondition c)) (led_at c p (cond_led p (Count 1))))
       (spared s t held (mutex_of s.layout (OnCondition c)) (led_at c p (cond_led p (Count 1))))
       (λ on. record { note = refl; rest = refl; does = λ p. refl })
-  sparing_alike t held Idle = record { note = refl; rest = refl; does = λ p. refl }
-  sparing_alike t held (Dying w) = record { note = refl; rest = refl; does = λ p. refl }
-  sparing_alike t held Reaped = record { note = refl; rest = refl; does = λ p. refl }
+  sparing_alike pending t held Idle = record { note = refl; rest = refl; does = λ p. refl }
+  sparing_alike pending t held (Dying w) = record { note = refl; rest = refl; does = λ p. refl }
+  sparing_alike pending t held Reaped = record { note = refl; rest = refl; does = λ p. refl }
 
   resleeping_alike : (t : ℕ) (g : Stage) → Comes s v (Resleep t) (resleeping (with_words s v) t g) (resleeping s t g)
   resleeping_alike t (Calling (OnCondition c) p) =
@@ -349,26 +363,41 @@ module _ (s : State) (v : ℕ → ℕ) where
     renewed_alike = record { note = refl; rest = refl; does = (pos, known, head_is_stored, head_is_own) }
 
   module _ (t m : ℕ) (cell : m < s.layout.mutexes → v (cell_place s.layout m) ≡ s.words (cell_place s.layout m)) where
-    -- its test looks at the cell
-    same_may : (b : Bool) → nat_lt m s.layout.mutexes ≡ b → may_reinit (with_words s v) t m ≡ may_reinit s t m
-    same_may true e = ap (λ (x : ℕ). has_thread s t && is_idle (s.threads t).stage && nat_lt m s.layout.mutexes && (fields_of x).unusable && is_nobody (sleepers s m)) (cell (grind (arith, nat_tests)))
-    same_may false e = grind (arith)
+    -- their tests look at the cell
+    same_remake : (b : Bool) → nat_lt m s.layout.mutexes ≡ b → may_remake (with_words s v) t m ≡ may_remake s t m
+    same_remake true e = ap (λ (x : ℕ). has_thread s t && is_idle (s.threads t).stage && nat_lt m s.layout.mutexes && (fields_of x).unusable) (cell (grind (arith, nat_tests)))
+    same_remake false e = grind (arith)
 
-    reinited_alike : may_reinit s t m ≡ true → Comes s v (Reinit t m) (reinited (with_words s v) t m) (reinited s t m)
-    reinited_alike e =
-        let inside : m < s.layout.mutexes = grind (arith, nat_tests) in
-        record { note = refl; rest = refl; does = shared_put t (cell_place s.layout m) 0 (inl (m, inside, refl)) }
+    same_reinit : may_reinit (with_words s v) t m ≡ may_reinit s t m
+    same_reinit = ap (λ (b : Bool). b && is_nobody (sleepers s m)) (same_remake (nat_lt m s.layout.mutexes) refl)
+
+    remake_inside : may_remake s t m ≡ true → m < s.layout.mutexes
+    remake_inside e = grind (arith, nat_tests)
+
+    reinit_inside : may_reinit s t m ≡ true → m < s.layout.mutexes
+    reinit_inside e = grind (arith, nat_tests)
 
     reinit_alike : Comes s v (Reinit t m) (happens (with_words s v) (Reinit t m)) (happens s (Reinit t m))
-    reinit_alike = chosen_alike (Reinit t m) (may_reinit (with_words s v) t m) (may_reinit s t m) (same_may (nat_lt m s.layout.mutexes) refl) (reinited (with_words s v) t m) (reinited s t m) reinited_alike
+    reinit_alike = chosen_alike (Reinit t m) (may_reinit (with_words s v) t m) (may_reinit s t m) same_reinit (reinited (with_words s v) t m 0) (reinited s t m 0)
+        (λ e. record { note = refl; rest = refl; does = shared_put t (cell_place s.layout m) 0 (inl (m, reinit_inside e, refl)) })
+
+    remake_alike : Comes s v (Remake t m) (happens (with_words s v) (Remake t m)) (happens s (Remake t m))
+    remake_alike = chosen_alike (Remake t m) (may_remake (with_words s v) t m) (may_remake s t m) (same_remake (nat_lt m s.layout.mutexes) refl) (reinited (with_words s v) t m (waiters_of (v at))) (reinited s t m (waiters_of (s.words at))) alike
+      where
+        at : ℕ
+        at = cell_place s.layout m
+
+        alike : may_remake s t m ≡ true → Comes s v (Remake t m) (reinited (with_words s v) t m (waiters_of (v at))) (reinited s t m (waiters_of (s.words at)))
+        alike e = subst (λ (x : ℕ). Comes s v (Remake t m) (reinited (with_words s v) t m (waiters_of x)) (reinited s t m (waiters_of (s.words at)))) (sym (cell (remake_inside e)))
+            (record { note = refl; rest = refl; does = shared_put t at (waiters_of (s.words at)) (inl (m, remake_inside e, refl)) })
 
 -- each event, on its thread's view
-pub events_alike : (s : State) (v : ℕ → ℕ) (e : Event) → Kept s → Views s (caller e) v → ((m : ℕ) → m < s.layout.mutexes → v (cell_place s.layout m) ≡ s.words (cell_place s.layout m))
+pub events_alike : (s : State) (v : ℕ → ℕ) (e : Event) → Kept s → Views s (caller e) v → ((m : ℕ) → m < s.layout.mutexes → v (cell_place s.layout m) ≡ s.words (cell_place s.layout m)) → Pending_as s v
     → Comes s v e (happens (with_words s v) e) (happens s e)
-events_alike s v (Begin t o) inv views cells =
+events_alike s v (Begin t o) inv views cells pending =
     let first = first_stage s.layout t (s.threads t).held o in
     chosen s v (Begin t o) (may_begin s t o) (begun (with_words s v) t o first) (begun s t o first) (λ on. begun_alike s v t o first)
-events_alike s v (Step t) inv views cells = go (has_thread s t) refl
+events_alike s v (Step t) inv views cells pending = go (has_thread s t) refl
   where
     go : (c : Bool) → has_thread s t ≡ c
         → Comes s v (Step t) (if c then stepped (with_words s v) t (s.threads t).held (s.threads t).stage else nothing (with_words s v)) (if c then stepped s t (s.threads t).held (s.threads t).stage else nothing s)
@@ -377,27 +406,28 @@ events_alike s v (Step t) inv views cells = go (has_thread s t) refl
         let known : t ≤ s.layout.threads = grind (arith, nat_tests) in
         stepped_alike s v t inv pos known views (s.threads t).held (s.threads t).stage refl
     go false e = record { note = refl; rest = refl; does = λ p. refl }
-events_alike s v (Kill t) inv views cells =
+events_alike s v (Kill t) inv views cells pending =
     chosen s v (Kill t) (has_thread s t && is_alive (s.threads t).stage) (killed (with_words s v) t) (killed s t)
     (λ on. let there = known_thread s t (is_alive (s.threads t).stage) on in killed_alike s v t there.0 there.1 views)
-events_alike s v (Leave t) inv views cells =
+events_alike s v (Leave t) inv views cells pending =
     chosen s v (Leave t) (has_thread s t && is_asleep s t) (departed (with_words s v) t) (departed s t) (λ on. record { note = refl; rest = refl; does = λ p. refl })
-events_alike s v (Decline t) inv views cells =
+events_alike s v (Decline t) inv views cells pending =
     chosen s v (Decline t) (has_thread s t) (declined (with_words s v) t (s.threads t).held (s.threads t).stage) (declined s t (s.threads t).held (s.threads t).stage)
     (λ on. declined_alike s v t (s.threads t).held (s.threads t).stage)
-events_alike s v (Renew t) inv views cells =
+events_alike s v (Renew t) inv views cells pending =
     chosen s v (Renew t) (has_thread s t && is_gone (s.threads t).stage) (renewed (with_words s v) t) (renewed s t)
     (λ on. let there = known_thread s t (is_gone (s.threads t).stage) on in renewed_alike s v t there.0 there.1)
-events_alike s v (Reinit t m) inv views cells = reinit_alike s v t m (cells m)
-events_alike s v (Recount k) inv views cells =
+events_alike s v (Reinit t m) inv views cells pending = reinit_alike s v t m (cells m)
+events_alike s v (Remake t m) inv views cells pending = remake_alike s v t m (cells m)
+events_alike s v (Recount k) inv views cells pending =
     chosen s v (Recount k) (may_recount s k) (recounted (with_words s v) k) (recounted s k) (λ on. recounted_alike s v k)
-events_alike s v (Spare t) inv views cells =
+events_alike s v (Spare t) inv views cells pending =
     chosen s v (Spare t) (has_thread s t) (sparing (with_words s v) t (s.threads t).held (s.threads t).stage) (sparing s t (s.threads t).held (s.threads t).stage)
-    (λ on. sparing_alike s v t (s.threads t).held (s.threads t).stage)
-events_alike s v (Resleep t) inv views cells =
+    (λ on. sparing_alike s v pending t (s.threads t).held (s.threads t).stage)
+events_alike s v (Resleep t) inv views cells pending =
     chosen s v (Resleep t) (has_thread s t) (resleeping (with_words s v) t (s.threads t).stage) (resleeping s t (s.threads t).stage)
     (λ on. resleeping_alike s v t (s.threads t).stage)
-events_alike s v (Repeat t) inv views cells = go (has_thread s t) refl
+events_alike s v (Repeat t) inv views cells pending = go (has_thread s t) refl
   where
     go : (c : Bool) → has_thread s t ≡ c
         → Comes s v (Repeat t) (if c then repeating (with_words s v) t (s.threads t).stage else nothing (with_words s v)) (if c then repeating s t (s.threads t).stage else nothing s)

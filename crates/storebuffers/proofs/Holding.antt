@@ -6,7 +6,7 @@ use mathlib.Core.Path.{fun_ext}
 use Rattle.lockword.specs.Cells.{fields_of}
 use Rattle.posixmutex.specs.declared.object.Object.{Object}
 use Rattle.posixmutex.specs.Objects.{object_of, fresh}
-use Rattle.memorymap.specs.Layouts.{Layout', IsLayout, entry_place, cell_place, counter_place}
+use Rattle.memorymap.specs.Layouts.{Layout', IsLayout, head_place, entry_place, cell_place, counter_place}
 use Rattle.protocol.specs.declared.event.Event.{Event}
 use Rattle.protocol.specs.declared.note.Note.{Note}
 use Rattle.protocol.specs.declared.note.Note.TheVariants.{Nothing}
@@ -28,7 +28,7 @@ use Rattle.storebuffers.proofs.Stores.{stored-out, stored-same, stored-on, waits
 use Rattle.storebuffers.proofs.Owning.{IsOwn, own_is_its, own_apart, own_no_cell, own_no_counter, shared_apart, met_apart}
 use Rattle.storebuffers.proofs.Dying.{IsStill, others_stand, dies_so}
 use Rattle.storebuffers.proofs.Staying.{IsWritten, owner_stays, own_stays}
-use Rattle.storebuffers.proofs.Alike.{Does, Views, Comes, events_alike}
+use Rattle.storebuffers.proofs.Alike.{Does, Views, Pending_as, Comes, events_alike}
 
 -- the machine in state s, but with these words in memory, and these stores that wait
 abbrev pub buffered : (ℕ → ℕ) → (ℕ → List Store) → State → Buffered
@@ -51,6 +51,14 @@ module _ (w : ℕ → ℕ) (waits : ℕ → List Store) (s : State) (h : Holds w
 
   pub cells : (t m : ℕ) → m < s.layout.mutexes → stored (waits t) w (cell_place s.layout m) ≡ s.words (cell_place s.layout m)
   cells t m inside = h.sees t (cell_place s.layout m) (λ u apart there. let x = h.own u _ there in own_no_cell s u _ m x.0 x.1 inside x.2 refl)
+
+  -- nothing waits for the dead, and what they had pending is nobody else's
+  pub pendings : (t : ℕ) → Pending_as s (stored (waits t) w)
+  pendings t u first last dead = h.sees t (head_place u + 2) (λ y apart there. go y there (same_or_not y u))
+    where
+      go : (y : ℕ) → Waits (head_place u + 2) (waits y) → (y ≡ u) ⊎ (y ≢ u) → ⊥
+      go y there (inl is) = subst (Waits (head_place u + 2)) (ap waits is ∙ h.dead u dead) there
+      go y there (inr other) = let x = h.own y (head_place u + 2) there in own_apart s y u (head_place u + 2) x.0 x.1 first last other x.2 (inl (inr (inl refl)))
 
   -- ---- one store reaches memory
 
@@ -328,7 +336,7 @@ module _ (w : ℕ → ℕ) (waits : ℕ → List Store) (s : State) (e : Event) 
   its_way = way s e (happens s e).note
 
   alike : Comes s sees e on_view (happens s e)
-  alike = events_alike s sees e h.kept (views w waits s h who) (cells w waits s h who)
+  alike = events_alike s sees e h.kept (views w waits s h who) (cells w waits s h who) (pendings w waits s h who)
 
   left_is : (y : Way) → left_by (buffered w waits s) e on_view y ≡ buffered (words_by y w on_view.state.words) (waits_by y who waits) (happens s e).state
   left_is Keeps = ap (λ (z : State). buffered w waits z) alike.rest

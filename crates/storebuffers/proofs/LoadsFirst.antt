@@ -136,10 +136,10 @@ module _ (s : State) (e : Event) (inv : Kept s) where
   its = way s e (happens s e).note
 
   word_stays : (p : ℕ) → 1 ≤ caller e → caller e ≤ s.layout.threads → IsOwn s (caller e) p → Elsewhere p its → (happens s e).state.words p ≡ s.words p
-  word_stays p pos known own far = word_by s (caller e) p its _ _ (events_alike s s.words e inv (λ q met. refl) (λ m inside. refl)).does pos known own far
+  word_stays p pos known own far = word_by s (caller e) p its _ _ (events_alike s s.words e inv (λ q met. refl) (λ m inside. refl) (λ u first last dead. refl)).does pos known own far
 
   cell_stays : (m : ℕ) → IsUnwritten its → m < s.layout.mutexes → (happens s e).state.words (cell_place s.layout m) ≡ s.words (cell_place s.layout m)
-  cell_stays m stays inside = cell_by s (caller e) m its _ _ (events_alike s s.words e inv (λ q met. refl) (λ k below. refl)).does stays inside
+  cell_stays m stays inside = cell_by s (caller e) m its _ _ (events_alike s s.words e inv (λ q met. refl) (λ k below. refl) (λ u first last dead. refl)).does stays inside
 
   own_stays : (p : ℕ) → IsUnwritten its → IsOwn s (caller e) p → IsOwn (happens s e).state (caller e) p
   own_stays p stays own = own_moves s (happens s e).state (caller e) p (sound s e inv).same

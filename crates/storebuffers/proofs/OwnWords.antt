@@ -37,7 +37,7 @@ left_alone s t u p Flushes a b (at, met, same, elsewhere) apart first most own =
 module _ (u p : ℕ) (first : 1 ≤ u) where
   one_stays : (s : State) (e : Event) → Kept s → u ≤ s.layout.threads → caller e ≢ u → IsOwn s u p → ((happens s e).state.words p ≡ s.words p) × IsOwn (happens s e).state u p
   one_stays s e inv most apart own = (
-    left_alone s (caller e) u p (way s e (happens s e).note) _ _ (events_alike s s.words e inv (λ q met. refl) (λ m inside. refl)).does apart first most own,
+    left_alone s (caller e) u p (way s e (happens s e).note) _ _ (events_alike s s.words e inv (λ q met. refl) (λ m inside. refl) (λ u first last dead. refl)).does apart first most own,
     own_moves s (happens s e).state u p (sound s e inv).same (λ k owns. owner_stays s e inv u k apart owns) own,
   )
 

@@ -12,7 +12,10 @@ use Rattle.protocol.proofs.Stepping.{Stepping}
 use Rattle.protocol.proofs.Events.{by_event}
 use Rattle.protocol.proofs.Working.{by_step}
 use Rattle.protocol.proofs.Renewals.{renewed_seen}
-use Rattle.protocol.proofs.Reinits.{unowned, reinited_far}
+use Rattle.protocol.specs.Machine.{reinited}
+use Rattle.memorymap.specs.Layouts.{cell_place}
+use Rattle.protocol.specs.Reinits.{MayRemake}
+use Rattle.protocol.proofs.Reinits.{Says_nothing, waiters_say_nothing, unowned, reinited_far}
 use Rattle.protocol.proofs.Recounting.{recounted_seen}
 use Rattle.storebuffers.proofs.Stores.{same_or_not}
 use Rattle.std.proofs.Common.{ℕ, ◌≤◌, true, refl, subst, arith}
@@ -80,6 +83,13 @@ by_refusal_of : (s : State) (t : ℕ) (o : Op) (r : Result Stage Reply) (u k : �
 by_refusal_of s t o (Ok g) u k own = own
 by_refusal_of s t o (Err x) u k own = own
 
+-- a mutex that is made anew was nobody's
+anew_stays : (s : State) → Kept s → (t m w : ℕ) → Says_nothing w → MayRemake s t m → (k u : ℕ) → (seen s k).owner ≡ Some u → (seen (reinited s t m w).state k).owner ≡ Some u
+anew_stays s inv t m w says may k u own = ⊎_elim
+    (λ is. absurd (cc (sym own ∙ ap (λ (j : ℕ). (seen s j).owner) is ∙ unowned s t m w says may inv)))
+    (λ other. ap (λ (o : Object). o.owner) (reinited_far s t m w says may k other) ∙ own)
+    (same_or_not k m)
+
 pub owner_stays : (s : State) (e : Event) → Kept s → OwnerStays s e (happens s e)
 owner_stays s e inv = by_event s (OwnerStays s)
     (λ e u k apart own. own)
@@ -89,10 +99,8 @@ owner_stays s e inv = by_event s (OwnerStays s)
     (λ t pos known asleep u k apart own. own)
     (λ t o p pos known is awake trims u k apart own. own)
     (λ t pos known is u k apart own. ap (λ (o : Object). o.owner) (renewed_seen s t pos known k) ∙ own)
-    (λ t m may u k apart own. ⊎_elim
-    (λ is. absurd (cc (sym own ∙ ap (λ (j : ℕ). (seen s j).owner) is ∙ unowned s t m may inv)))
-    (λ other. ap (λ (o : Object). o.owner) (reinited_far s t m may k other) ∙ own)
-    (same_or_not k m))
+    (λ t m may u k apart own. anew_stays s inv t m 0 refl may.remake k _ own)
+    (λ t m may u k apart own. anew_stays s inv t m _ (waiters_say_nothing (s.words (cell_place s.layout m))) may k _ own)
     (λ c may u k apart own. ap (λ (o : Object). o.owner) (recounted_seen s c k) ∙ own)
     (λ t m g is u k apart own. own)
     (λ t c p pos known is stands u k apart own. own)
@@ -197,10 +205,8 @@ own_stays s e inv = by_event s (OwnStays s)
     (λ t pos known asleep written. absurd written)
     (λ t o p pos known is awake trims written. absurd written)
     (λ t pos known is written. absurd written)
-    (λ t m may written alive k own. ⊎_elim
-    (λ is. absurd (cc (sym own ∙ ap (λ (j : ℕ). (seen s j).owner) is ∙ unowned s t m may inv)))
-    (λ other. ap (λ (o : Object). o.owner) (reinited_far s t m may k other) ∙ own)
-    (same_or_not k m))
+    (λ t m may written alive k own. anew_stays s inv t m 0 refl may.remake k _ own)
+    (λ t m may written alive k own. anew_stays s inv t m _ (waiters_say_nothing (s.words (cell_place s.layout m))) may k _ own)
     (λ c may written alive k own. ap (λ (o : Object). o.owner) (recounted_seen s c k) ∙ own)
     (λ t m g is written. absurd written)
     (λ t c p pos known is stands written. absurd written)

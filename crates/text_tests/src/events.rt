@@ -124,6 +124,7 @@ static OF_TWO_THREADS: Commands = Commands {
         ("spare a\nresleep a\nrepeat a\n", 3),
         ("kill a\ngo a\nrenew a\nrenew a\ncall a lock m0\n", 15),
         ("reinit a m0\ncall a lock m0\nreinit a m0\n", 11),
+        ("remake a m0\nremake b m2\n", 2),
         (
             "call a lock m0\nkill a\ngo a\ncall b lock m0\ncall b unlock m0\nreinit b m0\ncall b lock m0\n",
             43,

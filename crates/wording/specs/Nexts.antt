@@ -65,6 +65,7 @@ of_run w = if bytes_eq w (codes "begin") then Some NameCall
     else (if bytes_eq w (codes "killall") then Some Name
     else (if bytes_eq w (codes "renew") then Some Name
     else (if bytes_eq w (codes "reinit") then Some NameName
+    else (if bytes_eq w (codes "remake") then Some NameName
     else (if bytes_eq w (codes "leave") then Some Name
     else (if bytes_eq w (codes "decline") then Some Name
     else (if bytes_eq w (codes "recount") then Some Name
@@ -72,7 +73,7 @@ of_run w = if bytes_eq w (codes "begin") then Some NameCall
     else (if bytes_eq w (codes "resleep") then Some Name
     else (if bytes_eq w (codes "repeat") then Some Name
     else (if bytes_eq w (codes "go") then Some Name
-    else (if bytes_eq w (codes "locks") then Some NameNameNumber else None)))))))))))))
+    else (if bytes_eq w (codes "locks") then Some NameNameNumber else None))))))))))))))
 
 -- that only scripts for real threads have
 abbrev pub of_threads : List ℕ → Option Next

@@ -59,8 +59,8 @@ fn keywords(mode: Mode) -> &'static [&'static str]
     match mode {
         Mode::Run => &[
             "process", "thread", "mutex", "mutexes", "cond", "call", "begin", "step", "kill",
-            "killall", "renew", "reinit", "leave", "decline", "recount", "spare", "resleep",
-            "repeat", "go", "locks",
+            "killall", "renew", "reinit", "remake", "leave", "decline", "recount", "spare",
+            "resleep", "repeat", "go", "locks",
         ],
         Mode::Threads => &[
             "process", "thread", "mutex", "mutexes", "cond", "call", "phase", "die",

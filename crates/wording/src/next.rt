@@ -165,7 +165,7 @@ fn of_run(word: &str) -> Option<Next>
         "begin" => Some(Next::NameCall),
         "step" => Some(Next::NameNumber),
         "kill" | "killall" | "renew" => Some(Next::Name),
-        "reinit" => Some(Next::NameName),
+        "reinit" | "remake" => Some(Next::NameName),
         "leave" | "decline" | "go" => Some(Next::Name),
         "recount" | "spare" => Some(Next::Name),
         "resleep" | "repeat" => Some(Next::Name),

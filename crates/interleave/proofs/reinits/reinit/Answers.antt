@@ -22,7 +22,7 @@ cell-cell-requires c = is_inside c.is_unusable.result c.args.mutex c.args.layout
 
 pub returns-clause-state : goal.returns-clause-state
 returns-clause-state c =
-    cell_stored c.args.layout.now c.args.memory.now c.store.new.self c.args.kernel.now c.args.threads.now.items c.args.thread c.args.mutex c.cell-cell.result c.requires.words
+    cell_stored c.args.layout.now c.args.memory.now c.store.new.self c.args.kernel.now c.args.threads.now.items c.args.thread c.args.mutex c.cell-cell.result 0 c.requires.words
     (is_inside c.is_unusable.result c.args.mutex c.args.layout.now.mutexes _ (c.is_unusable.ensures c.args.kernel.now c.args.threads.now.items) c.if-not-is_unusable.false) c.cell-cell.ensures.value c.store.ensures.words
     ∙ sym (ap (λ (a : After). a.state) (makes (state_at c.args.layout.now c.args.memory.now c.args.kernel.now c.args.threads.now.items) c.args.thread c.args.mutex c.is_resting.result c.is_unusable.result c.sleepers.result (c.is_resting.ensures c.args.memory.now c.args.kernel.now) c.if-not-is_resting.false (c.is_unusable.ensures c.args.kernel.now c.args.threads.now.items) c.if-not-is_unusable.false
     (c.sleepers.ensures.value ∙ ap (queue_of c.args.kernel.now) c.cell-cell.ensures.value) (sym c.is_empty.ensures ∙ c.if-not-is_empty.false)))

@@ -48,8 +48,14 @@ returns-in-Reinit-clause-state c = c.reinit.ensures.state ∙ ap (λ (e : Event)
 pub returns-in-Reinit-clause-note : goal.returns-in-Reinit-clause-note
 returns-in-Reinit-clause-note c = c.reinit.ensures.note ∙ ap (λ (e : Event). (happens (state_at c.args.layout.now c.args.memory.now c.args.kernel.now c.args.threads.now.items) e).note) (sym c.in-Reinit.is)
 
+pub returns-in-Remake-clause-state : goal.returns-in-Remake-clause-state
+returns-in-Remake-clause-state c = c.remake.ensures.state c.args.kernel.now ∙ ap (λ (e : Event). (happens (state_at c.args.layout.now c.args.memory.now c.args.kernel.now c.args.threads.now.items) e).state) (sym c.in-Remake.is)
+
+pub returns-in-Remake-clause-note : goal.returns-in-Remake-clause-note
+returns-in-Remake-clause-note c = c.remake.ensures.note c.args.kernel.now ∙ ap (λ (e : Event). (happens (state_at c.args.layout.now c.args.memory.now c.args.kernel.now c.args.threads.now.items) e).note) (sym c.in-Remake.is)
+
 pub returns-in-Spare-clause-state : goal.returns-in-Spare-clause-state
-returns-in-Spare-clause-state c = c.spare.ensures.state c.args.memory.now c.requires.sleeps ∙ ap (λ (e : Event). (happens (state_at c.args.layout.now c.args.memory.now c.args.kernel.now c.args.threads.now.items) e).state) (sym c.in-Spare.is)
+returns-in-Spare-clause-state c = c.spare.ensures.state ∙ ap (λ (e : Event). (happens (state_at c.args.layout.now c.args.memory.now c.args.kernel.now c.args.threads.now.items) e).state) (sym c.in-Spare.is)
 
 pub returns-in-Spare-clause-note : goal.returns-in-Spare-clause-note
-returns-in-Spare-clause-note c = c.spare.ensures.note c.args.memory.now c.requires.sleeps ∙ ap (λ (e : Event). (happens (state_at c.args.layout.now c.args.memory.now c.args.kernel.now c.args.threads.now.items) e).note) (sym c.in-Spare.is)
+returns-in-Spare-clause-note c = c.spare.ensures.note ∙ ap (λ (e : Event). (happens (state_at c.args.layout.now c.args.memory.now c.args.kernel.now c.args.threads.now.items) e).note) (sym c.in-Spare.is)
