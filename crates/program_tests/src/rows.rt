@@ -97,6 +97,31 @@ static OF_AN_HEIR: Runs = Runs {
     ],
 };
 
+/// The mutex is unusable, c sleeps on it, and b is about to wake c. A reinit by d does nothing; the exchange alone that
+/// ends one makes the mutex free, and b, which is killed, leaves its wake to its walk.
+static OF_A_LATE_REINIT: Runs = Runs {
+    script: "thread a\nthread b\nthread c\nthread d\nmutex m\ncall a lock m\nkill a\ngo a\ncall b lock m\n\
+             call c lock m\nbegin b unlock m\nstep b 6\n",
+    trace: "trace 4 1 0\n1 begin t1 lock m0\n4 point t1 m0 lock OK\n9 return t1 OK\n10 kill t1\n16 death t1 m0\n16 reaped t1\n\
+            17 begin t2 lock m0\n20 point t2 m0 lock EOWNERDEAD\n25 return t2 EOWNERDEAD\n\
+            26 begin t3 lock m0\n30 sleep t3 m0\n31 begin t2 unlock m0\n37 point t2 m0 unlock OK\n",
+    rows: &[
+        (
+            "reinit d m\n",
+            "end 38\n",
+            "thread a reaped 0 OK\nthread b busy 0 EOWNERDEAD\nthread c asleep 0 -\nthread d idle 0 -\n\
+             mutex m 0000000180000000 - c\n",
+        ),
+        (
+            "remake d m\nkill b\ngo b\ngo c\n",
+            "38 begin t4 reinit m0\n38 point t4 m0 reinit OK\n38 return t4 OK\n\
+             39 kill t2\n44 wake t3\n44 reaped t2\n46 point t3 m0 lock OK\n51 return t3 OK\nend 51\n",
+            "thread a reaped 0 OK\nthread b reaped 0 EOWNERDEAD\nthread c idle 1 OK\nthread d idle 0 OK\n\
+             mutex m 0000000080000003 c -\n",
+        ),
+    ],
+};
+
 /// Two processes meet at one mutex, each by an address of its own.
 static OF_TWO_PROCESSES: Runs = Runs {
     script: "process p 1000\nprocess q 2000\nthread a p\nthread b q\nmutex m\ncall a lock m\n",
@@ -164,6 +189,7 @@ fn traces_and_tables_are_printed(rt: HostRuntime) {
     OF_ONE_THREAD.are_printed(&rt);
     OF_TWO_THREADS.are_printed(&rt);
     OF_AN_HEIR.are_printed(&rt);
+    OF_A_LATE_REINIT.are_printed(&rt);
     OF_TWO_PROCESSES.are_printed(&rt);
     WHOLE.are_printed(&rt);
 }

@@ -24,7 +24,7 @@ use Rattle.protocol.proofs.QueueRuns.{run_queued, queued_on}
 use Rattle.protocol.proofs.Runs.{sound, start_kept, run_kept, run_layout}
 use Rattle.protocol.proofs.Declines.{spared_is}
 use Rattle.protocol.proofs.Renewals.{renewed_seen}
-use Rattle.protocol.proofs.Reinits.{waiters_say_nothing, waiters_kept, reinited_word, reinited_elsewhere, reinited_seen, reinited_far}
+use Rattle.protocol.proofs.Reinits.{waiters_say_nothing, reinited_word, reinited_elsewhere, reinited_seen, reinited_far}
 use Rattle.protocol.proofs.Cases.{at_or_else}
 use Rattle.protocol.proofs.Recounting.{recounted_seen}
 use Rattle.protocol.proofs.Repeating.{resleep_stands, repeated_is, repeat_stood}
@@ -66,7 +66,7 @@ remakes s t m = record {
         record {
           layout = refl;
           free = reinited_seen s t m (waiters_of was) says may;
-          waiters = ap (λ (w : ℕ). (fields_of w).waiters) (reinited_word s t m (waiters_of was) says may) ∙ waiters_kept was;
+          word = reinited_word s t m (waiters_of was) says may;
           words = λ p apart. reinited_elsewhere s t m (waiters_of was) says may p apart;
           mutexes = λ k apart. reinited_far s t m (waiters_of was) says may k apart;
           queues = λ key. refl;

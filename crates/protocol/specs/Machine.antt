@@ -7,10 +7,10 @@
 -- *Step.* A begin begins a call of an idle thread; a step makes the next access of a thread that is in a call and
 -- doesn't sleep, or of a dying thread's walk; a kill takes a thread out of its queue and ends its call; a leave takes a
 -- sleeper out of its queue; a decline is the step of a thread whose next access is a trim, answered that this cleared
--- nothing; a renewal lets a reaped thread live anew; a reinit makes an unusable mutex anew. A recount puts a
--- counter back to 0, a spare leaves a wake out for which another thread answers, a resleep takes a sleeper to the end of its
--- queue, and a repeat makes an access of a walk that is made once more behind it. An event that can't apply notes nothing
--- and changes nothing.
+-- nothing; a renewal lets a reaped thread live anew; a reinit makes an unusable mutex anew. A recount puts a counter
+-- back to 0, a spare leaves a wake out for which another thread answers, a resleep takes a sleeper to the end of its
+-- queue, and a repeat makes an access of a walk that is made once more behind it. An event that can't apply notes
+-- nothing and changes nothing.
 --
 -- *A leave and a declined trim.* A thread that sleeps stands where it goes on when it is woken; so a leave only takes
 -- it out of its queue: no word changes, no thread, and no place of another in a queue, and its wake is told. A declined
@@ -29,8 +29,8 @@
 --
 -- *A remake.* A program that makes a mutex anew access by access loads its word, asks whether anybody sleeps there, and
 -- exchanges the word that it saw. The first two change nothing, so they are no events; what others do in between, the
--- exchange meets. A remake is that exchange: it finds the mutex unusable, whoever sleeps on it by now, and clears all but
--- WAITERS, so that nobody who sleeps is forgotten. It is told as a reinit. The law `remakes_forget_nobody`.
+-- exchange meets. A remake is that exchange: it finds the mutex unusable, whoever sleeps on it by now, and clears all
+-- but WAITERS, so that nobody who sleeps is forgotten. It is told as a reinit. The law `remakes_forget_nobody`.
 --
 -- *Where an access meets its word.* Words and queues stand at places, and accesses have addresses of their thread's
 -- process: the word that one meets is that at the place of its address there. So threads of processes with different
@@ -650,9 +650,10 @@ repeating s t g = nothing s
 -- a begin of a busy, killed or unknown thread or of a call outside the layout, a step of an idle, sleeping, reaped or
 -- unknown thread, a kill of a killed or unknown thread, a leave of a thread that doesn't sleep, a decline of one that
 -- isn't about to trim, a renewal of one that wasn't reaped, a reinit by one that isn't idle, or of a mutex that is
--- usable or slept on, a remake by one that isn't idle, or of a mutex that is usable, a recount of a counter that somebody sleeps on or knows, a spare of a thread that isn't about to
--- wake one of a mutex, or is alone to answer for it, a resleep of one that doesn't sleep on a counter, and a repeat of
--- one whose walk isn't about to load or to wake, do nothing
+-- usable or slept on, a remake by one that isn't idle, or of a mutex that is usable, a recount of a counter that
+-- somebody sleeps on or knows, a spare of a thread that isn't about to wake one of a mutex, or is alone to answer for
+-- it, a resleep of one that doesn't sleep on a counter, and a repeat of one whose walk isn't about to load or to wake,
+-- do nothing
 abbrev pub happens : State → Event → After
 happens s (Begin t o) = if may_begin s t o then begun s t o (first_stage s.layout t (s.threads t).held o) else nothing s
 happens s (Step t) = if has_thread s t then stepped s t (s.threads t).held (s.threads t).stage else nothing s

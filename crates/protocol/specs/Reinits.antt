@@ -1,14 +1,14 @@
 -- Unusable mutexes that are made anew (pthread_mutex_destroy(3p), pthread_mutex_init(3p)), by one event that looks who
 -- sleeps there, or by the exchange alone that ends it where the look came before.
 --
--- *Nobody is forgotten.* The exchange may meet sleepers: who looked before it saw none, but the mutex may have been made
--- anew in between, locked, slept on and made unusable again. So it keeps WAITERS: the law `remakes_forget_nobody`.
+-- *Nobody is forgotten.* The exchange may meet sleepers: who looked before it saw none, but the mutex may have been
+-- made anew in between, locked, slept on and made unusable again. So it keeps WAITERS: the law `remakes_forget_nobody`.
 --
 -- *Nobody joins.* Where a mutex is unusable, whoever sleeps on it behind the next event, or behind any events in which
 -- nobody makes it anew, slept there before: the law `nobody_joins_an_unusable_mutex`, of every state that events lead
 -- to.
 use Rattle.std.specs.Prelude.{ℕ, ◌≡◌, ◌≢◌, ◌<◌, ◌≤◌, true, None, List, [], ◌∷◌}
-use Rattle.lockword.specs.Cells.{fields_of}
+use Rattle.lockword.specs.Cells.{fields_of, bit, waiters_alone}
 use Rattle.lockword.specs.declared.reply.Reply.TheVariants.{OK}
 use Rattle.posixmutex.specs.declared.point.Operation.TheVariants as operation
 use Rattle.memorymap.specs.Layouts.{Layout', IsLayout, cell_place}
@@ -68,11 +68,12 @@ ReinitsFreeTheMutex = (l : Layout') (counters : ℕ → ℕ) (events : List Even
 -- ---- a remake
 
 -- mutex m is made anew, from state s to s': it is free, as nobody had locked it yet, and its word has WAITERS where it
--- had; every other word and mutex is as it was, and every queue and thread
+-- had, and says nothing else; every other word and mutex is as it was, and every queue and thread
 pub record OnlyRemakes (s s' : State) (m : ℕ) : Type 0 where
   pub layout : s'.layout ≡ s.layout
   pub free : seen s' m ≡ fresh
-  pub waiters : (fields_of (s'.words (cell_place s.layout m))).waiters ≡ (fields_of (s.words (cell_place s.layout m))).waiters
+  pub word : s'.words (cell_place s.layout m)
+      ≡ bit (fields_of (s.words (cell_place s.layout m))).waiters waiters_alone
   pub words : (p : ℕ) → p ≢ cell_place s.layout m → s'.words p ≡ s.words p
   pub mutexes : (k : ℕ) → k ≢ m → seen s' k ≡ seen s k
   pub queues : (key : ℕ) → s'.queues key ≡ s.queues key

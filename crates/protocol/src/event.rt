@@ -27,8 +27,8 @@ pub enum Event {
     /// (pthread_mutex_destroy(3p), pthread_mutex_init(3p)).
     Reinit(Tid, u16),
     /// The thread, which is in no call, makes the mutex with this number anew, as it is unusable still, by the exchange
-    /// that ends a reinit whose look at the word and question who sleeps came before, and changed nothing: whoever
-    /// sleeps on it by now, WAITERS stays for.
+    /// that ends a reinit whose look at the word and question who sleeps came before, and changed nothing: WAITERS
+    /// stays, for whoever sleeps on it by now.
     Remake(Tid, u16),
     /// The counter of the condition variable with this number goes back to 0: nobody sleeps on it, and no call has
     /// loaded it that is still to compare or to change it.

@@ -17,7 +17,8 @@ ghost use Rattle.protocol.specs.Bounded.{OnlyLocksAndWaitsWait};
 ghost use Rattle.protocol.specs.Changes.{EventsLeaveTheRest};
 ghost use Rattle.protocol.specs.Counting.{CountersCountUp};
 ghost use Rattle.protocol.specs.Releases.{WaitsReleaseConsistentMutexes};
-ghost use Rattle.protocol.specs.Reinits.{NobodyJoinsAnUnusableMutex, ReinitsFreeTheMutex, RemakesForgetNobody, UnusableStays};
+ghost use Rattle.protocol.specs.Reinits.{NobodyJoinsAnUnusableMutex, UnusableStays};
+ghost use Rattle.protocol.specs.Reinits.{ReinitsFreeTheMutex, RemakesForgetNobody};
 ghost use Rattle.protocol.specs.Recounts.{RecountsAreLone};
 ghost use Rattle.protocol.specs.Spares.{SparesAreLone};
 ghost use Rattle.protocol.specs.Repeats.{ResleepsAndRepeatsAreLone};
@@ -83,7 +84,8 @@ pub fn lists_are_kept()
 /// leave is its thread's where that sleeps; a decline is an access of its thread's call, and of that call's mutex, that
 /// tells nothing, where the thread's next access is a trim; a renewal is its thread's where that was reaped, and hasn't
 /// been renewed since; and a reinit is that of its mutex where its thread lives and is in no call, and the mutex, one
-/// of the layout, is unusable and nobody sleeps on it. Every other event is noted as nothing, and changes nothing.
+/// of the layout, is unusable and nobody sleeps on it, and a remake whoever sleeps on it; a recount, a spare, a resleep
+/// and a repeat where their laws say. Every other event is noted as nothing, and changes nothing.
 pub fn events_apply()
     ensures { EventsApply }
 {}
@@ -93,8 +95,9 @@ pub fn events_apply()
 /// sleep is told exactly where it comes to stand in a queue, a wake exactly where it leaves one and stands in none, but
 /// by its kill, and a move exactly where it leaves that of a condition variable for its mutex's. In each queue they
 /// stand in the order in which they came, as it was told, and whoever another's event wakes, or moves, is the front of
-/// a queue (of which one, says [`wakes_are_right`]); who leaves by itself stands anywhere in one. And a sleep is told
-/// only of a thread whose call is a lock of that mutex, or a wait on it or on that condition variable.
+/// a queue (of which one, says [`wakes_are_right`]); who leaves by itself stands anywhere in one. A resleep alone tells
+/// a wake and a sleep of one that stays in its queue, where it stands last then. And a sleep is told only of a thread
+/// whose call is a lock of that mutex, or a wait on it or on that condition variable.
 pub fn sleeps_are_told()
     ensures { SleepsAreTold }
 {}
@@ -103,16 +106,17 @@ pub fn sleeps_are_told()
 /// has had a point, the first of the queue of its mutex, or all of them, in their order, where its last point left that
 /// mutex unusable; where the call is a signal, the first of its condition variable's queue; a broadcast moves all of
 /// its condition variable's, in their order, to its mutex's. The walk of a dead thread's list wakes the first of a
-/// mutex's queue. A leave wakes its own thread or nobody, and moves nobody. No begin, no kill, no decline, no renewal
-/// and no reinit wakes or moves anybody.
+/// mutex's queue, and so does its repeat. A leave and a resleep wake their own thread or nobody, and move nobody. No
+/// other event wakes or moves anybody.
 pub fn wakes_are_right()
     ensures { WakesAreRight }
 {}
 
 /// Whatever happens, with counters that are at most 2^32 - 1 at the beginning: a thread that released its mutex in a
-/// wait before a signal or a broadcast counted doesn't fall asleep on that condition variable behind it. And the event
-/// at which a signal returns OK wakes the first of its condition variable's queue, and nobody only where that is empty;
-/// the one at which a broadcast does moves all of that queue, in its order, and directly after it nobody stands there.
+/// wait before a signal or a broadcast counted doesn't fall asleep on that condition variable behind it, but by a
+/// resleep. And the event at which a signal returns OK wakes the first of its condition variable's queue, and nobody
+/// only where that is empty; the one at which a broadcast does moves all of that queue, in its order, and directly
+/// after it nobody stands there.
 pub fn nobody_is_passed_by()
     ensures { NobodyIsPassedBy }
 {}
@@ -173,10 +177,10 @@ pub fn reinits_free_the_mutex()
     ensures { ReinitsFreeTheMutex }
 {}
 
-/// Whatever happened before: a thread makes a mutex anew by the exchange alone exactly where it lives and is in no call,
-/// and the mutex is unusable, whoever sleeps on it by then; else its remake does nothing. The mutex is free then, as at
-/// first, and its word has WAITERS where it had, so that whoever sleeps there is woken. No other word changes, no other
-/// mutex, no queue and no thread, and it is told as a reinit is.
+/// Whatever happened before: a thread makes a mutex anew by the exchange alone exactly where it lives and is in no
+/// call, and the mutex is unusable, whoever sleeps on it by then; else its remake does nothing. The mutex is free then,
+/// as at first, and its word has WAITERS where it had, so that the next release finds it, and nothing else. No other
+/// word changes, no other mutex, no queue and no thread, and it is told as a reinit is.
 pub fn remakes_forget_nobody()
     ensures { RemakesForgetNobody }
 {}
@@ -229,9 +233,10 @@ pub fn recounts_are_lone()
     ensures { RecountsAreLone }
 {}
 
-/// Whatever happened before: the wake of one sleeper of a mutex, by an unlock or a wait, is spared exactly where another
-/// thread is awake that is in a lock of that mutex, or about to wake on it. Nobody is woken, no word changes, no queue
-/// and no other thread, and nothing is told; the thread goes on as one that woke a sleeper.
+/// Whatever happened before: the wake of one sleeper of a mutex, by an unlock or a wait, is spared exactly where
+/// another thread is awake that is in a lock of that mutex and has still to look at its word, or is about to wake on
+/// it; or was killed with the mutex pending, and its walk hasn't begun. Nobody is woken, no word changes, no queue and
+/// no other thread, and nothing is told; the thread goes on as one that woke a sleeper.
 pub fn spares_are_lone()
     ensures { SparesAreLone }
 {}

@@ -18,8 +18,8 @@
 //!   do;
 //! - `renewals_begin_anew`, `without_renewals_as_before`: what a reaped thread that lives anew finds, and leaves as it
 //!   is;
-//! - `reinits_free_the_mutex`, `remakes_forget_nobody`, `without_reinits_as_before`, `nobody_joins_an_unusable_mutex`: what it is to make an
-//!   unusable mutex anew, and that nothing else does;
+//! - `reinits_free_the_mutex`, `remakes_forget_nobody`, `without_reinits_as_before`, `nobody_joins_an_unusable_mutex`:
+//!   what it is to make an unusable mutex anew, and that nothing else does;
 //! - `only_locks_and_waits_wait`: the other calls return in time, whatever others do;
 //! - `events_leave_the_rest`: what an event may change;
 //! - `nobody_is_passed_by`, `signals_are_right`, `counters_count_up`, `waits_release_consistent_mutexes`: of condition

@@ -8,4 +8,5 @@ pub mod Drains
 pub mod Promises
 pub mod OwnWords
 pub mod NextLoads
+pub mod EarlyLoads
 pub mod LoadsFirst
