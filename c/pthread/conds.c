@@ -125,14 +125,6 @@ static void wake_one(union cond *c)
     wake_all(c); /* nobody was there: so that the next signal costs no system call */
 }
 
-static int tell(pthread_cond_t *cond, void (*whom)(union cond *))
-{
-    union cond *c = (void *)cond;
-    if (atomic_load(&c->count) & WAITED)
-        whom(c);
-    return 0;
-}
-
 /* ---- Waits. */
 
 struct wait {
@@ -248,10 +240,22 @@ SHOWN int pthread_cond_destroy(pthread_cond_t *c)
     return sh_real.cond_destroy(c);
 }
 
-SHOWN int pthread_cond_signal(pthread_cond_t *c) { return is_ours(c) ? tell(c, wake_one) : sh_real.cond_signal(c); }
+SHOWN int pthread_cond_signal(pthread_cond_t *c)
+{
+    if (!is_ours(c))
+        return sh_real.cond_signal(c);
+    if (atomic_load(&((union cond *)c)->count) & WAITED)
+        wake_one((void *)c);
+    return 0;
+}
+
+/* Whatever the count says: one that was killed before its wake may have left who came before. */
 SHOWN int pthread_cond_broadcast(pthread_cond_t *c)
 {
-    return is_ours(c) ? tell(c, wake_all) : sh_real.cond_broadcast(c);
+    if (!is_ours(c))
+        return sh_real.cond_broadcast(c);
+    wake_all((void *)c);
+    return 0;
 }
 
 SHOWN int pthread_cond_wait(pthread_cond_t *c, pthread_mutex_t *m)

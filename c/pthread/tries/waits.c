@@ -228,7 +228,7 @@ static void one_comes_behind_a_wake_of_nobody(void)
     ends(2, 0);
 }
 
-/* The next ones make no system call: they don't come so far. */
+/* The next one makes no system call: it doesn't come so far. */
 static void signals_to_nobody(void)
 {
     static int (*const tell[])(void) = {tells, tells_all};
@@ -237,13 +237,22 @@ static void signals_to_nobody(void)
         SAME(tell[i](), 0);
         ends(0, 0);
         SAME(tells(), 0);
-        for (int k = 0; k < 2; k++) {
-            atomic_store(&room->part[1].at[RAISED], DIE);
-            goes(1, calls, tell[k]);
-            ends(1, 0);
-        }
+        atomic_store(&room->part[1].at[RAISED], DIE);
+        goes(1, calls, tells);
+        ends(1, 0);
         atomic_store(&room->part[1].at[RAISED], GO_ON);
     }
+}
+
+/* Who has said that nobody sleeps, and is killed before its wake: another broadcast reaches all the same. */
+static void a_broadcast_behind_a_dead_one(void)
+{
+    comes_to_wait(0, waits);
+    atomic_store(&room->part[1].at[RAISED], DIE);
+    goes(1, calls, tells_all);
+    dies(1);
+    SAME(tells_all(), 0);
+    ends(0, 0);
 }
 
 static int how_many_done(int n)
@@ -832,6 +841,7 @@ static const struct {
     {CASE(a_wake_comes_late)},
     {CASE(one_comes_behind_a_wake_of_nobody)},
     {CASE(signals_to_nobody)},
+    {CASE(a_broadcast_behind_a_dead_one)},
     {CASE(one_signal_wakes_one)},
     {CASE(a_broadcast_wakes_all)},
     {CASE(more_than_ids)},
