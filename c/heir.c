@@ -245,7 +245,8 @@ static void wait_for_it(pz *p, unsigned t, uint64_t cell)
         else if ((is & AWAITED) || EXCHANGE(h, &is, is | AWAITED))
             rest_on(h, is | AWAITED, WAY - waited);
     }
-    EXCHANGE(h, &is, (uint32_t)(is & ~(uint64_t)DUE) | since(now_ns()));
+    if (is & DUE) /* not where it has gone just now: a time alone would be taken for an heir */
+        EXCHANGE(h, &is, (uint32_t)(is & ~(uint64_t)DUE) | since(now_ns()));
     pz_reap(p);
 }
 

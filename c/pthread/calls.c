@@ -15,12 +15,6 @@ struct mutex {
     unsigned bank, m;
 };
 
-static inline struct ours *ours(pthread_mutex_t *m)
-{
-    struct ours *o = (void *)m;
-    return __builtin_expect(atomic_load_explicit(&o->kind, memory_order_acquire) == KIND, 0) ? o : NULL;
-}
-
 /* Where it is the one still, behind what says that a call is on it. */
 static struct companion *entered(uint64_t nonce)
 {
@@ -134,16 +128,35 @@ static int try(struct mutex *x)
     return r;
 }
 
-static int unlock(struct mutex *x)
+static int unlock_once(struct mutex *x)
 {
-    if (!pz_self[x->p->number].id)
-        return EPERM;
     if (x->bytes->count && x->bytes->type == PTHREAD_MUTEX_RECURSIVE && owns(x)) {
         x->bytes->count--;
         return 0;
     }
-    int r = pz_mutex_unlock(x->p, x->m);
+    return pz_mutex_unlock(x->p, x->m);
+}
+
+static int unlock(struct mutex *x)
+{
+    if (!pz_self[x->p->number].id)
+        return EPERM;
+    int r = unlock_once(x);
     sh_give(x->c, x->bank, x->p);
+    return r;
+}
+
+/* By a wait. An inconsistent one stays its owner's: unlocked it would be unusable for good. Who owns others keeps its
+ * id, as it mayn't wait for one when it locks the mutex again. */
+static int release(struct mutex *x)
+{
+    if (!owns(x))
+        return EPERM;
+    if (atomic_load(&x->p->words[cell_place(x->m)]) & DIED)
+        return EINVAL;
+    int r = unlock_once(x);
+    if (!sh_owns_any())
+        sh_give(x->c, x->bank, x->p);
     return r;
 }
 
@@ -280,6 +293,18 @@ static __attribute__((noinline)) int locked(struct ours *o, struct companion *c,
     return r == EDEADLK ? again(o, EDEADLK) : taken(&x, r);
 }
 
+static inline __attribute__((always_inline)) int lock_any(pthread_mutex_t *m)
+{
+    struct ours *o = sh_ours(m);
+    if (!o)
+        return sh_real.lock(m);
+    struct mutex x;
+    if (!at_hand(o, &x))
+        return kept(lock, o);
+    int r = pz_take(x.p, x.m, PZ_OP_LOCK);
+    return __builtin_expect(r == 0, 1) ? 0 : locked(o, x.c, x.p, r);
+}
+
 static __attribute__((noinline)) int kept_timed(struct ours *o, clockid_t clock, const struct timespec *until)
 {
     int saved = errno, r = timed(o, clock, until);
@@ -305,25 +330,23 @@ SHOWN int pthread_mutex_init(pthread_mutex_t *m, const pthread_mutexattr_t *a)
 
 SHOWN int pthread_mutex_destroy(pthread_mutex_t *m)
 {
-    struct ours *o = ours(m);
+    struct ours *o = sh_ours(m);
     return o ? kept(destroy, o) : sh_real.destroy(m);
 }
 
-SHOWN int pthread_mutex_lock(pthread_mutex_t *m)
+SHOWN int pthread_mutex_lock(pthread_mutex_t *m) { return lock_any(m); }
+
+/* For a wait: of no other library in front. */
+int sh_lock(pthread_mutex_t *m) { return lock_any(m); }
+int sh_release(pthread_mutex_t *m)
 {
-    struct ours *o = ours(m);
-    if (!o)
-        return sh_real.lock(m);
-    struct mutex x;
-    if (!at_hand(o, &x))
-        return kept(lock, o);
-    int r = pz_take(x.p, x.m, PZ_OP_LOCK);
-    return __builtin_expect(r == 0, 1) ? 0 : locked(o, x.c, x.p, r);
+    struct ours *o = sh_ours(m);
+    return o ? kept(release, o) : sh_real.unlock(m);
 }
 
 SHOWN int pthread_mutex_unlock(pthread_mutex_t *m)
 {
-    struct ours *o = ours(m);
+    struct ours *o = sh_ours(m);
     if (!o)
         return sh_real.unlock(m);
     struct mutex x;
@@ -336,24 +359,24 @@ SHOWN int pthread_mutex_unlock(pthread_mutex_t *m)
 
 SHOWN int pthread_mutex_trylock(pthread_mutex_t *m)
 {
-    struct ours *o = ours(m);
+    struct ours *o = sh_ours(m);
     return o ? kept(try, o) : sh_real.trylock(m);
 }
 
 SHOWN int pthread_mutex_timedlock(pthread_mutex_t *m, const struct timespec *until)
 {
-    struct ours *o = ours(m);
+    struct ours *o = sh_ours(m);
     return o ? kept_timed(o, CLOCK_REALTIME, until) : sh_real.timedlock(m, until);
 }
 
 SHOWN int pthread_mutex_clocklock(pthread_mutex_t *m, clockid_t clock, const struct timespec *until)
 {
-    struct ours *o = ours(m);
+    struct ours *o = sh_ours(m);
     return o ? kept_timed(o, clock, until) : sh_real.clocklock(m, clock, until);
 }
 
 SHOWN int pthread_mutex_consistent(pthread_mutex_t *m)
 {
-    struct ours *o = ours(m);
+    struct ours *o = sh_ours(m);
     return o ? kept(consistent, o) : sh_real.consistent(m);
 }

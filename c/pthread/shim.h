@@ -29,6 +29,12 @@ struct ours {
 _Static_assert(sizeof(struct ours) == sizeof(pthread_mutex_t), "all of its bytes");
 _Static_assert(offsetof(struct ours, kind) == offsetof(pthread_mutex_t, __data.__kind), "the type's place");
 
+static inline struct ours *sh_ours(pthread_mutex_t *m)
+{
+    struct ours *o = (void *)m;
+    return __builtin_expect(atomic_load_explicit(&o->kind, memory_order_acquire) == KIND, 0) ? o : NULL;
+}
+
 /* ---- Banks: a companion has room for 32,768 mutexes, in files of libpazdrig one behind the other; of them as many are
  * made as are used. Numbers count through all. */
 enum { BANKS = 10, PAGE = 4096, PATHS = 3072, KEPT = 16 };
@@ -149,13 +155,23 @@ static inline void sh_give(struct companion *c, unsigned bank, pz *p)
         sh_give_back(c, bank, p);
 }
 
+/* ---- calls.c, for a wait on a condition variable. */
+int sh_release(pthread_mutex_t *m);
+int sh_lock(pthread_mutex_t *m);
+
 /* ---- real.c: the C library's. libpazdrig's own calls are linked to the functions below. */
 typedef int one(pthread_mutex_t *);
+typedef int one_cond(pthread_cond_t *);
 extern struct real {
     int (*init)(pthread_mutex_t *, const pthread_mutexattr_t *);
     one *destroy, *lock, *trylock, *unlock, *consistent;
     int (*timedlock)(pthread_mutex_t *, const struct timespec *);
     int (*clocklock)(pthread_mutex_t *, clockid_t, const struct timespec *);
+    int (*cond_init)(pthread_cond_t *, const pthread_condattr_t *);
+    one_cond *cond_destroy, *cond_signal, *cond_broadcast;
+    int (*cond_wait)(pthread_cond_t *, pthread_mutex_t *);
+    int (*cond_timedwait)(pthread_cond_t *, pthread_mutex_t *, const struct timespec *);
+    int (*cond_clockwait)(pthread_cond_t *, pthread_mutex_t *, clockid_t, const struct timespec *);
     int (*setuid)(uid_t);
     int (*setreuid)(uid_t, uid_t);
     int (*setresuid)(uid_t, uid_t, uid_t);

@@ -212,6 +212,21 @@ static void it_does_not_come(void)
     CHECK(clock_ns == since);
 }
 
+/* It goes just as that wait ends: its word names nobody then, and not a time alone. */
+static void goes_at_the_end(void)
+{
+    *heir(&file, cell) = 0;
+    clock_ns += WAY;
+}
+static void it_goes_at_the_end(void)
+{
+    begin(0, OTHER | DUE);
+    pz_self[0].owes = 1;
+    meanwhile = goes_at_the_end;
+    pz_give_way(&file, SELF, 0);
+    CHECK(*heir(&file, cell) == 0 && pz_self[0].owes == 0);
+}
+
 static void has_had_it(void) { *heir(&file, cell) = 0; }
 static void it_comes(void)
 {
@@ -283,6 +298,7 @@ int main(void)
     who_comes_behind_sleepers();
     it_falls_due();
     it_does_not_come();
+    it_goes_at_the_end();
     it_comes();
     one_is_late();
     who_was_woken();

@@ -9,6 +9,7 @@
 enum { MOST = 3000, SLEEPS = 1000, CRASHES = 1001 };
 
 static pthread_mutex_t *m, *many;
+static pthread_cond_t *c;
 static int type;
 static const char *const types[] = {"normal", "recursive", "error-checking"};
 
@@ -83,16 +84,6 @@ static int clocked_badly(void)
 {
     return pthread_mutex_clocklock(m, CLOCK_PROCESS_CPUTIME_ID, &(struct timespec){0, 1});
 }
-static int lock_and_wait(void)
-{
-    pthread_cond_t c;
-    pthread_condattr_t a;
-    pthread_condattr_init(&a);
-    pthread_condattr_setpshared(&a, PTHREAD_PROCESS_SHARED);
-    pthread_cond_init(&c, &a);
-    int r = lock();
-    return r ? r : pthread_cond_timedwait(&c, m, &(struct timespec){1, 0});
-}
 static int lock_twice(void)
 {
     int r = lock();
@@ -120,6 +111,32 @@ static int lock_then_destroy(void)
     return r ? r : pthread_mutex_destroy(m);
 }
 
+/* ---- Of condition variables. */
+static int wait_on_it(void) { return pthread_cond_wait(c, m); }
+static int wait_past(void) { return pthread_cond_timedwait(c, m, &(struct timespec){1, 0}); }
+static int wait_badly(void) { return pthread_cond_timedwait(c, m, &(struct timespec){1, 1000000000}); }
+static int wait_before_1970(void) { return pthread_cond_timedwait(c, m, &(struct timespec){-1, 0}); }
+static int wait_by(clockid_t clock) { return pthread_cond_clockwait(c, m, clock, &(struct timespec){0, 1}); }
+static int tell_one(void) { return pthread_cond_signal(c); }
+static int tell_all(void) { return pthread_cond_broadcast(c); }
+static int destroy_cond(void) { return pthread_cond_destroy(c); }
+static int lock_and_wait(void)
+{
+    int r = lock();
+    return r && r != EOWNERDEAD ? r : wait_on_it();
+}
+static int lock_wait_and_unlock(void)
+{
+    int r = lock_and_wait();
+    return r ? r : unlock();
+}
+static int lock_twice_and_wait(void)
+{
+    int r = lock();
+    r = r ? r : lock_wait_and_unlock();
+    return r ? r : unlock();
+}
+
 /* Whether it sleeps for good: in a call on a mutex, as the kernel tells it time and again. */
 static int ended_or_asleep(pid_t it, int *status)
 {
@@ -132,24 +149,43 @@ static int ended_or_asleep(pid_t it, int *status)
 }
 
 /* By another process, which ends then. */
-static int other(int (*call)(void))
+struct call {
+    _Atomic int *answer;
+    pid_t by;
+};
+static struct call begun(int (*call)(void))
 {
     _Atomic int *answer = shared(sizeof *answer);
     pid_t it = fork();
-    int status = 0;
     CHECK(it >= 0);
     if (!it) {
         setrlimit(RLIMIT_CORE, &(struct rlimit){0, 0});
         atomic_store(answer, call());
         _exit(0);
     }
-    int r = SLEEPS;
-    if (ended_or_asleep(it, &status))
-        r = WIFSIGNALED(status) ? CRASHES : atomic_load(answer);
+    return (struct call){answer, it};
+}
+static int ended(struct call it)
+{
+    int r = SLEEPS, status = 0;
+    if (ended_or_asleep(it.by, &status))
+        r = WIFSIGNALED(status) ? CRASHES : atomic_load(it.answer);
     else
-        kill_and_wait(it);
-    munmap((void *)answer, sizeof *answer);
+        kill_and_wait(it.by);
+    munmap((void *)it.answer, sizeof *it.answer);
     return r;
+}
+static int other(int (*call)(void)) { return ended(begun(call)); }
+
+/* It waits on the condition variable: it sleeps, and nobody owns the mutex. */
+static struct call a_waiter(void)
+{
+    struct call it = begun(lock_wait_and_unlock);
+    until_asleep(it.by);
+    SAME(lock(), 0);
+    SAME(unlock(), 0);
+    until_asleep(it.by);
+    return it;
 }
 
 static void *thread_locks(void *unused)
@@ -280,8 +316,6 @@ static void made(void)
     lock();
     ROW("destroy of one that another owns", other(destroy_it));
     make();
-    ROW("wait on a condition variable with it", other(lock_and_wait));
-    make();
     errno = 77;
     lock();
     unlock();
@@ -289,6 +323,85 @@ static void made(void)
     unlock();
     unlock();
     printf("%s: errno behind calls: %d\n", types[type], errno);
+}
+
+static void make_with_cond(void)
+{
+    pthread_condattr_t a;
+    make();
+    c = (pthread_cond_t *)(many + MOST + 2049) + 1;
+    pthread_condattr_init(&a);
+    pthread_condattr_setpshared(&a, PTHREAD_PROCESS_SHARED);
+    memset(c, 0, sizeof *c);
+    SAME(pthread_cond_init(c, &a), 0);
+}
+
+static void waited(void)
+{
+    make_with_cond();
+    ROW("signal and broadcast to nobody", tell_one(), tell_all());
+    ROW("wait by who doesn't own it", wait_on_it());
+    CHECK(lock() == 0);
+    ROW("timed wait: a past limit, one before 1970, a bad one", wait_past(), wait_before_1970(), wait_badly());
+    ROW("wait by either clock, by another", wait_by(CLOCK_MONOTONIC), wait_by(CLOCK_REALTIME),
+        wait_by(CLOCK_PROCESS_CPUTIME_ID));
+    ROW("its owner, still: unlock", unlock());
+    errno = 77;
+    lock();
+    wait_past();
+    tell_one();
+    unlock();
+    printf("%s: errno behind waits: %d\n", types[type], errno);
+    struct call it = a_waiter();
+    int told = tell_one();
+    ROW("signal to one who waits", told, ended(it));
+    struct call both[2] = {a_waiter(), a_waiter()};
+    told = tell_all();
+    ROW("broadcast to two who wait", told, ended(both[0]), ended(both[1]));
+    ROW("destroy of a condition variable", destroy_cond());
+    make_with_cond();
+    it = begun(type == PTHREAD_MUTEX_RECURSIVE ? lock_twice_and_wait : lock_wait_and_unlock);
+    until_asleep(it.by);
+    int busy = other(try);
+    tell_one();
+    ROW("wait of who has it as often as it may: trylock of another, its answer", busy, ended(it));
+}
+
+static void waited_beside_deaths(void)
+{
+    make_with_cond();
+    struct call it = a_waiter();
+    other(lock);
+    tell_one();
+    ROW("an owner dies while it is waited: wait", ended(it));
+    ROW("that one died too: trylock, consistent, unlock", try(), consistent(), unlock());
+    it = a_waiter();
+    other(lock);
+    CHECK(lock() == EOWNERDEAD && unlock() == 0);
+    tell_all();
+    ROW("it becomes unusable while it is waited: wait", ended(it));
+    make_with_cond();
+    other(lock);
+    ROW("wait with an inconsistent one", other(lock_and_wait));
+    ROW("behind that wait, and its thread's death: trylock", try());
+}
+
+static void waited_in_vain(void)
+{
+    int r[6];
+    make_with_cond();
+    kill_and_wait(a_waiter().by);
+    for (int i = 0; i < 6; i += 2) {
+        struct call it = a_waiter();
+        r[i] = other(tell_one);
+        r[i + 1] = ended(it);
+    }
+    row("a waiter is killed: signal and wait, three times", r, 6);
+    make_with_cond();
+    struct call it = a_waiter();
+    r[0] = other(destroy_cond);
+    r[1] = ended(it);
+    row("destroy of a condition variable where one waits, its answer", r, 2);
 }
 
 static int hold_all(void)
@@ -304,9 +417,9 @@ static int hold_all(void)
 int main(int argc, char **argv)
 {
     CHECK(argc > 1);
-    alarm(120);
+    alarm(300);
     int fd = open(argv[1], O_RDWR | O_CREAT | O_TRUNC, 0600);
-    size_t size = (MOST + 2049) * sizeof *many;
+    size_t size = (MOST + 2049) * sizeof *many + 2 * sizeof *c;
     CHECK(fd >= 0 && ftruncate(fd, (off_t)size) == 0);
     many = mmap(NULL, size, PROT_READ | PROT_WRITE, MAP_SHARED, fd, 0);
     CHECK(many != MAP_FAILED && prctl(PR_SET_PDEATHSIG, SIGKILL) == 0);
@@ -315,6 +428,9 @@ int main(int argc, char **argv)
         died();
         unusable();
         made();
+        waited();
+        waited_beside_deaths();
+        waited_in_vain();
     }
     type = PTHREAD_MUTEX_ERRORCHECK;
     for (int i = 0; i < 2049; i++)

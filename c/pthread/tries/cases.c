@@ -210,7 +210,7 @@ static void without_it(void)
         SAME(comes(path, 0, calls[i], 0), EINVAL);
     SAME(comes(path, 0, "destroy", 0), EBUSY);
     CHECK(!memcmp(&was, m, sizeof was));
-    SAME(comes(path, 0, "wait", 1), EINVAL);
+    SAME(comes(path, 0, "wait", 1), EPERM);
     SAME(pthread_mutex_lock(m), 0);
     SAME(pthread_mutex_unlock(m), 0);
     unlink(path);
