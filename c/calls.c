@@ -34,6 +34,8 @@ static __attribute__((noinline)) uint32_t run_on(pz *p, unsigned t, struct pz_ca
         PZ_TELL(pz_trace_step(call, &x, state));
         pz_trace_unlock();
         pz_trace_lock();
+        if (x.kind == PZ_WAKE) /* an heir's, of all: it looks at the word no more, so no wake may be left to it */
+            pz_disinherit(p, t, call->cell);
         answer = answer_of(p, t, &x, &value);
     }
     if (state == PZ_RETURNED)

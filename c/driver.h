@@ -134,7 +134,9 @@ static inline uint64_t bit_of(unsigned t) { return 1ull << (t - 1); }
 enum { WHO = 0xff, COMES = 0x100, DUE = 0x200, NAPS = 0x400, AWAITED = 0x800 };
 static inline word *heir(const pz *p, uint64_t at) { return sleepers(p, at) + 1; }
 
-static inline uint32_t owner_of(uint64_t cell) { return (uint32_t)cell & 0x3fffffff; }
+/* The first word of a mutex's line: its owner, and three marks. (WAITERS stays once it is set.) */
+static const uint64_t OWNED = 0x3fffffff, DIED = 0x40000000, WAITERS = 0x80000000, UNUSABLE = 0x100000000;
+static inline uint32_t owner_of(uint64_t cell) { return (uint32_t)(cell & OWNED); }
 
 /* A program that is built with the thread sanitizer is told what a mutex orders: it doesn't see the accesses of this
  * library, which isn't built so. (Others haven't these functions.) */

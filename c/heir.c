@@ -2,11 +2,15 @@
  * unlock wakes nobody, and nobody else pauses.
  *
  * **An unlock leaves its wake to the heir.** The heir names itself, then looks at the mutex's word, and looks again
- * until it has the mutex or gives the name up: that it does before it sleeps, and where its call ends. An unlock
- * changes the mutex's word, and then looks for the name. All of these are sequentially consistent. So an unlock that
- * finds the name changed the word before the heir's last look, or the kernel's for its sleep: the heir finds the mutex
- * free. One that is killed stays named until it is reaped; that is before the walk looks at the mutex that it had
- * pending, so the walk wakes a sleeper in its place. Sleepers watch the heir as they watch the owner.
+ * until it has the mutex or gives the name up: that it does before it sleeps, before a wake, and where its call ends.
+ * An unlock changes the mutex's word, and then looks for the name. All of these are sequentially consistent. So an
+ * unlock that finds the name changed the word before the heir's last look, or the kernel's for its sleep: the heir
+ * finds the mutex free. One that is killed stays named until it is reaped; that is before the walk looks at the mutex
+ * that it had pending, so the walk wakes a sleeper in its place. Sleepers watch the heir as they watch the owner.
+ *
+ * **An heir that finds the mutex unusable wakes all,** as WAITERS is set wherever there is an heir, and its call ends.
+ * Others may make the mutex free meanwhile, and sleep there. So it gives the name up before that wake, which reaches
+ * all whose wake was left to it.
  *
  * **COMES stands for one that is woken and hasn't named itself yet.** It is set before the wake, so an unlock between
  * the two leaves its own to that one, which is made again if it woke nobody. If the waker is killed there, or the one
@@ -84,9 +88,12 @@ int pz_let_come(const pz *p, uint64_t cell)
     return EXCHANGE(heir(p, cell), &nobody, COMES | since(now_ns()));
 }
 
-/* By who was woken. */
+/* By who was woken. One that was signalled is no heir of a mutex without WAITERS: nobody was moved there, and where it
+ * is unusable a lock of it wakes nobody. */
 void pz_comes(const pz *p, unsigned t, uint64_t cell)
 {
+    if (!(SEE(&p->words[cell]) & WAITERS))
+        return;
     uint64_t is = SEE(heir(p, cell));
     heir_since = now_ns();
     while (!(is & WHO) && !EXCHANGE(heir(p, cell), &is, t | since(heir_since)))

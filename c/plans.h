@@ -7,8 +7,6 @@
 #include "driver.h"
 #include <errno.h>
 
-static const uint64_t OWNED = 0x3fffffff, DIED = 0x40000000, WAITERS = 0x80000000, UNUSABLE = 0x100000000;
-
 /* What a counter stays at: who would count on is refused. From AGAIN on it begins again, where nobody waits. */
 static const uint64_t FULL = 0xffffffff, AGAIN = 0x80000000;
 

@@ -12,7 +12,6 @@ static int tried(pthread_mutex_t *token);
 #include "try.h"
 
 enum { DEAD = 7, MUTEXES = 4, NEVER = 1 << 20 };
-static const uint64_t WAITERS = 0x80000000, OWNER_DIED = 0x40000000;
 
 static struct pz file;
 static word words[(1 + THREADS + MUTEXES) * LINE];
@@ -106,7 +105,7 @@ static void look(void)
 {
     for (unsigned m = 0; m < 3; m++) {
         CHECK(marks[m] == 1);
-        CHECK(words[cell_place(m)] == (OWNER_DIED | (m == 1 ? 0 : WAITERS)));
+        CHECK(words[cell_place(m)] == (DIED | (m == 1 ? 0 : WAITERS)));
         CHECK(m == 1 || wakes[m] > wakes_at_mark[m]);
     }
     CHECK(marks[3] == 0 && wakes[3] >= 1);

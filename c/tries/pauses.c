@@ -261,8 +261,8 @@ static void one_is_late(void)
 
 static void who_was_woken(void)
 {
-    begin(OTHER, COMES);
-    SAME((int)pz_sleep(&file, SELF, cell, OTHER), PZ_WOKEN);
+    begin(OTHER | WAITERS, COMES);
+    SAME((int)pz_sleep(&file, SELF, cell, (uint32_t)(OTHER | WAITERS)), PZ_WOKEN);
     CHECK((uint32_t)*heir(&file, cell) == SELF && !*sleepers(&file, cell));
     begin(0, COMES);
     refuses = EAGAIN;
