@@ -30,10 +30,10 @@ none_left p before n ls le = let z : before - n ≡ 0 = omega (arith, le) in ap 
 
 -- ---- the newest before a line
 
-one_newer : (es : List Line) (i : ℕ) (d : Line) → i < length es → reverse (take (i + 1) es) ≡ get_or es i d ∷ reverse (take i es)
+pub one_newer : (es : List Line) (i : ℕ) (d : Line) → i < length es → reverse (take (i + 1) es) ≡ get_or es i d ∷ reverse (take i es)
 one_newer es i d lt = ap reverse (take_more es i d lt) ∙ reverse-append (take i es) (get_or es i d ∷ [])
 
-length_so_far : (es : List Line) (i : ℕ) → i ≤ length es → length (reverse (take i es)) ≡ i
+pub length_so_far : (es : List Line) (i : ℕ) → i ≤ length es → length (reverse (take i es)) ≡ i
 length_so_far es i le = omega (arith, length-reverse (take i es), length-take-le i es le)
 
 pub newer : (p : Line → Bool) (es : List Line) (i : ℕ) (d : Line) (found next : Option ℕ) (b : Bool) → i < length es → found ≡ newest_line p (reverse (take i es)) → b ≡ p (get_or es i d) → next ≡ (if b then Some (i + 2) else found) → next ≡ newest_line p (reverse (take (i + 1) es))

@@ -8,3 +8,4 @@ pub mod Declared
 pub mod Letters
 pub mod Pointing
 pub mod Allowing
+pub mod Recalling

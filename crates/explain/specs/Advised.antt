@@ -2,7 +2,7 @@
 -- line it goes back to.
 use Rattle.std.specs.Prelude.{ℕ, ◌≡◌, ◌⊎◌, ◌+◌, ◌-◌, ◌==◌, ◌++◌, ◌||◌, nat_eq, nat_le, nat_lt, Bool, true, not}
 use Rattle.std.specs.Prelude.{◌&&◌, List, [], ◌∷◌, length, take, reverse, Option, Some, None}
-use Rattle.std.specs.Prelude.{option_and_then, option_map, slice_get, Ok, codes, if◌then◌else◌, MatchBool, MatchOption}
+use Rattle.std.specs.Prelude.{option_map, Ok, codes, if◌then◌else◌, MatchBool, MatchOption}
 use Rattle.std.specs.List.{list_any, starts_with}
 use Rattle.std.specs.Option.{is_none, is_some}
 use Rattle.std.specs.Str.{bytes_eq}
@@ -18,7 +18,6 @@ use Rattle.verdict.specs.declared.fault.Fault.TheVariants as of_trace
 use Rattle.verdict.specs.declared.fault.Fault.{Fault as TraceReason}
 use Rattle.posixmutex.specs.declared.point.Decision.{Decision}
 use Rattle.facts.specs.declared.fact.Line.{Line}
-use Rattle.facts.specs.Facts.{decision_of}
 use Rattle.verdict.specs.declared.misfit.Misfit.{Misfit}
 use Rattle.verdict.specs.declared.misfit.Misfit.TheVariants.{NotAllowed}
 use Rattle.verdict.specs.declared.misfit.TraceMisfit.{TraceMisfit}
@@ -36,17 +35,18 @@ use Rattle.explain.specs.declared.explanation.Looks.TheVariants.{Utf16, Binary, 
 use Rattle.explain.specs.declared.explanation.Note.TheVariants.{NoLineFeed, BadByte, LooksSo, BehindCommand}
 use Rattle.explain.specs.declared.explanation.Note.TheVariants.{Range, TooMany, PastLast}
 use Rattle.explain.specs.declared.explanation.Note.TheVariants.{NothingDeclared, Undeclared, OtherThing}
-use Rattle.explain.specs.declared.explanation.Note.TheVariants.{DeclaredTwice, DiesTwice, Allowed}
+use Rattle.explain.specs.declared.explanation.Note.TheVariants.{DeclaredTwice, DiesTwice, Allowed, SpoilingWait}
 use Rattle.explain.specs.declared.explanation.Note.TheVariants.{Bytes, Lines, Events, Uncounted, NoEnd, BehindEnd}
 use Rattle.explain.specs.declared.explanation.Title.{Title}
 use Rattle.explain.specs.declared.explanation.Title.TheVariants.{Good, Script, Legal, Illegal, Trace as TraceTitle}
 use Rattle.explain.specs.declared.explanation.Things.{Things}
 use Rattle.explain.specs.declared.explanation.Things.TheVariants.{Processes, Threads, Mutexes, Conditions}
 use Rattle.explain.specs.Allowed.{standing_of}
-use Rattle.explain.specs.Origins.{origin_of}
+use Rattle.explain.specs.Origins.{origin_of, step_at}
 use Rattle.explain.specs.Roles.{lack_note, uses_of}
 use Rattle.explain.specs.Sought.{count_of, declares, declares_any, first_line, is_clashing, is_command, is_of}
 use Rattle.explain.specs.Sought.{things_of}
+use Rattle.explain.specs.Spoiling.{death_before}
 use Rattle.explain.specs.Stray.{IsExpected, is_last, line_of, lines_in, stray_note, word_of}
 
 -- ---- what may be told
@@ -347,10 +347,6 @@ abbrev pub allowed_note : Misfit → Option Decision → Option Note
 allowed_note (NotAllowed o x) (Some d) = Some (Allowed (standing_of o d.thread) d.operation)
 allowed_note m d = None
 
--- the step of the line that doesn't fit, of these lines, the first of which is line 2
-abbrev pub step_at : List Line → ℕ → Option Decision
-step_at es line = option_and_then (λ e. decision_of e.fact) (slice_get es (line - 2))
-
 abbrev pub misfit_advice : List Line → TraceMisfit → Advice
 misfit_advice es why = record {
   mark = None;
@@ -363,12 +359,19 @@ misfit_advice es why = record {
 abbrev pub IsMisfitAdvice : List ℕ → TraceMisfit → Advice → Type 0
 IsMisfitAdvice bytes why a = (t : Trace) × (trace_read bytes ≡ Ok t) × (a ≡ misfit_advice (reverse t.told) why)
 
+-- of a legal trace's line that tells of a wait which makes its mutex unusable, what a run does, and the death that left
+-- the mutex inconsistent
+abbrev pub IsSpoilingAdvice : List ℕ → Option ℕ → Advice → Type 0
+IsSpoilingAdvice bytes None a = a ≡ nothing
+IsSpoilingAdvice bytes (Some line) a = (t : Trace) × (trace_read bytes ≡ Ok t)
+    × (a ≡ back_to (death_before (reverse t.told) line) (saying SpoilingWait))
+
 -- ---- all of them
 
 -- what is told beside this title of these bytes
 abbrev pub IsAdvised : List ℕ → Title → Advice → Type 0
 IsAdvised bytes (Good run threads) a = a ≡ nothing
 IsAdvised bytes (Script k e) a = IsScriptAdvice k bytes (lines_in bytes) e.line e.fault a
-IsAdvised bytes (Legal points) a = a ≡ nothing
+IsAdvised bytes (Legal points spoiling) a = IsSpoilingAdvice bytes spoiling a
 IsAdvised bytes (Illegal why) a = IsMisfitAdvice bytes why a
 IsAdvised bytes (TraceTitle e) a = IsTraceAdvice bytes (lines_in bytes) e.line e.fault a

@@ -1,6 +1,6 @@
 -- What is told of a file's bytes.
 use Rattle.std.specs.Prelude.{ℕ, ◌≡◌, ◌⊎◌, ◌||◌, ◌==◌, Bool, true, false, List, [], ◌∷◌, map, take, drop}
-use Rattle.std.specs.Prelude.{Option, Some, None, Ok, Err, codes, nat_eq, if◌then◌else◌}
+use Rattle.std.specs.Prelude.{Option, Some, None, Ok, Err, codes, nat_eq, reverse, if◌then◌else◌}
 use Rattle.std.specs.Char.{to_ascii_lowercase}
 use Rattle.std.specs.List.{starts_with}
 use Rattle.std.specs.Option.{is_none}
@@ -13,15 +13,15 @@ use Rattle.script.specs.declared.fault.Fault.TheVariants as fault
 use Rattle.script.specs.Scope.{Scope}
 use Rattle.script.specs.Reading.{script_read}
 use Rattle.script.specs.Playing.{overlong}
-use Rattle.verdict.specs.declared.checking.Finding.{Finding}
 use Rattle.verdict.specs.declared.checking.Finding.TheVariants as finding
-use Rattle.verdict.specs.Reading.{trace_read}
+use Rattle.verdict.specs.Reading.{Trace, trace_read}
 use Rattle.verdict.specs.Verdicts as verdicts
 use Rattle.wording.specs.Nexts.{mode_of_word}
 use Rattle.explain.specs.declared.explanation.Title.{Title}
-use Rattle.explain.specs.declared.explanation.Title.TheVariants.{Good, Script, Legal, Illegal, Trace}
+use Rattle.explain.specs.declared.explanation.Title.TheVariants.{Good, Script, Legal, Illegal, Trace as TraceTitle}
 use Rattle.explain.specs.declared.explanation.Explanation.{Explanation}
 use Rattle.explain.specs.Advised.{IsAdvised}
+use Rattle.explain.specs.Spoiling.{IsFirstSpoiling}
 use Rattle.explain.specs.Stray.{byte_order_mark, lines_in, word_of}
 use Rattle.explain.specs.Texts.{explanation_text}
 
@@ -84,25 +84,26 @@ pub record IsGood (bytes : List ℕ) (run threads : Bool) : Type 0 where
   pub plays : threads ≡ is_none of_threads
   pub some : (run || threads) ≡ true
 
+-- of the trace that the bytes are, the first line that tells of a wait which makes its mutex unusable
+abbrev pub IsSpoilingLine : List ℕ → Option ℕ → Type 0
+IsSpoilingLine bytes line = (t : Trace) × (trace_read bytes ≡ Ok t) × IsFirstSpoiling (reverse t.told) line
+
 -- what the title says is so: of a script what each mode finds; of a trace what its judge finds
 abbrev pub IsTitle : List ℕ → Title → Type 0
 IsTitle bytes (Good run threads) = IsGood bytes run threads
 IsTitle bytes (Script k e) = IsRefused bytes k e
-IsTitle bytes (Legal points) = verdicts.Tells (trace_read bytes) (Ok (finding.Legal points))
+IsTitle bytes (Legal points spoiling) =
+    verdicts.Tells (trace_read bytes) (Ok (finding.Legal points)) × IsSpoilingLine bytes spoiling
 IsTitle bytes (Illegal why) = verdicts.Tells (trace_read bytes) (Ok (finding.Illegal why))
-IsTitle bytes (Trace e) = trace_read bytes ≡ Err e
-
-abbrev pub title_of : Finding → Title
-title_of (finding.Legal points) = Legal points
-title_of (finding.Illegal why) = Illegal why
+IsTitle bytes (TraceTitle e) = trace_read bytes ≡ Err e
 
 abbrev pub IsOfKind : Bool → Title → Type 0
 IsOfKind true (Good run threads) = ⊥
 IsOfKind true (Script k e) = ⊥
 IsOfKind true t = Unit {0}
-IsOfKind false (Legal points) = ⊥
+IsOfKind false (Legal points spoiling) = ⊥
 IsOfKind false (Illegal why) = ⊥
-IsOfKind false (Trace e) = ⊥
+IsOfKind false (TraceTitle e) = ⊥
 IsOfKind false t = Unit {0}
 
 -- the bytes are told to be a trace where they begin as one
@@ -114,10 +115,10 @@ pub record Explains (bytes : List ℕ) (x : Explanation) : Type 0 where
 -- the exit status: 0 for what is good or legal
 abbrev pub status_of : Title → ℕ
 status_of (Good run threads) = 0
-status_of (Legal points) = 0
+status_of (Legal points spoiling) = 0
 status_of (Script k e) = 1
 status_of (Illegal why) = 1
-status_of (Trace e) = 1
+status_of (TraceTitle e) = 1
 
 -- the text of an explanation of the bytes, and its exit status
 abbrev pub IsTold : List ℕ → List ℕ → List ℕ → ℕ → Type 0

@@ -2,6 +2,7 @@ pub mod Stray
 pub mod Sought
 pub mod Roles
 pub mod Origins
+pub mod Spoiling
 pub mod Words
 pub mod Shown
 pub mod Misfits

@@ -8,7 +8,7 @@ use Rattle.explain.specs.declared.explanation.Note.TheVariants.{TrailingBlank, T
 use Rattle.explain.specs.declared.explanation.Note.TheVariants.{OtherMode, OfTrace, OfScript}
 use Rattle.explain.specs.declared.explanation.Note.TheVariants.{BehindCommand, Range, TooMany, PastLast}
 use Rattle.explain.specs.declared.explanation.Note.TheVariants.{NothingDeclared, Undeclared, OtherThing}
-use Rattle.explain.specs.declared.explanation.Note.TheVariants.{DeclaredTwice, DiesTwice, Allowed}
+use Rattle.explain.specs.declared.explanation.Note.TheVariants.{DeclaredTwice, DiesTwice, Allowed, SpoilingWait}
 use Rattle.explain.specs.declared.explanation.Note.TheVariants.{ByteOrderMark, Capitals, Slashes, CallWord}
 use Rattle.explain.specs.declared.explanation.Note.TheVariants.{Missing, BadByte, LooksSo}
 use Rattle.explain.specs.declared.explanation.Note.TheVariants.{Bytes, Lines, Events, Uncounted, NoEnd, BehindEnd}
@@ -56,6 +56,7 @@ said_text OfScript = codes "this is a line of a script, which doesn't begin with
 said_text BehindCommand = codes "declarations stand before the first command"
 said_text PastLast = codes "there aren't so many mutexes from this one on"
 said_text DiesTwice = codes "a thread dies once at most"
+said_text SpoilingWait = codes "a run's wait replies X_STATE while its mutex is inconsistent"
 said_text NoEnd = codes "the last line of a trace is `end N`"
 said_text BehindEnd = codes "nothing stands behind the `end` line"
 said_text (OtherMode k) = []
@@ -111,6 +112,7 @@ one_note OfScript = said OfScript
 one_note BehindCommand = said BehindCommand
 one_note PastLast = said PastLast
 one_note DiesTwice = said DiesTwice
+one_note SpoilingWait = said SpoilingWait
 one_note NoEnd = said NoEnd
 one_note BehindEnd = said BehindEnd
 

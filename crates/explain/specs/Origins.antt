@@ -1,6 +1,6 @@
 -- The earlier line of a trace that one which doesn't fit goes back to.
 use Rattle.std.specs.Prelude.{ℕ, ◌+◌, ◌-◌, Bool, true, false, ◌&&◌, ◌||◌, ◌==◌, not, List, [], ◌∷◌}
-use Rattle.std.specs.Prelude.{length, take, reverse, slice_get, Option, Some, None, if◌then◌else◌}
+use Rattle.std.specs.Prelude.{length, take, reverse, slice_get, Option, Some, None, option_and_then, if◌then◌else◌}
 use Rattle.posixmutex.specs.declared.point.Decision.{Decision}
 use Rattle.facts.specs.declared.fact.Fact.{Fact}
 use Rattle.facts.specs.declared.fact.Fact.TheVariants as fact
@@ -75,6 +75,10 @@ is_origin (AtLimit k) e a = false
 is_origin (NotOwner o) e a = is_step_like (decision_of e.fact) (decision_of a.fact)
 is_origin (StillOwns m) e a = is_step_of m (decision_of a.fact)
 is_origin (EndFalls i) e a = true
+
+-- the step that line n tells, of these lines, the first of which is line 2
+abbrev pub step_at : List Line → ℕ → Option Decision
+step_at es n = option_and_then (λ e. decision_of e.fact) (slice_get es (n - 2))
 
 -- of these lines, which stand newest first and the oldest of which is line 2, the line of the newest for which the test
 -- passes

@@ -52,9 +52,18 @@ trace_text file e = place_text file e.line
 unfoldable pub point_words : ℕ → List ℕ
 point_words n = if n == 1 then codes " point\n" else codes " points\n"
 
-abbrev pub legal_text : List ℕ → ℕ → List ℕ
-legal_text file points =
+abbrev pub points_text : List ℕ → ℕ → List ℕ
+points_text file points =
     concat (file ∷ codes ": a legal trace, of " ∷ []) ++ concat (decimal points ∷ point_words points ∷ [])
+
+-- the line of a legal trace that no run has
+abbrev pub spoiling_text : List ℕ → Option ℕ → List ℕ
+spoiling_text file None = []
+spoiling_text file (Some line) =
+    place_text file line ++ concat (codes "no run has this: the wait makes its mutex unusable\n" ∷ [])
+
+abbrev pub legal_text : List ℕ → ℕ → Option ℕ → List ℕ
+legal_text file points spoiling = points_text file points ++ spoiling_text file spoiling
 
 abbrev pub illegal_text : List ℕ → TraceMisfit → List ℕ
 illegal_text file why = place_text file why.line
@@ -63,7 +72,7 @@ illegal_text file why = place_text file why.line
 abbrev pub title_text : List ℕ → Title → List ℕ
 title_text file (Good run threads) = good_text file run threads
 title_text file (Script k e) = script_text file k e
-title_text file (Legal points) = legal_text file points
+title_text file (Legal points spoiling) = legal_text file points spoiling
 title_text file (Illegal why) = illegal_text file why
 title_text file (Trace e) = trace_text file e
 
@@ -71,7 +80,7 @@ title_text file (Trace e) = trace_text file e
 abbrev pub line_named : Title → Option ℕ
 line_named (Good run threads) = None
 line_named (Script k e) = Some e.line
-line_named (Legal points) = None
+line_named (Legal points spoiling) = spoiling
 line_named (Illegal why) = Some why.line
 line_named (Trace e) = Some e.line
 

@@ -24,6 +24,8 @@ pub enum Title {
     Legal {
         /// How many of its lines tell of a point.
         points: usize,
+        /// The first line, from 1, that tells of a wait which makes its mutex unusable: no run has such a line.
+        spoiling: Option<usize>,
     },
     /// A trace that isn't legal.
     Illegal(TraceMisfit),
@@ -100,6 +102,8 @@ pub enum Note {
     Uncounted(Things, u32),
     /// The mutex, as it is, allows the thread's operation other replies.
     Allowed(Standing, Operation),
+    /// A wait of an inconsistent mutex is refused in a run.
+    SpoilingWait,
     /// No `end` line ends the trace.
     NoEnd,
     /// Something stands behind the `end` line.

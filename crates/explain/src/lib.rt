@@ -4,8 +4,9 @@
 //! [`run`] is given the words of the command line, what opens files, and the two writers. Where nothing is told on
 //! `err` it has written all of an explanation of the file's bytes and let go of it, whose title is what the readers of
 //! scripts and the judge of traces find (`RunEnds`, `IsTold`, `IsTitle`), and whose mark is that of the first wrong
-//! word, number or name of the line that the title names (`IsAdvised`); else it has written a beginning of it, and one
-//! message on `err` says why. It reads at most one byte more than a trace may have.
+//! word, number or name of the line that the title names (`IsAdvised`). Of a legal trace it names the first at which a
+//! wait makes its mutex unusable (`IsFirstSpoiling`). Else it has written a beginning of it, and one message on `err`
+//! says why. It reads at most one byte more than a trace may have.
 //!
 //! Stands on `wording`, for the first wrong word of a line and the nearest known one, on `script` and `verdict`, for
 //! faults and reasons, on `lines`, for lines and words, on `facts`, `posixmutex` and `lockword`, for what lines of a
@@ -40,6 +41,7 @@ mod roles;
 mod scripts;
 mod serving;
 mod sought;
+mod spoiling;
 mod stray;
 mod telling;
 mod traces;

@@ -118,6 +118,7 @@ fn said_of(note: &Note) -> &'static str
         Note::BehindCommand => "declarations stand before the first command",
         Note::PastLast => "there aren't so many mutexes from this one on",
         Note::DiesTwice => "a thread dies once at most",
+        Note::SpoilingWait => "a run's wait replies X_STATE while its mutex is inconsistent",
         Note::NoEnd => "the last line of a trace is `end N`",
         Note::BehindEnd => "nothing stands behind the `end` line",
         _ => "",

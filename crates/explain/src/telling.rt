@@ -5,8 +5,8 @@ ghost use Rattle.explain.specs.Shown.{begins_character, columns};
 ghost use Rattle.explain.specs.Texts.{caret_text, earlier_text, expected_text, explanation_text};
 ghost use Rattle.explain.specs.Texts.{fault_text, good_text, illegal_text, known_text, legal_text};
 ghost use Rattle.explain.specs.Texts.{line_named, line_text, mark_text, near_text, origin_text, place_text};
-ghost use Rattle.explain.specs.Texts.{point_words};
-ghost use Rattle.explain.specs.Texts.{programs, quote_text, script_text, title_text, trace_text};
+ghost use Rattle.explain.specs.Texts.{point_words, points_text};
+ghost use Rattle.explain.specs.Texts.{programs, quote_text, script_text, spoiling_text, title_text, trace_text};
 
 use crate::adding::{WIDTH, add, add_run, add_shown};
 use crate::explanation::{Explanation, Mark, Title};
@@ -87,13 +87,40 @@ fn point_words(points: usize) -> &'static str
     if points == 1 { " point\n" } else { " points\n" }
 }
 
-/// A legal trace.
-fn add_legal(text: &mut Vec<u8>, file: &str, points: usize) -> Result<(), AllocError>
-    ensures { OnOk result (text.new.items ≡ text.old.items ++ legal_text file.now points) }
+/// How many points a legal trace has.
+fn add_points(text: &mut Vec<u8>, file: &str, points: usize) -> Result<(), AllocError>
+    ensures { OnOk result (text.new.items ≡ text.old.items ++ points_text file.now points) }
 {
     let mut numbers = Buffer::new();
     add(text, &[file, ": a legal trace, of "])?;
     add(text, &[numbers.format(points), point_words(points)])
+}
+
+/// The line of a legal trace that no run has.
+fn add_spoiling(text: &mut Vec<u8>, file: &str, spoiling: Option<usize>) -> Result<(), AllocError>
+    ensures { OnOk result (text.new.items ≡ text.old.items ++ spoiling_text file.now spoiling) }
+{
+    let Some(line) = spoiling else {
+        return Ok(());
+    };
+    add_place(text, file, line)?;
+    add(
+        text,
+        &["no run has this: the wait makes its mutex unusable\n"],
+    )
+}
+
+/// A legal trace.
+fn add_legal(
+    text: &mut Vec<u8>,
+    file: &str,
+    points: usize,
+    spoiling: Option<usize>,
+) -> Result<(), AllocError>
+    ensures { OnOk result (text.new.items ≡ text.old.items ++ legal_text file.now points spoiling) }
+{
+    add_points(text, file, points)?;
+    add_spoiling(text, file, spoiling)
 }
 
 /// A line of a trace that doesn't fit.
@@ -114,7 +141,7 @@ fn add_title(text: &mut Vec<u8>, file: &str, title: &Title) -> Result<(), AllocE
         Title::Good { run, threads } => add_good(text, file, run, threads),
         Title::Script(mode, fault) => add_script(text, file, mode, fault),
         Title::Trace(fault) => add_trace(text, file, fault),
-        Title::Legal { points } => add_legal(text, file, points),
+        Title::Legal { points, spoiling } => add_legal(text, file, points, spoiling),
         Title::Illegal(why) => add_illegal(text, file, &why),
     }
 }
@@ -125,7 +152,7 @@ fn line_named(title: &Title) -> Option<usize>
 {
     match *title {
         Title::Good { .. } => None,
-        Title::Legal { .. } => None,
+        Title::Legal { spoiling, .. } => spoiling,
         Title::Script(_, fault) => Some(fault.line),
         Title::Trace(fault) => Some(fault.line),
         Title::Illegal(why) => Some(why.line),

@@ -2,10 +2,13 @@
 
 ghost use Rattle.std.specs.Prelude.{◌≡◌, ◌≢◌, ◌<◌, ◌^◌, true, length, IfOk};
 ghost use Rattle.lines.specs.Lines.{words_of};
+ghost use Rattle.verdict.specs.Reading.{trace_read};
+ghost use Rattle.verdict.specs.Verdicts.{Tells};
 ghost use Rattle.explain.specs.Advised.{IsAdvised, IsMisfitAdvice, IsTraceAdvice, cut_short};
-ghost use Rattle.explain.specs.Advised.{allowed_note, head_range, kind_of, line_range, misfit_advice, step_at};
+ghost use Rattle.explain.specs.Advised.{allowed_note, head_range, kind_of, line_range, misfit_advice};
 ghost use Rattle.explain.specs.Advised.{trace_range, uncounted_at};
-ghost use Rattle.explain.specs.Explains.{IsOfKind, IsTitle, title_of};
+ghost use Rattle.explain.specs.Explains.{IsOfKind, IsTitle};
+ghost use Rattle.explain.specs.Origins.{step_at};
 
 use crate::allowed::standing_of;
 use crate::encodings::no_text;
@@ -14,6 +17,7 @@ use crate::origins::origin_of;
 use crate::quoting::{is_last, line_of, lines_in};
 use crate::ranges::{ranged, uncounted};
 use crate::sought::word_of;
+use crate::spoiling::first_spoiling;
 use crate::stray::stray_advice;
 use facts::Line;
 use posixmutex::Decision;
@@ -159,6 +163,34 @@ fn illegal(alloc: Global, bytes: &[u8], why: TraceMisfit) -> Result<Advice<'stat
     Ok(misfit_advice(&trace.lines, why))
 }
 
+/// What is told of a legal trace.
+fn legal<'a>(alloc: Global, bytes: &'a [u8], points: usize) -> Result<Explanation<'a>, AllocError>
+    requires { Tells (trace_read bytes.now) (Ok (Finding.Legal points)) }
+    ensures kind { IfOk result (λ x. IsOfKind true x.title) }
+    ensures title { IfOk result (λ x. IsTitle bytes.entry.now x.title) }
+    ensures advised { IfOk result (λ x. IsAdvised bytes.entry.now x.title x.advice) }
+{
+    let Ok(trace) = read_trace(alloc, bytes) else {
+        return Err(AllocError);
+    };
+    match first_spoiling(alloc, trace.head, &trace.lines)? {
+        None => Ok(Explanation {
+            title: Title::Legal {
+                points,
+                spoiling: None,
+            },
+            advice: Advice::none(),
+        }),
+        Some(spoiling) => Ok(Explanation {
+            title: Title::Legal {
+                points,
+                spoiling: Some(spoiling.line),
+            },
+            advice: Advice::only(Note::SpoilingWait).back_to(Some(spoiling.death)),
+        }),
+    }
+}
+
 /// The fault, where it isn't want of memory.
 fn known(fault: TraceFault) -> Result<TraceFault, AllocError>
     ensures { IfOk result (λ f. (f ≡ fault) × (fault.fault ≢ Fault.OutOfMemory)) }
@@ -169,20 +201,19 @@ fn known(fault: TraceFault) -> Result<TraceFault, AllocError>
     }
 }
 
-/// What is told of a trace without fault.
+/// What is told of a trace without fault, of which the judge finds this.
 fn found<'a>(
     alloc: Global,
     bytes: &'a [u8],
     finding: Finding,
 ) -> Result<Explanation<'a>, AllocError>
-    ensures title { IfOk result (λ x. x.title ≡ title_of finding) }
+    requires { Tells (trace_read bytes.now) (Ok finding) }
+    ensures kind { IfOk result (λ x. IsOfKind true x.title) }
+    ensures title { IfOk result (λ x. IsTitle bytes.entry.now x.title) }
     ensures advised { IfOk result (λ x. IsAdvised bytes.entry.now x.title x.advice) }
 {
     match finding {
-        Finding::Legal { points } => Ok(Explanation {
-            title: Title::Legal { points },
-            advice: Advice::none(),
-        }),
+        Finding::Legal { points } => legal(alloc, bytes, points),
         Finding::Illegal(why) => Ok(Explanation {
             title: Title::Illegal(why),
             advice: illegal(alloc, bytes, why)?,

@@ -1,11 +1,11 @@
 //! `rfx-explain` from the words of its command line on: its forms, files that are there or not, writers that fail,
 //! refused memory.
 
-use crate::answers::answer_of;
+use crate::answers::{answer_of, explains_or_wants_memory};
 use explain::{OUT_OF_MEMORY, run};
 use std::alloc::{AllocError, Global};
 use std::io::{self, ErrorKind};
-use text_fixtures::{Faulty, Fixed, Folder, words};
+use text_fixtures::{Faulty, Folder, words};
 
 const SCRIPT: &[u8] = b"tread a\n";
 
@@ -85,20 +85,8 @@ fn writers_that_fail_are_told(rt: HostRuntime) {
     assert!(rt; err.held.as_slice() == "rfx-explain:".as_bytes());
 }
 
-/// Whether the explanation was written and nothing told; or nothing was printed, and want of memory told.
-fn explains_or_wants_memory(alloc: Global) -> bool {
-    let mut out = Fixed::new();
-    let mut err = Fixed::new();
-    let line = words(alloc, &["rfx-explain", "f"]);
-    let status = run(alloc, line, &Folder::new(SCRIPT), &mut out, &mut err);
-    if out.bytes() == TEXT.as_bytes() {
-        return status == 1 && err.bytes().is_empty();
-    }
-    status == 1 && out.bytes().is_empty() && err.bytes() == OUT_OF_MEMORY.as_bytes()
-}
-
 /// Passes too where any one allocation fails: nothing is printed then, and want of memory is told.
 #[test]
 fn memory_for_an_explanation(rt: HostRuntime) {
-    assert!(rt; explains_or_wants_memory(rt.alloc()));
+    assert!(rt; explains_or_wants_memory(rt.alloc(), SCRIPT, 1, TEXT));
 }

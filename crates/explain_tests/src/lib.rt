@@ -8,3 +8,5 @@ mod answers;
 mod commands;
 #[cfg(test)]
 mod mistakes;
+#[cfg(test)]
+mod waits;
