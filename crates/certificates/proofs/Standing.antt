@@ -1,0 +1,123 @@
+-- The steps so far certify the entries so far.
+use Rattle.std.proofs.Common.{◌≡◌, ℕ, zero, suc, ◌<◌, ◌≤◌, ◌+◌, inl, inr, Bool, true, false, List, [], ◌∷◌, ◌++◌, length, reverse, take, Option, Some, None, refl, sym, ap, subst, ◌∙◌, arith, add-one}
+use Rattle.std.specs.List.{slice_get}
+use Rattle.std.proofs.lemmas.List.{reverse-append}
+use Rattle.std.specs.Prelude.{if◌then◌else◌, slice_set}
+use Rattle.facts.specs.declared.fact.Fact.{Fact}
+use Rattle.facts.specs.Facts.{thread_of}
+use Rattle.verdict.specs.Earlier.{told_of}
+use Rattle.verdict.specs.Fits.{Fits}
+use Rattle.verdict.specs.Judges.{IsMutex, object_at}
+use Rattle.verdict.proofs.Stages.{Kept}
+use Rattle.histories.specs.declared.entry.Entry.{Entry}
+use Rattle.histories.specs.declared.entry.Entry.TheVariants.{Told, Doom}
+use Rattle.histories.specs.declared.head.Head.{Head}
+use Rattle.histories.specs.Histories.{Certifies, Shows, Nothing, Hides, Tells, Dooms, Kills}
+use Rattle.certificates.specs.declared.state.State.{State}
+use Rattle.certificates.specs.Phases.{stage_of}
+use Rattle.certificates.specs.States.{Accepts, IsDoomed, IsNew, IsSound, Moves, doom_at, phase_at}
+use Rattle.certificates.specs.Certificates.{Takes, TakesFact, trace_of}
+use Rattle.certificates.proofs.Fitting.{Reflects, accepts_fits, accepts_releases, line, reflects_new, reflects_next}
+use Rattle.certificates.proofs.Showing.{alive, nobody_yet, with_one, without_one}
+
+pub record Stands (n : ℕ) (h steps : List Entry) (s : State) : Type 0 where
+  pub many : length s.objects.items ≡ n
+  pub reflects : Reflects s (trace_of steps)
+  pub certifies : Certifies n (doom_at s.doomed.items) (trace_of steps) h
+
+pub begins : (h : Head) (s : State) → IsNew h s → Stands h.mutexes [] [] s
+begins h s new = record {
+  many = new.many;
+  reflects = reflects_new h s new;
+  certifies = record { fits = tt; waits = tt; inside = tt; shows = subst (λ d. Shows d [] []) (sym (nobody_yet h s new)) Nothing };
+}
+
+-- a line that fits, where it shows this history
+goes : (n : ℕ) (h more steps : List Entry) (f : Fact) (ds : List Bool) (s k : State) → Stands n h steps s → Accepts s f → Moves s f ds k → (Shows (doom_at s.doomed.items) (trace_of steps) h → Shows (doom_at ds) (line steps f ∷ trace_of steps) more) → Stands n more (Told f ∷ steps) k
+goes n h more steps f ds s k w a m shows = record {
+  many = m.many ∙ w.many;
+  reflects = reflects_next s k (trace_of steps) (line steps f) ds w.reflects a m;
+  certifies = record {
+    fits = (subst (λ j. Fits j (trace_of steps) (line steps f)) w.many (accepts_fits s steps f w.reflects a), w.certifies.fits);
+    waits = (accepts_releases s (trace_of steps) f w.reflects a, w.certifies.waits);
+    inside = (subst (λ j. IsMutex j f) w.many a.inside, w.certifies.inside);
+    shows = subst (λ xs. Shows (doom_at xs) (line steps f ∷ trace_of steps) more) (sym m.doomed) (shows w.certifies.shows);
+  };
+}
+
+takes_fact : (n : ℕ) (h steps : List Entry) (next : Option Entry) (f : Fact) (tells : Bool) (s k : State) → IsSound s → Stands n h steps s → Accepts s f → TakesFact s next f tells k → Stands n (if tells then Told f ∷ h else h) (Told f ∷ steps) k
+takes_fact n h steps next f tells s k sound w a (inl x) =
+    subst (λ b. Stands n (if b then Told f ∷ h else h) (Told f ∷ steps) k) (sym x.1)
+    (goes n h h steps f s.doomed.items s k w a x.2 (λ shows. Hides (doom_at s.doomed.items) (line steps f) (trace_of steps) h x.0 shows))
+takes_fact n h steps next f tells s k sound w a (inr (inl x)) =
+    subst (λ b. Stands n (if b then Told f ∷ h else h) (Told f ∷ steps) k) (sym x.2)
+    (goes n h (Told f ∷ h) steps f s.doomed.items s k w a x.4 (λ shows. Tells (doom_at s.doomed.items) (line steps f) (trace_of steps) h x.0 x.1 shows))
+takes_fact n h steps next f tells s k sound w a (inr (inr x)) =
+    let inside : thread_of f < length s.doomed.items = omega (arith, a.thread, sound.each_doom) in
+    subst (λ b. Stands n (if b then Told f ∷ h else h) (Told f ∷ steps) k) (sym x.2)
+    (goes n h h steps f (slice_set s.doomed.items (thread_of f) false) s k w a x.3
+    (λ shows. subst (λ d. Shows d (line steps f ∷ trace_of steps) h) (sym (without_one s.doomed.items (thread_of f) inside))
+    (Kills (doom_at s.doomed.items) (thread_of f) (line steps f) (trace_of steps) h x.0 x.1 shows)))
+
+-- a doom
+dooms : (n : ℕ) (h steps : List Entry) (t : ℕ) (s k : State) → IsSound s → Stands n h steps s → IsDoomed s t k → Stands n (Doom t ∷ h) (Doom t ∷ steps) k
+dooms n h steps t s k sound w d =
+    let inside : t < length s.doomed.items = omega (arith, d.thread, sound.each_doom) in
+    let now = ap doom_at d.doomed ∙ with_one s.doomed.items t inside in
+    record {
+      many = ap length d.objects ∙ w.many;
+      reflects = record {
+        phases = λ u. subst (λ xs. Kept (stage_of (phase_at xs u)) (told_of u (trace_of steps))) (sym d.phases) (w.reflects.phases u);
+        objects = ap object_at d.objects ∙ w.reflects.objects;
+      };
+      certifies = record {
+        fits = w.certifies.fits;
+        waits = w.certifies.waits;
+        inside = w.certifies.inside;
+        shows = subst (λ g. Shows g (trace_of steps) (Doom t ∷ h)) (sym now)
+            (Dooms (doom_at s.doomed.items) t (trace_of steps) h d.free (alive (phase_at s.phases.items t) (told_of t (trace_of steps)) d.alive (w.reflects.phases t)) w.certifies.shows);
+      };
+    }
+
+pub takes : (n : ℕ) (h steps : List Entry) (next : Option Entry) (e : Entry) (tells : Bool) (s k : State) → IsSound s → Stands n h steps s → Takes s next e tells k → Stands n (if tells then e ∷ h else h) (e ∷ steps) k
+takes n h steps next (Told f) tells s k sound w x = takes_fact n h steps next f tells s k sound w x.0 x.1
+takes n h steps next (Doom t) tells s k sound w x = subst (λ b. Stands n (if b then Doom t ∷ h else h) (Doom t ∷ steps) k) (sym x.0) (dooms n h steps t s k sound w x.2)
+
+-- what is told is the history's next entry
+pub tells_next : (next : Option Entry) (e : Entry) (s k : State) → Takes s next e true k → next ≡ Some e
+tells_next next (Told f) s k x = told x.1 where
+  told : TakesFact s next f true k → next ≡ Some (Told f)
+  told (inl y) = let no : true ≡ false = y.1 in absurd cc
+  told (inr (inl y)) = y.3
+  told (inr (inr y)) = let no : true ≡ false = y.2 in absurd cc
+tells_next next (Doom t) s k x = x.1
+
+-- ---- as the loop goes on
+
+got : (xs : List Entry) (i : ℕ) (e : Entry) → slice_get xs i ≡ Some e → (take (suc i) xs ≡ take i xs ++ e ∷ []) × (i < length xs)
+got [] i e is = let no : None ≡ Some e = is in absurd cc
+got (x ∷ xs) zero e is = let same : x ≡ e = cc in (ap (λ y. y ∷ []) same, omega arith)
+got (x ∷ xs) (suc i) e is = let rest = got xs i e is in (ap (λ ys. x ∷ ys) rest.0, omega (arith, rest.1))
+
+one_more : (xs : List Entry) (i : ℕ) (e : Entry) → take (i + 1) xs ≡ take i xs ++ e ∷ [] → reverse (take (i + 1) xs) ≡ e ∷ reverse (take i xs)
+one_more xs i e is = ap reverse is ∙ reverse-append (take i xs) (e ∷ [])
+
+pub shown_within : (xs : List Entry) (shown : ℕ) (e : Entry) (s k : State) → Takes s (slice_get xs shown) e true k → shown < length xs
+shown_within xs shown e s k x = (got xs shown e (tells_next (slice_get xs shown) e s k x)).1
+
+-- the history's entries up to here are told
+pub turns : (n : ℕ) (xs steps : List Entry) (shown i : ℕ) (e : Entry) (tells : Bool) (s k : State) → IsSound s → take (i + 1) steps ≡ take i steps ++ e ∷ [] → Takes s (slice_get xs shown) e tells k
+    → Stands n (reverse (take shown xs)) (reverse (take i steps)) s → Stands n (reverse (take (if tells then shown + 1 else shown) xs)) (reverse (take (i + 1) steps)) k
+turns n xs steps shown i e true s k sound step x w =
+    let more = got xs shown e (tells_next (slice_get xs shown) e s k x) in
+    let told : take (shown + 1) xs ≡ take shown xs ++ e ∷ [] = rw add-one more.0 in
+    subst (λ h. Stands n h (reverse (take (i + 1) steps)) k) (sym (one_more xs shown e told))
+    (subst (λ es. Stands n (e ∷ reverse (take shown xs)) es k) (sym (one_more steps i e step))
+    (takes n (reverse (take shown xs)) (reverse (take i steps)) (slice_get xs shown) e true s k sound w x))
+turns n xs steps shown i e false s k sound step x w =
+    subst (λ es. Stands n (reverse (take shown xs)) es k) (sym (one_more steps i e step))
+    (takes n (reverse (take shown xs)) (reverse (take i steps)) (slice_get xs shown) e false s k sound w x)
+
+pub within_next : (tells : Bool) (shown total : ℕ) → (tells ≡ true → shown < total) → shown ≤ total → (if tells then shown + 1 else shown) ≤ total
+within_next true shown total h le = let lt : shown < total = h refl in omega arith
+within_next false shown total h le = le

@@ -1,0 +1,12 @@
+use Rattle.std.proofs.Common.{ap, length, ◌∙◌}
+use Rattle.std.proofs.Math.ListN.{length-replicate}
+use Rattle.posixmutex.specs.Objects.{fresh}
+use Rattle.verdict.specs.Judges.{object_at}
+use Rattle.verdict.proofs.Owners.{all_alike}
+use Rattle.certificates.proofs.state.free.Goals as goal
+
+pub returns-clause-count : goal.returns-clause-count
+returns-clause-count c = ap length (c.in_ok-objects.ensures.items_if_clones_equal (λ y e. e)) ∙ length-replicate _ _
+
+pub returns-clause-each : goal.returns-clause-each
+returns-clause-each c = λ k. ap (λ xs. object_at xs k) (c.in_ok-objects.ensures.items_if_clones_equal (λ y e. e)) ∙ all_alike _ fresh k

@@ -1,0 +1,25 @@
+//! Certificates of histories: whether steps show that a history is legal.
+//!
+//! A certificate is a list of steps: lines of a trace, and the dooms of threads between them. [`certify`] goes over it
+//! once, beside the history. Each line of the trace has to be accepted by the rules of the judge of traces, which are
+//! cited by their definitions (`Fits`); a wait may release a consistent mutex only; and what the steps show has to be
+//! just the history. So where it answers true, the history is legal (`LegalHistory`), with this trace, numbered from 1.
+//! That it accepts whatever is a certificate isn't proved. It asks for memory once, for each thread and each mutex.
+//!
+//! Stands on `histories`, for what a legal history is, on `verdict`, for the rules of a trace's lines, on `facts`, for
+//! what lines say, on `posixmutex`, for mutexes as objects, and on `lockword`, for thread ids and replies.
+//!
+//! ```text
+//! // 1 begin t1 lock m0, 2 return t1 OK; and the same with the point between them
+//! if certify(rt.alloc(), &head, &history, &steps)? {
+//!     let points = points_of(&steps);
+//!     println!(rt; "legal {points} points")?;
+//! }
+//! ```
+#![tactic(auto)]
+
+mod certifying;
+mod phase;
+mod state;
+
+pub use certifying::{certify, points_of};

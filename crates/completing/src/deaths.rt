@@ -1,0 +1,192 @@
+//! When doomed threads die.
+
+use crate::contended::{Contended, Step};
+use crate::pass::Pass;
+use crate::stop::{Stop, keep};
+use facts::Fact;
+use histories::{Entry, HistoryLine};
+use lockword::Tid;
+use posixmutex::Operation;
+use std::alloc::Global;
+
+/// A doomed thread's kill: behind this line.
+#[derive(Clone, Copy)]
+pub struct Dying {
+    pub gap: u32,
+    pub thread: Tid,
+}
+
+/// Whether some of the lines dooms a thread.
+pub fn has_dooms(lines: &[HistoryLine]) -> bool {
+    lines.iter().any(|line| match line.entry {
+        Entry::Doom(_) => true,
+        Entry::Told(_) => false,
+    })
+}
+
+/// A thread's reaping.
+#[derive(Clone, Copy)]
+struct Reaping {
+    at: u32,
+    thread: Tid,
+}
+
+/// The reapings, in their order.
+fn reapings(alloc: Global, lines: &[HistoryLine]) -> Result<Vec<Reaping>, Stop> {
+    let mut reapings = Vec::new(alloc);
+    let mut at: u32 = 0;
+    for line in lines {
+        at = at.wrapping_add(1);
+        if let Entry::Told(Fact::Reap(thread)) = line.entry {
+            keep(&mut reapings, Reaping { at, thread })?;
+        }
+    }
+    Ok(reapings)
+}
+
+/// When the thread is reaped, behind that moment; behind the last line where it isn't.
+fn reaped_behind(reapings: &[Reaping], last: u32, thread: Tid, moment: u32) -> u32 {
+    let from = reapings.partition_point(|reaping| reaping.at <= moment);
+    for (at, reaping) in reapings.iter().enumerate() {
+        if from <= at && reaping.thread == thread {
+            return reaping.at;
+        }
+    }
+    last.wrapping_add(1)
+}
+
+/// The number of lines, as a moment.
+fn last_of(lines: &[HistoryLine]) -> u32 {
+    match u32::try_from(lines.len()) {
+        Ok(last) => last,
+        Err(_) => u32::MAX,
+    }
+}
+
+/// Has the deaths at a mutex as late as they may be.
+fn delay(contended: &mut Contended, reapings: &[Reaping], last: u32) {
+    let mut next = last;
+    for back in 1..usize::MAX {
+        let Some(at) = contended.decided.len().checked_sub(back) else {
+            break;
+        };
+        let Some(step) = contended.decided.get_mut(at) else {
+            break;
+        };
+        if step.operation == Operation::Death {
+            let reaped = reaped_behind(reapings, last, step.thread, step.at);
+            step.at = next.min(reaped.wrapping_sub(1)).max(step.at);
+        }
+        next = step.at;
+    }
+}
+
+/// Has the takings as early as they may be.
+fn hasten(contended: &mut Contended) {
+    let mut before: u32 = 0;
+    for step in contended.decided.iter_mut() {
+        match step.operation {
+            Operation::Lock | Operation::TryLock => step.at = before.max(step.begin),
+            _ => {}
+        }
+        before = step.at;
+    }
+}
+
+/// Moves deaths as far behind, and takings as far ahead, as the other steps let them.
+pub fn late_deaths(alloc: Global, lines: &[HistoryLine], pass: &mut Pass) -> Result<(), Stop> {
+    let reapings = reapings(alloc, lines)?;
+    for contended in pass.mutexes.iter_mut() {
+        delay(contended, &reapings, last_of(lines));
+        hasten(contended);
+    }
+    Ok(())
+}
+
+/// The last call of a thread, and its doom.
+#[derive(Clone, Copy)]
+struct Doomed {
+    thread: Tid,
+    /// When its last call began; 0 where it is in none.
+    begin: u32,
+    doom: u32,
+    reaped: u32,
+    /// When the last step of its last call was.
+    acts: u32,
+    /// When its first death was.
+    dies: u32,
+}
+
+/// The doomed threads' last calls, in the order of their dooms.
+fn last_calls(alloc: Global, lines: &[HistoryLine]) -> Result<Vec<Doomed>, Stop> {
+    let reapings = reapings(alloc, lines)?;
+    let last = last_of(lines);
+    let mut begins = [0_u32; 65];
+    let mut doomed = Vec::new(alloc);
+    let mut at: u32 = 0;
+    for line in lines {
+        at = at.wrapping_add(1);
+        match line.entry {
+            Entry::Told(Fact::Begin(thread, _)) => begins[usize::from(thread.get())] = at,
+            Entry::Told(_) => {}
+            Entry::Doom(thread) => {
+                let reaped = reaped_behind(&reapings, last, thread, at);
+                let one = Doomed {
+                    thread,
+                    begin: begins[usize::from(thread.get())],
+                    doom: at,
+                    reaped,
+                    acts: at,
+                    dies: reaped.wrapping_sub(1),
+                };
+                keep(&mut doomed, one)?;
+            }
+        }
+    }
+    Ok(doomed)
+}
+
+/// What a step says of when its thread may have died.
+fn bound(doomed: &mut Vec<Doomed>, step: &Step) {
+    for one in doomed.iter_mut() {
+        if one.thread != step.thread || one.reaped <= step.at {
+            continue;
+        }
+        if step.operation == Operation::Death {
+            if one.doom <= step.at {
+                one.dies = one.dies.min(step.at);
+            }
+        } else if step.begin == one.begin {
+            one.acts = one.acts.max(step.at);
+        }
+    }
+}
+
+/// When the doomed threads die: behind what their last calls did, and before any of their deaths. The order is that of
+/// these moments.
+pub fn dyings(alloc: Global, lines: &[HistoryLine], pass: &Pass) -> Result<Vec<Dying>, Stop> {
+    let mut doomed = last_calls(alloc, lines)?;
+    let mut dyings = Vec::new(alloc);
+    if doomed.is_empty() {
+        return Ok(dyings);
+    }
+    for contended in &pass.mutexes {
+        for step in &contended.decided {
+            bound(&mut doomed, step);
+        }
+    }
+    for one in &doomed {
+        if one.dies < one.acts {
+            return Err(Stop::Lost);
+        }
+        keep(
+            &mut dyings,
+            Dying {
+                gap: one.acts,
+                thread: one.thread,
+            },
+        )?;
+    }
+    dyings.sort_unstable_by_key(|one: &Dying| (one.gap, one.thread.get()));
+    Ok(dyings)
+}

@@ -1,0 +1,92 @@
+//! Which replies a state allows.
+
+use crate::pending::{Pending, State};
+use lockword::Reply;
+use posixmutex::Operation;
+
+/// Whether the call, which takes the mutex if it can, may return so from this state.
+fn taken(call: &Pending, reply: Reply, state: &State) -> bool {
+    let owns = state.owner == Some(call.thread);
+    let tries = call.operation == Operation::TryLock;
+    match reply {
+        Reply::OK => owns && !state.inconsistent,
+        Reply::EOWNERDEAD => owns && state.inconsistent,
+        Reply::ENOTRECOVERABLE => !owns && (state.unusable || state.spoiled >= call.begin),
+        Reply::EBUSY => tries && !owns && (state.owner.is_some() || state.held >= call.begin),
+        Reply::XRACED => {
+            let free = state.owner.is_none() && !state.unusable;
+            tries && !owns && (free || state.free >= call.begin)
+        }
+        _ => false,
+    }
+}
+
+/// The same of a lock or trylock.
+fn locked(call: &Pending, reply: Reply, state: &State) -> bool {
+    if call.full {
+        return reply == Reply::XHELD;
+    }
+    if !call.owned {
+        return taken(call, reply, state);
+    }
+    match call.operation {
+        Operation::TryLock => reply == Reply::EBUSY,
+        _ => reply == Reply::EDEADLK,
+    }
+}
+
+/// The same of a wait by the owner.
+fn waited(call: &Pending, reply: Reply, state: &State) -> bool {
+    if call.inconsistent {
+        return reply == Reply::XSTATE;
+    }
+    let owns = state.owner == Some(call.thread);
+    match reply {
+        Reply::OK => owns && state.retaken && !state.inconsistent,
+        Reply::EOWNERDEAD => owns && state.retaken && state.inconsistent,
+        Reply::ENOTRECOVERABLE => !owns && (state.unusable || state.spoiled >= call.begin),
+        _ => false,
+    }
+}
+
+/// The same of the owner's other calls.
+fn owned(call: &Pending, reply: Reply, state: &State) -> bool {
+    match call.operation {
+        Operation::Unlock => reply == Reply::OK && state.owner != Some(call.thread),
+        Operation::Consistent => {
+            if call.inconsistent {
+                reply == Reply::OK && !state.inconsistent
+            } else {
+                reply == Reply::EINVAL
+            }
+        }
+        Operation::Wait => waited(call, reply, state),
+        _ => reply == Reply::OK || reply == Reply::XFULL,
+    }
+}
+
+/// Whether the call may return so from this state.
+pub fn allows(call: &Pending, reply: Reply, state: &State) -> bool {
+    match call.operation {
+        Operation::Lock | Operation::TryLock => locked(call, reply, state),
+        Operation::Reinit => reply == Reply::OK && call.has_acted(state),
+        Operation::Death => false,
+        _ => {
+            if call.owned {
+                owned(call, reply, state)
+            } else {
+                reply == Reply::EPERM
+            }
+        }
+    }
+}
+
+/// Whether the reply's point changes nothing; it then stands wherever the state allows it.
+pub fn only_looks(operation: Operation, reply: Reply) -> bool {
+    match operation {
+        Operation::Lock | Operation::TryLock => reply != Reply::OK && reply != Reply::EOWNERDEAD,
+        Operation::Wait => reply != Reply::OK && reply != Reply::EOWNERDEAD,
+        Operation::Unlock | Operation::Consistent | Operation::Reinit => reply != Reply::OK,
+        _ => true,
+    }
+}

@@ -1,0 +1,3 @@
+pub mod Numerals
+pub mod Spelling
+pub mod Showing

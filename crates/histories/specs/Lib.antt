@@ -1,0 +1,5 @@
+pub mod Limits
+pub mod Faults
+pub mod Forms
+pub mod Reading
+pub mod Histories

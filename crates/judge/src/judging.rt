@@ -1,0 +1,250 @@
+//! The judgement of a history.
+
+ghost use Rattle.std.specs.Prelude.{◌≡◌, true, IfOk, IfSome};
+ghost use Rattle.certificates.specs.Certificates.{IsCertificate};
+ghost use Rattle.histories.specs.Reading.{IsHead};
+ghost use Rattle.judge.specs.Judgements.{IsJudged, IsLegal};
+
+use certificates::certify;
+use completing::{Pass, Refusal, Stop, has_dooms, weave};
+use histories::{Entry, Head, HistoryLine};
+use std::alloc::{AllocError, Global};
+
+/// What a history is found to be.
+#[derive(Drop)]
+pub enum Judgement {
+    /// Some trace shows it: these are its steps, a certificate.
+    Legal(Vec<Entry>),
+    /// The history is legal up to this place of a line, counted from 0; with that line no order of the calls explains it.
+    Illegal(usize, Refusal),
+    /// The history is legal up to this place of a line; with that line no certificate was found.
+    Undecided(usize),
+}
+
+/// A pass over these lines; or the reason why none is.
+fn pass_over(alloc: Global, head: &Head, lines: &[HistoryLine]) -> Result<Pass, Stop> {
+    let mut pass = Pass::new(alloc, head, lines, false)?;
+    for line in lines {
+        pass.take(&line.entry)?;
+    }
+    Ok(pass)
+}
+
+/// The steps woven from a pass, if they are a certificate.
+fn woven(
+    alloc: Global,
+    head: &Head,
+    lines: &[HistoryLine],
+    pass: &mut Pass,
+    late: bool,
+) -> Result<Option<Vec<Entry>>, Stop>
+    requires { IsHead head.now }
+    ensures { IfOk result (λ found. IfSome found (λ steps. IsCertificate head.now.mutexes lines.now steps.items)) }
+{
+    let steps = match weave(alloc, lines, pass, late) {
+        Ok(steps) => steps,
+        Err(Stop::Memory) => return Err(Stop::Memory),
+        Err(_) => return Ok(None),
+    };
+    if certify(alloc, head, lines, &steps)? {
+        Ok(Some(steps))
+    } else {
+        Ok(None)
+    }
+}
+
+/// A certificate of these lines, if one is found.
+fn certificate_of(
+    alloc: Global,
+    head: &Head,
+    lines: &[HistoryLine],
+) -> Result<Option<Vec<Entry>>, Stop>
+    requires { IsHead head.now }
+    ensures { IfOk result (λ found. IfSome found (λ steps. IsCertificate head.now.mutexes lines.now steps.items)) }
+{
+    let mut pass = match pass_over(alloc, head, lines) {
+        Ok(pass) => pass,
+        Err(Stop::Memory) => return Err(Stop::Memory),
+        Err(_) => return Ok(None),
+    };
+    let found = woven(alloc, head, lines, &mut pass, false)?;
+    if found.is_some() || !has_dooms(lines) {
+        return Ok(found);
+    }
+    woven(alloc, head, lines, &mut pass, true)
+}
+
+/// Whether a certificate is found of the lines up to this place.
+fn is_legal(alloc: Global, head: &Head, lines: &[HistoryLine], at: usize) -> Result<bool, Stop>
+    requires { IsHead head.now }
+    ensures { IfOk result (λ found. found ≡ true → IsLegal head.now lines.now at) }
+{
+    if at > lines.len() {
+        return Ok(false);
+    }
+    let Some(_steps) = certificate_of(alloc, head, &lines[..at])? else {
+        return Ok(false);
+    };
+    Ok(true)
+}
+
+/// Whether a pass over the lines up to this place is refused.
+fn is_refused(alloc: Global, head: &Head, lines: &[HistoryLine], at: usize) -> Result<bool, Stop> {
+    if at > lines.len() {
+        return Ok(true);
+    }
+    match pass_over(alloc, head, &lines[..at]) {
+        Ok(_) => Ok(false),
+        Err(Stop::Memory) => Err(Stop::Memory),
+        Err(_) => Ok(true),
+    }
+}
+
+/// The first place up to which a pass is refused, which may look at the lines up to there alone; not before `from`.
+fn first_refused(
+    alloc: Global,
+    head: &Head,
+    lines: &[HistoryLine],
+    from: usize,
+) -> Result<usize, Stop> {
+    let mut low = from;
+    let mut step: usize = 1;
+    for _ in 0..64 {
+        let next = low.saturating_add(step).min(lines.len());
+        if is_refused(alloc, head, lines, next)? {
+            break;
+        }
+        low = next;
+        step = step.saturating_mul(2);
+    }
+    let mut high = low.saturating_add(step).min(lines.len());
+    for _ in 0..64 {
+        if low.saturating_add(1) >= high {
+            break;
+        }
+        let middle = low / 2 + high / 2 + (low % 2 + high % 2) / 2;
+        if is_refused(alloc, head, lines, middle)? {
+            high = middle;
+        } else {
+            low = middle;
+        }
+    }
+    Ok(high)
+}
+
+/// How far a pass over all lines comes.
+fn reach(alloc: Global, head: &Head, lines: &[HistoryLine]) -> Result<usize, Stop> {
+    let mut pass = Pass::new(alloc, head, lines, false)?;
+    for (at, line) in lines.iter().enumerate() {
+        match pass.take(&line.entry) {
+            Ok(()) => {}
+            Err(Stop::Memory) => return Err(Stop::Memory),
+            Err(_) => return Ok(at),
+        }
+    }
+    Ok(lines.len())
+}
+
+/// The place up to which the lines have a certificate, and behind which they have none.
+fn first_without(alloc: Global, head: &Head, lines: &[HistoryLine]) -> Result<usize, Stop>
+    requires { IsHead head.now }
+    ensures { IfOk result (IsLegal head.now lines.now) }
+{
+    if !is_legal(alloc, head, lines, 0)? {
+        return Err(Stop::Lost);
+    }
+    let mut low: usize = 0;
+    let mut high = lines.len();
+    'halves: for _ in 0..64 {
+        let middle = low / 2 + high / 2 + (low % 2 + high % 2) / 2;
+        if middle == low {
+            break;
+        }
+        if is_legal(alloc, head, lines, middle)? {
+            low = middle;
+        } else {
+            high = middle;
+        }
+    }
+    Ok(low)
+}
+
+/// Why the line at this place isn't explained; None where it may be.
+fn refusal_at(
+    alloc: Global,
+    head: &Head,
+    lines: &[HistoryLine],
+    at: usize,
+) -> Result<Option<Refusal>, Stop> {
+    let Some(line) = lines.get(at) else {
+        return Ok(None);
+    };
+    if at > lines.len() {
+        return Ok(None);
+    }
+    let mut pass = Pass::new(alloc, head, &lines[..at], true)?;
+    for earlier in &lines[..at] {
+        pass.take(&earlier.entry)?;
+    }
+    match pass.take(&line.entry) {
+        Err(Stop::Refused(refusal)) => Ok(Some(refusal)),
+        Err(Stop::Memory) => Err(Stop::Memory),
+        _ => Ok(None),
+    }
+}
+
+/// What is said where a certificate reaches up to this place.
+fn judged_at(
+    alloc: Global,
+    head: &Head,
+    lines: &[HistoryLine],
+    at: usize,
+) -> Result<Judgement, Stop>
+    requires { IsLegal head.now lines.now at }
+    ensures { IfOk result (IsJudged head.now lines.now) }
+{
+    match refusal_at(alloc, head, lines, at) {
+        Ok(Some(refusal)) => Ok(Judgement::Illegal(at, refusal)),
+        Err(Stop::Memory) => Err(Stop::Memory),
+        _ => Ok(Judgement::Undecided(at)),
+    }
+}
+
+/// What is said of lines that have no certificate.
+fn unexplained(alloc: Global, head: &Head, lines: &[HistoryLine]) -> Result<Judgement, Stop>
+    requires { IsHead head.now }
+    ensures { IfOk result (IsJudged head.now lines.now) }
+{
+    let from = reach(alloc, head, lines)?;
+    if from < lines.len() {
+        let at = first_refused(alloc, head, lines, from)?.saturating_sub(1);
+        if is_legal(alloc, head, lines, at)? {
+            return judged_at(alloc, head, lines, at);
+        }
+    }
+    let at = first_without(alloc, head, lines)?;
+    judged_at(alloc, head, lines, at)
+}
+
+fn judged(alloc: Global, head: &Head, lines: &[HistoryLine]) -> Result<Judgement, Stop>
+    requires { IsHead head.now }
+    ensures { IfOk result (IsJudged head.now lines.now) }
+{
+    match certificate_of(alloc, head, lines)? {
+        Some(steps) => Ok(Judgement::Legal(steps)),
+        None => unexplained(alloc, head, lines),
+    }
+}
+
+/// Judges a history. What it finds legal has the certificate that is handed out: a trace that shows the history, each
+/// line of which was accepted by the rules of the judge of traces. What it finds illegal or can't decide is legal up to
+/// the line that it names: so much is proved too. That with an illegal line no trace shows the history isn't proved.
+pub fn judge(alloc: Global, head: &Head, lines: &[HistoryLine]) -> Result<Judgement, AllocError>
+    requires { IsHead head.now }
+    ensures { IfOk result (IsJudged head.now lines.now) }
+{
+    match judged(alloc, head, lines) {
+        Ok(judgement) => Ok(judgement),
+        Err(_) => Err(AllocError),
+    }
+}
