@@ -47,6 +47,7 @@ void pz_reap_if_dead(pz *p, unsigned self, unsigned t)
 
 /* What a sleeper waits for: the word first, then the ends of threads. */
 enum { MOST_WATCHED = 1 + (THREADS > 2 + PZ_WATCH ? THREADS : 2 + PZ_WATCH) };
+_Static_assert(MOST_WATCHED <= FUTEX_WAITV_MAX, "futex_waitv(2) takes no more");
 struct watched {
     struct futex_waitv v[MOST_WATCHED];
     unsigned thread[MOST_WATCHED];

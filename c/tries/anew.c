@@ -2,7 +2,8 @@
  * another makes it anew, three come to sleep on it, and it becomes unusable again, with the same word. The exchange
  * frees it then; its owner of before is killed before it wakes the three, and one who locks it next is in the way of
  * whoever cleans up. All three get it. (One is told of the death by the kernel, a second by the clean-up's end; a third
- * is there for whoever unlocks. Polling is off: one that nobody wakes sleeps for good.) */
+ * is there for whoever unlocks. Polling is off: one that nobody wakes sleeps for good.) Where it was only locked
+ * meanwhile, it stays so. */
 #include "try.h"
 #include <sched.h>
 
@@ -121,6 +122,20 @@ static pid_t a_sleeper(void)
     return it;
 }
 
+/* Another has made it anew meanwhile, and somebody has locked it: it stays so. */
+static void stays_locked(void)
+{
+    int status;
+    spoil();
+    pid_t renewer = a_renewer();
+    SAME(pz_mutex_reinit(p, 0), 0);
+    SAME(pz_mutex_lock(p, 0), 0);
+    kill(renewer, SIGCONT);
+    CHECK(waitpid(renewer, &status, 0) == renewer && WIFEXITED(status));
+    SAME(WEXITSTATUS(status), EBUSY);
+    SAME(pz_mutex_unlock(p, 0), 0);
+}
+
 int main(void)
 {
     const char *path = a_file("anew");
@@ -129,6 +144,7 @@ int main(void)
     SAME(pz_open(path, 0600, 1, 0, NULL, 0, &p), 0);
     CHECK(unlink(path) == 0);
     seen = shared(sizeof *seen);
+    stays_locked();
     spoil();
     pid_t renewer = a_renewer();
     SAME(pz_mutex_reinit(p, 0), 0);
@@ -150,7 +166,7 @@ int main(void)
         CHECK(waitpid(-1, NULL, WNOHANG) == 0);
     for (int i = 0; i < SLEEPERS; i++)
         kill_and_wait(sleeper[i]);
-    puts("anew: made free between another's look and its exchange, nobody is left asleep");
+    puts("anew: made free between another's look and its exchange, nobody is left asleep, and who locked it owns it");
     pz_close(p);
     return 0;
 }
