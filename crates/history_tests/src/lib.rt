@@ -5,7 +5,7 @@
 #![tactic(auto)]
 
 #[cfg(test)]
-mod certificates;
+mod certified;
 #[cfg(test)]
 mod heard;
 #[cfg(test)]
