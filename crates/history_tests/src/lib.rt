@@ -11,4 +11,4 @@ mod heard;
 #[cfg(test)]
 mod judgements;
 #[cfg(test)]
-mod lines;
+mod reading;
