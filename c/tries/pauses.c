@@ -264,7 +264,7 @@ static void who_was_woken(void)
     begin(OTHER | WAITERS, COMES);
     SAME((int)pz_sleep(&file, SELF, cell, (uint32_t)(OTHER | WAITERS)), PZ_WOKEN);
     CHECK((uint32_t)*heir(&file, cell) == SELF && !*sleepers(&file, cell));
-    begin(0, COMES);
+    begin(WAITERS, COMES);
     refuses = EAGAIN;
     SAME((int)pz_sleep(&file, SELF, cell, OTHER), PZ_AGAIN);
     CHECK(*heir(&file, cell) == COMES && !*sleepers(&file, cell));
