@@ -41,29 +41,6 @@ void pz_between(void)
 }
 void pz_at_walk(void) {}
 
-static void until_stopped(pid_t it)
-{
-    int status;
-    CHECK(waitpid(it, &status, WUNTRACED) == it && WIFSTOPPED(status));
-}
-
-static void ends_well(pid_t it)
-{
-    int status;
-    CHECK(waitpid(it, &status, 0) == it && status == 0);
-}
-
-/* It owns the mutex, and is killed. */
-static void an_owner_dies(void)
-{
-    pid_t it = a_child();
-    if (!it) {
-        pz_mutex_lock(p, 0);
-        kill(getpid(), SIGKILL);
-    }
-    CHECK(waitpid(it, NULL, 0) == it);
-}
-
 /* Unusable, with the mark of a sleeper that has gone. */
 static void spoil(void)
 {
@@ -74,7 +51,7 @@ static void spoil(void)
     until_asleep(it);
     SAME(pz_mutex_unlock(p, 0), 0);
     ends_well(it);
-    an_owner_dies();
+    an_owner_is_killed(p, 0);
     SAME(pz_mutex_lock(p, 0), EOWNERDEAD);
     SAME(pz_mutex_unlock(p, 0), 0);
     SAME(pz_mutex_lock(p, 0), ENOTRECOVERABLE);
@@ -148,7 +125,7 @@ int main(void)
     spoil();
     pid_t renewer = a_renewer();
     SAME(pz_mutex_reinit(p, 0), 0);
-    an_owner_dies();
+    an_owner_is_killed(p, 0);
     pid_t spoiler = a_spoiler();
     for (int i = 0; i < SLEEPERS; i++)
         sleeper[i] = a_sleeper();

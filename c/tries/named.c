@@ -28,33 +28,10 @@ static int at_once(void) { return 1; }
 static int is_about_to_sleep(void) { return (atomic_load(&p->words[cell_place(0)]) & WAITERS) != 0; }
 static int is_signalled(void) { return atomic_load(&p->words[counter_place(p, 0)]) != 0; }
 
-static void until_stopped(pid_t it)
-{
-    int status;
-    CHECK(waitpid(it, &status, WUNTRACED) == it && WIFSTOPPED(status));
-}
-
 static void goes_on(pid_t it)
 {
     kill(it, SIGCONT);
     until_stopped(it);
-}
-
-static void ends_well(pid_t it)
-{
-    int status;
-    CHECK(waitpid(it, &status, 0) == it && status == 0);
-}
-
-/* It owns the mutex, and is killed. */
-static void an_owner_dies(void)
-{
-    pid_t it = a_child();
-    if (!it) {
-        pz_mutex_lock(p, 0);
-        kill(getpid(), SIGKILL);
-    }
-    CHECK(waitpid(it, NULL, 0) == it);
 }
 
 /* It is told that the mutex is unusable, or has it where it is free again. It lives on, as its death would be told to
@@ -83,7 +60,7 @@ static pid_t an_heir(int is_waiter, int before)
         is_the_heir(is_waiter, before);
     if (is_waiter)
         until_asleep(it);
-    an_owner_dies();
+    an_owner_is_killed(p, 0);
     SAME(pz_mutex_lock(p, 0), EOWNERDEAD);
     if (is_waiter)
         SAME(pz_cond_signal(p, 0), 0);

@@ -68,6 +68,30 @@ static inline void kill_and_wait(pid_t child)
     CHECK(waitpid(child, NULL, 0) == child);
 }
 
+static inline void until_stopped(pid_t child)
+{
+    int status;
+    CHECK(waitpid(child, &status, WUNTRACED) == child && WIFSTOPPED(status));
+}
+
+static inline void ends_well(pid_t child)
+{
+    int status;
+    CHECK(waitpid(child, &status, 0) == child && status == 0);
+}
+
+/* One that owns the mutex. */
+static inline void an_owner_is_killed(pz *p, unsigned m)
+{
+    pid_t it = a_child();
+    if (!it) {
+        SAME(pz_mutex_lock(p, m), 0);
+        kill(getpid(), SIGKILL);
+    }
+    int status;
+    CHECK(waitpid(it, &status, 0) == it && WIFSIGNALED(status));
+}
+
 /* Memory that children share with their parent. */
 static inline void *shared(size_t size)
 {
