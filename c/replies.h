@@ -10,7 +10,7 @@ static const struct {
     uint32_t reply;
     int answer;
     const char *word;
-} replies[] = {
+} pz_replies[] = {
     {0, 0, "OK"},
     {EPERM, EPERM, "EPERM"},
     {ESRCH, ESRCH, "ESRCH"},
@@ -27,14 +27,14 @@ static const struct {
     {PZ_X_FULL, EOVERFLOW, "X_FULL"},
     {PZ_X_STATE, EINVAL, "X_STATE"},
 };
-enum { REPLIES = sizeof replies / sizeof *replies };
+enum { REPLIES = sizeof pz_replies / sizeof *pz_replies };
 
 /* A number that no program replies is answered as it is. */
 static inline int answer_to(uint32_t reply)
 {
     for (size_t i = 0; i < REPLIES; i++)
-        if (replies[i].reply == reply)
-            return replies[i].answer;
+        if (pz_replies[i].reply == reply)
+            return pz_replies[i].answer;
     return (int)reply;
 }
 #endif

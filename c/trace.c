@@ -31,8 +31,8 @@ static const char *const operations[] = {
 static const char *word_of(unsigned reply)
 {
     for (size_t i = 0; i < REPLIES; i++)
-        if (replies[i].reply == reply)
-            return replies[i].word;
+        if (pz_replies[i].reply == reply)
+            return pz_replies[i].word;
     return "?";
 }
 

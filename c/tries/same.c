@@ -18,6 +18,7 @@
 #undef pz_walk_step
 #undef pz_walk_again
 #endif
+#include "../replies.h"
 #include "try.h"
 #include <inttypes.h>
 
@@ -194,8 +195,7 @@ static void with_each_word(struct pz_call *c, unsigned salt)
 /* A call of a program, standing anywhere: no row carries both a reply and y. */
 static void calls(unsigned t, unsigned program, unsigned on_condition, uint32_t seen, uint64_t counter)
 {
-    static const unsigned replies[] = {0,   1,   2,   3,    11,   14,   16,   22,   35,   130,
-                                       131, 132, 999, 1000, 1001, 1002, 1003, 1004, 1005, 65535};
+    static const uint16_t no_replies[] = {2, 132, 999, 1005, 65535};
     static const uint64_t counts[] = {0, 1, 3, 4, HEAD, ENTRY, UINT64_MAX};
     struct pz_call c = {.head = HEAD, .entry = ENTRY, .cell = CELL, .counter = counter};
     c.program = (uint8_t)program;
@@ -204,12 +204,14 @@ static void calls(unsigned t, unsigned program, unsigned on_condition, uint32_t 
     c.phase.kind = (uint8_t)on_condition;
     for (unsigned kind = 0; kind < 256; kind += kind < 64 || kind > 250 ? 1 : 13)
         for (unsigned flag = 0; flag < 3; flag++)
-            for (unsigned k = 0; k < COUNT(replies) + COUNT(counts); k++) {
+            for (unsigned k = 0; k < REPLIES + COUNT(no_replies) + COUNT(counts); k++) {
                 c.phase.lock = (struct pz_phase){.kind = (uint8_t)kind, .flag = (uint8_t)flag};
-                if (k < COUNT(replies))
-                    c.phase.lock.reply = (uint16_t)replies[k];
+                if (k < REPLIES)
+                    c.phase.lock.reply = (uint16_t)pz_replies[k].reply;
+                else if (k < REPLIES + COUNT(no_replies))
+                    c.phase.lock.reply = no_replies[k - REPLIES];
                 else
-                    c.phase.lock.y = counts[k - COUNT(replies)];
+                    c.phase.lock.y = counts[k - REPLIES - COUNT(no_replies)];
                 with_each_word(&c, kind + k);
             }
 }

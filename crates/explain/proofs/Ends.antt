@@ -4,7 +4,7 @@ use Rattle.std.specs.Io.KnownBytes.{Consumes, IsAtEnd, Keeps}
 use Rattle.streams.specs.Leaves.{AppendsFront, Leaves}
 use Rattle.streams.proofs.Writers.{Appends-kept, whole_is_front}
 use Rattle.verdict.specs.Limits.{max_bytes}
-use Rattle.explain.specs.declared.messages.Failure.{Failure}
+use Rattle.explain.specs.declared.failures.Failure.{Failure}
 use Rattle.explain.specs.Served.{Comes, FailsTelling, Serves, Tells}
 
 -- whatever came of a text and of what was done then, a beginning of it stands, if that kept it

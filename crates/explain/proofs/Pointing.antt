@@ -8,8 +8,8 @@ use Rattle.std.proofs.lemmas.List.{drop_more, get_or-take, length-take-le, take-
 use Rattle.std.proofs.lemmas.List.Elements.{All-from_get_or}
 use Rattle.std.proofs.lemmas.List.Splits.{slice_split_at, slice_split_none}
 use Rattle.lines.specs.Lines.{words_of}
-use Rattle.wording.specs.Nexts.{mode_of_word}
-use Rattle.wording.proofs.Words.{pick}
+use Rattle.grammar.specs.Nexts.{mode_of_word}
+use Rattle.grammar.proofs.Words.{pick}
 use Rattle.explain.specs.Explains.{mode_in, mode_or}
 use Rattle.explain.specs.Stray.{word_of}
 

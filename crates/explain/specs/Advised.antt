@@ -23,10 +23,10 @@ use Rattle.verdict.specs.declared.misfit.Misfit.TheVariants.{NotAllowed}
 use Rattle.verdict.specs.declared.misfit.TraceMisfit.{TraceMisfit}
 use Rattle.verdict.specs.Limits as trace
 use Rattle.verdict.specs.Reading.{Trace, trace_read}
-use Rattle.wording.specs.declared.wrong.Kind.{Kind}
-use Rattle.wording.specs.declared.wrong.Kind.TheVariants as kind
-use Rattle.wording.specs.Near.{IsNearest}
-use Rattle.wording.specs.Wrongs.{IsFirstWrong, is_line}
+use Rattle.grammar.specs.declared.wrong.Kind.{Kind}
+use Rattle.grammar.specs.declared.wrong.Kind.TheVariants as kind
+use Rattle.grammar.specs.Near.{IsNearest}
+use Rattle.grammar.specs.Wrongs.{IsFirstWrong, is_line}
 use Rattle.explain.specs.declared.explanation.Advice.{Advice}
 use Rattle.explain.specs.declared.explanation.Mark.{Mark}
 use Rattle.explain.specs.declared.explanation.Note.{Note}

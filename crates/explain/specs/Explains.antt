@@ -16,7 +16,7 @@ use Rattle.script.specs.Playing.{overlong}
 use Rattle.verdict.specs.declared.checking.Finding.TheVariants as finding
 use Rattle.verdict.specs.Reading.{Trace, trace_read}
 use Rattle.verdict.specs.Verdicts as verdicts
-use Rattle.wording.specs.Nexts.{mode_of_word}
+use Rattle.grammar.specs.Nexts.{mode_of_word}
 use Rattle.explain.specs.declared.explanation.Title.{Title}
 use Rattle.explain.specs.declared.explanation.Title.TheVariants.{Good, Script, Legal, Illegal, Trace as TraceTitle}
 use Rattle.explain.specs.declared.explanation.Explanation.{Explanation}

@@ -12,10 +12,10 @@ use Rattle.std.specs.declared.alloc.Global.{Global}
 use Rattle.std.specs.declared.io.ErrorKind.{ErrorKind}
 use Rattle.std.specs.declared.io.ErrorKind.TheVariants as kind
 use Rattle.streams.specs.Leaves.{AppendsFront}
-use Rattle.explain.specs.declared.messages.Failure.{Failure}
-use Rattle.explain.specs.declared.messages.Failure.TheVariants.{Usage, CannotRead, OutOfMemory}
+use Rattle.explain.specs.declared.failures.Failure.{Failure}
+use Rattle.explain.specs.declared.failures.Failure.TheVariants.{Usage, CannotRead, OutOfMemory}
 use Rattle.explain.specs.Asked.{Asked, asked_of}
-use Rattle.explain.specs.Messages.{failure_text, failure_status}
+use Rattle.explain.specs.Failures.{failure_text, failure_status}
 use Rattle.explain.specs.Served.{Fails, Serves}
 
 -- what the words ask for: the usage, where they can't be had as text

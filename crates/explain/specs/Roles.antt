@@ -1,8 +1,8 @@
 -- What the words of a line stand for: names of what, and which number.
 use Rattle.std.specs.Prelude.{ℕ, ◌==◌, List, [], ◌∷◌, slice_get, Option, Some, None, codes, if◌then◌else◌}
 use Rattle.std.specs.Str.{bytes_eq}
-use Rattle.wording.specs.declared.wrong.Kind.{Kind}
-use Rattle.wording.specs.declared.wrong.Kind.TheVariants.{Script, Head, Trace}
+use Rattle.grammar.specs.declared.wrong.Kind.{Kind}
+use Rattle.grammar.specs.declared.wrong.Kind.TheVariants.{Script, Head, Trace}
 use Rattle.explain.specs.declared.explanation.Lack.{Lack}
 use Rattle.explain.specs.declared.explanation.Lack.TheVariants.{Name, Count, Base, Counter, Accesses, Death, Events}
 use Rattle.explain.specs.declared.explanation.Note.{Note}

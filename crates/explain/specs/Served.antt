@@ -5,8 +5,8 @@ use Rattle.streams.specs.Leaves.{AppendsFront}
 use Rattle.streams.specs.declared.reading.ReadFault.{ReadFault}
 use Rattle.streams.specs.declared.reading.ReadFault.TheVariants as read
 use Rattle.verdict.specs.Limits.{max_bytes}
-use Rattle.explain.specs.declared.messages.Failure.{Failure}
-use Rattle.explain.specs.declared.messages.Failure.TheVariants.{Usage, CannotRead, CannotWrite, OutOfMemory}
+use Rattle.explain.specs.declared.failures.Failure.{Failure}
+use Rattle.explain.specs.declared.failures.Failure.TheVariants.{Usage, CannotRead, CannotWrite, OutOfMemory}
 use Rattle.explain.specs.Explains.{IsTold}
 
 -- the failure that a fault of reading is told as: memory where memory was refused

@@ -8,13 +8,13 @@ use Rattle.std.specs.Str.{is_utf8}
 use Rattle.lines.specs.Lines.{lines_of, words_of}
 use Rattle.script.specs.declared.command.Mode.TheVariants.{Run, Threads}
 use Rattle.script.specs.declared.command.Mode.{Mode}
-use Rattle.wording.specs.declared.wrong.Kind.{Kind}
-use Rattle.wording.specs.declared.wrong.Kind.TheVariants.{Script, Head, Trace}
-use Rattle.wording.specs.declared.next.Next.{Next}
-use Rattle.wording.specs.Nexts.{is_scripted, mode_of_word}
-use Rattle.wording.specs.Known.{known_words}
-use Rattle.wording.specs.Near.{IsNearest}
-use Rattle.wording.specs.Wrongs.{Awaits, IsFirstWrong, ends_at, is_line}
+use Rattle.grammar.specs.declared.wrong.Kind.{Kind}
+use Rattle.grammar.specs.declared.wrong.Kind.TheVariants.{Script, Head, Trace}
+use Rattle.grammar.specs.declared.next.Next.{Next}
+use Rattle.grammar.specs.Nexts.{is_scripted, mode_of_word}
+use Rattle.grammar.specs.Known.{known_words}
+use Rattle.grammar.specs.Near.{IsNearest}
+use Rattle.grammar.specs.Wrongs.{Awaits, IsFirstWrong, ends_at, is_line}
 use Rattle.explain.specs.declared.explanation.Mark.{Mark}
 use Rattle.explain.specs.declared.explanation.Note.{Note}
 use Rattle.explain.specs.declared.explanation.Note.TheVariants.{CarriageReturn, LeadingBlank, TwoBlanks}

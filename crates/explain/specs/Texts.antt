@@ -9,9 +9,9 @@ use Rattle.script.specs.Faults as script
 use Rattle.verdict.specs.declared.fault.TraceFault.{TraceFault}
 use Rattle.verdict.specs.declared.misfit.TraceMisfit.{TraceMisfit}
 use Rattle.verdict.specs.Faults as traces
-use Rattle.wording.specs.declared.next.Next.{Next}
-use Rattle.wording.specs.Known.{known_words}
-use Rattle.wording.specs.Wrongs.{ends_at, offset_of}
+use Rattle.grammar.specs.declared.next.Next.{Next}
+use Rattle.grammar.specs.Known.{known_words}
+use Rattle.grammar.specs.Wrongs.{ends_at, offset_of}
 use Rattle.explain.specs.declared.explanation.Title.{Title}
 use Rattle.explain.specs.declared.explanation.Title.TheVariants.{Good, Script, Legal, Illegal, Trace}
 use Rattle.explain.specs.declared.explanation.Mark.{Mark}

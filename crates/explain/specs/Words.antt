@@ -2,8 +2,8 @@
 use Rattle.std.specs.Prelude.{ℕ, ◌==◌, List, codes, if◌then◌else◌}
 use Rattle.script.specs.declared.command.Mode.{Mode}
 use Rattle.script.specs.declared.command.Mode.TheVariants.{Run, Threads}
-use Rattle.wording.specs.declared.next.Next.{Next}
-use Rattle.wording.specs.declared.next.Next.TheVariants as next
+use Rattle.grammar.specs.declared.next.Next.{Next}
+use Rattle.grammar.specs.declared.next.Next.TheVariants as next
 use Rattle.explain.specs.declared.explanation.Lack.{Lack}
 use Rattle.explain.specs.declared.explanation.Lack.TheVariants as lack
 use Rattle.explain.specs.declared.explanation.Looks.{Looks}

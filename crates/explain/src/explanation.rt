@@ -3,10 +3,10 @@
 ghost use Rattle.std.specs.Prelude.{◌≡◌};
 ghost use Rattle.explain.specs.Advised.{back_to, besides, marking, nothing, saying};
 
+use grammar::Next;
 use posixmutex::Operation;
 use script::{Mode, ScriptFault};
 use verdict::{TraceFault, TraceMisfit};
-use wording::Next;
 
 /// What a file is.
 #[derive(Clone, Copy, Debug, PartialEq, Eq)]

@@ -8,7 +8,7 @@
 //! wait makes its mutex unusable (`IsFirstSpoiling`). Else it has written a beginning of it, and one message on `err`
 //! says why. It reads at most one byte more than a trace may have.
 //!
-//! Stands on `wording`, for the first wrong word of a line and the nearest known one, on `script` and `verdict`, for
+//! Stands on `grammar`, for the first wrong word of a line and the nearest known one, on `script` and `verdict`, for
 //! faults and reasons, on `lines`, for lines and words, on `facts`, `posixmutex` and `lockword`, for what lines of a
 //! trace tell, on `streams`, for reading, writing and opening, and on `itoa`, for numbers.
 //!
@@ -28,7 +28,7 @@ mod asking;
 mod encodings;
 mod explaining;
 mod explanation;
-mod messages;
+mod failures;
 mod misfits;
 mod modes;
 mod names;
@@ -47,5 +47,5 @@ mod telling;
 mod traces;
 mod words;
 
-pub use messages::OUT_OF_MEMORY;
+pub use failures::OUT_OF_MEMORY;
 pub use program::run;

@@ -3,12 +3,12 @@
 ghost use Rattle.std.specs.Prelude.{◌≡◌, ◌<◌, ◌==◌, [], ◌∷◌, length, IfSome, MatchOption};
 ghost use Rattle.std.specs.List.{slice_split};
 ghost use Rattle.lines.specs.Lines.{lines_of, words_of};
-ghost use Rattle.wording.specs.Nexts.{mode_of_word};
+ghost use Rattle.grammar.specs.Nexts.{mode_of_word};
 ghost use Rattle.explain.specs.Explains.{mode_in};
 ghost use Rattle.explain.specs.Stray.{word_of};
 
+use grammar::mode_of_word;
 use script::Mode;
-use wording::mode_of_word;
 
 /// What stands before the first of these bytes, and what behind it; None where there is none.
 fn cut(bytes: &[u8], at: u8) -> Option<(&[u8], &[u8])>

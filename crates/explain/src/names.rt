@@ -10,9 +10,9 @@ use crate::explanation::{Advice, Mark, Note, Things};
 use crate::quoting::line_of;
 use crate::roles::uses_of;
 use crate::sought::{Sought, count_of, first_before, things_of, word_of};
+use grammar::nearest;
 use lines::cut;
 use std::alloc::{AllocError, Global};
-use wording::nearest;
 
 /// The name of such a thing that a line declares, where it declares that name alone.
 fn single_name(line: &str, things: Things) -> Option<&str>

@@ -5,7 +5,7 @@ ghost use Rattle.std.specs.IoError.{error_kind};
 ghost use Rattle.explain.specs.Programs.{FileEnds, RunEnds, asked_in, unopened_by};
 
 use crate::asking::{Form, form_of_words};
-use crate::messages::{Failure, fail};
+use crate::failures::{Failure, fail};
 use crate::serving::serve;
 use std::alloc::Global;
 use std::io::{self, ErrorKind, Write};

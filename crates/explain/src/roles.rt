@@ -8,7 +8,7 @@ ghost use Rattle.explain.specs.Sought.{things_of};
 
 use crate::explanation::{Lack, Note, Things};
 use crate::sought::{things_of, word_of};
-use wording::{Kind, word_at};
+use grammar::{Kind, word_at};
 
 /// The words of a line with such a call that name what is declared before.
 fn uses_of_call(call: &str) -> &'static [(Things, usize)]

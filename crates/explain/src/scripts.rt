@@ -16,13 +16,13 @@ use crate::quoting::{line_of, lines_in};
 use crate::ranges::ranged;
 use crate::sought::{Sought, first_before, things_of, word_of};
 use crate::stray::stray_advice;
+use grammar::Kind;
 use script::{
     Fault, MAX_ACCESS, MAX_BASE, MAX_BYTES, MAX_CONDITIONS, MAX_COUNTER, MAX_EVENTS, MAX_LINES,
     MAX_MUTEXES, MAX_PROCESSES, MAX_STEPS, MAX_THREADS, Mode, ScriptFault, first_machine, parse,
     play,
 };
 use std::alloc::{AllocError, Global};
-use wording::Kind;
 
 /// The first command before line `number`, if that is a declaration.
 fn command_before(text: &str, number: usize) -> Option<usize>

@@ -8,7 +8,7 @@ ghost use Rattle.verdict.specs.Limits.{max_bytes};
 ghost use Rattle.explain.specs.Served.{Fails, FailsTelling, IsUnread, Serves, Tells, failed_by};
 
 use crate::explaining::tell;
-use crate::messages::Failure;
+use crate::failures::Failure;
 use std::alloc::Global;
 use std::io::{self, Read};
 use streams::{Output, ReadFault, put_text, read_below};

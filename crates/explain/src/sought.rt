@@ -10,9 +10,9 @@ ghost use Rattle.explain.specs.Sought.{is_sought, things_of};
 ghost use Rattle.explain.specs.Stray.{word_of};
 
 use crate::explanation::Things;
+use grammar::word_at;
 use lines::{cut, is_number_word, number_in};
 use script::MAX_MUTEXES;
-use wording::word_at;
 
 /// A line that is looked for.
 #[derive(Clone, Copy)]

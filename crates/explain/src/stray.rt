@@ -12,11 +12,11 @@ ghost use Rattle.explain.specs.Stray.{stray_note, word_note};
 use crate::explanation::{Advice, Mark, Note};
 use crate::quoting::{is_last, line_of};
 use crate::roles::lack_note;
-use script::Mode;
-use std::alloc::{AllocError, Global};
-use wording::{
+use grammar::{
     Kind, first_wrong, is_line, is_scripted, known_words, mode_of_word, nearest, place_of, word_at,
 };
+use script::Mode;
+use std::alloc::{AllocError, Global};
 
 /// What is said of a word without a letter: a blank too many, or nothing at all on a line of a trace (an empty line of a
 /// script is one of its lines).

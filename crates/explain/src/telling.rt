@@ -14,11 +14,11 @@ use crate::misfits::add_misfit;
 use crate::notes::add_note;
 use crate::quoting::line_of;
 use crate::words::{expected_words, mode_words};
+use grammar::{Next, known_words, place_of};
 use itoa::Buffer;
 use script::{Mode, ScriptFault};
 use std::alloc::{AllocError, Global};
 use verdict::{TraceFault, TraceMisfit};
-use wording::{Next, known_words, place_of};
 
 /// What plays a good script.
 fn programs(run: bool, threads: bool) -> &'static str

@@ -20,13 +20,13 @@ use crate::sought::word_of;
 use crate::spoiling::first_spoiling;
 use crate::stray::stray_advice;
 use facts::Line;
+use grammar::Kind;
 use posixmutex::Decision;
 use std::alloc::{AllocError, Global};
 use verdict::{
     Fault, Finding, MAX_BYTES, MAX_CONDITIONS, MAX_EVENTS, MAX_MUTEXES, MAX_THREADS, Misfit,
     TraceFault, TraceMisfit, explain, read_trace,
 };
-use wording::Kind;
 
 /// The kind of the line with this number.
 fn kind_of(number: usize) -> Kind

@@ -4,8 +4,8 @@ ghost use Rattle.std.specs.Prelude.{◌≡◌};
 ghost use Rattle.explain.specs.Words.{expected_words, lack_words, looks_words, many_words, mode_words, things_words};
 
 use crate::explanation::{Lack, Looks, Things};
+use grammar::Next;
 use script::Mode;
-use wording::Next;
 
 /// The program that takes scripts of the mode.
 pub fn mode_words(mode: Mode) -> &'static str

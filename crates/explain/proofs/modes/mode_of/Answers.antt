@@ -1,6 +1,6 @@
 use Rattle.std.proofs.Common.{◌≡◌, Some, sym, ap, ◌∙◌}
 use Rattle.lines.specs.Lines.{lines_of, words_of}
-use Rattle.wording.specs.Nexts.{mode_of_word}
+use Rattle.grammar.specs.Nexts.{mode_of_word}
 use Rattle.explain.specs.Explains.{mode_in, mode_or}
 use Rattle.explain.specs.Stray.{word_of}
 use Rattle.explain.proofs.Pointing.{at_line}

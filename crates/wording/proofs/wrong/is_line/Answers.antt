@@ -1,6 +1,0 @@
-use Rattle.std.proofs.Common.{sym}
-use Rattle.wording.proofs.Told.{is_line_if_none}
-use Rattle.wording.proofs.wrong.is_line.Goals as goal
-
-pub returns : goal.returns
-returns c = is_line_if_none c.args.kind c.args.text.now c.scan.result c.is_none.result c.scan.ensures (sym c.is_none.ensures)
