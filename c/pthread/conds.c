@@ -72,8 +72,10 @@ static clockid_t clock_of(pthread_cond_t *cond)
     return CLOCK_REALTIME;
 }
 
-/* It goes up by STEP; WAITED: somebody has come to sleep since all were woken. */
-enum { WAITED = 1, STEP = 2 };
+/* It goes up by STEP. WAITED: somebody has come to sleep since all were woken. OWED: whoever woke them may have been
+ * killed before he did. */
+enum { WAITED = 1, OWED = 2, STEP = 4 };
+static uint64_t both_of(uint32_t kind, uint32_t count) { return (uint64_t)kind << 32 | count; }
 
 /* It begins anywhere: who was about to sleep there when it was destroyed and made anew, or its memory used for
  * something else, finds another number than it saw. */
@@ -81,18 +83,25 @@ static uint64_t beginning(void)
 {
     struct timespec now;
     clock_gettime(CLOCK_MONOTONIC, &now);
-    return (uint64_t)COUNTED << 32 | ((uint32_t)(now.tv_nsec * 0x9e3779b1 + now.tv_sec) & ~(uint32_t)WAITED);
+    return both_of(COUNTED, (uint32_t)(now.tv_nsec * 0x9e3779b1 + now.tv_sec) & ~(uint32_t)(WAITED | OWED));
 }
 
-/* NULL: it stays the C library's. */
-static _Atomic uint32_t *signals_of(pthread_cond_t *cond)
+/* Who waits has come, and the count is `seen` then. NULL: it stays the C library's, or is destroyed just now. */
+static _Atomic uint32_t *come(pthread_cond_t *cond, uint32_t *seen)
 {
     union cond *c = (void *)cond;
-    uint64_t nothing = 0;
+    uint64_t both = 0;
     pthread_once(&once, learn);
     if (!is_ours(cond) && is_unused(c))
-        atomic_compare_exchange_strong(&c->both, &nothing, beginning());
-    return is_ours(cond) ? &c->count : NULL;
+        atomic_compare_exchange_strong(&c->both, &both, beginning());
+    both = atomic_load(&c->both);
+    PZ_AT(coming);
+    do
+        if (both >> 32 != COUNTED)
+            return NULL;
+    while (!atomic_compare_exchange_weak(&c->both, &both, both | WAITED));
+    *seen = (uint32_t)both | WAITED;
+    return &c->count;
 }
 
 /* ---- Signals. Who has seen the count, and sleeps not yet, finds it raised. */
@@ -105,24 +114,39 @@ static long wake(_Atomic uint32_t *count, int most)
     return n;
 }
 
-/* Nobody has come from here on; and who did before is woken behind that. */
-static void wake_all(union cond *c)
+static uint32_t for_one(uint32_t count) { return count + STEP; }
+static uint32_t for_all(uint32_t count)
 {
-    uint32_t seen = atomic_load(&c->count);
-    while (!atomic_compare_exchange_weak(&c->count, &seen, (seen + STEP) & ~(uint32_t)WAITED))
-        continue;
+    uint32_t is_owed = count & WAITED ? OWED : 0;
+    return ((count + STEP) & ~(uint32_t)(WAITED | OWED)) | is_owed;
+}
+
+/* Whether it was one of ours until now; from here on it is of this kind. */
+static int is_raised(union cond *c, uint32_t (*next)(uint32_t), uint32_t kind)
+{
+    uint64_t both = atomic_load(&c->both);
+    do
+        if (both >> 32 != COUNTED)
+            return 0;
+    while (!atomic_compare_exchange_weak(&c->both, &both, both_of(kind, next((uint32_t)both))));
     PZ_AT(raised);
-    wake(&c->count, INT_MAX);
+    return 1;
+}
+
+/* Nobody has come from here on; and who did before is woken behind that. Who was woken may do away with the variable:
+ * so nothing is written there any more, and what is owed is owed until all are woken once more. */
+static void wake_all(union cond *c, uint32_t kind)
+{
+    if (is_raised(c, for_all, kind))
+        wake(&c->count, INT_MAX);
 }
 
 static void wake_one(union cond *c)
 {
-    atomic_fetch_add(&c->count, STEP);
-    PZ_AT(raised);
-    if (wake(&c->count, 1) > 0)
+    if (!is_raised(c, for_one, COUNTED) || wake(&c->count, 1) > 0)
         return;
     PZ_AT(nobody);
-    wake_all(c); /* nobody was there: so that the next signal costs no system call */
+    wake_all(c, COUNTED); /* nobody was there: so that the next signal costs no system call */
 }
 
 /* ---- Waits. */
@@ -206,9 +230,8 @@ static __attribute__((noinline)) int wait_on(pthread_cond_t *cond, pthread_mutex
                                              const struct timespec *until)
 {
     int saved = errno;
-    struct wait w = {.count = signals_of(cond), .clock = clock, .until = until, .mutex = m};
-    if (w.count)
-        w.seen = atomic_fetch_or(w.count, WAITED) | WAITED;
+    struct wait w = {.clock = clock, .until = until, .mutex = m};
+    w.count = come(cond, &w.seen);
     int r = sh_release(m);
     if (!r) {
         PZ_AT(released);
@@ -227,16 +250,14 @@ static int is_time(const struct timespec *t) { return t->tv_nsec >= 0 && t->tv_n
 SHOWN int pthread_cond_init(pthread_cond_t *c, const pthread_condattr_t *a)
 {
     if (is_ours(c))
-        wake_all((void *)c);
+        wake_all((void *)c, 0);
     return sh_real.cond_init(c, a);
 }
 
 SHOWN int pthread_cond_destroy(pthread_cond_t *c)
 {
-    if (is_ours(c)) {
-        wake_all((void *)c);
-        atomic_store(&((union cond *)c)->kind, 0);
-    }
+    if (is_ours(c))
+        wake_all((void *)c, 0);
     return sh_real.cond_destroy(c);
 }
 
@@ -249,12 +270,12 @@ SHOWN int pthread_cond_signal(pthread_cond_t *c)
     return 0;
 }
 
-/* Whatever the count says: one that was killed before its wake may have left who came before. */
 SHOWN int pthread_cond_broadcast(pthread_cond_t *c)
 {
     if (!is_ours(c))
         return sh_real.cond_broadcast(c);
-    wake_all((void *)c);
+    if (atomic_load(&((union cond *)c)->count) & (WAITED | OWED))
+        wake_all((void *)c, COUNTED);
     return 0;
 }
 

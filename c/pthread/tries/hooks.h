@@ -13,6 +13,7 @@ MOMENT(asking);     /* for an id, where none was free */
 MOMENT(asked);      /* before the look for one */
 MOMENT(no_id);      /* there was none, before the sleep */
 MOMENT(giving);     /* an id was given back that somebody wants, before one is woken */
+MOMENT(coming);     /* a wait is, and has not yet said so */
 MOMENT(released);   /* a wait has, its mutex, before it sleeps */
 MOMENT(woken);      /* it slept, and can be cancelled still */
 MOMENT(raised);     /* a signal has, the count, before its wake */

@@ -12,7 +12,7 @@
 
 enum { MANY = 100, FIRST = 16, IDS = 64 };
 enum { COUNTED = 0x7a617063, KIND = 11 }; /* what one of a variable's words says */
-enum moment { RELEASED, WOKEN, RAISED, NOBODY, MOMENTS };
+enum moment { COMING, RELEASED, WOKEN, RAISED, NOBODY, MOMENTS };
 enum at_moment { GO_ON, STOP, DIE };
 
 /* A file of its own for each case, which all its processes have: what each of these is to do, and was answered; a mutex
@@ -39,6 +39,7 @@ static void stands_at(enum moment moment)
         kill(getpid(), what == STOP ? SIGSTOP : SIGKILL);
 }
 static void (*at_woken)(void);
+void try_coming(void) { stands_at(COMING); }
 void try_released(void) { stands_at(RELEASED); }
 void try_raised(void) { stands_at(RAISED); }
 void try_nobody(void) { stands_at(NOBODY); }
@@ -84,6 +85,8 @@ static int waits_long(void)
 static int waits_too_long(void) { return pthread_cond_timedwait(&room->c, &room->m, &(struct timespec){1, 0}); }
 static int tells(void) { return pthread_cond_signal(&room->c); }
 static int tells_all(void) { return pthread_cond_broadcast(&room->c); }
+static int destroys(void) { return pthread_cond_destroy(&room->c); }
+static int makes_anew(void) { return pthread_cond_init(&room->c, NULL); }
 
 static pid_t goes(int i, void (*on)(int, int (*)(void)), int (*call)(void))
 {
@@ -163,17 +166,12 @@ static void come_to_wait(int n)
     until_asleep(process[n - 1]);
 }
 
-static void until_stopped(int i)
-{
-    int status;
-    CHECK(waitpid(process[i], &status, WUNTRACED) == process[i] && WIFSTOPPED(status));
-}
 static void goes_on(int i) { CHECK(kill(process[i], SIGCONT) == 0); }
 static void stops_at(int i, enum moment moment, void (*on)(int, int (*)(void)), int (*call)(void))
 {
     atomic_store(&room->part[i].at[moment], STOP);
     goes(i, on, call);
-    until_stopped(i);
+    until_stopped(process[i]);
 }
 static void dies(int i)
 {
@@ -228,17 +226,18 @@ static void one_comes_behind_a_wake_of_nobody(void)
     ends(2, 0);
 }
 
-/* The next one makes no system call: it doesn't come so far. */
+/* The third one makes no system call: it doesn't come so far. */
 static void signals_to_nobody(void)
 {
     static int (*const tell[])(void) = {tells, tells_all};
-    for (int i = 0; i < 2; i++) {
+    for (int i = 0; i < 4; i++) {
         comes_to_wait(0, waits);
-        SAME(tell[i](), 0);
+        SAME(tell[i / 2](), 0);
         ends(0, 0);
-        SAME(tells(), 0);
+        SAME(tell[i % 2](), 0);
+        SAME(tell[i % 2](), 0);
         atomic_store(&room->part[1].at[RAISED], DIE);
-        goes(1, calls, tells);
+        goes(1, calls, tell[i % 2]);
         ends(1, 0);
         atomic_store(&room->part[1].at[RAISED], GO_ON);
     }
@@ -646,6 +645,23 @@ static void a_destroyed_one_wakes(void)
     ends(2, 0);
 }
 
+/* Who comes as it is destroyed or made anew, or was about to, doesn't sleep there: nobody would wake him. */
+static void comes_meanwhile(int (*call)(void))
+{
+    comes_to_wait(0, waits);
+    stops_at(1, COMING, owns_meanwhile, waits);
+    stops_at(2, RAISED, calls, call);
+    goes_on(1);
+    ends(1, 0);
+    comes(3, waits);
+    ends(3, 0);
+    goes_on(2);
+    ends(2, 0);
+    ends(0, 0);
+}
+static void comes_as_it_is_destroyed(void) { comes_meanwhile(destroys); }
+static void comes_as_it_is_made_anew(void) { comes_meanwhile(makes_anew); }
+
 /* Who was about to sleep finds another count at the same place, whatever has become of that. */
 static void made_anew_before_the_sleep(void)
 {
@@ -854,6 +870,8 @@ static const struct {
     {CASE(a_lock_is_not_cancelled)},
     {CASE(a_waiter_keeps_its_id)},
     {CASE(a_destroyed_one_wakes)},
+    {CASE(comes_as_it_is_destroyed)},
+    {CASE(comes_as_it_is_made_anew)},
     {CASE(made_anew_before_the_sleep)},
     {CASE(the_others_first)},
     {CASE(ours_first)},
