@@ -7,6 +7,10 @@ mod answers;
 #[cfg(test)]
 mod commands;
 #[cfg(test)]
+mod long_lines;
+#[cfg(test)]
 mod mistakes;
+#[cfg(test)]
+mod undeclared;
 #[cfg(test)]
 mod waits;
