@@ -32,6 +32,7 @@ union cond {
     };
 };
 _Static_assert(sizeof(union cond) == sizeof(pthread_cond_t), "all of its bytes");
+_Static_assert(__BYTE_ORDER__ == __ORDER_LITTLE_ENDIAN__, "`kind` is the upper half of `both`");
 
 static inline int is_ours(pthread_cond_t *c)
 {
@@ -72,8 +73,8 @@ static clockid_t clock_of(pthread_cond_t *cond)
     return CLOCK_REALTIME;
 }
 
-/* It goes up by STEP. WAITED: somebody has come to sleep since all were woken. OWED: whoever woke them may have been
- * killed before he did. */
+/* It goes up by STEP: so it is the same again behind 2^30 signals. WAITED: somebody has come to sleep since all were
+ * woken. OWED: whoever woke them may have been killed before he did. */
 enum { WAITED = 1, OWED = 2, STEP = 4 };
 static uint64_t both_of(uint32_t kind, uint32_t count) { return (uint64_t)kind << 32 | count; }
 
@@ -134,7 +135,8 @@ static int is_raised(union cond *c, uint32_t (*next)(uint32_t), uint32_t kind)
 }
 
 /* Nobody has come from here on; and who did before is woken behind that. Who was woken may do away with the variable:
- * so nothing is written there any more, and what is owed is owed until all are woken once more. */
+ * so nothing is written there any more, and what is owed is owed until all are woken once more, even if that one is
+ * killed before it too: then they look by themselves. */
 static void wake_all(union cond *c, uint32_t kind)
 {
     if (is_raised(c, for_all, kind))
@@ -143,7 +145,7 @@ static void wake_all(union cond *c, uint32_t kind)
 
 static void wake_one(union cond *c)
 {
-    if (!is_raised(c, for_one, COUNTED) || wake(&c->count, 1) > 0)
+    if (!is_raised(c, for_one, COUNTED) || wake(&c->count, 1) != 0) /* or it isn't mapped any more */
         return;
     PZ_AT(nobody);
     wake_all(c, COUNTED); /* nobody was there: so that the next signal costs no system call */
@@ -166,10 +168,10 @@ static int is_before(const struct timespec *a, const struct timespec *b)
 
 /* When a waiter looks by itself whether the count was raised: a signaller may have been killed before its wake, or who
  * was woken before it could do anything. */
-static struct timespec next_look(const struct wait *w)
+static struct timespec next_look(const struct wait *w, clockid_t clock)
 {
     struct timespec t;
-    clock_gettime(w->clock, &t);
+    clock_gettime(clock, &t);
     t.tv_nsec += w->count ? 0 : NAP_NS;
     t.tv_sec += (w->count ? PZ_POLL_S : 0) + t.tv_nsec / SECOND_NS;
     t.tv_nsec %= SECOND_NS;
@@ -177,10 +179,10 @@ static struct timespec next_look(const struct wait *w)
 }
 
 /* What futex(2) says. (By this key processes and threads alike find each other.) Here a thread may be cancelled. */
-static int sleep_once(const struct wait *w, const struct timespec *until)
+static int sleep_once(const struct wait *w, clockid_t clock, const struct timespec *until)
 {
     static _Atomic uint32_t never;
-    int how = FUTEX_WAIT_BITSET | (w->clock == CLOCK_REALTIME ? FUTEX_CLOCK_REALTIME : 0), type;
+    int how = FUTEX_WAIT_BITSET | (clock == CLOCK_REALTIME ? FUTEX_CLOCK_REALTIME : 0), type;
     pthread_setcanceltype(PTHREAD_CANCEL_ASYNCHRONOUS, &type);
     long r = syscall(SYS_futex, w->count ? w->count : &never, how, w->seen, until, NULL, FUTEX_BITSET_MATCH_ANY);
     int error = r < 0 ? errno : 0;
@@ -196,9 +198,12 @@ static int asleep(const struct wait *w)
     if (w->until && w->until->tv_sec < 0)
         return ETIMEDOUT;
     for (;;) {
-        struct timespec look = next_look(w);
+        clockid_t clock = w->clock;
+        struct timespec look = next_look(w, clock);
         int is_limit = w->until && !is_before(&look, w->until);
-        int error = sleep_once(w, is_limit ? w->until : &look);
+        if (!is_limit && !w->count)
+            look = next_look(w, clock = CLOCK_MONOTONIC); /* a nap is as long though the other clock is set back */
+        int error = sleep_once(w, clock, is_limit ? w->until : &look);
         if (error == ETIMEDOUT && is_limit)
             return ETIMEDOUT;
         if ((error != ETIMEDOUT && error != EINTR) || !w->count)

@@ -2,6 +2,7 @@
  * stands still or dies where it is told to. Polling is off: one that isn't woken sleeps for good. usage: waits FOLDER,
  * or `waits FOLDER looks` where it is on; libpazdrig_pthread.so, built with hooks.h, is loaded in front. */
 #include "../../tries/try.h"
+#include <dlfcn.h>
 #include <fcntl.h>
 #include <limits.h>
 #include <pthread.h>
@@ -402,8 +403,10 @@ static void limits(void)
         SAME(pthread_cond_timedwait(&room->c, &room->m, &past[i]), ETIMEDOUT);
         SAME(pthread_cond_clockwait(&room->c, &room->m, CLOCK_MONOTONIC, &past[i]), ETIMEDOUT);
     }
-    for (size_t i = 0; i < sizeof none / sizeof *none; i++)
+    for (size_t i = 0; i < sizeof none / sizeof *none; i++) {
         SAME(pthread_cond_timedwait(&room->c, &room->m, &none[i]), EINVAL);
+        SAME(pthread_cond_clockwait(&room->c, &room->m, CLOCK_MONOTONIC, &none[i]), EINVAL);
+    }
     SAME(pthread_cond_clockwait(&room->c, &room->m, CLOCK_BOOTTIME, &past[0]), EINVAL);
     limits_by(CLOCK_REALTIME, PTHREAD_PROCESS_SHARED);
     limits_by(CLOCK_MONOTONIC, PTHREAD_PROCESS_SHARED);
@@ -734,6 +737,24 @@ static void ours_first(void)
     ends(1, 0);
 }
 
+/* A process without libpazdrig_pthread.so reaches nobody who waits there, and changes nothing. */
+static void the_c_librarys_own(void)
+{
+    static const char *const names[] = {"pthread_cond_signal", "pthread_cond_broadcast"};
+    void *libc = dlopen("libc.so.6", RTLD_LAZY | RTLD_NOLOAD);
+    comes_to_wait(0, waits);
+    pthread_cond_t was = room->c;
+    for (int i = 0; i < 2; i++) {
+        int (*own)(pthread_cond_t *);
+        *(void **)&own = dlsym(libc, names[i]);
+        SAME(own(&room->c), 0);
+    }
+    CHECK(!memcmp(&was, &room->c, sizeof was));
+    is_waiting(0);
+    SAME(tells(), 0);
+    ends(0, 0);
+}
+
 /* ---- Memory of each kind. */
 
 static pthread_cond_t *at, here = PTHREAD_COND_INITIALIZER;
@@ -875,6 +896,7 @@ static const struct {
     {CASE(made_anew_before_the_sleep)},
     {CASE(the_others_first)},
     {CASE(ours_first)},
+    {CASE(the_c_librarys_own)},
     {CASE(memory_of_each_kind)},
     {CASE(newcomers)},
 };
