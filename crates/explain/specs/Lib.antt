@@ -10,7 +10,7 @@ pub mod Allowed
 pub mod Notes
 pub mod Texts
 pub mod Asked
-pub mod Messages
+pub mod Failures
 pub mod Advised
 pub mod Explains
 pub mod Served
