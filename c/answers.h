@@ -58,9 +58,9 @@ static const struct {
      "(pz_thread_begin); nothing was done"},
     {"pz_mutex_trylock", EFAULT, "somebody wrote stray values into the library's words, and the call was stopped "
      "there: nobody knows who owns what, so end all who use the file and delete it"},
-    {"pz_mutex_unlock", 0, "the mutex is free. After EOWNERDEAD, where pz_mutex_consistent wasn't called, it is "
-     "unusable instead, until pz_mutex_reinit, and all who sleep on it are woken, and told ENOTRECOVERABLE if they "
-     "find it so"},
+    {"pz_mutex_unlock", 0, "the mutex is free. If its lock answered EOWNERDEAD and nobody called "
+     "pz_mutex_consistent, it is unusable instead, until pz_mutex_reinit: all who sleep on it are woken, and are "
+     "told ENOTRECOVERABLE if they find it so"},
     {"pz_mutex_unlock", EPERM, "the thread doesn't own it"},
     {"pz_mutex_unlock", EINVAL, "there is no such mutex or condition variable; nothing was done; or somebody wrote "
      "stray values into the library's words, and the call was stopped there: nobody knows who owns what, so end all "
