@@ -33,10 +33,12 @@ static void fill(struct recording *r, const struct asked *a)
     h->magic = MAGIC;
 }
 
-/* What stands before the chunks has its room now, as programs write there at any time. */
+/* What stands before the chunks has its room now, as programs write there at any time. An older recording of this name
+ * that goes on keeps its file. */
 struct recording *rec_make_file(const struct asked *a)
 {
-    int fd = open(a->file, O_RDWR | O_CREAT | O_TRUNC | O_CLOEXEC, 0666);
+    unlink(a->file);
+    int fd = open(a->file, O_RDWR | O_CREAT | O_EXCL | O_CLOEXEC, 0666);
     if (fd < 0 || ftruncate(fd, (off_t)a->size))
         rec_fail(a->file, strerror(errno));
     int r = posix_fallocate(fd, 0, sizeof(struct recording));
