@@ -43,10 +43,7 @@ struct wait {
 };
 static int for_ever(const struct wait *w) { return rec_real()->cond_wait(w->cond, w->mutex); }
 static int timed(const struct wait *w) { return rec_real()->cond_timedwait(w->cond, w->mutex, w->until); }
-static int by_clock(const struct wait *w)
-{
-    return rec_real()->cond_clockwait(w->cond, w->mutex, w->clock, w->until);
-}
+static int by_clock(const struct wait *w) { return rec_real()->cond_clockwait(w->cond, w->mutex, w->clock, w->until); }
 
 static struct record *begin_wait(const struct wait *w)
 {

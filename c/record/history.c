@@ -6,7 +6,7 @@
 #include <string.h>
 
 static const char *const call_word[] = {
-    [LOCK] = "lock", [TRYLOCK] = "trylock", [UNLOCK] = "unlock", [CONSISTENT] = "consistent",
+    [LOCK] = "lock", [TRYLOCK] = "trylock", [UNLOCK] = "unlock",       [CONSISTENT] = "consistent",
     [WAIT] = "wait", [SIGNAL] = "signal",   [BROADCAST] = "broadcast",
 };
 

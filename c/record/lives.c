@@ -22,7 +22,7 @@ __thread struct mine rec_mine;
 /* A page that is zeros again in a forked child, however it was forked: then the child and its thread are new ones. */
 static struct {
     _Atomic uint32_t process; /* a number, from 1 */
-} *own;
+} * own;
 static uint64_t namespace;
 static pthread_key_t key;
 
@@ -186,17 +186,16 @@ struct record *rec_begin(enum call call, uint32_t mutex, uint32_t cond, int flag
 
 /* ---- The beginning. */
 
-static struct recording *open_recording(const char *path)
+/* What this process calls would be missing: so the recording ends. */
+static void end_it(int fd)
 {
-    int fd = open(path, O_RDWR | O_CLOEXEC);
-    struct head h;
-    void *at = MAP_FAILED;
-    if (fd < 0)
-        return NULL;
-    if (pread(fd, &h, sizeof h, 0) == sizeof h && h.magic == MAGIC)
-        at = mmap(NULL, h.size, PROT_READ | PROT_WRITE, MAP_SHARED | MAP_NORESERVE, fd, 0);
-    close(fd);
-    return at == MAP_FAILED ? NULL : at;
+    void *at = mmap(NULL, PAGE, PROT_READ | PROT_WRITE, MAP_SHARED, fd, 0);
+    if (at == MAP_FAILED)
+        return;
+    rec_file = at;
+    rec_stop();
+    rec_file = NULL;
+    munmap(at, PAGE);
 }
 
 static void *a_page_of_this_process(void)
@@ -205,15 +204,29 @@ static void *a_page_of_this_process(void)
     return at == MAP_FAILED || madvise(at, PAGE, MADV_WIPEONFORK) ? NULL : at;
 }
 
+static void attach_to(int fd)
+{
+    struct head h;
+    struct stat st;
+    if (pread(fd, &h, sizeof h, 0) != sizeof h || h.magic != MAGIC)
+        return;
+    namespace = stat("/proc/self/ns/pid", &st) ? 0 : st.st_ino;
+    own = a_page_of_this_process();
+    void *at = mmap(NULL, h.size, PROT_READ | PROT_WRITE, MAP_SHARED | MAP_NORESERVE, fd, 0);
+    if (!own || at == MAP_FAILED || pthread_key_create(&key, ends)) {
+        end_it(fd);
+        return;
+    }
+    rec_file = at;
+    rec_process_is_gone((uint32_t)getpid());
+}
+
 __attribute__((constructor)) static void attach(void)
 {
     const char *path = getenv("PZ_RECORDING");
-    struct stat st;
-    struct recording *it = path ? open_recording(path) : NULL;
-    own = a_page_of_this_process();
-    if (!it || !own || pthread_key_create(&key, ends))
+    int fd = path ? open(path, O_RDWR | O_CLOEXEC) : -1;
+    if (fd < 0)
         return;
-    namespace = stat("/proc/self/ns/pid", &st) ? 0 : st.st_ino;
-    rec_file = it;
-    rec_process_is_gone((uint32_t)getpid());
+    attach_to(fd);
+    close(fd);
 }

@@ -7,8 +7,10 @@ static const char usage[] =
     "usage: pz-record [--over LIBRARY] [--last CALLS] [--limit MIB] [--clock tsc|counter] -o FILE PROGRAM [WORD..]\n"
     "       pz-record --history FILE\n"
     "       pz-record --names FILE\n"
-    "The first runs PROGRAM, with LIBRARY preloaded, and records in FILE what it and all that it begins call of robust\n"
-    "mutexes: all calls, or the last CALLS of each thread, at most MIB of them. The others print FILE's history, which\n"
+    "The first runs PROGRAM, with LIBRARY preloaded, and records in FILE what it and all that it begins call of "
+    "robust\n"
+    "mutexes: all calls, or the last CALLS of each thread, at most MIB of them. The others print FILE's history, "
+    "which\n"
     "rfx-judge judges, and what its numbers mean.\n";
 
 enum { MIB = 1 << 20, LEAST_MIB = 64, USUAL_MIB = 8192, MOST_CALLS = 1 << 24 };

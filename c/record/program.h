@@ -1,4 +1,5 @@
-/* What the rooms of pz-record share: it makes a recording, runs a program, stamps deaths, and tells what was recorded. */
+/* What the rooms of pz-record share: it makes a recording, runs a program, stamps deaths, and tells what was recorded.
+ */
 #ifndef PROGRAM_H
 #define PROGRAM_H
 #include "recording.h"

@@ -68,8 +68,8 @@ struct object {
 
 struct head {
     uint64_t magic, size, namespace;
-    char boot[40]; /* in which its stamps and thread ids mean something */
-    uint32_t clock, last; /* how stamps are made; how many calls of a thread are kept, 0: all */
+    char boot[40];          /* in which its stamps and thread ids mean something */
+    uint32_t clock, last;   /* how stamps are made; how many calls of a thread are kept, 0: all */
     _Atomic uint64_t ended; /* the stamp from which on something may be missing; 0: nothing is */
     char apart[64];
     _Atomic uint64_t count; /* BY_COUNTER: the last stamp */

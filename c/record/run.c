@@ -14,7 +14,7 @@
 static pid_t child;
 static int status, is_here = 1; /* of the program itself; whether it hasn't ended */
 
-/* The recorder stands beside this program, or where libraries are installed. */
+/* The recorder stands beside this program, or in the folder of libraries beside its own, or where ld.so(8) looks. */
 static void recorder(char path[PATH_MAX])
 {
     static const char *const places[] = {"/libpz_record.so", "/../lib/libpz_record.so"};
@@ -29,16 +29,18 @@ static void recorder(char path[PATH_MAX])
         if (!access(path, R_OK))
             return;
     }
-    rec_fail(path, strerror(ENOENT));
+    strcpy(path, "libpz_record.so");
 }
 
 /* In front of what is preloaded anyway. */
 static void set_environment(const struct asked *a)
 {
-    char first[PATH_MAX], file[PATH_MAX], *all;
-    const char *before = getenv("LD_PRELOAD");
+    char first[PATH_MAX], file[PATH_MAX], over[PATH_MAX], *all;
+    const char *before = getenv("LD_PRELOAD"), *second = a->over;
     recorder(first);
-    if (!realpath(a->file, file) || asprintf(&all, "%s%s%s%s%s", first, a->over ? ":" : "", a->over ? a->over : "",
+    if (second && strchr(second, '/') && !(second = realpath(second, over)))
+        rec_fail(a->over, strerror(errno));
+    if (!realpath(a->file, file) || asprintf(&all, "%s%s%s%s%s", first, second ? ":" : "", second ? second : "",
                                              before ? ":" : "", before ? before : "") < 0)
         rec_fail(a->file, strerror(errno));
     setenv("LD_PRELOAD", all, 1);

@@ -19,9 +19,9 @@ struct piece {
 struct view_life {
     struct piece *piece;
     uint32_t pieces;
-    int is_open;      /* its last call hadn't returned */
-    int is_alive;     /* it was seen to be */
-    uint64_t gone;    /* 0: nobody saw its end */
+    int is_open;          /* its last call hadn't returned */
+    int is_alive;         /* it was seen to be */
+    uint64_t gone;        /* 0: nobody saw its end */
     uint64_t first, last; /* stamps of its lines; first 0: it has none */
     uint64_t idle_from;   /* from when on its id may be another's; UINT64_MAX: never */
     uint32_t id;          /* in the history, from 1 */
@@ -47,7 +47,7 @@ struct view {
     struct view_life *life;
     struct view_name *name; /* by number, from 1 */
     uint32_t ids, mutexes, conds;
-    int has_ghost; /* a thread that was nobody, whose deaths others are told (cursor.c) */
+    int has_ghost;    /* a thread that was nobody, whose deaths others are told (cursor.c) */
     uint64_t unknown; /* calls with a reply that a history has no word for */
 };
 

@@ -77,10 +77,7 @@ static void sleepers(void)
 }
 
 /* One is killed before each instruction of its lock, until somebody is told that an owner died: there was none. */
-static void lock_again(void)
-{
-    pthread_mutex_lock(m);
-}
+static void lock_again(void) { pthread_mutex_lock(m); }
 
 static void usable_again(void)
 {

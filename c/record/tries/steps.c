@@ -1,5 +1,5 @@
-/* A thread is killed before each instruction of its calls: of the recorder, and of the library beneath. What is recorded
- * of it is what happened. usage: steps FILE lock|trylock|unlock|consistent|wait|signal */
+/* A thread is killed before each instruction of its calls: of the recorder, and of the library beneath. What is
+ * recorded of it is what happened. usage: steps FILE lock|trylock|unlock|consistent|wait|signal */
 #include "shared.h"
 
 static pthread_mutex_t *m;

@@ -181,10 +181,20 @@ static const struct {
     void (*go)(void);
     int is_made; /* before */
 } ways[] = {
-    {"by_exec", by_exec, 0},   {"behind_exec", behind_exec, 1}, {"orphan", orphan, 0},       {"joined", joined, 0},
-    {"detached", detached, 0}, {"bare_fork", bare_fork, 0},       {"recursive", recursive, 0}, {"limits", limits, 0},
-    {"private", private, 0},   {"cancelled", cancelled, 0},     {"another_file", another_file, 0},
-    {"made_anew", made_anew, 0}, {"early", early, 0},           {"late", late, 1},
+    {"by_exec", by_exec, 0},
+    {"behind_exec", behind_exec, 1},
+    {"orphan", orphan, 0},
+    {"joined", joined, 0},
+    {"detached", detached, 0},
+    {"bare_fork", bare_fork, 0},
+    {"recursive", recursive, 0},
+    {"limits", limits, 0},
+    {"private", private, 0},
+    {"cancelled", cancelled, 0},
+    {"another_file", another_file, 0},
+    {"made_anew", made_anew, 0},
+    {"early", early, 0},
+    {"late", late, 1},
 };
 
 int main(int argc, char **argv)
