@@ -96,6 +96,16 @@ void rec_take_deaths(void)
         }
 }
 
+/* Those that couldn't be watched, for want of descriptors. */
+static void look_once_more(void)
+{
+    uint32_t n = rows(&file->head.lives, LIVES);
+    for (struct life *l = file->life; l < file->life + n; l++)
+        if (atomic_load(&l->is_shown) && !atomic_load(&l->gone) && rec_is_in_sight(&file->process[l->process]) &&
+            !rec_lives(l))
+            stamp_gone(&file->head, &l->gone);
+}
+
 /* All that came, and all deaths, until now. */
 void rec_end_watch(void)
 {
@@ -105,4 +115,5 @@ void rec_end_watch(void)
     pthread_join(looker, NULL);
     look();
     rec_take_deaths();
+    look_once_more();
 }
