@@ -1,6 +1,5 @@
 /* Ways in which threads and processes come and go, and what is no call of a history. usage: ways NAME FILE */
 #include "shared.h"
-#include <sched.h>
 #include <time.h>
 
 static char *words[4];
@@ -15,12 +14,12 @@ static void repair(void)
     CHECK(pthread_mutex_lock(m) == EOWNERDEAD && pthread_mutex_consistent(m) == 0);
     unlock();
 }
+/* It may not own it yet. */
 static void until_owner_died(void)
 {
     int r;
-    while ((r = pthread_mutex_trylock(m)) == EBUSY)
-        sched_yield();
-    CHECK(r == EOWNERDEAD);
+    while ((r = pthread_mutex_trylock(m)) != EOWNERDEAD)
+        CHECK(r == EBUSY || (r == 0 && pthread_mutex_unlock(m) == 0));
 }
 
 /* The image of before is gone with all its threads. */
@@ -63,12 +62,8 @@ static void joined(void)
 static void detached(void)
 {
     pthread_t t;
-    lock();
     CHECK(pthread_create(&t, NULL, owns, NULL) == 0 && pthread_detach(t) == 0);
-    unlock();
-    int r;
-    while ((r = pthread_mutex_trylock(m)) != EOWNERDEAD)
-        CHECK(r == EBUSY || (r == 0 && pthread_mutex_unlock(m) == 0));
+    until_owner_died();
 }
 
 /* A fork that runs no handlers. */
@@ -143,12 +138,13 @@ static void cancelled(void)
 static void another_file(void)
 {
     char path[4096];
+    snprintf(path, sizeof path, "%s.other", words[2]);
+    char *other = mapped(path, 4096, NULL);
+    make((void *)(other + ((char *)m - at)), PTHREAD_MUTEX_NORMAL);
     lock();
     unlock();
     CHECK(munmap(at, 4096) == 0);
-    snprintf(path, sizeof path, "%s.other", words[2]);
     CHECK(mapped(path, 4096, at) == at);
-    make(m, PTHREAD_MUTEX_NORMAL);
     lock();
 }
 
