@@ -1,5 +1,5 @@
-/* What a try has the recorder do at a moment: that is built with `-include record/tries/hooks.h`, and calls these of the
- * program over it, where it has them. */
+/* What a try has the recorder do at a moment: that is built with `-include record/tries/hooks.h`, and calls these of
+ * the program over it, where it has them. */
 #ifndef PZ_RECORD_HOOKS_H
 #define PZ_RECORD_HOOKS_H
 #define PZ_AT(moment)  (try_##moment ? try_##moment() : (void)0)
