@@ -128,7 +128,7 @@ static void say_what_lacks(const struct view *v)
     if (late)
         fprintf(stderr, "pz-record: %" PRIu32 " mutexes are told from when they were taken first\n", late);
     if (left_out)
-        fprintf(stderr, "pz-record: %" PRIu32 " mutexes aren't told\n", left_out);
+        fprintf(stderr, "pz-record: %" PRIu32 " mutexes are not told\n", left_out);
     if (v->unknown)
         fprintf(stderr, "pz-record: %" PRIu64 " calls aren't told: their replies have no name\n", v->unknown);
 }

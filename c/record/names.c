@@ -131,15 +131,18 @@ static const struct known *region_at(uintptr_t at, uint32_t now)
     return look_up(at, now);
 }
 
+/* What is opened meanwhile may be cancelled, and these functions aren't. */
 static RARE struct name *find_place(uintptr_t at, enum what what, struct cached *c)
 {
-    int saved = errno;
+    int saved = errno, state;
+    pthread_setcancelstate(PTHREAD_CANCEL_DISABLE, &state);
     uint32_t now = atomic_load(&mappings);
     rec_mine.is_inside = 1;
     const struct known *k = region_at(at, now);
     struct name *place = k && k->object ? place_of(k->object, k->offset + (at - k->begin), what) : NULL;
     rec_mine.is_inside = 0;
     *c = (struct cached){at + what, now, place};
+    pthread_setcancelstate(state, NULL);
     errno = saved;
     return place;
 }
