@@ -6,14 +6,10 @@
 #include <linux/futex.h>
 #include <limits.h>
 #include <stdlib.h>
-#include <sys/mman.h>
 #include <sys/stat.h>
 #include <sys/syscall.h>
 #include <unistd.h>
 
-#ifndef MADV_POPULATE_WRITE
-#define MADV_POPULATE_WRITE 23
-#endif
 enum { FIRST_CHUNK = PAGE, CHUNK = 16 * PAGE };
 
 struct recording *rec_file;

@@ -6,6 +6,11 @@
 #include <stdatomic.h>
 #include <stddef.h>
 #include <stdint.h>
+#include <sys/mman.h>
+
+#ifndef MADV_POPULATE_WRITE
+#define MADV_POPULATE_WRITE 23 /* since Linux 5.14 */
+#endif
 
 #define MAGIC 0x31636572647a70ull /* "pzdrec1" */
 enum { PAGE = 4096, PROCESSES = 1 << 16, LIVES = 1 << 17, NAMES = 1 << 18, OBJECTS = 1 << 12 };
