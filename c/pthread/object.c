@@ -20,13 +20,6 @@ struct query {
 #define QUERY        _IOWR('f', 17, struct query)
 #define QUERY_SHARED 8
 
-struct region {
-    uint64_t begin, end, offset, ino;
-    unsigned dev_major, dev_minor;
-    int shared;
-    char path[PATH_MAX + 16];
-};
-
 /* One question to the kernel, since Linux 6.11. */
 static int asked(int fd, uint64_t at, struct region *r)
 {
@@ -83,7 +76,7 @@ static int has_address(const struct region *r, const void *at)
     return (uintptr_t)at >= r->begin && (uintptr_t)at < r->end;
 }
 
-static int region_of(const void *at, struct region *r)
+int sh_region_of(const void *at, struct region *r)
 {
     int answer = ENOTTY, fd = open("/proc/thread-self/maps", O_RDONLY | O_CLOEXEC);
     if (fd >= 0) {
@@ -118,7 +111,7 @@ static void read_object(const struct region *r, uint64_t offset, struct object *
 int sh_object_at(const void *at, struct object *o)
 {
     struct region r;
-    int answer = region_of(at, &r);
+    int answer = sh_region_of(at, &r);
     if (answer || !r.shared)
         return ENOENT;
     read_object(&r, r.offset + ((uintptr_t)at - r.begin), o);

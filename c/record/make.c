@@ -1,0 +1,50 @@
+/* A new recording. */
+#include "program.h"
+#include <errno.h>
+#include <fcntl.h>
+#include <string.h>
+#include <sys/stat.h>
+#include <unistd.h>
+
+void rec_read_boot(char boot[40])
+{
+    FILE *f = fopen("/proc/sys/kernel/random/boot_id", "re");
+    if (!f || !fgets(boot, 40, f))
+        boot[0] = 0;
+    if (f)
+        fclose(f);
+}
+
+static void fill(struct recording *r, const struct asked *a)
+{
+    struct head *h = &r->head;
+    struct stat st;
+    h->size = a->size;
+    h->clock = a->clock != NO_CLOCK ? (uint32_t)a->clock : rec_clocks_agree() ? BY_TSC : BY_COUNTER;
+    h->last = a->last;
+    h->namespace = stat("/proc/self/ns/pid", &st) ? 0 : st.st_ino;
+    rec_read_boot(h->boot);
+    atomic_store(&h->used, sizeof *r);
+    h->magic = MAGIC;
+}
+
+/* What stands before the chunks has its room now, as programs write there at any time. An older recording of this name
+ * that goes on keeps its file. */
+struct recording *rec_make_file(const struct asked *a)
+{
+    unlink(a->file);
+    int fd = open(a->file, O_RDWR | O_CREAT | O_EXCL | O_CLOEXEC, 0666);
+    if (fd < 0 || ftruncate(fd, (off_t)a->size))
+        rec_fail(a->file, strerror(errno));
+    int r = posix_fallocate(fd, 0, sizeof(struct recording));
+    if (r)
+        rec_fail(a->file, strerror(r));
+    void *at = mmap(NULL, a->size, PROT_READ | PROT_WRITE, MAP_SHARED | MAP_NORESERVE, fd, 0);
+    if (at == MAP_FAILED)
+        rec_fail(a->file, strerror(errno));
+    close(fd);
+    if (madvise(at, sizeof(struct recording), MADV_POPULATE_WRITE))
+        rec_fail(a->file, errno == EINVAL ? "it takes Linux 5.14" : strerror(errno));
+    fill(at, a);
+    return at;
+}

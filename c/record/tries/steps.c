@@ -1,0 +1,99 @@
+/* A thread is killed before each instruction of its calls: of the recorder, and of the library beneath. What is
+ * recorded of it is what happened. usage: steps FILE lock|trylock|unlock|consistent|wait|signal */
+#include "shared.h"
+
+static pthread_mutex_t *m;
+static pthread_cond_t *c;
+
+static void lock(void) { pthread_mutex_lock(m); }
+static void unlock(void) { pthread_mutex_unlock(m); }
+static void both(void)
+{
+    lock();
+    unlock();
+}
+static void trylock(void) { pthread_mutex_trylock(m); }
+static void trylock_and_unlock(void)
+{
+    trylock();
+    unlock();
+}
+static void consistent(void) { pthread_mutex_consistent(m); }
+static void take_dead_owners(void)
+{
+    owner_dies(m);
+    lock();
+    consistent();
+    unlock();
+    owner_dies(m);
+}
+static void own_dead_owners(void)
+{
+    take_dead_owners();
+    lock();
+}
+static void take(void)
+{
+    both();
+    lock();
+}
+static void wait_past(void)
+{
+    struct timespec past = {0};
+    pthread_cond_timedwait(c, m, &past);
+}
+static void take_and_wait(void)
+{
+    take();
+    wait_past();
+}
+static void signal_one(void) { pthread_cond_signal(c); }
+static void take_and_signal(void)
+{
+    take();
+    signal_one();
+}
+static void make_anew(void) { make(m, PTHREAD_MUTEX_NORMAL); }
+
+static const struct {
+    const char *name;
+    void (*first)(void), (*again)(void);
+} calls[] = {
+    {"lock", both, lock},
+    {"trylock", trylock_and_unlock, trylock},
+    {"lock_of_a_dead_owners", take_dead_owners, lock},
+    {"unlock", take, unlock},
+    {"consistent", own_dead_owners, consistent},
+    {"wait", take_and_wait, wait_past},
+    {"signal", take_and_signal, signal_one},
+    {"init", make_anew, make_anew},
+};
+
+/* Whoever comes next repairs it. */
+static void use(void)
+{
+    if (pthread_mutex_lock(m) == EOWNERDEAD)
+        pthread_mutex_consistent(m);
+    pthread_mutex_unlock(m);
+}
+
+int main(int argc, char **argv)
+{
+    CHECK(argc == 3);
+    char *at = mapped(argv[1], 4096, NULL);
+    m = (void *)at;
+    c = (void *)(at + 256);
+    size_t k = 0, most = sizeof calls / sizeof *calls;
+    while (k < most && strcmp(calls[k].name, argv[2]))
+        k++;
+    CHECK(k < most);
+    make(m, PTHREAD_MUTEX_NORMAL);
+    make_cond(c);
+    int n = 0;
+    while (dies_within(calls[k].first, calls[k].again, ++n))
+        use();
+    use();
+    CHECK(n > 100); /* so many instructions at least */
+    printf("%s: a death before each of %d instructions\n", argv[2], n - 1);
+    return 0;
+}

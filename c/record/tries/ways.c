@@ -1,0 +1,213 @@
+/* Ways in which threads and processes come and go, and what is no call of a history. usage: ways NAME FILE */
+#include "shared.h"
+#include <time.h>
+
+static char *words[4];
+static char *at;
+static pthread_mutex_t *m;
+static pthread_cond_t *c;
+
+static void lock(void) { CHECK(pthread_mutex_lock(m) == 0); }
+static void unlock(void) { CHECK(pthread_mutex_unlock(m) == 0); }
+static void repair(void)
+{
+    CHECK(pthread_mutex_lock(m) == EOWNERDEAD && pthread_mutex_consistent(m) == 0);
+    unlock();
+}
+/* It may not own it yet. */
+static void until_owner_died(void)
+{
+    int r;
+    while ((r = pthread_mutex_trylock(m)) != EOWNERDEAD)
+        CHECK(r == EBUSY || (r == 0 && pthread_mutex_unlock(m) == 0));
+}
+
+/* The image of before is gone with all its threads. */
+static void by_exec(void)
+{
+    lock();
+    words[1] = "behind_exec";
+    execv("/proc/self/exe", words);
+    CHECK(0);
+}
+
+/* Its parent has ended: nobody of the program's waits for it. */
+static void orphan(void)
+{
+    pid_t it = a_child();
+    if (!it) {
+        if (!fork()) {
+            lock();
+            _exit(0);
+        }
+        _exit(0);
+    }
+    until_dead(it);
+    until_owner_died();
+}
+
+static void *owns(void *unused)
+{
+    lock();
+    return unused;
+}
+
+static void joined(void)
+{
+    pthread_t t;
+    CHECK(pthread_create(&t, NULL, owns, NULL) == 0 && pthread_join(t, NULL) == 0);
+    repair();
+}
+
+static void detached(void)
+{
+    pthread_t t;
+    CHECK(pthread_create(&t, NULL, owns, NULL) == 0 && pthread_detach(t) == 0);
+    until_owner_died();
+}
+
+/* A fork that runs no handlers. */
+static void bare_fork(void)
+{
+    lock();
+    unlock();
+    pid_t it = _Fork();
+    if (!it) {
+        lock();
+        _exit(0);
+    }
+    until_dead(it);
+    repair();
+}
+
+static void recursive(void)
+{
+    make(m, PTHREAD_MUTEX_RECURSIVE);
+    for (int i = 0; i < 3; i++)
+        lock();
+    CHECK(pthread_mutex_trylock(m) == 0);
+    for (int i = 0; i < 4; i++)
+        unlock();
+    CHECK(pthread_mutex_unlock(m) == EPERM);
+}
+
+static void limits(void)
+{
+    struct timespec past = {0};
+    lock();
+    pid_t it = a_child();
+    if (!it)
+        _exit(pthread_mutex_timedlock(m, &past) != ETIMEDOUT ||
+              pthread_mutex_clocklock(m, CLOCK_MONOTONIC, &past) != ETIMEDOUT);
+    until_dead(it);
+    CHECK(pthread_cond_timedwait(c, m, &past) == ETIMEDOUT);
+    CHECK(pthread_cond_signal(c) == 0);
+    unlock();
+    CHECK(pthread_cond_broadcast(c) == 0);
+}
+
+static void private(void)
+{
+    static pthread_mutex_t plain = PTHREAD_MUTEX_INITIALIZER;
+    pthread_mutex_t robust;
+    make(&robust, PTHREAD_MUTEX_NORMAL);
+    for (pthread_mutex_t *k = &plain; k; k = k == &plain ? &robust : NULL)
+        CHECK(pthread_mutex_lock(k) == 0 && pthread_mutex_unlock(k) == 0);
+}
+
+static void *waits(void *unused)
+{
+    lock();
+    pthread_cleanup_push((void (*)(void *))unlock, NULL);
+    pthread_cond_wait(c, m);
+    pthread_cleanup_pop(0);
+    return unused;
+}
+
+/* Its handler's calls are recorded, but what the wait would have answered nobody knows. */
+static void cancelled(void)
+{
+    pthread_t t;
+    CHECK(pthread_create(&t, NULL, waits, NULL) == 0 && pthread_cancel(t) == 0 && pthread_join(t, NULL) == 0);
+    m++;
+    make(m, PTHREAD_MUTEX_NORMAL);
+    lock();
+}
+
+/* At one address two files, one after the other. */
+static void another_file(void)
+{
+    char path[4096];
+    snprintf(path, sizeof path, "%s.other", words[2]);
+    char *other = mapped(path, 4096, NULL);
+    make((void *)(other + ((char *)m - at)), PTHREAD_MUTEX_NORMAL);
+    lock();
+    unlock();
+    CHECK(munmap(at, 4096) == 0);
+    CHECK(mapped(path, 4096, at) == at);
+    lock();
+}
+
+static void made_anew(void)
+{
+    lock();
+    make(m, PTHREAD_MUTEX_NORMAL);
+    lock();
+}
+
+/* Of before this recording (`late` finds it so). */
+static void early(void)
+{
+    owner_dies(m);
+    make(m + 1, PTHREAD_MUTEX_NORMAL);
+    CHECK(pthread_mutex_lock(m + 1) == 0 && pthread_mutex_unlock(m + 1) == 0);
+}
+
+static void late(void)
+{
+    CHECK(pthread_mutex_trylock(m + 1) == 0 && pthread_mutex_unlock(m + 1) == 0);
+    repair();
+    CHECK(pthread_mutex_unlock(m) == EPERM);
+}
+
+static void behind_exec(void) { repair(); }
+
+static const struct {
+    const char *name;
+    void (*go)(void);
+    int is_made; /* before */
+} ways[] = {
+    {"by_exec", by_exec, 0},
+    {"behind_exec", behind_exec, 1},
+    {"orphan", orphan, 0},
+    {"joined", joined, 0},
+    {"detached", detached, 0},
+    {"bare_fork", bare_fork, 0},
+    {"recursive", recursive, 0},
+    {"limits", limits, 0},
+    {"private", private, 0},
+    {"cancelled", cancelled, 0},
+    {"another_file", another_file, 0},
+    {"made_anew", made_anew, 0},
+    {"early", early, 0},
+    {"late", late, 1},
+};
+
+int main(int argc, char **argv)
+{
+    CHECK(argc == 3);
+    memcpy(words, argv, 3 * sizeof *argv);
+    at = mapped(argv[2], 4096, NULL);
+    c = (void *)at;
+    m = (void *)(at + 256);
+    for (size_t i = 0; i < sizeof ways / sizeof *ways; i++)
+        if (!strcmp(ways[i].name, argv[1])) {
+            if (!ways[i].is_made) {
+                make(m, PTHREAD_MUTEX_NORMAL);
+                make_cond(c);
+            }
+            ways[i].go();
+            return 0;
+        }
+    fail(__FILE__, __LINE__, argv[1]);
+}

@@ -1,0 +1,51 @@
+/* A library between the recorder and the C library that is wrong in one way: PZ_WRONG names which. */
+#include <dlfcn.h>
+#include <errno.h>
+#include <pthread.h>
+#include <stdlib.h>
+#include <string.h>
+
+typedef int one(pthread_mutex_t *);
+static one *lock, *trylock, *unlock, *consistent;
+static const char *wrong = "";
+
+__attribute__((constructor)) static void find(void)
+{
+    *(void **)&lock = dlsym(RTLD_NEXT, "pthread_mutex_lock");
+    *(void **)&trylock = dlsym(RTLD_NEXT, "pthread_mutex_trylock");
+    *(void **)&unlock = dlsym(RTLD_NEXT, "pthread_mutex_unlock");
+    *(void **)&consistent = dlsym(RTLD_NEXT, "pthread_mutex_consistent");
+    if (getenv("PZ_WRONG"))
+        wrong = getenv("PZ_WRONG");
+}
+
+static int is(const char *name) { return !strcmp(wrong, name); }
+
+int pthread_mutex_lock(pthread_mutex_t *m)
+{
+    if (is("lock_takes_nothing"))
+        return 0;
+    int r = lock(m);
+    if (r == EOWNERDEAD && is("death_is_not_told"))
+        return consistent(m), 0;
+    if (r == EOWNERDEAD && is("lock_gives_up"))
+        return unlock(m), ENOTRECOVERABLE;
+    return r == 0 && is("death_is_told_of_nobody") ? EOWNERDEAD : r;
+}
+
+int pthread_mutex_trylock(pthread_mutex_t *m) { return is("trylock_does_not_look") ? EBUSY : trylock(m); }
+
+/* Who has let another in and comes back can be told by nobody who was told nothing meanwhile. */
+int pthread_mutex_unlock(pthread_mutex_t *m)
+{
+    if (is("unlock_keeps"))
+        return 0;
+    if (is("unlock_comes_back")) {
+        unlock(m);
+        lock(m);
+    }
+    int r = unlock(m);
+    return is("lock_takes_nothing") ? 0 : r;
+}
+
+int pthread_mutex_consistent(pthread_mutex_t *m) { return is("consistent_does_nothing") ? 0 : consistent(m); }
