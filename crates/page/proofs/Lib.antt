@@ -1,0 +1,5 @@
+mod Behind
+mod Reads
+mod Escapes
+mod Turns
+mod Lines
