@@ -1,5 +1,5 @@
 mod Behind
-mod Reads
+mod ReadBack
 mod Escapes
 mod Turns
 mod Lines

@@ -41,14 +41,20 @@ lines_shown t end = take (shown_lines end (length t.lines.items)) t.lines.items
 abbrev pub start_text : Called → Head → List ℕ
 start_text n h = codes "[\n" ++ names_text n h.threads h.mutexes h.conditions
 
--- the number on the trace's last line and how many lines it has between the first and the last; and of one that isn't
--- legal its first line that doesn't fit, and why
+-- of a trace that isn't legal: the number on its last line, how many lines it has between the first and the last, its
+-- first line that doesn't fit, and why
+abbrev pub illegal_start : ℕ → ℕ → ℕ → List ℕ
+illegal_start last lines line =
+    concat (codes "[\"illegal\"," ∷ decimal last ∷ codes "," ∷ decimal lines ∷ codes "," ∷ decimal line ∷ codes ",\"" ∷ [])
+
+abbrev pub illegal_text : ℕ → ℕ → ℕ → List ℕ → List ℕ
+illegal_text last lines line why = illegal_start last lines line ++ (escaped why ++ codes "\"]\n]\n")
+
+-- and of a legal one, but for what is wrong
 abbrev pub end_text : End → ℕ → ℕ → List ℕ
 end_text Legal last lines =
     concat (codes "[\"legal\"," ∷ decimal last ∷ codes "," ∷ decimal lines ∷ codes "]\n]\n" ∷ [])
-end_text (Illegal line why) last lines =
-    concat (codes "[\"illegal\"," ∷ decimal last ∷ codes "," ∷ decimal lines ∷ codes "," ∷ decimal line ∷ codes ",\"" ∷ [])
-    ++ (escaped why.now ++ codes "\"]\n]\n")
+end_text (Illegal line why) last lines = illegal_text last lines line why.now
 
 abbrev pub data_text : Called → Told → End → List ℕ
 data_text n t end = start_text n t.head

@@ -6,7 +6,7 @@ ghost use Rattle.facts.specs.Facts.{decision_of, thread_of};
 ghost use Rattle.streams.specs.Leaves.{Leaves};
 ghost use Rattle.verdict.specs.Judges.{IsInside};
 ghost use Rattle.verdict.specs.Told.{IsOf, IsWithin};
-ghost use Rattle.page.specs.Data.{data_text, end_text, mutex_in, shown_lines, start_text};
+ghost use Rattle.page.specs.Data.{data_text, end_text, illegal_start, illegal_text, mutex_in, shown_lines, start_text};
 ghost use Rattle.page.specs.Shows.{items_behind, turn};
 ghost use Rattle.page.specs.States.{seen, state_behind};
 ghost use Rattle.page.specs.Statuses.{first_status};
@@ -19,7 +19,7 @@ use crate::texts::{add_line, add_object_behind, add_status, add_whole};
 use facts::{Fact, Line};
 use itoa::Buffer;
 use picture::{Names, Unwritten};
-use std::alloc::{AllocError, Global};
+use std::alloc::AllocError;
 use std::io::Write;
 use streams::put_text;
 use verdict::{Head, Told};
@@ -174,25 +174,57 @@ fn write_items<W: Write>(
     Ok(())
 }
 
-fn add_end(text: &mut String, end: &End<'_>, last: u32, lines: usize) -> Result<(), AllocError>
-    ensures { IfOk result (λ _. string_bytes text.new ≡ string_bytes text.old ++ end_text end.now last lines) }
+fn add_legal(text: &mut String, last: u32, lines: usize) -> Result<(), AllocError>
+    ensures { IfOk result (λ _. string_bytes text.new ≡ string_bytes text.old ++ end_text End.Legal last lines) }
+{
+    let mut lasts = Buffer::new();
+    let mut counts = Buffer::new();
+    let last = lasts.format(last);
+    let count = counts.format(lines);
+    add(text, &["[\"legal\",", last, ",", count, "]\n]\n"])
+}
+
+fn add_illegal_start(
+    text: &mut String,
+    last: u32,
+    lines: usize,
+    line: usize,
+) -> Result<(), AllocError>
+    ensures { IfOk result (λ _. string_bytes text.new ≡ string_bytes text.old ++ illegal_start last lines line) }
 {
     let mut lasts = Buffer::new();
     let mut counts = Buffer::new();
     let mut numbers = Buffer::new();
     let last = lasts.format(last);
     let count = counts.format(lines);
+    let number = numbers.format(line);
+    add(
+        text,
+        &["[\"illegal\",", last, ",", count, ",", number, ",\""],
+    )
+}
+
+fn add_illegal(
+    text: &mut String,
+    last: u32,
+    lines: usize,
+    line: usize,
+    why: &str,
+) -> Result<(), AllocError>
+    ensures { IfOk result
+        (λ _. string_bytes text.new ≡ string_bytes text.old ++ illegal_text last lines line why.now) }
+{
+    add_illegal_start(text, last, lines, line)?;
+    add_escaped(text, why)?;
+    add_word(text, "\"]\n]\n")
+}
+
+fn add_end(text: &mut String, end: &End<'_>, last: u32, lines: usize) -> Result<(), AllocError>
+    ensures { IfOk result (λ _. string_bytes text.new ≡ string_bytes text.old ++ end_text end.now last lines) }
+{
     match *end {
-        End::Legal => add(text, &["[\"legal\",", last, ",", count, "]\n]\n"]),
-        End::Illegal { line, why } => {
-            let number = numbers.format(line);
-            add(
-                text,
-                &["[\"illegal\",", last, ",", count, ",", number, ",\""],
-            )?;
-            add_escaped(text, why)?;
-            add_word(text, "\"]\n]\n")
-        }
+        End::Legal => add_legal(text, last, lines),
+        End::Illegal { line, why } => add_illegal(text, last, lines, line, why),
     }
 }
 
@@ -224,37 +256,22 @@ fn write_end<W: Write>(
     write_text(row, out)
 }
 
-fn write_shown<W: Write>(
-    alloc: Global,
-    row: &mut String,
-    head: &Head,
-    lines: &[Line],
-    out: &mut W,
-) -> Result<(), Unwritten>
-    requires inside { All (IsOf head.now) lines.now }
-    requires few { length lines.now ≤ 100000 }
-    ensures { Leaves (W.contents out.old) (W.contents out.new) result
-        (items_text (items_behind head.now.threads head.now.mutexes [] lines.now)) }
-{
-    let mut state = State::new(alloc, head.threads, head.mutexes)?;
-    write_items(row, &mut state, head, lines, out)
-}
-
-/// Writes the data of a trace: what things are called, the states behind its lines, and how it was judged.
+/// Writes the data of a trace, `state` being that before its first line: what things are called, the states behind its lines, and how it was judged.
 pub fn write_data<W: Write>(
-    alloc: Global,
     row: &mut String,
+    state: &mut State,
     names: &Names,
     trace: &Told,
     end: &End<'_>,
     out: &mut W,
 ) -> Result<(), Unwritten>
-    requires { IsWithin trace.now }
+    requires within { IsWithin trace.now }
+    requires new { seen state.old ≡ state_behind trace.now.head.threads trace.now.head.mutexes [] }
     ensures { Leaves (W.contents out.old) (W.contents out.new) result (data_text names.now trace.now end.now) }
 {
     let count = trace.lines.len();
     let shown = shown_lines(end, count);
     write_names(row, names, &trace.head, out)?;
-    write_shown(alloc, row, &trace.head, &trace.lines[..shown], out)?;
+    write_items(row, state, &trace.head, &trace.lines[..shown], out)?;
     write_end(row, end, trace.last, count, out)
 }

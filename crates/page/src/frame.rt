@@ -16,7 +16,7 @@ main { display: grid; grid-template-columns: minmax(0, 1fr) minmax(20rem, 30rem)
 #picture { order: 1; overflow: auto; background: #fff; }
 #sheet { position: relative; width: max-content; cursor: pointer; }
 #sheet svg { display: block; }
-#sheet.large > svg:last-of-type { display: none; }
+#sheet.large > #rows ~ svg { display: none; }
 #rows { position: absolute; left: 0; }
 #sheet:not(.large) > #rows { display: none; }
 #cursor { position: absolute; left: 0; right: 0; height: 18px; background: #ff0; opacity: .35; pointer-events: none; }
@@ -44,7 +44,7 @@ th, td { text-align: left; vertical-align: top; padding: .1rem .4rem .1rem 0; bo
   main { display: block; height: auto; }
   #beside, #cursor { display: none; }
   #picture { overflow: visible; height: auto; }
-  #sheet.large > svg:last-of-type { display: block; }
+  #sheet.large > #rows ~ svg { display: block; }
   #sheet.large > #rows { display: none; }
 }
 </style>

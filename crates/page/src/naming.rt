@@ -1,6 +1,6 @@
 //! What things are called, in the data of a page.
 
-ghost use Rattle.std.specs.Prelude.{◌≡◌, ◌++◌, string_bytes, IfOk};
+ghost use Rattle.std.specs.Prelude.{◌≡◌, ◌++◌, ◌<◌, string_bytes, IfOk};
 ghost use Rattle.picture.specs.Pieces.{each};
 ghost use Rattle.page.specs.Escapes.{escaped};
 ghost use Rattle.page.specs.Names.{condition_called, label_text, mutex_called, names_text, thread_called};

@@ -185,7 +185,7 @@ let tops, bottoms;
 let drawnFrom = -1;
 
 function measure() {
-  const whole = element("sheet").querySelector(":scope > svg:last-of-type");
+  const whole = element("sheet").querySelector("#rows ~ svg");
   const small = element("rows");
   const [, , width, height] = whole.getAttribute("viewBox").split(" ");
   for (const name of ["style", "defs"]) small.append(whole.querySelector(name).cloneNode(true));

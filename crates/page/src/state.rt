@@ -8,7 +8,7 @@ ghost use Rattle.page.specs.Statuses.{after, first_status};
 
 use crate::status::Status;
 use facts::{Fact, Line};
-use lockword::Reply;
+use lockword::{Reply, Tid};
 use posixmutex::{Decision, Object, Operation};
 use std::alloc::{AllocError, Global};
 
@@ -89,7 +89,13 @@ fn objects(alloc: Global, count: usize) -> Result<Vec<Object>, AllocError>
     requires { count ≤ 65536 }
     ensures { IfOk result (λ v. v.items ≡ replicate count fresh) }
 {
-    vec![in alloc; Object::new(); count]
+    let owner: Option<Tid> = None;
+    let free = Object {
+        owner,
+        inconsistent: false,
+        unusable: false,
+    };
+    vec![in alloc; free; count]
 }
 
 impl State {

@@ -1,4 +1,4 @@
-use Rattle.page.proofs.Reads as reads
+use Rattle.page.proofs.ReadBack as reads
 use Rattle.page.proofs.laws.page_shows.Goals as goal
 
 pub returns : goal.returns
