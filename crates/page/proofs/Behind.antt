@@ -80,7 +80,7 @@ set_listed f g n k v here elsewhere = fill_by_all g (set (listed f n) k v) n v (
 pub threads_behind : (n : ℕ) (e : Line) (es : List Line) → slice_set (listed (statuses es) n) (thread_of e.fact) (status_of (thread_of e.fact) (e ∷ es)) ≡ listed (statuses (e ∷ es)) n
 threads_behind n e es = set_listed (statuses es) (statuses (e ∷ es)) n (thread_of e.fact) (status_of (thread_of e.fact) (e ∷ es)) refl (λ i ne. others_line i e es ne)
 
-moved_other : (os : ℕ → Object) (d : Decision) (i : ℕ) → d.mutex ≢ i → moved os (Some d) i ≡ os i
+pub moved_other : (os : ℕ → Object) (d : Decision) (i : ℕ) → d.mutex ≢ i → moved os (Some d) i ≡ os i
 moved_other os d i ne = ap (λ (b : Bool). if b then stepped (os i) d.thread d.operation d.reply else os i) (other_thread i d.mutex (λ e. ne (sym e)))
 
 pub moved_own : (os : ℕ → Object) (d : Decision) → moved os (Some d) d.mutex ≡ stepped (os d.mutex) d.thread d.operation d.reply

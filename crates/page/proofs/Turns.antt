@@ -50,13 +50,13 @@ few_lives (Kill t ∷ fs) = let h = few_lives fs in omega (arith, h)
 few_lives (Reap t ∷ fs) = let h = few_lives fs in omega (arith, h)
 few_lives (Renew t ∷ fs) = let h = few_lives fs in omega (arith, h)
 
+told_by : (own : Bool) (e : Line) (fs : List Fact) (n : ℕ) → length fs ≤ n → length (if own then e.fact ∷ fs else fs) ≤ n + 1
+told_by true e fs n h = omega (arith, h)
+told_by false e fs n h = omega (arith, h)
+
 few_told : (t : ℕ) (es : List Line) → length (told_of t es) ≤ length es
 few_told t [] = omega arith
-few_told t (e ∷ es) = go (thread_of e.fact == t)
-  where
-    go : (own : Bool) → length (if own then e.fact ∷ told_of t es else told_of t es) ≤ length (e ∷ es)
-    go true = let h = few_told t es in omega (arith, h)
-    go false = let h = few_told t es in omega (arith, h)
+few_told t (e ∷ es) = let h = told_by (thread_of e.fact == t) e (told_of t es) (length es) (few_told t es) in omega (arith, h)
 
 pub young : (t : ℕ) (es : List Line) → length es ≤ 100000 → (status_of t es).life < 2 ^ 60
 young t es few = let h = few_lives (told_of t es) in let k = few_told t es in omega (arith, h, k, few)
