@@ -1,8 +1,8 @@
 -- What a command line asks for.
 --
 -- *What a command line asks for.* A picture, where its words are those of its parts in any order, each part once at
--- most: `--svg` or `--html`, `--script` with SCRIPT behind it, and FILE. What signs mean, where `--legend` stands alone.
--- Else the usage. SCRIPT and FILE don't begin with a hyphen.
+-- most: `--svg` or `--html`, `--script` with SCRIPT behind it, and FILE. What signs mean, where `--legend` stands
+-- alone. Else the usage. SCRIPT and FILE don't begin with a hyphen.
 use Rattle.std.specs.Prelude.{ℕ, ◌≡◌, true, List, [], ◌∷◌, ◌++◌, codes, Option}
 use Rattle.std.specs.Prelude.{option_map, option_to_list, unwrap_or, IfSome}
 use Rattle.draw_report.specs.declared.asking.Form.{Form}

@@ -39,5 +39,5 @@ pub few_taken : (ls : List Line) (n : ℕ) → n ≤ 100000 → length (take n l
 few_taken ls n few = let h = length-take n ls in omega (arith, few, h)
 
 -- the lines that are shown
-pub shown_so : (t : Told) (end : End) (ls : List Line) (n : ℕ) → ls ≡ t.lines.items → n ≡ shown_lines end (length t.lines.items) → take n ls ≡ lines_shown t end
-shown_so t end ls n is so = ap (take n) is ∙ ap (λ (k : ℕ). take k t.lines.items) so
+pub shown_so : (t : Told) (end : End) (ls : List Line) (n : ℕ) → ls ≡ t.lines.items → n ≡ shown_lines end (length ls) → take n ls ≡ lines_shown t end
+shown_so t end ls n is so = ap (take n) is ∙ ap (λ (k : ℕ). take k t.lines.items) (so ∙ ap (λ (us : List Line). shown_lines end (length us)) is)

@@ -43,9 +43,12 @@ start_text n h = codes "[\n" ++ names_text n h.threads h.mutexes h.conditions
 
 -- of a trace that isn't legal: the number on its last line, how many lines it has between the first and the last, its
 -- first line that doesn't fit, and why
+abbrev pub illegal_with : List ℕ → List ℕ → List ℕ → List ℕ
+illegal_with last lines line =
+    concat (codes "[\"illegal\"," ∷ last ∷ codes "," ∷ lines ∷ codes "," ∷ line ∷ codes ",\"" ∷ [])
+
 abbrev pub illegal_start : ℕ → ℕ → ℕ → List ℕ
-illegal_start last lines line =
-    concat (codes "[\"illegal\"," ∷ decimal last ∷ codes "," ∷ decimal lines ∷ codes "," ∷ decimal line ∷ codes ",\"" ∷ [])
+illegal_start last lines line = illegal_with (decimal last) (decimal lines) (decimal line)
 
 abbrev pub illegal_text : ℕ → ℕ → ℕ → List ℕ → List ℕ
 illegal_text last lines line why = illegal_start last lines line ++ (escaped why ++ codes "\"]\n]\n")

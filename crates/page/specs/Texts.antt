@@ -123,10 +123,14 @@ status_behind s = codes "," ++ status_text s
 abbrev pub object_behind : Object → List ℕ
 object_behind o = codes "," ++ object_text o
 
+abbrev pub threads_text : List Status → List ℕ
+threads_text ss = codes "[[\"threads\"" ++ concat (map status_behind ss)
+
+abbrev pub mutexes_text : List Object → List ℕ
+mutexes_text os = codes "],[\"mutexes\"" ++ (concat (map object_behind os) ++ codes "]],\n")
+
 abbrev pub whole_text : Shown → List ℕ
-whole_text s = codes "[[\"threads\""
-    ++ (concat (map status_behind s.threads)
-    ++ (codes "],[\"mutexes\"" ++ (concat (map object_behind s.mutexes) ++ codes "]],\n")))
+whole_text s = threads_text s.threads ++ mutexes_text s.mutexes
 
 abbrev pub mutex_text : Option Mutex → List ℕ
 mutex_text None = codes "],\n"

@@ -269,9 +269,10 @@ pub fn write_data<W: Write>(
     requires new { seen state.old ≡ state_behind trace.now.head.threads trace.now.head.mutexes [] }
     ensures { Leaves (W.contents out.old) (W.contents out.new) result (data_text names.now trace.now end.now) }
 {
-    let count = trace.lines.len();
+    let lines = trace.lines.as_slice();
+    let count = lines.len();
     let shown = shown_lines(end, count);
     write_names(row, names, &trace.head, out)?;
-    write_items(row, state, &trace.head, &trace.lines[..shown], out)?;
+    write_items(row, state, &trace.head, &lines[..shown], out)?;
     write_end(row, end, trace.last, count, out)
 }

@@ -3,6 +3,7 @@
 ghost use Rattle.std.specs.Prelude.{◌≡◌, ◌++◌, ◌<◌, string_bytes, IfOk};
 ghost use Rattle.picture.specs.Pieces.{each};
 ghost use Rattle.page.specs.Escapes.{escaped};
+ghost use Rattle.page.specs.Names.{conditions_named, mutexes_named, threads_named};
 ghost use Rattle.page.specs.Names.{condition_called, label_text, mutex_called, names_text, thread_called};
 
 use crate::pieces::add_word;
@@ -82,6 +83,28 @@ fn add_conditions(text: &mut String, names: &Names, count: u16) -> Result<(), Al
     Ok(())
 }
 
+fn name_threads(text: &mut String, names: &Names, count: u8) -> Result<(), AllocError>
+    ensures { IfOk result (λ _. string_bytes text.new ≡ string_bytes text.old ++ threads_named names.now count) }
+{
+    add_word(text, "[[\"threads\"")?;
+    add_threads(text, names, count)
+}
+
+fn name_mutexes(text: &mut String, names: &Names, count: u16) -> Result<(), AllocError>
+    ensures { IfOk result (λ _. string_bytes text.new ≡ string_bytes text.old ++ mutexes_named names.now count) }
+{
+    add_word(text, "],[\"mutexes\"")?;
+    add_mutexes(text, names, count)
+}
+
+fn name_conditions(text: &mut String, names: &Names, count: u16) -> Result<(), AllocError>
+    ensures { IfOk result (λ _. string_bytes text.new ≡ string_bytes text.old ++ conditions_named names.now count) }
+{
+    add_word(text, "],[\"conditions\"")?;
+    add_conditions(text, names, count)?;
+    add_word(text, "]],\n")
+}
+
 /// What so many threads, mutexes and condition variables are called.
 pub fn add_names(
     text: &mut String,
@@ -93,11 +116,7 @@ pub fn add_names(
     ensures { IfOk result
         (λ _. string_bytes text.new ≡ string_bytes text.old ++ names_text names.now threads mutexes conditions) }
 {
-    add_word(text, "[[\"threads\"")?;
-    add_threads(text, names, threads)?;
-    add_word(text, "],[\"mutexes\"")?;
-    add_mutexes(text, names, mutexes)?;
-    add_word(text, "],[\"conditions\"")?;
-    add_conditions(text, names, conditions)?;
-    add_word(text, "]],\n")
+    name_threads(text, names, threads)?;
+    name_mutexes(text, names, mutexes)?;
+    name_conditions(text, names, conditions)
 }

@@ -5,7 +5,7 @@ ghost use Rattle.std.specs.List.{concat};
 ghost use Rattle.page.specs.Texts.{act_text, bed_text, begun_text, call_text, condition_text, flag, marks_text};
 ghost use Rattle.page.specs.Texts.{object_behind, object_text, owner_text, point_text, queue_letter, queue_number};
 ghost use Rattle.page.specs.Texts.{queue_text, rest_of, status_behind, status_text, told, whole_text, word_of};
-ghost use Rattle.page.specs.Texts.{line_text};
+ghost use Rattle.page.specs.Texts.{line_text, mutexes_text, threads_text};
 ghost use Rattle.page.specs.States.{seen};
 ghost use Rattle.facts.specs.Facts.{thread_of};
 
@@ -201,15 +201,27 @@ fn add_objects(text: &mut String, objects: &[Object]) -> Result<(), AllocError>
     Ok(())
 }
 
+fn add_threads(text: &mut String, statuses: &[Status]) -> Result<(), AllocError>
+    ensures { IfOk result (λ _. string_bytes text.new ≡ string_bytes text.old ++ threads_text statuses.now) }
+{
+    add_word(text, "[[\"threads\"")?;
+    add_statuses(text, statuses)
+}
+
+fn add_mutexes(text: &mut String, objects: &[Object]) -> Result<(), AllocError>
+    ensures { IfOk result (λ _. string_bytes text.new ≡ string_bytes text.old ++ mutexes_text objects.now) }
+{
+    add_word(text, "],[\"mutexes\"")?;
+    add_objects(text, objects)?;
+    add_word(text, "]],\n")
+}
+
 /// What all threads and mutexes are.
 pub fn add_whole(text: &mut String, state: &State) -> Result<(), AllocError>
     ensures { IfOk result (λ _. string_bytes text.new ≡ string_bytes text.old ++ whole_text (seen state.now)) }
 {
-    add_word(text, "[[\"threads\"")?;
-    add_statuses(text, &state.threads)?;
-    add_word(text, "],[\"mutexes\"")?;
-    add_objects(text, &state.mutexes)?;
-    add_word(text, "]],\n")
+    add_threads(text, &state.threads)?;
+    add_mutexes(text, &state.mutexes)
 }
 
 fn word_of(fact: &Fact) -> &'static str
