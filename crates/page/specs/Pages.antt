@@ -1,7 +1,7 @@
 -- A page of HTML to step through a trace (the HTML Standard).
 --
--- *The page.* Its data, which a script shows, and its picture, each once; what stands before, between and behind them is
--- the same in every page.
+-- *The page.* Its data, which a script shows, and its picture, each once; what stands before, between and behind them
+-- is the same in every page.
 use Rattle.std.specs.Prelude.{ℕ, List, [], ◌∷◌, ◌++◌}
 use Rattle.std.specs.List.{concat}
 use Rattle.verdict.specs.declared.told.Told.{Told}

@@ -256,7 +256,8 @@ fn write_end<W: Write>(
     write_text(row, out)
 }
 
-/// Writes the data of a trace, `state` being that before its first line: what things are called, the states behind its lines, and how it was judged.
+/// Writes the data of a trace, `state` being that before its first line: what things are called, the states behind its
+/// lines, and how it was judged.
 pub fn write_data<W: Write>(
     row: &mut String,
     state: &mut State,

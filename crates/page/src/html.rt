@@ -33,8 +33,9 @@ fn write_script<W: Write>(out: &mut W) -> Result<(), Unwritten>
 
 /// Room for the longest row of data and the longest part of a picture.
 fn room(head: &Head) -> usize {
-    let things =
-        usize::from(head.threads) + usize::from(head.mutexes) + usize::from(head.conditions);
+    let things = usize::from(head.threads)
+        + usize::from(head.mutexes)
+        + usize::from(head.conditions);
     PART + THING * things
 }
 
@@ -61,9 +62,8 @@ fn write_parts<W: Write>(
 }
 
 /// Writes a page of HTML to step through a trace, line by line: its picture as [`draw_svg`] draws it, with these names,
-/// and the state behind each line as data, up to the first line that doesn't fit, and at most of 100,000 lines. `end` says
-/// how the trace was judged. Memory is asked for before anything is written. At an error a beginning of the page is
-/// written.
+/// and the state behind each line as data, up to the first line that doesn't fit, and at most of 100,000 lines. `end`
+/// says how the trace was judged. At an error a beginning of the page is written.
 pub fn write_page<W: Write>(
     alloc: Global,
     names: &Names,

@@ -1,10 +1,10 @@
 //! Pages of HTML to step through a trace.
 //!
-//! [`write_page`] writes one file: a frame, the trace's picture as `picture` draws it as SVG, and as data the state behind
-//! each line that fits those before it: what each thread does, what each mutex is (`state_behind`). The data are whole
-//! states, and between them what each line changes; who reads them comes to just the states behind the lines, in their
-//! order ([`page_shows`]). The page's script shows them. Names are escaped ([`names_are_escaped`]). At an error a beginning
-//! of the page is written.
+//! [`write_page`] writes one file: a frame, the trace's picture as `picture` draws it as SVG, and as data the state
+//! behind each line that fits those before it: what each thread does, what each mutex is (`state_behind`). The data are
+//! whole states, and between them what each line changes; who reads them comes to just the states behind the lines, in
+//! their order ([`page_shows`]). The page's script shows them. Names in the data are escaped ([`names_are_escaped`]).
+//! At an error a beginning of the page is written.
 //!
 //! Stands on `verdict`, for what is read of a trace and how it is judged, on `picture`, for the picture and names, on
 //! `facts`, `posixmutex` and `lockword`, for lines, mutexes as objects, thread ids and replies, on `streams`, for

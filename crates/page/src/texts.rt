@@ -75,10 +75,7 @@ fn add_begun(text: &mut String, call: Begun) -> Result<(), AllocError>
 fn add_act(text: &mut String, operation: Operation, reply: Reply) -> Result<(), AllocError>
     ensures { IfOk result (λ _. string_bytes text.new ≡ string_bytes text.old ++ act_text (operation, reply)) }
 {
-    add(
-        text,
-        &["\"", operation.word(), "\",\"", reply.name(), "\""],
-    )
+    add(text, &["\"", operation.word(), "\",\"", reply.name(), "\""])
 }
 
 fn add_call(text: &mut String, call: Option<Begun>) -> Result<(), AllocError>

@@ -46,7 +46,11 @@ fn stands_in(text: &[u8], part: &str) -> bool {
 fn pages_have_the_states_of_traces(rt: HostRuntime) {
     for (trace, data) in &DATA {
         let files = Folder::new(*trace);
-        let page = answer_of(rt.alloc(), words(rt.alloc(), &["rfx-draw", "--html", "f"]), &files);
+        let page = answer_of(
+            rt.alloc(),
+            words(rt.alloc(), &["rfx-draw", "--html", "f"]),
+            &files,
+        );
         assert!(rt; page.status == 0 && page.told.is_empty() && files.opened.get() == 1);
         assert!(rt; page.printed.starts_with(b"<!DOCTYPE html>"));
         assert!(rt; stands_in(&page.printed, *data) && page.printed.ends_with(BOTTOM.as_bytes()));
@@ -61,8 +65,18 @@ fn pages_have_the_picture(rt: HostRuntime) {
     let page = answer_of(rt.alloc(), words(rt.alloc(), line), &files);
     assert!(rt; page.status == 0 && page.told.is_empty());
     assert!(rt; stands_in(&page.printed, "</script>\n<svg xmlns"));
-    assert!(rt; stands_in(&page.printed, ">alice</text>") && stands_in(&page.printed, "[[\"threads\",\"alice\"],[\"mutexes\",\"accounts\"],[\"conditions\"]],\n"));
-    let plain = answer_of(rt.alloc(), words(rt.alloc(), &["rfx-draw", "f", "--html"]), &Folder::new(TRACE));
+    assert!(rt;
+        stands_in(&page.printed, ">alice</text>")
+            && stands_in(
+                &page.printed,
+                "[[\"threads\",\"alice\"],[\"mutexes\",\"accounts\"],[\"conditions\"]],\n"
+            )
+    );
+    let plain = answer_of(
+        rt.alloc(),
+        words(rt.alloc(), &["rfx-draw", "f", "--html"]),
+        &Folder::new(TRACE),
+    );
     assert!(rt; stands_in(&plain.printed, SVG_END));
 }
 

@@ -42,7 +42,7 @@ loop-index-preserved g c =
     let same : l ∷ es ≡ reverse (take (i + 1) ls) = turned ls i l c.loop-index-test.true c.index-lines-index.is in
     record {
       so_far = subst (λ (ks : List Line). Sofar start after whole (items_text (items_behind t m ks (drop (i + 1) ls)))) same
-      (goes_on start (g.W.Write.contents c.loop-index.out) after whole (items_text (items_behind t m es (drop i ls))) (items_text (turn t m es l)) (items_text (items_behind t m (l ∷ es) (drop (i + 1) ls))) c.loop-index.invariant.so_far (items_next t m es ls i l c.loop-index-test.true c.index-lines-index.is) c.in_ok-write_turn.ensures.text);
+          (goes_on start (g.W.Write.contents c.loop-index.out) after whole (items_text (items_behind t m es (drop i ls))) (items_text (turn t m es l)) (items_text (items_behind t m (l ∷ es) (drop (i + 1) ls))) c.loop-index.invariant.so_far (items_next t m es ls i l c.loop-index-test.true c.index-lines-index.is) c.in_ok-write_turn.ensures.text);
       state = c.in_ok-write_turn.ensures.state ∙ ap (state_behind t m) same;
     }
 
