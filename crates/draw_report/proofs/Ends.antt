@@ -13,11 +13,18 @@ use Rattle.verdict.specs.Told.{trace_of}
 use Rattle.picture.specs.declared.drawing.Unwritten.{Unwritten}
 use Rattle.picture.specs.declared.drawing.Unwritten.TheVariants as unwritten
 use Rattle.draw_report.specs.declared.asking.Kind.{Kind}
+use Rattle.draw_report.specs.declared.asking.Kind.TheVariants.{Text, Svg, Html}
+use Rattle.page.specs.declared.data.End.{End}
+use Rattle.page.specs.declared.data.End.TheVariants.{Legal}
+use Rattle.page.specs.Pages.{page_text}
+use Rattle.picture.specs.Drawn.{drawn}
+use Rattle.picture.specs.Names.{Called}
+use Rattle.picture.specs.Svg.{svg_drawn}
 use Rattle.draw_report.specs.declared.messages.Failure.{Failure}
 use Rattle.draw_report.specs.declared.messages.Failure.TheVariants.{Script}
 use Rattle.draw_report.specs.Names.{called_by}
 use Rattle.draw_report.specs.Scripts.{FailsScript, GivesScript}
-use Rattle.draw_report.specs.Served.{Comes, Draws, FailsDrawing, IsOf, Serves, picture, undrawn_by}
+use Rattle.draw_report.specs.Served.{Comes, Draws, FailsDrawing, IsBegun, IsDrawn, IsJudged, IsOf, LeavesPicture, Serves, picture, undrawn_by}
 use Rattle.script.specs.declared.command.Mode.TheVariants.{Run}
 use Rattle.script.specs.declared.fault.Fault.TheVariants as script
 use Rattle.script.specs.declared.fault.ScriptFault.{ScriptFault}
@@ -37,9 +44,27 @@ err_weaker (Ok x) weaker h = h
 err_weaker (Err e) weaker h = weaker e h
 
 -- a picture that wasn't written, or not all of it
-pub draws_front : (kind : Kind) (script : Option Scope) (old new : Option (List ℕ)) (bytes : List ℕ) (t : Told) (u : Unwritten) → IsOf script bytes t → AppendsFront old new (picture kind (called_by script) t) → FailsDrawing kind script bytes old new (undrawn_by u)
+pub draws_front : (kind : Kind) (script : Option Scope) (old new : Option (List ℕ)) (bytes : List ℕ) (t : Told) (u : Unwritten) → IsOf script bytes t → IsBegun kind (called_by script) bytes t old new → FailsDrawing kind script bytes old new (undrawn_by u)
 draws_front kind script old new bytes t unwritten.OutOfMemory of front = (t, of, front)
 draws_front kind script old new bytes t unwritten.Failed of front = (t, of, front)
+
+-- pictures that tell nothing of how the trace is judged
+pub leaves_text : {X E : Type 0} (n : Called) (bytes : List ℕ) (t : Told) (old new : Option (List ℕ)) (r : Result X E) → Leaves old new r (drawn n t.head.threads t.head.mutexes t.lines.items t.last) → LeavesPicture Text n bytes t old new r
+leaves_text n bytes t old new (Ok x) h = (Legal, tt, h)
+leaves_text n bytes t old new (Err e) h = inr (Legal, tt, h)
+
+pub leaves_svg : {X E : Type 0} (n : Called) (bytes : List ℕ) (t : Told) (old new : Option (List ℕ)) (r : Result X E) → Leaves old new r (svg_drawn n t.head.threads t.head.mutexes t.lines.items t.last) → LeavesPicture Svg n bytes t old new r
+leaves_svg n bytes t old new (Ok x) h = (Legal, tt, h)
+leaves_svg n bytes t old new (Err e) h = inr (Legal, tt, h)
+
+-- a page, of a trace that is so judged
+pub leaves_page : {X E : Type 0} (n : Called) (bytes : List ℕ) (t : Told) (end : End) (old new : Option (List ℕ)) (r : Result X E) → IsJudged Html bytes end → Leaves old new r (page_text n t end) → LeavesPicture Html n bytes t old new r
+leaves_page n bytes t end old new (Ok x) j h = (end, j, h)
+leaves_page n bytes t end old new (Err e) j h = inr (end, j, h)
+
+-- what was drawn stays, as a beginning of it
+pub begun_kept : (kind : Kind) (n : Called) (bytes : List ℕ) (t : Told) (old drawn new : Option (List ℕ)) → IsDrawn kind n bytes t old drawn → Keeps drawn new → IsBegun kind n bytes t old new
+begun_kept kind n bytes t old drawn new d k = inr (d.0, d.1, whole_is_front old new (picture kind n t d.0) (Appends-kept old drawn new (picture kind n t d.0) d.2 k))
 
 -- a trace isn't too long
 read_is_short : (bytes : List ℕ) (t : Trace) → trace_read bytes ≡ Ok t → length bytes ≤ max_bytes

@@ -1,14 +1,14 @@
 -- What a command line asks for.
 --
 -- *What a command line asks for.* A picture, where its words are those of its parts in any order, each part once at
--- most: `--svg`, `--script` with SCRIPT behind it, and FILE. What signs mean, where `--legend` stands alone. Else the
--- usage. SCRIPT and FILE don't begin with a hyphen.
-use Rattle.std.specs.Prelude.{ℕ, suc, ◌≡◌, true, List, [], ◌∷◌, ◌++◌, codes, Option}
+-- most: `--svg` or `--html`, `--script` with SCRIPT behind it, and FILE. What signs mean, where `--legend` stands
+-- alone. Else the usage. SCRIPT and FILE don't begin with a hyphen.
+use Rattle.std.specs.Prelude.{ℕ, ◌≡◌, true, List, [], ◌∷◌, ◌++◌, codes, Option}
 use Rattle.std.specs.Prelude.{option_map, option_to_list, unwrap_or, IfSome}
 use Rattle.draw_report.specs.declared.asking.Form.{Form}
 use Rattle.draw_report.specs.declared.asking.Form.TheVariants.{Picture, Legend, Usage}
 use Rattle.draw_report.specs.declared.asking.Kind.{Kind}
-use Rattle.draw_report.specs.declared.asking.Kind.TheVariants.{Text, Svg}
+use Rattle.draw_report.specs.declared.asking.Kind.TheVariants.{Text, Svg, Html}
 use Rattle.streams.specs.Words.{is_file_word}
 
 -- a picture of the trace in a file, with the names of a script in another one, or with numbers; what the signs of
@@ -30,15 +30,17 @@ standard_input = codes "/dev/stdin"
 
 -- ---- the parts of a picture's command line
 
--- that it is SVG; whose names it has; which trace it is of
+-- that it is SVG, or a page of HTML; whose names it has; which trace it is of
 pub data Part : Type 0 where
   AsSvg : Part
+  AsHtml : Part
   NamedBy : List ℕ → Part
   OfTrace : List ℕ → Part
 
 -- the words that say so
 abbrev pub said_by : Part → List (List ℕ)
 said_by AsSvg = codes "--svg" ∷ []
+said_by AsHtml = codes "--html" ∷ []
 said_by (NamedBy script) = codes "--script" ∷ script ∷ []
 said_by (OfTrace file) = file ∷ []
 
@@ -46,29 +48,33 @@ abbrev pub said_by_all : List Part → List (List ℕ)
 said_by_all [] = []
 said_by_all (p ∷ ps) = said_by p ++ said_by_all ps
 
--- how often they say that it is SVG, and by which words they name a script and a file
-abbrev pub svgs : List Part → ℕ
-svgs [] = 0
-svgs (AsSvg ∷ ps) = suc (svgs ps)
-svgs (NamedBy script ∷ ps) = svgs ps
-svgs (OfTrace file ∷ ps) = svgs ps
+-- what they say that it is made of, and by which words they name a script and a file
+abbrev pub kinds : List Part → List Kind
+kinds [] = []
+kinds (AsSvg ∷ ps) = Svg ∷ kinds ps
+kinds (AsHtml ∷ ps) = Html ∷ kinds ps
+kinds (NamedBy script ∷ ps) = kinds ps
+kinds (OfTrace file ∷ ps) = kinds ps
 
 abbrev pub scripts : List Part → List (List ℕ)
 scripts [] = []
 scripts (AsSvg ∷ ps) = scripts ps
+scripts (AsHtml ∷ ps) = scripts ps
 scripts (NamedBy script ∷ ps) = script ∷ scripts ps
 scripts (OfTrace file ∷ ps) = scripts ps
 
 abbrev pub files : List Part → List (List ℕ)
 files [] = []
 files (AsSvg ∷ ps) = files ps
+files (AsHtml ∷ ps) = files ps
 files (NamedBy script ∷ ps) = files ps
 files (OfTrace file ∷ ps) = file ∷ files ps
 
--- once, or not at all
-abbrev pub times : Kind → ℕ
-times Text = 0
-times Svg = 1
+-- it is said once; or not at all, where it is text
+abbrev pub kinds_of : Kind → List Kind
+kinds_of Text = []
+kinds_of Svg = Svg ∷ []
+kinds_of Html = Html ∷ []
 
 abbrev pub IsFile : List ℕ → Type 0
 IsFile word = is_file_word word ≡ true
@@ -77,7 +83,7 @@ IsFile word = is_file_word word ≡ true
 pub record AskForPicture (words : List (List ℕ)) (kind : Kind) (script trace : Option (List ℕ)) : Type 0 where
   pub parts : List Part
   pub said : words ≡ said_by_all parts
-  pub as_svg : svgs parts ≡ times kind
+  pub as_kind : kinds parts ≡ kinds_of kind
   pub named_by : scripts parts ≡ option_to_list script
   pub of_trace : files parts ≡ option_to_list trace
   pub script_is_file : IfSome script IsFile

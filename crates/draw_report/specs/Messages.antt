@@ -25,7 +25,8 @@ trace_text e =
 
 -- why a file of this name wasn't drawn
 abbrev pub failure_text : List ℕ → Failure → List ℕ
-failure_text file Usage = concat (codes "usage: rfx-draw [--svg] [--script SCRIPT] [FILE] (in any order) | --legend\n" ∷ [])
+failure_text file Usage = concat
+    (codes "usage: rfx-draw [--svg | --html] [--script SCRIPT] [FILE] (in any order) | --legend\n" ∷ [])
 failure_text file CannotRead = concat (codes "rfx-draw: cannot read " ∷ file ∷ codes "\n" ∷ [])
 failure_text file CannotWrite = concat (codes "rfx-draw: cannot write\n" ∷ [])
 failure_text file OutOfMemory = concat (codes "rfx-draw: out of memory\n" ∷ [])

@@ -2,14 +2,15 @@
 use Rattle.std.specs.Prelude.{ℕ, Bool, true, false, List, [], ◌∷◌, codes, Option, Some, None}
 use Rattle.std.specs.Prelude.{option_map, unwrap_or, if◌then◌else◌}
 use Rattle.std.specs.Str.{bytes_eq}
-use Rattle.draw_report.specs.declared.asking.Kind.TheVariants.{Text, Svg}
+use Rattle.draw_report.specs.declared.asking.Kind.{Kind}
+use Rattle.draw_report.specs.declared.asking.Kind.TheVariants.{Text, Svg, Html}
 use Rattle.draw_report.specs.declared.asking.Said.{Said}
 use Rattle.draw_report.specs.Asked.{Asked, Drawing, Meaning, Nothing, standard_input}
 use Rattle.streams.specs.Words.{is_file_word}
 
 -- what was read so far; the last word was `--script`, where a script is awaited
 pub record Wish : Type 0 where
-  pub svg : Bool
+  pub kind : Option Kind
   pub awaits_script : Bool
   pub script : Option (List ℕ)
   pub file : Option (List ℕ)
@@ -17,24 +18,24 @@ pub record Wish : Type 0 where
 -- what the program keeps of it
 abbrev pub seen : Said → Wish
 seen s = record {
-  svg = s.svg;
+  kind = s.kind;
   awaits_script = s.awaits_script;
   script = option_map (λ t. t.now) s.script;
   file = option_map (λ t. t.now) s.file;
 }
 
 abbrev pub no_wish : Wish
-no_wish = record { svg = false; awaits_script = false; script = None; file = None }
+no_wish = record { kind = None; awaits_script = false; script = None; file = None }
 
 -- ---- one word more; nothing, where it can't stand there
 
 -- what is said once is not said again
-abbrev pub unless_given : Option (List ℕ) → Option Wish → Option Wish
+abbrev pub unless_given : {A : Type 0} → Option A → Option Wish → Option Wish
 unless_given None w = w
-unless_given (Some word) w = None
+unless_given (Some x) w = None
 
-abbrev pub with_svg : Wish → Option Wish
-with_svg w = if w.svg then None else Some (record w { svg = true })
+abbrev pub with_kind : Wish → Kind → Option Wish
+with_kind w kind = unless_given w.kind (Some (record w { kind = Some kind }))
 
 abbrev pub with_option : Wish → Option Wish
 with_option w = unless_given w.script (Some (record w { awaits_script = true }))
@@ -48,14 +49,15 @@ with_file w word = unless_given w.file (if is_file_word word then Some (record w
 
 abbrev pub with_word : Wish → List ℕ → Option Wish
 with_word w word = if w.awaits_script then with_script w word
-    else (if bytes_eq word (codes "--svg") then with_svg w
-    else (if bytes_eq word (codes "--script") then with_option w else with_file w word))
+    else (if bytes_eq word (codes "--svg") then with_kind w Svg
+    else (if bytes_eq word (codes "--html") then with_kind w Html
+    else (if bytes_eq word (codes "--script") then with_option w else with_file w word)))
 
 -- ---- all words
 
 abbrev pub wished_for : Wish → Asked
 wished_for w =
-    if w.awaits_script then Nothing else Drawing (if w.svg then Svg else Text) w.script (unwrap_or w.file standard_input)
+    if w.awaits_script then Nothing else Drawing (unwrap_or w.kind Text) w.script (unwrap_or w.file standard_input)
 
 abbrev pub asked_behind : Option Wish → List (List ℕ) → Asked
 asked_behind None words = Nothing

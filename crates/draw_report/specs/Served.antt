@@ -1,5 +1,5 @@
 -- What the program did with the bytes of its reader.
-use Rattle.std.specs.Prelude.{ℕ, ◌≡◌, ◌≤◌, ◌⊎◌, ⊤, true, false, List, length, Option, Ok, Err}
+use Rattle.std.specs.Prelude.{ℕ, ◌≡◌, ◌≤◌, ◌⊎◌, ⊤, true, false, List, length, Option, Result, Ok, Err, MatchResult}
 use Rattle.std.specs.Io.KnownBytes.{Appends, Consumes, IsAtEnd}
 use Rattle.streams.specs.Leaves.{AppendsFront}
 use Rattle.streams.specs.declared.reading.ReadFault.{ReadFault}
@@ -8,8 +8,14 @@ use Rattle.verdict.specs.declared.told.Told.{Told}
 use Rattle.verdict.specs.Limits.{max_bytes}
 use Rattle.verdict.specs.Reading.{trace_read}
 use Rattle.verdict.specs.Told.{Gives, IsWithin, trace_of}
+use Rattle.verdict.specs.declared.checking.Finding.{Finding}
+use Rattle.verdict.specs.declared.checking.Finding.TheVariants as finding
+use Rattle.verdict.specs.Verdicts.{Tells}
+use Rattle.page.specs.declared.data.End.{End}
+use Rattle.page.specs.declared.data.End.TheVariants.{Legal, Illegal}
+use Rattle.page.specs.Pages.{page_text}
 use Rattle.draw_report.specs.declared.asking.Kind.{Kind}
-use Rattle.draw_report.specs.declared.asking.Kind.TheVariants.{Text, Svg}
+use Rattle.draw_report.specs.declared.asking.Kind.TheVariants.{Text, Svg, Html}
 use Rattle.picture.specs.declared.drawing.Unwritten.{Unwritten}
 use Rattle.picture.specs.declared.drawing.Unwritten.TheVariants as unwritten
 use Rattle.draw_report.specs.declared.messages.Failure.{Failure}
@@ -40,9 +46,36 @@ IsUnread (Script e) = ⊥
 IsUnread Unlike = ⊥
 IsUnread (Trace e) = ⊥
 
-abbrev pub picture : Kind → Called → Told → List ℕ
-picture Text n t = drawn n t.head.threads t.head.mutexes t.lines.items t.last
-picture Svg n t = svg_drawn n t.head.threads t.head.mutexes t.lines.items t.last
+-- a page tells how the trace was judged
+abbrev pub picture : Kind → Called → Told → End → List ℕ
+picture Text n t end = drawn n t.head.threads t.head.mutexes t.lines.items t.last
+picture Svg n t end = svg_drawn n t.head.threads t.head.mutexes t.lines.items t.last
+picture Html n t end = page_text n t end
+
+-- as the judge of traces finds: it is legal, or this is its first line that doesn't fit, and some words say why
+abbrev pub EndsSo : Finding → End → Type 0
+EndsSo (finding.Legal points) Legal = ⊤
+EndsSo (finding.Legal points) (Illegal line why) = ⊥
+EndsSo (finding.Illegal found) Legal = ⊥
+EndsSo (finding.Illegal found) (Illegal line why) = line ≡ found.line
+
+abbrev pub IsJudged : Kind → List ℕ → End → Type 0
+IsJudged Text bytes end = ⊤
+IsJudged Svg bytes end = ⊤
+IsJudged Html bytes end = (f : Finding) × Tells (trace_read bytes) (Ok f) × EndsSo f end
+
+-- all of a picture of the trace that these bytes are was written, or a beginning of it
+abbrev pub IsDrawn : Kind → Called → List ℕ → Told → Option (List ℕ) → Option (List ℕ) → Type 0
+IsDrawn kind n bytes t old new = (end : End) × IsJudged kind bytes end × Appends old new (picture kind n t end)
+
+abbrev pub IsBegun : Kind → Called → List ℕ → Told → Option (List ℕ) → Option (List ℕ) → Type 0
+IsBegun kind n bytes t old new =
+    (new ≡ old) ⊎ ((end : End) × IsJudged kind bytes end × AppendsFront old new (picture kind n t end))
+
+abbrev pub LeavesPicture : {X E : Type 0} → Kind → Called → List ℕ → Told → Option (List ℕ) → Option (List ℕ)
+    → Result X E → Type 0
+LeavesPicture kind n bytes t old new r =
+    MatchResult r (λ _. IsDrawn kind n bytes t old new) (λ _. IsBegun kind n bytes t old new)
 
 -- these bytes are a trace, which begins as a run of the script does, if there is one
 pub record IsOf (script : Option Scope) (bytes : List ℕ) (t : Told) : Type 0 where
@@ -52,11 +85,12 @@ pub record IsOf (script : Option Scope) (bytes : List ℕ) (t : Told) : Type 0 w
 
 -- and all of its picture, with the script's names, was written, or a beginning of it
 abbrev pub Draws : Kind → Option Scope → Option (List ℕ) → Option (List ℕ) → List ℕ → Type 0
-Draws kind script old new bytes = (t : Told) × IsOf script bytes t × Appends old new (picture kind (called_by script) t)
+Draws kind script old new bytes =
+    (t : Told) × IsOf script bytes t × IsDrawn kind (called_by script) bytes t old new
 
 abbrev pub DrawsFront : Kind → Option Scope → Option (List ℕ) → Option (List ℕ) → List ℕ → Type 0
 DrawsFront kind script old new bytes =
-    (t : Told) × IsOf script bytes t × AppendsFront old new (picture kind (called_by script) t)
+    (t : Told) × IsOf script bytes t × IsBegun kind (called_by script) bytes t old new
 
 -- these bytes are a trace that begins otherwise than a run of the script
 abbrev pub IsUnlike : Option Scope → List ℕ → Type 0

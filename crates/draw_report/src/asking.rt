@@ -3,7 +3,7 @@
 ghost use Rattle.std.specs.Prelude.{◌≡◌, map, option_map, Some};
 ghost use Rattle.draw_report.specs.Asked.{asked_by, Asked, Asks};
 ghost use Rattle.draw_report.specs.Reading.{asked_behind, asked_of, is_legend, no_wish, seen, wished_for};
-ghost use Rattle.draw_report.specs.Reading.{with_file, with_option, with_script, with_svg, with_word};
+ghost use Rattle.draw_report.specs.Reading.{with_file, with_kind, with_option, with_script, with_word};
 
 use streams::is_file;
 
@@ -14,13 +14,15 @@ pub enum Kind {
     Text,
     /// Scalable vector graphics.
     Svg,
+    /// A page of HTML to step through, with that picture.
+    Html,
 }
 
 /// What a command line asks for.
 #[derive(Clone, Copy, Debug, PartialEq, Eq)]
 pub enum Form<'a> {
-    /// `--svg`, `--script SCRIPT` and FILE, in any order, each once at most: the trace in this file is drawn, or the
-    /// one on standard input, with the names of the script. No name of a file begins with a hyphen.
+    /// `--svg` or `--html`, `--script SCRIPT` and FILE, in any order, each once at most: the trace in this file is
+    /// drawn, or the one on standard input, with the names of the script. No name of a file begins with a hyphen.
     Picture(Kind, Option<&'a str>, &'a str),
     /// `--legend` alone: what the signs of pictures in text mean.
     Legend,
@@ -34,7 +36,8 @@ pub const STANDARD_INPUT: &str = "/dev/stdin";
 /// What the words of a command line said so far.
 #[derive(Clone, Copy)]
 struct Said<'a> {
-    svg: bool,
+    /// What the picture is made of, where a word said so.
+    kind: Option<Kind>,
     /// Whether the last word was `--script`: the next one names the script.
     awaits_script: bool,
     script: Option<&'a str>,
@@ -46,20 +49,23 @@ impl<'a> Said<'a> {
         ensures { seen result ≡ no_wish }
     {
         Said {
-            svg: false,
+            kind: None,
             awaits_script: false,
             script: None,
             file: None,
         }
     }
 
-    fn with_svg(self) -> Option<Said<'a>>
-        ensures { option_map seen result ≡ with_svg (seen self.entry) }
+    fn with_kind(self, kind: Kind) -> Option<Said<'a>>
+        ensures { option_map seen result ≡ with_kind (seen self.entry) kind }
     {
-        if self.svg {
+        if self.kind.is_some() {
             return None;
         }
-        Some(Said { svg: true, ..self })
+        Some(Said {
+            kind: Some(kind),
+            ..self
+        })
     }
 
     fn with_option(self) -> Option<Said<'a>>
@@ -106,7 +112,9 @@ impl<'a> Said<'a> {
         if self.awaits_script {
             self.with_script(word)
         } else if word == "--svg" {
-            self.with_svg()
+            self.with_kind(Kind::Svg)
+        } else if word == "--html" {
+            self.with_kind(Kind::Html)
         } else if word == "--script" {
             self.with_option()
         } else {
@@ -120,7 +128,7 @@ impl<'a> Said<'a> {
         if self.awaits_script {
             return Form::Usage;
         }
-        let kind = if self.svg { Kind::Svg } else { Kind::Text };
+        let kind = self.kind.unwrap_or(Kind::Text);
         Form::Picture(kind, self.script, self.file.unwrap_or(STANDARD_INPUT))
     }
 }

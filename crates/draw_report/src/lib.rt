@@ -7,8 +7,8 @@
 //! things are called by the names that it declares (`called_by`). For `--legend` it reads nothing, and writes what the
 //! signs of pictures mean.
 //!
-//! Stands on `verdict`, for reading traces and their faults, on `script` and `lockword`, for names, on `picture`, for
-//! drawing, and on `streams`, for reading, writing and opening.
+//! Stands on `verdict`, for reading traces and their faults, on `script` and `lockword`, for names, on `picture` and
+//! `page`, for drawing, and on `streams`, for reading, writing and opening.
 //!
 //! ```text
 //! // The words of `rfx-draw --svg dead_owner.trace`, the program's name first; `files` opens what they name.

@@ -10,7 +10,8 @@ use streams::Piece::{Number, Word};
 use streams::{put, put_pieces};
 use verdict::TraceFault;
 
-const USAGE: &str = "usage: rfx-draw [--svg] [--script SCRIPT] [FILE] (in any order) | --legend\n";
+const USAGE: &str =
+    "usage: rfx-draw [--svg | --html] [--script SCRIPT] [FILE] (in any order) | --legend\n";
 
 const UNLIKE: &str =
     "rfx-draw: script: not of this trace, which has other numbers of threads, mutexes or condition variables\n";

@@ -10,18 +10,20 @@ ghost use Rattle.script.specs.Limits as scripts;
 ghost use Rattle.draw_report.specs.Names.{called_by};
 ghost use Rattle.draw_report.specs.Scripts.{FailsScript, GivesScript};
 ghost use Rattle.draw_report.specs.Served.{Draws, Fails, FailsDrawing, IsUnread};
-ghost use Rattle.draw_report.specs.Served.{Serves, failed_by, picture, undrawn_by};
+ghost use Rattle.draw_report.specs.Served.{LeavesPicture, Serves, failed_by, undrawn_by};
+ghost use Rattle.verdict.specs.Told.{IsWithin};
 
 use crate::asking::Kind;
 use crate::legend::{lanes_legend, marks_legend};
 use crate::messages::Failure;
 use crate::names::{is_like, names_of};
+use page::{End, write_page};
 use picture::{Names, Unwritten, draw, draw_svg};
 use script::{Mode, Script, parse};
 use std::alloc::Global;
 use std::io::{self, Read};
 use streams::{Output, ReadFault, put, read_below};
-use verdict::{MAX_BYTES, Told, read_trace};
+use verdict::{Finding, MAX_BYTES, Told, explain, read_trace};
 
 /// What a fault of reading is told as.
 fn failed_by(fault: ReadFault) -> Failure
@@ -73,20 +75,51 @@ pub fn read_script<R: Read>(alloc: Global, input: &mut R) -> Result<Script, Fail
     }
 }
 
+/// A page of a trace, with how it is judged.
+fn draw_page<W: Output>(
+    alloc: Global,
+    names: &Names,
+    bytes: &[u8],
+    trace: &Told,
+    out: &mut W,
+) -> Result<(), Unwritten>
+    requires { IsWithin trace.now }
+    ensures { LeavesPicture Kind.Html names.now bytes.now trace.now (W.contents out.old) (W.contents out.new) result }
+{
+    let finding = match explain(alloc, bytes) {
+        Ok(finding) => finding,
+        Err(_wanted) => return Err(Unwritten::OutOfMemory),
+    };
+    match finding {
+        Finding::Legal { .. } => write_page(alloc, names, trace, &End::Legal, out),
+        Finding::Illegal(found) => {
+            let Ok(why) = format!(in alloc; "{}", found.misfit) else {
+                return Err(Unwritten::OutOfMemory);
+            };
+            let line = found.line;
+            let end = End::Illegal { line, why: &why };
+            write_page(alloc, names, trace, &end, out)
+        }
+    }
+}
+
 fn draw_as<W: Output>(
     alloc: Global,
     kind: Kind,
     names: &Names,
+    bytes: &[u8],
     trace: &Told,
     out: &mut W,
 ) -> Result<(), Unwritten>
-    ensures { Leaves (W.contents out.old) (W.contents out.new) result (picture kind names.now trace.now) }
+    requires { IsWithin trace.now }
+    ensures { LeavesPicture kind names.now bytes.now trace.now (W.contents out.old) (W.contents out.new) result }
 {
     let lines = trace.lines.as_slice();
     let (threads, mutexes) = (trace.head.threads, trace.head.mutexes);
     match kind {
         Kind::Text => draw(alloc, names, threads, mutexes, lines, trace.last, out),
         Kind::Svg => draw_svg(alloc, names, threads, mutexes, lines, trace.last, out),
+        Kind::Html => draw_page(alloc, names, bytes, trace, out),
     }
 }
 
@@ -95,13 +128,15 @@ fn draw_out<W: Output>(
     alloc: Global,
     kind: Kind,
     names: &Names,
+    bytes: &[u8],
     trace: &Told,
     out: &mut W,
 ) -> Result<(), Unwritten>
-    ensures text { Leaves (W.contents out.old) (W.contents out.new) result (picture kind names.now trace.now) }
+    requires { IsWithin trace.now }
+    ensures text { LeavesPicture kind names.now bytes.now trace.now (W.contents out.old) (W.contents out.new) result }
     ensures let_go { OnOk result (W.is_let_go out.new) }
 {
-    draw_as(alloc, kind, names, trace, out)?;
+    draw_as(alloc, kind, names, bytes, trace, out)?;
     match out.let_go() {
         Ok(()) => Ok(()),
         Err(_kept) => Err(Unwritten::Failed),
@@ -113,15 +148,17 @@ fn draw_named<W: Output>(
     alloc: Global,
     kind: Kind,
     script: &Option<Script>,
+    bytes: &[u8],
     trace: &Told,
     out: &mut W,
 ) -> Result<(), Unwritten>
-    ensures text { Leaves (W.contents out.old) (W.contents out.new) result
-        (picture kind (called_by script.now) trace.now) }
+    requires { IsWithin trace.now }
+    ensures text { LeavesPicture kind (called_by script.now) bytes.now trace.now (W.contents out.old)
+        (W.contents out.new) result }
     ensures let_go { OnOk result (W.is_let_go out.new) }
 {
     match names_of(alloc, script) {
-        Ok(names) => draw_out(alloc, kind, &names, trace, out),
+        Ok(names) => draw_out(alloc, kind, &names, bytes, trace, out),
         Err(_refused) => Err(Unwritten::OutOfMemory),
     }
 }
@@ -145,7 +182,7 @@ fn draw_bytes<W: Output>(
     if !is_like(script, &trace.head) {
         return Err(Failure::Unlike);
     }
-    match draw_named(alloc, kind, script, &trace, out) {
+    match draw_named(alloc, kind, script, bytes, &trace, out) {
         Ok(()) => Ok(()),
         Err(unwritten) => Err(undrawn_by(unwritten)),
     }

@@ -6,7 +6,7 @@ use std::io;
 use text_fixtures::{Answered, Folder, words};
 
 pub(crate) const USAGE: &str =
-    "usage: rfx-draw [--svg] [--script SCRIPT] [FILE] (in any order) | --legend\n";
+    "usage: rfx-draw [--svg | --html] [--script SCRIPT] [FILE] (in any order) | --legend\n";
 
 /// What the program answers these words, or the error of having them, among these files.
 pub(crate) fn answer_of(

@@ -29,7 +29,7 @@ static DRAWN: [(&[&str], &str, usize); 4] = [
 ];
 
 /// Other command lines.
-static OTHERS: [&[&str]; 13] = [
+static OTHERS: [&[&str]; 16] = [
     &["rfx-draw", "-f"],
     &["rfx-draw", "-"],
     &["rfx-draw", "--help"],
@@ -39,6 +39,9 @@ static OTHERS: [&[&str]; 13] = [
     &["rfx-draw", "--svg", "--svg"],
     &["rfx-draw", "--svg", "f", "f"],
     &["rfx-draw", "--svg", "f", "--svg"],
+    &["rfx-draw", "--svg", "--html", "f"],
+    &["rfx-draw", "--html", "f", "--svg"],
+    &["rfx-draw", "--html", "--html"],
     &["rfx-draw", "--legend", "f"],
     &["rfx-draw", "f", "--legend"],
     &["rfx-draw", "--legend", "--legend"],
@@ -116,7 +119,7 @@ fn command_lines_are_served(rt: HostRuntime) {
 }
 
 /// Behind the style.
-const SVG_END: &str =
+pub(crate) const SVG_END: &str =
     "<text class=\"n\" x=\"48\" y=\"52\">1</text><path class=\"b\" d=\"M110 48m-7 0h14\"/><text class=\"t\" x=\"120\" y=\"52\">lock m0</text>\n<text class=\"n\" x=\"48\" y=\"70\">1</text><text x=\"54\" y=\"70\">end</text>\n</svg>\n";
 
 /// Command lines that ask for SVG.

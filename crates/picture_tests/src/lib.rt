@@ -9,6 +9,8 @@ mod commands;
 #[cfg(test)]
 mod names;
 #[cfg(test)]
+mod pages;
+#[cfg(test)]
 mod pictures;
 #[cfg(test)]
 mod svg_pictures;

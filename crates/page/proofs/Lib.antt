@@ -1,0 +1,5 @@
+mod Behind
+mod ReadBack
+mod Escapes
+mod Turns
+mod Lines

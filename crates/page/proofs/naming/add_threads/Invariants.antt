@@ -1,0 +1,8 @@
+use Rattle.std.proofs.Common.{◌≡◌, ◌++◌}
+use Rattle.std.specs.Prelude.{string_bytes}
+use Rattle.picture.specs.Pieces.{each}
+use Rattle.page.specs.Names.{thread_called}
+use Rattle.page.proofs.naming.add_threads.Given as goal
+
+abbrev pub invariant-loop-index : goal.invariant-loop-index
+invariant-loop-index l = string_bytes l.text ≡ string_bytes l.initial.text ++ each (thread_called l.names) l.index

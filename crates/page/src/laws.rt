@@ -1,0 +1,15 @@
+//! What holds of every page.
+
+ghost use Rattle.page.specs.Escapes.{NamesAreEscaped};
+ghost use Rattle.page.specs.Shows.{PageShows};
+
+/// The data of a page says the state behind each of its lines, in their order, and nothing else: who reads it, changing
+/// what each line changes, from any of its whole states on, comes to just these.
+pub fn page_shows()
+    ensures { PageShows }
+{}
+
+/// Whatever a thing is called, its name in the data of a page has no character that ends a text or begins markup.
+pub fn names_are_escaped()
+    ensures { NamesAreEscaped }
+{}

@@ -1,0 +1,35 @@
+//! Pages of HTML to step through a trace.
+//!
+//! [`write_page`] writes one file: a frame, the trace's picture as `picture` draws it as SVG, and as data the state
+//! behind each line that fits those before it: what each thread does, what each mutex is (`state_behind`). The data are
+//! whole states, and between them what each line changes; who reads them comes to just the states behind the lines, in
+//! their order ([`page_shows`]). The page's script shows them. Names in the data are escaped ([`names_are_escaped`]).
+//! At an error a beginning of the page is written.
+//!
+//! Stands on `verdict`, for what is read of a trace and how it is judged, on `picture`, for the picture and names, on
+//! `facts`, `posixmutex` and `lockword`, for lines, mutexes as objects, thread ids and replies, on `streams`, for
+//! writing, on `itoa`, for numbers, and on `percent_encoding`, for names.
+//!
+//! ```text
+//! let told = verdict::read_trace(rt.alloc(), b"trace 1 1 0\n1 begin t1 lock m0\nend 1\n")?;
+//! let mut page = Vec::new(rt.alloc());
+//! // `verdict::explain` finds that it is legal
+//! write_page(rt.alloc(), &Names::none(rt.alloc()), &told, &End::Legal, &mut page)?;
+//! // <!DOCTYPE html> .. [1,["begin",1,"lock",0],[1,0,0,["lock",0],0,0]], .. <svg ..
+//! ```
+#![tactic(auto)]
+
+mod data;
+mod frame;
+mod html;
+mod laws;
+mod naming;
+mod pieces;
+mod script;
+mod state;
+mod status;
+mod texts;
+
+pub use data::End;
+pub use html::write_page;
+pub use laws::{names_are_escaped, page_shows};
