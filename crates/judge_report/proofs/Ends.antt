@@ -1,0 +1,90 @@
+-- What is known where something was told, or wasn't.
+use Rattle.std.proofs.Common.{◌≡◌, ℕ, ◌<◌, List, length, get_or, reverse, Option, Some, None, IfSome, Result, Ok, Err, IsErr, refl, sym, ap, subst, ◌∙◌}
+use Rattle.std.specs.Prelude.{count_by, Vec}
+use Rattle.std.specs.declared.alloc.Global.{Global}
+use Rattle.std.specs.Io.KnownBytes.{Appends, Keeps}
+use Rattle.std.proofs.lemmas.List.{reverse-reverse}
+use Rattle.streams.specs.Leaves.{AppendsFront, Leaves}
+use Rattle.streams.proofs.Writers.{Appends-kept, whole_is_front, kept_leaves, leaves_front}
+use Rattle.histories.specs.declared.entry.Entry.{Entry}
+use Rattle.histories.specs.declared.entry.HistoryLine.{HistoryLine}
+use Rattle.histories.specs.declared.fault.HistoryFault.{HistoryFault}
+use Rattle.certificates.specs.Certificates.{is_point_step}
+use Rattle.completing.specs.declared.stop.Refusal.{Refusal}
+use Rattle.judge.specs.declared.judging.Judgement.{Judgement}
+use Rattle.judge.specs.declared.judging.Judgement.TheVariants.{Legal, Illegal, Undecided}
+use Rattle.judge.specs.Judgements.{IsJudged, IsLegalBefore}
+use Rattle.judge_report.specs.declared.messages.Failure.{Failure}
+use Rattle.judge_report.specs.declared.messages.Failure.TheVariants.{Usage, CannotRead, CannotWrite, CannotKeep, OutOfMemory, Ill}
+use Rattle.judge_report.specs.declared.reading.History.{History}
+use Rattle.judge_report.specs.declared.reading.ReadFault.{ReadFault}
+use Rattle.judge_report.specs.declared.reading.ReadFault.TheVariants as read
+use Rattle.judge_report.specs.Heard.{Heard, Gives, heard_of, history_read}
+use Rattle.judge_report.specs.Said.{IsFilled, IsSaid, Tells, status_of}
+use Rattle.judge_report.specs.Served.{Fails, IsRead, Serves, ServesFront, Unread}
+use Rattle.judge_report.specs.Texts.{illegal_text, legal_text, undecided_text}
+use Rattle.judge_report.proofs.Saying.{is_legal, is_legal_before}
+
+-- whatever came of a text and of what was done then, a beginning of it stands, if that kept it
+pub leaves_is_front : {X E : Type 0} (a b c : Option (List ℕ)) (r : Result X E) (text : List ℕ) → Leaves a b r text → Keeps b c → AppendsFront a c text
+leaves_is_front a b c (Ok x) text h k = whole_is_front a c text (Appends-kept a b c text h k)
+leaves_is_front a b c (Err e) text h k = (h.0, Appends-kept a b c _ h.1 k)
+
+-- ---- what is said
+
+pub tells_legal : {E : Type 0} (h : History) (j : Judgement) (steps : Vec Entry Global) (points : ℕ) (old new : Option (List ℕ)) (r : Result (Unit {0}) E) → j ≡ Legal steps → IsJudged h.head h.lines.items j
+    → points ≡ count_by is_point_step steps.items → Leaves old new r (legal_text points) → Tells (heard_of h) j old new r
+tells_legal h j steps points old new r is judged count leaves =
+    subst (λ (k : Judgement). Tells (heard_of h) k old new r) (sym is)
+    (legal_text points, ((is_legal h steps.items (subst (IsJudged h.head h.lines.items) is judged), ap legal_text count), leaves))
+
+pub tells_illegal : {E : Type 0} (h : History) (j : Judgement) (at : ℕ) (why : Refusal) (l : HistoryLine) (old new : Option (List ℕ)) (r : Result (Unit {0}) E) → j ≡ Illegal at why → IsJudged h.head h.lines.items j
+    → l ≡ get_or h.lines.items at l → Leaves old new r (illegal_text h.lines.items l why) → Tells (heard_of h) j old new r
+tells_illegal h j at why l old new r is judged line leaves =
+    subst (λ (k : Judgement). Tells (heard_of h) k old new r) (sym is)
+    (illegal_text h.lines.items l why, ((l, is_legal_before h at l (subst (IsJudged h.head h.lines.items) is judged) line, ap (λ (ls : List HistoryLine). illegal_text ls l why) (sym (reverse-reverse h.lines.items))), leaves))
+
+pub tells_undecided : {E : Type 0} (h : History) (j : Judgement) (at : ℕ) (l : HistoryLine) (old new : Option (List ℕ)) (r : Result (Unit {0}) E) → j ≡ Undecided at → IsJudged h.head h.lines.items j
+    → l ≡ get_or h.lines.items at l → Leaves old new r (undecided_text l) → Tells (heard_of h) j old new r
+tells_undecided h j at l old new r is judged line leaves =
+    subst (λ (k : Judgement). Tells (heard_of h) k old new r) (sym is)
+    (undecided_text l, ((l, is_legal_before h at l (subst (IsJudged h.head h.lines.items) is judged) line, refl), leaves))
+
+pub illegal_within : (h : History) (j : Judgement) (at : ℕ) (why : Refusal) → j ≡ Illegal at why → IsJudged h.head h.lines.items j → at < length h.lines.items
+illegal_within h j at why is judged = let before : IsLegalBefore h.head h.lines.items at = subst (IsJudged h.head h.lines.items) is judged in before.0
+
+pub undecided_within : (h : History) (j : Judgement) (at : ℕ) → j ≡ Undecided at → IsJudged h.head h.lines.items j → at < length h.lines.items
+undecided_within h j at is judged = let before : IsLegalBefore h.head h.lines.items at = subst (IsJudged h.head h.lines.items) is judged in before.0
+
+-- what was told stays, whatever came then, if that kept it
+pub tells_kept : {E F : Type 0} (k : Heard) (j : Judgement) (a b c : Option (List ℕ)) (q : Result (Unit {0}) E) (r : Result (Unit {0}) F) → q ≡ Ok tt → Tells k j a b q → Keeps b c → Tells k j a c r
+tells_kept k j a b c (Ok u) r is t keeps = (t.0, (t.1.0, kept_leaves a b c r t.0 t.1.1 keeps))
+tells_kept k j a b c (Err e) r is t keeps = absurd cc
+
+pub tells_err : {E F : Type 0} (k : Heard) (j : Judgement) (a b : Option (List ℕ)) (q : Result (Unit {0}) E) (r : Result (Unit {0}) F) → IsErr q → IsErr r → Tells k j a b q → Tells k j a b r
+tells_err k j a b (Ok u) r err err' t = absurd cc
+tells_err k j a b (Err e) r err err' t = (t.0, (t.1.0, leaves_front a b r t.0 err' t.1.1))
+
+-- ---- what was read
+
+pub read_so : (had : Option (List ℕ)) (h : History) → IfSome had (λ bytes. Gives (history_read bytes) (Ok h)) → IsRead had (heard_of h)
+read_so had h gives = gives
+
+pub unread_ill : (had : Option (List ℕ)) (f : HistoryFault) → IfSome had (λ bytes. Gives (history_read bytes) (Err (read.Ill f))) → Unread had (Ill f)
+unread_ill had f gives = gives
+
+pub unread_fails : (had old : Option (List ℕ)) (f : Failure) → Unread had f → Fails had old old f
+unread_fails had old Usage h = h
+unread_fails had old CannotRead h = refl
+unread_fails had old CannotWrite h = absurd h
+unread_fails had old CannotKeep h = absurd h
+unread_fails had old OutOfMemory h = refl
+unread_fails had old (Ill f) h = (refl, h)
+
+-- ---- the whole
+
+pub serves : (Makes Fills : List ℕ → Option (List ℕ) → Type 0) (out had old new : Option (List ℕ)) (k : Heard) (j : Judgement) (status : ℕ) → IsRead had k → IsFilled Makes Fills out k j → Tells {E = Unit {0}} k j old new (Ok tt) → status ≡ status_of j → Serves Makes Fills out had old new status
+serves Makes Fills out had old new k j status read filled t exit = record { heard = k; read = read; judgement = j; text = t.0; said = t.1.0; written = t.1.1; exit = exit; filled = filled }
+
+pub serves_front : {E : Type 0} (had old new : Option (List ℕ)) (k : Heard) (j : Judgement) (e : E) → IsRead had k → Tells k j old new (Err e) → ServesFront had old new
+serves_front had old new k j e read t = record { heard = k; read = read; judgement = j; text = t.0; said = t.1.0; written = t.1.1 }

@@ -1,0 +1,8 @@
+pub mod Heard
+pub mod Texts
+pub mod Accepted
+pub mod Said
+pub mod Asked
+pub mod Messages
+pub mod Served
+pub mod Programs
