@@ -29,6 +29,25 @@ feed_stripped line =
     ap (λ (b : Bool). if b then take (length (line ++ 10 ∷ []) - 1) (line ++ 10 ∷ []) else line ++ 10 ∷ []) (feed_ends line)
     ∙ ap (λ (n : ℕ). take n (line ++ 10 ∷ [])) (one_less line) ∙ take-append_seam line (10 ∷ [])
 
+pub no_bytes : (xs : List ℕ) → length xs ≡ 0 → ends_with_byte 10 xs ≡ false
+no_bytes [] e = refl
+no_bytes (x ∷ xs) e = absurd (omega (arith, e))
+
+pub other_byte : (xs : List ℕ) → (slice_index xs (length xs - 1) == 10) ≡ false → ends_with_byte 10 xs ≡ false
+other_byte xs e = go (nat_lt 0 (length xs)) where
+  go : (b : Bool) → (b && (slice_index xs (length xs - 1) == 10)) ≡ false
+  go true = e
+  go false = refl
+
+pub feed_byte : (xs : List ℕ) → nat_lt 0 (length xs) ≡ true → (slice_index xs (length xs - 1) == 10) ≡ true → ends_with_byte 10 xs ≡ true
+feed_byte xs e f = λ i. e i && f i
+
+pub unstripped : (xs : List ℕ) → ends_with_byte 10 xs ≡ false → xs ≡ strip_last 10 xs
+unstripped xs e = sym (ap (λ (b : Bool). if b then take (length xs - 1) xs else xs) e)
+
+pub stripped : (xs : List ℕ) → ends_with_byte 10 xs ≡ true → take (length xs - 1) xs ≡ strip_last 10 xs
+stripped xs e = sym (ap (λ (b : Bool). if b then take (length xs - 1) xs else xs) e)
+
 -- a byte before what doesn't
 no_feed : (x : ℕ) (xs : List ℕ) → (x == 10) ≡ false → ends_with_byte 10 xs ≡ false → ends_with_byte 10 (x ∷ xs) ≡ false
 no_feed x [] e h = ap (λ (b : Bool). nat_lt 0 1 && b) e
@@ -74,8 +93,8 @@ cut_so xs left is (Rest t n l) =
 
 pub cuts : (had left : Option (List ℕ)) (old buf line : List ℕ) (whole : Bool) → old ≡ [] → IfSome had (λ xs. buf ≡ old ++ take_through 10 xs) → IfSome had (λ xs. left ≡ Some (drop_through 10 xs))
     → whole ≡ ends_with_byte 10 buf → line ≡ strip_last 10 buf → IfSome had (λ bytes. Cuts bytes left whole line)
-cuts None left old buf line whole quiet taken rest ends stripped = tt
-cuts (Some xs) left old buf line whole quiet taken rest ends stripped =
+cuts None left old buf line whole quiet taken rest ends front_is = tt
+cuts (Some xs) left old buf line whole quiet taken rest ends front_is =
     let all : buf ≡ take_through 10 xs = taken ∙ ap (λ (ys : List ℕ). ys ++ take_through 10 xs) quiet in
     subst (λ (b : Bool). Cuts xs left b line) (sym (ends ∙ ap (ends_with_byte 10) all))
-    (subst (λ (ys : List ℕ). Cuts xs left (ends_with_byte 10 (take_through 10 xs)) ys) (sym (stripped ∙ ap (strip_last 10) all)) (cut_so xs left rest (front xs)))
+    (subst (λ (ys : List ℕ). Cuts xs left (ends_with_byte 10 (take_through 10 xs)) ys) (sym (front_is ∙ ap (strip_last 10) all)) (cut_so xs left rest (front xs)))

@@ -6,7 +6,7 @@ ghost use Rattle.judge_report.specs.Asked.{asked_by, asked_of};
 use streams::is_file;
 
 /// What a command line asks for.
-#[derive(Clone, Copy, Debug, PartialEq, Eq)]
+#[derive(Clone, Copy)]
 pub enum Form<'a> {
     /// `rfx-judge [--trace OUT] FILE`: the history in FILE is judged, and its certificate is written to OUT, if it has
     /// one. Neither name begins with a hyphen.

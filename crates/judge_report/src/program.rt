@@ -32,7 +32,7 @@ fn run_file<F: Opener, M: Maker, W: Output, E: Write>(
     out: &mut W,
     err: &mut E,
 ) -> u8
-    ensures { FileEnds (F.opens files.now) (M.makes maker.now) (M.fills maker.now) (option_map (λ w. w.now) name)
+    ensures { FileEnds (F.opens files.now) (M.makes maker.now) (M.fills maker.now) (option_map (λ w. w.now) name.entry)
         file.now (W.contents out.old) (W.contents out.new) (W.is_let_go out.new) (err.new ≡ err.old) (E.contents err.old)
         (E.contents err.new) result }
 {

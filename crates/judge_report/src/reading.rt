@@ -24,7 +24,7 @@ pub struct History {
 }
 
 /// Why no history was read.
-#[derive(Clone, Copy, Debug, PartialEq, Eq)]
+#[derive(Clone, Copy)]
 pub enum ReadFault {
     /// The reader failed.
     Failed,
@@ -55,10 +55,14 @@ fn strip(line: &mut Vec<u8>) -> bool
     ensures feed { result ≡ ends_with_byte 10 line.old.items }
     ensures rest { line.new.items ≡ strip_last 10 line.old.items }
 {
-    if line.last() != Some(&b'\n') {
+    let len = line.len();
+    if len == 0 {
         return false;
     }
-    let _feed = line.pop();
+    if line[len - 1] != b'\n' {
+        return false;
+    }
+    line.truncate(len - 1);
     true
 }
 

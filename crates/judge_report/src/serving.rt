@@ -68,7 +68,7 @@ fn certify<M: Maker>(
 ) -> io::Result<()>
     requires head { IsHead history.now.head }
     requires judged { IsJudged history.now.head history.now.lines.items judgement.now }
-    ensures { IfOk result (λ _. IsFilled (M.makes maker.now) (M.fills maker.now) (option_map (λ w. w.now) name)
+    ensures { IfOk result (λ _. IsFilled (M.makes maker.now) (M.fills maker.now) (option_map (λ w. w.now) name.entry)
         (heard_of history.now) judgement.now) }
 {
     let Some(name) = name else {
@@ -127,7 +127,7 @@ pub fn serve<R: Read + Drop, M: Maker, W: Output>(
     out: &mut W,
 ) -> Result<u8, Failure>
     ensures serves { IfOk result (λ status. Serves (M.makes maker.now) (M.fills maker.now)
-        (option_map (λ w. w.now) name) (R.remaining input) (W.contents out.old) (W.contents out.new) status) }
+        (option_map (λ w. w.now) name.entry) (R.remaining input) (W.contents out.old) (W.contents out.new) status) }
     ensures let_go { OnOk result (W.is_let_go out.new) }
     ensures fails { IfErr result (Fails (R.remaining input) (W.contents out.old) (W.contents out.new)) }
 {

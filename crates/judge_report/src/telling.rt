@@ -1,9 +1,7 @@
 //! What is told of a history.
 
-ghost use Rattle.std.specs.Prelude.{◌≡◌, count_by};
+ghost use Rattle.std.specs.Prelude.{◌≡◌, ◌-◌};
 ghost use Rattle.streams.specs.Leaves.{Leaves};
-ghost use Rattle.certificates.specs.Certificates.{is_point_step};
-ghost use Rattle.judge.specs.Judgements.{IsJudged};
 ghost use Rattle.std.specs.List.{slice_get};
 ghost use Rattle.judge_report.specs.Texts.{begin_note, entry_thread, illegal_notes, illegal_text, illegal_title};
 ghost use Rattle.judge_report.specs.Texts.{legal_text, turn_words, undecided_text};
