@@ -1,8 +1,8 @@
 -- A certificate's text is a trace that is judged legal.
-use Rattle.std.proofs.Common.{◌≡◌, ℕ, ◌+◌, ◌*◌, ◌≤◌, Bool, true, false, List, [], ◌∷◌, ◌++◌, length, map, reverse, Result, Ok, Err, inl, inr, refl, sym, ap, subst, ◌∙◌, arith, cond, length-append}
+use Rattle.std.proofs.Common.{◌≡◌, ℕ, ◌+◌, ◌*◌, ◌<◌, ◌≤◌, Bool, true, false, List, [], ◌∷◌, ◌++◌, length, map, reverse, take, get_or, Result, Ok, Err, inl, inr, refl, sym, ap, subst, ◌∙◌, arith, cond, length-append}
 use Rattle.std.specs.Prelude.{count_by, if◌then◌else◌}
 use Rattle.std.specs.List.{concat}
-use Rattle.std.proofs.lemmas.List.{length-reverse, reverse-append, reverse-reverse}
+use Rattle.std.proofs.lemmas.List.{length-reverse, reverse-append, reverse-reverse, take_all, take_more}
 use Rattle.std.proofs.lemmas.List.Recursion.{is_count_by}
 use Rattle.facts.specs.declared.fact.Fact.{Fact}
 use Rattle.facts.specs.declared.fact.Line.{Line}
@@ -45,13 +45,20 @@ each-reverse P (l ∷ ls) h = subst (Each P) (sym (reverse-append (l ∷ []) ls)
 
 -- ---- the lines of steps
 
-pub steps-append : (h : Head) (xs ys : List Entry) → AreStepsOf h xs → AreStepsOf h ys → AreStepsOf h (xs ++ ys)
+steps-append : (h : Head) (xs ys : List Entry) → AreStepsOf h xs → AreStepsOf h ys → AreStepsOf h (xs ++ ys)
 steps-append h [] ys p q = q
 steps-append h (x ∷ xs) ys p q = (p.0, steps-append h xs ys p.1 q)
 
 steps-reverse : (h : Head) (es : List Entry) → AreStepsOf h es → AreStepsOf h (reverse es)
 steps-reverse h [] of = tt
 steps-reverse h (e ∷ es) of = subst (AreStepsOf h) (sym (reverse-append (e ∷ []) es)) (steps-append h (reverse es) (e ∷ []) (steps-reverse h es of.1) (of.0, tt))
+
+-- one step more, and all
+pub steps_on : (h : Head) (xs : List Entry) (i : ℕ) (d : Entry) → i < length xs → AreStepsOf h (take i xs) → IsStepOf h (get_or xs i d) → AreStepsOf h (take (i + 1) xs)
+steps_on h xs i d lt of one = subst (AreStepsOf h) (sym (take_more xs i d lt)) (steps-append h (take i xs) (get_or xs i d ∷ []) of (one, tt))
+
+pub all_steps : (h : Head) (xs : List Entry) (i : ℕ) → length xs ≤ i → AreStepsOf h (take i xs) → AreStepsOf h xs
+all_steps h xs i le of = subst (AreStepsOf h) (take_all xs i le) of
 
 lines_of_steps : (h : Head) (es : List Entry) → AreStepsOf h es → length (trace_of es) ≤ max_events → Each (IsLineOf (trace_head h)) (trace_of es)
 lines_of_steps h [] of few = tt

@@ -1,11 +1,15 @@
 -- What is known where something was told, or wasn't.
-use Rattle.std.proofs.Common.{◌≡◌, ℕ, ◌<◌, List, length, get_or, reverse, Option, Some, None, IfSome, Result, Ok, Err, IsErr, refl, sym, ap, subst, ◌∙◌}
+use Rattle.std.proofs.Common.{◌≡◌, ℕ, ◌<◌, List, [], length, get_or, reverse, Option, Some, None, IfOk, IfSome, Result, Ok, Err, IsErr, refl, sym, ap, subst, ◌∙◌}
 use Rattle.std.specs.Prelude.{count_by, Vec}
 use Rattle.std.specs.declared.alloc.Global.{Global}
-use Rattle.std.specs.Io.KnownBytes.{Appends, Keeps}
+use Rattle.std.specs.Prelude.{if◌then◌else◌, ◌==◌}
+use Rattle.std.specs.declared.io.buffered.BufReader.{BufReader}
+use Rattle.std.specs.Io.Buffered.{reader_buffer, reader_capacity, reader_inner, reader_remaining}
+use Rattle.std.specs.Io.KnownBytes.{Appends, Keeps, prepend_known}
 use Rattle.std.proofs.lemmas.List.{reverse-reverse}
 use Rattle.streams.specs.Leaves.{AppendsFront, Leaves}
 use Rattle.streams.proofs.Writers.{Appends-kept, whole_is_front, kept_leaves, leaves_front}
+use Rattle.histories.specs.declared.head.Head.{Head}
 use Rattle.histories.specs.declared.entry.Entry.{Entry}
 use Rattle.histories.specs.declared.entry.HistoryLine.{HistoryLine}
 use Rattle.histories.specs.declared.fault.HistoryFault.{HistoryFault}
@@ -20,9 +24,10 @@ use Rattle.judge_report.specs.declared.reading.History.{History}
 use Rattle.judge_report.specs.declared.reading.ReadFault.{ReadFault}
 use Rattle.judge_report.specs.declared.reading.ReadFault.TheVariants as read
 use Rattle.judge_report.specs.Heard.{Heard, Gives, heard_of, history_read}
-use Rattle.judge_report.specs.Said.{IsFilled, IsSaid, Tells, status_of}
-use Rattle.judge_report.specs.Served.{Fails, IsRead, Serves, ServesFront, Unread}
-use Rattle.judge_report.specs.Texts.{illegal_text, legal_text, undecided_text}
+use Rattle.judge_report.specs.Accepted.{IsAccepted, IsSmall}
+use Rattle.judge_report.specs.Said.{Holds, IsFilled, IsSaid, IsWritten, Tells, status_of}
+use Rattle.judge_report.specs.Served.{Fails, IsRead, Serves, ServesFront, Unread, failed_by}
+use Rattle.judge_report.specs.Texts.{certificate_text, illegal_text, legal_text, undecided_text}
 use Rattle.judge_report.proofs.Saying.{is_legal, is_legal_before}
 
 -- whatever came of a text and of what was done then, a beginning of it stands, if that kept it
@@ -36,19 +41,19 @@ pub tells_legal : {E : Type 0} (h : History) (j : Judgement) (steps : Vec Entry 
     → points ≡ count_by is_point_step steps.items → Leaves old new r (legal_text points) → Tells (heard_of h) j old new r
 tells_legal h j steps points old new r is judged count leaves =
     subst (λ (k : Judgement). Tells (heard_of h) k old new r) (sym is)
-    (legal_text points, ((is_legal h steps.items (subst (IsJudged h.head h.lines.items) is judged), ap legal_text count), leaves))
+    (legal_text points, (is_legal h steps.items (subst (IsJudged h.head h.lines.items) is judged), ap legal_text count), leaves)
 
 pub tells_illegal : {E : Type 0} (h : History) (j : Judgement) (at : ℕ) (why : Refusal) (l : HistoryLine) (old new : Option (List ℕ)) (r : Result (Unit {0}) E) → j ≡ Illegal at why → IsJudged h.head h.lines.items j
     → l ≡ get_or h.lines.items at l → Leaves old new r (illegal_text h.lines.items l why) → Tells (heard_of h) j old new r
 tells_illegal h j at why l old new r is judged line leaves =
     subst (λ (k : Judgement). Tells (heard_of h) k old new r) (sym is)
-    (illegal_text h.lines.items l why, ((l, is_legal_before h at l (subst (IsJudged h.head h.lines.items) is judged) line, ap (λ (ls : List HistoryLine). illegal_text ls l why) (sym (reverse-reverse h.lines.items))), leaves))
+    (illegal_text h.lines.items l why, (l, is_legal_before h at l (subst (IsJudged h.head h.lines.items) is judged) line, ap (λ (ls : List HistoryLine). illegal_text ls l why) (sym (reverse-reverse h.lines.items))), leaves)
 
 pub tells_undecided : {E : Type 0} (h : History) (j : Judgement) (at : ℕ) (l : HistoryLine) (old new : Option (List ℕ)) (r : Result (Unit {0}) E) → j ≡ Undecided at → IsJudged h.head h.lines.items j
     → l ≡ get_or h.lines.items at l → Leaves old new r (undecided_text l) → Tells (heard_of h) j old new r
 tells_undecided h j at l old new r is judged line leaves =
     subst (λ (k : Judgement). Tells (heard_of h) k old new r) (sym is)
-    (undecided_text l, ((l, is_legal_before h at l (subst (IsJudged h.head h.lines.items) is judged) line, refl), leaves))
+    (undecided_text l, (l, is_legal_before h at l (subst (IsJudged h.head h.lines.items) is judged) line, refl), leaves)
 
 pub illegal_within : (h : History) (j : Judgement) (at : ℕ) (why : Refusal) → j ≡ Illegal at why → IsJudged h.head h.lines.items j → at < length h.lines.items
 illegal_within h j at why is judged = let before : IsLegalBefore h.head h.lines.items at = subst (IsJudged h.head h.lines.items) is judged in before.0
@@ -57,13 +62,11 @@ pub undecided_within : (h : History) (j : Judgement) (at : ℕ) → j ≡ Undeci
 undecided_within h j at is judged = let before : IsLegalBefore h.head h.lines.items at = subst (IsJudged h.head h.lines.items) is judged in before.0
 
 -- what was told stays, whatever came then, if that kept it
-pub tells_kept : {E F : Type 0} (k : Heard) (j : Judgement) (a b c : Option (List ℕ)) (q : Result (Unit {0}) E) (r : Result (Unit {0}) F) → q ≡ Ok tt → Tells k j a b q → Keeps b c → Tells k j a c r
-tells_kept k j a b c (Ok u) r is t keeps = (t.0, (t.1.0, kept_leaves a b c r t.0 t.1.1 keeps))
-tells_kept k j a b c (Err e) r is t keeps = absurd cc
+pub tells_kept : {E : Type 0} (k : Heard) (j : Judgement) (a b c : Option (List ℕ)) (r : Result (Unit {0}) E) → (text : List ℕ) × IsSaid k j text × Appends a b text → Keeps b c → Tells k j a c r
+tells_kept k j a b c r t keeps = (t.0, t.1, kept_leaves a b c r t.0 t.2 keeps)
 
-pub tells_err : {E F : Type 0} (k : Heard) (j : Judgement) (a b : Option (List ℕ)) (q : Result (Unit {0}) E) (r : Result (Unit {0}) F) → IsErr q → IsErr r → Tells k j a b q → Tells k j a b r
-tells_err k j a b (Ok u) r err err' t = absurd cc
-tells_err k j a b (Err e) r err err' t = (t.0, (t.1.0, leaves_front a b r t.0 err' t.1.1))
+pub tells_err : {E : Type 0} (k : Heard) (j : Judgement) (a b : Option (List ℕ)) (r : Result (Unit {0}) E) → IsErr r → (text : List ℕ) × IsSaid k j text × AppendsFront a b text → Tells k j a b r
+tells_err k j a b r err t = (t.0, t.1, leaves_front a b r t.0 err t.2)
 
 -- ---- what was read
 
@@ -83,8 +86,28 @@ unread_fails had old (Ill f) h = (refl, h)
 
 -- ---- the whole
 
-pub serves : (Makes Fills : List ℕ → Option (List ℕ) → Type 0) (out had old new : Option (List ℕ)) (k : Heard) (j : Judgement) (status : ℕ) → IsRead had k → IsFilled Makes Fills out k j → Tells {E = Unit {0}} k j old new (Ok tt) → status ≡ status_of j → Serves Makes Fills out had old new status
-serves Makes Fills out had old new k j status read filled t exit = record { heard = k; read = read; judgement = j; text = t.0; said = t.1.0; written = t.1.1; exit = exit; filled = filled }
+pub serves : (Makes Fills : List ℕ → Option (List ℕ) → Type 0) (out had old new : Option (List ℕ)) (k : Heard) (j : Judgement) (status : ℕ) → IsRead had k → IsFilled Makes Fills out k j
+    → (text : List ℕ) × IsSaid k j text × Appends old new text → status ≡ status_of j → Serves Makes Fills out had old new status
+serves Makes Fills out had old new k j status read filled t exit = record { heard = k; read = read; judgement = j; text = t.0; said = t.1; written = t.2; exit = exit; filled = filled }
 
-pub serves_front : {E : Type 0} (had old new : Option (List ℕ)) (k : Heard) (j : Judgement) (e : E) → IsRead had k → Tells k j old new (Err e) → ServesFront had old new
-serves_front had old new k j e read t = record { heard = k; read = read; judgement = j; text = t.0; said = t.1.0; written = t.1.1 }
+pub serves_front : (had old new : Option (List ℕ)) (k : Heard) (j : Judgement) → IsRead had k → (text : List ℕ) × IsSaid k j text × AppendsFront old new text → ServesFront had old new
+serves_front had old new k j read t = record { heard = k; read = read; judgement = j; text = t.0; said = t.1; written = t.2 }
+
+-- ---- certificates
+
+pub written_so : {E : Type 0} (Makes Fills : List ℕ → Option (List ℕ) → Type 0) (name : List ℕ) (h : Head) (steps : List Entry) (a b : Option (List ℕ)) (r : Result (Unit {0}) E) → Makes name a → Appends a b (certificate_text h steps)
+    → IfOk r (λ _. Fills name b) → IfOk r (λ _. IsWritten Makes Fills name h steps)
+written_so Makes Fills name h steps a b (Ok u) makes text fills = record { made = a; filled = b; makes = makes; fills = fills; text = text }
+written_so Makes Fills name h steps a b (Err e) makes text fills = tt
+
+pub holds_so : {E : Type 0} (Makes Fills : List ℕ → Option (List ℕ) → Type 0) (name : List ℕ) (h : Head) (steps : List Entry) (r : Result (Unit {0}) E) → (IsSmall h steps → IsAccepted h steps)
+    → IfOk r (λ _. IsWritten Makes Fills name h steps) → IfOk r (λ _. Holds Makes Fills name h steps)
+holds_so Makes Fills name h steps (Ok u) accepted written = record { written = written; accepted = accepted }
+holds_so Makes Fills name h steps (Err e) accepted written = tt
+
+-- a certificate that was asked for
+pub filled_so : {E : Type 0} (Makes Fills : List ℕ → Option (List ℕ) → Type 0) (out : Option (List ℕ)) (name : List ℕ) (k : Heard) (j : Judgement) (steps : Vec Entry Global) (r : Result (Unit {0}) E) → out ≡ Some name → j ≡ Legal steps
+    → IfOk r (λ _. Holds Makes Fills name k.head steps.items) → IfOk r (λ _. IsFilled Makes Fills out k j)
+filled_so Makes Fills out name k j steps r is legal holds =
+    subst (λ (o : Option (List ℕ)). IfOk r (λ _. IsFilled Makes Fills o k j)) (sym is)
+    (subst (λ (q : Judgement). IfOk r (λ _. IsFilled Makes Fills (Some name) k q)) (sym legal) holds)

@@ -41,6 +41,14 @@ said_of head bytes = lines_read 2 (begun head) (lines_of bytes)
 abbrev pub Same : Option (List ℕ) → Option (List ℕ) → Head → ℕ → Heard → Type 0
 Same had left head n h = IfSome had (λ bytes. Left (said_of head bytes) left n h)
 
+-- whether a line feed was met is known
+pub known : (had after : Option (List ℕ)) (b c : Bool) (line : List ℕ) → b ≡ c → IfSome had (λ bytes. Cuts bytes after b line) → IfSome had (λ bytes. Cuts bytes after c line)
+known had after b c line e = subst (λ (x : Bool). IfSome had (λ bytes. Cuts bytes after x line)) e
+
+-- so is the line that was taken, and what came of it
+pub seen_so : (h k : Heard) (n : ℕ) (seen line : List ℕ) (r s : Result Bool ReadFault) → seen ≡ line → r ≡ s → Takes h n seen r k → Takes h n line s k
+seen_so h k n seen line r s same is takes = subst (λ (x : Result Bool ReadFault). Takes h n line x k) is (subst (λ (l : List ℕ). Takes h n l r k) same takes)
+
 pub at_first : (had : Option (List ℕ)) (head : Head) (h : Heard) → h ≡ begun head → Same had had head 2 h
 at_first None head h is = tt
 at_first (Some bytes) head h is = ap (λ (k : Heard). lines_read 2 k (lines_of bytes)) (sym is)
@@ -70,7 +78,7 @@ pub goes_further : (had left after : Option (List ℕ)) (head : Head) (n : ℕ) 
 goes_further None left after head n h k line same cut takes = tt
 goes_further (Some bytes) None after head n h k line same cut takes = absurd same
 goes_further (Some bytes) (Some rest) after head n h k line same cut takes =
-    subst (λ (o : Option (List ℕ)). Left (said_of head bytes) o (n + 1) k) (sym cut.1.0) (same ∙ taken n h line rest cut.0 (Ok (record { ends = false; heard = k })) cut.1.1 takes)
+    subst (λ (o : Option (List ℕ)). Left (said_of head bytes) o (n + 1) k) (sym cut.1) (same ∙ taken n h line rest cut.0 (Ok (record { ends = false; heard = k })) cut.2 takes)
 
 -- a line has a fault
 takes_fault : (said : Result Heard HistoryFault) (n : ℕ) (h k : Heard) (line rest behind : List ℕ) (e : ReadFault) → said ≡ lines_read n h (lines_of rest) → lines_of rest ≡ line ∷ lines_of behind → Takes h n line (Err e) k → Gives said (Err e)
@@ -81,7 +89,7 @@ takes_fault said n h k line rest behind (Ill f) same parts takes = same ∙ take
 pub stops : (had left after : Option (List ℕ)) (head : Head) (n : ℕ) (h k : Heard) (line : List ℕ) (e : ReadFault) → Same had left head n h → IfSome left (λ bytes. Cuts bytes after true line) → Takes h n line (Err e) k → GivesAll had head (Err e)
 stops None left after head n h k line e same cut takes = tt
 stops (Some bytes) None after head n h k line e same cut takes = absurd same
-stops (Some bytes) (Some rest) after head n h k line e same cut takes = takes_fault (said_of head bytes) n h k line rest cut.0 e same cut.1.1 takes
+stops (Some bytes) (Some rest) after head n h k line e same cut takes = takes_fault (said_of head bytes) n h k line rest cut.0 e same cut.2 takes
 
 -- the last line is taken
 at_last : (had left after : Option (List ℕ)) (head : Head) (n : ℕ) (h k : Heard) (line : List ℕ) (P : Result Heard HistoryFault → Type 0) → Same had left head n h → IfSome left (λ bytes. Cuts bytes after true line) → Takes h n line (Ok true) k
@@ -89,7 +97,7 @@ at_last : (had left after : Option (List ℕ)) (head : Head) (n : ℕ) (h k : He
 at_last None left after head n h k line P same cut takes then_so = tt
 at_last (Some bytes) None after head n h k line P same cut takes then_so = absurd same
 at_last (Some bytes) (Some rest) after head n h k line P same cut takes then_so =
-    subst P (sym (same ∙ taken n h line rest cut.0 (Ok (record { ends = true; heard = k })) cut.1.1 takes)) (then_so cut.0 cut.1.0)
+    subst P (sym (same ∙ taken n h line rest cut.0 (Ok (record { ends = true; heard = k })) cut.2 takes)) (then_so cut.0 cut.1)
 
 some_at : (o : Option (List ℕ)) (xs : List ℕ) (P : List ℕ → Type 0) → o ≡ Some xs → IfSome o P → P xs
 some_at o xs P e = subst (λ (q : Option (List ℕ)). IfSome q P) e
@@ -125,7 +133,7 @@ closes (Some bytes) after n line cut quiet = λ h. ap (closed n h) (cut ∙ ap (
 pub more_behind : (had after : Option (List ℕ)) (n : ℕ) (line : List ℕ) (e : ReadFault) → IfSome had (λ bytes. Cuts bytes after true line) → e ≡ Ill (fault_at n Cut) → IfSome had (λ bytes. Closes n (lines_of bytes) (Err e))
 more_behind None after n line e cut is = tt
 more_behind (Some bytes) after n line e cut is =
-    subst (λ (x : ReadFault). Closes n (lines_of bytes) (Err x)) (sym is) (λ h. ap (closed n h) cut.1.1 ∙ closes_at n h line (lines_of cut.0) (one_or_more (λ b. b == 10) cut.0))
+    subst (λ (x : ReadFault). Closes n (lines_of bytes) (Err x)) (sym is) (λ h. ap (closed n h) cut.2 ∙ closes_at n h line (lines_of cut.0) (one_or_more (λ b. b == 10) cut.0))
 
 some_left : (n : ℕ) (h : Heard) (line : List ℕ) → (line ≡ [] → ⊥) → closed n h (line ∷ []) ≡ Err (fault_at n Cut)
 some_left n h [] filled = absurd (filled refl)
@@ -157,12 +165,12 @@ read_first bytes text rest r parts is =
 
 pub begins_well : (had after : Option (List ℕ)) (line : List ℕ) (h : Head) → IfSome had (λ bytes. Cuts bytes after true line) → head_read line ≡ Ok h → IfSome had (λ bytes. Begins bytes after (Ok h))
 begins_well None after line h cut is = tt
-begins_well (Some bytes) after line h cut is = (cut.0, cut.1.0, read_first bytes line cut.0 (Ok h) cut.1.1 is)
+begins_well (Some bytes) after line h cut is = (cut.0, cut.1, read_first bytes line cut.0 (Ok h) cut.2 is)
 
 pub begins_ill : (had after : Option (List ℕ)) (line : List ℕ) (f : Fault) (e : ReadFault) → IfSome had (λ bytes. Cuts bytes after true line) → head_read line ≡ Err f → e ≡ Ill (fault_at 1 f) → IfSome had (λ bytes. Begins bytes after (Err e))
 begins_ill None after line f e cut is ill = tt
 begins_ill (Some bytes) after line f e cut is ill =
-    subst (λ (x : ReadFault). Begins bytes after (Err x)) (sym ill) (read_first bytes line cut.0 (Err f) cut.1.1 is)
+    subst (λ (x : ReadFault). Begins bytes after (Err x)) (sym ill) (read_first bytes line cut.0 (Err f) cut.2 is)
 
 pub begins_cut : (had after : Option (List ℕ)) (line : List ℕ) (e : ReadFault) → IfSome had (λ bytes. Cuts bytes after false line) → e ≡ Ill (fault_at 1 (unended line)) → IfSome had (λ bytes. Begins bytes after (Err e))
 begins_cut None after line e cut ill = tt
@@ -182,7 +190,7 @@ isnt_begun (Some bytes) after e quiet = begins_none bytes after e quiet
 pub whole : (had left : Option (List ℕ)) (head : Head) (r : Result History ReadFault) → IfSome had (λ bytes. Begins bytes left (Ok head)) → GivesAll left head r → IfSome had (λ bytes. Gives (history_read bytes) r)
 whole None left head r begins gives = tt
 whole (Some bytes) left head r begins gives =
-    subst (λ (said : Result Heard HistoryFault). Gives said r) (sym begins.1.1) (some_at left begins.0 (λ rest. Gives (said_of head rest) r) begins.1.0 gives)
+    subst (λ (said : Result Heard HistoryFault). Gives said r) (sym begins.2) (some_at left begins.0 (λ rest. Gives (said_of head rest) r) begins.1 gives)
 
 gives_so : (bytes : List ℕ) (left : Option (List ℕ)) (e : ReadFault) → Begins bytes left (Err e) → Gives (history_read bytes) (Err e)
 gives_so bytes left Failed begins = tt

@@ -1,7 +1,8 @@
 -- The lines that the steps of a certificate tell, step after step.
-use Rattle.std.proofs.Common.{◌≡◌, ℕ, ◌+◌, List, [], ◌∷◌, ◌++◌, length, map, reverse, refl, sym, ap, ◌∙◌, append_assoc, append-nil}
+use Rattle.std.proofs.Common.{arith, ◌≡◌, ℕ, ◌+◌, ◌<◌, ◌≤◌, List, [], ◌∷◌, ◌++◌, length, map, reverse, take, drop, get_or, Option, Result, IsErr, refl, sym, ap, subst, ◌∙◌, append_assoc, append-nil}
 use Rattle.std.specs.List.{concat}
-use Rattle.std.proofs.lemmas.List.{reverse-append, map-append}
+use Rattle.std.proofs.lemmas.List.{reverse-append, map-append, take_more, take-append-drop}
+use Rattle.std.specs.Io.KnownBytes.{Appends}
 use Rattle.std.proofs.lemmas.List.Folds.{concat-append}
 use Rattle.facts.specs.declared.fact.Fact.{Fact}
 use Rattle.facts.specs.declared.fact.Line.{Line}
@@ -9,7 +10,9 @@ use Rattle.texts.specs.Text.{fact_text, line_text}
 use Rattle.histories.specs.declared.entry.Entry.{Entry}
 use Rattle.histories.specs.declared.entry.Entry.TheVariants.{Told, Doom}
 use Rattle.certificates.specs.Certificates.{trace_of}
-use Rattle.judge_report.specs.Texts.{steps_count, steps_lines}
+use Rattle.streams.specs.Leaves.{AppendsFront, Leaves}
+use Rattle.streams.proofs.Writers.{Appends-trans, ends_at_second}
+use Rattle.judge_report.specs.Texts.{count_with, step_text, steps_count, steps_lines}
 
 abbrev numbered : ℕ → Fact → Line
 numbered n f = record { event = n; fact = f }
@@ -41,10 +44,10 @@ more_with xs ys (Adds more is) = (
 )
 
 -- steps behind others add to the text
-pub steps_more : (xs ys : List Entry) → (rest : List ℕ) × (steps_lines (xs ++ ys) ≡ steps_lines xs ++ rest)
+steps_more : (xs ys : List Entry) → (rest : List ℕ) × (steps_lines (xs ++ ys) ≡ steps_lines xs ++ rest)
 steps_more xs ys = more_with xs ys (newer (reverse ys) (reverse xs))
 
-pub steps_told : (xs : List Entry) (f : Fact) → steps_lines (xs ++ Told f ∷ []) ≡ steps_lines xs ++ fact_text (steps_count xs + 1) f
+steps_told : (xs : List Entry) (f : Fact) → steps_lines (xs ++ Told f ∷ []) ≡ steps_lines xs ++ fact_text (steps_count xs + 1) f
 steps_told xs f =
     let l = numbered (steps_count xs + 1) f in
     ap (λ (es : List Entry). concat (map line_text (reverse (trace_of es)))) (reverse-append xs (Told f ∷ []))
@@ -52,11 +55,50 @@ steps_told xs f =
     ∙ texts-append (reverse (trace_of (reverse xs))) (l ∷ [])
     ∙ ap (λ (bs : List ℕ). steps_lines xs ++ bs) (append-nil (fact_text (steps_count xs + 1) f))
 
-pub steps_doom : (xs : List Entry) (t : ℕ) → steps_lines (xs ++ Doom t ∷ []) ≡ steps_lines xs
+steps_doom : (xs : List Entry) (t : ℕ) → steps_lines (xs ++ Doom t ∷ []) ≡ steps_lines xs
 steps_doom xs t = ap (λ (es : List Entry). concat (map line_text (reverse (trace_of es)))) (reverse-append xs (Doom t ∷ []))
 
-pub count_told : (xs : List Entry) (f : Fact) → steps_count (xs ++ Told f ∷ []) ≡ steps_count xs + 1
+count_told : (xs : List Entry) (f : Fact) → steps_count (xs ++ Told f ∷ []) ≡ steps_count xs + 1
 count_told xs f = ap (λ (es : List Entry). length (trace_of es)) (reverse-append xs (Told f ∷ []))
 
-pub count_doom : (xs : List Entry) (t : ℕ) → steps_count (xs ++ Doom t ∷ []) ≡ steps_count xs
+count_doom : (xs : List Entry) (t : ℕ) → steps_count (xs ++ Doom t ∷ []) ≡ steps_count xs
 count_doom xs t = ap (λ (es : List Entry). length (trace_of es)) (reverse-append xs (Doom t ∷ []))
+
+-- ---- one step more
+
+steps_step : (xs : List Entry) (e : Entry) → steps_lines (xs ++ e ∷ []) ≡ steps_lines xs ++ step_text (steps_count xs) e
+steps_step xs (Told f) = steps_told xs f
+steps_step xs (Doom t) = steps_doom xs t ∙ sym (append-nil (steps_lines xs))
+
+count_step : (xs : List Entry) (e : Entry) → steps_count (xs ++ e ∷ []) ≡ count_with (steps_count xs) e
+count_step xs (Told f) = count_told xs f
+count_step xs (Doom t) = count_doom xs t
+
+-- where one step was written behind those before it, so many are written
+pub goes_on : (xs : List Entry) (i : ℕ) (d : Entry) (n : ℕ) (a b c : Option (List ℕ)) → i < length xs → n ≡ steps_count (take i xs) → Appends a b (steps_lines (take i xs)) → Appends b c (step_text n (get_or xs i d)) → Appends a c (steps_lines (take (i + 1) xs))
+goes_on xs i d n a b c lt count before one =
+    let e = get_or xs i d in
+    let text : steps_lines (take (i + 1) xs) ≡ steps_lines (take i xs) ++ step_text n e =
+    ap steps_lines (take_more xs i d lt) ∙ steps_step (take i xs) e ∙ ap (λ (k : ℕ). steps_lines (take i xs) ++ step_text k e) (sym count) in
+    subst (Appends a c) (sym text) (Appends-trans a b c (steps_lines (take i xs)) (step_text n e) before one)
+
+pub counts_on : (xs : List Entry) (i : ℕ) (d : Entry) (n k : ℕ) → i < length xs → n ≡ steps_count (take i xs) → k ≡ count_with n (get_or xs i d) → k ≡ steps_count (take (i + 1) xs)
+counts_on xs i d n k lt count is =
+    is ∙ ap (λ (m : ℕ). count_with m (get_or xs i d)) count ∙ sym (ap steps_count (take_more xs i d lt) ∙ count_step (take i xs) (get_or xs i d))
+
+-- it is one more, or as many
+pub count_grows : (n : ℕ) (e : Entry) → count_with n e ≤ n + 1
+count_grows n (Told f) = omega arith
+count_grows n (Doom t) = omega arith
+
+-- an error in one of them ends all
+pub stops_at : {X E : Type 0} (xs : List Entry) (i : ℕ) (d : Entry) (n : ℕ) (a b c : Option (List ℕ)) (r : Result X E) → i < length xs → IsErr r → n ≡ steps_count (take i xs) → Appends a b (steps_lines (take i xs)) → AppendsFront b c (step_text n (get_or xs i d)) → Leaves a c r (steps_lines xs)
+stops_at xs i d n a b c r lt err count before one =
+    let e = get_or xs i d in
+    let front = take i xs in
+    let more = steps_more (front ++ e ∷ []) (drop (i + 1) xs) in
+    let whole : steps_lines xs ≡ steps_lines front ++ (step_text n e ++ more.0) =
+    ap steps_lines (sym (take-append-drop (i + 1) xs) ∙ ap (λ (ys : List Entry). ys ++ drop (i + 1) xs) (take_more xs i d lt)) ∙ more.1
+    ∙ ap (λ (bs : List ℕ). bs ++ more.0) (steps_step front e ∙ ap (λ (k : ℕ). steps_lines front ++ step_text k e) (sym count))
+    ∙ append_assoc (steps_lines front) (step_text n e) more.0 in
+    subst (Leaves a c r) (sym whole) (ends_at_second a b c r (steps_lines front) (step_text n e) more.0 err before one)

@@ -6,6 +6,8 @@ use Rattle.judge.specs.declared.judging.Judgement.{Judgement}
 use Rattle.judge_report.specs.declared.messages.Failure.{Failure}
 use Rattle.judge_report.specs.declared.messages.Failure.TheVariants.{Usage, CannotRead, CannotWrite, CannotKeep}
 use Rattle.judge_report.specs.declared.messages.Failure.TheVariants.{OutOfMemory, Ill}
+use Rattle.judge_report.specs.declared.reading.ReadFault.{ReadFault}
+use Rattle.judge_report.specs.declared.reading.ReadFault.TheVariants as read
 use Rattle.judge_report.specs.Heard.{Heard, history_read}
 use Rattle.judge_report.specs.Said.{IsFilled, IsSaid, status_of}
 
@@ -32,6 +34,12 @@ pub record ServesFront (had old new : Option (List ℕ)) : Type 0 where
   pub text : List ℕ
   pub said : IsSaid heard judgement text
   pub written : AppendsFront old new text
+
+-- the failure that a fault of reading is told as
+abbrev pub failed_by : ReadFault → Failure
+failed_by read.Failed = CannotRead
+failed_by read.Memory = OutOfMemory
+failed_by (read.Ill at) = Ill at
 
 -- why there is no history: it couldn't be read, or memory was wanted, or the bytes have this fault
 abbrev pub Unread : Option (List ℕ) → Failure → Type 0

@@ -1,5 +1,5 @@
 -- The texts of histories' lines, of certificates, and of what is said of a history.
-use Rattle.std.specs.Prelude.{ℕ, ◌-◌, Option, Some, None, List, [], ◌∷◌, ◌++◌, length, map, reverse, codes, decimal}
+use Rattle.std.specs.Prelude.{ℕ, ◌+◌, ◌-◌, Option, Some, None, List, [], ◌∷◌, ◌++◌, length, map, reverse, codes, decimal}
 use Rattle.std.specs.List.{concat, slice_get}
 use Rattle.lockword.specs.Replies.{reply_word}
 use Rattle.posixmutex.specs.Words.{operation_word}
@@ -34,6 +34,15 @@ abbrev pub quote : HistoryLine → List ℕ
 quote l = concat (codes "  | " ∷ []) ++ entry_text l.event l.entry
 
 -- ---- certificates
+
+-- what a step tells behind so many lines: a line more, or nothing
+abbrev pub step_text : ℕ → Entry → List ℕ
+step_text n (Told f) = fact_text (n + 1) f
+step_text n (Doom t) = []
+
+abbrev pub count_with : ℕ → Entry → ℕ
+count_with n (Told f) = n + 1
+count_with n (Doom t) = n
 
 -- the lines of the trace that steps are, in their order
 abbrev pub steps_lines : List Entry → List ℕ

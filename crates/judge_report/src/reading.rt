@@ -206,10 +206,10 @@ fn read_lines<R: BufRead>(alloc: Global, head: Head, input: &mut R) -> Result<Hi
             Err(failure) => return Err(failure),
         };
         if ends {
-            return match close(input, &mut line, number + 1) {
-                Ok(()) => Ok(history),
-                Err(failure) => Err(failure),
-            };
+            match close(input, &mut line, number + 1) {
+                Ok(()) => return Ok(history),
+                Err(failure) => return Err(failure),
+            }
         }
     }
     // more lines than any file has

@@ -6,7 +6,7 @@ ghost use Rattle.judge.specs.Judgements.{IsJudged};
 ghost use Rattle.certificates.specs.Certificates.{IsCertificate};
 ghost use Rattle.judge_report.specs.Heard.{heard_of};
 ghost use Rattle.judge_report.specs.Said.{Holds, IsFilled, IsWritten, Tells, status_of};
-ghost use Rattle.judge_report.specs.Served.{Fails, IsRead, Serves, Unread};
+ghost use Rattle.judge_report.specs.Served.{Fails, IsRead, Serves, Unread, failed_by};
 
 use crate::making::Maker;
 use crate::messages::Failure;
@@ -21,6 +21,17 @@ use std::alloc::Global;
 use std::io::{self, BufReader, ErrorKind, Read, Write};
 use streams::Output;
 
+/// What a fault of reading is told as.
+fn failed_by(fault: ReadFault) -> Failure
+    ensures { result ≡ failed_by fault }
+{
+    match fault {
+        ReadFault::Failed => Failure::CannotRead,
+        ReadFault::Memory => Failure::OutOfMemory,
+        ReadFault::Ill(at) => Failure::Ill(at),
+    }
+}
+
 /// Reads a history.
 fn read_file<R: Read + Drop>(alloc: Global, input: R) -> Result<History, Failure>
     ensures gives { IfOk result (λ h. IsRead (R.remaining input) (heard_of h)) }
@@ -32,9 +43,7 @@ fn read_file<R: Read + Drop>(alloc: Global, input: R) -> Result<History, Failure
     };
     match read_history(alloc, &mut input) {
         Ok(history) => Ok(history),
-        Err(ReadFault::Failed) => Err(Failure::CannotRead),
-        Err(ReadFault::Memory) => Err(Failure::OutOfMemory),
-        Err(ReadFault::Ill(fault)) => Err(Failure::Ill(fault)),
+        Err(fault) => Err(failed_by(fault)),
     }
 }
 
@@ -138,9 +147,9 @@ pub fn serve<R: Read + Drop, M: Maker, W: Output>(
     let Ok(judgement) = judge(alloc, &history.head, &history.lines) else {
         return Err(Failure::OutOfMemory);
     };
-    if certify(&history, &judgement, name, maker).is_err() {
+    let Ok(()) = certify(&history, &judgement, name, maker) else {
         return Err(Failure::CannotKeep);
-    }
+    };
     match tell_out(out, &history, &judgement) {
         Ok(()) => Ok(status_of(&judgement)),
         Err(_unwritten) => Err(Failure::CannotWrite),

@@ -1,6 +1,6 @@
 //! What is told of a history.
 
-ghost use Rattle.std.specs.Prelude.{◌≡◌, ◌-◌};
+ghost use Rattle.std.specs.Prelude.{◌≡◌, ◌-◌, Some};
 ghost use Rattle.streams.specs.Leaves.{Leaves};
 ghost use Rattle.std.specs.List.{slice_get};
 ghost use Rattle.judge_report.specs.Texts.{begin_note, entry_thread, illegal_notes, illegal_text, illegal_title};
@@ -38,13 +38,20 @@ fn turn_words(why: OutOfTurn) -> &'static str
     }
 }
 
-/// Where the call began that began in this line of the history, counted from 1.
-fn write_begin<W: Write>(out: &mut W, lines: &[HistoryLine], begin: u32) -> io::Result<()>
-    ensures { Leaves (W.contents out.old) (W.contents out.new) result (begin_note (slice_get lines.now (begin - 1))) }
+/// The line at this place, counted from 1.
+fn line_at(lines: &[HistoryLine], place: u32) -> Option<HistoryLine>
+    ensures { result ≡ slice_get lines.now (place - 1) }
 {
-    let Some(line) = lines.get((begin as usize).saturating_sub(1)) else {
-        return Ok(());
-    };
+    match lines.get(place.saturating_sub(1) as usize) {
+        Some(line) => Some(*line),
+        None => None,
+    }
+}
+
+/// Where the call began.
+fn write_begin<W: Write>(out: &mut W, line: &HistoryLine) -> io::Result<()>
+    ensures { Leaves (W.contents out.old) (W.contents out.new) result (begin_note (Some line.now)) }
+{
     put_pieces(
         out,
         &[
@@ -54,6 +61,16 @@ fn write_begin<W: Write>(out: &mut W, lines: &[HistoryLine], begin: u32) -> io::
         ],
     )?;
     write_quote(out, line)
+}
+
+/// Where the call began, if that line is there.
+fn write_begin_at<W: Write>(out: &mut W, line: Option<HistoryLine>) -> io::Result<()>
+    ensures { Leaves (W.contents out.old) (W.contents out.new) result (begin_note line) }
+{
+    match line {
+        Some(line) => write_begin(out, &line),
+        None => Ok(()),
+    }
 }
 
 /// Why no order of the calls explains the line.
@@ -102,7 +119,7 @@ fn write_notes<W: Write>(out: &mut W, lines: &[HistoryLine], why: &Refusal) -> i
 {
     match *why {
         Refusal::OutOfTurn(_) => Ok(()),
-        Refusal::NoOrder { begin, .. } => write_begin(out, lines, begin),
+        Refusal::NoOrder { begin, .. } => write_begin_at(out, line_at(lines, begin)),
     }
 }
 

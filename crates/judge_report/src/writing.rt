@@ -1,11 +1,12 @@
 //! The texts of histories' lines and of certificates.
 
-ghost use Rattle.std.specs.Prelude.{◌≡◌, [], ◌∷◌, codes, decimal, IfOk};
+ghost use Rattle.std.specs.Prelude.{◌≡◌, ◌+◌, ◌<◌, ◌^◌, [], ◌∷◌, codes, decimal, IfOk};
 ghost use Rattle.std.specs.List.{concat};
 ghost use Rattle.streams.specs.Leaves.{Leaves};
 ghost use Rattle.texts.specs.Text.{begin_line_of, fact_text, head_line, point_line};
 ghost use Rattle.texts.specs.Text.{return_line, sleep_line_of};
-ghost use Rattle.judge_report.specs.Texts.{certificate_text, entry_text, quote, steps_count, steps_lines};
+ghost use Rattle.judge_report.specs.Texts.{certificate_text, count_with, entry_text, quote, step_text};
+ghost use Rattle.judge_report.specs.Texts.{steps_count, steps_lines};
 
 use facts::{Begun, Fact, Queue};
 use histories::{Entry, Head, HistoryLine};
@@ -203,19 +204,31 @@ fn write_head<W: Write>(out: &mut W, head: &Head) -> io::Result<()>
     )
 }
 
+/// The line that a step tells behind so many, if it tells one. It answers how many there are then.
+fn write_step<W: Write>(out: &mut W, events: u64, step: Entry) -> io::Result<u64>
+    requires { events + 1 < 2 ^ 64 }
+    ensures text { Leaves (W.contents out.old) (W.contents out.new) result (step_text events step) }
+    ensures count { IfOk result (λ n. n ≡ count_with events step) }
+{
+    match step {
+        Entry::Told(fact) => {
+            write_fact(out, events + 1, fact)?;
+            Ok(events + 1)
+        }
+        Entry::Doom(_) => Ok(events),
+    }
+}
+
 /// The lines that the steps tell, numbered from 1. It answers how many they are.
 fn write_steps<W: Write>(out: &mut W, steps: &[Entry]) -> io::Result<u64>
     ensures text { Leaves (W.contents out.old) (W.contents out.new) result (steps_lines steps.now) }
     ensures count { IfOk result (λ n. n ≡ steps_count steps.now) }
 {
-    let mut event = 0;
+    let mut events = 0;
     for step in steps {
-        if let Entry::Told(fact) = *step {
-            event += 1;
-            write_fact(out, event, fact)?;
-        }
+        events = write_step(out, events, *step)?;
     }
-    Ok(event)
+    Ok(events)
 }
 
 /// Writes a certificate: a trace, numbered from 1. At an error a beginning of the text is written.

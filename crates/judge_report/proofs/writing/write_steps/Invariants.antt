@@ -6,6 +6,6 @@ use Rattle.judge_report.proofs.writing.write_steps.Given as goal
 abbrev pub invariant-loop-step : goal.invariant-loop-step
 invariant-loop-step g l = record {
   text : Appends (g.W.Write.contents l.initial.out) (g.W.Write.contents l.out) (steps_lines (take l.step-index l.steps));
-  count : l.event ≡ steps_count (take l.step-index l.steps);
-  few : l.event ≤ l.step-index;
+  count : l.events ≡ steps_count (take l.step-index l.steps);
+  few : l.events ≤ l.step-index;
 }
