@@ -54,11 +54,11 @@ steps-reverse h [] of = tt
 steps-reverse h (e ∷ es) of = subst (AreStepsOf h) (sym (reverse-append (e ∷ []) es)) (steps-append h (reverse es) (e ∷ []) (steps-reverse h es of.1) (of.0, tt))
 
 -- one step more, and all
-pub steps_on : (h : Head) (xs : List Entry) (i : ℕ) (d : Entry) → i < length xs → AreStepsOf h (take i xs) → IsStepOf h (get_or xs i d) → AreStepsOf h (take (i + 1) xs)
-steps_on h xs i d lt of one = subst (AreStepsOf h) (sym (take_more xs i d lt)) (steps-append h (take i xs) (get_or xs i d ∷ []) of (one, tt))
+pub steps_on : (h : Head) (xs : List Entry) (i : ℕ) (x : Entry) → i < length xs → x ≡ get_or xs i x → AreStepsOf h (take i xs) → IsStepOf h x → AreStepsOf h (take (i + 1) xs)
+steps_on h xs i x lt at of one = subst (AreStepsOf h) (sym (take_more xs i x lt)) (steps-append h (take i xs) (get_or xs i x ∷ []) of (subst (IsStepOf h) at one, tt))
 
 pub all_steps : (h : Head) (xs : List Entry) (i : ℕ) → length xs ≤ i → AreStepsOf h (take i xs) → AreStepsOf h xs
-all_steps h xs i le of = subst (AreStepsOf h) (take_all xs i le) of
+all_steps h xs i le of = subst (AreStepsOf h) (take_all i xs le) of
 
 lines_of_steps : (h : Head) (es : List Entry) → AreStepsOf h es → length (trace_of es) ≤ max_events → Each (IsLineOf (trace_head h)) (trace_of es)
 lines_of_steps h [] of few = tt

@@ -70,11 +70,30 @@ tells_err k j a b r err t = (t.0, t.1, leaves_front a b r t.0 err t.2)
 
 -- ---- what was read
 
-pub read_so : (had : Option (List ℕ)) (h : History) → IfSome had (λ bytes. Gives (history_read bytes) (Ok h)) → IsRead had (heard_of h)
-read_so had h gives = gives
+prepend-nil : (o : Option (List ℕ)) → prepend_known [] o ≡ o
+prepend-nil None = refl
+prepend-nil (Some xs) = refl
 
-pub unread_ill : (had : Option (List ℕ)) (f : HistoryFault) → IfSome had (λ bytes. Gives (history_read bytes) (Err (read.Ill f))) → Unread had (Ill f)
-unread_ill had f gives = gives
+-- a buffer before a reader loses nothing
+buffered : {T : Type 0} (remaining : T → Option (List ℕ)) (r : BufReader T Global) (input : T) → reader_inner r ≡ input → reader_buffer r ≡ [] → reader_capacity r ≡ 8192 → reader_remaining remaining r ≡ remaining input
+buffered remaining r input inner empty capacity =
+    let front : reader_remaining remaining r ≡ prepend_known [] (remaining input) = λ j. if capacity j == 0 then None else prepend_known (empty j) (remaining (inner j)) in
+    front ∙ prepend-nil (remaining input)
+
+pub is_read : {T : Type 0} (remaining : T → Option (List ℕ)) (r : BufReader T Global) (input : T) (h : History) → reader_inner r ≡ input → reader_buffer r ≡ [] → reader_capacity r ≡ 8192
+    → IfSome (reader_remaining remaining r) (λ bytes. Gives (history_read bytes) (Ok h)) → IsRead (remaining input) (heard_of h)
+is_read remaining r input h inner empty capacity gives =
+    subst (λ (o : Option (List ℕ)). IfSome o (λ bytes. Gives (history_read bytes) (Ok h))) (buffered remaining r input inner empty capacity) gives
+
+unread_by : (had : Option (List ℕ)) (e : ReadFault) → IfSome had (λ bytes. Gives (history_read bytes) (Err e)) → Unread had (failed_by e)
+unread_by had read.Failed gives = tt
+unread_by had read.Memory gives = tt
+unread_by had (read.Ill f) gives = gives
+
+pub is_unread : {T : Type 0} (remaining : T → Option (List ℕ)) (r : BufReader T Global) (input : T) (e : ReadFault) (f : Failure) → reader_inner r ≡ input → reader_buffer r ≡ [] → reader_capacity r ≡ 8192
+    → IfSome (reader_remaining remaining r) (λ bytes. Gives (history_read bytes) (Err e)) → f ≡ failed_by e → Unread (remaining input) f
+is_unread remaining r input e f inner empty capacity gives is =
+    subst (Unread (remaining input)) (sym is) (unread_by (remaining input) e (subst (λ (o : Option (List ℕ)). IfSome o (λ bytes. Gives (history_read bytes) (Err e))) (buffered remaining r input inner empty capacity) gives))
 
 pub unread_fails : (had old : Option (List ℕ)) (f : Failure) → Unread had f → Fails had old old f
 unread_fails had old Usage h = h

@@ -75,16 +75,16 @@ count_step xs (Told f) = count_told xs f
 count_step xs (Doom t) = count_doom xs t
 
 -- where one step was written behind those before it, so many are written
-pub goes_on : (xs : List Entry) (i : ℕ) (d : Entry) (n : ℕ) (a b c : Option (List ℕ)) → i < length xs → n ≡ steps_count (take i xs) → Appends a b (steps_lines (take i xs)) → Appends b c (step_text n (get_or xs i d)) → Appends a c (steps_lines (take (i + 1) xs))
-goes_on xs i d n a b c lt count before one =
-    let e = get_or xs i d in
+pub goes_on : (xs : List Entry) (i : ℕ) (x : Entry) (n : ℕ) (a b c : Option (List ℕ)) → i < length xs → x ≡ get_or xs i x → n ≡ steps_count (take i xs) → Appends a b (steps_lines (take i xs)) → Appends b c (step_text n x) → Appends a c (steps_lines (take (i + 1) xs))
+goes_on xs i x n a b c lt at count before one =
+    let e = get_or xs i x in
     let text : steps_lines (take (i + 1) xs) ≡ steps_lines (take i xs) ++ step_text n e =
-    ap steps_lines (take_more xs i d lt) ∙ steps_step (take i xs) e ∙ ap (λ (k : ℕ). steps_lines (take i xs) ++ step_text k e) (sym count) in
-    subst (Appends a c) (sym text) (Appends-trans a b c (steps_lines (take i xs)) (step_text n e) before one)
+    ap steps_lines (take_more xs i x lt) ∙ steps_step (take i xs) e ∙ ap (λ (k : ℕ). steps_lines (take i xs) ++ step_text k e) (sym count) in
+    subst (Appends a c) (sym text) (Appends-trans a b c (steps_lines (take i xs)) (step_text n e) before (subst (λ (y : Entry). Appends b c (step_text n y)) at one))
 
-pub counts_on : (xs : List Entry) (i : ℕ) (d : Entry) (n k : ℕ) → i < length xs → n ≡ steps_count (take i xs) → k ≡ count_with n (get_or xs i d) → k ≡ steps_count (take (i + 1) xs)
-counts_on xs i d n k lt count is =
-    is ∙ ap (λ (m : ℕ). count_with m (get_or xs i d)) count ∙ sym (ap steps_count (take_more xs i d lt) ∙ count_step (take i xs) (get_or xs i d))
+pub counts_on : (xs : List Entry) (i : ℕ) (x : Entry) (n k : ℕ) → i < length xs → x ≡ get_or xs i x → n ≡ steps_count (take i xs) → k ≡ count_with n x → k ≡ steps_count (take (i + 1) xs)
+counts_on xs i x n k lt at count is =
+    is ∙ ap (count_with n) at ∙ ap (λ (m : ℕ). count_with m (get_or xs i x)) count ∙ sym (ap steps_count (take_more xs i x lt) ∙ count_step (take i xs) (get_or xs i x))
 
 -- it is one more, or as many
 pub count_grows : (n : ℕ) (e : Entry) → count_with n e ≤ n + 1
@@ -92,13 +92,13 @@ count_grows n (Told f) = omega arith
 count_grows n (Doom t) = omega arith
 
 -- an error in one of them ends all
-pub stops_at : {X E : Type 0} (xs : List Entry) (i : ℕ) (d : Entry) (n : ℕ) (a b c : Option (List ℕ)) (r : Result X E) → i < length xs → IsErr r → n ≡ steps_count (take i xs) → Appends a b (steps_lines (take i xs)) → AppendsFront b c (step_text n (get_or xs i d)) → Leaves a c r (steps_lines xs)
-stops_at xs i d n a b c r lt err count before one =
-    let e = get_or xs i d in
+pub stops_at : {X E : Type 0} (xs : List Entry) (i : ℕ) (x : Entry) (n : ℕ) (a b c : Option (List ℕ)) (r : Result X E) → i < length xs → x ≡ get_or xs i x → IsErr r → n ≡ steps_count (take i xs) → Appends a b (steps_lines (take i xs)) → AppendsFront b c (step_text n x) → Leaves a c r (steps_lines xs)
+stops_at xs i x n a b c r lt at err count before one =
+    let e = get_or xs i x in
     let front = take i xs in
     let more = steps_more (front ++ e ∷ []) (drop (i + 1) xs) in
     let whole : steps_lines xs ≡ steps_lines front ++ (step_text n e ++ more.0) =
-    ap steps_lines (sym (take-append-drop (i + 1) xs) ∙ ap (λ (ys : List Entry). ys ++ drop (i + 1) xs) (take_more xs i d lt)) ∙ more.1
+    ap steps_lines (sym (take-append-drop (i + 1) xs) ∙ ap (λ (ys : List Entry). ys ++ drop (i + 1) xs) (take_more xs i x lt)) ∙ more.1
     ∙ ap (λ (bs : List ℕ). bs ++ more.0) (steps_step front e ∙ ap (λ (k : ℕ). steps_lines front ++ step_text k e) (sym count))
     ∙ append_assoc (steps_lines front) (step_text n e) more.0 in
-    subst (Leaves a c r) (sym whole) (ends_at_second a b c r (steps_lines front) (step_text n e) more.0 err before one)
+    subst (Leaves a c r) (sym whole) (ends_at_second a b c r (steps_lines front) (step_text n e) more.0 err before (subst (λ (y : Entry). AppendsFront b c (step_text n y)) at one))

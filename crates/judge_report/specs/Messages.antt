@@ -8,12 +8,12 @@ use Rattle.judge_report.specs.declared.messages.Failure.TheVariants.{Usage, Cann
 use Rattle.judge_report.specs.declared.messages.Failure.TheVariants.{OutOfMemory, Ill}
 
 -- a fault of a history's text, and its line
-abbrev pub fault_text : ℕ → ℕ → List ℕ → List ℕ
-fault_text line number words = concat
-    (codes "rfx-judge: line " ∷ decimal line ∷ codes ": fault " ∷ decimal number ∷ codes ": " ∷ words ∷ codes "\n" ∷ [])
+abbrev pub fault_text : List ℕ → ℕ → ℕ → List ℕ → List ℕ
+fault_text start line number words = concat
+    (start ∷ decimal line ∷ codes ": fault " ∷ decimal number ∷ codes ": " ∷ words ∷ codes "\n" ∷ [])
 
 abbrev pub history_fault_text : HistoryFault → List ℕ
-history_fault_text at = fault_text at.line (number_of at.fault) (words_of at.fault)
+history_fault_text at = fault_text (codes "rfx-judge: line ") at.line (number_of at.fault) (words_of at.fault)
 
 -- why the history in a file of this name wasn't judged, or that wasn't told
 abbrev pub failure_text : List ℕ → Failure → List ℕ

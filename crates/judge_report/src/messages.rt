@@ -29,14 +29,20 @@ pub enum Failure {
     Ill(HistoryFault),
 }
 
-/// `rfx-judge: line L: fault N: TEXT`.
-fn write_fault<'a, E: Write>(err: &mut E, line: u64, number: u8, words: &'a str) -> io::Result<()>
-    ensures { Leaves (E.contents err.old) (E.contents err.new) result (fault_text line number words.now) }
+/// A fault with its line and its number. `start` is what stands before them.
+fn write_fault<'a, E: Write>(
+    err: &mut E,
+    start: &'a str,
+    line: u64,
+    number: u8,
+    words: &'a str,
+) -> io::Result<()>
+    ensures { Leaves (E.contents err.old) (E.contents err.new) result (fault_text start.now line number words.now) }
 {
     put_pieces(
         err,
         &[
-            Word("rfx-judge: line "),
+            Word(start),
             Number(line),
             Word(": fault "),
             Number(number.into()),
@@ -47,11 +53,12 @@ fn write_fault<'a, E: Write>(err: &mut E, line: u64, number: u8, words: &'a str)
     )
 }
 
-/// The message of a history's fault.
+/// `rfx-judge: line L: fault N: TEXT`.
 fn write_history_fault<E: Write>(err: &mut E, at: HistoryFault) -> io::Result<()>
     ensures { Leaves (E.contents err.old) (E.contents err.new) result (history_fault_text at) }
 {
-    write_fault(err, at.line, at.fault.number(), at.fault.words())
+    let start = "rfx-judge: line ";
+    write_fault(err, start, at.line, at.fault.number(), at.fault.words())
 }
 
 /// The message of a failure to judge the history in this file.
