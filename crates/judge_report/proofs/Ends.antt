@@ -8,7 +8,7 @@ use Rattle.std.specs.Io.Buffered.{reader_buffer, reader_capacity, reader_inner, 
 use Rattle.std.specs.Io.KnownBytes.{Appends, Keeps, prepend_known}
 use Rattle.std.proofs.lemmas.List.{reverse-reverse}
 use Rattle.streams.specs.Leaves.{AppendsFront, Leaves}
-use Rattle.streams.proofs.Writers.{Appends-kept, whole_is_front, kept_leaves, leaves_front}
+use Rattle.streams.proofs.Writers.{Appends-kept, whole_is_front, leaves_front}
 use Rattle.histories.specs.declared.head.Head.{Head}
 use Rattle.histories.specs.declared.entry.Entry.{Entry}
 use Rattle.histories.specs.declared.entry.HistoryLine.{HistoryLine}
@@ -24,8 +24,7 @@ use Rattle.judge_report.specs.declared.reading.History.{History}
 use Rattle.judge_report.specs.declared.reading.ReadFault.{ReadFault}
 use Rattle.judge_report.specs.declared.reading.ReadFault.TheVariants as read
 use Rattle.judge_report.specs.Heard.{Heard, Gives, heard_of, history_read}
-use Rattle.judge_report.specs.Accepted.{IsAccepted, IsSmall}
-use Rattle.judge_report.specs.Said.{Holds, IsFilled, IsSaid, IsWritten, Tells, status_of}
+use Rattle.judge_report.specs.Said.{IsFilled, IsSaid, IsWritten, Tells, status_of}
 use Rattle.judge_report.specs.Served.{Fails, IsRead, Serves, ServesFront, Unread, failed_by}
 use Rattle.judge_report.specs.Texts.{certificate_text, illegal_text, legal_text, undecided_text}
 use Rattle.judge_report.proofs.Saying.{is_legal, is_legal_before}
@@ -61,9 +60,12 @@ illegal_within h j at why is judged = let before : IsLegalBefore h.head h.lines.
 pub undecided_within : (h : History) (j : Judgement) (at : ℕ) → j ≡ Undecided at → IsJudged h.head h.lines.items j → at < length h.lines.items
 undecided_within h j at is judged = let before : IsLegalBefore h.head h.lines.items at = subst (IsJudged h.head h.lines.items) is judged in before.0
 
--- what was told stays, whatever came then, if that kept it
-pub tells_kept : {E : Type 0} (k : Heard) (j : Judgement) (a b c : Option (List ℕ)) (r : Result (Unit {0}) E) → (text : List ℕ) × IsSaid k j text × Appends a b text → Keeps b c → Tells k j a c r
-tells_kept k j a b c r t keeps = (t.0, t.1, kept_leaves a b c r t.0 t.2 keeps)
+-- what was told stays, if what came then kept it
+pub kept_whole : (k : Heard) (j : Judgement) (a b c : Option (List ℕ)) → (text : List ℕ) × IsSaid k j text × Appends a b text → Keeps b c → (text : List ℕ) × IsSaid k j text × Appends a c text
+kept_whole k j a b c t keeps = (t.0, t.1, Appends-kept a b c t.0 t.2 keeps)
+
+pub kept_front : (k : Heard) (j : Judgement) (a b c : Option (List ℕ)) → (text : List ℕ) × IsSaid k j text × Appends a b text → Keeps b c → (text : List ℕ) × IsSaid k j text × AppendsFront a c text
+kept_front k j a b c t keeps = (t.0, t.1, whole_is_front a c t.0 (Appends-kept a b c t.0 t.2 keeps))
 
 pub tells_err : {E : Type 0} (k : Heard) (j : Judgement) (a b : Option (List ℕ)) (r : Result (Unit {0}) E) → IsErr r → (text : List ℕ) × IsSaid k j text × AppendsFront a b text → Tells k j a b r
 tells_err k j a b r err t = (t.0, t.1, leaves_front a b r t.0 err t.2)
@@ -119,14 +121,9 @@ pub written_so : {E : Type 0} (Makes Fills : List ℕ → Option (List ℕ) → 
 written_so Makes Fills name h steps a b (Ok u) makes text fills = record { made = a; filled = b; makes = makes; fills = fills; text = text }
 written_so Makes Fills name h steps a b (Err e) makes text fills = tt
 
-pub holds_so : {E : Type 0} (Makes Fills : List ℕ → Option (List ℕ) → Type 0) (name : List ℕ) (h : Head) (steps : List Entry) (r : Result (Unit {0}) E) → (IsSmall h steps → IsAccepted h steps)
-    → IfOk r (λ _. IsWritten Makes Fills name h steps) → IfOk r (λ _. Holds Makes Fills name h steps)
-holds_so Makes Fills name h steps (Ok u) accepted written = record { written = written; accepted = accepted }
-holds_so Makes Fills name h steps (Err e) accepted written = tt
-
 -- a certificate that was asked for
 pub filled_so : {E : Type 0} (Makes Fills : List ℕ → Option (List ℕ) → Type 0) (out : Option (List ℕ)) (name : List ℕ) (k : Heard) (j : Judgement) (steps : Vec Entry Global) (r : Result (Unit {0}) E) → out ≡ Some name → j ≡ Legal steps
-    → IfOk r (λ _. Holds Makes Fills name k.head steps.items) → IfOk r (λ _. IsFilled Makes Fills out k j)
+    → IfOk r (λ _. IsWritten Makes Fills name k.head steps.items) → IfOk r (λ _. IsFilled Makes Fills out k j)
 filled_so Makes Fills out name k j steps r is legal holds =
     subst (λ (o : Option (List ℕ)). IfOk r (λ _. IsFilled Makes Fills o k j)) (sym is)
     (subst (λ (q : Judgement). IfOk r (λ _. IsFilled Makes Fills (Some name) k q)) (sym legal) holds)

@@ -4,4 +4,3 @@ pub mod Taking
 pub mod Steps
 pub mod Saying
 pub mod Ends
-pub mod Accepting

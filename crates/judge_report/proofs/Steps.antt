@@ -59,7 +59,9 @@ steps_doom : (xs : List Entry) (t : ℕ) → steps_lines (xs ++ Doom t ∷ []) �
 steps_doom xs t = ap (λ (es : List Entry). concat (map line_text (reverse (trace_of es)))) (reverse-append xs (Doom t ∷ []))
 
 count_told : (xs : List Entry) (f : Fact) → steps_count (xs ++ Told f ∷ []) ≡ steps_count xs + 1
-count_told xs f = ap (λ (es : List Entry). length (trace_of es)) (reverse-append xs (Told f ∷ []))
+count_told xs f =
+    let same : steps_count (xs ++ Told f ∷ []) ≡ length (trace_of (Told f ∷ reverse xs)) = ap (λ (es : List Entry). length (trace_of es)) (reverse-append xs (Told f ∷ [])) in
+    omega (arith, same)
 
 count_doom : (xs : List Entry) (t : ℕ) → steps_count (xs ++ Doom t ∷ []) ≡ steps_count xs
 count_doom xs t = ap (λ (es : List Entry). length (trace_of es)) (reverse-append xs (Doom t ∷ []))

@@ -1,6 +1,5 @@
 pub mod Heard
 pub mod Texts
-pub mod Accepted
 pub mod Said
 pub mod Asked
 pub mod Messages

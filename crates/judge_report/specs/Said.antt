@@ -15,7 +15,6 @@ use Rattle.completing.specs.declared.stop.Refusal.{Refusal}
 use Rattle.judge.specs.declared.judging.Judgement.{Judgement}
 use Rattle.judge.specs.declared.judging.Judgement.TheVariants.{Legal, Illegal, Undecided}
 use Rattle.judge_report.specs.Heard.{Heard}
-use Rattle.judge_report.specs.Accepted.{IsAccepted, IsSmall}
 use Rattle.judge_report.specs.Texts.{certificate_text, illegal_text, legal_text, undecided_text}
 
 -- what lines tell
@@ -56,17 +55,11 @@ pub record IsWritten (Makes Fills : List ℕ → Option (List ℕ) → Type 0) (
   pub fills : Fills name filled
   pub text : Appends made filled (certificate_text h steps)
 
--- and the judge of traces accepts it, if it isn't too large for it
-pub record Holds (Makes Fills : List ℕ → Option (List ℕ) → Type 0) (name : List ℕ) (h : Head) (steps : List Entry)
-    : Type 0 where
-  pub written : IsWritten Makes Fills name h steps
-  pub accepted : IsSmall h steps → IsAccepted h steps
-
 -- so it was where a certificate was asked for, and there is one
 abbrev pub IsFilled : (List ℕ → Option (List ℕ) → Type 0) → (List ℕ → Option (List ℕ) → Type 0) → Option (List ℕ)
     → Heard → Judgement → Type 0
 IsFilled Makes Fills None k j = Unit {0}
-IsFilled Makes Fills (Some name) k (Legal steps) = Holds Makes Fills name k.head steps.items
+IsFilled Makes Fills (Some name) k (Legal steps) = IsWritten Makes Fills name k.head steps.items
 IsFilled Makes Fills (Some name) k (Illegal at why) = Unit {0}
 IsFilled Makes Fills (Some name) k (Undecided at) = Unit {0}
 

@@ -25,7 +25,6 @@ mod asking;
 mod making;
 mod messages;
 mod program;
-mod ranges;
 mod reading;
 mod serving;
 mod telling;

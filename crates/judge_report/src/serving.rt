@@ -1,16 +1,14 @@
 //! The program, but for opening its file.
 
-ghost use Rattle.std.specs.Prelude.{◌≡◌, option_map, IfOk, IfErr, OnOk};
+ghost use Rattle.std.specs.Prelude.{◌≡◌, ◌<◌, get_or, length, option_map, IfOk, IfErr, OnOk};
 ghost use Rattle.histories.specs.Reading.{IsHead};
 ghost use Rattle.judge.specs.Judgements.{IsJudged};
-ghost use Rattle.certificates.specs.Certificates.{IsCertificate};
 ghost use Rattle.judge_report.specs.Heard.{heard_of};
-ghost use Rattle.judge_report.specs.Said.{Holds, IsFilled, IsWritten, Tells, status_of};
+ghost use Rattle.judge_report.specs.Said.{IsFilled, IsWritten, Tells, status_of};
 ghost use Rattle.judge_report.specs.Served.{Fails, IsRead, Serves, Unread, failed_by};
 
 use crate::making::Maker;
 use crate::messages::Failure;
-use crate::ranges::are_steps_of;
 use crate::reading::{History, ReadFault, read_history};
 use crate::telling::{tell_illegal, tell_legal, tell_undecided};
 use crate::writing::write_certificate;
@@ -18,7 +16,7 @@ use certificates::points_of;
 use histories::{Entry, Head, HistoryLine};
 use judge::{Judgement, judge};
 use std::alloc::Global;
-use std::io::{self, BufReader, ErrorKind, Read, Write};
+use std::io::{self, BufReader, Read, Write};
 use streams::Output;
 
 /// What a fault of reading is told as.
@@ -56,18 +54,6 @@ fn fill<M: Maker>(maker: &M, name: &str, head: &Head, steps: &[Entry]) -> io::Re
     maker.fill(name, file)
 }
 
-/// Fills the file of this name with the history's certificate, unless the judge of traces would refuse it.
-fn keep<M: Maker>(maker: &M, name: &str, history: &History, steps: &[Entry]) -> io::Result<()>
-    requires head { IsHead history.now.head }
-    requires certificate { IsCertificate history.now.head.mutexes history.now.lines.items steps.now }
-    ensures { IfOk result (λ _. Holds (M.makes maker.now) (M.fills maker.now) name.now history.now.head steps.now) }
-{
-    if !are_steps_of(&history.head, steps) {
-        return Err(io::Error::from(ErrorKind::InvalidData));
-    }
-    fill(maker, name, &history.head, steps)
-}
-
 /// Writes the certificate, where there is one, to the file of this name, if one is named.
 fn certify<M: Maker>(
     history: &History,
@@ -75,8 +61,6 @@ fn certify<M: Maker>(
     name: Option<&str>,
     maker: &M,
 ) -> io::Result<()>
-    requires head { IsHead history.now.head }
-    requires judged { IsJudged history.now.head history.now.lines.items judgement.now }
     ensures { IfOk result (λ _. IsFilled (M.makes maker.now) (M.fills maker.now) (option_map (λ w. w.now) name.entry)
         (heard_of history.now) judgement.now) }
 {
@@ -84,9 +68,17 @@ fn certify<M: Maker>(
         return Ok(());
     };
     match judgement {
-        Judgement::Legal(steps) => keep(maker, name, history, steps),
+        Judgement::Legal(steps) => fill(maker, name, &history.head, steps),
         Judgement::Illegal(..) | Judgement::Undecided(_) => Ok(()),
     }
+}
+
+/// The line at this place, counted from 0.
+fn line_of(history: &History, at: usize) -> HistoryLine
+    requires { at < length history.now.lines.items }
+    ensures { result ≡ get_or history.now.lines.items at result }
+{
+    history.lines[at]
 }
 
 /// Tells what the history was found to be.
@@ -97,9 +89,9 @@ fn tell<W: Write>(out: &mut W, history: &History, judgement: &Judgement) -> io::
     match judgement {
         Judgement::Legal(steps) => tell_legal(out, points_of(steps)),
         Judgement::Illegal(at, why) => {
-            tell_illegal(out, &history.lines, &history.lines[*at], why)
+            tell_illegal(out, &history.lines, &line_of(history, *at), why)
         }
-        Judgement::Undecided(at) => tell_undecided(out, &history.lines[*at]),
+        Judgement::Undecided(at) => tell_undecided(out, &line_of(history, *at)),
     }
 }
 

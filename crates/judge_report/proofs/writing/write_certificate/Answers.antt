@@ -23,7 +23,7 @@ pub returns : goal.returns
 returns g c =
     let h = c.args.head.now in
     let es = c.args.steps.now in
-    let end : Leaves (g.W.Write.contents c.write_steps-events.new.out) (g.W.Write.contents c.put_pieces.new.out) c.put_pieces.result (end_line (steps_count es)) =
-    subst (λ n. Leaves (g.W.Write.contents c.write_steps-events.new.out) (g.W.Write.contents c.put_pieces.new.out) c.put_pieces.result (end_line n)) c.in_ok-events.ensures.count c.put_pieces.ensures in
+    let end : Leaves (g.W.Write.contents c.write_steps.new.out) (g.W.Write.contents c.put_pieces.new.out) c.put_pieces.result (end_line (steps_count es)) =
+    subst (λ n. Leaves (g.W.Write.contents c.write_steps.new.out) (g.W.Write.contents c.put_pieces.new.out) c.put_pieces.result (end_line n)) c.in_ok-events.ensures.count c.put_pieces.ensures in
     then_leaves _ _ _ c.put_pieces.result (head_line h.threads h.mutexes h.conditions) (steps_lines es ++ end_line (steps_count es)) c.in_ok-write_head.ensures
     (then_leaves _ _ _ c.put_pieces.result (steps_lines es) (end_line (steps_count es)) c.in_ok-events.ensures.text end)
