@@ -1,5 +1,5 @@
 -- What is known where something was told, or wasn't.
-use Rattle.std.proofs.Common.{◌≡◌, ℕ, ◌<◌, List, [], length, get_or, reverse, Option, Some, None, IfOk, IfSome, Result, Ok, Err, IsErr, refl, sym, ap, subst, ◌∙◌}
+use Rattle.std.proofs.Common.{◌≡◌, ℕ, ◌<◌, List, [], length, get_or, Option, Some, None, IfOk, IfSome, Result, Ok, Err, IsErr, refl, sym, ap, subst, ◌∙◌}
 use Rattle.std.specs.Prelude.{count_by, Vec}
 use Rattle.std.specs.declared.alloc.Global.{Global}
 use Rattle.std.specs.Prelude.{if◌then◌else◌, ◌==◌}
@@ -12,7 +12,6 @@ use Rattle.streams.proofs.Writers.{Appends-kept, whole_is_front, leaves_front}
 use Rattle.histories.specs.declared.head.Head.{Head}
 use Rattle.histories.specs.declared.entry.Entry.{Entry}
 use Rattle.histories.specs.declared.entry.HistoryLine.{HistoryLine}
-use Rattle.histories.specs.declared.fault.HistoryFault.{HistoryFault}
 use Rattle.certificates.specs.Certificates.{is_point_step}
 use Rattle.completing.specs.declared.stop.Refusal.{Refusal}
 use Rattle.judge.specs.declared.judging.Judgement.{Judgement}

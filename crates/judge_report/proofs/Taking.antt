@@ -1,5 +1,5 @@
 -- One line, taken behind others.
-use Rattle.std.proofs.Common.{◌≡◌, ℕ, ◌+◌, Bool, true, false, not, List, [], ◌∷◌, ◌++◌, reverse, Option, Some, None, Result, Ok, Err, refl, sym, ap, ◌∙◌}
+use Rattle.std.proofs.Common.{◌≡◌, ℕ, Bool, true, false, not, List, [], ◌∷◌, ◌++◌, reverse, Option, Some, Result, Ok, Err, refl, sym, ap, ◌∙◌}
 use Rattle.std.specs.Prelude.{nat_lt, if◌then◌else◌}
 use Rattle.std.proofs.lemmas.List.{reverse-append}
 use Rattle.lines.specs.Faults.{◌>>=◌}
@@ -12,7 +12,7 @@ use Rattle.histories.specs.declared.fault.Fault.{Fault}
 use Rattle.histories.specs.declared.fault.Fault.TheVariants.{OutOfRange}
 use Rattle.histories.specs.Reading.{line_read}
 use Rattle.judge_report.specs.declared.reading.History.{History}
-use Rattle.judge_report.specs.Heard.{Heard, Taken, fault_at, heard_of, line_taken, met_at, seen_with, taken_by}
+use Rattle.judge_report.specs.Heard.{Heard, fault_at, heard_of, line_taken, met_at, seen_with, taken_by}
 
 is_low : (b : Bool) → false ≡ not b → b ≡ true
 is_low true e = refl

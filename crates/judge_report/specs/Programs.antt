@@ -3,7 +3,7 @@
 -- *What `rfx-judge` did.* It read a history, and wrote what is said of it (`IsSaid`): that it is legal, which it then is,
 -- or up to which line it is. Before that it filled the file that `--trace` names with the certificate, where there is
 -- one (`IsFilled`). Or it told why not.
-use Rattle.std.specs.Prelude.{ℕ, ◌≡◌, ◌⊎◌, List, [], Option, Some, None}
+use Rattle.std.specs.Prelude.{ℕ, ◌≡◌, ◌⊎◌, List, [], Option}
 use Rattle.std.specs.Prelude.{Result, Ok, Err, Vec, String, map, string_bytes}
 use Rattle.std.specs.declared.io.Error.{Error}
 use Rattle.std.specs.declared.alloc.Global.{Global}

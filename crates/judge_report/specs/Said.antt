@@ -11,7 +11,6 @@ use Rattle.histories.specs.declared.entry.Entry.{Entry}
 use Rattle.histories.specs.declared.entry.HistoryLine.{HistoryLine}
 use Rattle.histories.specs.Histories.{LegalHistory}
 use Rattle.certificates.specs.Certificates.{IsCertificate, is_point_step}
-use Rattle.completing.specs.declared.stop.Refusal.{Refusal}
 use Rattle.judge.specs.declared.judging.Judgement.{Judgement}
 use Rattle.judge.specs.declared.judging.Judgement.TheVariants.{Legal, Illegal, Undecided}
 use Rattle.judge_report.specs.Heard.{Heard}

@@ -1,5 +1,3 @@
-use Rattle.std.proofs.Common.{subst}
-use Rattle.judge.specs.Judgements.{IsJudged}
 use Rattle.judge_report.specs.Heard.{heard_of}
 use Rattle.judge_report.proofs.Ends.{serves, serves_front, unread_fails}
 use Rattle.judge_report.proofs.serving.serve.Goals as goal

@@ -1,6 +1,4 @@
-use Rattle.std.proofs.Common.{[], ◌∷◌, ◌++◌, codes, subst, ap}
-use Rattle.std.specs.Prelude.{decimal}
-use Rattle.std.specs.List.{concat}
+use Rattle.std.proofs.Common.{◌++◌, subst}
 use Rattle.streams.specs.Leaves.{Leaves}
 use Rattle.streams.proofs.Writers.{ends_at_first, ends_at_second, then_leaves}
 use Rattle.texts.specs.Text.{end_line, head_line}
