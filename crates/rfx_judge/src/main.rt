@@ -33,6 +33,13 @@ fn main(rt: HostRuntime) -> ExitCode {
     };
     let files = SystemFiles(&rt);
     let maker = SystemMaker(&rt);
-    let status = run(rt.alloc(), words, &files, &maker, &mut out, &mut rt.stderr());
+    let status = run(
+        rt.alloc(),
+        words,
+        &files,
+        &maker,
+        &mut out,
+        &mut rt.stderr(),
+    );
     ExitCode::from(status)
 }
