@@ -53,7 +53,14 @@ pub fn answer_of(
 ) -> Answered {
     let mut out = Vec::new(alloc);
     let mut err = Vec::new(alloc);
-    let status = run(alloc, line, &Folder::new(history), shelf, &mut out, &mut err);
+    let status = run(
+        alloc,
+        line,
+        &Folder::new(history),
+        shelf,
+        &mut out,
+        &mut err,
+    );
     Answered::new(status, out, err)
 }
 

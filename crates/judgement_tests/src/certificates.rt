@@ -47,6 +47,7 @@ fn legal_histories(rt: HostRuntime) {
     assert!(rt; judged(rt.alloc(), HISTORY).is(0, "legal 2 points\n", ""));
     assert!(rt; judged(rt.alloc(), b"history 1 1 0\nend 0\n").is(0, "legal 0 points\n", ""));
     // a trace is its own history: its points and deaths are found anew
-    let trace = b"trace 2 1 0\n1 begin t1 lock m0\n4 point t1 m0 lock OK\n9 return t1 OK\n10 kill t1\n16 death t1 m0\n16 reaped t1\n17 begin t2 lock m0\n20 point t2 m0 lock EOWNERDEAD\n25 return t2 EOWNERDEAD\nend 25\n";
+    let trace =
+        b"trace 2 1 0\n1 begin t1 lock m0\n4 point t1 m0 lock OK\n9 return t1 OK\n10 kill t1\n16 death t1 m0\n16 reaped t1\n17 begin t2 lock m0\n20 point t2 m0 lock EOWNERDEAD\n25 return t2 EOWNERDEAD\nend 25\n";
     assert!(rt; judged(rt.alloc(), trace).is(0, "legal 2 points\n", ""));
 }

@@ -69,7 +69,9 @@ fn refused_words_and_files_are_told(rt: HostRuntime) {
     let none = Err(io::Error::from(AllocError));
     assert!(rt; answer_of(rt.alloc(), none, HISTORY, &shelf).is(1, "", OUT_OF_MEMORY));
     let line = words(rt.alloc(), &["rfx-judge", "refused"]);
-    assert!(rt; answer_of(rt.alloc(), line, HISTORY, &shelf).is(1, "", "rfx-judge: out of memory\n"));
+    assert!(rt;
+        answer_of(rt.alloc(), line, HISTORY, &shelf).is(1, "", "rfx-judge: out of memory\n")
+    );
 }
 
 /// Whether a judgement that a writer with this room can't hold is told, and its beginning written.
@@ -78,7 +80,14 @@ fn is_told_of_room(alloc: Global, room: usize) -> bool {
     let mut err = Vec::new(alloc);
     let line = words(alloc, &["rfx-judge", "f"]);
     let shelf = Shelf::new(alloc, "");
-    let status = run(alloc, line, &Folder::new(HISTORY), &shelf, &mut out, &mut err);
+    let status = run(
+        alloc,
+        line,
+        &Folder::new(HISTORY),
+        &shelf,
+        &mut out,
+        &mut err,
+    );
     let front = TEXT.as_bytes().get(..room).unwrap_or(b"");
     status == 1
         && out.held.as_slice() == front
