@@ -2,7 +2,7 @@
 --
 -- *The judgement.* A history that is found legal has a certificate, which is handed out. One that is found illegal, or
 -- isn't decided, is legal up to the line that is named.
-use Rattle.std.specs.Prelude.{ℕ, ◌≤◌, List, length, reverse, take}
+use Rattle.std.specs.Prelude.{ℕ, ◌<◌, ◌≤◌, List, length, reverse, take}
 use Rattle.histories.specs.declared.head.Head.{Head}
 use Rattle.histories.specs.declared.entry.HistoryLine.{HistoryLine}
 use Rattle.histories.specs.Histories.{LegalHistory}
@@ -14,7 +14,11 @@ use Rattle.judge.specs.declared.judging.Judgement.TheVariants.{Legal, Illegal, U
 abbrev pub IsLegal : Head → List HistoryLine → ℕ → Type 0
 IsLegal h history at = (at ≤ length history) × LegalHistory h.mutexes (reverse (entries (take at history)))
 
+-- this is the place of one of its lines, up to which it is legal
+abbrev pub IsLegalBefore : Head → List HistoryLine → ℕ → Type 0
+IsLegalBefore h history at = (at < length history) × IsLegal h history at
+
 abbrev pub IsJudged : Head → List HistoryLine → Judgement → Type 0
 IsJudged h history (Legal steps) = IsCertificate h.mutexes history steps.items
-IsJudged h history (Illegal at why) = IsLegal h history at
-IsJudged h history (Undecided at) = IsLegal h history at
+IsJudged h history (Illegal at why) = IsLegalBefore h history at
+IsJudged h history (Undecided at) = IsLegalBefore h history at

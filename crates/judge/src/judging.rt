@@ -1,6 +1,6 @@
 //! The judgement of a history.
 
-ghost use Rattle.std.specs.Prelude.{◌≡◌, true, IfOk, IfSome};
+ghost use Rattle.std.specs.Prelude.{◌≡◌, ◌<◌, true, length, IfOk, IfSome};
 ghost use Rattle.certificates.specs.Certificates.{IsCertificate};
 ghost use Rattle.histories.specs.Reading.{IsHead};
 ghost use Rattle.judge.specs.Judgements.{IsJudged, IsLegal};
@@ -15,9 +15,10 @@ use std::alloc::{AllocError, Global};
 pub enum Judgement {
     /// Some trace shows it: these are its steps, a certificate.
     Legal(Vec<Entry>),
-    /// The history is legal up to this place of a line, counted from 0; with that line no order of the calls explains it.
+    /// The history is legal up to this place of a line, counted from 0; with that line, says the search, no order of the
+    /// calls explains it.
     Illegal(usize, Refusal),
-    /// The history is legal up to this place of a line; with that line no certificate was found.
+    /// The history is legal up to this place of a line, counted from 0; with that line no certificate was found.
     Undecided(usize),
 }
 
@@ -175,11 +176,13 @@ fn refusal_at(
     head: &Head,
     lines: &[HistoryLine],
     at: usize,
-) -> Result<Option<Refusal>, Stop> {
+) -> Result<Option<Refusal>, Stop>
+    ensures { IfOk result (λ found. IfSome found (λ _. at < length lines.now)) }
+{
     let Some(line) = lines.get(at) else {
         return Ok(None);
     };
-    if at > lines.len() {
+    if at >= lines.len() {
         return Ok(None);
     }
     let mut pass = Pass::new(alloc, head, &lines[..at], true)?;
@@ -206,7 +209,8 @@ fn judged_at(
     match refusal_at(alloc, head, lines, at) {
         Ok(Some(refusal)) => Ok(Judgement::Illegal(at, refusal)),
         Err(Stop::Memory) => Err(Stop::Memory),
-        _ => Ok(Judgement::Undecided(at)),
+        _ if at < lines.len() => Ok(Judgement::Undecided(at)),
+        _ => Err(Stop::Lost),
     }
 }
 

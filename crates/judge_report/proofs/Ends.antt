@@ -1,0 +1,128 @@
+-- What is known where something was told, or wasn't.
+use Rattle.std.proofs.Common.{◌≡◌, ℕ, ◌<◌, List, [], length, get_or, Option, Some, None, IfOk, IfSome, Result, Ok, Err, IsErr, refl, sym, ap, subst, ◌∙◌}
+use Rattle.std.specs.Prelude.{count_by, Vec}
+use Rattle.std.specs.declared.alloc.Global.{Global}
+use Rattle.std.specs.Prelude.{if◌then◌else◌, ◌==◌}
+use Rattle.std.specs.declared.io.buffered.BufReader.{BufReader}
+use Rattle.std.specs.Io.Buffered.{reader_buffer, reader_capacity, reader_inner, reader_remaining}
+use Rattle.std.specs.Io.KnownBytes.{Appends, Keeps, prepend_known}
+use Rattle.std.proofs.lemmas.List.{reverse-reverse}
+use Rattle.streams.specs.Leaves.{AppendsFront, Leaves}
+use Rattle.streams.proofs.Writers.{Appends-kept, whole_is_front, leaves_front}
+use Rattle.histories.specs.declared.head.Head.{Head}
+use Rattle.histories.specs.declared.entry.Entry.{Entry}
+use Rattle.histories.specs.declared.entry.HistoryLine.{HistoryLine}
+use Rattle.certificates.specs.Certificates.{is_point_step}
+use Rattle.completing.specs.declared.stop.Refusal.{Refusal}
+use Rattle.judge.specs.declared.judging.Judgement.{Judgement}
+use Rattle.judge.specs.declared.judging.Judgement.TheVariants.{Legal, Illegal, Undecided}
+use Rattle.judge.specs.Judgements.{IsJudged, IsLegalBefore}
+use Rattle.judge_report.specs.declared.messages.Failure.{Failure}
+use Rattle.judge_report.specs.declared.messages.Failure.TheVariants.{Usage, CannotRead, CannotWrite, CannotKeep, OutOfMemory, Ill}
+use Rattle.judge_report.specs.declared.reading.History.{History}
+use Rattle.judge_report.specs.declared.reading.ReadFault.{ReadFault}
+use Rattle.judge_report.specs.declared.reading.ReadFault.TheVariants as read
+use Rattle.judge_report.specs.Heard.{Heard, Gives, heard_of, history_read}
+use Rattle.judge_report.specs.Said.{IsFilled, IsSaid, IsWritten, Tells, status_of}
+use Rattle.judge_report.specs.Served.{Fails, IsRead, Serves, ServesFront, Unread, failed_by}
+use Rattle.judge_report.specs.Texts.{certificate_text, illegal_text, legal_text, undecided_text}
+use Rattle.judge_report.proofs.Saying.{is_legal, is_legal_before}
+
+-- whatever came of a text and of what was done then, a beginning of it stands, if that kept it
+pub leaves_is_front : {X E : Type 0} (a b c : Option (List ℕ)) (r : Result X E) (text : List ℕ) → Leaves a b r text → Keeps b c → AppendsFront a c text
+leaves_is_front a b c (Ok x) text h k = whole_is_front a c text (Appends-kept a b c text h k)
+leaves_is_front a b c (Err e) text h k = (h.0, Appends-kept a b c _ h.1 k)
+
+-- ---- what is said
+
+pub tells_legal : {E : Type 0} (h : History) (j : Judgement) (steps : Vec Entry Global) (points : ℕ) (old new : Option (List ℕ)) (r : Result (Unit {0}) E) → j ≡ Legal steps → IsJudged h.head h.lines.items j
+    → points ≡ count_by is_point_step steps.items → Leaves old new r (legal_text points) → Tells (heard_of h) j old new r
+tells_legal h j steps points old new r is judged count leaves =
+    subst (λ (k : Judgement). Tells (heard_of h) k old new r) (sym is)
+    (legal_text points, (is_legal h steps.items (subst (IsJudged h.head h.lines.items) is judged), ap legal_text count), leaves)
+
+pub tells_illegal : {E : Type 0} (h : History) (j : Judgement) (at : ℕ) (why : Refusal) (l : HistoryLine) (old new : Option (List ℕ)) (r : Result (Unit {0}) E) → j ≡ Illegal at why → IsJudged h.head h.lines.items j
+    → l ≡ get_or h.lines.items at l → Leaves old new r (illegal_text h.lines.items l why) → Tells (heard_of h) j old new r
+tells_illegal h j at why l old new r is judged line leaves =
+    subst (λ (k : Judgement). Tells (heard_of h) k old new r) (sym is)
+    (illegal_text h.lines.items l why, (l, is_legal_before h at l (subst (IsJudged h.head h.lines.items) is judged) line, ap (λ (ls : List HistoryLine). illegal_text ls l why) (sym (reverse-reverse h.lines.items))), leaves)
+
+pub tells_undecided : {E : Type 0} (h : History) (j : Judgement) (at : ℕ) (l : HistoryLine) (old new : Option (List ℕ)) (r : Result (Unit {0}) E) → j ≡ Undecided at → IsJudged h.head h.lines.items j
+    → l ≡ get_or h.lines.items at l → Leaves old new r (undecided_text l) → Tells (heard_of h) j old new r
+tells_undecided h j at l old new r is judged line leaves =
+    subst (λ (k : Judgement). Tells (heard_of h) k old new r) (sym is)
+    (undecided_text l, (l, is_legal_before h at l (subst (IsJudged h.head h.lines.items) is judged) line, refl), leaves)
+
+pub illegal_within : (h : History) (j : Judgement) (at : ℕ) (why : Refusal) → j ≡ Illegal at why → IsJudged h.head h.lines.items j → at < length h.lines.items
+illegal_within h j at why is judged = let before : IsLegalBefore h.head h.lines.items at = subst (IsJudged h.head h.lines.items) is judged in before.0
+
+pub undecided_within : (h : History) (j : Judgement) (at : ℕ) → j ≡ Undecided at → IsJudged h.head h.lines.items j → at < length h.lines.items
+undecided_within h j at is judged = let before : IsLegalBefore h.head h.lines.items at = subst (IsJudged h.head h.lines.items) is judged in before.0
+
+-- what was told stays, if what came then kept it
+pub kept_whole : (k : Heard) (j : Judgement) (a b c : Option (List ℕ)) → (text : List ℕ) × IsSaid k j text × Appends a b text → Keeps b c → (text : List ℕ) × IsSaid k j text × Appends a c text
+kept_whole k j a b c t keeps = (t.0, t.1, Appends-kept a b c t.0 t.2 keeps)
+
+pub kept_front : (k : Heard) (j : Judgement) (a b c : Option (List ℕ)) → (text : List ℕ) × IsSaid k j text × Appends a b text → Keeps b c → (text : List ℕ) × IsSaid k j text × AppendsFront a c text
+kept_front k j a b c t keeps = (t.0, t.1, whole_is_front a c t.0 (Appends-kept a b c t.0 t.2 keeps))
+
+pub tells_err : {E : Type 0} (k : Heard) (j : Judgement) (a b : Option (List ℕ)) (r : Result (Unit {0}) E) → IsErr r → (text : List ℕ) × IsSaid k j text × AppendsFront a b text → Tells k j a b r
+tells_err k j a b r err t = (t.0, t.1, leaves_front a b r t.0 err t.2)
+
+-- ---- what was read
+
+prepend-nil : (o : Option (List ℕ)) → prepend_known [] o ≡ o
+prepend-nil None = refl
+prepend-nil (Some xs) = refl
+
+-- a buffer before a reader loses nothing
+buffered : {T : Type 0} (remaining : T → Option (List ℕ)) (r : BufReader T Global) (input : T) → reader_inner r ≡ input → reader_buffer r ≡ [] → reader_capacity r ≡ 8192 → reader_remaining remaining r ≡ remaining input
+buffered remaining r input inner empty capacity =
+    let front : reader_remaining remaining r ≡ prepend_known [] (remaining input) = λ j. if capacity j == 0 then None else prepend_known (empty j) (remaining (inner j)) in
+    front ∙ prepend-nil (remaining input)
+
+pub is_read : {T : Type 0} (remaining : T → Option (List ℕ)) (r : BufReader T Global) (input : T) (h : History) → reader_inner r ≡ input → reader_buffer r ≡ [] → reader_capacity r ≡ 8192
+    → IfSome (reader_remaining remaining r) (λ bytes. Gives (history_read bytes) (Ok h)) → IsRead (remaining input) (heard_of h)
+is_read remaining r input h inner empty capacity gives =
+    subst (λ (o : Option (List ℕ)). IfSome o (λ bytes. Gives (history_read bytes) (Ok h))) (buffered remaining r input inner empty capacity) gives
+
+unread_by : (had : Option (List ℕ)) (e : ReadFault) → IfSome had (λ bytes. Gives (history_read bytes) (Err e)) → Unread had (failed_by e)
+unread_by had read.Failed gives = tt
+unread_by had read.Memory gives = tt
+unread_by had (read.Ill f) gives = gives
+
+pub is_unread : {T : Type 0} (remaining : T → Option (List ℕ)) (r : BufReader T Global) (input : T) (e : ReadFault) (f : Failure) → reader_inner r ≡ input → reader_buffer r ≡ [] → reader_capacity r ≡ 8192
+    → IfSome (reader_remaining remaining r) (λ bytes. Gives (history_read bytes) (Err e)) → f ≡ failed_by e → Unread (remaining input) f
+is_unread remaining r input e f inner empty capacity gives is =
+    subst (Unread (remaining input)) (sym is) (unread_by (remaining input) e (subst (λ (o : Option (List ℕ)). IfSome o (λ bytes. Gives (history_read bytes) (Err e))) (buffered remaining r input inner empty capacity) gives))
+
+pub unread_fails : (had old : Option (List ℕ)) (f : Failure) → Unread had f → Fails had old old f
+unread_fails had old Usage h = h
+unread_fails had old CannotRead h = refl
+unread_fails had old CannotWrite h = absurd h
+unread_fails had old CannotKeep h = absurd h
+unread_fails had old OutOfMemory h = refl
+unread_fails had old (Ill f) h = (refl, h)
+
+-- ---- the whole
+
+pub serves : (Makes Fills : List ℕ → Option (List ℕ) → Type 0) (out had old new : Option (List ℕ)) (k : Heard) (j : Judgement) (status : ℕ) → IsRead had k → IsFilled Makes Fills out k j
+    → (text : List ℕ) × IsSaid k j text × Appends old new text → status ≡ status_of j → Serves Makes Fills out had old new status
+serves Makes Fills out had old new k j status read filled t exit = record { heard = k; read = read; judgement = j; text = t.0; said = t.1; written = t.2; exit = exit; filled = filled }
+
+pub serves_front : (had old new : Option (List ℕ)) (k : Heard) (j : Judgement) → IsRead had k → (text : List ℕ) × IsSaid k j text × AppendsFront old new text → ServesFront had old new
+serves_front had old new k j read t = record { heard = k; read = read; judgement = j; text = t.0; said = t.1; written = t.2 }
+
+-- ---- certificates
+
+pub written_so : {E : Type 0} (Makes Fills : List ℕ → Option (List ℕ) → Type 0) (name : List ℕ) (h : Head) (steps : List Entry) (a b : Option (List ℕ)) (r : Result (Unit {0}) E) → Makes name a → Appends a b (certificate_text h steps)
+    → IfOk r (λ _. Fills name b) → IfOk r (λ _. IsWritten Makes Fills name h steps)
+written_so Makes Fills name h steps a b (Ok u) makes text fills = record { made = a; filled = b; makes = makes; fills = fills; text = text }
+written_so Makes Fills name h steps a b (Err e) makes text fills = tt
+
+-- a certificate that was asked for
+pub filled_so : {E : Type 0} (Makes Fills : List ℕ → Option (List ℕ) → Type 0) (out : Option (List ℕ)) (name : List ℕ) (k : Heard) (j : Judgement) (steps : Vec Entry Global) (r : Result (Unit {0}) E) → out ≡ Some name → j ≡ Legal steps
+    → IfOk r (λ _. IsWritten Makes Fills name k.head steps.items) → IfOk r (λ _. IsFilled Makes Fills out k j)
+filled_so Makes Fills out name k j steps r is legal holds =
+    subst (λ (o : Option (List ℕ)). IfOk r (λ _. IsFilled Makes Fills o k j)) (sym is)
+    (subst (λ (q : Judgement). IfOk r (λ _. IsFilled Makes Fills (Some name) k q)) (sym legal) holds)

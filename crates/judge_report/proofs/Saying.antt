@@ -1,0 +1,45 @@
+-- What a judgement says of the history that was read.
+use Rattle.std.proofs.Common.{◌≡◌, ℕ, ◌+◌, ◌<◌, List, [], ◌∷◌, ◌++◌, length, reverse, take, drop, get_or, refl, sym, ap, subst, ◌∙◌, append_assoc}
+use Rattle.std.proofs.lemmas.List.{reverse-append, reverse-reverse, take-append-drop, take_more}
+use Rattle.histories.specs.declared.entry.Entry.{Entry}
+use Rattle.histories.specs.declared.entry.HistoryLine.{HistoryLine}
+use Rattle.histories.specs.Histories.{LegalHistory}
+use Rattle.certificates.specs.Certificates.{IsCertificate, entries}
+use Rattle.judge.specs.Judgements.{IsLegalBefore as IsJudgedBefore}
+use Rattle.judge.proofs.Legal.{legal}
+use Rattle.judge_report.specs.declared.reading.History.{History}
+use Rattle.judge_report.specs.Heard.{heard_of}
+use Rattle.judge_report.specs.Said.{IsLegal, IsLegalBefore, told}
+
+told-append : (xs ys : List HistoryLine) → told (xs ++ ys) ≡ told xs ++ told ys
+told-append [] ys = refl
+told-append (x ∷ xs) ys = ap (λ (es : List Entry). x.entry ∷ es) (told-append xs ys)
+
+told-reverse : (ls : List HistoryLine) → reverse (entries ls) ≡ told (reverse ls)
+told-reverse [] = refl
+told-reverse (l ∷ ls) =
+    reverse-append (l.entry ∷ []) (entries ls) ∙ ap (λ (es : List Entry). es ++ l.entry ∷ []) (told-reverse ls)
+    ∙ sym (told-append (reverse ls) (l ∷ [])) ∙ ap told (sym (reverse-append (l ∷ []) ls))
+
+pub is_legal : (h : History) (steps : List Entry) → IsCertificate h.head.mutexes h.lines.items steps → IsLegal (heard_of h) steps
+is_legal h steps c = record {
+  legal = subst (LegalHistory h.head.mutexes) (told-reverse h.lines.items) (legal h.head.mutexes h.lines.items steps c);
+  certificate = subst (λ (ls : List HistoryLine). IsCertificate h.head.mutexes ls steps) (sym (reverse-reverse h.lines.items)) c;
+}
+
+split_at : (ls : List HistoryLine) (at : ℕ) (l : HistoryLine) → at < length ls → l ≡ get_or ls at l → ls ≡ take at ls ++ (l ∷ drop (at + 1) ls)
+split_at ls at l lt is =
+    sym (take-append-drop (at + 1) ls) ∙ ap (λ (xs : List HistoryLine). xs ++ drop (at + 1) ls) (take_more ls at l lt ∙ ap (λ (x : HistoryLine). take at ls ++ x ∷ []) (sym is))
+    ∙ append_assoc (take at ls) (l ∷ []) (drop (at + 1) ls)
+
+pub is_legal_before : (h : History) (at : ℕ) (l : HistoryLine) → IsJudgedBefore h.head h.lines.items at → l ≡ get_or h.lines.items at l → IsLegalBefore (heard_of h) l
+is_legal_before h at l judged is =
+    let ls = h.lines.items in
+    record {
+      later = reverse (drop (at + 1) ls);
+      earlier = reverse (take at ls);
+      all = ap reverse (split_at ls at l judged.0 is) ∙ reverse-append (take at ls) (l ∷ drop (at + 1) ls)
+          ∙ ap (λ (xs : List HistoryLine). xs ++ reverse (take at ls)) (reverse-append (l ∷ []) (drop (at + 1) ls))
+          ∙ append_assoc (reverse (drop (at + 1) ls)) (l ∷ []) (reverse (take at ls));
+      legal = subst (LegalHistory h.head.mutexes) (told-reverse (take at ls)) judged.1.1;
+    }

@@ -1,0 +1,34 @@
+-- What the program says on standard error.
+use Rattle.std.specs.Prelude.{ℕ, List, [], ◌∷◌, codes, decimal}
+use Rattle.std.specs.List.{concat}
+use Rattle.histories.specs.declared.fault.HistoryFault.{HistoryFault}
+use Rattle.histories.specs.Faults.{number_of, words_of}
+use Rattle.judge_report.specs.declared.messages.Failure.{Failure}
+use Rattle.judge_report.specs.declared.messages.Failure.TheVariants.{Usage, CannotRead, CannotWrite, CannotKeep}
+use Rattle.judge_report.specs.declared.messages.Failure.TheVariants.{OutOfMemory, Ill}
+
+-- a fault of a history's text, and its line
+abbrev pub fault_text : List ℕ → ℕ → ℕ → List ℕ → List ℕ
+fault_text start line number words = concat
+    (start ∷ decimal line ∷ codes ": fault " ∷ decimal number ∷ codes ": " ∷ words ∷ codes "\n" ∷ [])
+
+abbrev pub history_fault_text : HistoryFault → List ℕ
+history_fault_text at = fault_text (codes "rfx-judge: line ") at.line (number_of at.fault) (words_of at.fault)
+
+-- why the history in a file of this name wasn't judged, or that wasn't told
+abbrev pub failure_text : List ℕ → Failure → List ℕ
+failure_text file Usage = concat (codes "usage: rfx-judge [--trace OUT] FILE\n" ∷ [])
+failure_text file CannotRead = concat (codes "rfx-judge: cannot read " ∷ file ∷ codes "\n" ∷ [])
+failure_text file CannotWrite = concat (codes "rfx-judge: cannot write\n" ∷ [])
+failure_text file CannotKeep = concat (codes "rfx-judge: cannot write the certificate\n" ∷ [])
+failure_text file OutOfMemory = concat (codes "rfx-judge: out of memory\n" ∷ [])
+failure_text file (Ill at) = history_fault_text at
+
+-- the exit status after it
+abbrev pub failure_status : Failure → ℕ
+failure_status Usage = 2
+failure_status CannotRead = 1
+failure_status CannotWrite = 1
+failure_status CannotKeep = 1
+failure_status OutOfMemory = 1
+failure_status (Ill f) = 1

@@ -1,0 +1,59 @@
+-- What the program does with the words of its command line.
+--
+-- *What `rfx-judge` did.* It read a history, and wrote what is said of it (`IsSaid`): that it is legal, which it then is,
+-- or up to which line it is. Before that it filled the file that `--trace` names with the certificate, where there is
+-- one (`IsFilled`). Or it told why not.
+use Rattle.std.specs.Prelude.{ℕ, ◌≡◌, ◌⊎◌, List, [], Option}
+use Rattle.std.specs.Prelude.{Result, Ok, Err, Vec, String, map, string_bytes}
+use Rattle.std.specs.declared.io.Error.{Error}
+use Rattle.std.specs.declared.alloc.Global.{Global}
+use Rattle.std.specs.declared.io.ErrorKind.{ErrorKind}
+use Rattle.std.specs.declared.io.ErrorKind.TheVariants as kind
+use Rattle.streams.specs.Leaves.{AppendsFront}
+use Rattle.judge_report.specs.declared.messages.Failure.{Failure}
+use Rattle.judge_report.specs.declared.messages.Failure.TheVariants.{Usage, CannotRead, OutOfMemory}
+use Rattle.judge_report.specs.Asked.{Asked, Judging, Nothing, asked_of}
+use Rattle.judge_report.specs.Messages.{failure_text, failure_status}
+use Rattle.judge_report.specs.Served.{Fails, Serves}
+
+-- what the words ask for: the usage, where they can't be had as text
+abbrev pub asked_in : Result (Vec (String Global) Global) Error → Asked
+asked_in (Ok words) = asked_of (map string_bytes words.items)
+asked_in (Err e) = Nothing
+
+-- the failure that an error of opening a file is told as: memory where memory was refused
+abbrev pub unopened_by : ErrorKind → Failure
+unopened_by kind.OutOfMemory = OutOfMemory
+unopened_by _ = CannotRead
+
+-- a failure is told, or a beginning of its message, where that can't be written
+abbrev pub IsTold : List ℕ → Failure → Option (List ℕ) → Option (List ℕ) → ℕ → Type 0
+IsTold file f told told' status = AppendsFront told told' (failure_text file f) × (status ≡ failure_status f)
+
+-- how a judgement of the history in a file ended: it was made of what opening the file gave, the writer has let go of
+-- what is said, and nothing else was told; or it wasn't, or not all was said, and that is told; or the file couldn't be
+-- opened
+abbrev pub FileEnds : (List ℕ → Result (Option (List ℕ)) ErrorKind → Type 0) → (List ℕ → Option (List ℕ) → Type 0)
+    → (List ℕ → Option (List ℕ) → Type 0) → Option (List ℕ) → List ℕ → Option (List ℕ) → Option (List ℕ) → Type 0
+    → Type 0 → Option (List ℕ) → Option (List ℕ) → ℕ → Type 0
+FileEnds Opens Makes Fills out file old new LetGo Quiet told told' status =
+    ((had : Option (List ℕ)) × Opens file (Ok had)
+    × ((Serves Makes Fills out had old new status × LetGo × Quiet)
+    ⊎ ((f : Failure) × Fails had old new f × IsTold file f told told' status)))
+    ⊎ ((e : ErrorKind) × Opens file (Err e) × (new ≡ old) × IsTold file (unopened_by e) told told' status)
+
+-- how a command line ended that asks for this
+abbrev pub AskedEnds : (List ℕ → Result (Option (List ℕ)) ErrorKind → Type 0) → (List ℕ → Option (List ℕ) → Type 0)
+    → (List ℕ → Option (List ℕ) → Type 0) → Asked → Option (List ℕ) → Option (List ℕ) → Type 0 → Type 0
+    → Option (List ℕ) → Option (List ℕ) → ℕ → Type 0
+AskedEnds Opens Makes Fills Nothing old new LetGo Quiet told told' status = (new ≡ old) × IsTold [] Usage told told' status
+AskedEnds Opens Makes Fills (Judging out file) old new LetGo Quiet told told' status =
+    FileEnds Opens Makes Fills out file old new LetGo Quiet told told' status
+
+-- how the program ended: as its command line asks; or memory for its words was wanted, and that is told
+abbrev pub RunEnds : (List ℕ → Result (Option (List ℕ)) ErrorKind → Type 0) → (List ℕ → Option (List ℕ) → Type 0)
+    → (List ℕ → Option (List ℕ) → Type 0) → Asked → Option (List ℕ) → Option (List ℕ) → Type 0 → Type 0
+    → Option (List ℕ) → Option (List ℕ) → ℕ → Type 0
+RunEnds Opens Makes Fills a old new LetGo Quiet told told' status =
+    AskedEnds Opens Makes Fills a old new LetGo Quiet told told' status
+    ⊎ ((new ≡ old) × IsTold [] OutOfMemory told told' status)

@@ -1,0 +1,67 @@
+-- What the program says of a history, and what that means.
+--
+-- *What is said of a history.* `legal N points`: it is a legal history, with a certificate that has N points. `illegal at
+-- line L` or `undecided at line L`: L is one of its lines, and those before it are a legal history.
+use Rattle.std.specs.Prelude.{ℕ, ◌≡◌, List, ◌∷◌, ◌++◌, map, reverse, count_by}
+use Rattle.std.specs.Prelude.{Option, Some, None, Result}
+use Rattle.std.specs.Io.KnownBytes.{Appends}
+use Rattle.streams.specs.Leaves.{Leaves}
+use Rattle.histories.specs.declared.head.Head.{Head}
+use Rattle.histories.specs.declared.entry.Entry.{Entry}
+use Rattle.histories.specs.declared.entry.HistoryLine.{HistoryLine}
+use Rattle.histories.specs.Histories.{LegalHistory}
+use Rattle.certificates.specs.Certificates.{IsCertificate, is_point_step}
+use Rattle.judge.specs.declared.judging.Judgement.{Judgement}
+use Rattle.judge.specs.declared.judging.Judgement.TheVariants.{Legal, Illegal, Undecided}
+use Rattle.judge_report.specs.Heard.{Heard}
+use Rattle.judge_report.specs.Texts.{certificate_text, illegal_text, legal_text, undecided_text}
+
+-- what lines tell
+abbrev pub told : List HistoryLine → List Entry
+told ls = map (λ l. l.entry) ls
+
+-- a history that was read is legal, with this certificate
+pub record IsLegal (k : Heard) (steps : List Entry) : Type 0 where
+  pub legal : LegalHistory k.head.mutexes (told k.seen)
+  pub certificate : IsCertificate k.head.mutexes (reverse k.seen) steps
+
+-- this is one of its lines, and those before it are a legal history
+pub record IsLegalBefore (k : Heard) (line : HistoryLine) : Type 0 where
+  pub later : List HistoryLine
+  pub earlier : List HistoryLine
+  pub all : k.seen ≡ later ++ line ∷ earlier
+  pub legal : LegalHistory k.head.mutexes (told earlier)
+
+-- this is said of it
+abbrev pub IsSaid : Heard → Judgement → List ℕ → Type 0
+IsSaid k (Legal steps) text = IsLegal k steps.items × (text ≡ legal_text (count_by is_point_step steps.items))
+IsSaid k (Illegal at why) text =
+    (line : HistoryLine) × IsLegalBefore k line × (text ≡ illegal_text (reverse k.seen) line why)
+IsSaid k (Undecided at) text = (line : HistoryLine) × IsLegalBefore k line × (text ≡ undecided_text line)
+
+-- the exit status then
+abbrev pub status_of : Judgement → ℕ
+status_of (Legal steps) = 0
+status_of (Illegal at why) = 1
+status_of (Undecided at) = 1
+
+-- a file of this name was made, and filled with the certificate; Makes tells what it held then, Fills what at the end
+pub record IsWritten (Makes Fills : List ℕ → Option (List ℕ) → Type 0) (name : List ℕ) (h : Head) (steps : List Entry)
+    : Type 0 where
+  pub made : Option (List ℕ)
+  pub filled : Option (List ℕ)
+  pub makes : Makes name made
+  pub fills : Fills name filled
+  pub text : Appends made filled (certificate_text h steps)
+
+-- so it was where a certificate was asked for, and there is one
+abbrev pub IsFilled : (List ℕ → Option (List ℕ) → Type 0) → (List ℕ → Option (List ℕ) → Type 0) → Option (List ℕ)
+    → Heard → Judgement → Type 0
+IsFilled Makes Fills None k j = Unit {0}
+IsFilled Makes Fills (Some name) k (Legal steps) = IsWritten Makes Fills name k.head steps.items
+IsFilled Makes Fills (Some name) k (Illegal at why) = Unit {0}
+IsFilled Makes Fills (Some name) k (Undecided at) = Unit {0}
+
+-- what is said of a history was written, or a beginning of it
+abbrev pub Tells : {E : Type 0} → Heard → Judgement → Option (List ℕ) → Option (List ℕ) → Result (Unit {0}) E → Type 0
+Tells k j old new r = (text : List ℕ) × IsSaid k j text × Leaves old new r text

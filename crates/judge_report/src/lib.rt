@@ -1,0 +1,35 @@
+//! The library of `rfx-judge`: reading a history, judging it, and telling what it was found to be.
+//!
+//! [`run`] is given the words of the command line, what opens files and what makes them, and the two writers. Where it
+//! writes `legal N points`, its file is a legal history (`LegalHistory`), of just the lines that its text has, and a
+//! certificate with N points was checked, which `--trace` writes. Where it writes `illegal at line L` or `undecided at
+//! line L`, the lines before L are a legal history. That no order of the calls explains line L is what the search says
+//! (`completing`), and isn't proved. A file that is no history is told by its first fault (`history_read`).
+//!
+//! The file is read once, line by line. What its lines tell is kept, 40 bytes a line; so is what the search keeps of
+//! lines that aren't decided, and the certificate.
+//!
+//! Stands on `judge`, `certificates` and `completing`, for the judgement, on `histories`, for lines and faults, on
+//! `texts`, for a trace's lines, on `streams`, for reading and writing, and on `facts`, `lines`, `posixmutex` and
+//! `lockword`, for what lines tell.
+//!
+//! ```text
+//! // The words of `rfx-judge storm.history`, the program's name first; `files` opens what they name, `maker` makes it.
+//! let status = run(rt.alloc(), words, &files, &maker, &mut out, &mut rt.stderr());
+//! // 0: legal; 1: not, or a fault, which is told; 2: another command line, which is told its usage
+//! ExitCode::from(status)
+//! ```
+#![tactic(auto)]
+
+mod asking;
+mod making;
+mod messages;
+mod program;
+mod reading;
+mod serving;
+mod telling;
+mod writing;
+
+pub use making::Maker;
+pub use messages::OUT_OF_MEMORY;
+pub use program::run;

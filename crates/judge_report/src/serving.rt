@@ -1,0 +1,149 @@
+//! The program, but for opening its file.
+
+ghost use Rattle.std.specs.Prelude.{◌≡◌, ◌<◌, get_or, length, option_map, IfOk, IfErr, OnOk};
+ghost use Rattle.histories.specs.Reading.{IsHead};
+ghost use Rattle.judge.specs.Judgements.{IsJudged};
+ghost use Rattle.judge_report.specs.Heard.{heard_of};
+ghost use Rattle.judge_report.specs.Said.{IsFilled, IsWritten, Tells, status_of};
+ghost use Rattle.judge_report.specs.Served.{Fails, IsRead, Serves, Unread, failed_by};
+
+use crate::making::Maker;
+use crate::messages::Failure;
+use crate::reading::{History, ReadFault, read_history};
+use crate::telling::{tell_illegal, tell_legal, tell_undecided};
+use crate::writing::write_certificate;
+use certificates::points_of;
+use histories::{Entry, Head, HistoryLine};
+use judge::{Judgement, judge};
+use std::alloc::Global;
+use std::io::{self, BufReader, Read, Write};
+use streams::Output;
+
+/// What a fault of reading is told as.
+fn failed_by(fault: ReadFault) -> Failure
+    ensures { result ≡ failed_by fault }
+{
+    match fault {
+        ReadFault::Failed => Failure::CannotRead,
+        ReadFault::Memory => Failure::OutOfMemory,
+        ReadFault::Ill(at) => Failure::Ill(at),
+    }
+}
+
+/// Reads a history.
+fn read_file<R: Read + Drop>(alloc: Global, input: R) -> Result<History, Failure>
+    ensures gives { IfOk result (λ h. IsRead (R.remaining input) (heard_of h)) }
+    ensures head { IfOk result (λ h. IsHead h.head) }
+    ensures fails { IfErr result (Unread (R.remaining input)) }
+{
+    let Ok(mut input) = BufReader::new(alloc, input) else {
+        return Err(Failure::OutOfMemory);
+    };
+    match read_history(alloc, &mut input) {
+        Ok(history) => Ok(history),
+        Err(fault) => Err(failed_by(fault)),
+    }
+}
+
+/// Fills the file of this name with a certificate.
+fn fill<M: Maker>(maker: &M, name: &str, head: &Head, steps: &[Entry]) -> io::Result<()>
+    ensures { IfOk result (λ _. IsWritten (M.makes maker.now) (M.fills maker.now) name.now head.now steps.now) }
+{
+    let mut file = maker.make(name)?;
+    write_certificate(&mut file, head, steps)?;
+    maker.fill(name, file)
+}
+
+/// Writes the certificate, where there is one, to the file of this name, if one is named.
+fn certify<M: Maker>(
+    history: &History,
+    judgement: &Judgement,
+    name: Option<&str>,
+    maker: &M,
+) -> io::Result<()>
+    ensures { IfOk result (λ _. IsFilled (M.makes maker.now) (M.fills maker.now) (option_map (λ w. w.now) name.entry)
+        (heard_of history.now) judgement.now) }
+{
+    let Some(name) = name else {
+        return Ok(());
+    };
+    match judgement {
+        Judgement::Legal(steps) => fill(maker, name, &history.head, steps),
+        Judgement::Illegal(..) | Judgement::Undecided(_) => Ok(()),
+    }
+}
+
+/// The line at this place, counted from 0.
+fn line_of(history: &History, at: usize) -> HistoryLine
+    requires { at < length history.now.lines.items }
+    ensures { result ≡ get_or history.now.lines.items at result }
+{
+    history.lines[at]
+}
+
+/// Tells what the history was found to be.
+fn tell<W: Write>(out: &mut W, history: &History, judgement: &Judgement) -> io::Result<()>
+    requires { IsJudged history.now.head history.now.lines.items judgement.now }
+    ensures { Tells (heard_of history.now) judgement.now (W.contents out.old) (W.contents out.new) result }
+{
+    match judgement {
+        Judgement::Legal(steps) => tell_legal(out, points_of(steps)),
+        Judgement::Illegal(at, why) => {
+            tell_illegal(out, &history.lines, &line_of(history, *at), why)
+        }
+        Judgement::Undecided(at) => tell_undecided(out, &line_of(history, *at)),
+    }
+}
+
+/// The exit status where this is told.
+fn status_of(judgement: &Judgement) -> u8
+    ensures { result ≡ status_of judgement.now }
+{
+    match judgement {
+        Judgement::Legal(_) => 0,
+        Judgement::Illegal(..) | Judgement::Undecided(_) => 1,
+    }
+}
+
+/// Tells what the history was found to be, and lets go of what the writer kept back.
+fn tell_out<W: Output>(out: &mut W, history: &History, judgement: &Judgement) -> io::Result<()>
+    requires { IsJudged history.now.head history.now.lines.items judgement.now }
+    ensures tells { Tells (heard_of history.now) judgement.now (W.contents out.old) (W.contents out.new) result }
+    ensures let_go { OnOk result (W.is_let_go out.new) }
+{
+    tell(out, history, judgement)?;
+    match out.let_go() {
+        Ok(()) => Ok(()),
+        Err(kept) => Err(kept),
+    }
+}
+
+/// Judges the history that the reader has, writes its certificate to the file of this name, if one is named, tells what
+/// the history was found to be, and answers the exit status.
+pub fn serve<R: Read + Drop, M: Maker, W: Output>(
+    alloc: Global,
+    name: Option<&str>,
+    input: R,
+    maker: &M,
+    out: &mut W,
+) -> Result<u8, Failure>
+    ensures serves { IfOk result (λ status. Serves (M.makes maker.now) (M.fills maker.now)
+        (option_map (λ w. w.now) name.entry) (R.remaining input) (W.contents out.old) (W.contents out.new) status) }
+    ensures let_go { OnOk result (W.is_let_go out.new) }
+    ensures fails { IfErr result (Fails (R.remaining input) (W.contents out.old) (W.contents out.new)) }
+{
+    let history = match read_file(alloc, input) {
+        Ok(history) => history,
+        Err(failure) => return Err(failure),
+    };
+    let Ok(judgement) = judge(alloc, &history.head, &history.lines) else {
+        return Err(Failure::OutOfMemory);
+    };
+    let Ok(()) = certify(&history, &judgement, name, maker) else {
+        return Err(Failure::CannotKeep);
+    };
+    match tell_out(out, &history, &judgement) {
+        Ok(()) => Ok(status_of(&judgement)),
+        Err(_unwritten) => Err(Failure::CannotWrite),
+    }
+}

@@ -1,0 +1,14 @@
+//! Tests of `rfx-judge`, by public calls alone: command lines, faults, what is said of a history, certificates. They
+//! stand above the crates that they test, since a crate with tests of its own is proved a second time for them.
+#![tactic(auto)]
+
+#[cfg(test)]
+mod answers;
+#[cfg(test)]
+mod certificates;
+#[cfg(test)]
+mod commands;
+#[cfg(test)]
+mod faults;
+#[cfg(test)]
+mod turns;
