@@ -5,7 +5,7 @@
 #[cfg(test)]
 mod answers;
 #[cfg(test)]
-mod certificates;
+mod certificate;
 #[cfg(test)]
 mod commands;
 #[cfg(test)]
