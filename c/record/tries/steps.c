@@ -1,5 +1,5 @@
 /* A thread is killed before each instruction of its calls: of the recorder, and of the library beneath. What is
- * recorded of it is what happened. usage: steps FILE lock|trylock|unlock|consistent|wait|signal */
+ * recorded of it is what happened. usage: steps FILE CALL [STRIDE]; so many instructions lie between two deaths. */
 #include "shared.h"
 
 static pthread_mutex_t *m;
@@ -79,7 +79,7 @@ static void use(void)
 
 int main(int argc, char **argv)
 {
-    CHECK(argc == 3);
+    CHECK(argc > 2);
     char *at = mapped(argv[1], 4096, NULL);
     m = (void *)at;
     c = (void *)(at + 256);
@@ -89,11 +89,11 @@ int main(int argc, char **argv)
     CHECK(k < most);
     make(m, PTHREAD_MUTEX_NORMAL);
     make_cond(c);
-    int n = 0;
-    while (dies_within(calls[k].first, calls[k].again, ++n))
+    int n = 1, stride = argc > 3 ? atoi(argv[3]) : 1;
+    for (; dies_within(calls[k].first, calls[k].again, n); n += stride)
         use();
     use();
     CHECK(n > 100); /* so many instructions at least */
-    printf("%s: a death before each of %d instructions\n", argv[2], n - 1);
+    printf("%s: deaths within %d instructions, each %d\n", argv[2], n, stride);
     return 0;
 }
