@@ -99,6 +99,6 @@ fn a_page_that_cannot_be_written_is_told(rt: HostRuntime) {
     let mut err = Vec::new(rt.alloc());
     let line = words(rt.alloc(), &["rfx-draw", "--html", "f"]);
     let status = run(rt.alloc(), line, &Folder::new(TRACE), &mut out, &mut err);
-    assert!(rt; status == 1 && out.held.as_slice() == b"<!DOCTYPE");
-    assert!(rt; err.as_slice() == b"rfx-draw: cannot write\n");
+    assert!(rt; status == 1 && out.held.as_slice() == "<!DOCTYPE".as_bytes());
+    assert!(rt; err.as_slice() == "rfx-draw: cannot write\n".as_bytes());
 }
