@@ -33,12 +33,15 @@ static int all_tick_alike(void)
 /* Where Linux has seen two that differ it keeps time by something else. */
 static int linux_trusts_them(void)
 {
-    char name[32] = "";
+    char names[128] = "", *rest = NULL;
     FILE *f = fopen("/sys/devices/system/clocksource/clocksource0/available_clocksource", "re");
-    int has_line = f && fgets(name, sizeof name, f);
+    int has_line = f && fgets(names, sizeof names, f);
     if (f)
         fclose(f);
-    return has_line && strstr(name, "tsc");
+    for (char *name = has_line ? strtok_r(names, " \n", &rest) : NULL; name; name = strtok_r(NULL, " \n", &rest))
+        if (!strcmp(name, "tsc"))
+            return 1;
+    return 0;
 }
 
 /* A thread that goes round all processors sees no step back. */

@@ -20,14 +20,16 @@ static void note_taken(struct view_name *m, uint32_t life, const struct seen *c)
     m->reply = c->reply;
 }
 
-/* A call that was left by a longjmp, or whose wait was cancelled, has no reply: so its mutex isn't told. */
+/* A call that was left by a longjmp, or whose wait was cancelled, has no reply, and a wait in private memory has no
+ * condition variable: so its mutex isn't told. */
 static void note(struct view *v, uint32_t life, const struct seen *c, int is_last)
 {
     struct view_name *m = &v->name[c->mutex];
     m->is_called |= c->call <= WAIT;
     if (c->call == INIT && c->end && c->reply == 0 && is_within(v, c->begin) && is_within(v, c->end))
         m->is_made = 1;
-    if ((c->call == WAIT && c->end && c->reply == CANCELLED) || (!c->end && !is_last))
+    int is_untold_wait = c->call == WAIT && (!c->cond || (c->end && c->reply == CANCELLED));
+    if (is_untold_wait || (!c->end && !is_last))
         m->is_left_out = 1;
     if (rec_takes(c) && is_within(v, c->end))
         note_taken(m, life, c);

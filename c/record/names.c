@@ -114,8 +114,12 @@ static RARE struct known *look_up(uintptr_t at, uint32_t now)
     struct region r;
     struct known *k = &mine.region[mine.next++ % REGIONS];
     *k = (struct known){0};
-    if (sh_region_of((void *)at, &r))
+    int why = sh_region_of((void *)at, &r);
+    if (why) { /* nothing is there; or it can't look */
+        if (why != ENOENT)
+            rec_stop();
         return NULL;
+    }
     uint32_t object = r.shared ? object_of(&r) : 0;
     if (r.shared && !object)
         return rec_stop(), NULL;

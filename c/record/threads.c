@@ -1,19 +1,21 @@
 /* Whether a recorded thread lives. */
 #include "program.h"
+#include <errno.h>
 #include <string.h>
 #include <sys/stat.h>
 #include <unistd.h>
 
 enum { SECOND_NS = 1000000000, STATE = 3, START = 22 /* fields of proc(5)'s stat */ };
 
-/* When the thread with this id began, in nanoseconds since boot, rounded down; UINT64_MAX: none has it, or it ended. */
+/* When the thread with this id began, in nanoseconds since boot, rounded down; UINT64_MAX: none has it, or it ended.
+ * One that can't be looked at lives. */
 static uint64_t began(uint32_t thread)
 {
     char path[64], line[1024] = "", *at;
     snprintf(path, sizeof path, "/proc/%u/stat", thread);
     FILE *f = fopen(path, "re");
     if (!f)
-        return UINT64_MAX;
+        return errno == ENOENT ? UINT64_MAX : 0;
     line[fread(line, 1, sizeof line - 1, f)] = 0;
     fclose(f);
     at = strrchr(line, ')'); /* behind the name, which may have anything */
