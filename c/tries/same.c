@@ -195,7 +195,7 @@ static void with_each_word(struct pz_call *c, unsigned salt)
 /* A call of a program, standing anywhere: no row carries both a reply and y. */
 static void calls(unsigned t, unsigned program, unsigned on_condition, uint32_t seen, uint64_t counter)
 {
-    static const uint16_t no_replies[] = {2, 132, 999, 1005, 65535};
+    static const uint16_t no_replies[] = {2, 132, PZ_X_NOMEM - 1, PZ_X_STATE + 1, 65535};
     static const uint64_t counts[] = {0, 1, 3, 4, HEAD, ENTRY, UINT64_MAX};
     struct pz_call c = {.head = HEAD, .entry = ENTRY, .cell = CELL, .counter = counter};
     c.program = (uint8_t)program;
