@@ -1,5 +1,5 @@
 -- What is known where a picture was drawn, or wasn't.
-use Rattle.std.proofs.Common.{◌≡◌, ◌≤◌, ℕ, Bool, true, false, IfErr, List, length, Option, Result, Ok, Err, refl, sym, ap, subst, ◌∙◌, arith, inr}
+use Rattle.std.proofs.Common.{◌≡◌, ◌≤◌, ℕ, Bool, true, false, IfErr, List, length, Option, Result, Ok, Err, refl, sym, ap, subst, ◌∙◌, arith, inl, inr}
 use Rattle.std.specs.Prelude.{nat_lt}
 use Rattle.std.specs.Io.KnownBytes.{Consumes, IsAtEnd, Keeps}
 use Rattle.std.proofs.lemmas.Bool.Decides.{nat_tests}
@@ -14,9 +14,9 @@ use Rattle.picture.specs.declared.drawing.Unwritten.{Unwritten}
 use Rattle.picture.specs.declared.drawing.Unwritten.TheVariants as unwritten
 use Rattle.draw_report.specs.declared.asking.Kind.{Kind}
 use Rattle.draw_report.specs.declared.asking.Kind.TheVariants.{Text, Svg, Html}
-use Rattle.page.specs.declared.data.End.{End}
-use Rattle.page.specs.declared.data.End.TheVariants.{Legal}
-use Rattle.page.specs.Pages.{page_text}
+use Rattle.verdict.specs.declared.checking.Finding.{Finding}
+use Rattle.verdict.specs.declared.checking.Finding.TheVariants.{Legal}
+use Rattle.page.specs.Pages.{LeavesPage, page_text}
 use Rattle.picture.specs.Drawn.{drawn}
 use Rattle.picture.specs.Names.{Called}
 use Rattle.picture.specs.Svg.{svg_drawn}
@@ -24,7 +24,7 @@ use Rattle.draw_report.specs.declared.messages.Failure.{Failure}
 use Rattle.draw_report.specs.declared.messages.Failure.TheVariants.{Script}
 use Rattle.draw_report.specs.Names.{called_by}
 use Rattle.draw_report.specs.Scripts.{FailsScript, GivesScript}
-use Rattle.draw_report.specs.Served.{Comes, Draws, FailsDrawing, IsBegun, IsDrawn, IsJudged, IsOf, LeavesPicture, Serves, picture, undrawn_by}
+use Rattle.draw_report.specs.Served.{Comes, Draws, FailsDrawing, IsDrawn, IsJudged, IsOf, IsUndrawn, LeavesPicture, Serves, picture, undrawn_by}
 use Rattle.script.specs.declared.command.Mode.TheVariants.{Run}
 use Rattle.script.specs.declared.fault.Fault.TheVariants as script
 use Rattle.script.specs.declared.fault.ScriptFault.{ScriptFault}
@@ -44,27 +44,36 @@ err_weaker (Ok x) weaker h = h
 err_weaker (Err e) weaker h = weaker e h
 
 -- a picture that wasn't written, or not all of it
-pub draws_front : (kind : Kind) (script : Option Scope) (old new : Option (List ℕ)) (bytes : List ℕ) (t : Told) (u : Unwritten) → IsOf script bytes t → IsBegun kind (called_by script) bytes t old new → FailsDrawing kind script bytes old new (undrawn_by u)
-draws_front kind script old new bytes t unwritten.OutOfMemory of front = (t, of, front)
-draws_front kind script old new bytes t unwritten.Failed of front = (t, of, front)
+pub draws_not : (kind : Kind) (script : Option Scope) (old new : Option (List ℕ)) (bytes : List ℕ) (t : Told) (u : Unwritten) → IsOf script bytes t → IsUndrawn kind (called_by script) bytes t old new u → FailsDrawing kind script bytes old new (undrawn_by u)
+draws_not kind script old new bytes t unwritten.OutOfMemory of front = (t, of, front)
+draws_not kind script old new bytes t unwritten.Failed of front = (t, of, front)
+
+-- memory was refused before it began
+pub nothing_drawn : (kind : Kind) (n : Called) (bytes : List ℕ) (t : Told) (old new : Option (List ℕ)) → new ≡ old → IsUndrawn kind n bytes t old new unwritten.OutOfMemory
+nothing_drawn Text n bytes t old new same = inl same
+nothing_drawn Svg n bytes t old new same = inl same
+nothing_drawn Html n bytes t old new same = same
 
 -- pictures that tell nothing of how the trace is judged
-pub leaves_text : {X E : Type 0} (n : Called) (bytes : List ℕ) (t : Told) (old new : Option (List ℕ)) (r : Result X E) → Leaves old new r (drawn n t.head.threads t.head.mutexes t.lines.items t.last) → LeavesPicture Text n bytes t old new r
-leaves_text n bytes t old new (Ok x) h = (Legal, tt, h)
-leaves_text n bytes t old new (Err e) h = inr (Legal, tt, h)
+pub leaves_text : {X : Type 0} (n : Called) (bytes : List ℕ) (t : Told) (old new : Option (List ℕ)) (r : Result X Unwritten) → Leaves old new r (drawn n t.head.threads t.head.mutexes t.lines.items t.last) → LeavesPicture Text n bytes t old new r
+leaves_text n bytes t old new (Ok x) h = (Legal 0, tt, h)
+leaves_text n bytes t old new (Err e) h = inr (Legal 0, tt, h)
 
-pub leaves_svg : {X E : Type 0} (n : Called) (bytes : List ℕ) (t : Told) (old new : Option (List ℕ)) (r : Result X E) → Leaves old new r (svg_drawn n t.head.threads t.head.mutexes t.lines.items t.last) → LeavesPicture Svg n bytes t old new r
-leaves_svg n bytes t old new (Ok x) h = (Legal, tt, h)
-leaves_svg n bytes t old new (Err e) h = inr (Legal, tt, h)
+pub leaves_svg : {X : Type 0} (n : Called) (bytes : List ℕ) (t : Told) (old new : Option (List ℕ)) (r : Result X Unwritten) → Leaves old new r (svg_drawn n t.head.threads t.head.mutexes t.lines.items t.last) → LeavesPicture Svg n bytes t old new r
+leaves_svg n bytes t old new (Ok x) h = (Legal 0, tt, h)
+leaves_svg n bytes t old new (Err e) h = inr (Legal 0, tt, h)
 
 -- a page, of a trace that is so judged
-pub leaves_page : {X E : Type 0} (n : Called) (bytes : List ℕ) (t : Told) (end : End) (old new : Option (List ℕ)) (r : Result X E) → IsJudged Html bytes end → Leaves old new r (page_text n t end) → LeavesPicture Html n bytes t old new r
-leaves_page n bytes t end old new (Ok x) j h = (end, j, h)
-leaves_page n bytes t end old new (Err e) j h = inr (end, j, h)
+pub leaves_page : {X : Type 0} (n : Called) (bytes : List ℕ) (t : Told) (f : Finding) (old new : Option (List ℕ)) (r : Result X Unwritten) → IsJudged Html bytes f → LeavesPage old new r (page_text n t f) → LeavesPicture Html n bytes t old new r
+leaves_page n bytes t f old new (Ok x) j h = (f, j, h)
+leaves_page n bytes t f old new (Err unwritten.OutOfMemory) j h = h
+leaves_page n bytes t f old new (Err unwritten.Failed) j h = inr (f, j, h)
 
 -- what was drawn stays, as a beginning of it
-pub begun_kept : (kind : Kind) (n : Called) (bytes : List ℕ) (t : Told) (old drawn new : Option (List ℕ)) → IsDrawn kind n bytes t old drawn → Keeps drawn new → IsBegun kind n bytes t old new
-begun_kept kind n bytes t old drawn new d k = inr (d.0, d.1, whole_is_front old new (picture kind n t d.0) (Appends-kept old drawn new (picture kind n t d.0) d.2 k))
+pub begun_kept : (kind : Kind) (n : Called) (bytes : List ℕ) (t : Told) (old drawn new : Option (List ℕ)) → IsDrawn kind n bytes t old drawn → Keeps drawn new → IsUndrawn kind n bytes t old new unwritten.Failed
+begun_kept Text n bytes t old drawn new d k = inr (d.0, d.1, whole_is_front old new (picture Text n t d.0) (Appends-kept old drawn new (picture Text n t d.0) d.2 k))
+begun_kept Svg n bytes t old drawn new d k = inr (d.0, d.1, whole_is_front old new (picture Svg n t d.0) (Appends-kept old drawn new (picture Svg n t d.0) d.2 k))
+begun_kept Html n bytes t old drawn new d k = inr (d.0, d.1, whole_is_front old new (picture Html n t d.0) (Appends-kept old drawn new (picture Html n t d.0) d.2 k))
 
 -- a trace isn't too long
 read_is_short : (bytes : List ℕ) (t : Trace) → trace_read bytes ≡ Ok t → length bytes ≤ max_bytes

@@ -9,10 +9,7 @@ use Rattle.verdict.specs.Limits.{max_bytes}
 use Rattle.verdict.specs.Reading.{trace_read}
 use Rattle.verdict.specs.Told.{Gives, IsWithin, trace_of}
 use Rattle.verdict.specs.declared.checking.Finding.{Finding}
-use Rattle.verdict.specs.declared.checking.Finding.TheVariants as finding
 use Rattle.verdict.specs.Verdicts.{Tells}
-use Rattle.page.specs.declared.data.End.{End}
-use Rattle.page.specs.declared.data.End.TheVariants.{Legal, Illegal}
 use Rattle.page.specs.Pages.{page_text}
 use Rattle.draw_report.specs.declared.asking.Kind.{Kind}
 use Rattle.draw_report.specs.declared.asking.Kind.TheVariants.{Text, Svg, Html}
@@ -46,36 +43,37 @@ IsUnread (Script e) = ⊥
 IsUnread Unlike = ⊥
 IsUnread (Trace e) = ⊥
 
--- a page tells how the trace was judged
-abbrev pub picture : Kind → Called → Told → End → List ℕ
-picture Text n t end = drawn n t.head.threads t.head.mutexes t.lines.items t.last
-picture Svg n t end = svg_drawn n t.head.threads t.head.mutexes t.lines.items t.last
-picture Html n t end = page_text n t end
+-- a page tells what the judge of traces found
+abbrev pub picture : Kind → Called → Told → Finding → List ℕ
+picture Text n t f = drawn n t.head.threads t.head.mutexes t.lines.items t.last
+picture Svg n t f = svg_drawn n t.head.threads t.head.mutexes t.lines.items t.last
+picture Html n t f = page_text n t f
 
--- as the judge of traces finds: it is legal, or this is its first line that doesn't fit, and some words say why
-abbrev pub EndsSo : Finding → End → Type 0
-EndsSo (finding.Legal points) Legal = ⊤
-EndsSo (finding.Legal points) (Illegal line why) = ⊥
-EndsSo (finding.Illegal found) Legal = ⊥
-EndsSo (finding.Illegal found) (Illegal line why) = line ≡ found.line
-
-abbrev pub IsJudged : Kind → List ℕ → End → Type 0
-IsJudged Text bytes end = ⊤
-IsJudged Svg bytes end = ⊤
-IsJudged Html bytes end = (f : Finding) × Tells (trace_read bytes) (Ok f) × EndsSo f end
+-- of all of the trace that these bytes are
+abbrev pub IsJudged : Kind → List ℕ → Finding → Type 0
+IsJudged Text bytes f = ⊤
+IsJudged Svg bytes f = ⊤
+IsJudged Html bytes f = Tells (trace_read bytes) (Ok f)
 
 -- all of a picture of the trace that these bytes are was written, or a beginning of it
 abbrev pub IsDrawn : Kind → Called → List ℕ → Told → Option (List ℕ) → Option (List ℕ) → Type 0
-IsDrawn kind n bytes t old new = (end : End) × IsJudged kind bytes end × Appends old new (picture kind n t end)
+IsDrawn kind n bytes t old new = (f : Finding) × IsJudged kind bytes f × Appends old new (picture kind n t f)
 
 abbrev pub IsBegun : Kind → Called → List ℕ → Told → Option (List ℕ) → Option (List ℕ) → Type 0
 IsBegun kind n bytes t old new =
-    (new ≡ old) ⊎ ((end : End) × IsJudged kind bytes end × AppendsFront old new (picture kind n t end))
+    (new ≡ old) ⊎ ((f : Finding) × IsJudged kind bytes f × AppendsFront old new (picture kind n t f))
 
-abbrev pub LeavesPicture : {X E : Type 0} → Kind → Called → List ℕ → Told → Option (List ℕ) → Option (List ℕ)
-    → Result X E → Type 0
+-- why not all of it was written: behind a beginning of it; of a page nothing is written where memory was refused
+abbrev pub IsUndrawn : Kind → Called → List ℕ → Told → Option (List ℕ) → Option (List ℕ) → Unwritten → Type 0
+IsUndrawn Text n bytes t old new u = IsBegun Text n bytes t old new
+IsUndrawn Svg n bytes t old new u = IsBegun Svg n bytes t old new
+IsUndrawn Html n bytes t old new unwritten.OutOfMemory = new ≡ old
+IsUndrawn Html n bytes t old new unwritten.Failed = IsBegun Html n bytes t old new
+
+abbrev pub LeavesPicture : {X : Type 0} → Kind → Called → List ℕ → Told → Option (List ℕ) → Option (List ℕ)
+    → Result X Unwritten → Type 0
 LeavesPicture kind n bytes t old new r =
-    MatchResult r (λ _. IsDrawn kind n bytes t old new) (λ _. IsBegun kind n bytes t old new)
+    MatchResult r (λ _. IsDrawn kind n bytes t old new) (λ u. IsUndrawn kind n bytes t old new u)
 
 -- these bytes are a trace, which begins as a run of the script does, if there is one
 pub record IsOf (script : Option Scope) (bytes : List ℕ) (t : Told) : Type 0 where
@@ -83,26 +81,26 @@ pub record IsOf (script : Option Scope) (bytes : List ℕ) (t : Told) : Type 0 w
   pub within : IsWithin t
   pub like : is_like script t.head ≡ true
 
--- and all of its picture, with the script's names, was written, or a beginning of it
+-- and all of its picture, with the script's names, was written, or not all of it
 abbrev pub Draws : Kind → Option Scope → Option (List ℕ) → Option (List ℕ) → List ℕ → Type 0
 Draws kind script old new bytes =
     (t : Told) × IsOf script bytes t × IsDrawn kind (called_by script) bytes t old new
 
-abbrev pub DrawsFront : Kind → Option Scope → Option (List ℕ) → Option (List ℕ) → List ℕ → Type 0
-DrawsFront kind script old new bytes =
-    (t : Told) × IsOf script bytes t × IsBegun kind (called_by script) bytes t old new
+abbrev pub DrawsNot : Kind → Option Scope → Option (List ℕ) → Option (List ℕ) → List ℕ → Unwritten → Type 0
+DrawsNot kind script old new bytes u =
+    (t : Told) × IsOf script bytes t × IsUndrawn kind (called_by script) bytes t old new u
 
 -- these bytes are a trace that begins otherwise than a run of the script
 abbrev pub IsUnlike : Option Scope → List ℕ → Type 0
 IsUnlike script bytes = (t : Told) × (trace_read bytes ≡ Ok (trace_of t)) × (is_like script t.head ≡ false)
 
 -- why bytes weren't drawn, or not all: the fault that the judge of traces tells of them, or that they aren't the
--- script's, before the first byte; or a write that failed, or memory for names or a row, behind a beginning
+-- script's, before the first byte; or a write that failed, behind a beginning, or memory for names or the picture
 abbrev pub FailsDrawing : Kind → Option Scope → List ℕ → Option (List ℕ) → Option (List ℕ) → Failure → Type 0
 FailsDrawing kind script bytes old new Usage = ⊥
 FailsDrawing kind script bytes old new CannotRead = ⊥
-FailsDrawing kind script bytes old new CannotWrite = DrawsFront kind script old new bytes
-FailsDrawing kind script bytes old new OutOfMemory = DrawsFront kind script old new bytes
+FailsDrawing kind script bytes old new CannotWrite = DrawsNot kind script old new bytes unwritten.Failed
+FailsDrawing kind script bytes old new OutOfMemory = DrawsNot kind script old new bytes unwritten.OutOfMemory
 FailsDrawing kind script bytes old new (Script e) = ⊥
 FailsDrawing kind script bytes old new Unlike = (new ≡ old) × IsUnlike script bytes
 FailsDrawing kind script bytes old new (Trace e) = (new ≡ old) × Gives (trace_read bytes) (Err e)

@@ -17,13 +17,13 @@ use crate::asking::Kind;
 use crate::legend::{lanes_legend, marks_legend};
 use crate::messages::Failure;
 use crate::names::{is_like, names_of};
-use page::{End, write_page};
+use page::write_page;
 use picture::{Names, Unwritten, draw, draw_svg};
 use script::{Mode, Script, parse};
 use std::alloc::Global;
 use std::io::{self, Read};
 use streams::{Output, ReadFault, put, read_below};
-use verdict::{Finding, MAX_BYTES, Told, explain, read_trace};
+use verdict::{MAX_BYTES, Told, explain, read_trace};
 
 /// What a fault of reading is told as.
 fn failed_by(fault: ReadFault) -> Failure
@@ -86,20 +86,10 @@ fn draw_page<W: Output>(
     requires { IsWithin trace.now }
     ensures { LeavesPicture Kind.Html names.now bytes.now trace.now (W.contents out.old) (W.contents out.new) result }
 {
-    let finding = match explain(alloc, bytes) {
-        Ok(finding) => finding,
-        Err(_wanted) => return Err(Unwritten::OutOfMemory),
-    };
-    match finding {
-        Finding::Legal { .. } => write_page(alloc, names, trace, &End::Legal, out),
-        Finding::Illegal(found) => {
-            let Ok(why) = format!(in alloc; "{}", found.misfit) else {
-                return Err(Unwritten::OutOfMemory);
-            };
-            let line = found.line;
-            let end = End::Illegal { line, why: &why };
-            write_page(alloc, names, trace, &end, out)
-        }
+    match explain(alloc, bytes) {
+        Ok(finding) => write_page(alloc, names, trace, &finding, out),
+        // the bytes are a trace: it has no fault
+        Err(_wanted) => Err(Unwritten::OutOfMemory),
     }
 }
 
@@ -136,7 +126,10 @@ fn draw_out<W: Output>(
     ensures text { LeavesPicture kind names.now bytes.now trace.now (W.contents out.old) (W.contents out.new) result }
     ensures let_go { OnOk result (W.is_let_go out.new) }
 {
-    draw_as(alloc, kind, names, bytes, trace, out)?;
+    match draw_as(alloc, kind, names, bytes, trace, out) {
+        Ok(()) => {}
+        Err(unwritten) => return Err(unwritten),
+    }
     match out.let_go() {
         Ok(()) => Ok(()),
         Err(_kept) => Err(Unwritten::Failed),

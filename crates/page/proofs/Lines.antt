@@ -1,5 +1,5 @@
 -- The items of a trace's lines, one line after the other.
-use Rattle.std.proofs.Common.{◌≡◌, ℕ, suc, ◌+◌, ◌<◌, ◌≤◌, List, [], ◌∷◌, ◌++◌, length, map, take, drop, get_or, refl, sym, ap, subst, ◌∙◌, add-one, arith, drop-cons}
+use Rattle.std.proofs.Common.{◌≡◌, ℕ, suc, ◌+◌, ◌<◌, ◌≤◌, List, [], ◌∷◌, ◌++◌, length, map, take, drop, get_or, refl, sym, ap, subst, ◌∙◌, add-one, append-nil, append_assoc, arith, drop-cons}
 use Rattle.std.specs.Prelude.{All, reverse}
 use Rattle.std.proofs.Math.Seq.{drop-length}
 use Rattle.std.proofs.lemmas.List.{length-take, map-append, reverse-append, take_more}
@@ -7,8 +7,8 @@ use Rattle.std.specs.List.{concat}
 use Rattle.std.proofs.lemmas.List.Folds.{concat-append}
 use Rattle.std.proofs.lemmas.List.Elements.{All-get_or}
 use Rattle.facts.specs.declared.fact.Line.{Line}
+use Rattle.verdict.specs.declared.checking.Finding.{Finding}
 use Rattle.verdict.specs.declared.told.Told.{Told}
-use Rattle.page.specs.declared.data.End.{End}
 use Rattle.page.specs.Data.{lines_shown, shown_lines}
 use Rattle.page.specs.Shows.{Item, items_behind, turn}
 use Rattle.page.specs.Texts.{item_text, items_text}
@@ -39,5 +39,13 @@ pub few_taken : (ls : List Line) (n : ℕ) → n ≤ 100000 → length (take n l
 few_taken ls n few = let h = length-take n ls in omega (arith, few, h)
 
 -- the lines that are shown
-pub shown_so : (t : Told) (end : End) (ls : List Line) (n : ℕ) → ls ≡ t.lines.items → n ≡ shown_lines end (length ls) → take n ls ≡ lines_shown t end
-shown_so t end ls n is so = ap (take n) is ∙ ap (λ (k : ℕ). take k t.lines.items) (so ∙ ap (λ (us : List Line). shown_lines end (length us)) is)
+pub shown_so : (t : Told) (f : Finding) (ls : List Line) (n : ℕ) → ls ≡ t.lines.items → n ≡ shown_lines f (length ls) → take n ls ≡ lines_shown t f
+shown_so t f ls n is so = ap (take n) is ∙ ap (λ (k : ℕ). take k t.lines.items) (so ∙ ap (λ (us : List Line). shown_lines f (length us)) is)
+
+-- ---- a text that grows by what is still to come
+
+pub one_further : (start old new whole rest next more : List ℕ) → old ++ rest ≡ start ++ whole → rest ≡ next ++ more → new ≡ old ++ next → new ++ more ≡ start ++ whole
+one_further start old new whole rest next more before is added = ap (λ (l : List ℕ). l ++ more) added ∙ append_assoc old next more ∙ ap (λ (l : List ℕ). old ++ l) (sym is) ∙ before
+
+pub nothing_more : (start new whole rest : List ℕ) → rest ≡ [] → new ++ rest ≡ start ++ whole → new ≡ start ++ whole
+nothing_more start new whole rest none all = sym (append-nil new) ∙ ap (λ (l : List ℕ). new ++ l) (sym none) ∙ all

@@ -2,6 +2,7 @@ pub mod Data
 pub mod Escapes
 pub mod Names
 pub mod Pages
+pub mod Reasons
 pub mod Shows
 pub mod States
 pub mod Statuses

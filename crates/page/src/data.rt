@@ -1,12 +1,13 @@
-//! The data of a page, line by line.
+//! The data of a page, line by line: all of it is put together before the page is written.
 
 ghost use Rattle.std.specs.Prelude.{◌≡◌, ◌+◌, ◌++◌, ◌≤◌, ◌<◌, ◌^◌, ◌==◌, ◌%◌, [], ◌∷◌, All, length, min, reverse, IfOk};
 ghost use Rattle.std.specs.Prelude.{option_map, slice_index_or, string_bytes, if◌then◌else◌};
 ghost use Rattle.facts.specs.Facts.{decision_of, thread_of};
-ghost use Rattle.streams.specs.Leaves.{Leaves};
 ghost use Rattle.verdict.specs.Judges.{IsInside};
 ghost use Rattle.verdict.specs.Told.{IsOf, IsWithin};
-ghost use Rattle.page.specs.Data.{data_text, end_text, illegal_start, illegal_text, mutex_in, shown_lines, start_text};
+ghost use Rattle.page.specs.Data.{data_text, end_text, illegal_start, illegal_text, legal_text, mutex_in, shown_lines, start_text};
+ghost use Rattle.page.specs.Escapes.{escaped};
+ghost use Rattle.page.specs.Reasons.{reason_text};
 ghost use Rattle.page.specs.Shows.{items_behind, turn};
 ghost use Rattle.page.specs.States.{seen, state_behind};
 ghost use Rattle.page.specs.Statuses.{first_status};
@@ -14,15 +15,14 @@ ghost use Rattle.page.specs.Texts.{items_text, line_text, mutex_text, status_tex
 
 use crate::naming::{add_escaped, add_names};
 use crate::pieces::{add, add_word};
+use crate::reasons::add_reason;
 use crate::state::State;
 use crate::texts::{add_line, add_object_behind, add_status, add_whole};
 use facts::{Fact, Line};
 use itoa::Buffer;
-use picture::{Names, Unwritten};
-use std::alloc::AllocError;
-use std::io::Write;
-use streams::put_text;
-use verdict::{Head, Told};
+use picture::Names;
+use std::alloc::{AllocError, Global};
+use verdict::{Finding, Head, Misfit, Told, TraceMisfit};
 
 /// Before every so many lines the whole state stands, the first line among these.
 const WHOLE: usize = 1_000;
@@ -30,29 +30,15 @@ const WHOLE: usize = 1_000;
 /// How many lines are shown at most.
 const MOST: usize = 100_000;
 
-/// How a trace was judged.
-#[derive(Clone, Copy, Debug)]
-pub enum End<'a> {
-    /// Each line fits those before it.
-    Legal,
-    /// A line doesn't.
-    Illegal {
-        /// The first that doesn't, the head being line 1.
-        line: usize,
-        /// Why, in words.
-        why: &'a str,
-    },
-}
-
 /// How many lines behind the head are shown, of so many: those that fit, as far as there is room.
-fn shown_lines(end: &End<'_>, count: usize) -> usize
-    ensures value { result ≡ shown_lines end.now count }
+fn shown_lines(finding: &Finding, count: usize) -> usize
+    ensures value { result ≡ shown_lines finding.now count }
     ensures few { result ≤ count }
     ensures most { result ≤ 100000 }
 {
-    let fitting = match *end {
-        End::Legal => count,
-        End::Illegal { line, .. } => count.min(line.saturating_sub(2)),
+    let fitting = match *finding {
+        Finding::Legal { .. } => count,
+        Finding::Illegal(found) => count.min(found.line.saturating_sub(2)),
     };
     fitting.min(MOST)
 }
@@ -123,59 +109,28 @@ fn add_turn(
     add_change(text, state, line)
 }
 
-/// Writes a text.
-pub fn write_text<W: Write>(text: &str, out: &mut W) -> Result<(), Unwritten>
-    ensures { Leaves (W.contents out.old) (W.contents out.new) result text.now }
-{
-    match put_text(out, text.as_bytes()) {
-        Ok(()) => Ok(()),
-        Err(_unwritten) => Err(Unwritten::Failed),
-    }
-}
-
-fn write_turn<W: Write>(
-    row: &mut String,
-    state: &mut State,
-    head: &Head,
-    earlier: &[Line],
-    line: &Line,
-    out: &mut W,
-) -> Result<(), Unwritten>
-    requires inside { IsOf head.now line.now }
-    requires few { length earlier.now ≤ 100000 }
-    requires so_far { seen state.old ≡ state_behind head.now.threads head.now.mutexes (reverse earlier.now) }
-    ensures text { Leaves (W.contents out.old) (W.contents out.new) result
-        (items_text (turn head.now.threads head.now.mutexes (reverse earlier.now) line.now)) }
-    ensures state { IfOk result
-        (λ _. seen state.new ≡ state_behind head.now.threads head.now.mutexes (line.now ∷ reverse earlier.now)) }
-{
-    row.clear();
-    add_turn(row, state, head, earlier, line)?;
-    write_text(row, out)
-}
-
 /// The items of all of these lines.
-fn write_items<W: Write>(
-    row: &mut String,
+fn add_items(
+    text: &mut String,
     state: &mut State,
     head: &Head,
     lines: &[Line],
-    out: &mut W,
-) -> Result<(), Unwritten>
+) -> Result<(), AllocError>
     requires inside { All (IsOf head.now) lines.now }
     requires few { length lines.now ≤ 100000 }
     requires new { seen state.old ≡ state_behind head.now.threads head.now.mutexes [] }
-    ensures { Leaves (W.contents out.old) (W.contents out.new) result
-        (items_text (items_behind head.now.threads head.now.mutexes [] lines.now)) }
+    ensures { IfOk result
+        (λ _. string_bytes text.new
+        ≡ string_bytes text.old ++ items_text (items_behind head.now.threads head.now.mutexes [] lines.now)) }
 {
     for index in 0..lines.len() {
-        write_turn(row, state, head, &lines[..index], &lines[index], out)?;
+        add_turn(text, state, head, &lines[..index], &lines[index])?;
     }
     Ok(())
 }
 
 fn add_legal(text: &mut String, last: u32, lines: usize) -> Result<(), AllocError>
-    ensures { IfOk result (λ _. string_bytes text.new ≡ string_bytes text.old ++ end_text End.Legal last lines) }
+    ensures { IfOk result (λ _. string_bytes text.new ≡ string_bytes text.old ++ legal_text last lines) }
 {
     let mut lasts = Buffer::new();
     let mut counts = Buffer::new();
@@ -204,76 +159,73 @@ fn add_illegal_start(
     )
 }
 
+/// Why a line doesn't fit, in words that the page's script reads.
+fn add_why(alloc: Global, text: &mut String, misfit: &Misfit) -> Result<(), AllocError>
+    ensures { IfOk result
+        (λ _. string_bytes text.new ≡ string_bytes text.old ++ escaped (reason_text misfit.now)) }
+{
+    let mut why = String::new(alloc);
+    add_reason(&mut why, misfit)?;
+    add_escaped(text, why.as_str())
+}
+
 fn add_illegal(
+    alloc: Global,
     text: &mut String,
     last: u32,
     lines: usize,
-    line: usize,
-    why: &str,
+    found: &TraceMisfit,
 ) -> Result<(), AllocError>
     ensures { IfOk result
-        (λ _. string_bytes text.new ≡ string_bytes text.old ++ illegal_text last lines line why.now) }
+        (λ _. string_bytes text.new ≡ string_bytes text.old ++ illegal_text last lines found.now) }
 {
-    add_illegal_start(text, last, lines, line)?;
-    add_escaped(text, why)?;
+    add_illegal_start(text, last, lines, found.line)?;
+    add_why(alloc, text, &found.misfit)?;
     add_word(text, "\"]\n]\n")
 }
 
-fn add_end(text: &mut String, end: &End<'_>, last: u32, lines: usize) -> Result<(), AllocError>
-    ensures { IfOk result (λ _. string_bytes text.new ≡ string_bytes text.old ++ end_text end.now last lines) }
+/// How a trace was judged, which has so many events and lines.
+fn add_end(
+    alloc: Global,
+    text: &mut String,
+    finding: &Finding,
+    last: u32,
+    lines: usize,
+) -> Result<(), AllocError>
+    ensures { IfOk result (λ _. string_bytes text.new ≡ string_bytes text.old ++ end_text finding.now last lines) }
 {
-    match *end {
-        End::Legal => add_legal(text, last, lines),
-        End::Illegal { line, why } => add_illegal(text, last, lines, line, why),
+    match finding {
+        Finding::Legal { .. } => add_legal(text, last, lines),
+        Finding::Illegal(found) => add_illegal(alloc, text, last, lines, found),
     }
 }
 
-fn write_names<W: Write>(
-    row: &mut String,
-    names: &Names,
-    head: &Head,
-    out: &mut W,
-) -> Result<(), Unwritten>
-    ensures { Leaves (W.contents out.old) (W.contents out.new) result (start_text names.now head.now) }
+fn add_start(text: &mut String, names: &Names, head: &Head) -> Result<(), AllocError>
+    ensures { IfOk result (λ _. string_bytes text.new ≡ string_bytes text.old ++ start_text names.now head.now) }
 {
-    row.clear();
-    add_word(row, "[\n")?;
-    add_names(row, names, head.threads, head.mutexes, head.conditions)?;
-    write_text(row, out)
+    add_word(text, "[\n")?;
+    add_names(text, names, head.threads, head.mutexes, head.conditions)
 }
 
-fn write_end<W: Write>(
-    row: &mut String,
-    end: &End<'_>,
-    last: u32,
-    lines: usize,
-    out: &mut W,
-) -> Result<(), Unwritten>
-    ensures { Leaves (W.contents out.old) (W.contents out.new) result (end_text end.now last lines) }
-{
-    row.clear();
-    add_end(row, end, last, lines)?;
-    write_text(row, out)
-}
-
-/// Writes the data of a trace, `state` being that before its first line: what things are called, the states behind its
-/// lines, and how it was judged.
-pub fn write_data<W: Write>(
-    row: &mut String,
+/// The data of a trace, `state` being that before its first line: what things are called, the states behind its lines,
+/// and how it was judged.
+pub fn add_data(
+    alloc: Global,
+    text: &mut String,
     state: &mut State,
     names: &Names,
     trace: &Told,
-    end: &End<'_>,
-    out: &mut W,
-) -> Result<(), Unwritten>
+    finding: &Finding,
+) -> Result<(), AllocError>
     requires within { IsWithin trace.now }
     requires new { seen state.old ≡ state_behind trace.now.head.threads trace.now.head.mutexes [] }
-    ensures { Leaves (W.contents out.old) (W.contents out.new) result (data_text names.now trace.now end.now) }
+    ensures { IfOk result
+        (λ _. string_bytes text.new ≡ string_bytes text.old ++ data_text names.now trace.now finding.now) }
 {
     let lines = trace.lines.as_slice();
     let count = lines.len();
-    let shown = shown_lines(end, count);
-    write_names(row, names, &trace.head, out)?;
-    write_items(row, state, &trace.head, &lines[..shown], out)?;
-    write_end(row, end, trace.last, count, out)
+    let shown = shown_lines(finding, count);
+    add_start(text, names, &trace.head)?;
+    add_items(text, state, &trace.head, &lines[..shown])?;
+    add_end(alloc, text, finding, trace.last, count)
 }

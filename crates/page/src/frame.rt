@@ -25,7 +25,8 @@ h1 { font-size: 1.1rem; margin: .6rem 0; }
 #bar button { font: inherit; min-width: 2.5rem; min-height: 2.2rem; }
 #slider { flex: 1 0 8rem; }
 #line { font-weight: bold; min-height: 2.8em; margin: .6rem 0 .2rem; }
-#line.misfit { color: #c00; }
+#cut:empty { display: none; }
+.misfit { color: #c00; }
 #next { min-height: 2.8em; margin: 0 0 .6rem; }
 table { border-collapse: collapse; width: 100%; margin: 0 0 .8rem; font-size: .95rem; }
 caption { text-align: left; font-weight: bold; }
@@ -34,7 +35,7 @@ th, td { text-align: left; vertical-align: top; padding: .1rem .4rem .1rem 0; bo
 @media (prefers-color-scheme: dark) {
   #picture { background: #000; }
   #sheet svg { filter: invert(1) hue-rotate(180deg); }
-  #line.misfit { color: #f88; }
+  .misfit { color: #f88; }
 }
 @media (max-width: 50rem) {
   main { display: block; height: auto; }
@@ -62,6 +63,7 @@ th, td { text-align: left; vertical-align: top; padding: .1rem .4rem .1rem 0; bo
 <input id="slider" type="range" min="0" value="0" aria-label="The line that is shown">
 <span id="place"></span>
 </div>
+<p id="cut"></p>
 <p id="line" role="status"></p>
 <p id="next"></p>
 <table id="threads">
@@ -79,7 +81,6 @@ th, td { text-align: left; vertical-align: top; padding: .1rem .4rem .1rem 0; bo
 <thead><tr><th scope="col">condition variable</th><th scope="col">waiters, in their order</th></tr></thead>
 <tbody></tbody>
 </table>
-<p id="cut"></p>
 <p>Keys: left and right for a line, page up and down for ten, home and end. Or click on a row of the picture.</p>
 <noscript><p>The picture shows all of the trace; to step through it, let this page run its script.</p></noscript>
 </section>

@@ -1,81 +1,84 @@
 //! A page, in one file.
 
-ghost use Rattle.std.specs.Prelude.{◌≡◌, []};
+ghost use Rattle.std.specs.Prelude.{◌≡◌, string_bytes, IfOk};
 ghost use Rattle.streams.specs.Leaves.{Leaves};
 ghost use Rattle.verdict.specs.Told.{IsWithin};
-ghost use Rattle.page.specs.Pages.{page_text, script_text};
-ghost use Rattle.page.specs.States.{seen, state_behind};
+ghost use Rattle.picture.specs.Svg.{svg_drawn};
+ghost use Rattle.page.specs.Data.{data_text};
+ghost use Rattle.page.specs.Pages.{page_of, page_text, LeavesPage};
 
-use crate::data::{End, write_data, write_text};
+use crate::data::add_data;
 use crate::frame::{BEHIND, BETWEEN, BOTTOM, TOP};
 use crate::script::SCRIPT;
 use crate::state::State;
 use picture::{Names, Unwritten, draw_svg};
-use std::alloc::Global;
-use std::io::Write;
-use streams::put;
-use verdict::{Head, Told};
+use std::alloc::{AllocError, Global};
+use std::io::{self, Write};
+use streams::{put, put_text};
+use verdict::{Finding, Told};
 
-/// Room for the longest part of a picture.
-const PART: usize = 16_384;
-
-/// Room for what a thread, a mutex or a condition variable takes in a row of data.
-const THING: usize = 128;
-
-fn write_script<W: Write>(out: &mut W) -> Result<(), Unwritten>
-    ensures { Leaves (W.contents out.old) (W.contents out.new) result script_text }
-{
-    match put(out, &[BETWEEN, SCRIPT, BEHIND]) {
-        Ok(()) => Ok(()),
-        Err(_unwritten) => Err(Unwritten::Failed),
-    }
-}
-
-/// Room for the longest row of data and the longest part of a picture.
-fn room(head: &Head) -> usize {
-    let things = usize::from(head.threads)
-        + usize::from(head.mutexes)
-        + usize::from(head.conditions);
-    PART + THING * things
-}
-
-fn write_parts<W: Write>(
+/// The data of a page.
+fn data_of(
     alloc: Global,
-    row: &mut String,
-    state: &mut State,
     names: &Names,
     trace: &Told,
-    end: &End<'_>,
-    out: &mut W,
-) -> Result<(), Unwritten>
-    requires within { IsWithin trace.now }
-    requires new { seen state.old ≡ state_behind trace.now.head.threads trace.now.head.mutexes [] }
-    ensures { Leaves (W.contents out.old) (W.contents out.new) result (page_text names.now trace.now end.now) }
+    finding: &Finding,
+) -> Result<String, AllocError>
+    requires { IsWithin trace.now }
+    ensures { IfOk result (λ s. string_bytes s ≡ data_text names.now trace.now finding.now) }
 {
+    let mut text = String::new(alloc);
+    let mut state = State::new(alloc, trace.head.threads, trace.head.mutexes)?;
+    add_data(alloc, &mut text, &mut state, names, trace, finding)?;
+    Ok(text)
+}
+
+/// The picture of a page. What holds it fails where memory for it is refused, and at nothing else.
+fn picture_of(alloc: Global, names: &Names, trace: &Told) -> Result<Vec<u8>, Unwritten>
+    ensures { IfOk result
+        (λ v. v.items
+        ≡ svg_drawn names.now trace.now.head.threads trace.now.head.mutexes trace.now.lines.items trace.now.last) }
+{
+    let mut held = Vec::new(alloc);
     let (threads, mutexes) = (trace.head.threads, trace.head.mutexes);
     let lines = trace.lines.as_slice();
-    write_text(TOP, out)?;
-    write_data(row, state, names, trace, end, out)?;
-    write_script(out)?;
-    draw_svg(alloc, names, threads, mutexes, lines, trace.last, out)?;
-    write_text(BOTTOM, out)
+    draw_svg(alloc, names, threads, mutexes, lines, trace.last, &mut held)?;
+    Ok(held)
+}
+
+/// Writes a page with these states as data, and this picture.
+fn write_parts<W: Write>(states: &str, picture: &[u8], out: &mut W) -> io::Result<()>
+    ensures { Leaves (W.contents out.old) (W.contents out.new) result (page_of states.now picture.now) }
+{
+    put(out, &[TOP, states, BETWEEN, SCRIPT, BEHIND])?;
+    put_text(out, picture)?;
+    put(out, &[BOTTOM])
 }
 
 /// Writes a page of HTML to step through a trace, line by line: its picture as [`draw_svg`] draws it, with these names,
-/// and the state behind each line as data, up to the first line that doesn't fit, and at most of 100,000 lines. `end`
-/// says how the trace was judged. At an error a beginning of the page is written.
+/// and the state behind each line as data, up to the first line that doesn't fit, and at most of 100,000 lines.
+/// `finding` is how all of the trace was judged: a line that doesn't fit is named, with the reason, whether it is among
+/// those that are shown or not. Names stand in the picture as they are. All of the page is put together first: where
+/// memory is refused nothing is written. Where a write fails a beginning of the page is written.
 pub fn write_page<W: Write>(
     alloc: Global,
     names: &Names,
     trace: &Told,
-    end: &End<'_>,
+    finding: &Finding,
     out: &mut W,
 ) -> Result<(), Unwritten>
     requires { IsWithin trace.now }
-    ensures { Leaves (W.contents out.old) (W.contents out.new) result (page_text names.now trace.now end.now) }
+    ensures { LeavesPage (W.contents out.old) (W.contents out.new) result
+        (page_text names.now trace.now finding.now) }
 {
-    let (threads, mutexes) = (trace.head.threads, trace.head.mutexes);
-    let mut row = String::with_capacity(alloc, room(&trace.head))?;
-    let mut state = State::new(alloc, threads, mutexes)?;
-    write_parts(alloc, &mut row, &mut state, names, trace, end, out)
+    let Ok(states) = data_of(alloc, names, trace, finding) else {
+        return Err(Unwritten::OutOfMemory);
+    };
+    let Ok(picture) = picture_of(alloc, names, trace) else {
+        return Err(Unwritten::OutOfMemory);
+    };
+    match write_parts(states.as_str(), picture.as_slice(), out) {
+        Ok(()) => Ok(()),
+        Err(_unwritten) => Err(Unwritten::Failed),
+    }
 }

@@ -9,7 +9,8 @@ pub fn page_shows()
     ensures { PageShows }
 {}
 
-/// Whatever a thing is called, its name in the data of a page has no character that ends a text or begins markup.
+/// Whatever a thing is called, its name in the data of a page has no character that ends a text or begins markup. The
+/// picture has names as they are: those of a script have no such character, as `names_are_plain` of `draw_report` says.
 pub fn names_are_escaped()
     ensures { NamesAreEscaped }
 {}

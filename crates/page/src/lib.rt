@@ -4,7 +4,9 @@
 //! behind each line that fits those before it: what each thread does, what each mutex is (`state_behind`). The data are
 //! whole states, and between them what each line changes; who reads them comes to just the states behind the lines, in
 //! their order ([`page_shows`]). The page's script shows them. Names in the data are escaped ([`names_are_escaped`]).
-//! At an error a beginning of the page is written.
+//! How the judge of traces found all of the trace stands behind the data, the line that doesn't fit and why where there
+//! is one (`reason_text`). Where memory is refused nothing is written, where a write fails a beginning of the page is
+//! (`LeavesPage`).
 //!
 //! Stands on `verdict`, for what is read of a trace and how it is judged, on `picture`, for the picture and names, on
 //! `facts`, `posixmutex` and `lockword`, for lines, mutexes as objects, thread ids and replies, on `streams`, for
@@ -12,9 +14,9 @@
 //!
 //! ```text
 //! let told = verdict::read_trace(rt.alloc(), b"trace 1 1 0\n1 begin t1 lock m0\nend 1\n")?;
+//! let finding = verdict::explain(rt.alloc(), b"trace 1 1 0\n1 begin t1 lock m0\nend 1\n")?;
 //! let mut page = Vec::new(rt.alloc());
-//! // `verdict::explain` finds that it is legal
-//! write_page(rt.alloc(), &Names::none(rt.alloc()), &told, &End::Legal, &mut page)?;
+//! write_page(rt.alloc(), &Names::none(rt.alloc()), &told, &finding, &mut page)?;
 //! // <!DOCTYPE html> .. [1,["begin",1,"lock",0],[1,0,0,["lock",0],0,0]], .. <svg ..
 //! ```
 #![tactic(auto)]
@@ -25,11 +27,11 @@ mod html;
 mod laws;
 mod naming;
 mod pieces;
+mod reasons;
 mod script;
 mod state;
 mod status;
 mod texts;
 
-pub use data::End;
 pub use html::write_page;
 pub use laws::{names_are_escaped, page_shows};

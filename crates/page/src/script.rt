@@ -10,8 +10,12 @@ const end = data[data.length - 1];
 const wholes = [];
 const lines = [];
 for (let i = 1; i < data.length - 1; i++) (typeof data[i][0] === "number" ? lines : wholes).push(data[i]);
-const illegal = end[0] === "illegal" && end[3] - 2 === lines.length;
-const last = lines.length + (illegal ? 1 : 0);
+const illegal = end[0] === "illegal";
+const why = illegal ? decodeURIComponent(end[4]) : "";
+// the line that doesn't fit stands right behind those that are shown, unless these are cut before it
+const stops = illegal && end[3] - 2 === lines.length;
+const isCut = end[2] > lines.length && !stops;
+const last = lines.length + (stops ? 1 : 0);
 const rowHeight = 18, firstRow = 30;
 
 const thread = t => called[0][t - 1];
@@ -158,10 +162,10 @@ function show(to) {
 function tell() {
   const stopped = at > lines.length;
   element("place").textContent = stopped || at === lines.length ? "line " + (at + 1) : at === 0 ? "before the first line" : "line " + (at + 1);
-  element("line").textContent = stopped ? "Line " + end[3] + " doesn't fit: " + decodeURIComponent(end[4]) + "." : at === 0 ? "Nothing has happened yet." : words(lines[at - 1]) + ".";
+  element("line").textContent = stopped ? "Line " + end[3] + " doesn't fit: " + why + "." : at === 0 ? "Nothing has happened yet." : words(lines[at - 1]) + ".";
   element("line").className = stopped ? "misfit" : "";
   const next = lines[at];
-  const behind = illegal ? "Line " + end[3] + " comes next, and doesn't fit." : "The end: " + end[1] + " events.";
+  const behind = stops ? "Line " + end[3] + " comes next, and doesn't fit." : isCut ? "The lines behind it aren't shown here." : "The end: " + end[1] + " events.";
   element("next").textContent = next ? "Next, " + words(next) + ", as " + because[next[1][0]](next[1]) + "." : stopped ? "" : behind;
   element("slider").value = at;
   element("slider").setAttribute("aria-valuetext", element("line").textContent);
@@ -257,8 +261,12 @@ element("sheet").addEventListener("click", event => {
   const y = event.clientY - element("sheet").getBoundingClientRect().top;
   step(Math.round((y - firstRow) / rowHeight));
 });
-if (end[2] > lines.length && !illegal) element("cut").textContent = "Of " + end[2] + " lines the first " + lines.length + " are shown here; the picture has all.";
+if (isCut) {
+  const judged = illegal ? " The trace is illegal at line " + end[3] + ", which isn't shown: " + why + "." : "";
+  element("cut").textContent = "Of " + end[2] + " lines the first " + lines.length + " are shown here; the picture has all." + judged;
+  element("cut").className = illegal ? "misfit" : "";
+}
 window.addEventListener("hashchange", () => step(Number(location.hash.slice(1)) || 0));
-show(location.hash.length > 1 ? Number(location.hash.slice(1)) || 0 : illegal ? last : 0);
+show(location.hash.length > 1 ? Number(location.hash.slice(1)) || 0 : stops ? last : 0);
 window.addEventListener("load", follow);
 "##;

@@ -1,9 +1,9 @@
 use Rattle.draw_report.proofs.Ends.{begun_kept}
 use Rattle.draw_report.proofs.serving.draw_out.Goals as goal
 
-pub returns-in-Err-clause-text : goal.returns-in-Err-clause-text
-returns-in-Err-clause-text g c =
+pub returns-in-Err-let_go-clause-text : goal.returns-in-Err-let_go-clause-text
+returns-in-Err-let_go-clause-text g c =
     let old = g.W.Write.contents c.args.out.now in
     let drawn = g.W.Write.contents c.draw_as.new.out in
     let new = g.W.Write.contents c.let_go.new.self in
-    begun_kept c.args.kind c.args.names.now c.args.bytes.now c.args.trace.now old drawn new c.in_ok-draw_as.ensures c.let_go.ensures.kept
+    begun_kept c.args.kind c.args.names.now c.args.bytes.now c.args.trace.now old drawn new c.in-Ok.ensures c.let_go.ensures.kept

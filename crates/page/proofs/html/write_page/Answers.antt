@@ -1,0 +1,22 @@
+use Rattle.std.proofs.Common.{◌≡◌, ap, subst, ◌∙◌}
+use Rattle.std.specs.Io.KnownBytes.{Appends}
+use Rattle.streams.specs.Leaves.{AppendsFront}
+use Rattle.page.specs.Data.{data_text}
+use Rattle.page.specs.Pages.{page_of, page_text}
+use Rattle.page.proofs.html.write_page.Goals as goal
+
+pub returns-in-Ok-write_parts : goal.returns-in-Ok-write_parts
+returns-in-Ok-write_parts g c =
+    let n = c.args.names.now in
+    let t = c.args.trace.now in
+    let f = c.args.finding.now in
+    let same : page_of c.as_str.result.now c.as_slice.result.now ≡ page_text n t f = ap (λ l. page_of l c.as_slice.result.now) (c.as_str.ensures.value ∙ c.in-Ok.ensures) ∙ ap (page_of (data_text n t f)) (c.as_slice.ensures.value ∙ c.in-Ok-picture_of.ensures) in
+    subst (Appends (g.W.Write.contents c.args.out.now) (g.W.Write.contents c.write_parts.new.out)) same c.in-Ok-write_parts.ensures
+
+pub returns : goal.returns
+returns g c =
+    let n = c.args.names.now in
+    let t = c.args.trace.now in
+    let f = c.args.finding.now in
+    let same : page_of c.as_str.result.now c.as_slice.result.now ≡ page_text n t f = ap (λ l. page_of l c.as_slice.result.now) (c.as_str.ensures.value ∙ c.in-Ok.ensures) ∙ ap (page_of (data_text n t f)) (c.as_slice.ensures.value ∙ c.in-Ok-picture_of.ensures) in
+    subst (AppendsFront (g.W.Write.contents c.args.out.now) (g.W.Write.contents c.write_parts.new.out)) same c.in-Err.ensures
