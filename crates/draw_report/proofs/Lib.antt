@@ -1,2 +1,3 @@
 pub mod Ends
 mod Parts
+mod Plain

@@ -2,6 +2,7 @@ pub mod Asked
 pub mod Legend
 pub mod Messages
 pub mod Names
+pub mod Plain
 pub mod Reading
 pub mod Scripts
 pub mod Served

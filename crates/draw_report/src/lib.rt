@@ -4,11 +4,12 @@
 //! their parts, in any order (`Asks`). Where it answers 0 it has read its input to the end, that is a trace, and has
 //! written all of the picture and let go of it; else it has written a beginning of it, and one message on `err` says why
 //! (`RunEnds`). It reads at most one byte more than a trace may have. With `--script` the script is read first, and
-//! things are called by the names that it declares (`called_by`). For `--legend` it reads nothing, and writes what the
-//! signs of pictures mean.
+//! things are called by the names that it declares (`called_by`), which have no characters of markup
+//! ([`names_are_plain`]). For `--legend` it reads nothing, and writes what the signs of pictures mean. Of a page nothing
+//! is written where memory is refused (`IsUndrawn`).
 //!
-//! Stands on `verdict`, for reading traces and their faults, on `script` and `lockword`, for names, on `picture` and
-//! `page`, for drawing, and on `streams`, for reading, writing and opening.
+//! Stands on `verdict`, for reading traces and their faults, on `script` and `lockword`, for names, on `lines`, for which
+//! characters they have, on `picture` and `page`, for drawing, and on `streams`, for reading, writing and opening.
 //!
 //! ```text
 //! // The words of `rfx-draw --svg dead_owner.trace`, the program's name first; `files` opens what they name.
@@ -21,6 +22,7 @@
 #![tactic(auto)]
 
 mod asking;
+mod laws;
 mod legend;
 mod messages;
 mod names;
@@ -28,5 +30,6 @@ mod program;
 mod serving;
 
 pub use asking::Kind;
+pub use laws::names_are_plain;
 pub use messages::OUT_OF_MEMORY;
 pub use program::run;
