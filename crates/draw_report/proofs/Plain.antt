@@ -1,5 +1,5 @@
 -- The names of a script are plain, since the spelling of a name has no other characters.
-use Rattle.std.proofs.Common.{◌≡◌, ◌≢◌, ◌^◌, ℕ, zero, suc, ◌+◌, ◌<◌, ◌≤◌, ◌==◌, Bool, true, false, not, nat_le, nat_lt, ◌&&◌, ◌||◌, List, [], ◌∷◌, ◌++◌, length, map, All, Option, Some, None, Result, Ok, Err, IfOk, IfSome, option_and_then, if◌then◌else◌, refl, sym, ap, subst, ◌∙◌, arith}
+use Rattle.std.proofs.Common.{◌≡◌, ◌≢◌, ◌^◌, ℕ, zero, suc, ◌+◌, ◌<◌, ◌≤◌, ◌==◌, Bool, true, false, not, nat_le, nat_lt, ◌&&◌, ◌||◌, List, [], ◌∷◌, ◌++◌, length, All, Option, Some, None, Result, Ok, Err, IfOk, IfSome, option_and_then, if◌then◌else◌, refl, sym, ap, subst, ◌∙◌, arith}
 use Rattle.std.specs.Prelude.{codes, decimal}
 use Rattle.std.specs.Char.{is_ascii_digit}
 use Rattle.std.specs.List.{list_all, list_any}
@@ -20,7 +20,7 @@ use Rattle.script.specs.declared.command.Mode.TheVariants.{Run}
 use Rattle.script.specs.declared.fault.Fault.{Fault}
 use Rattle.script.specs.declared.fault.Fault.TheVariants.{NotUtf8, UnknownWord, OutOfRange, NoSuchName, TooLong}
 use Rattle.script.specs.declared.fault.ScriptFault.{ScriptFault}
-use Rattle.script.specs.Forms.{CallForm, Form, silent, process, thread, member, mutex, mutexes, cond, begins, steps, kills, kills_all, goes, leaves, declines, renews, reinits, remakes, recounts, spares, resleeps, repeats, calls, locks, phase, dies, form_of, of_mode, has, words_form, or_else, name_form, step_form, die_form, mutexes_form, process_form, member_form, reinit_form, remake_form, locks_form, cond_form, call_form, calling_form, is_letter, is_name, is_name_byte, is_silent, is_stem}
+use Rattle.script.specs.Forms.{CallForm, Form, silent, process, thread, member, mutex, mutexes, cond, begins, steps, kills, kills_all, goes, leaves, declines, renews, reinits, remakes, recounts, spares, resleeps, repeats, calls, locks, phase, dies, form_of, of_mode, has, words_form, or_else, name_form, step_form, die_form, mutexes_form, process_form, member_form, reinit_form, locks_form, cond_form, call_form, calling_form, is_letter, is_name, is_name_byte, is_silent, is_stem}
 use Rattle.script.specs.Limits.{max_bytes, max_conditions, max_lines, max_mutexes, max_name, max_processes, max_stem, max_threads}
 use Rattle.script.specs.Reading.{added, begun, all_killed, asked, condition_declared, declares, declined, died, enter, fault_at, finished, gone, is_declared, is_numbered, killed, left, lines_read, line_read, locked, made, met_at, mutex_declared, mutexes_declared, names_of, nothing, numbered, place_of, process_declared, process_of, recounted, refuse, reinited, remade, renewed, repeated, script_read, several, slept_again, stepped, text_read, thread_declared, wake_spared, with_action, with_condition, with_entry, with_name, with_thread}
 use Rattle.script.specs.Scope.{Scope}

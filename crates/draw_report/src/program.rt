@@ -2,8 +2,6 @@
 
 ghost use Rattle.std.specs.Prelude.{◌≡◌, IfErr, IfOk, OnOk};
 ghost use Rattle.std.specs.IoError.{error_kind};
-ghost use Rattle.streams.specs.Leaves.{AppendsFront};
-ghost use Rattle.draw_report.specs.Messages.{failure_status, failure_text};
 ghost use Rattle.draw_report.specs.Programs.{asked_in, unopened_by, LegendEnds, NamedEnds};
 ghost use Rattle.draw_report.specs.Programs.{RunEnds, PictureEnds, ScriptIsTold, ScriptOpens};
 

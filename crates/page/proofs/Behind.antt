@@ -1,7 +1,6 @@
 -- What threads and mutexes are behind one line more.
-use Rattle.std.proofs.Common.{◌≡◌, ◌≢◌, ℕ, ◌+◌, ◌<◌, ◌≤◌, ◌⊎◌, inl, inr, Bool, true, false, Option, Some, None, List, [], ◌∷◌, length, map, get_or, refl, sym, ap, subst, ◌∙◌, arith}
-use Rattle.std.specs.Prelude.{◌==◌, option_map, replicate, slice_index_or, slice_set, if◌then◌else◌}
-use Rattle.std.specs.List.{range_with_len}
+use Rattle.std.proofs.Common.{◌≡◌, ◌≢◌, ℕ, ◌+◌, ◌<◌, ◌⊎◌, inl, inr, Bool, true, false, Option, Some, None, List, [], ◌∷◌, length, get_or, refl, sym, ap, subst, ◌∙◌, arith}
+use Rattle.std.specs.Prelude.{◌==◌, option_map, replicate, slice_set, if◌then◌else◌}
 use Rattle.std.proofs.Math.ListN.{set}
 use Rattle.std.proofs.lemmas.List.{get_or-replicate, get_or-set_other, length-replicate, length-set}
 use Rattle.std.proofs.lemmas.Grind.{get_or-set_at}
@@ -14,11 +13,11 @@ use Rattle.facts.specs.declared.fact.Fact.{Fact}
 use Rattle.facts.specs.declared.fact.Fact.TheVariants.{Begin, Point, Death, Sleep, Wake, Move, Return, Kill, Reap, Renew}
 use Rattle.facts.specs.declared.fact.Line.{Line}
 use Rattle.facts.specs.Facts.{decision_of, thread_of}
-use Rattle.verdict.specs.Earlier.{call_in, is_killed, is_reaped, moved, objects_after, told_of}
+use Rattle.verdict.specs.Earlier.{moved, objects_after, told_of}
 use Rattle.page.specs.declared.status.Bed.{Bed}
 use Rattle.page.specs.declared.status.Status.{Status}
-use Rattle.page.specs.Statuses.{after, bed_of, first_status, life_in, point_in, slept, status_of, told_so}
-use Rattle.page.specs.States.{Change, Mutex, Shown, change_of, changed, listed, mutex_behind, remade, replaced, state_behind, statuses}
+use Rattle.page.specs.Statuses.{after, bed_of, first_status, slept, status_of, told_so}
+use Rattle.page.specs.States.{Mutex, Shown, change_of, changed, listed, mutex_behind, replaced, state_behind, statuses}
 
 -- ---- a thread
 

@@ -1,11 +1,9 @@
 -- What is escaped has no character of markup.
-use Rattle.std.proofs.Common.{◌≡◌, ◌≢◌, ℕ, ◌<◌, ◌≤◌, true, false, List, refl, sym, ap, subst, ◌∙◌, arith}
-use Rattle.std.specs.Prelude.{All}
+use Rattle.std.proofs.Common.{◌≡◌, ◌≢◌, ℕ, true, false, refl, sym, subst, arith}
 use Rattle.percent_encoding.specs.declared.ascii_set.TheConstants.{NON_ALPHANUMERIC}
 use Rattle.percent_encoding.specs.AsciiSet.{should_percent_encode}
-use Rattle.percent_encoding.specs.Percent.{percent_encode}
 use Rattle.percent_encoding.proofs.PercentLemmas.{All-percent_encode, IsEscapeByte}
-use Rattle.page.specs.Escapes.{IsPlain, NamesAreEscaped, escaped}
+use Rattle.page.specs.Escapes.{IsPlain, NamesAreEscaped}
 
 kept_is_not : (b m : ℕ) → should_percent_encode NON_ALPHANUMERIC b ≡ false → should_percent_encode NON_ALPHANUMERIC m ≡ true → b ≢ m
 kept_is_not b m kept set is = let same : should_percent_encode NON_ALPHANUMERIC b ≡ true = subst (λ (n : ℕ). should_percent_encode NON_ALPHANUMERIC n ≡ true) (sym is) set in cc

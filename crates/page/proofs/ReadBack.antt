@@ -1,8 +1,8 @@
 -- Who reads a page's items comes to the states.
-use Rattle.std.proofs.Common.{◌≡◌, ℕ, Bool, true, false, List, [], ◌∷◌, ◌++◌, length, refl, sym, ap, subst, ◌∙◌}
+use Rattle.std.proofs.Common.{◌≡◌, ℕ, Bool, true, false, List, [], ◌∷◌, ◌++◌, length, refl, ap, ◌∙◌}
 use Rattle.std.specs.Prelude.{◌==◌, ◌%◌, if◌then◌else◌}
 use Rattle.facts.specs.declared.fact.Line.{Line}
-use Rattle.page.specs.Shows.{Item, Whole, Turn, IsShown, PageShows, items_behind, lines_in, read_from, states_behind, turn, whole_at, whole_every}
+use Rattle.page.specs.Shows.{Item, Whole, Turn, PageShows, items_behind, lines_in, read_from, states_behind, turn, whole_every}
 use Rattle.page.specs.States.{Shown, change_of, changed, state_behind}
 use Rattle.page.proofs.Behind.{change_leads}
 

@@ -1,5 +1,5 @@
 -- A line's items, as they are written.
-use Rattle.std.proofs.Common.{◌≡◌, ℕ, ◌+◌, ◌<◌, ◌≤◌, ◌^◌, Bool, true, false, Option, Some, None, List, [], ◌∷◌, ◌++◌, length, map, refl, sym, ap, subst, ◌∙◌, arith, append_assoc, append-nil}
+use Rattle.std.proofs.Common.{◌≡◌, ℕ, ◌+◌, ◌<◌, ◌≤◌, ◌^◌, Bool, true, false, Option, Some, None, List, [], ◌∷◌, ◌++◌, length, refl, sym, ap, subst, ◌∙◌, arith, append-nil}
 use Rattle.std.specs.Prelude.{◌==◌, ◌%◌, option_map, reverse, slice_index_or, slice_set, IfSome, Result, Ok, Err, IfOk, if◌then◌else◌}
 use Rattle.std.proofs.lemmas.List.{length-reverse}
 use Rattle.posixmutex.specs.declared.object.Object.{Object}
@@ -14,7 +14,7 @@ use Rattle.verdict.specs.Judges.{IsInside, IsMutex}
 use Rattle.page.specs.declared.status.Status.{Status}
 use Rattle.page.specs.Data.{mutex_in}
 use Rattle.page.specs.Shows.{Item, Turn, Whole, turn, whole_every}
-use Rattle.page.specs.States.{Mutex, Shown, change_of, listed, mutex_behind, remade, state_behind, statuses}
+use Rattle.page.specs.States.{Mutex, Shown, change_of, listed, remade, state_behind, statuses}
 use Rattle.page.specs.Statuses.{after, first_status, life_in, status_of}
 use Rattle.page.specs.Texts.{items_text, line_text, mutex_text, status_text, turn_text, whole_text}
 use Rattle.page.proofs.Behind.{length_listed, listed_at, moved_own, moved_other, own_line, set_listed, shown_so, threads_behind}

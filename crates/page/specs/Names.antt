@@ -1,5 +1,5 @@
 -- What things are called, in the data of a page: by the names that a picture has for them.
-use Rattle.std.specs.Prelude.{ℕ, ◌+◌, List, [], ◌∷◌, ◌++◌, codes}
+use Rattle.std.specs.Prelude.{ℕ, ◌+◌, List, ◌++◌, codes}
 use Rattle.picture.specs.Names.{Called, condition_head, condition_tail, mutex_head, mutex_tail}
 use Rattle.picture.specs.Names.{thread_head, thread_tail}
 use Rattle.picture.specs.Pieces.{each}

@@ -1,6 +1,6 @@
 //! The data of a page, line by line: all of it is put together before the page is written.
 
-ghost use Rattle.std.specs.Prelude.{◌≡◌, ◌+◌, ◌++◌, ◌≤◌, ◌<◌, ◌^◌, ◌==◌, ◌%◌, [], ◌∷◌, All, length, min, reverse, IfOk};
+ghost use Rattle.std.specs.Prelude.{◌≡◌, ◌+◌, ◌++◌, ◌≤◌, ◌<◌, ◌==◌, ◌%◌, [], ◌∷◌, All, length, min, reverse, IfOk};
 ghost use Rattle.std.specs.Prelude.{option_map, slice_index_or, string_bytes, if◌then◌else◌};
 ghost use Rattle.facts.specs.Facts.{decision_of, thread_of};
 ghost use Rattle.verdict.specs.Judges.{IsInside};

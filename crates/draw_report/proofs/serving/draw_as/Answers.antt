@@ -1,4 +1,4 @@
-use Rattle.std.proofs.Common.{sym, ap, subst, ◌∙◌}
+use Rattle.std.proofs.Common.{sym, ap, subst}
 use Rattle.streams.specs.Leaves.{Leaves}
 use Rattle.picture.specs.Drawn.{drawn}
 use Rattle.picture.specs.Svg.{svg_drawn}
