@@ -1,6 +1,7 @@
 /* What tries share: mutexes in a file, children that are killed, and replies that have to be these. */
 #ifndef SHARED_H
 #define SHARED_H
+#include "../../tries/state.h"
 #include <errno.h>
 #include <fcntl.h>
 #include <pthread.h>
@@ -115,18 +116,14 @@ static inline int dies_within(void (*first)(void), void (*again)(void), int inst
     return is_within;
 }
 
-/* What the kernel tells of a process. S: it sleeps in a system call. */
-static inline char state_of(pid_t it)
+/* Whether all of them sleep, or have ended, however often that is looked at. */
+static inline int none_gets_on(const pid_t *it, int n)
 {
-    char path[64], state = 0;
-    snprintf(path, sizeof path, "/proc/%d/stat", (int)it);
-    FILE *f = fopen(path, "r");
-    if (!f)
-        return 0;
-    if (fscanf(f, "%*d %*[^)]) %c", &state) != 1)
-        state = 0;
-    fclose(f);
-    return state;
+    for (int looks = 0; looks < 100; looks++)
+        for (int k = 0; k < n; k++)
+            if (!strchr("SZ", state_of(it[k])))
+                return 0;
+    return 1;
 }
 
 /* Which system call it sleeps in: what a try waits for, in place of a time. */
