@@ -12,11 +12,6 @@
 #define SHOWN __attribute__((visibility("default")))
 #define RARE  __attribute__((noinline, cold))
 
-/* What tries have it do at a moment (tries/hooks.h). */
-#ifndef PZ_AT
-#define PZ_AT(moment) ((void)0)
-#endif
-
 /* ---- real.c: the functions beneath. */
 typedef int one(pthread_mutex_t *);
 typedef int one_cond(pthread_cond_t *);

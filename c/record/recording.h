@@ -12,6 +12,11 @@
 #define MADV_POPULATE_WRITE 23 /* since Linux 5.14 */
 #endif
 
+/* What tries have it do at a moment (tries/hooks.h). */
+#ifndef PZ_AT
+#define PZ_AT(moment) ((void)0)
+#endif
+
 #define MAGIC 0x31636572647a70ull /* "pzdrec1" */
 enum { PAGE = 4096, PROCESSES = 1 << 16, LIVES = 1 << 17, NAMES = 1 << 18, OBJECTS = 1 << 12 };
 enum { NAME_SLOTS = 2 * NAMES, OBJECT_SLOTS = 2 * OBJECTS, OBJECT_PATH = 488 };

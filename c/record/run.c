@@ -13,6 +13,7 @@
 
 static pid_t child;
 static int status, is_here = 1; /* of the program itself; whether it hasn't ended */
+static struct sigaction chld;   /* as it was before: where it is ignored, nobody is told that a child ended */
 
 /* The recorder stands beside this program, or in the folder of libraries beside its own, or where ld.so(8) looks. */
 static void recorder(char path[PATH_MAX])
@@ -55,6 +56,7 @@ static void begin(const struct asked *a, const sigset_t *before)
         rec_fail(a->program[0], strerror(errno));
     if (child)
         return;
+    sigaction(SIGCHLD, &chld, NULL);
     sigprocmask(SIG_SETMASK, before, NULL);
     set_environment(a);
     execvp(a->program[0], a->program);
@@ -87,17 +89,39 @@ static int hand_on(const struct signalfd_siginfo *s)
     return is_here;
 }
 
+static int next_signal(int signals)
+{
+    struct signalfd_siginfo s;
+    return read(signals, &s, sizeof s) != sizeof s || hand_on(&s);
+}
+
+/* Where it may not poll, as by a limit that came later, it waits for signals alone. */
 static void until_all_ended(int deaths, int signals)
 {
     struct pollfd p[] = {{.fd = deaths, .events = POLLIN}, {.fd = signals, .events = POLLIN}};
-    struct signalfd_siginfo s;
-    for (;;) {
-        poll(p, 2, -1);
+    int has_signal;
+    do {
+        has_signal = poll(p, 2, -1) < 0 || p[1].revents;
         rec_take_deaths();
-        if (p[1].revents && read(signals, &s, sizeof s) == sizeof s && !hand_on(&s))
-            return;
-    }
+    } while (!has_signal || next_signal(signals));
 }
+
+/* A shell that becomes its last command leaves it the children that it has, which the program hasn't begun: then a
+ * child of this process, which has none, goes on in its place. Whether that is so. */
+static int is_done_by_a_child(int signals)
+{
+    siginfo_t is;
+    if (waitid(P_ALL, 0, &is, WEXITED | WNOHANG | WNOWAIT))
+        return 0;
+    child = fork();
+    if (child < 0)
+        rec_fail("can't wait", strerror(errno));
+    while (child && is_here)
+        next_signal(signals);
+    return child > 0;
+}
+
+static int end_of_program(void) { return WIFEXITED(status) ? WEXITSTATUS(status) : 128 + WTERMSIG(status); }
 
 int rec_run(const struct asked *a, struct recording *file)
 {
@@ -106,13 +130,18 @@ int rec_run(const struct asked *a, struct recording *file)
     for (const int *s = (const int[]){SIGCHLD, SIGINT, SIGQUIT, SIGTERM, SIGHUP, 0}; *s; s++)
         sigaddset(&ours, *s);
     sigprocmask(SIG_BLOCK, &ours, &before);
+    sigaction(SIGCHLD, &(struct sigaction){.sa_handler = SIG_DFL}, &chld);
     int signals = signalfd(-1, &ours, SFD_CLOEXEC);
-    if (signals < 0 || prctl(PR_SET_CHILD_SUBREAPER, 1))
+    if (signals < 0)
+        rec_fail("can't wait", strerror(errno));
+    if (is_done_by_a_child(signals))
+        return end_of_program();
+    if (prctl(PR_SET_CHILD_SUBREAPER, 1))
         rec_fail("can't wait", strerror(errno));
     begin(a, &before);
     until_all_ended(rec_watch(file), signals);
     rec_end_watch();
     if (atomic_load(&file->head.ended))
         fprintf(stderr, "pz-record: %s is full: what came later isn't recorded\n", a->file);
-    return WIFEXITED(status) ? WEXITSTATUS(status) : 128 + WTERMSIG(status);
+    return end_of_program();
 }

@@ -57,14 +57,17 @@ static void look(void)
         first++;
 }
 
+/* That it is over is news too: who has seen none since doesn't sleep past it. */
 static void *look_for_news(void *unused)
 {
-    while (!atomic_load(&is_over)) {
+    for (;;) {
         uint32_t seen = atomic_load(&file->head.news);
+        PZ_AT(looking);
+        if (atomic_load(&is_over))
+            return unused;
         look();
         syscall(SYS_futex, &file->head.news, FUTEX_WAIT, seen, NULL, NULL, 0);
     }
-    return unused;
 }
 
 /* ---- What run.c calls. */

@@ -11,4 +11,5 @@ MOMENT(filled_chunk);  /* its life hasn't it yet */
 MOMENT(filled_record); /* but for its begin */
 MOMENT(numbered);      /* a mutex that is made has its new number */
 MOMENT(called);        /* the call is made, and its end isn't stamped */
+MOMENT(looking);       /* the watcher has seen the last news, or whether it is over, and not yet the other */
 #endif

@@ -1,5 +1,7 @@
 /* Ways in which threads and processes come and go, and what is no call of a history. usage: ways NAME FILE */
 #include "shared.h"
+#include <dirent.h>
+#include <sys/resource.h>
 #include <time.h>
 
 static char *words[4];
@@ -134,6 +136,74 @@ static void cancelled(void)
     lock();
 }
 
+/* Who has the mutex while that wait has released it, the history couldn't explain. */
+static void private_cond(void)
+{
+    static pthread_cond_t plain = PTHREAD_COND_INITIALIZER;
+    struct timespec past = {0};
+    lock();
+    CHECK(pthread_cond_timedwait(&plain, m, &past) == ETIMEDOUT);
+    m++;
+    make(m, PTHREAD_MUTEX_NORMAL);
+    lock();
+}
+
+/* A thread can't look where its first mutex lies: what it calls would be missing, and so the recording ends. */
+static void cannot_look(void)
+{
+    struct rlimit before;
+    pthread_t t;
+    lock();
+    unlock();
+    CHECK(!getrlimit(RLIMIT_NOFILE, &before) && !setrlimit(RLIMIT_NOFILE, &(struct rlimit){0, before.rlim_max}));
+    CHECK(pthread_create(&t, NULL, owns, NULL) == 0 && pthread_join(t, NULL) == 0);
+    CHECK(setrlimit(RLIMIT_NOFILE, &before) == 0);
+    repair();
+}
+
+/* It has a thread beside its first, and all of those sleep. */
+static int its_others_sleep(pid_t process)
+{
+    char path[64];
+    int others = 0, asleep = 0;
+    snprintf(path, sizeof path, "/proc/%d/task", (int)process);
+    DIR *tasks = opendir(path);
+    CHECK(tasks);
+    for (struct dirent *e = readdir(tasks); e; e = readdir(tasks)) {
+        pid_t thread = (pid_t)atoi(e->d_name);
+        others += thread && thread != process;
+        asleep += thread && thread != process && state_of(thread) == 'S';
+    }
+    closedir(tasks);
+    return others && asleep == others;
+}
+static void until_watcher_sleeps(void)
+{
+    while (!its_others_sleep(getppid()))
+        usleep(100);
+}
+
+/* pz-record has no descriptors: it can neither watch who has the mutex nor look whether he lives, which is no end. */
+static void cannot_watch(void)
+{
+    _Atomic int *has = (void *)(at + 2048);
+    until_watcher_sleeps();
+    CHECK(prlimit(getppid(), RLIMIT_NOFILE, &(struct rlimit){0}, NULL) == 0);
+    pid_t it = a_child();
+    if (!it) {
+        lock();
+        atomic_store(has, 1);
+        for (;;)
+            pause();
+    }
+    while (!atomic_load(has))
+        usleep(100);
+    until_watcher_sleeps();
+    CHECK(pthread_mutex_trylock(m) == EBUSY);
+    until_killed(it);
+    repair();
+}
+
 /* At one address two files, one after the other. */
 static void another_file(void)
 {
@@ -187,6 +257,9 @@ static const struct {
     {"limits", limits, 0},
     {"private", private, 0},
     {"cancelled", cancelled, 0},
+    {"private_cond", private_cond, 0},
+    {"cannot_look", cannot_look, 0},
+    {"cannot_watch", cannot_watch, 0},
     {"another_file", another_file, 0},
     {"made_anew", made_anew, 0},
     {"early", early, 0},
