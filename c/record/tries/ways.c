@@ -183,11 +183,32 @@ static void until_watcher_sleeps(void)
         usleep(100);
 }
 
-/* pz-record has no descriptors: it can neither watch who has the mutex nor look whether he lives, which is no end. */
+/* Some that pz-record watches. */
+static void begin_watched(pid_t *it, int n)
+{
+    _Atomic int *begun = (void *)(at + 2048);
+    for (int i = 0; i < n; i++) {
+        it[i] = a_child();
+        if (!it[i]) {
+            make_cond((pthread_cond_t *)(void *)(at + 3072) + i);
+            atomic_fetch_add(begun, 1);
+            for (;;)
+                pause();
+        }
+    }
+    while (atomic_load(begun) < n)
+        usleep(100);
+    until_watcher_sleeps();
+}
+
+/* pz-record has no descriptors any more: it can neither watch who has the mutex, nor look whether he lives, which is no
+ * end, nor poll those that it has. */
 static void cannot_watch(void)
 {
-    _Atomic int *has = (void *)(at + 2048);
-    until_watcher_sleeps();
+    enum { WATCHED = 8 };
+    _Atomic int *has = (void *)(at + 2048 + sizeof *has);
+    pid_t watched[WATCHED];
+    begin_watched(watched, WATCHED);
     CHECK(prlimit(getppid(), RLIMIT_NOFILE, &(struct rlimit){0}, NULL) == 0);
     pid_t it = a_child();
     if (!it) {
@@ -202,6 +223,8 @@ static void cannot_watch(void)
     CHECK(pthread_mutex_trylock(m) == EBUSY);
     until_killed(it);
     repair();
+    for (int i = 0; i < WATCHED; i++)
+        until_killed(watched[i]);
 }
 
 /* At one address two files, one after the other. */
