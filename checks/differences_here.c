@@ -73,6 +73,7 @@ static const struct row {
     void (*see)(void);
     const char *seen;
 } rows[] = {
+    { "a waiter is killed as it is woken, and the mutex was locked again by then", killed_as_it_is_woken, "the second's lock OK, trylock OK" },
     { "several threads sleep on a mutex that becomes unusable", sleepers_of_a_spoiled_mutex, "3 told ENOTRECOVERABLE, 0 sleep on" },
     { "a second trylock of an unusable mutex", trylock_of_a_spoiled_mutex,
       "ENOTRECOVERABLE, then ENOTRECOVERABLE, of another ENOTRECOVERABLE, its lock ENOTRECOVERABLE, unlock EPERM" },

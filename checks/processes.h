@@ -10,6 +10,7 @@
 #include <stdlib.h>
 #include <string.h>
 #include <sys/prctl.h>
+#include <sys/ptrace.h>
 #include <sys/wait.h>
 #include <unistd.h>
 
@@ -88,6 +89,31 @@ static inline void settle(pid_t child)
     siginfo_t ended = { 0 };
     while (!is_asleep(child) && waitid(P_PID, child, &ended, WEXITED | WNOHANG | WNOWAIT) == 0 && ended.si_pid == 0)
         usleep(1000);
+}
+
+/* Has this process stopped, for the one that began it, at each begin and each end of a system call. */
+static inline int be_traced(void) { return ptrace(PTRACE_TRACEME, 0, NULL, NULL) || raise(SIGSTOP) ? errno : 0; }
+
+/* Until one that is traced sleeps, and not for a moment: it goes on from each stop. */
+static inline void settle_traced(pid_t child)
+{
+    int status;
+    for (int asleep = 0; asleep < 5; asleep = is_asleep(child) ? asleep + 1 : 0) {
+        if (waitpid(child, &status, WNOHANG) != child)
+            usleep(asleep ? 10000 : 500);
+        else if (!WIFSTOPPED(status) || ptrace(PTRACE_SETOPTIONS, child, NULL, PTRACE_O_TRACESYSGOOD) ||
+                 ptrace(PTRACE_SYSCALL, child, NULL, NULL))
+            fail("ptrace");
+    }
+}
+
+/* One that is traced stops where its sleep ends, before it does anything: whether it was woken. */
+static inline bool is_woken(pid_t child)
+{
+    struct __ptrace_syscall_info call = { 0 };
+    if (waitpid(child, NULL, 0) != child || ptrace(PTRACE_GET_SYSCALL_INFO, child, sizeof call, &call) < 0)
+        fail("ptrace");
+    return call.op == PTRACE_SYSCALL_INFO_EXIT && !call.exit.is_error;
 }
 
 static inline void kill_it(pid_t child)

@@ -30,6 +30,39 @@ static void spoil(void)
     unlock();
 }
 
+static int lock_traced(void) { return be_traced() ?: lock(); }
+static int lock_and_unlock(void) { return lock() ?: unlock(); }
+
+/* Two sleep on the mutex, and an unlock wakes the first, which stands still then. They are begun anew where it looked by itself before. */
+static void wake_the_first(pid_t *first, pid_t *second)
+{
+    do {
+        lock();
+        settle_traced(*first = begin(lock_traced));
+        settle(*second = begin(lock_and_unlock));
+        unlock();
+    } while (!is_woken(*first) && (kill_it(*first), came_of(*second)) == 0);
+}
+
+/* Another has locked the mutex by then. (None has to stand still for it: where the first was killed right behind such an unlock and
+ * lock, the C library's second slept on 95 to 99 times of 100.) */
+static void killed_as_it_is_woken(void)
+{
+    pid_t first, second, third;
+    wake_the_first(&first, &second);
+    lock();
+    kill_it(first);
+    unlock();
+    int answer = came_of(second);
+    say("the second's lock %s, ", name(answer));
+    say("trylock %s", name(trylock()));
+    if (answer != SLEEPS)
+        return;
+    settle(third = begin(lock_and_unlock));
+    unlock();
+    say(", and once a third has slept there %s", name(came_of(second)));
+}
+
 static void sleepers_of_a_spoiled_mutex(void)
 {
     pid_t sleepers[SLEEPERS];

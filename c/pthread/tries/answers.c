@@ -4,6 +4,7 @@
 #include <fcntl.h>
 #include <pthread.h>
 #include <sys/prctl.h>
+#include <sys/ptrace.h>
 #include <sys/resource.h>
 
 enum { MOST = 3000, SLEEPS = 1000, CRASHES = 1001 };
@@ -325,6 +326,48 @@ static void made(void)
     printf("%s: errno behind calls: %d\n", types[type], errno);
 }
 
+static int lock_and_unlock(void)
+{
+    int r = lock();
+    return r ? r : unlock();
+}
+
+/* It stops at each begin and each end of a system call, for the one that began it. */
+static int lock_traced(void)
+{
+    CHECK(ptrace(PTRACE_TRACEME, 0, NULL, NULL) == 0 && raise(SIGSTOP) == 0);
+    return lock();
+}
+
+/* It goes on from each stop, until it sleeps and doesn't nap. */
+static void until_traced_sleeps(pid_t it)
+{
+    int status;
+    for (int quiet = 0; quiet < 5; quiet = sleeps(it) ? quiet + 1 : 0) {
+        rest(quiet ? 10000 : 500);
+        if (waitpid(it, &status, WNOHANG) == it)
+            CHECK(WIFSTOPPED(status) && ptrace(PTRACE_SYSCALL, it, NULL, NULL) == 0);
+    }
+}
+
+static void killed_as_it_is_woken(void)
+{
+    int status;
+    make();
+    lock();
+    struct call first = begun(lock_traced);
+    until_traced_sleeps(first.by);
+    struct call second = begun(lock_and_unlock);
+    until_asleep(second.by);
+    unlock();
+    CHECK(waitpid(first.by, &status, 0) == first.by && WIFSTOPPED(status)); /* its sleep has ended */
+    lock();
+    kill_and_wait(first.by);
+    unlock();
+    int answer = ended(second);
+    ROW("a waiter is killed as it is woken, and it was locked again by then: another's lock, trylock", answer, try());
+}
+
 static void make_with_cond(void)
 {
     pthread_condattr_t a;
@@ -428,6 +471,7 @@ int main(int argc, char **argv)
         died();
         unusable();
         made();
+        killed_as_it_is_woken();
         waited();
         waited_beside_deaths();
         waited_in_vain();
