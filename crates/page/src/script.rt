@@ -53,14 +53,18 @@ function go(to) {
   at = to;
 }
 
-const owned = t => mutexes.flatMap((o, m) => (o[0] === t ? [mutex(m)] : []));
+// what each thread owns, and who sleeps on what, in their order; of those with none nothing stands there
+function owned() {
+  const all = [];
+  mutexes.forEach(([owner], m) => owner && (all[owner] ||= []).push(mutex(m)));
+  return all;
+}
 
-function sleepers(letter, number) {
-  return threads
-    .map((status, t) => [status[5], t])
-    .filter(([bed]) => bed && bed[0] === letter && bed[1] === number)
-    .sort(([a], [b]) => a[2] - b[2])
-    .map(([, t]) => thread(t));
+function sleepers() {
+  const all = { m: [], c: [] };
+  const asleep = threads.flatMap((status, t) => (status[5] ? [[status[5], t]] : []));
+  for (const [[letter, number], t] of asleep.sort(([a], [b]) => a[2] - b[2])) (all[letter][number] ||= []).push(thread(t));
+  return all;
 }
 
 // ---- in words
@@ -108,7 +112,7 @@ const because = {
 
 const words = line => "event " + line[0] + ": " + told[line[1][0]](line[1]);
 
-// ---- the tables: a row for each thing, made once
+// ---- the tables: a row for each thing, made once; where a text stays, its cell isn't touched
 
 const named = [new Set(), new Set()];
 for (const [, fact, status] of lines) {
@@ -124,12 +128,11 @@ function rows(id, count, cells, isNamed, shown) {
   for (let i = 0; i < count; i++) {
     if (count > 16 && !isNamed(i)) continue;
     const row = body.insertRow();
-    row.dataset.number = i;
     const head = row.appendChild(document.createElement("th"));
     head.scope = "row";
     head.textContent = shown(i);
-    for (let c = 0; c < cells; c++) row.insertCell();
-    made.push([i, [...row.cells].slice(1)]);
+    const texts = Array(cells).fill("");
+    made.push([i, texts.map(() => row.insertCell()), texts]);
   }
   element(id).hidden = made.length === 0;
   return made;
@@ -139,23 +142,23 @@ const threadRows = rows("threads", called[0].length, 3, () => true, i => thread(
 const mutexRows = rows("mutexes", called[1].length, 3, m => named[0].has(m), mutex);
 const conditionRows = rows("conditions", called[2].length, 1, c => named[1].has(c), condition);
 
-function fill(row, cells, texts) {
-  texts.forEach((text, i) => {
-    if (cells[i].textContent !== text) cells[i].textContent = text;
+function fill([, cells, texts], ...now) {
+  now.forEach((text, c) => {
+    if (texts[c] !== text) cells[c].textContent = texts[c] = text;
   });
 }
 
 function show(to) {
-  go(Math.max(0, Math.min(last, to)));
-  for (const [i, cells] of threadRows) {
-    const status = threads[i + 1];
-    fill(i, cells, [does(status), String(status[0]), owned(i + 1).join(", ")]);
+  go(Math.max(0, Math.min(last, Math.trunc(to) || 0)));
+  const owns = owned();
+  const sleep = sleepers();
+  const list = names => (names || []).join(", ");
+  for (const row of threadRows) fill(row, does(threads[row[0] + 1]), String(threads[row[0] + 1][0]), list(owns[row[0] + 1]));
+  for (const row of mutexRows) {
+    const object = mutexes[row[0]];
+    fill(row, is(object), object[0] ? thread(object[0]) : "", list(sleep.m[row[0]]));
   }
-  for (const [m, cells] of mutexRows) {
-    const object = mutexes[m];
-    fill(m, cells, [is(object), object[0] ? thread(object[0]) : "", sleepers("m", m).join(", ")]);
-  }
-  for (const [c, cells] of conditionRows) fill(c, cells, [sleepers("c", c).join(", ")]);
+  for (const row of conditionRows) fill(row, list(sleep.c[row[0]]));
   tell();
 }
 
@@ -172,13 +175,26 @@ function tell() {
   const cursor = element("cursor");
   cursor.hidden = at === 0;
   cursor.style.top = firstRow + rowHeight * at - rowHeight / 2 + "px";
-  history.replaceState(null, "", "#" + at);
+  try {
+    history.replaceState(null, "", "#" + at);
+  } catch {
+    // some browsers allow only so many in a time
+  }
+}
+
+let lanes = []; // where each thread's is, from the left
+
+function findLanes() {
+  lanes = [...document.querySelectorAll("#rows ~ svg > path.l")].map(path => Number(path.getAttribute("d").match(/\d+/)[0]));
 }
 
 function follow() {
   const picture = element("picture");
   const top = firstRow + rowHeight * at;
   if (top < picture.scrollTop + 40 || top > picture.scrollTop + picture.clientHeight - 40) picture.scrollTop = top - picture.clientHeight / 2;
+  const line = lines[at - 1];
+  const lane = line && lanes[line[1][1] - 1];
+  if (lane < picture.scrollLeft + 20 || lane > picture.scrollLeft + picture.clientWidth - 160) picture.scrollLeft = lane - picture.clientWidth / 2;
 }
 
 // ---- the picture: of a large one only the rows are drawn that can be seen
@@ -236,7 +252,6 @@ function play(on) {
   clearInterval(playing);
   playing = on ? setInterval(() => (at < last ? step(at + 1) : play(false)), 700) : 0;
   element("play").textContent = on ? "Pause" : "Play";
-  element("play").setAttribute("aria-pressed", String(on));
 }
 
 function step(to) {
@@ -266,7 +281,8 @@ if (isCut) {
   element("cut").textContent = "Of " + end[2] + " lines the first " + lines.length + " are shown here; the picture has all." + judged;
   element("cut").className = illegal ? "misfit" : "";
 }
-window.addEventListener("hashchange", () => step(Number(location.hash.slice(1)) || 0));
-show(location.hash.length > 1 ? Number(location.hash.slice(1)) || 0 : stops ? last : 0);
+window.addEventListener("hashchange", () => step(Number(location.hash.slice(1))));
+show(location.hash.length > 1 ? Number(location.hash.slice(1)) : stops ? last : 0);
+document.addEventListener("DOMContentLoaded", findLanes);
 window.addEventListener("load", follow);
 "##;
