@@ -1,9 +1,9 @@
 -- What is escaped has no character of markup.
-use Rattle.std.proofs.Common.{◌≡◌, ◌≢◌, ℕ, true, false, refl, sym, subst, arith}
+use Rattle.std.proofs.Common.{◌≡◌, ◌≢◌, ℕ, true, false, List, All, refl, sym, subst, arith}
 use Rattle.percent_encoding.specs.declared.ascii_set.TheConstants.{NON_ALPHANUMERIC}
-use Rattle.percent_encoding.specs.AsciiSet.{should_percent_encode}
-use Rattle.percent_encoding.proofs.PercentLemmas.{All-percent_encode, IsEscapeByte}
-use Rattle.page.specs.Escapes.{IsPlain, NamesAreEscaped}
+use Rattle.percent_encoding.specs.AsciiSet.{contains, should_percent_encode}
+use Rattle.percent_encoding.proofs.PercentLemmas.{All-percent_encode, IsEscapeByte, round_trip}
+use Rattle.page.specs.Escapes.{IsPlain, NamesAreEscaped, escaped}
 
 kept_is_not : (b m : ℕ) → should_percent_encode NON_ALPHANUMERIC b ≡ false → should_percent_encode NON_ALPHANUMERIC m ≡ true → b ≢ m
 kept_is_not b m kept set is = let same : should_percent_encode NON_ALPHANUMERIC b ≡ true = subst (λ (n : ℕ). should_percent_encode NON_ALPHANUMERIC n ≡ true) (sym is) set in cc
@@ -47,5 +47,14 @@ escape b h = record {
   backslash = λ e. backslash_no b h e;
 }
 
+pub plain_name : (name : List ℕ) → All IsPlain (escaped name)
+plain_name name = All-percent_encode IsPlain NON_ALPHANUMERIC name kept escape
+
+has_percent : contains NON_ALPHANUMERIC 37 ≡ true
+has_percent = refl
+
 pub names_are_escaped : NamesAreEscaped
-names_are_escaped bs = All-percent_encode IsPlain NON_ALPHANUMERIC bs kept escape
+names_are_escaped name = record {
+  plain = plain_name name;
+  back = round_trip NON_ALPHANUMERIC name has_percent;
+}

@@ -3,3 +3,7 @@ mod ReadBack
 mod Escapes
 mod Turns
 mod Lines
+mod Judged
+mod Fitting
+mod Quoting
+mod Truths

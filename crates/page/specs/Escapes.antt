@@ -1,8 +1,8 @@
 -- How names and words that a trace or a script may choose stand in a page: percent-encoded, all but letters and digits
 -- (the URL Standard, section 1.3).
-use Rattle.std.specs.Prelude.{ℕ, ◌≢◌, List, All}
+use Rattle.std.specs.Prelude.{ℕ, ◌≡◌, ◌≢◌, ◌<◌, List, All}
 use Rattle.percent_encoding.specs.declared.ascii_set.TheConstants.{NON_ALPHANUMERIC}
-use Rattle.percent_encoding.specs.Percent.{percent_encode}
+use Rattle.percent_encoding.specs.Percent.{percent_decode, percent_encode}
 
 abbrev pub escaped : List ℕ → List ℕ
 escaped bs = percent_encode NON_ALPHANUMERIC bs
@@ -17,6 +17,11 @@ pub record IsPlain (b : ℕ) : Type 0 where
   pub greater : b ≢ 62
   pub backslash : b ≢ 92
 
--- whatever a name is, what stands of it in the data of a page is plain
+-- what stands of a name in the data of a page is plain, and is read back as the name
+pub record IsEscaped (name : List ℕ) : Type 0 where
+  pub plain : All IsPlain (escaped name)
+  pub back : All (λ b. b < 256) name → percent_decode (escaped name) ≡ name
+
+-- whatever the name is
 abbrev pub NamesAreEscaped : Type 0
-NamesAreEscaped = (name : List ℕ) → All IsPlain (escaped name)
+NamesAreEscaped = (name : List ℕ) → IsEscaped name

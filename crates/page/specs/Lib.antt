@@ -1,9 +1,12 @@
 pub mod Data
 pub mod Escapes
+pub mod Judged
 pub mod Names
 pub mod Pages
+pub mod Quoting
 pub mod Reasons
 pub mod Shows
 pub mod States
 pub mod Statuses
 pub mod Texts
+pub mod Truths

@@ -1,7 +1,10 @@
 //! What holds of every page.
 
 ghost use Rattle.page.specs.Escapes.{NamesAreEscaped};
+ghost use Rattle.page.specs.Judged.{ShownLinesFit, StatesAreTheJudges};
+ghost use Rattle.page.specs.Quoting.{NamesStandInQuotes};
 ghost use Rattle.page.specs.Shows.{PageShows};
+ghost use Rattle.page.specs.Truths.{ReasonsAreTrue};
 
 /// The data of a page says the state behind each of its lines, in their order, and nothing else: who reads it, changing
 /// what each line changes, from any of its whole states on, comes to just these.
@@ -9,8 +12,38 @@ pub fn page_shows()
     ensures { PageShows }
 {}
 
-/// Whatever a thing is called, its name in the data of a page has no character that ends a text or begins markup. The
-/// picture has names as they are: those of a script have no such character, as `names_are_plain` of `draw_report` says.
+/// Where each of some lines fits those before it, the state behind them is the judge's of traces. A thread that rests
+/// is in no call, has no point and no bed, and wasn't killed. One in a call is in just that call; its newest point is
+/// as far as the judge has the call's points, and has the reply that the call will return; and it has a bed just where
+/// the judge has it asleep. A dying or a reaped one has neither call nor point nor bed. The bed is in the queue that
+/// the thread's newest sleep or move names, since that line; the point is the thread's newest one; the thread's life is
+/// one more than it has renewals. And each mutex is as the judge has it.
+pub fn states_are_the_judges()
+    ensures { StatesAreTheJudges }
+{}
+
+/// Each line that a page shows fits those before it, where the page says what the judge of traces found.
+pub fn shown_lines_fit()
+    ensures { ShownLinesFit }
+{}
+
+/// Whatever things are called, who reads the texts in quotes from a page's data, byte by byte, finds first the name of
+/// each thread, mutex and condition variable, in their order, escaped, each in quotes of its own which it doesn't end;
+/// the data behind them are the same whatever the names. And no byte of the data begins or ends markup or escapes
+/// another: there is no angle bracket, ampersand, apostrophe or backslash.
+pub fn names_stand_in_quotes()
+    ensures { NamesStandInQuotes }
+{}
+
+/// Whatever a thing is called, its name in the data of a page has no character that ends a text or begins markup, and
+/// who reads it back comes to the name. The picture has names as they are: those of a script have no such character, as
+/// `names_are_plain` of `draw_report` says.
 pub fn names_are_escaped()
     ensures { NamesAreEscaped }
+{}
+
+/// Where a line doesn't fit those before it, and the reason says that its thread is asleep or isn't, is in a call or in
+/// none, has had no point yet, lives, was killed or was reaped, the page shows the thread so behind those lines.
+pub fn reasons_are_true()
+    ensures { ReasonsAreTrue }
 {}

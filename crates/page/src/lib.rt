@@ -34,4 +34,7 @@ mod status;
 mod texts;
 
 pub use html::write_page;
-pub use laws::{names_are_escaped, page_shows};
+pub use laws::{
+    names_are_escaped, names_stand_in_quotes, page_shows, reasons_are_true, shown_lines_fit,
+    states_are_the_judges,
+};

@@ -1,0 +1,45 @@
+-- The lines that a page shows fit.
+use Rattle.std.proofs.Common.{◌≡◌, inl, inr, ℕ, ◌+◌, ◌-◌, ◌≤◌, List, [], ◌∷◌, ◌++◌, length, take, drop, sym, ap, subst, ◌∙◌, append_assoc, arith, length-append, take-append-drop}
+use Rattle.std.specs.Prelude.{reverse}
+use Rattle.std.proofs.lemmas.List.{length-reverse, length-take, reverse-append}
+use Rattle.facts.specs.declared.fact.Line.{Line}
+use Rattle.verdict.specs.declared.checking.Finding.TheVariants.{Legal, Illegal}
+use Rattle.verdict.specs.Verdicts.{AllFit, IsFirstMisfit}
+use Rattle.page.specs.Data.{shown_lines}
+use Rattle.page.specs.Judged.{ShownLinesFit}
+
+fit_behind : (n : ℕ) (newer earlier : List Line) → AllFit n (newer ++ earlier) → AllFit n earlier
+fit_behind n [] es fit = fit
+fit_behind n (e ∷ newer) es fit = fit_behind n newer es fit.1
+
+-- of two ends of the same lines the shorter one is an end of the longer one
+pub record EndsIn (long short : List Line) : Type 0 where
+  pub more : List Line
+  pub all : long ≡ more ++ short
+
+shorter : (xs bs cs ds : List Line) → xs ++ bs ≡ cs ++ ds → length bs ≤ length ds → EndsIn ds bs
+shorter [] bs [] ds same short = record { more = []; all = sym same }
+shorter [] bs (c ∷ cs) ds same short = let l = ap length same in let k = length-append (c ∷ cs) ds in absurd (omega (arith, l, k, short))
+shorter (x ∷ xs) bs [] ds same short = record { more = x ∷ xs; all = sym same }
+shorter (x ∷ xs) bs (c ∷ cs) ds same short = let rest : xs ++ bs ≡ cs ++ ds = cc in shorter xs bs cs ds rest short
+
+-- the newest lines last, or first
+parted : (ls : List Line) (k : ℕ) → reverse ls ≡ reverse (drop k ls) ++ reverse (take k ls)
+parted ls k = ap reverse (sym (take-append-drop k ls)) ∙ reverse-append (take k ls) (drop k ls)
+
+fit_taken : (n k : ℕ) (ls : List Line) → AllFit n (reverse ls) → AllFit n (reverse (take k ls))
+fit_taken n k ls fit = fit_behind n (reverse (drop k ls)) (reverse (take k ls)) (subst (AllFit n) (parted ls k) fit)
+
+fit_before : (n k line : ℕ) (ls : List Line) → IsFirstMisfit n (reverse ls) line → k ≤ line - 2 → AllFit n (reverse (take k ls))
+fit_before n k line ls first few =
+    let same : reverse (drop k ls) ++ reverse (take k ls) ≡ (first.newer ++ first.misfit ∷ []) ++ first.earlier = sym (parted ls k) ∙ first.all ∙ sym (append_assoc first.newer (first.misfit ∷ []) first.earlier) in
+    let here = first.here in
+    let t = length-take k ls in
+    let r = length-reverse (take k ls) in
+    let end = shorter (reverse (drop k ls)) (reverse (take k ls)) (first.newer ++ first.misfit ∷ []) first.earlier same (omega (arith, here, t, r, few)) in
+    fit_behind n end.more (reverse (take k ls)) (subst (AllFit n) end.all first.fit)
+
+pub shown_lines_fit : ShownLinesFit
+shown_lines_fit t (Legal points) found = fit_taken t.head.mutexes (shown_lines (Legal points) (length t.lines.items)) t.lines.items found.0.fits
+shown_lines_fit t (Illegal why) (inl found) = fit_before t.head.mutexes (shown_lines (Illegal why) (length t.lines.items)) why.line t.lines.items found.first (omega arith)
+shown_lines_fit t (Illegal why) (inr found) = fit_taken t.head.mutexes (shown_lines (Illegal why) (length t.lines.items)) t.lines.items found.short.fit
