@@ -1,9 +1,10 @@
 -- Names in the data of a page, whatever they are.
 --
--- *Names stand in quotes.* Who reads the texts in quotes from the data, byte by byte, finds first three words, and behind
--- each what its things are called, escaped, in their order; then he stands outside of quotes, and what follows is the
--- same whatever the names are. No byte of the data begins or ends markup, or escapes another.
-use Rattle.std.specs.Prelude.{ℕ, ◌≡◌, ◌+◌, ◌==◌, ◌⊎◌, Option, Some, None, List, [], ◌∷◌, ◌++◌, All, codes, if◌then◌else◌}
+-- *Names stand in quotes.* Who reads the texts in quotes from the data, byte by byte, finds first three words, and
+-- behind each what its things are called, escaped, in their order; then he stands outside of quotes, and what follows
+-- is the same whatever the names are. No byte of the data begins or ends markup, or escapes another.
+use Rattle.std.specs.Prelude.{ℕ, ◌≡◌, ◌+◌, ◌==◌, ◌⊎◌, Option, Some, None, List, [], ◌∷◌, ◌++◌, All, codes}
+use Rattle.std.specs.Prelude.{if◌then◌else◌}
 use Rattle.std.specs.List.{fold}
 use Rattle.verdict.specs.declared.checking.Finding.{Finding}
 use Rattle.verdict.specs.declared.head.Head.{Head}

@@ -1,11 +1,13 @@
 //! Pages of HTML to step through a trace.
 //!
 //! [`write_page`] writes one file: a frame, the trace's picture as `picture` draws it as SVG, and as data the state
-//! behind each line that fits those before it: what each thread does, what each mutex is (`state_behind`). The data are
-//! whole states, and between them what each line changes; who reads them comes to just the states behind the lines, in
-//! their order ([`page_shows`]). The page's script shows them. Names in the data are escaped ([`names_are_escaped`]).
-//! How the judge of traces found all of the trace stands behind the data, the line that doesn't fit and why where there
-//! is one (`reason_text`). Where memory is refused nothing is written, where a write fails a beginning of the page is
+//! behind each line that fits those before it: what each thread does, what each mutex is (`state_behind`), as the judge
+//! of traces has them ([`states_are_the_judges`], [`shown_lines_fit`]). The data are whole states, and between them what
+//! each line changes; who reads them comes to just the states behind the lines, in their order ([`page_shows`]). The
+//! page's script shows them. Names in the data are escaped ([`names_are_escaped`]), in quotes that they don't end
+//! ([`names_stand_in_quotes`]). How the judge of traces found all of the trace stands behind the data, the line that
+//! doesn't fit and why where there is one (`reason_text`, [`reasons_are_true`]). Where memory is refused nothing is
+//! written, where a write fails a beginning of the page is
 //! (`LeavesPage`).
 //!
 //! Stands on `verdict`, for what is read of a trace and how it is judged, on `picture`, for the picture and names, on
