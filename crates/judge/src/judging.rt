@@ -3,11 +3,12 @@
 ghost use Rattle.std.specs.Prelude.{◌≡◌, ◌<◌, true, length, IfOk, IfSome};
 ghost use Rattle.certificates.specs.Certificates.{IsCertificate};
 ghost use Rattle.histories.specs.Reading.{IsHead};
-ghost use Rattle.judge.specs.Judgements.{IsJudged, IsLegal};
+ghost use Rattle.judge.specs.Judgements.{IsJudged, IsLegal, IsNeverLegal};
 
 use certificates::certify;
 use completing::{Pass, Refusal, Stop, has_dooms, weave};
 use histories::{Entry, Head, HistoryLine};
+use refuting::refutes;
 use std::alloc::{AllocError, Global};
 
 /// What a history is found to be.
@@ -15,10 +16,11 @@ use std::alloc::{AllocError, Global};
 pub enum Judgement {
     /// Some trace shows it: these are its steps, a certificate.
     Legal(Vec<Entry>),
-    /// The history is legal up to this place of a line, counted from 0; with that line, says the search, no order of the
-    /// calls explains it.
+    /// The history is legal up to this place of a line, counted from 0; with that line no order of the calls explains
+    /// it.
     Illegal(usize, Refusal),
-    /// The history is legal up to this place of a line, counted from 0; with that line no certificate was found.
+    /// The history is legal up to this place of a line, counted from 0; with that line no certificate was found, and it
+    /// wasn't refuted.
     Undecided(usize),
 }
 
@@ -196,6 +198,28 @@ fn refusal_at(
     }
 }
 
+/// Whether the lines up to this place and the one there are refuted: by the mutex that the search names, or by the
+/// thread's own lines.
+fn is_refuted(
+    alloc: Global,
+    head: &Head,
+    lines: &[HistoryLine],
+    at: usize,
+    refusal: &Refusal,
+) -> Result<bool, Stop>
+    ensures { IfOk result (λ refuted. refuted ≡ true → IsNeverLegal head.now lines.now at) }
+{
+    if at >= lines.len() {
+        return Ok(false);
+    }
+    let mutex = match *refusal {
+        Refusal::NoOrder { mutex, .. } => mutex,
+        Refusal::OutOfTurn(_) => 0,
+    };
+    let refuted = refutes(alloc, head, &lines[..at + 1], mutex)?;
+    Ok(refuted)
+}
+
 /// What is said where a certificate reaches up to this place.
 fn judged_at(
     alloc: Global,
@@ -206,11 +230,21 @@ fn judged_at(
     requires { IsLegal head.now lines.now at }
     ensures { IfOk result (IsJudged head.now lines.now) }
 {
-    match refusal_at(alloc, head, lines, at) {
-        Ok(Some(refusal)) => Ok(Judgement::Illegal(at, refusal)),
-        Err(Stop::Memory) => Err(Stop::Memory),
-        _ if at < lines.len() => Ok(Judgement::Undecided(at)),
-        _ => Err(Stop::Lost),
+    let refusal = match refusal_at(alloc, head, lines, at) {
+        Ok(refusal) => refusal,
+        Err(Stop::Memory) => return Err(Stop::Memory),
+        Err(_) => None,
+    };
+    if at >= lines.len() {
+        return Err(Stop::Lost);
+    }
+    let Some(refusal) = refusal else {
+        return Ok(Judgement::Undecided(at));
+    };
+    if is_refuted(alloc, head, lines, at, &refusal)? {
+        Ok(Judgement::Illegal(at, refusal))
+    } else {
+        Ok(Judgement::Undecided(at))
     }
 }
 
@@ -242,7 +276,7 @@ fn judged(alloc: Global, head: &Head, lines: &[HistoryLine]) -> Result<Judgement
 
 /// Judges a history. What it finds legal has the certificate that is handed out: a trace that shows the history, each
 /// line of which was accepted by the rules of the judge of traces. What it finds illegal or can't decide is legal up to
-/// the line that it names: so much is proved too. That with an illegal line no trace shows the history isn't proved.
+/// the line that it names; with the illegal line no trace shows the history. That it decides isn't proved.
 pub fn judge(alloc: Global, head: &Head, lines: &[HistoryLine]) -> Result<Judgement, AllocError>
     requires { IsHead head.now }
     ensures { IfOk result (IsJudged head.now lines.now) }

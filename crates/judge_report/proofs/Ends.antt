@@ -16,7 +16,7 @@ use Rattle.certificates.specs.Certificates.{is_point_step}
 use Rattle.completing.specs.declared.stop.Refusal.{Refusal}
 use Rattle.judge.specs.declared.judging.Judgement.{Judgement}
 use Rattle.judge.specs.declared.judging.Judgement.TheVariants.{Legal, Illegal, Undecided}
-use Rattle.judge.specs.Judgements.{IsJudged, IsLegalBefore}
+use Rattle.judge.specs.Judgements.{IsJudged, IsLegalBefore, IsNeverLegal}
 use Rattle.judge_report.specs.declared.messages.Failure.{Failure}
 use Rattle.judge_report.specs.declared.messages.Failure.TheVariants.{Usage, CannotRead, CannotWrite, CannotKeep, OutOfMemory, Ill}
 use Rattle.judge_report.specs.declared.reading.History.{History}
@@ -26,7 +26,7 @@ use Rattle.judge_report.specs.Heard.{Heard, Gives, heard_of, history_read}
 use Rattle.judge_report.specs.Said.{IsFilled, IsSaid, IsWritten, Tells, status_of}
 use Rattle.judge_report.specs.Served.{Fails, IsRead, Serves, ServesFront, Unread, failed_by}
 use Rattle.judge_report.specs.Texts.{certificate_text, illegal_text, legal_text, undecided_text}
-use Rattle.judge_report.proofs.Saying.{is_legal, is_legal_before}
+use Rattle.judge_report.proofs.Saying.{is_first_illegal, is_legal, is_legal_before}
 
 -- whatever came of a text and of what was done then, a beginning of it stands, if that kept it
 pub leaves_is_front : {X E : Type 0} (a b c : Option (List ℕ)) (r : Result X E) (text : List ℕ) → Leaves a b r text → Keeps b c → AppendsFront a c text
@@ -45,7 +45,7 @@ pub tells_illegal : {E : Type 0} (h : History) (j : Judgement) (at : ℕ) (why :
     → l ≡ get_or h.lines.items at l → Leaves old new r (illegal_text h.lines.items l why) → Tells (heard_of h) j old new r
 tells_illegal h j at why l old new r is judged line leaves =
     subst (λ (k : Judgement). Tells (heard_of h) k old new r) (sym is)
-    (illegal_text h.lines.items l why, (l, is_legal_before h at l (subst (IsJudged h.head h.lines.items) is judged) line, ap (λ (ls : List HistoryLine). illegal_text ls l why) (sym (reverse-reverse h.lines.items))), leaves)
+    (illegal_text h.lines.items l why, (l, is_first_illegal h at l (subst (IsJudged h.head h.lines.items) is judged) line, ap (λ (ls : List HistoryLine). illegal_text ls l why) (sym (reverse-reverse h.lines.items))), leaves)
 
 pub tells_undecided : {E : Type 0} (h : History) (j : Judgement) (at : ℕ) (l : HistoryLine) (old new : Option (List ℕ)) (r : Result (Unit {0}) E) → j ≡ Undecided at → IsJudged h.head h.lines.items j
     → l ≡ get_or h.lines.items at l → Leaves old new r (undecided_text l) → Tells (heard_of h) j old new r
@@ -54,7 +54,7 @@ tells_undecided h j at l old new r is judged line leaves =
     (undecided_text l, (l, is_legal_before h at l (subst (IsJudged h.head h.lines.items) is judged) line, refl), leaves)
 
 pub illegal_within : (h : History) (j : Judgement) (at : ℕ) (why : Refusal) → j ≡ Illegal at why → IsJudged h.head h.lines.items j → at < length h.lines.items
-illegal_within h j at why is judged = let before : IsLegalBefore h.head h.lines.items at = subst (IsJudged h.head h.lines.items) is judged in before.0
+illegal_within h j at why is judged = let found : IsLegalBefore h.head h.lines.items at × IsNeverLegal h.head h.lines.items at = subst (IsJudged h.head h.lines.items) is judged in found.0.0
 
 pub undecided_within : (h : History) (j : Judgement) (at : ℕ) → j ≡ Undecided at → IsJudged h.head h.lines.items j → at < length h.lines.items
 undecided_within h j at is judged = let before : IsLegalBefore h.head h.lines.items at = subst (IsJudged h.head h.lines.items) is judged in before.0

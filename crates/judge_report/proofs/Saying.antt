@@ -5,11 +5,11 @@ use Rattle.histories.specs.declared.entry.Entry.{Entry}
 use Rattle.histories.specs.declared.entry.HistoryLine.{HistoryLine}
 use Rattle.histories.specs.Histories.{LegalHistory}
 use Rattle.certificates.specs.Certificates.{IsCertificate, entries}
-use Rattle.judge.specs.Judgements.{IsLegalBefore as IsJudgedBefore}
+use Rattle.judge.specs.Judgements.{IsLegalBefore as IsJudgedBefore, IsNeverLegal}
 use Rattle.judge.proofs.Legal.{legal}
 use Rattle.judge_report.specs.declared.reading.History.{History}
 use Rattle.judge_report.specs.Heard.{heard_of}
-use Rattle.judge_report.specs.Said.{IsLegal, IsLegalBefore, told}
+use Rattle.judge_report.specs.Said.{IsFirstIllegal, IsLegal, IsLegalBefore, told}
 
 told-append : (xs ys : List HistoryLine) → told (xs ++ ys) ≡ told xs ++ told ys
 told-append [] ys = refl
@@ -42,4 +42,16 @@ is_legal_before h at l judged is =
           ∙ ap (λ (xs : List HistoryLine). xs ++ reverse (take at ls)) (reverse-append (l ∷ []) (drop (at + 1) ls))
           ∙ append_assoc (reverse (drop (at + 1) ls)) (l ∷ []) (reverse (take at ls));
       legal = subst (LegalHistory h.head.mutexes) (told-reverse (take at ls)) judged.1.1;
+    }
+
+pub is_first_illegal : (h : History) (at : ℕ) (l : HistoryLine) → IsJudgedBefore h.head h.lines.items at × IsNeverLegal h.head h.lines.items at → l ≡ get_or h.lines.items at l → IsFirstIllegal (heard_of h) l
+unfolding is_legal_before
+is_first_illegal h at l judged is =
+    let ls = h.lines.items in
+    let first : take (at + 1) ls ≡ take at ls ++ l ∷ [] = take_more ls at l judged.0.0 ∙ ap (λ (x : HistoryLine). take at ls ++ x ∷ []) (sym is) in
+    let same : told (l ∷ reverse (take at ls)) ≡ reverse (entries (take (at + 1) ls)) =
+    ap told (sym (reverse-append (take at ls) (l ∷ []))) ∙ sym (ap (λ (xs : List HistoryLine). told (reverse xs)) first) ∙ sym (told-reverse (take (at + 1) ls)) in
+    record {
+      before = is_legal_before h at l judged.0 is;
+      never = λ legal. judged.1 (subst (LegalHistory h.head.mutexes) same legal);
     }

@@ -1,7 +1,8 @@
 -- What the program says of a history, and what that means.
 --
 -- *What is said of a history.* `legal N points`: it is a legal history, with a certificate that has N points. `illegal at
--- line L` or `undecided at line L`: L is one of its lines, and those before it are a legal history.
+-- line L`: those of its lines that stand before line L are a legal history, and with line L they aren't. `undecided at
+-- line L`: those before it are a legal history.
 use Rattle.std.specs.Prelude.{ℕ, ◌≡◌, List, ◌∷◌, ◌++◌, map, reverse, count_by}
 use Rattle.std.specs.Prelude.{Option, Some, None, Result}
 use Rattle.std.specs.Io.KnownBytes.{Appends}
@@ -32,11 +33,16 @@ pub record IsLegalBefore (k : Heard) (line : HistoryLine) : Type 0 where
   pub all : k.seen ≡ later ++ line ∷ earlier
   pub legal : LegalHistory k.head.mutexes (told earlier)
 
+-- and with it they aren't
+pub record IsFirstIllegal (k : Heard) (line : HistoryLine) : Type 0 where
+  pub before : IsLegalBefore k line
+  pub never : LegalHistory k.head.mutexes (told (line ∷ before.earlier)) → ⊥
+
 -- this is said of it
 abbrev pub IsSaid : Heard → Judgement → List ℕ → Type 0
 IsSaid k (Legal steps) text = IsLegal k steps.items × (text ≡ legal_text (count_by is_point_step steps.items))
 IsSaid k (Illegal at why) text =
-    (line : HistoryLine) × IsLegalBefore k line × (text ≡ illegal_text (reverse k.seen) line why)
+    (line : HistoryLine) × IsFirstIllegal k line × (text ≡ illegal_text (reverse k.seen) line why)
 IsSaid k (Undecided at) text = (line : HistoryLine) × IsLegalBefore k line × (text ≡ undecided_text line)
 
 -- the exit status then

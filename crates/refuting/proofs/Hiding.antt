@@ -1,0 +1,332 @@
+-- A line that nobody sees leaves a state that stands for the trace.
+use Rattle.std.proofs.Common.{◌≡◌, ◌≢◌, ℕ, ◌==◌, ◌⊎◌, inl, inr, Bool, true, false, List, ◌∷◌, length, refl, sym, ap, subst, ◌∙◌, arith}
+use Rattle.std.specs.Prelude.{if◌then◌else◌, Option, Some, None, Contains}
+use Rattle.std.proofs.lemmas.Bool.Decides.{nat_tests}
+use Rattle.lockword.specs.declared.reply.Reply.{Reply}
+use Rattle.lockword.specs.declared.reply.Reply.TheVariants.{OK, EOWNERDEAD}
+use Rattle.posixmutex.specs.declared.object.Object.{Object}
+use Rattle.posixmutex.specs.declared.point.Decision.{Decision}
+use Rattle.posixmutex.specs.declared.point.Operation.{Operation}
+use Rattle.posixmutex.specs.declared.point.Operation.TheVariants.{Lock, Unlock, Wait, Death}
+use Rattle.posixmutex.specs.Histories.{held_by}
+use Rattle.posixmutex.specs.Objects.{Does, Permits, stepped}
+use Rattle.posixmutex.proofs.Steps.{determined}
+use Rattle.facts.specs.declared.fact.Begun.{Begun}
+use Rattle.facts.specs.declared.fact.Fact.TheVariants as fact
+use Rattle.facts.specs.declared.fact.Queue.{Queue}
+use Rattle.facts.specs.declared.fact.Line.{Line}
+use Rattle.verdict.specs.declared.stage.Made.{Made as TheirMade}
+use Rattle.verdict.specs.declared.stage.Made.TheVariants as made
+use Rattle.verdict.specs.declared.stage.Stage.{Stage}
+use Rattle.verdict.specs.declared.stage.Stage.TheVariants as stage
+use Rattle.verdict.specs.Earlier.{objects_after}
+use Rattle.verdict.specs.Stages.{May, MayPoint, next, pointed}
+use Rattle.refuting.specs.declared.state.Call.{Call}
+use Rattle.refuting.specs.declared.state.Made.{Made}
+use Rattle.refuting.specs.declared.state.Made.TheVariants.{Nothing, Released, Changed}
+use Rattle.refuting.specs.declared.state.State.{State}
+use Rattle.refuting.specs.declared.turn.Turn.{Turn}
+use Rattle.refuting.specs.declared.turn.Turn.TheVariants.{Resting, Calling, Dying}
+use Rattle.refuting.specs.States.{Covered, call_at}
+use Rattle.refuting.specs.Steps.{FollowsReply, IsClosed, MayChange, MayLook, MayRelease, Sees, after_change, changed, next_change, next_look, over}
+use Rattle.std.specs.Option.{is_some}
+use Rattle.refuting.specs.Following.{Goes, HasCome, IsOpen, StandsFor, stage_after}
+use Rattle.refuting.specs.Turns.{InCall, IsKilled, Turned, call_on, if_on, reply_of, turn_at}
+use Rattle.refuting.proofs.Standing.{HasId, Stood, changes_tell, has_id, held_no_more, moved_here, moved_there, no_change, own_change, same_object, same_or_not, waits_still}
+
+-- what is known of a state that stands for a trace
+pub record Scene (m : ℕ) (ts : List Turn) (ss : List State) (es : List Line) (d : ℕ → Bool) (s : State) : Type 0 where
+  pub long : length ts ≡ 65
+  pub nobody : turn_at ts 0 ≡ Resting
+  pub closed : IsClosed m ts ss
+  pub turned : (t : ℕ) → Turned (turn_at ts t) (stage_after t es) (d t)
+  pub there : Contains ss s
+  pub stands : StandsFor m ts es s
+
+-- ---- deaths
+
+pub dying_of : (s : Stage) (t m : ℕ) → May s (fact.Death t m) → s ≡ stage.Dying
+dying_of stage.Dying t m may = refl
+dying_of s t m may = absurd may
+
+record IsDying (turn : Turn) : Type 0 where
+  call : Option Begun
+  is : turn ≡ Dying call
+
+killed_turn : (turn : Turn) (d : Bool) → IsKilled turn d → IsDying turn
+killed_turn (Dying c) d is = record { call = c; is = refl }
+killed_turn turn d is = absurd is
+
+busy_dying : (turn : Turn) → IsDying turn → turn ≢ Resting
+busy_dying turn d rests = let no : Resting ≡ Dying d.call = sym rests ∙ d.is in absurd cc
+
+pub death_stands : (n m : ℕ) (ts : List Turn) (ss : List State) (es : List Line) (d : ℕ → Bool) (s : State) → Scene m ts ss es d s → (k t m' : ℕ) → May (stage_after t es) (fact.Death t m')
+    → (new : Object) → Does (held_by t (objects_after es) n) (objects_after es m') t Death OK new → Stood m ts ss (record { event = k; fact = fact.Death t m' } ∷ es)
+death_stands n m ts ss es d s x k t m' may new does = by_cases (same_or_not m' m) where
+  e : Line
+  e = record { event = k; fact = fact.Death t m' }
+
+  dec : Decision
+  dec = record { thread = t; mutex = m'; operation = Death; reply = OK }
+
+  dying : stage_after t es ≡ stage.Dying
+  dying = dying_of (stage_after t es) t m' may
+
+  own : (c : Call) → Goes m (next (stage_after t es) (fact.Death t m')) (turn_at ts t) c
+  own c = subst (λ z. Goes m (next z (fact.Death t m')) (turn_at ts t) c) (sym dying) tt
+
+  turn : IsDying (turn_at ts t)
+  turn = killed_turn (turn_at ts t) (d t) (subst (λ z. Turned (turn_at ts t) z (d t)) dying (x.turned t))
+
+  id : HasId ts t
+  id = has_id ts t x.long x.nobody (busy_dying (turn_at ts t) turn)
+
+  by_cases : (m' ≡ m) ⊎ (m' ≢ m) → Stood m ts ss (record { event = k; fact = fact.Death t m' } ∷ es)
+  by_cases (inl same) =
+      let here : objects_after es m' ≡ s.object = ap (objects_after es) same ∙ sym x.stands.object in
+      let its : Does 0 s.object t Death OK new = subst (λ o. Does 0 o t Death OK new) here does in
+      let object : new ≡ objects_after (e ∷ es) m = determined 0 s.object t Death OK new its ∙ ap (λ o. stepped o t Death OK) x.stands.object ∙ sym (moved_here (objects_after es) dec m same) in
+      own_change m ts ss e es s (over (is_some turn.call)) new x.stands object id.last (own (over (is_some turn.call))) ((x.closed.followed s x.there t id.first).dies turn.call new turn.is its)
+  by_cases (inr other) = no_change m ts ss e es s x.there x.stands (moved_there (objects_after es) dec m other) (own (call_at s.calls t))
+
+-- ---- sleep
+
+pub sleep_stands : (m : ℕ) (ts : List Turn) (ss : List State) (es : List Line) (d : ℕ → Bool) (s : State) → Scene m ts ss es d s → (k t : ℕ) (q : Queue) → May (stage_after t es) (fact.Sleep t q) → Stood m ts ss (record { event = k; fact = fact.Sleep t q } ∷ es)
+sleep_stands m ts ss es d s x k t q may = no_change m ts ss (record { event = k; fact = fact.Sleep t q }) es s x.there x.stands refl (slept (stage_after t es) may (x.stands.calls t)) where
+  slept : (z : Stage) → May z (fact.Sleep t q) → Goes m z (turn_at ts t) (call_at s.calls t) → Goes m (next z (fact.Sleep t q)) (turn_at ts t) (call_at s.calls t)
+  slept (stage.Calling c made a) may h = h
+  slept z may h = absurd may
+
+pub wake_stands : (m : ℕ) (ts : List Turn) (ss : List State) (es : List Line) (d : ℕ → Bool) (s : State) → Scene m ts ss es d s → (k t : ℕ) → May (stage_after t es) (fact.Wake t) → Stood m ts ss (record { event = k; fact = fact.Wake t } ∷ es)
+wake_stands m ts ss es d s x k t may = no_change m ts ss (record { event = k; fact = fact.Wake t }) es s x.there x.stands refl (woken (stage_after t es) may (x.stands.calls t)) where
+  woken : (z : Stage) → May z (fact.Wake t) → Goes m z (turn_at ts t) (call_at s.calls t) → Goes m (next z (fact.Wake t)) (turn_at ts t) (call_at s.calls t)
+  woken (stage.Calling c made a) may h = h
+  woken z may h = absurd may
+
+pub move_stands : (m : ℕ) (ts : List Turn) (ss : List State) (es : List Line) (d : ℕ → Bool) (s : State) → Scene m ts ss es d s → (k t m' : ℕ) → May (stage_after t es) (fact.Move t m') → Stood m ts ss (record { event = k; fact = fact.Move t m' } ∷ es)
+move_stands m ts ss es d s x k t m' may = no_change m ts ss (record { event = k; fact = fact.Move t m' }) es s x.there x.stands refl (moves (stage_after t es) may (x.stands.calls t)) where
+  moves : (z : Stage) → May z (fact.Move t m') → Goes m z (turn_at ts t) (call_at s.calls t) → Goes m (next z (fact.Move t m')) (turn_at ts t) (call_at s.calls t)
+  moves (stage.Calling c made a) may h = h
+  moves z may h = absurd may
+
+-- ---- points
+
+-- a point of a call that isn't a wait's release
+record Plain (a : Operation) (my : Made) (b : Operation) : Type 0 where
+  look : next_look a my ≡ Some b
+  change : next_change a my ≡ Some b
+  releases : (o : Object) → MayRelease a my o
+  after : (y : Reply) → after_change a my y ≡ Changed y
+  points : (y : Reply) → pointed a b y ≡ made.Decided y
+  still : IsOpen my
+
+plain_nothing : (a : Operation) → a ≢ Wait → Plain a Nothing a
+plain_nothing Wait ne = absurd (ne refl)
+plain_nothing a ne = record { look = refl; change = refl; releases = λ o. tt; after = λ y. refl; points = λ y. refl; still = tt }
+
+plain_released : (a : Operation) → Plain a Released Lock
+plain_released a = elim_plain a where
+  elim_plain : (a : Operation) → Plain a Released Lock
+  elim_plain Wait = record { look = refl; change = refl; releases = λ o. tt; after = λ y. refl; points = λ y. refl; still = tt }
+  elim_plain a = record { look = refl; change = refl; releases = λ o. tt; after = λ y. refl; points = λ y. refl; still = tt }
+
+pub is_wait : (a : Operation) → (a ≡ Wait) ⊎ (a ≢ Wait)
+is_wait Wait = inl refl
+is_wait a = inr (λ e. absurd cc)
+
+pub plain_may : (a b : Operation) (x : Reply) → a ≢ Wait → MayPoint a made.Nothing b x → b ≡ a
+plain_may Wait b x ne may = absurd (ne refl)
+plain_may a b x ne may = may
+
+pub wait_may : (b : Operation) (x : Reply) → MayPoint Wait made.Nothing b x → (b ≡ Wait) ⊎ ((b ≡ Unlock) × (x ≡ OK))
+wait_may Wait x may = inl refl
+wait_may Unlock x may = inr (refl, may)
+wait_may b x may = absurd cc
+
+pub record InItsCall (s : Stage) (p : Decision) : Type 0 where
+  pub call : Begun
+  pub made : TheirMade
+  pub asleep : Bool
+  pub is : s ≡ stage.Calling call made asleep
+  pub mutex : p.mutex ≡ call.mutex
+  pub may : MayPoint call.operation made p.operation p.reply
+
+pub calling_of : (s : Stage) (p : Decision) → May s (fact.Point p) → InItsCall s p
+calling_of (stage.Calling c m z) p may = record { call = c; made = m; asleep = z; is = refl; mutex = may.1; may = may.2 }
+calling_of s p may = absurd may
+
+if_there : (m : ℕ) (c : Begun) → c.mutex ≡ m → if_on m c ≡ Some c
+if_there m c on = by_cases (c.mutex == m) refl where
+  by_cases : (b : Bool) → (c.mutex == m) ≡ b → (if b then Some c else None) ≡ Some c
+  by_cases true is = refl
+  by_cases false is = let other : c.mutex ≢ m = grind (arith, nat_tests) in absurd (other on)
+
+call_there : (m : ℕ) (turn : Turn) (k : Begun) (d : Bool) → InCall k turn d → k.mutex ≡ m → call_on m turn ≡ Some k
+call_there m (Calling c x) k false is on = ap (if_on m) is ∙ if_there m k on
+call_there m (Dying c) k true is on = ap (λ z. call_on m (Dying z)) is ∙ if_there m k on
+call_there m turn k d is on = absurd is
+
+sees_there : (m : ℕ) (turn : Turn) (k : Begun) (d : Bool) (s : State) (t : ℕ) (y : Reply) → InCall k turn d → k.mutex ≡ m → reply_of turn ≡ Some y → MayLook s t k.operation y → Sees m turn s t
+sees_there m (Calling c None) k false s t y is on reply look = let no : None ≡ Some y = reply in absurd cc
+sees_there m (Calling c (Some x)) k false s t y is on reply look =
+    let same : y ≡ x = cc in
+    (ap (λ (b : Begun). b.mutex) is ∙ on, subst (λ (b : Begun). MayLook s t b.operation x) (sym is) (subst (MayLook s t k.operation) same look))
+sees_there m (Dying c) k true s t y is on reply look = let no : None ≡ Some y = reply in absurd cc
+sees_there m turn k d s t y is on reply look = absurd is
+
+busy_calling : (turn : Turn) (k : Begun) (d : Bool) → InCall k turn d → turn ≢ Resting
+busy_calling (Calling c x) k d is rests = absurd cc
+busy_calling (Dying c) k d is rests = absurd cc
+busy_calling turn k d is rests = absurd is
+
+-- a change by the thread's call
+by_call : (m : ℕ) (ts : List Turn) (ss : List State) (es : List Line) (d : ℕ → Bool) (s : State) → Scene m ts ss es d s → (k : Begun) (t : ℕ) → InCall k (turn_at ts t) (d t) → k.mutex ≡ m
+    → (held : ℕ) (op : Operation) (y : Reply) (new : Object) → next_change k.operation (call_at s.calls t).made ≡ Some op → MayRelease k.operation (call_at s.calls t).made s.object
+    → Does held s.object t op y new → new ≢ s.object → Covered ss (changed s t k.operation y new)
+by_call m ts ss es d s x k t call on held op y new is releases does ne = by_cases (changes_tell s.object t op y new both.0 ne) where
+  both : Permits s.object t op y new × Does 0 s.object t op y new
+  both = held_no_more held s.object t op y new does ne
+
+  id : HasId ts t
+  id = has_id ts t x.long x.nobody (busy_calling (turn_at ts t) k (d t) call)
+
+  follows : FollowsReply ss s t k.operation OK × FollowsReply ss s t k.operation EOWNERDEAD
+  follows = (x.closed.followed s x.there t id.first).changes k (call_there m (turn_at ts t) k (d t) call on)
+
+  may : MayChange s t k.operation y new
+  may = record { operation = op; next = is; releases = releases; does = both.1; other = ne }
+
+  by_cases : (y ≡ OK) ⊎ (y ≡ EOWNERDEAD) → Covered ss (changed s t k.operation y new)
+  by_cases (inl ok) = subst (λ r. FollowsReply ss s t k.operation r) (sym ok) follows.0 new may
+  by_cases (inr dead) = subst (λ r. FollowsReply ss s t k.operation r) (sym dead) follows.1 new may
+
+-- a point that isn't a wait's release
+plain_point : (n m : ℕ) (ts : List Turn) (ss : List State) (es : List Line) (d : ℕ → Bool) (s : State) → Scene m ts ss es d s → (i : ℕ) (p : Decision) (k : Begun) (my : Made) (z : Bool)
+    → InCall k (turn_at ts p.thread) (d p.thread) → k.mutex ≡ m → p.mutex ≡ m → (call_at s.calls p.thread).made ≡ my → Plain k.operation my p.operation
+    → next (stage_after p.thread es) (fact.Point p) ≡ stage.Calling k (pointed k.operation p.operation p.reply) z
+    → (new : Object) → Does (held_by p.thread (objects_after es) n) s.object p.thread p.operation p.reply new → Stood m ts ss (record { event = i; fact = fact.Point p } ∷ es)
+plain_point n m ts ss es d s x i p k my z call on here is plain goes new does = by_cases (same_object new s.object) where
+  t : ℕ
+  t = p.thread
+
+  e : Line
+  e = record { event = i; fact = fact.Point p }
+
+  id : HasId ts t
+  id = has_id ts t x.long x.nobody (busy_calling (turn_at ts t) k (d t) call)
+
+  object : new ≡ objects_after (e ∷ es) m
+  object = determined (held_by t (objects_after es) n) s.object t p.operation p.reply new does ∙ ap (λ o. stepped o t p.operation p.reply) x.stands.object ∙ sym (moved_here (objects_after es) p m here)
+
+  decided : (c : Call) → HasCome (made.Decided p.reply) (reply_of (turn_at ts t)) c → Goes m (next (stage_after t es) (fact.Point p)) (turn_at ts t) c
+  decided c come = subst (λ q. Goes m q (turn_at ts t) c) (sym goes) (λ at. subst (λ q. HasCome q (reply_of (turn_at ts t)) c) (sym (plain.points p.reply)) come)
+
+  seen : reply_of (turn_at ts t) ≡ Some p.reply → new ≡ s.object → (call_at s.calls t).seen ≡ true
+  seen reply same = x.closed.noted s x.there t id.first (sees_there m (turn_at ts t) k (d t) s t p.reply call on reply (record {
+    operation = p.operation;
+    next = ap (next_look k.operation) is ∙ plain.look;
+    held = held_by t (objects_after es) n;
+    does = subst (Does (held_by t (objects_after es) n) s.object t p.operation p.reply) same does;
+  }))
+
+  by_cases : (new ≡ s.object) ⊎ (new ≢ s.object) → Stood m ts ss (record { event = i; fact = fact.Point p } ∷ es)
+  by_cases (inl same) = no_change m ts ss e es s x.there x.stands (sym object ∙ same ∙ x.stands.object)
+      (decided (call_at s.calls t) (inr (subst IsOpen (sym is) plain.still, λ reply. seen reply same)))
+  by_cases (inr ne) =
+      let cov : Covered ss (changed s t k.operation p.reply new) = by_call m ts ss es d s x k t call on (held_by t (objects_after es) n) p.operation p.reply new (ap (next_change k.operation) is ∙ plain.change) (subst (λ q. MayRelease k.operation q s.object) (sym is) (plain.releases s.object)) does ne in
+      own_change m ts ss e es s (record { made = after_change k.operation (call_at s.calls t).made p.reply; seen = false }) new x.stands object id.last
+      (decided (record { made = after_change k.operation (call_at s.calls t).made p.reply; seen = false }) (inl (ap (λ q. after_change k.operation q p.reply) is ∙ plain.after p.reply))) cov
+
+-- a wait's own point changes nothing
+wait_point : (n m : ℕ) (ts : List Turn) (ss : List State) (es : List Line) (d : ℕ → Bool) (s : State) → Scene m ts ss es d s → (i : ℕ) (p : Decision) (k : Begun) (z : Bool)
+    → InCall k (turn_at ts p.thread) (d p.thread) → k.mutex ≡ m → p.mutex ≡ m → (call_at s.calls p.thread).made ≡ Nothing → k.operation ≡ Wait → p.operation ≡ Wait
+    → next (stage_after p.thread es) (fact.Point p) ≡ stage.Calling k (pointed k.operation p.operation p.reply) z
+    → (new : Object) → Does (held_by p.thread (objects_after es) n) s.object p.thread p.operation p.reply new → Stood m ts ss (record { event = i; fact = fact.Point p } ∷ es)
+wait_point n m ts ss es d s x i p k z call on here is wait op goes new does =
+    let t = p.thread in
+    let e : Line = record { event = i; fact = fact.Point p } in
+    let its : Permits s.object t Wait p.reply new = subst (λ a. Does (held_by t (objects_after es) n) s.object t a p.reply new) op does in
+    let same : new ≡ s.object = waits_still s.object t p.reply new its in
+    let id : HasId ts t = has_id ts t x.long x.nobody (busy_calling (turn_at ts t) k (d t) call) in
+    let object : new ≡ objects_after (e ∷ es) m = determined (held_by t (objects_after es) n) s.object t p.operation p.reply new does ∙ ap (λ o. stepped o t p.operation p.reply) x.stands.object ∙ sym (moved_here (objects_after es) p m here) in
+    let points : pointed k.operation p.operation p.reply ≡ made.Decided p.reply = ap (λ a. pointed a p.operation p.reply) wait ∙ ap (λ b. pointed Wait b p.reply) op in
+    let look : MayLook s t k.operation p.reply = record {
+      operation = Wait;
+      next = ap (next_look k.operation) is ∙ ap (λ a. next_look a Nothing) wait;
+      held = 0;
+      does = subst (λ o. Permits s.object t Wait p.reply o) same its;
+    } in
+    no_change m ts ss e es s x.there x.stands (sym object ∙ same ∙ x.stands.object)
+    (subst (λ q. Goes m q (turn_at ts t) (call_at s.calls t)) (sym goes)
+    (λ at. subst (λ q. HasCome q (reply_of (turn_at ts t)) (call_at s.calls t)) (sym points)
+    (inr (subst IsOpen (sym is) tt, λ reply. x.closed.noted s x.there t id.first (sees_there m (turn_at ts t) k (d t) s t p.reply call on reply look)))))
+
+-- a wait's release
+frees : (o : Object) (t : ℕ) (new : Object) → Permits o t Unlock OK new → new ≢ o
+frees o t new h same =
+    let none : new.owner ≡ None = ap (λ (q : Object). q.owner) h.1 in
+    let some : new.owner ≡ Some t = ap (λ (q : Object). q.owner) same ∙ h.0 in
+    let no : None ≡ Some t = sym none ∙ some in
+    absurd cc
+
+release_point : (n m : ℕ) (ts : List Turn) (ss : List State) (es : List Line) (d : ℕ → Bool) (s : State) → Scene m ts ss es d s → (i : ℕ) (p : Decision) (k : Begun) (z : Bool)
+    → InCall k (turn_at ts p.thread) (d p.thread) → k.mutex ≡ m → p.mutex ≡ m → (call_at s.calls p.thread).made ≡ Nothing → k.operation ≡ Wait → p.operation ≡ Unlock → p.reply ≡ OK
+    → s.object.inconsistent ≡ false
+    → next (stage_after p.thread es) (fact.Point p) ≡ stage.Calling k (pointed k.operation p.operation p.reply) z
+    → (new : Object) → Does (held_by p.thread (objects_after es) n) s.object p.thread p.operation p.reply new → Stood m ts ss (record { event = i; fact = fact.Point p } ∷ es)
+release_point n m ts ss es d s x i p k z call on here is wait op ok sound goes new does =
+    let t = p.thread in
+    let e : Line = record { event = i; fact = fact.Point p } in
+    let id : HasId ts t = has_id ts t x.long x.nobody (busy_calling (turn_at ts t) k (d t) call) in
+    let its : Permits s.object t Unlock OK new = subst (λ r. Permits s.object t Unlock r new) ok (subst (λ a. Does (held_by t (objects_after es) n) s.object t a p.reply new) op does) in
+    let object : new ≡ objects_after (e ∷ es) m = determined (held_by t (objects_after es) n) s.object t p.operation p.reply new does ∙ ap (λ o. stepped o t p.operation p.reply) x.stands.object ∙ sym (moved_here (objects_after es) p m here) in
+    let points : pointed k.operation p.operation p.reply ≡ made.Released = ap (λ a. pointed a p.operation p.reply) wait ∙ ap (λ b. pointed Wait b p.reply) op in
+    let follows : next_change k.operation (call_at s.calls t).made ≡ Some Unlock = ap (next_change k.operation) is ∙ ap (λ a. next_change a Nothing) wait in
+    let releases : MayRelease k.operation (call_at s.calls t).made s.object = subst (λ q. MayRelease k.operation q s.object) (sym is) (subst (λ a. MayRelease a Nothing s.object) (sym wait) sound) in
+    let cov : Covered ss (changed s t k.operation OK new) = by_call m ts ss es d s x k t call on 0 Unlock OK new follows releases its (frees s.object t new its) in
+    let after : after_change k.operation (call_at s.calls t).made OK ≡ Released = ap (λ q. after_change k.operation q OK) is ∙ ap (λ a. after_change a Nothing OK) wait in
+    own_change m ts ss e es s (record { made = after_change k.operation (call_at s.calls t).made OK; seen = false }) new x.stands object id.last
+    (subst (λ q. Goes m q (turn_at ts t) (record { made = after_change k.operation (call_at s.calls t).made OK; seen = false })) (sym goes)
+    (λ at. subst (λ q. HasCome q (reply_of (turn_at ts t)) (record { made = after_change k.operation (call_at s.calls t).made OK; seen = false })) (sym points) after)) cov
+
+-- any point of the mutex
+made_point : (n m : ℕ) (ts : List Turn) (ss : List State) (es : List Line) (d : ℕ → Bool) (s : State) → Scene m ts ss es d s → (i : ℕ) (p : Decision) (k : Begun) (its : TheirMade) (z : Bool)
+    → InCall k (turn_at ts p.thread) (d p.thread) → k.mutex ≡ m → p.mutex ≡ m → HasCome its (reply_of (turn_at ts p.thread)) (call_at s.calls p.thread) → MayPoint k.operation its p.operation p.reply
+    → (p.operation ≡ Unlock → k.operation ≡ Wait → s.object.inconsistent ≡ false)
+    → next (stage_after p.thread es) (fact.Point p) ≡ stage.Calling k (pointed k.operation p.operation p.reply) z
+    → (new : Object) → Does (held_by p.thread (objects_after es) n) s.object p.thread p.operation p.reply new → Stood m ts ss (record { event = i; fact = fact.Point p } ∷ es)
+made_point n m ts ss es d s x i p k (made.Decided y) z call on here come may sound goes new does = absurd may
+made_point n m ts ss es d s x i p k made.Released z call on here come may sound goes new does =
+    plain_point n m ts ss es d s x i p k Released z call on here come (subst (Plain k.operation Released) (sym may) (plain_released k.operation)) goes new does
+made_point n m ts ss es d s x i p k made.Nothing z call on here come may sound goes new does = by_cases (is_wait k.operation) where
+  by_wait : k.operation ≡ Wait → (p.operation ≡ Wait) ⊎ ((p.operation ≡ Unlock) × (p.reply ≡ OK)) → Stood m ts ss (record { event = i; fact = fact.Point p } ∷ es)
+  by_wait wait (inl own) = wait_point n m ts ss es d s x i p k z call on here come wait own goes new does
+  by_wait wait (inr free) = release_point n m ts ss es d s x i p k z call on here come wait free.0 free.1 (sound free.0 wait) goes new does
+
+  by_cases : (k.operation ≡ Wait) ⊎ (k.operation ≢ Wait) → Stood m ts ss (record { event = i; fact = fact.Point p } ∷ es)
+  by_cases (inl wait) = by_wait wait (wait_may p.operation p.reply (subst (λ a. MayPoint a made.Nothing p.operation p.reply) wait may))
+  by_cases (inr other) = plain_point n m ts ss es d s x i p k Nothing z call on here come (subst (Plain k.operation Nothing) (sym (plain_may k.operation p.operation p.reply other may)) (plain_nothing k.operation other)) goes new does
+
+pub point_stands : (n m : ℕ) (ts : List Turn) (ss : List State) (es : List Line) (d : ℕ → Bool) (s : State) → Scene m ts ss es d s → (i : ℕ) (p : Decision) → May (stage_after p.thread es) (fact.Point p)
+    → ((k : Begun) (its : TheirMade) (z : Bool) → stage_after p.thread es ≡ stage.Calling k its z → p.operation ≡ Unlock → k.operation ≡ Wait → (objects_after es p.mutex).inconsistent ≡ false)
+    → (new : Object) → Does (held_by p.thread (objects_after es) n) (objects_after es p.mutex) p.thread p.operation p.reply new → Stood m ts ss (record { event = i; fact = fact.Point p } ∷ es)
+point_stands n m ts ss es d s x i p may sound new does = by_cases (same_or_not p.mutex m) where
+  t : ℕ
+  t = p.thread
+
+  c : InItsCall (stage_after t es) p
+  c = calling_of (stage_after t es) p may
+
+  goes : next (stage_after t es) (fact.Point p) ≡ stage.Calling c.call (pointed c.call.operation p.operation p.reply) c.asleep
+  goes = ap (λ q. next q (fact.Point p)) c.is
+
+  by_cases : (p.mutex ≡ m) ⊎ (p.mutex ≢ m) → Stood m ts ss (record { event = i; fact = fact.Point p } ∷ es)
+  by_cases (inl here) =
+      let on : c.call.mutex ≡ m = sym c.mutex ∙ here in
+      let its : objects_after es p.mutex ≡ s.object = ap (objects_after es) here ∙ sym x.stands.object in
+      let come : Goes m (stage.Calling c.call c.made c.asleep) (turn_at ts t) (call_at s.calls t) = subst (λ q. Goes m q (turn_at ts t) (call_at s.calls t)) c.is (x.stands.calls t) in
+      made_point n m ts ss es d s x i p c.call c.made c.asleep (subst (λ q. Turned (turn_at ts t) q (d t)) c.is (x.turned t)) on here (come on) c.may
+      (λ op wait. subst (λ (o : Object). o.inconsistent ≡ false) its (sound c.call c.made c.asleep c.is op wait)) goes new (subst (λ o. Does (held_by t (objects_after es) n) o t p.operation p.reply new) its does)
+  by_cases (inr there) =
+      no_change m ts ss (record { event = i; fact = fact.Point p }) es s x.there x.stands (moved_there (objects_after es) p m there)
+      (subst (λ q. Goes m q (turn_at ts t) (call_at s.calls t)) (sym goes) (λ on. absurd (there (c.mutex ∙ on))))

@@ -1,0 +1,15 @@
+pub mod States
+pub mod Sights
+pub mod Growing
+pub mod Closure
+pub mod Retelling
+pub mod Staging
+pub mod Standing
+pub mod Hiding
+pub mod Telling
+pub mod Taking
+pub mod Foretelling
+pub mod Beginning
+pub mod Going
+pub mod Counting
+pub mod Tallying

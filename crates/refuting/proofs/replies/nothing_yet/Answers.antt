@@ -1,0 +1,6 @@
+use Rattle.std.specs.Prelude.{None}
+use Rattle.verdict.proofs.Owners.{all_alike}
+use Rattle.refuting.proofs.replies.nothing_yet.Goals as goal
+
+pub returns : goal.returns
+returns c = λ t. all_alike 65 None t

@@ -1,0 +1,5 @@
+pub mod Turns
+pub mod States
+pub mod Steps
+pub mod Following
+pub mod Counts
