@@ -19,6 +19,10 @@ pub record Going (n m : ℕ) (ls : List HistoryLine) (count : ℕ) (r : Refuter)
 pub first : (n m : ℕ) (ls : List HistoryLine) (r : Refuter) → r.mutex ≡ m → m < n → ((n : ℕ) (future : List Entry) → Follows n [] future r) → Going n m ls 0 r
 first n m ls r is lt f = record { mutex = is; inside = lt; follows = f n (entries ls) }
 
+pub as_many : (ls : List HistoryLine) → length (replies_of ls) ≡ length ls
+as_many [] = refl
+as_many (l ∷ ls) = ap suc (as_many ls)
+
 one_more : (k : ℕ) → k + 1 ≡ suc k
 one_more k = omega arith
 

@@ -11,7 +11,8 @@ use histories::{Head, HistoryLine};
 use std::alloc::{AllocError, Global};
 
 /// Whether the lines are refuted, as one mutex shows or a thread's own lines: then no trace shows them. Of illegal
-/// histories it may miss some, as where the mutex has more than 4,096 states. It asks for memory for each line, and for each state of the mutex.
+/// histories it may miss some, as where the mutex has more than 4,096 states. It asks for memory for each line, and for
+/// each state of the mutex.
 pub fn refutes(
     alloc: Global,
     head: &Head,
@@ -27,9 +28,6 @@ pub fn refutes(
     let replies = replies(alloc, lines)?;
     let mut refuter = Refuter::new(alloc, mutex)?;
     for (at, line) in lines.iter().enumerate() {
-        if at >= replies.len() {
-            return Ok(false);
-        }
         match refuter.take(alloc, &line.entry, replies[at]) {
             Ok(true) => {}
             Ok(false) => return Ok(true),
