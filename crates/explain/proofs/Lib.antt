@@ -1,5 +1,4 @@
 pub mod Earlier
-pub mod Pieces
 pub mod Showing
 pub mod Ends
 pub mod Beginnings

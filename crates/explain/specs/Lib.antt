@@ -5,7 +5,6 @@ pub mod Origins
 pub mod Spoiling
 pub mod Words
 pub mod Shown
-pub mod Misfits
 pub mod Allowed
 pub mod Notes
 pub mod Texts

@@ -17,7 +17,7 @@ use Rattle.explain.specs.declared.explanation.Title.TheVariants.{Good, Script, L
 use Rattle.explain.specs.declared.explanation.Mark.{Mark}
 use Rattle.explain.specs.declared.explanation.Explanation.{Explanation}
 use Rattle.explain.specs.Words.{expected_words, mode_words}
-use Rattle.explain.specs.Misfits.{misfit_text}
+use Rattle.reasons.specs.Reasons.{reason_text}
 use Rattle.explain.specs.Notes.{note_text}
 use Rattle.explain.specs.Shown.{columns, shown, width}
 use Rattle.explain.specs.Stray.{line_of}
@@ -67,7 +67,7 @@ legal_text file points spoiling = points_text file points ++ spoiling_text file 
 
 abbrev pub illegal_text : List ℕ → TraceMisfit → List ℕ
 illegal_text file why = place_text file why.line
-    ++ (concat (codes "illegal: " ∷ []) ++ (misfit_text why.misfit ++ concat (codes "\n" ∷ [])))
+    ++ (concat (codes "illegal: " ∷ []) ++ (reason_text why.misfit ++ concat (codes "\n" ∷ [])))
 
 abbrev pub title_text : List ℕ → Title → List ℕ
 title_text file (Good run threads) = good_text file run threads

@@ -1,23 +1,14 @@
 //! Texts that are put together.
 
-ghost use Rattle.std.specs.Prelude.{◌≡◌, ◌++◌, length, map, replicate, OnOk};
-ghost use Rattle.std.specs.List.{concat, flat_map};
+ghost use Rattle.std.specs.Prelude.{◌≡◌, ◌++◌, length, replicate, OnOk};
+ghost use Rattle.std.specs.List.{flat_map};
 ghost use Rattle.explain.specs.Shown.{is_hidden, shown, shown_char};
 
+use reasons::add;
 use std::alloc::AllocError;
 
 /// How many columns of a line are shown.
 pub const WIDTH: usize = 200;
-
-/// Adds the pieces, one after the other.
-pub fn add(text: &mut Vec<u8>, pieces: &[&str]) -> Result<(), AllocError>
-    ensures { OnOk result (text.new.items ≡ text.old.items ++ concat (map (λ p. p.now) pieces.now)) }
-{
-    for piece in pieces {
-        text.extend_from_slice(piece.as_bytes())?;
-    }
-    Ok(())
-}
 
 /// Adds a byte so often.
 pub fn add_run(text: &mut Vec<u8>, byte: u8, count: usize) -> Result<(), AllocError>

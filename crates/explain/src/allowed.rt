@@ -6,10 +6,10 @@ ghost use Rattle.explain.specs.Allowed.{AllowedArePermitted, allowed_text, allow
 ghost use Rattle.explain.specs.Allowed.{end_words, reply_words, standing_of, unanswered};
 ghost use Rattle.posixmutex.specs.Histories.{is_thread};
 
-use crate::adding::add;
 use crate::explanation::Standing;
 use lockword::{Reply, Tid};
 use posixmutex::{Object, Operation};
+use reasons::add;
 use std::alloc::AllocError;
 
 /// Every reply, in the order of their numbers.

@@ -9,8 +9,8 @@
 //! says why. It reads at most one byte more than a trace may have.
 //!
 //! Stands on `grammar`, for the first wrong word of a line and the nearest known one, on `script` and `verdict`, for
-//! faults and reasons, on `lines`, for lines and words, on `facts`, `posixmutex` and `lockword`, for what lines of a
-//! trace tell, on `streams`, for reading, writing and opening, and on `itoa`, for numbers.
+//! faults and reasons, on `reasons`, for the words of these, on `lines`, for lines and words, on `facts`, `posixmutex` and
+//! `lockword`, for what lines of a trace tell, on `streams`, for reading, writing and opening, and on `itoa`, for numbers.
 //!
 //! ```text
 //! // The words of `rfx-explain dead_owner.rfx`, the program's name first; `files` opens what they name.
@@ -29,7 +29,6 @@ mod encodings;
 mod explaining;
 mod explanation;
 mod failures;
-mod misfits;
 mod modes;
 mod names;
 mod notes;

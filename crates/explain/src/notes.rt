@@ -4,11 +4,11 @@ ghost use Rattle.std.specs.Prelude.{◌≡◌, ◌++◌, OnOk};
 ghost use Rattle.explain.specs.Notes.{bad_text, counted_text, many_text, note_text, other_text, range_text};
 ghost use Rattle.explain.specs.Notes.{said_text, with_things};
 
-use crate::adding::add;
 use crate::allowed::add_allowed;
 use crate::explanation::{Note, Things};
 use crate::words::{lack_words, looks_words, many_words, mode_words, things_words};
 use itoa::Buffer;
+use reasons::add;
 use std::alloc::AllocError;
 
 /// A text with what things are called.

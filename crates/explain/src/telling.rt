@@ -8,14 +8,14 @@ ghost use Rattle.explain.specs.Texts.{line_named, line_text, mark_text, near_tex
 ghost use Rattle.explain.specs.Texts.{point_words, points_text};
 ghost use Rattle.explain.specs.Texts.{programs, quote_text, script_text, spoiling_text, title_text, trace_text};
 
-use crate::adding::{WIDTH, add, add_run, add_shown};
+use crate::adding::{WIDTH, add_run, add_shown};
 use crate::explanation::{Explanation, Mark, Title};
-use crate::misfits::add_misfit;
 use crate::notes::add_note;
 use crate::quoting::line_of;
 use crate::words::{expected_words, mode_words};
 use grammar::{Next, known_words, place_of};
 use itoa::Buffer;
+use reasons::{add, add_reason};
 use script::{Mode, ScriptFault};
 use std::alloc::{AllocError, Global};
 use verdict::{TraceFault, TraceMisfit};
@@ -129,7 +129,7 @@ fn add_illegal(text: &mut Vec<u8>, file: &str, why: &TraceMisfit) -> Result<(), 
 {
     add_place(text, file, why.line)?;
     add(text, &["illegal: "])?;
-    add_misfit(text, &why.misfit)?;
+    add_reason(text, &why.misfit)?;
     add(text, &["\n"])
 }
 

@@ -1,12 +1,12 @@
 -- The lines that a page shows fit.
-use Rattle.std.proofs.Common.{◌≡◌, inl, inr, ℕ, ◌+◌, ◌-◌, ◌≤◌, List, [], ◌∷◌, ◌++◌, length, take, drop, sym, ap, subst, ◌∙◌, append_assoc, arith, length-append, take-append-drop}
-use Rattle.std.specs.Prelude.{reverse}
-use Rattle.std.proofs.lemmas.List.{length-reverse, length-take, reverse-append}
+use Rattle.std.proofs.Common.{◌≡◌, inl, inr, ℕ, ◌+◌, ◌-◌, ◌≤◌, List, [], ◌∷◌, ◌++◌, length, take, drop, refl, sym, ap, subst, ◌∙◌, append_assoc, arith, length-append, take-append-drop}
+use Rattle.std.specs.Prelude.{Some, reverse, slice_get}
+use Rattle.std.proofs.lemmas.List.{length-reverse, length-take, reverse-append, reverse-reverse}
 use Rattle.facts.specs.declared.fact.Line.{Line}
 use Rattle.verdict.specs.declared.checking.Finding.TheVariants.{Legal, Illegal}
 use Rattle.verdict.specs.Verdicts.{AllFit, IsFirstMisfit}
 use Rattle.page.specs.Data.{shown_lines}
-use Rattle.page.specs.Judged.{ShownLinesFit}
+use Rattle.page.specs.Judged.{MisfitsAreTold, ShownLinesFit}
 
 fit_behind : (n : ℕ) (newer earlier : List Line) → AllFit n (newer ++ earlier) → AllFit n earlier
 fit_behind n [] es fit = fit
@@ -43,3 +43,26 @@ pub shown_lines_fit : ShownLinesFit
 shown_lines_fit t (Legal points) found = fit_taken t.head.mutexes (shown_lines (Legal points) (length t.lines.items)) t.lines.items found.0.fits
 shown_lines_fit t (Illegal why) (inl found) = fit_before t.head.mutexes (shown_lines (Illegal why) (length t.lines.items)) why.line t.lines.items found.first (omega arith)
 shown_lines_fit t (Illegal why) (inr found) = fit_taken t.head.mutexes (shown_lines (Illegal why) (length t.lines.items)) t.lines.items found.short.fit
+
+-- ---- the one that doesn't
+
+at_end : (xs ys : List Line) (x : Line) → slice_get (xs ++ x ∷ ys) (length xs) ≡ Some x
+at_end [] ys x = refl
+at_end (y ∷ xs) ys x = at_end xs ys x
+
+-- what stands newest first, in its order
+in_order : (ls newer earlier : List Line) (e : Line) → reverse ls ≡ newer ++ e ∷ earlier → ls ≡ reverse earlier ++ e ∷ reverse newer
+in_order ls newer earlier e same =
+    sym (reverse-reverse ls) ∙ ap reverse same ∙ reverse-append newer (e ∷ earlier)
+    ∙ ap (λ (xs : List Line). xs ++ reverse newer) (reverse-append (e ∷ []) earlier)
+    ∙ append_assoc (reverse earlier) (e ∷ []) (reverse newer)
+
+pub misfits_are_told : MisfitsAreTold
+misfits_are_told t why r =
+    let first = r.first in
+    let here = first.here in
+    let long = length-reverse first.earlier in
+    let place : why.line - 2 ≡ length (reverse first.earlier) = omega (arith, here, long) in
+    ap (λ (n : ℕ). slice_get t.lines.items n) place
+    ∙ ap (λ (ls : List Line). slice_get ls (length (reverse first.earlier))) (in_order t.lines.items first.newer first.earlier first.misfit first.all)
+    ∙ at_end (reverse first.earlier) (reverse first.newer) first.misfit

@@ -6,4 +6,3 @@ mod Lines
 mod Judged
 mod Fitting
 mod Quoting
-mod Truths

@@ -32,7 +32,7 @@ use Rattle.picture.specs.Names.{Called, condition_head, condition_tail, mutex_he
 use Rattle.picture.specs.Pieces.{each}
 use Rattle.page.specs.declared.status.Bed.{Bed}
 use Rattle.page.specs.declared.status.Status.{Status}
-use Rattle.page.specs.Data.{data_text, end_text, lines_shown, start_text}
+use Rattle.page.specs.Data.{data_text, end_text, lines_shown, misfit_text, start_text}
 use Rattle.page.specs.Escapes.{IsPlain, escaped}
 use Rattle.page.specs.Names.{condition_called, label_text, mutex_called, names_text, thread_called}
 use Rattle.page.specs.Quoting.{IsOfData, NamesStandInQuotes, Reading, condition_name, inside, mutex_name, names_of, outside, read_byte, thread_name}
@@ -224,9 +224,13 @@ names_fine n threads mutexes conditions =
     let cs = each_fine (condition_called n) (λ i. label_fine (condition_head n i) (condition_tail n i)) conditions in
     simp (list_all-append, ts, ms, cs)
 
-end_fine : (f : Finding) (last lines : ℕ) → Fine (end_text f last lines)
-end_fine (Legal points) last lines = simp (list_all-append, number_fine)
-end_fine (Illegal found) last lines = simp (list_all-append, number_fine, escaped_fine)
+misfit_fine : (e : Option Line) → Fine (misfit_text e)
+misfit_fine None = refl
+misfit_fine (Some e) = both (line_text e) (codes "0]") (line_fine e) refl
+
+end_fine : (f : Finding) (last : ℕ) (ls : List Line) → Fine (end_text f last ls)
+end_fine (Legal points) last ls = simp (list_all-append, number_fine)
+end_fine (Illegal found) last ls = simp (list_all-append, number_fine, escaped_fine, misfit_fine)
 
 data_fine : (n : Called) (t : Told) (f : Finding) → Fine (data_text n t f)
 data_fine n t f =

@@ -1,7 +1,8 @@
 -- The data of a page.
 --
 -- *Which lines a page shows.* Those behind the head that fit, up to the first that doesn't; of these the first 100,000.
-use Rattle.std.specs.Prelude.{ℕ, ◌-◌, min, List, [], ◌∷◌, ◌++◌, length, take, codes, decimal, slice_index_or}
+use Rattle.std.specs.Prelude.{ℕ, ◌-◌, min, Option, Some, None, List, [], ◌∷◌, ◌++◌, length, take, codes, decimal}
+use Rattle.std.specs.Prelude.{slice_get, slice_index_or}
 use Rattle.std.specs.List.{concat}
 use Rattle.posixmutex.specs.declared.object.Object.{Object}
 use Rattle.posixmutex.specs.declared.point.Decision.{Decision}
@@ -13,12 +14,12 @@ use Rattle.picture.specs.Names.{Called}
 use Rattle.verdict.specs.declared.checking.Finding.{Finding}
 use Rattle.verdict.specs.declared.checking.Finding.TheVariants.{Legal, Illegal}
 use Rattle.verdict.specs.declared.misfit.TraceMisfit.{TraceMisfit}
+use Rattle.reasons.specs.Reasons.{reason_text}
 use Rattle.page.specs.Escapes.{escaped}
 use Rattle.page.specs.Names.{names_text}
-use Rattle.page.specs.Reasons.{reason_text}
 use Rattle.page.specs.Shows.{items_behind}
 use Rattle.page.specs.States.{Mutex}
-use Rattle.page.specs.Texts.{items_text}
+use Rattle.page.specs.Texts.{items_text, line_text}
 
 -- what the mutex of a step is, among these
 abbrev pub mutex_in : List Object → Decision → Mutex
@@ -56,15 +57,26 @@ illegal_with last lines line =
 abbrev pub illegal_start : ℕ → ℕ → ℕ → List ℕ
 illegal_start last lines line = illegal_with (decimal last) (decimal lines) (decimal line)
 
-abbrev pub illegal_text : ℕ → ℕ → TraceMisfit → List ℕ
-illegal_text last lines found =
-    illegal_start last lines found.line ++ (escaped (reason_text found.misfit) ++ codes "\"]\n]\n")
+-- and what that line tells; nothing where it is the trace's last line, which isn't among these
+abbrev pub misfit_line : List Line → ℕ → Option Line
+misfit_line ls line = slice_get ls (line - 2)
 
-abbrev pub end_text : Finding → ℕ → ℕ → List ℕ
-end_text (Legal points) last lines = legal_text last lines
-end_text (Illegal found) last lines = illegal_text last lines found
+abbrev pub misfit_text : Option Line → List ℕ
+misfit_text None = codes "0"
+misfit_text (Some e) = line_text e ++ codes "0]"
+
+abbrev pub illegal_end : Option Line → List ℕ
+illegal_end e = codes "\"," ++ (misfit_text e ++ codes "]\n]\n")
+
+abbrev pub illegal_text : ℕ → List Line → TraceMisfit → List ℕ
+illegal_text last ls found = illegal_start last (length ls) found.line
+    ++ (escaped (reason_text found.misfit) ++ illegal_end (misfit_line ls found.line))
+
+abbrev pub end_text : Finding → ℕ → List Line → List ℕ
+end_text (Legal points) last ls = legal_text last (length ls)
+end_text (Illegal found) last ls = illegal_text last ls found
 
 abbrev pub data_text : Called → Told → Finding → List ℕ
 data_text n t f = start_text n t.head
     ++ (items_text (items_behind t.head.threads t.head.mutexes [] (lines_shown t f))
-    ++ end_text f t.last (length t.lines.items))
+    ++ end_text f t.last t.lines.items)

@@ -25,6 +25,7 @@ use Rattle.facts.specs.Lives.{Act}
 use Rattle.facts.specs.Orders.{Each}
 use Rattle.verdict.specs.declared.checking.Finding.{Finding}
 use Rattle.verdict.specs.declared.head.Head.{Head}
+use Rattle.verdict.specs.declared.misfit.TraceMisfit.{TraceMisfit}
 use Rattle.verdict.specs.declared.judge.Judge.{Judge}
 use Rattle.verdict.specs.declared.stage.Made.{Made}
 use Rattle.verdict.specs.declared.stage.Made.TheVariants.{Nothing, Released, Decided}
@@ -35,10 +36,10 @@ use Rattle.verdict.specs.Earlier.{told_of}
 use Rattle.verdict.specs.Judges.{Accepts, IsNew, Moves, object_at, stage_at}
 use Rattle.verdict.specs.Stages.{next}
 use Rattle.verdict.specs.Told.{IsOf, trace_of}
-use Rattle.verdict.specs.Verdicts.{AllFit, IsFound}
+use Rattle.verdict.specs.Verdicts.{AllFit, IsFound, IsReason}
 use Rattle.page.specs.declared.status.Bed.{Bed}
 use Rattle.page.specs.declared.status.Status.{Status}
-use Rattle.page.specs.Data.{lines_shown}
+use Rattle.page.specs.Data.{lines_shown, misfit_line}
 use Rattle.page.specs.States.{Shown, state_behind}
 use Rattle.page.specs.Statuses.{first_status}
 
@@ -135,3 +136,8 @@ StatesAreTheJudges =
 abbrev pub ShownLinesFit : Type 0
 ShownLinesFit =
     (t : Told) (f : Finding) → IsFound (trace_of t) f → AllFit t.head.mutexes (reverse (lines_shown t f))
+
+-- and where a line doesn't fit, that line is told, unless it is the last line of the trace
+abbrev pub MisfitsAreTold : Type 0
+MisfitsAreTold = (t : Told) (why : TraceMisfit) (r : IsReason t.head.mutexes (reverse t.lines.items) why)
+    → misfit_line t.lines.items why.line ≡ Some r.first.misfit

@@ -4,9 +4,7 @@ pub mod Judged
 pub mod Names
 pub mod Pages
 pub mod Quoting
-pub mod Reasons
 pub mod Shows
 pub mod States
 pub mod Statuses
 pub mod Texts
-pub mod Truths

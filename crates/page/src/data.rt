@@ -3,11 +3,12 @@
 ghost use Rattle.std.specs.Prelude.{◌≡◌, ◌+◌, ◌++◌, ◌≤◌, ◌<◌, ◌==◌, ◌%◌, [], ◌∷◌, All, length, min, reverse, IfOk};
 ghost use Rattle.std.specs.Prelude.{option_map, slice_index_or, string_bytes, if◌then◌else◌};
 ghost use Rattle.facts.specs.Facts.{decision_of, thread_of};
+ghost use Rattle.reasons.specs.Reasons.{reason_text};
 ghost use Rattle.verdict.specs.Judges.{IsInside};
 ghost use Rattle.verdict.specs.Told.{IsOf, IsWithin};
-ghost use Rattle.page.specs.Data.{data_text, end_text, illegal_start, illegal_text, legal_text, mutex_in, shown_lines, start_text};
+ghost use Rattle.page.specs.Data.{data_text, end_text, illegal_end, illegal_start, illegal_text, legal_text};
+ghost use Rattle.page.specs.Data.{misfit_line, misfit_text, mutex_in, shown_lines, start_text};
 ghost use Rattle.page.specs.Escapes.{escaped};
-ghost use Rattle.page.specs.Reasons.{reason_text};
 ghost use Rattle.page.specs.Shows.{items_behind, turn};
 ghost use Rattle.page.specs.States.{seen, state_behind};
 ghost use Rattle.page.specs.Statuses.{first_status};
@@ -15,12 +16,12 @@ ghost use Rattle.page.specs.Texts.{items_text, line_text, mutex_text, status_tex
 
 use crate::naming::{add_escaped, add_names};
 use crate::pieces::{add, add_word};
-use crate::reasons::add_reason;
 use crate::state::State;
 use crate::texts::{add_line, add_object_behind, add_status, add_whole};
 use facts::{Fact, Line};
 use itoa::Buffer;
 use picture::Names;
+use reasons::add_reason;
 use std::alloc::{AllocError, Global};
 use verdict::{Finding, Head, Misfit, Told, TraceMisfit};
 
@@ -164,38 +165,67 @@ fn add_why(alloc: Global, text: &mut String, misfit: &Misfit) -> Result<(), Allo
     ensures { IfOk result
         (λ _. string_bytes text.new ≡ string_bytes text.old ++ escaped (reason_text misfit.now)) }
 {
-    let mut why = String::new(alloc);
+    let mut why = Vec::new(alloc);
     add_reason(&mut why, misfit)?;
-    add_escaped(text, why.as_str())
+    add_escaped(text, why.as_slice())
+}
+
+/// The line with this number, if it is one of these, the first of which is line 2.
+fn misfit_line(lines: &[Line], line: usize) -> Option<Line>
+    ensures { result ≡ misfit_line lines.now line }
+{
+    lines.get(line.saturating_sub(2)).copied()
+}
+
+/// What a line tells that isn't shown, if there is one.
+fn add_misfit(text: &mut String, line: Option<Line>) -> Result<(), AllocError>
+    ensures { IfOk result (λ _. string_bytes text.new ≡ string_bytes text.old ++ misfit_text line) }
+{
+    match line {
+        Some(line) => {
+            add_line(text, &line)?;
+            add_word(text, "0]")
+        }
+        None => add_word(text, "0"),
+    }
+}
+
+fn add_illegal_end(text: &mut String, line: Option<Line>) -> Result<(), AllocError>
+    ensures { IfOk result (λ _. string_bytes text.new ≡ string_bytes text.old ++ illegal_end line) }
+{
+    add_word(text, "\",")?;
+    add_misfit(text, line)?;
+    add_word(text, "]\n]\n")
 }
 
 fn add_illegal(
     alloc: Global,
     text: &mut String,
     last: u32,
-    lines: usize,
+    lines: &[Line],
     found: &TraceMisfit,
 ) -> Result<(), AllocError>
     ensures { IfOk result
-        (λ _. string_bytes text.new ≡ string_bytes text.old ++ illegal_text last lines found.now) }
+        (λ _. string_bytes text.new ≡ string_bytes text.old ++ illegal_text last lines.now found.now) }
 {
-    add_illegal_start(text, last, lines, found.line)?;
+    let line = misfit_line(lines, found.line);
+    add_illegal_start(text, last, lines.len(), found.line)?;
     add_why(alloc, text, &found.misfit)?;
-    add_word(text, "\"]\n]\n")
+    add_illegal_end(text, line)
 }
 
-/// How a trace was judged, which has so many events and lines.
+/// How a trace was judged, which has so many events and these lines.
 fn add_end(
     alloc: Global,
     text: &mut String,
     finding: &Finding,
     last: u32,
-    lines: usize,
+    lines: &[Line],
 ) -> Result<(), AllocError>
-    ensures { IfOk result (λ _. string_bytes text.new ≡ string_bytes text.old ++ end_text finding.now last lines) }
+    ensures { IfOk result (λ _. string_bytes text.new ≡ string_bytes text.old ++ end_text finding.now last lines.now) }
 {
     match finding {
-        Finding::Legal { .. } => add_legal(text, last, lines),
+        Finding::Legal { .. } => add_legal(text, last, lines.len()),
         Finding::Illegal(found) => add_illegal(alloc, text, last, lines, found),
     }
 }
@@ -223,9 +253,8 @@ pub fn add_data(
         (λ _. string_bytes text.new ≡ string_bytes text.old ++ data_text names.now trace.now finding.now) }
 {
     let lines = trace.lines.as_slice();
-    let count = lines.len();
-    let shown = shown_lines(finding, count);
+    let shown = shown_lines(finding, lines.len());
     add_start(text, names, &trace.head)?;
     add_items(text, state, &trace.head, &lines[..shown])?;
-    add_end(alloc, text, finding, trace.last, count)
+    add_end(alloc, text, finding, trace.last, lines)
 }

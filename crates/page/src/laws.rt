@@ -1,10 +1,9 @@
 //! What holds of every page.
 
 ghost use Rattle.page.specs.Escapes.{NamesAreEscaped};
-ghost use Rattle.page.specs.Judged.{ShownLinesFit, StatesAreTheJudges};
+ghost use Rattle.page.specs.Judged.{MisfitsAreTold, ShownLinesFit, StatesAreTheJudges};
 ghost use Rattle.page.specs.Quoting.{NamesStandInQuotes};
 ghost use Rattle.page.specs.Shows.{PageShows};
-ghost use Rattle.page.specs.Truths.{ReasonsAreTrue};
 
 /// The data of a page says the state behind each of its lines, in their order, and nothing else: who reads it, changing
 /// what each line changes, from any of its whole states on, comes to just these.
@@ -27,6 +26,11 @@ pub fn shown_lines_fit()
     ensures { ShownLinesFit }
 {}
 
+/// Where the judge of traces finds that a line doesn't fit, what the page tells beside the reason is that very line.
+pub fn misfits_are_told()
+    ensures { MisfitsAreTold }
+{}
+
 /// Whatever things are called, who reads the texts in quotes from a page's data, byte by byte, finds first the name of
 /// each thread, mutex and condition variable, in their order, escaped, each in quotes of its own which it doesn't end;
 /// the data behind them are the same whatever the names. And no byte of the data begins or ends markup or escapes
@@ -40,10 +44,4 @@ pub fn names_stand_in_quotes()
 /// `names_are_plain` of `draw_report` says.
 pub fn names_are_escaped()
     ensures { NamesAreEscaped }
-{}
-
-/// Where a line doesn't fit those before it, and the reason says that its thread is asleep or isn't, is in a call or in
-/// none, has had no point yet, lives, was killed or was reaped, the page shows the thread so behind those lines.
-pub fn reasons_are_true()
-    ensures { ReasonsAreTrue }
 {}

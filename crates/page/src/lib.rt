@@ -5,14 +5,13 @@
 //! of traces has them ([`states_are_the_judges`], [`shown_lines_fit`]). The data are whole states, and between them what
 //! each line changes; who reads them comes to just the states behind the lines, in their order ([`page_shows`]). The
 //! page's script shows them. Names in the data are escaped ([`names_are_escaped`]), in quotes that they don't end
-//! ([`names_stand_in_quotes`]). How the judge of traces found all of the trace stands behind the data, the line that
-//! doesn't fit and why where there is one (`reason_text`, [`reasons_are_true`]). Where memory is refused nothing is
-//! written, where a write fails a beginning of the page is
-//! (`LeavesPage`).
+//! ([`names_stand_in_quotes`]). How the judge of traces found all of the trace stands behind the data, with the line
+//! that doesn't fit, where there is one ([`misfits_are_told`]), and why (`reason_text`). Where memory is refused nothing
+//! is written, where a write fails a beginning of the page is (`LeavesPage`).
 //!
-//! Stands on `verdict`, for what is read of a trace and how it is judged, on `picture`, for the picture and names, on
-//! `facts`, `posixmutex` and `lockword`, for lines, mutexes as objects, thread ids and replies, on `streams`, for
-//! writing, on `itoa`, for numbers, and on `percent_encoding`, for names.
+//! Stands on `verdict`, for what is read of a trace and how it is judged, on `reasons`, for the words of that, on
+//! `picture`, for the picture and names, on `facts`, `posixmutex` and `lockword`, for lines, mutexes as objects, thread
+//! ids and replies, on `streams`, for writing, on `itoa`, for numbers, and on `percent_encoding`, for names.
 //!
 //! ```text
 //! let told = verdict::read_trace(rt.alloc(), b"trace 1 1 0\n1 begin t1 lock m0\nend 1\n")?;
@@ -29,7 +28,6 @@ mod html;
 mod laws;
 mod naming;
 mod pieces;
-mod reasons;
 mod script;
 mod state;
 mod status;
@@ -37,6 +35,6 @@ mod texts;
 
 pub use html::write_page;
 pub use laws::{
-    names_are_escaped, names_stand_in_quotes, page_shows, reasons_are_true, shown_lines_fit,
+    misfits_are_told, names_are_escaped, names_stand_in_quotes, page_shows, shown_lines_fit,
     states_are_the_judges,
 };

@@ -8,15 +8,15 @@ ghost use Rattle.page.specs.Names.{condition_called, label_text, mutex_called, n
 
 use crate::pieces::add_word;
 use itoa::Buffer;
-use percent_encoding::{NON_ALPHANUMERIC, utf8_percent_encode};
+use percent_encoding::{NON_ALPHANUMERIC, percent_encode};
 use picture::Names;
 use std::alloc::AllocError;
 
 /// Adds a text that may have any characters: all but letters and digits are percent-encoded.
-pub fn add_escaped(text: &mut String, word: &str) -> Result<(), AllocError>
+pub fn add_escaped(text: &mut String, word: &[u8]) -> Result<(), AllocError>
     ensures { IfOk result (λ _. string_bytes text.new ≡ string_bytes text.old ++ escaped word.now) }
 {
-    utf8_percent_encode(word, NON_ALPHANUMERIC).append_to(text)
+    percent_encode(word, NON_ALPHANUMERIC).append_to(text)
 }
 
 /// A name in two pieces, behind what stands before it.
@@ -24,8 +24,8 @@ fn add_label(text: &mut String, head: &str, tail: &str) -> Result<(), AllocError
     ensures { IfOk result (λ _. string_bytes text.new ≡ string_bytes text.old ++ label_text head.now tail.now) }
 {
     add_word(text, ",\"")?;
-    add_escaped(text, head)?;
-    add_escaped(text, tail)?;
+    add_escaped(text, head.as_bytes())?;
+    add_escaped(text, tail.as_bytes())?;
     add_word(text, "\"")
 }
 

@@ -12,6 +12,7 @@ const lines = [];
 for (let i = 1; i < data.length - 1; i++) (typeof data[i][0] === "number" ? lines : wholes).push(data[i]);
 const illegal = end[0] === "illegal";
 const why = illegal ? decodeURIComponent(end[4]) : "";
+const misfit = () => (end[5] ? "It is " + words(end[5]) + "." : "");
 // the line that doesn't fit stands right behind those that are shown, unless these are cut before it
 const stops = illegal && end[3] - 2 === lines.length;
 const isCut = end[2] > lines.length && !stops;
@@ -169,7 +170,7 @@ function tell() {
   element("line").className = stopped ? "misfit" : "";
   const next = lines[at];
   const behind = stops ? "Line " + end[3] + " comes next, and doesn't fit." : isCut ? "The lines behind it aren't shown here." : "The end: " + end[1] + " events.";
-  element("next").textContent = next ? "Next, " + words(next) + ", as " + because[next[1][0]](next[1]) + "." : stopped ? "" : behind;
+  element("next").textContent = next ? "Next, " + words(next) + ", as " + because[next[1][0]](next[1]) + "." : stopped ? misfit() : behind;
   element("slider").value = at;
   element("slider").setAttribute("aria-valuetext", element("line").textContent);
   const cursor = element("cursor");
@@ -277,7 +278,7 @@ element("sheet").addEventListener("click", event => {
   step(Math.round((y - firstRow) / rowHeight));
 });
 if (isCut) {
-  const judged = illegal ? " The trace is illegal at line " + end[3] + ", which isn't shown: " + why + "." : "";
+  const judged = illegal ? " The trace is illegal at line " + end[3] + ", which isn't shown: " + why + ". " + misfit() : "";
   element("cut").textContent = "Of " + end[2] + " lines the first " + lines.length + " are shown here; the picture has all." + judged;
   element("cut").className = illegal ? "misfit" : "";
 }

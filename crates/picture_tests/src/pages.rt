@@ -20,12 +20,12 @@ static DATA: [(&[u8], &str); 4] = [
     // A line that doesn't fit, and one behind it.
     (
         b"trace 1 1 0\n1 begin t1 lock m0\n2 sleep t1 m0\n3 return t1 OK\n4 wake t1\nend 4\n",
-        "\n[2,[\"sleep\",1,\"m\",0],[1,0,0,[\"lock\",0],0,[\"m\",0,3]]],\n[\"illegal\",4,4,4,\"the%20thread%20is%20asleep\"]\n]\n",
+        "\n[2,[\"sleep\",1,\"m\",0],[1,0,0,[\"lock\",0],0,[\"m\",0,3]]],\n[\"illegal\",4,4,4,\"the%20thread%20is%20asleep\",[3,[\"return\",1,\"OK\"],0]]\n]\n",
     ),
     // The `end` line is the one that doesn't fit: all others are shown.
     (
         b"trace 1 1 0\n2 begin t1 lock m0\nend 1\n",
-        "\n[2,[\"begin\",1,\"lock\",0],[1,0,0,[\"lock\",0],0,0]],\n[\"illegal\",1,1,3,\"the%20end%20is%20before%20event%202%2C%20of%20which%20a%20line%20was%20told\"]\n]\n",
+        "\n[2,[\"begin\",1,\"lock\",0],[1,0,0,[\"lock\",0],0,0]],\n[\"illegal\",1,1,3,\"the%20end%20is%20before%20event%202%2C%20of%20which%20a%20line%20was%20told\",0]\n]\n",
     ),
 ];
 

@@ -30,10 +30,10 @@ returns c =
     let start = start_text c.args.names.now t.head in
     let ls = c.as_slice-lines.result.now in
     let items = items_text (items_behind t.head.threads t.head.mutexes [] (take c.shown_lines-shown.result ls)) in
-    let last = end_text f t.last (length ls) in
+    let last = end_text f t.last ls in
     let shown = items_text (items_behind t.head.threads t.head.mutexes [] (lines_shown t f)) in
     told_as c.add_end.result a three ((start ++ items) ++ last) (data_text c.args.names.now t f)
     (append_assoc start items last
     ∙ ap (λ (us : List Line). start ++ (items_text (items_behind t.head.threads t.head.mutexes [] us) ++ last)) (shown_so t f ls c.shown_lines-shown.result c.as_slice-lines.ensures.value c.shown_lines-shown.ensures.value)
-    ∙ ap (λ (us : List Line). start ++ (shown ++ end_text f t.last (length us))) c.as_slice-lines.ensures.value)
+    ∙ ap (λ (us : List Line). start ++ (shown ++ end_text f t.last us)) c.as_slice-lines.ensures.value)
     (then_text c.add_end.result a two three (start ++ items) last (both a one two start items c.in_ok-add_start.ensures c.in_ok-add_items.ensures) c.add_end.ensures)

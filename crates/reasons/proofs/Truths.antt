@@ -1,7 +1,6 @@
--- What a reason says of a thread is so of its status.
-use Rattle.std.proofs.Common.{◌≡◌, inl, inr, ℕ, Option, Some, None, List, [], get_or, refl, sym, ap, subst, ◌∙◌, arith}
+-- What a reason says of a thread is so: each text has one reason, and the reason is true.
+use Rattle.std.proofs.Common.{◌≡◌, inl, inr, ℕ, Option, Some, None, List, [], get_or, refl, ap, subst, arith}
 use Rattle.std.specs.Prelude.{codes}
-use Rattle.std.specs.Option.{is_some}
 use Rattle.facts.specs.declared.fact.Begun.{Begun}
 use Rattle.facts.specs.declared.fact.Fact.{Fact}
 use Rattle.facts.specs.declared.fact.Fact.TheVariants.{Return}
@@ -10,23 +9,12 @@ use Rattle.facts.specs.Facts.{decision_of, thread_of}
 use Rattle.posixmutex.specs.Histories.{held_by}
 use Rattle.posixmutex.specs.declared.object.Object.{Object}
 use Rattle.posixmutex.specs.declared.point.Decision.{Decision}
-use Rattle.posixmutex.specs.declared.point.Operation.{Operation}
-use Rattle.facts.specs.Lives.{Act, Complete}
 use Rattle.verdict.specs.declared.misfit.Misfit.{Misfit}
 use Rattle.verdict.specs.declared.misfit.Misfit.TheVariants as misfit
-use Rattle.verdict.specs.declared.stage.Made.{Made}
-use Rattle.verdict.specs.declared.stage.Made.TheVariants.{Nothing, Released, Decided}
-use Rattle.verdict.specs.declared.stage.Stage.{Stage}
-use Rattle.verdict.specs.declared.stage.Stage.TheVariants.{Resting, Calling, Dying, Reaped}
-use Rattle.verdict.specs.Earlier.{call_in, is_asleep, objects_after, points_in, told_of}
+use Rattle.verdict.specs.Earlier.{objects_after, told_of}
 use Rattle.verdict.specs.Misfits.{IsMisfit, IsOutOfLife, IsOutOfOrder, OwnsSome, Refuses, RefusesStep}
-use Rattle.verdict.proofs.Stages.{Kept, Of}
-use Rattle.page.specs.declared.status.Status.{Status}
-use Rattle.page.specs.Judged.{Agrees, IsPointOf, stage_in}
-use Rattle.page.specs.Reasons.{call_words, reason_text}
-use Rattle.page.specs.Statuses.{status_of}
-use Rattle.page.specs.Truths.{ReasonsAreTrue}
-use Rattle.page.proofs.Judged.{goes, nowhere}
+use Rattle.reasons.specs.Reasons.{call_text, reason_text}
+use Rattle.reasons.specs.Truths.{HasNoPoint, ReasonsAreTrue}
 
 -- ---- which reason has these words
 
@@ -46,7 +34,7 @@ only_idle : (m : Misfit) → reason_text m ≡ codes "the thread is in no call" 
 only_idle misfit.NoCall h = refl
 only_idle m h = absurd (omega (arith, at 14 h, at 0 h, at 17 h))
 
-only_in_call : (m : Misfit) (operation : List ℕ) (k : ℕ) → reason_text m ≡ call_words operation k → (c : Begun) × (m ≡ misfit.InCall c)
+only_in_call : (m : Misfit) (operation : List ℕ) (k : ℕ) → reason_text m ≡ call_text operation k → (c : Begun) × (m ≡ misfit.InCall c)
 only_in_call (misfit.InCall c) operation k h = (c, refl)
 only_in_call m operation k h = absurd (omega (arith, at 14 h, at 0 h, at 17 h))
 
@@ -70,25 +58,6 @@ only_reaped : (m : Misfit) → reason_text m ≡ codes "the thread was reaped" �
 only_reaped misfit.Reaped h = refl
 only_reaped m h = absurd (omega (arith, at 15 h, at 4 h))
 
--- ---- a thread and its stage
-
-sleeps_so : (stage : Stage) (fs : List Fact) (s : Status) → Kept stage fs → Agrees stage s → is_some s.bed ≡ is_asleep fs
-sleeps_so Resting fs s k a = ap is_some a.0.bed ∙ sym k.1
-sleeps_so (Calling c made z) fs s k a = a.2 ∙ sym k.1
-sleeps_so Dying fs s k a = ap is_some a.0.bed ∙ sym k.1
-sleeps_so Reaped fs s k a = ap is_some a.0.bed ∙ sym k.1
-
-no_point_so : (op : Operation) (made : Made) (ps : List Act) (p : Option Act) → Of op ps made → IsPointOf op made p → ps ≡ [] → p ≡ None
-no_point_so op Nothing ps p of is none = is
-no_point_so op Released ps p of is none = absurd (let e = sym none ∙ of.1 in cc)
-no_point_so op (Decided x) ps p of is none = absurd (subst (λ (qs : List Act). Complete op qs x) none of)
-
-pointless_so : (stage : Stage) (fs : List Fact) (s : Status) → Kept stage fs → Agrees stage s → points_in fs ≡ [] → s.point ≡ None
-pointless_so Resting fs s k a none = a.0.point
-pointless_so (Calling c made z) fs s k a none = no_point_so c.operation made (points_in fs) s.point k.4 a.1 none
-pointless_so Dying fs s k a none = a.0.point
-pointless_so Reaped fs s k a none = a.0.point
-
 -- ---- a misfit of a thread's life is of nothing else
 
 no_step : (m : Misfit) (n : ℕ) (os : ℕ → Object) → ((held : ℕ) (o : Object) (d : Decision) → RefusesStep m held o d → ⊥) → (D : Option Decision) → Refuses m n os D → ⊥
@@ -101,27 +70,19 @@ of_life m n es e a b c (inr (inl h)) = h.1
 of_life m n es e a b c (inr (inr (inl h))) = absurd (no_step m n (objects_after es) b (decision_of e.fact) h.2)
 of_life m n es e a b c (inr (inr (inr h))) = absurd (c h.2)
 
-pub record HasNoPoint (fs : List Fact) : Type 0 where
-  pub call : Begun
-  pub is : call_in fs ≡ Some call
-  pub points : points_in fs ≡ []
-
 undecided_so : (fs : List Fact) (f : Fact) → IsOutOfLife misfit.Undecided fs f → HasNoPoint fs
 undecided_so fs (Return t x) h = record { call = h.0; is = h.1.call; points = h.2 }
 undecided_so fs f h = absurd h
 
 pub reasons_are_true : ReasonsAreTrue
-reasons_are_true n es e m fit why =
-    let t = thread_of e.fact in
-    let fs = told_of t es in
-    let s = status_of t es in
-    let g = goes n t es fit in
+reasons_are_true n es e m why =
+    let fs = told_of (thread_of e.fact) es in
     record {
-      asleep = λ h. sleeps_so (stage_in fs) fs s g.0 g.1 ∙ (of_life misfit.Asleep n es e (λ x. x) (λ k o d x. x) (λ x. x) (subst (λ (k : Misfit). IsMisfit k n es e) (only_asleep m h) why)).1;
-      awake = λ h. nowhere s.bed (sleeps_so (stage_in fs) fs s g.0 g.1 ∙ (of_life misfit.Awake n es e (λ x. x) (λ k o d x. x) (λ x. x) (subst (λ (k : Misfit). IsMisfit k n es e) (only_awake m h) why)).1);
+      asleep = λ h. (of_life misfit.Asleep n es e (λ x. x) (λ k o d x. x) (λ x. x) (subst (λ (k : Misfit). IsMisfit k n es e) (only_asleep m h) why)).1;
+      awake = λ h. (of_life misfit.Awake n es e (λ x. x) (λ k o d x. x) (λ x. x) (subst (λ (k : Misfit). IsMisfit k n es e) (only_awake m h) why)).1;
       idle = λ h. (of_life misfit.NoCall n es e (λ x. x) (λ k o d x. x) (λ x. x) (subst (λ (k : Misfit). IsMisfit k n es e) (only_idle m h) why)).1;
-      in_call = λ operation k h. let c = only_in_call m operation k h in ap is_some (of_life (misfit.InCall c.0) n es e (λ x. x) (λ k o d x. x) (λ x. x) (subst (λ (k : Misfit). IsMisfit k n es e) c.1 why)).1;
-      undecided = λ h. let u = undecided_so fs e.fact (of_life misfit.Undecided n es e (λ x. x) (λ k o d x. x) (λ x. x) (subst (λ (k : Misfit). IsMisfit k n es e) (only_undecided m h) why)) in (ap is_some u.is, pointless_so (stage_in fs) fs s g.0 g.1 u.points);
+      in_call = λ operation k h. let c = only_in_call m operation k h in record { call = c.0; is = (of_life (misfit.InCall c.0) n es e (λ x. x) (λ k o d x. x) (λ x. x) (subst (λ (k : Misfit). IsMisfit k n es e) c.1 why)).1; named = ap reason_text c.1 };
+      undecided = λ h. undecided_so fs e.fact (of_life misfit.Undecided n es e (λ x. x) (λ k o d x. x) (λ x. x) (subst (λ (k : Misfit). IsMisfit k n es e) (only_undecided m h) why));
       alive = λ h. (of_life misfit.Alive n es e (λ x. x) (λ k o d x. x) (λ x. x) (subst (λ (k : Misfit). IsMisfit k n es e) (only_alive m h) why)).1;
       killed = λ h. let k = of_life misfit.Killed n es e (λ x. x) (λ k o d x. x) (λ x. x) (subst (λ (k : Misfit). IsMisfit k n es e) (only_killed m h) why) in (k.1.killed, k.2);
       unreaped = λ h. let k = of_life misfit.NotReaped n es e (λ x. x) (λ k o d x. x) (λ x. x) (subst (λ (k : Misfit). IsMisfit k n es e) (only_unreaped m h) why) in (k.1.killed, k.2);

@@ -1,7 +1,7 @@
-//! The words for why a line of a trace doesn't fit.
+//! Why a line of a trace doesn't fit, in words.
 
 ghost use Rattle.std.specs.Prelude.{◌≡◌, ◌++◌, OnOk};
-ghost use Rattle.explain.specs.Misfits.{misfit_text, object_text, with_number};
+ghost use Rattle.reasons.specs.Reasons.{object_text, reason_text, with_number};
 
 use crate::adding::add;
 use itoa::Buffer;
@@ -36,8 +36,8 @@ fn add_object(text: &mut Vec<u8>, object: &Object) -> Result<(), AllocError>
 }
 
 /// Why the line doesn't fit those before it.
-pub fn add_misfit(text: &mut Vec<u8>, misfit: &Misfit) -> Result<(), AllocError>
-    ensures { OnOk result (text.new.items ≡ text.old.items ++ misfit_text misfit.now) }
+pub fn add_reason(text: &mut Vec<u8>, misfit: &Misfit) -> Result<(), AllocError>
+    ensures { OnOk result (text.new.items ≡ text.old.items ++ reason_text misfit.now) }
 {
     match *misfit {
         Misfit::EventFalls { latest } => {

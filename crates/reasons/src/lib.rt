@@ -1,0 +1,23 @@
+//! The words for why a line of a trace doesn't fit those before it.
+//!
+//! [`add_reason`] says what the judge of traces found of a line: one text for each of its reasons, with their numbers
+//! and words (`reason_text`). What a text says of the line's thread is so ([`reasons_are_true`]). Whoever tells of an
+//! illegal trace says it so: `explain`, and `page`. [`add`] puts a text together of pieces.
+//!
+//! Stands on `verdict`, for what is found, on `facts`, `posixmutex` and `lockword`, for what lines tell, mutexes as
+//! objects, operations, replies and thread ids, and on `itoa`, for numbers.
+//!
+//! ```text
+//! let mut text = Vec::new(rt.alloc());
+//! add_reason(&mut text, &Misfit::StillOwns { mutex: 3 })?;
+//! // the thread still owns m3
+//! ```
+#![tactic(auto)]
+
+mod adding;
+mod laws;
+mod reasons;
+
+pub use adding::add;
+pub use laws::reasons_are_true;
+pub use reasons::add_reason;
