@@ -1,13 +1,17 @@
 //! `rfx-judge`: judges a history of robust mutexes, of which nobody knows the moments at which calls took effect.
 //!
-//! The system's files and words are handed to `judge_report`, whose contracts say what is written.
+//! The system's files and words are handed to `judge_report`, whose contracts say what is written. On a terminal it is
+//! told besides how much of a long history was read (`progress`).
 #![tactic(auto)]
 
+mod progress;
+
+use crate::progress::WatchedFiles;
 use judge_report::{Maker, OUT_OF_MEMORY, run};
 use std::fs::{self, File};
 use std::io::{self, BufWriter};
 use std::process::ExitCode;
-use streams::{Output, SystemFiles, system_words};
+use streams::{Output, system_words};
 
 /// Makes the system's files.
 #[derive(Drop)]
@@ -31,7 +35,7 @@ fn main(rt: HostRuntime) -> ExitCode {
         let _ = rt.eprint(OUT_OF_MEMORY);
         return ExitCode::from(1);
     };
-    let files = SystemFiles(&rt);
+    let files = WatchedFiles(&rt);
     let maker = SystemMaker(&rt);
     let status = run(
         rt.alloc(),
