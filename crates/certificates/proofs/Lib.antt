@@ -1,3 +1,6 @@
 pub mod Fitting
 pub mod Showing
 pub mod Standing
+pub mod Following
+pub mod Behind
+pub mod Naming

@@ -15,7 +15,7 @@ use lockword::Tid;
 use std::alloc::{AllocError, Global};
 
 /// Whether nobody outside sees the fact.
-fn is_hidden(fact: &Fact) -> bool
+pub fn is_hidden(fact: &Fact) -> bool
     ensures { result ≡ is_hidden fact.now }
 {
     match *fact {
@@ -134,7 +134,7 @@ fn entry_at(history: &[HistoryLine], at: usize) -> Option<Entry>
 }
 
 /// The place behind this one, where its entry was told.
-fn behind(at: usize, tells: bool) -> usize
+pub fn behind(at: usize, tells: bool) -> usize
     requires { at + 1 < 2 ^ 64 }
     ensures { result ≡ (if tells then at + 1 else at) }
 {

@@ -6,6 +6,11 @@
 //! just the history. So where it answers true, the history is legal (`LegalHistory`), with this trace, numbered from 1.
 //! That it accepts whatever is a certificate isn't proved. It asks for memory once, for each thread and each mutex.
 //!
+//! [`still_waiting`] names the calls that a certificate leaves waiting, though nobody owns their mutex. Two laws say what
+//! that is worth: each call that is named is a lock that has had no point and would have a reply, and it began at the line
+//! that is named ([`named_calls_are_stuck`]); and each such call of a thread that isn't doomed is named
+//! ([`stuck_calls_are_named`]).
+//!
 //! Stands on `histories`, for what a legal history is, on `verdict`, for the rules of a trace's lines, on `facts`, for
 //! what lines say, on `posixmutex`, for mutexes as objects, and on `lockword`, for thread ids and replies.
 //!
@@ -19,7 +24,12 @@
 #![tactic(auto)]
 
 mod certifying;
+mod laws;
 mod phase;
 mod state;
+mod waiting;
+mod walk;
 
 pub use certifying::{certify, points_of};
+pub use laws::{named_calls_are_stuck, stuck_calls_are_named};
+pub use waiting::{Waiter, still_waiting};
