@@ -4,7 +4,8 @@
 //! once, beside the history. Each line of the trace has to be accepted by the rules of the judge of traces, which are
 //! cited by their definitions (`Fits`); a wait may release a consistent mutex only; and what the steps show has to be
 //! just the history. So where it answers true, the history is legal (`LegalHistory`), with this trace, numbered from 1.
-//! That it accepts whatever is a certificate isn't proved. It asks for memory once, for each thread and each mutex.
+//! That it accepts whatever is a certificate isn't proved. It asks for memory once, for each thread and each mutex. A
+//! [`State`] is where steps leave threads and mutexes.
 //!
 //! [`still_waiting`] names the calls that a certificate leaves waiting, though nobody owns their mutex. Two laws say what
 //! that is worth: each call that is named is a lock that has had no point and would have a reply, and it began at the line
@@ -32,4 +33,6 @@ mod walk;
 
 pub use certifying::{certify, points_of};
 pub use laws::{named_calls_are_stuck, stuck_calls_are_named};
+pub use phase::{Made, Phase};
+pub use state::State;
 pub use waiting::{Waiter, still_waiting};

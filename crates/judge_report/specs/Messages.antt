@@ -17,7 +17,7 @@ history_fault_text at = fault_text (codes "rfx-judge: line ") at.line (number_of
 
 -- why the history in a file of this name wasn't judged, or that wasn't told
 abbrev pub failure_text : List ℕ → Failure → List ℕ
-failure_text file Usage = concat (codes "usage: rfx-judge [--trace OUT] FILE\n" ∷ [])
+failure_text file Usage = concat (codes "usage: rfx-judge [--waiting] [--trace OUT] FILE\n" ∷ [])
 failure_text file CannotRead = concat (codes "rfx-judge: cannot read " ∷ file ∷ codes "\n" ∷ [])
 failure_text file CannotWrite = concat (codes "rfx-judge: cannot write\n" ∷ [])
 failure_text file CannotKeep = concat (codes "rfx-judge: cannot write the certificate\n" ∷ [])

@@ -1,9 +1,9 @@
 -- What the program says of a history, and what that means.
 --
--- *What is said of a history.* `legal N points`: it is a legal history, with a certificate that has N points. `illegal at
--- line L`: those of its lines that stand before line L are a legal history, and with line L they aren't. `undecided at
+-- *What is said of a history.* `legal N points`: it is a legal history, with a certificate that has N points; behind that
+-- are named the calls that the certificate leaves waiting and shouldn't, where they are asked for. `illegal at line L`: those of its lines that stand before line L are a legal history, and with line L they aren't. `undecided at
 -- line L`: those before it are a legal history.
-use Rattle.std.specs.Prelude.{ℕ, ◌≡◌, List, ◌∷◌, ◌++◌, map, reverse, count_by}
+use Rattle.std.specs.Prelude.{ℕ, ◌≡◌, Bool, true, false, List, [], ◌∷◌, ◌++◌, map, reverse, count_by}
 use Rattle.std.specs.Prelude.{Option, Some, None, Result}
 use Rattle.std.specs.Io.KnownBytes.{Appends}
 use Rattle.streams.specs.Leaves.{Leaves}
@@ -11,11 +11,14 @@ use Rattle.histories.specs.declared.head.Head.{Head}
 use Rattle.histories.specs.declared.entry.Entry.{Entry}
 use Rattle.histories.specs.declared.entry.HistoryLine.{HistoryLine}
 use Rattle.histories.specs.Histories.{LegalHistory}
+use Rattle.certificates.specs.declared.waiting.Waiter.{Waiter}
 use Rattle.certificates.specs.Certificates.{IsCertificate, is_point_step}
+use Rattle.certificates.specs.Waiters.{waiters}
 use Rattle.judge.specs.declared.judging.Judgement.{Judgement}
 use Rattle.judge.specs.declared.judging.Judgement.TheVariants.{Legal, Illegal, Undecided}
 use Rattle.judge_report.specs.Heard.{Heard}
-use Rattle.judge_report.specs.Texts.{certificate_text, illegal_text, legal_text, undecided_text}
+use Rattle.judge_report.specs.Texts.{illegal_text, legal_text, undecided_text, waiters_text}
+use Rattle.windows.specs.Texts.{certificate_text}
 
 -- what lines tell
 abbrev pub told : List HistoryLine → List Entry
@@ -38,12 +41,24 @@ pub record IsFirstIllegal (k : Heard) (line : HistoryLine) : Type 0 where
   pub before : IsLegalBefore k line
   pub never : LegalHistory k.head.mutexes (told (line ∷ before.earlier)) → ⊥
 
--- this is said of it
-abbrev pub IsSaid : Heard → Judgement → List ℕ → Type 0
-IsSaid k (Legal steps) text = IsLegal k steps.items × (text ≡ legal_text (count_by is_point_step steps.items))
-IsSaid k (Illegal at why) text =
+-- the calls that are named behind these steps, if they are asked for
+abbrev pub named : Bool → List Entry → List Waiter
+named true steps = waiters (reverse steps)
+named false steps = []
+
+-- this is said of it, with the calls that still wait and shouldn't or without them
+abbrev pub IsSaid : Bool → Heard → Judgement → List ℕ → Type 0
+IsSaid waiting k (Legal steps) text = IsLegal k steps.items
+    × (text ≡ legal_text (count_by is_point_step steps.items) ++ waiters_text (reverse k.seen) (named waiting steps.items))
+IsSaid waiting k (Illegal at why) text =
     (line : HistoryLine) × IsFirstIllegal k line × (text ≡ illegal_text (reverse k.seen) line why)
-IsSaid k (Undecided at) text = (line : HistoryLine) × IsLegalBefore k line × (text ≡ undecided_text line)
+IsSaid waiting k (Undecided at) text = (line : HistoryLine) × IsLegalBefore k line × (text ≡ undecided_text line)
+
+-- these are the calls that are named of a history that is so judged
+abbrev pub AreNamed : Bool → Judgement → List Waiter → Type 0
+AreNamed waiting (Legal steps) ws = ws ≡ named waiting steps.items
+AreNamed waiting (Illegal at why) ws = Unit {0}
+AreNamed waiting (Undecided at) ws = Unit {0}
 
 -- the exit status then
 abbrev pub status_of : Judgement → ℕ
@@ -69,5 +84,6 @@ IsFilled Makes Fills (Some name) k (Illegal at why) = Unit {0}
 IsFilled Makes Fills (Some name) k (Undecided at) = Unit {0}
 
 -- what is said of a history was written, or a beginning of it
-abbrev pub Tells : {E : Type 0} → Heard → Judgement → Option (List ℕ) → Option (List ℕ) → Result (Unit {0}) E → Type 0
-Tells k j old new r = (text : List ℕ) × IsSaid k j text × Leaves old new r text
+abbrev pub Tells : {E : Type 0} → Bool → Heard → Judgement → Option (List ℕ) → Option (List ℕ) → Result (Unit {0}) E
+    → Type 0
+Tells waiting k j old new r = (text : List ℕ) × IsSaid waiting k j text × Leaves old new r text

@@ -1,5 +1,5 @@
 -- What the program did with the bytes of its reader.
-use Rattle.std.specs.Prelude.{ℕ, ◌≡◌, List, Option, Ok, Err, IfSome}
+use Rattle.std.specs.Prelude.{ℕ, ◌≡◌, Bool, List, Option, Ok, Err, IfSome}
 use Rattle.std.specs.Io.KnownBytes.{Appends}
 use Rattle.streams.specs.Leaves.{AppendsFront}
 use Rattle.judge.specs.declared.judging.Judgement.{Judgement}
@@ -16,23 +16,24 @@ abbrev pub IsRead : Option (List ℕ) → Heard → Type 0
 IsRead had k = IfSome had (λ bytes. history_read bytes ≡ Ok k)
 
 -- a history was read, judged, and that was told; before that its certificate was written, if it was to be
-pub record Serves (Makes Fills : List ℕ → Option (List ℕ) → Type 0) (out had old new : Option (List ℕ)) (status : ℕ) : Type 0 where
+pub record Serves (Makes Fills : List ℕ → Option (List ℕ) → Type 0) (waiting : Bool) (out had old new : Option (List ℕ))
+    (status : ℕ) : Type 0 where
   pub heard : Heard
   pub read : IsRead had heard
   pub judgement : Judgement
   pub text : List ℕ
-  pub said : IsSaid heard judgement text
+  pub said : IsSaid waiting heard judgement text
   pub written : Appends old new text
   pub exit : status ≡ status_of judgement
   pub filled : IsFilled Makes Fills out heard judgement
 
 -- a beginning of what is said of a history that was read
-pub record ServesFront (had old new : Option (List ℕ)) : Type 0 where
+pub record ServesFront (waiting : Bool) (had old new : Option (List ℕ)) : Type 0 where
   pub heard : Heard
   pub read : IsRead had heard
   pub judgement : Judgement
   pub text : List ℕ
-  pub said : IsSaid heard judgement text
+  pub said : IsSaid waiting heard judgement text
   pub written : AppendsFront old new text
 
 -- the failure that a fault of reading is told as
@@ -52,10 +53,10 @@ Unread had (Ill f) = IfSome had (λ bytes. history_read bytes ≡ Err f)
 
 -- why nothing was told of a history, or not all: it couldn't be read, or memory was wanted, or the certificate couldn't
 -- be written, or the bytes have this fault, before anything was told; or a write failed, behind a beginning
-abbrev pub Fails : Option (List ℕ) → Option (List ℕ) → Option (List ℕ) → Failure → Type 0
-Fails had old new Usage = ⊥
-Fails had old new CannotRead = new ≡ old
-Fails had old new CannotWrite = ServesFront had old new
-Fails had old new CannotKeep = new ≡ old
-Fails had old new OutOfMemory = new ≡ old
-Fails had old new (Ill f) = (new ≡ old) × IfSome had (λ bytes. history_read bytes ≡ Err f)
+abbrev pub Fails : Bool → Option (List ℕ) → Option (List ℕ) → Option (List ℕ) → Failure → Type 0
+Fails waiting had old new Usage = ⊥
+Fails waiting had old new CannotRead = new ≡ old
+Fails waiting had old new CannotWrite = ServesFront waiting had old new
+Fails waiting had old new CannotKeep = new ≡ old
+Fails waiting had old new OutOfMemory = new ≡ old
+Fails waiting had old new (Ill f) = (new ≡ old) × IfSome had (λ bytes. history_read bytes ≡ Err f)

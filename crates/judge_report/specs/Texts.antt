@@ -1,15 +1,14 @@
--- The texts of histories' lines, of certificates, and of what is said of a history.
-use Rattle.std.specs.Prelude.{ℕ, ◌+◌, ◌-◌, Option, Some, None, List, [], ◌∷◌, ◌++◌, length, map, reverse, codes, decimal}
+-- The texts of histories' lines, and of what is said of a history.
+use Rattle.std.specs.Prelude.{ℕ, ◌-◌, Bool, true, false, Option, Some, None, List, [], ◌∷◌, ◌++◌, map, codes, decimal}
 use Rattle.std.specs.List.{concat, slice_get}
 use Rattle.lockword.specs.Replies.{reply_word}
 use Rattle.posixmutex.specs.Words.{operation_word}
 use Rattle.facts.specs.Facts.{thread_of}
-use Rattle.texts.specs.Text.{head_line, line_text, fact_text, end_line}
-use Rattle.histories.specs.declared.head.Head.{Head}
+use Rattle.texts.specs.Text.{fact_text}
 use Rattle.histories.specs.declared.entry.Entry.{Entry}
 use Rattle.histories.specs.declared.entry.Entry.TheVariants.{Told, Doom}
 use Rattle.histories.specs.declared.entry.HistoryLine.{HistoryLine}
-use Rattle.certificates.specs.Certificates.{trace_of}
+use Rattle.certificates.specs.declared.waiting.Waiter.{Waiter}
 use Rattle.completing.specs.declared.stop.OutOfTurn.{OutOfTurn}
 use Rattle.completing.specs.declared.stop.OutOfTurn.TheVariants.{InCall, NoCall, Dead, Reaped, Alive, NotReaped}
 use Rattle.completing.specs.declared.stop.Refusal.{Refusal}
@@ -33,33 +32,44 @@ entry_thread (Doom t) = t
 abbrev pub quote : HistoryLine → List ℕ
 quote l = concat (codes "  | " ∷ []) ++ entry_text l.event l.entry
 
--- ---- certificates
-
--- what a step tells behind so many lines: a line more, or nothing
-abbrev pub step_text : ℕ → Entry → List ℕ
-step_text n (Told f) = fact_text (n + 1) f
-step_text n (Doom t) = []
-
-abbrev pub count_with : ℕ → Entry → ℕ
-count_with n (Told f) = n + 1
-count_with n (Doom t) = n
-
--- the lines of the trace that steps are, in their order
-abbrev pub steps_lines : List Entry → List ℕ
-steps_lines steps = concat (map line_text (reverse (trace_of (reverse steps))))
-
--- how many they are
-abbrev pub steps_count : List Entry → ℕ
-steps_count steps = length (trace_of (reverse steps))
-
--- a certificate's text: that of a trace of as many threads, mutexes and condition variables
-abbrev pub certificate_text : Head → List Entry → List ℕ
-certificate_text h steps = head_line h.threads h.mutexes h.conditions ++ (steps_lines steps ++ end_line (steps_count steps))
-
 -- ---- what is said of a history
 
 abbrev pub legal_text : ℕ → List ℕ
 legal_text points = concat (codes "legal " ∷ decimal points ∷ codes " points\n" ∷ [])
+
+-- the line that the mutex has had no owner since: the last before it was left, if it ever was
+abbrev pub since_line : List HistoryLine → Option ℕ → Option HistoryLine
+since_line ls None = None
+since_line ls (Some n) = slice_get ls (n - 1)
+
+-- what the mutex is that a call still waits for, since that line; an unusable one was left
+abbrev pub since_words : Bool → Option HistoryLine → List ℕ
+since_words true None = concat (codes ", which is unusable\n" ∷ [])
+since_words false None = concat (codes ", which nobody has owned\n" ∷ [])
+since_words true (Some l) = concat (codes ", which is unusable since line " ∷ decimal l.number ∷ codes "\n" ∷ [])
+since_words false (Some l) = concat (codes ", which nobody owns since line " ∷ decimal l.number ∷ codes "\n" ∷ [])
+
+abbrev pub quote_of : Option HistoryLine → List ℕ
+quote_of None = []
+quote_of (Some l) = quote l
+
+abbrev pub since_note : Option HistoryLine → List ℕ
+since_note None = []
+since_note (Some l) = concat (codes "  = see line " ∷ decimal l.number ∷ codes ":\n" ∷ []) ++ quote l
+
+abbrev pub waiter_title : Waiter → List ℕ
+waiter_title w = concat (codes "still waits: t" ∷ decimal w.thread ∷ codes " for m" ∷ decimal w.mutex ∷ [])
+
+-- a call that still waits and shouldn't, the line where it began, and the last before its mutex was left
+abbrev pub waiter_lines : Waiter → Option HistoryLine → Option HistoryLine → List ℕ
+waiter_lines w begin since =
+    waiter_title w ++ (since_words w.unusable since ++ (quote_of begin ++ since_note since))
+
+abbrev pub waiter_text : List HistoryLine → Waiter → List ℕ
+waiter_text ls w = waiter_lines w (slice_get ls (w.begin - 1)) (since_line ls w.since)
+
+abbrev pub waiters_text : List HistoryLine → List Waiter → List ℕ
+waiters_text ls ws = concat (map (waiter_text ls) ws)
 
 -- why a thread's line may not stand there
 abbrev pub turn_words : OutOfTurn → List ℕ

@@ -2,9 +2,10 @@
 //!
 //! [`run`] is given the words of the command line, what opens files and what makes them, and the two writers. Where it
 //! writes `legal N points`, its file is a legal history (`LegalHistory`), of just the lines that its text has, and a
-//! certificate with N points was checked, which `--trace` writes. Where it writes `illegal at line L`, the lines before L
-//! are a legal history, and with line L they aren't. Where it writes `undecided at line L`, the lines before L are one.
-//! A file that is no history is told by its first fault (`history_read`).
+//! certificate with N points was checked, which `--trace` writes; behind that it names with `--waiting` just the calls
+//! that the certificate leaves waiting and shouldn't. Where it writes `illegal at line L`, the lines before L are a legal
+//! history, and with line L they aren't. Where it writes `undecided at line L`, the lines before L are one. A file that
+//! is no history is told by its first fault (`history_read`).
 //!
 //! The file is read once, line by line. What its lines tell is kept, 40 bytes a line; so is what the search keeps of
 //! lines that aren't decided, and the certificate.

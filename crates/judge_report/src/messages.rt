@@ -66,7 +66,7 @@ fn write_failure<E: Write>(err: &mut E, file: &str, failure: Failure) -> io::Res
     ensures { Leaves (E.contents err.old) (E.contents err.new) result (failure_text file.now failure) }
 {
     match failure {
-        Failure::Usage => put(err, &["usage: rfx-judge [--trace OUT] FILE\n"]),
+        Failure::Usage => put(err, &["usage: rfx-judge [--waiting] [--trace OUT] FILE\n"]),
         Failure::CannotRead => put(err, &["rfx-judge: cannot read ", file, "\n"]),
         Failure::CannotWrite => put(err, &["rfx-judge: cannot write\n"]),
         Failure::CannotKeep => put(err, &["rfx-judge: cannot write the certificate\n"]),

@@ -25,6 +25,7 @@ fn unopened_by(error: &io::Error) -> Failure
 /// What is told of the history in this file.
 fn run_file<F: Opener, M: Maker, W: Output, E: Write>(
     alloc: Global,
+    waiting: bool,
     name: Option<&str>,
     file: &str,
     files: &F,
@@ -32,7 +33,7 @@ fn run_file<F: Opener, M: Maker, W: Output, E: Write>(
     out: &mut W,
     err: &mut E,
 ) -> u8
-    ensures { FileEnds (F.opens files.now) (M.makes maker.now) (M.fills maker.now) (option_map (λ w. w.now) name.entry)
+    ensures { FileEnds (F.opens files.now) (M.makes maker.now) (M.fills maker.now) waiting (option_map (λ w. w.now) name.entry)
         file.now (W.contents out.old) (W.contents out.new) (W.is_let_go out.new) (err.new ≡ err.old) (E.contents err.old)
         (E.contents err.new) result }
 {
@@ -40,7 +41,7 @@ fn run_file<F: Opener, M: Maker, W: Output, E: Write>(
         Ok(input) => input,
         Err(error) => return fail(err, file, unopened_by(&error)),
     };
-    match serve(alloc, name, input, maker, out) {
+    match serve(alloc, waiting, name, input, maker, out) {
         Ok(status) => status,
         Err(failure) => fail(err, file, failure),
     }
@@ -73,7 +74,9 @@ pub fn run<F: Opener, M: Maker, W: Output, E: Write>(
         return fail(err, "", Failure::OutOfMemory);
     };
     match form_of_words(&lent) {
-        Form::History(name, file) => run_file(alloc, name, file, files, maker, out, err),
+        Form::History(waiting, name, file) => {
+            run_file(alloc, waiting, name, file, files, maker, out, err)
+        }
         Form::Usage => fail(err, "", Failure::Usage),
     }
 }

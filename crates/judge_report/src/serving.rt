@@ -4,20 +4,20 @@ ghost use Rattle.std.specs.Prelude.{◌≡◌, ◌<◌, get_or, length, option_m
 ghost use Rattle.histories.specs.Reading.{IsHead};
 ghost use Rattle.judge.specs.Judgements.{IsJudged};
 ghost use Rattle.judge_report.specs.Heard.{heard_of};
-ghost use Rattle.judge_report.specs.Said.{IsFilled, IsWritten, Tells, status_of};
+ghost use Rattle.judge_report.specs.Said.{AreNamed, IsFilled, IsWritten, Tells, status_of};
 ghost use Rattle.judge_report.specs.Served.{Fails, IsRead, Serves, Unread, failed_by};
 
 use crate::making::Maker;
 use crate::messages::Failure;
 use crate::reading::{History, ReadFault, read_history};
 use crate::telling::{tell_illegal, tell_legal, tell_undecided};
-use crate::writing::write_certificate;
-use certificates::points_of;
+use certificates::{Waiter, points_of, still_waiting};
 use histories::{Entry, Head, HistoryLine};
 use judge::{Judgement, judge};
-use std::alloc::Global;
+use std::alloc::{AllocError, Global};
 use std::io::{self, BufReader, Read, Write};
 use streams::Output;
+use windows::write_certificate;
 
 /// What a fault of reading is told as.
 fn failed_by(fault: ReadFault) -> Failure
@@ -73,6 +73,22 @@ fn certify<M: Maker>(
     }
 }
 
+/// The calls that are named behind the judgement, if they are asked for.
+fn named(alloc: Global, waiting: bool, judgement: &Judgement) -> Result<Vec<Waiter>, AllocError>
+    ensures { IfOk result (λ ws. AreNamed waiting judgement.now ws.items) }
+{
+    match judgement {
+        Judgement::Legal(steps) => {
+            if waiting {
+                still_waiting(alloc, steps)
+            } else {
+                Ok(Vec::new(alloc))
+            }
+        }
+        Judgement::Illegal(..) | Judgement::Undecided(_) => Ok(Vec::new(alloc)),
+    }
+}
+
 /// The line at this place, counted from 0.
 fn line_of(history: &History, at: usize) -> HistoryLine
     requires { at < length history.now.lines.items }
@@ -81,13 +97,20 @@ fn line_of(history: &History, at: usize) -> HistoryLine
     history.lines[at]
 }
 
-/// Tells what the history was found to be.
-fn tell<W: Write>(out: &mut W, history: &History, judgement: &Judgement) -> io::Result<()>
-    requires { IsJudged history.now.head history.now.lines.items judgement.now }
-    ensures { Tells (heard_of history.now) judgement.now (W.contents out.old) (W.contents out.new) result }
+/// Tells what the history was found to be, with the calls that still wait and shouldn't, if they are to be named.
+fn tell<W: Write>(
+    out: &mut W,
+    waiting: bool,
+    history: &History,
+    judgement: &Judgement,
+    waiters: &[Waiter],
+) -> io::Result<()>
+    requires judged { IsJudged history.now.head history.now.lines.items judgement.now }
+    requires named { AreNamed waiting judgement.now waiters.now }
+    ensures { Tells waiting (heard_of history.now) judgement.now (W.contents out.old) (W.contents out.new) result }
 {
     match judgement {
-        Judgement::Legal(steps) => tell_legal(out, points_of(steps)),
+        Judgement::Legal(steps) => tell_legal(out, points_of(steps), &history.lines, waiters),
         Judgement::Illegal(at, why) => {
             tell_illegal(out, &history.lines, &line_of(history, *at), why)
         }
@@ -106,12 +129,19 @@ fn status_of(judgement: &Judgement) -> u8
 }
 
 /// Tells what the history was found to be, and lets go of what the writer kept back.
-fn tell_out<W: Output>(out: &mut W, history: &History, judgement: &Judgement) -> io::Result<()>
-    requires { IsJudged history.now.head history.now.lines.items judgement.now }
-    ensures tells { Tells (heard_of history.now) judgement.now (W.contents out.old) (W.contents out.new) result }
+fn tell_out<W: Output>(
+    out: &mut W,
+    waiting: bool,
+    history: &History,
+    judgement: &Judgement,
+    waiters: &[Waiter],
+) -> io::Result<()>
+    requires judged { IsJudged history.now.head history.now.lines.items judgement.now }
+    requires named { AreNamed waiting judgement.now waiters.now }
+    ensures tells { Tells waiting (heard_of history.now) judgement.now (W.contents out.old) (W.contents out.new) result }
     ensures let_go { OnOk result (W.is_let_go out.new) }
 {
-    tell(out, history, judgement)?;
+    tell(out, waiting, history, judgement, waiters)?;
     match out.let_go() {
         Ok(()) => Ok(()),
         Err(kept) => Err(kept),
@@ -119,18 +149,20 @@ fn tell_out<W: Output>(out: &mut W, history: &History, judgement: &Judgement) ->
 }
 
 /// Judges the history that the reader has, writes its certificate to the file of this name, if one is named, tells what
-/// the history was found to be, and answers the exit status.
+/// the history was found to be, with the calls that still wait and shouldn't, if they are asked for, and answers the exit
+/// status.
 pub fn serve<R: Read + Drop, M: Maker, W: Output>(
     alloc: Global,
+    waiting: bool,
     name: Option<&str>,
     input: R,
     maker: &M,
     out: &mut W,
 ) -> Result<u8, Failure>
-    ensures serves { IfOk result (λ status. Serves (M.makes maker.now) (M.fills maker.now)
+    ensures serves { IfOk result (λ status. Serves (M.makes maker.now) (M.fills maker.now) waiting
         (option_map (λ w. w.now) name.entry) (R.remaining input) (W.contents out.old) (W.contents out.new) status) }
     ensures let_go { OnOk result (W.is_let_go out.new) }
-    ensures fails { IfErr result (Fails (R.remaining input) (W.contents out.old) (W.contents out.new)) }
+    ensures fails { IfErr result (Fails waiting (R.remaining input) (W.contents out.old) (W.contents out.new)) }
 {
     let history = match read_file(alloc, input) {
         Ok(history) => history,
@@ -139,10 +171,13 @@ pub fn serve<R: Read + Drop, M: Maker, W: Output>(
     let Ok(judgement) = judge(alloc, &history.head, &history.lines) else {
         return Err(Failure::OutOfMemory);
     };
+    let Ok(waiters) = named(alloc, waiting, &judgement) else {
+        return Err(Failure::OutOfMemory);
+    };
     let Ok(()) = certify(&history, &judgement, name, maker) else {
         return Err(Failure::CannotKeep);
     };
-    match tell_out(out, &history, &judgement) {
+    match tell_out(out, waiting, &history, &judgement, &waiters) {
         Ok(()) => Ok(status_of(&judgement)),
         Err(_unwritten) => Err(Failure::CannotWrite),
     }

@@ -1,12 +1,14 @@
 //! What is told of a history.
 
-ghost use Rattle.std.specs.Prelude.{◌≡◌, ◌-◌, Some};
+ghost use Rattle.std.specs.Prelude.{◌≡◌, ◌-◌, ◌++◌, Some, None};
 ghost use Rattle.streams.specs.Leaves.{Leaves};
 ghost use Rattle.std.specs.List.{slice_get};
 ghost use Rattle.judge_report.specs.Texts.{begin_note, entry_thread, illegal_notes, illegal_text, illegal_title};
-ghost use Rattle.judge_report.specs.Texts.{legal_text, turn_words, undecided_text};
+ghost use Rattle.judge_report.specs.Texts.{legal_text, quote_of, since_line, since_note, since_words, turn_words};
+ghost use Rattle.judge_report.specs.Texts.{undecided_text, waiter_lines, waiter_text, waiter_title, waiters_text};
 
 use crate::writing::write_quote;
+use certificates::Waiter;
 use completing::{OutOfTurn, Refusal};
 use histories::{Entry, HistoryLine};
 use lockword::Tid;
@@ -39,10 +41,10 @@ fn turn_words(why: OutOfTurn) -> &'static str
 }
 
 /// The line at this place, counted from 1.
-fn line_at(lines: &[HistoryLine], place: u32) -> Option<HistoryLine>
+fn line_at(lines: &[HistoryLine], place: usize) -> Option<HistoryLine>
     ensures { result ≡ slice_get lines.now (place - 1) }
 {
-    match lines.get(place.saturating_sub(1) as usize) {
+    match lines.get(place.saturating_sub(1)) {
         Some(line) => Some(*line),
         None => None,
     }
@@ -119,18 +121,165 @@ fn write_notes<W: Write>(out: &mut W, lines: &[HistoryLine], why: &Refusal) -> i
 {
     match *why {
         Refusal::OutOfTurn(_) => Ok(()),
-        Refusal::NoOrder { begin, .. } => write_begin_at(out, line_at(lines, begin)),
+        Refusal::NoOrder { begin, .. } => write_begin_at(out, line_at(lines, begin as usize)),
     }
 }
 
-/// Tells that the history is legal, with so many points.
-pub fn tell_legal<W: Write>(out: &mut W, points: usize) -> io::Result<()>
+/// The last line before the mutex was left without an owner, if it was.
+fn since_line(lines: &[HistoryLine], since: Option<usize>) -> Option<HistoryLine>
+    ensures { result ≡ since_line lines.now since }
+{
+    match since {
+        Some(place) => line_at(lines, place),
+        None => None,
+    }
+}
+
+/// What the mutex is that a call still waits for, since this line.
+fn write_left<W: Write>(out: &mut W, unusable: bool, line: &HistoryLine) -> io::Result<()>
+    ensures { Leaves (W.contents out.old) (W.contents out.new) result (since_words unusable (Some line.now)) }
+{
+    let number = Number(line.number);
+    if unusable {
+        put_pieces(
+            out,
+            &[Word(", which is unusable since line "), number, Word("\n")],
+        )
+    } else {
+        put_pieces(
+            out,
+            &[Word(", which nobody owns since line "), number, Word("\n")],
+        )
+    }
+}
+
+/// What the mutex is that a call still waits for, if nobody left it.
+fn write_never_left<W: Write>(out: &mut W, unusable: bool) -> io::Result<()>
+    ensures { Leaves (W.contents out.old) (W.contents out.new) result (since_words unusable None) }
+{
+    if unusable {
+        put_pieces(out, &[Word(", which is unusable\n")])
+    } else {
+        put_pieces(out, &[Word(", which nobody has owned\n")])
+    }
+}
+
+/// What the mutex is that a call still waits for, and since which line, if there is one.
+fn write_since_words<W: Write>(
+    out: &mut W,
+    unusable: bool,
+    since: &Option<HistoryLine>,
+) -> io::Result<()>
+    ensures { Leaves (W.contents out.old) (W.contents out.new) result (since_words unusable since.now) }
+{
+    match since {
+        Some(line) => write_left(out, unusable, line),
+        None => write_never_left(out, unusable),
+    }
+}
+
+/// Quotes a line, if it is there.
+fn write_quote_of<W: Write>(out: &mut W, line: Option<HistoryLine>) -> io::Result<()>
+    ensures { Leaves (W.contents out.old) (W.contents out.new) result (quote_of line) }
+{
+    match line {
+        Some(line) => write_quote(out, &line),
+        None => Ok(()),
+    }
+}
+
+/// Which line to see for a mutex that was left without an owner.
+fn write_since<W: Write>(out: &mut W, line: &HistoryLine) -> io::Result<()>
+    ensures { Leaves (W.contents out.old) (W.contents out.new) result (since_note (Some line.now)) }
+{
+    put_pieces(
+        out,
+        &[Word("  = see line "), Number(line.number), Word(":\n")],
+    )?;
+    write_quote(out, line)
+}
+
+/// Which line to see, if the mutex was left without an owner.
+fn write_since_note<W: Write>(out: &mut W, line: &Option<HistoryLine>) -> io::Result<()>
+    ensures { Leaves (W.contents out.old) (W.contents out.new) result (since_note line.now) }
+{
+    match line {
+        Some(line) => write_since(out, line),
+        None => Ok(()),
+    }
+}
+
+/// Which thread still waits, and for which mutex.
+fn write_waiter_title<W: Write>(out: &mut W, waiter: &Waiter) -> io::Result<()>
+    ensures { Leaves (W.contents out.old) (W.contents out.new) result (waiter_title waiter.now) }
+{
+    put_pieces(
+        out,
+        &[
+            Word("still waits: t"),
+            Number(waiter.thread.get().into()),
+            Word(" for m"),
+            Number(waiter.mutex.into()),
+        ],
+    )
+}
+
+/// A call that still waits and shouldn't, the line where it began, and the last before its mutex was left.
+fn write_waiter_lines<W: Write>(
+    out: &mut W,
+    waiter: &Waiter,
+    begin: Option<HistoryLine>,
+    since: &Option<HistoryLine>,
+) -> io::Result<()>
+    ensures { Leaves (W.contents out.old) (W.contents out.new) result (waiter_lines waiter.now begin since.now) }
+{
+    write_waiter_title(out, waiter)?;
+    write_since_words(out, waiter.unusable, since)?;
+    write_quote_of(out, begin)?;
+    write_since_note(out, since)
+}
+
+/// A call that still waits and shouldn't.
+fn write_waiter<W: Write>(out: &mut W, lines: &[HistoryLine], waiter: &Waiter) -> io::Result<()>
+    ensures { Leaves (W.contents out.old) (W.contents out.new) result (waiter_text lines.now waiter.now) }
+{
+    let begin = line_at(lines, waiter.begin);
+    let since = since_line(lines, waiter.since);
+    write_waiter_lines(out, waiter, begin, &since)
+}
+
+/// The calls that still wait and shouldn't.
+fn write_waiters<W: Write>(out: &mut W, lines: &[HistoryLine], waiters: &[Waiter]) -> io::Result<()>
+    ensures { Leaves (W.contents out.old) (W.contents out.new) result (waiters_text lines.now waiters.now) }
+{
+    for waiter in waiters {
+        write_waiter(out, lines, waiter)?;
+    }
+    Ok(())
+}
+
+/// How many points a legal history has.
+fn write_legal<W: Write>(out: &mut W, points: usize) -> io::Result<()>
     ensures { Leaves (W.contents out.old) (W.contents out.new) result (legal_text points) }
 {
     put_pieces(
         out,
         &[Word("legal "), Number(points as u64), Word(" points\n")],
     )
+}
+
+/// Tells that the history is legal, with so many points, and names these calls that still wait and shouldn't.
+pub fn tell_legal<W: Write>(
+    out: &mut W,
+    points: usize,
+    lines: &[HistoryLine],
+    waiters: &[Waiter],
+) -> io::Result<()>
+    ensures { Leaves (W.contents out.old) (W.contents out.new) result
+        (legal_text points ++ waiters_text lines.now waiters.now) }
+{
+    write_legal(out, points)?;
+    write_waiters(out, lines, waiters)
 }
 
 /// Tells that no order of the calls explains the lines up to this one.

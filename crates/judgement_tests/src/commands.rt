@@ -24,12 +24,36 @@ end 11
 const TEXT: &str =
     "illegal at line 12: no order of the calls gives t3 EOWNERDEAD for its lock of m0\n  | 11 return t3 EOWNERDEAD\n  = see line 11: the call began\n  | 10 begin t3 lock m0\n";
 
-const USAGE: &str = "usage: rfx-judge [--trace OUT] FILE\n";
+const USAGE: &str = "usage: rfx-judge [--waiting] [--trace OUT] FILE\n";
 
 /// A command line, and what comes of it.
-static LINES: [(&[&str], u8, &str, &str); 11] = [
+static LINES: [(&[&str], u8, &str, &str); 20] = [
     (&["rfx-judge", "f"], 1, TEXT, ""),
     (&["rfx-judge", "--trace", "none", "f"], 1, TEXT, ""),
+    (&["rfx-judge", "--waiting", "f"], 1, TEXT, ""),
+    (
+        &["rfx-judge", "--waiting", "--trace", "none", "f"],
+        1,
+        TEXT,
+        "",
+    ),
+    (
+        &["rfx-judge", "--trace", "none", "--waiting", "f"],
+        1,
+        TEXT,
+        "",
+    ),
+    (&["rfx-judge", "--waiting"], 2, "", USAGE),
+    (&["rfx-judge", "f", "--waiting"], 2, "", USAGE),
+    (&["rfx-judge", "--waiting", "--waiting", "f"], 2, "", USAGE),
+    (&["rfx-judge", "--trace", "--waiting", "f"], 2, "", USAGE),
+    (&["rfx-judge", "--waiting", "--trace", "f"], 2, "", USAGE),
+    (
+        &["rfx-judge", "--trace", "a", "--trace", "b", "f"],
+        2,
+        "",
+        USAGE,
+    ),
     (&[], 2, "", USAGE),
     (&["rfx-judge"], 2, "", USAGE),
     (&["rfx-judge", "-f"], 2, "", USAGE),

@@ -12,3 +12,5 @@ mod commands;
 mod faults;
 #[cfg(test)]
 mod turns;
+#[cfg(test)]
+mod waiting;

@@ -12,7 +12,7 @@ use Rattle.histories.specs.declared.entry.Entry.TheVariants.{Told, Doom}
 use Rattle.certificates.specs.Certificates.{trace_of}
 use Rattle.streams.specs.Leaves.{AppendsFront, Leaves}
 use Rattle.streams.proofs.Writers.{Appends-trans, ends_at_second}
-use Rattle.judge_report.specs.Texts.{count_with, step_text, steps_count, steps_lines}
+use Rattle.windows.specs.Texts.{count_with, step_text, steps_count, steps_lines}
 
 abbrev numbered : ℕ → Fact → Line
 numbered n f = record { event = n; fact = f }

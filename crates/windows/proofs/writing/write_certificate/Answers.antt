@@ -2,8 +2,8 @@ use Rattle.std.proofs.Common.{◌++◌, subst}
 use Rattle.streams.specs.Leaves.{Leaves}
 use Rattle.streams.proofs.Writers.{ends_at_first, ends_at_second, then_leaves}
 use Rattle.texts.specs.Text.{end_line, head_line}
-use Rattle.judge_report.specs.Texts.{steps_count, steps_lines}
-use Rattle.judge_report.proofs.writing.write_certificate.Goals as goal
+use Rattle.windows.specs.Texts.{steps_count, steps_lines}
+use Rattle.windows.proofs.writing.write_certificate.Goals as goal
 
 pub returns-in_err-write_head : goal.returns-in_err-write_head
 returns-in_err-write_head g c =

@@ -1,7 +1,7 @@
 use Rattle.std.proofs.Common.{◌≡◌, ◌≤◌, take}
 use Rattle.std.specs.Io.KnownBytes.{Appends}
-use Rattle.judge_report.specs.Texts.{steps_count, steps_lines}
-use Rattle.judge_report.proofs.writing.write_steps.Given as goal
+use Rattle.windows.specs.Texts.{steps_count, steps_lines}
+use Rattle.windows.proofs.writing.write_steps.Given as goal
 
 abbrev pub invariant-loop-step : goal.invariant-loop-step
 invariant-loop-step g l = record {

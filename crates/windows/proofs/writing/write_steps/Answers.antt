@@ -1,9 +1,9 @@
 use Rattle.std.proofs.Common.{arith, ap, ◌∙◌, subst}
 use Rattle.std.proofs.lemmas.List.{take_all}
 use Rattle.std.specs.Io.KnownBytes.{Appends}
-use Rattle.judge_report.specs.Texts.{steps_count, steps_lines}
-use Rattle.judge_report.proofs.Steps.{count_grows, counts_on, goes_on, stops_at}
-use Rattle.judge_report.proofs.writing.write_steps.Goals as goal
+use Rattle.windows.specs.Texts.{steps_count, steps_lines}
+use Rattle.windows.proofs.Steps.{count_grows, counts_on, goes_on, stops_at}
+use Rattle.windows.proofs.writing.write_steps.Goals as goal
 
 pub returns-in_err-events-clause-text : goal.returns-in_err-events-clause-text
 returns-in_err-events-clause-text g c =

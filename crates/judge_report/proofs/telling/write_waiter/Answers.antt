@@ -1,0 +1,13 @@
+use Rattle.std.proofs.Common.{◌≡◌, ◌-◌, ap, subst, ◌∙◌}
+use Rattle.std.specs.List.{slice_get}
+use Rattle.streams.specs.Leaves.{Leaves}
+use Rattle.judge_report.specs.Texts.{waiter_lines, waiter_text}
+use Rattle.judge_report.proofs.telling.write_waiter.Goals as goal
+
+pub returns : goal.returns
+returns g c =
+    let w = c.args.waiter.now in
+    let ls = c.args.lines.now in
+    let whole : waiter_lines w c.line_at-begin.result c.since_line-since.result ≡ waiter_text ls w =
+    ap (λ b. waiter_lines w b c.since_line-since.result) c.line_at-begin.ensures ∙ ap (waiter_lines w (slice_get ls (w.begin - 1))) c.since_line-since.ensures in
+    subst (Leaves (g.W.Write.contents c.args.out.now) (g.W.Write.contents c.write_waiter_lines.new.out) c.write_waiter_lines.result) whole c.write_waiter_lines.ensures

@@ -1,0 +1,112 @@
+//! Places between two steps where a certificate can be cut: what threads are in can be brought about anew.
+
+use certificates::{Made, Phase, State};
+use facts::Begun;
+use lockword::{Reply, Tid};
+use posixmutex::{Object, Operation};
+
+/// The thread with this id.
+pub fn thread_at(id: usize) -> Option<Tid> {
+    match u8::try_from(id) {
+        Ok(id) => Tid::new(id),
+        Err(_) => None,
+    }
+}
+
+/// The mutex at this place.
+pub fn mutex_at(place: usize) -> Option<u16> {
+    match u16::try_from(place) {
+        Ok(mutex) => Some(mutex),
+        Err(_) => None,
+    }
+}
+
+/// An owner of it died, and nobody has declared it consistent or made it anew since.
+pub fn is_spoiled(object: &Object) -> bool {
+    object.inconsistent || object.unusable
+}
+
+/// The mutex with this number; none is as one that nobody has locked yet.
+pub fn object_at(objects: &[Object], mutex: u16) -> Object {
+    match objects.get(usize::from(mutex)) {
+        Some(object) => *object,
+        None => Object::new(),
+    }
+}
+
+/// The call has released its mutex: a wait that waits, or an unlock that hasn't returned.
+pub fn has_released(call: Begun, made: Made) -> bool {
+    match made {
+        Made::Nothing => false,
+        Made::Released => true,
+        Made::Decided(reply) => call.operation == Operation::Unlock && reply == Reply::OK,
+    }
+}
+
+/// The call has taken its mutex, and hasn't returned.
+pub fn has_taken(call: Begun, made: Made) -> bool {
+    if call.operation != Operation::Lock && call.operation != Operation::TryLock {
+        return false;
+    }
+    made == Made::Decided(Reply::OK) || made == Made::Decided(Reply::EOWNERDEAD)
+}
+
+/// A call of which these points are made can be brought so far anew, with its mutex as it is.
+fn suits_call(object: Object, held: u16, thread: Tid, call: Begun, made: Made) -> bool {
+    let Made::Decided(reply) = made else {
+        return true;
+    };
+    if has_taken(call, made) {
+        return true;
+    }
+    if has_released(call, made) {
+        return !is_spoiled(&object);
+    }
+    // it would be decided so again, and changes nothing
+    object.step(held, thread, call.operation, reply) == Some(object)
+}
+
+fn suits_thread(state: &State, id: usize) -> bool {
+    if id >= state.phases.len() || id >= state.held.len() {
+        return false;
+    }
+    let Phase::Calling(call, made) = state.phases[id] else {
+        return true;
+    };
+    match thread_at(id) {
+        Some(thread) => {
+            let object = object_at(&state.objects, call.mutex);
+            suits_call(object, state.held[id], thread, call, made)
+        }
+        None => false,
+    }
+}
+
+/// Whether the thread is in a call that has released its mutex.
+pub fn is_releaser(phase: &Phase) -> bool {
+    match *phase {
+        Phase::Calling(call, made) => has_released(call, made),
+        _ => false,
+    }
+}
+
+/// A thread that is in no call which has released its mutex, if there is one.
+pub fn idle(state: &State) -> Option<Tid> {
+    for id in 1..state.phases.len() {
+        if !is_releaser(&state.phases[id]) {
+            return thread_at(id);
+        }
+    }
+    None
+}
+
+/// Whether a certificate can be cut where its steps left threads and mutexes so: each call has no point yet, or has
+/// taken or released its mutex, or its reply is one that its mutex has for it still; and some thread has released none.
+pub fn suits(state: &State) -> bool {
+    for id in 0..state.phases.len() {
+        if !suits_thread(state, id) {
+            return false;
+        }
+    }
+    idle(state).is_some()
+}
