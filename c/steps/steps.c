@@ -9,7 +9,7 @@
 
 /* Ids of threads; how many entries of a list a walk loads, how many exchanges a trylock makes, how many are woken as
  * all. */
-enum { THREADS = 64, HELD = 2048, RACES = 4, ALL = 64 };
+enum { THREADS = PZ_MOST_THREADS, HELD = 2048, RACES = 4, ALL = THREADS };
 
 /* The cell: an owner, and three marks. */
 static const uint64_t OWNER = 0x3fffffff, OWNER_DIED = 0x40000000, WAITERS = 0x80000000, UNUSABLE = 0x100000000;

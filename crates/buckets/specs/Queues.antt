@@ -9,6 +9,7 @@
 -- Source: futex(2), FUTEX_REQUEUE.
 use Rattle.std.specs.Prelude.{ℕ, ◌≡◌, ◌≢◌, ◌≤◌, ◌+◌, ◌==◌, Bool, not, List, [], ◌∷◌, ◌++◌, length, map}
 use Rattle.std.specs.Prelude.{filter, take, drop, if◌then◌else◌, All, AllPairs, Contains, MatchBool}
+use Rattle.lockword.specs.Threads.{most_threads}
 use Rattle.buckets.specs.declared.sleeper.Sleeper.{Sleeper}
 
 -- who sleeps in a bucket with room for so many. Of those on one key, who came earlier stands first; the order between
@@ -41,21 +42,21 @@ StandsNowhere b t = (k : ℕ) → ¬ Contains (queue b k) t
 abbrev pub without : ℕ → List ℕ → List ℕ
 without t ids = filter (λ u. not (u == t)) ids
 
--- there is room for 1 to 64, and no more stand
+-- there is room for 1 to `most_threads`, and no more stand
 pub record HasRoom (capacity : ℕ) (sleeping : List Sleeper) : Type 0 where
   pub first : 1 ≤ capacity
-  pub last : capacity ≤ 64
+  pub last : capacity ≤ most_threads
   pub enough : length sleeping ≤ capacity
 
 -- no two of the sleepers are one thread
 abbrev pub StandOnce : List Sleeper → Type 0
 StandOnce sleeping = AllPairs (λ s r. s.thread ≢ r.thread) sleeping
 
--- what a bucket always is: it has room for 1 to 64, no more stand, no thread stands twice, in one queue or in two, and
--- no thread is counted twice: whoever lists all that stand lists as many as stand, or more
+-- what a bucket always is: it has room for 1 to `most_threads`, no more stand, no thread stands twice, in one queue or
+-- in two, and no thread is counted twice: whoever lists all that stand lists as many as stand, or more
 pub record IsOrderly (b : Sleepers) : Type 0 where
   pub first : 1 ≤ b.capacity
-  pub last : b.capacity ≤ 64
+  pub last : b.capacity ≤ most_threads
   pub room : standing b ≤ b.capacity
   pub long : (k : ℕ) → length (queue b k) ≤ standing b
   pub few : (threads : List ℕ) → ((k t : ℕ) → Contains (queue b k) t → Contains threads t) → standing b ≤ length threads

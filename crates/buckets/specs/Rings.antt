@@ -1,11 +1,12 @@
 -- The rows of the threads that sleep, and the rings through them.
 --
--- *The rows of a bucket.* There are 64, that of thread t at index t - 1. A thread that stands in no queue has none. One
--- that stands in a queue has its key, and those before and after it: in the ring of those behind it in the queue, those
--- in front of it and then itself again, the last and the first. `AreRings` says that the fields of a bucket are such
--- rings, and `sleeping_of` who sleeps by them.
+-- *The rows of a bucket.* There are `most_threads`, that of thread t at index t - 1. A thread that stands in no queue
+-- has none. One that stands in a queue has its key, and those before and after it: in the ring of those behind it in
+-- the queue, those in front of it and then itself again, the last and the first. `AreRings` says that the fields of a
+-- bucket are such rings, and `sleeping_of` who sleeps by them.
 use Rattle.std.specs.Prelude.{ℕ, zero, suc, ◌≡◌, ◌≢◌, ◌-◌, ◌≤◌, ◌==◌, nat_le, List, [], ◌∷◌, ◌++◌}
 use Rattle.std.specs.Prelude.{length, map, get_or, slice_get, Option, Some, None, if◌then◌else◌}
+use Rattle.lockword.specs.Threads.{most_threads}
 use Rattle.buckets.specs.declared.row.Row.{Row}
 use Rattle.buckets.specs.declared.ring.Ring.{Ring}
 use Rattle.buckets.specs.declared.sleeper.Sleeper.{Sleeper}
@@ -33,8 +34,8 @@ row k b a = record { key = record { 0 = k }; before = b; after = a }
 -- that stands in a queue has its key and, in the ring of those after it, those before it and then itself again, the
 -- last of them and the first
 pub record AreRows (rows : List (Option Row)) (b : Sleepers) : Type 0 where
-  pub long : length rows ≡ 64
-  pub awake : (t : ℕ) → 1 ≤ t → t ≤ 64 → StandsNowhere b t → slice_get rows (t - 1) ≡ Some None
+  pub long : length rows ≡ most_threads
+  pub awake : (t : ℕ) → 1 ≤ t → t ≤ most_threads → StandsNowhere b t → slice_get rows (t - 1) ≡ Some None
   pub asleep : (k t : ℕ) (earlier later : List ℕ) → queue b k ≡ earlier ++ t ∷ later
       → slice_get rows (t - 1) ≡ Some (Some (row k (last_or t (later ++ earlier)) (first_or (later ++ earlier) t)))
 
@@ -125,11 +126,11 @@ abbrev pub Once : List ℕ → Type 0
 Once [] = Unit {0}
 Once (t ∷ ts) = NotIn t ts × Once ts
 
--- what the fields of a bucket always are: there is room for 1 to 64, no more stand, and they are counted; the rings are
--- rings through the rows, no thread stands in two places, and who stands in none has no row
+-- what the fields of a bucket always are: there is room for 1 to `most_threads`, no more stand, and they are counted;
+-- the rings are rings through the rows, no thread stands in two places, and who stands in none has no row
 pub record AreRings (capacity standing : ℕ) (w : ℕ → Option Row) (rings : List Ring) : Type 0 where
   pub first : 1 ≤ capacity
-  pub last : capacity ≤ 64
+  pub last : capacity ≤ most_threads
   pub enough : standing ≤ capacity
   pub counted : length (ids_in w rings) ≡ standing
   pub once : Once (ids_in w rings)

@@ -1,13 +1,17 @@
 //! A batch: the threads that one wake or one requeue takes out of a queue, in their order.
 ghost use Rattle.std.specs.Prelude.{◌≡◌, ◌==◌, ◌<◌, ◌≤◌, [], ◌∷◌, ◌++◌, length, slice_get};
+ghost use Rattle.lockword.specs.Threads.{most_threads};
 
-use lockword::Tid;
+use lockword::{MOST_THREADS, Tid};
 use std::marker::Model;
 
-/// At most 64 threads, in the order in which they slept. It takes no memory.
+/// So many threads there are at most.
+pub(crate) const THREADS: usize = MOST_THREADS as usize;
+
+/// At most [`MOST_THREADS`] threads, in the order in which they slept. It takes no memory.
 #[derive(Clone, Copy, Debug, PartialEq, Eq)]
 pub struct Batch {
-    ids: [u8; 64],
+    ids: [u8; THREADS],
     taken: usize,
 }
 
@@ -32,15 +36,15 @@ impl Batch {
         ensures { result ≡ [] }
     {
         Batch {
-            ids: [0; 64],
+            ids: [0; THREADS],
             taken: 0,
         }
     }
 
-    /// How many there are: at most 64.
+    /// How many there are: at most [`MOST_THREADS`].
     pub fn len(&self) -> usize
         ensures value { result ≡ length self.now }
-        ensures most { result ≤ 64 }
+        ensures most { result ≤ most_threads }
     {
         self.taken
     }
@@ -65,7 +69,7 @@ impl Batch {
 
     /// Adds a thread at the end.
     pub(crate) fn push(&mut self, thread: Tid)
-        requires { length self.old < 64 }
+        requires { length self.old < most_threads }
         ensures { self.new ≡ self.old ++ thread ∷ [] }
     {
         self.ids[self.taken] = thread.get();

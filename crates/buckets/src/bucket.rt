@@ -2,6 +2,7 @@
 ghost use Rattle.std.specs.Prelude.{◌≡◌, ◌≢◌, ◌==◌, ◌<◌, ◌≤◌, ◌+◌, ◌%◌, ◌^◌, length};
 ghost use Rattle.std.specs.Prelude.{option_to_list, slice_get, All, AllPairs, IfOk, MatchBool};
 ghost use Rattle.std.specs.Bool.{OnTrue};
+ghost use Rattle.lockword.specs.Threads.{most_threads};
 ghost use Rattle.buckets.specs.Queues.{queue, standing, Stands, StandsNowhere, IsOrderly, IsEmptied};
 ghost use Rattle.buckets.specs.Queues.{Enqueues, Takes, Joins, MovesWithin, MovesTo, Fits, Removes};
 ghost use Rattle.buckets.specs.Rings.{AreRows};
@@ -56,10 +57,11 @@ impl Clone for Bucket {
 }
 
 impl Bucket {
-    /// A bucket where nobody sleeps, with room for 1 to 64. It makes all the room that later calls fill.
+    /// A bucket where nobody sleeps, with room for 1 to [`MOST_THREADS`](lockword::MOST_THREADS). It makes all the room
+    /// that later calls fill.
     pub fn new(alloc: Global, capacity: usize) -> Result<Bucket, NoMem>
         requires first { 1 ≤ capacity }
-        requires last { capacity ≤ 64 }
+        requires last { capacity ≤ most_threads }
         ensures made { IfOk result (λ b. IsEmptied b capacity) }
         ensures orderly { IfOk result IsOrderly }
     {
@@ -260,7 +262,7 @@ impl Bucket {
         }
     }
 
-    /// The rows of all threads, 64: that of the thread with id t at index t - 1. It has the thread's key, and the ids
+    /// The rows of all threads: that of the thread with id t at index t - 1. It has the thread's key, and the ids
     /// of those before and after it in the key's queue, the last being before the first; None where the thread stands
     /// in no queue.
     pub fn rows(&self) -> &[Option<Row>]

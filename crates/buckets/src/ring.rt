@@ -8,7 +8,7 @@ use crate::sleeper::Sleeper;
 use lockword::Tid;
 use memorymap::Key;
 
-/// Where the queue of a key begins: its first sleeper, and how many there are, 1 to 64.
+/// Where the queue of a key begins: its first sleeper, and how many there are, 1 or more.
 #[derive(Clone, Copy, Debug, PartialEq, Eq)]
 pub struct Ring {
     pub first: Sleeper,

@@ -1,8 +1,9 @@
 //! The rows of the threads that sleep.
 ghost use Rattle.std.specs.Prelude.{ℕ, ◌≡◌, ◌<◌, ◌≤◌, ◌+◌, None, length};
+ghost use Rattle.lockword.specs.Threads.{most_threads};
 ghost use Rattle.buckets.specs.Rings.{row_of, put, joined, behind, follow};
 
-use crate::batch::Batch;
+use crate::batch::{Batch, THREADS};
 use lockword::Tid;
 use memorymap::Key;
 
@@ -16,13 +17,13 @@ pub struct Row {
 }
 
 /// The rows of all threads, that of the thread with id t at index t - 1; None for a thread that doesn't sleep.
-pub(crate) type Rows = [Option<Row>; 64];
+pub(crate) type Rows = [Option<Row>; THREADS];
 
 /// The rows where nobody sleeps.
 pub(crate) fn no_rows() -> Rows
     ensures { (t : ℕ) → row_of result t ≡ None }
 {
-    [None; 64]
+    [None; THREADS]
 }
 
 /// The same rows.
@@ -37,15 +38,15 @@ pub(crate) fn copy(rows: &Rows) -> Rows
 /// The rows as a slice.
 pub(crate) fn all(rows: &Rows) -> &[Option<Row>]
     ensures value { result.now ≡ rows.now }
-    ensures long { length result.now ≡ 64 }
+    ensures long { length result.now ≡ most_threads }
 {
     rows
 }
 
-/// The index of the thread's row, from 0 to 63.
+/// The index of the thread's row, from 0 on.
 pub(crate) fn index_of(thread: Tid) -> usize
     ensures value { result + 1 ≡ thread }
-    ensures inside { result < 64 }
+    ensures inside { result < most_threads }
 {
     thread.get() as usize - 1
 }
@@ -85,9 +86,9 @@ pub(crate) fn append(rows: &mut Rows, thread: Tid, first: Tid)
     }
 }
 
-/// So many threads of a ring from this one on, in order: at most 64.
+/// So many threads of a ring from this one on, in order: at most so many as there are threads.
 pub(crate) fn batch_from(rows: &Rows, first: Tid, count: usize) -> Batch
-    requires { count ≤ 64 }
+    requires { count ≤ most_threads }
     ensures { result ≡ follow (row_of rows.now) count first }
 {
     let mut batch = Batch::new();

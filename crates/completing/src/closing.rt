@@ -3,7 +3,7 @@
 use crate::contended::{Contended, Onward, Step};
 use crate::fates::{End, NEVER};
 use crate::pending::{Outlook, Pending, State, forget, look_ahead};
-use crate::stop::{Stop, place};
+use crate::stop::{IDS, Stop, place};
 use lockword::{Reply, Tid};
 use posixmutex::Operation;
 use std::alloc::Global;
@@ -13,7 +13,7 @@ use std::alloc::Global;
 pub struct Moment<'a> {
     pub now: u32,
     /// By the threads' ids, who is killed or doomed.
-    pub dead: &'a [bool; 65],
+    pub dead: &'a [bool; IDS],
     /// Every reply is asked for, and not those alone that come.
     pub all: bool,
 }

@@ -2,7 +2,7 @@
 
 use crate::contended::{Contended, Step};
 use crate::pass::Pass;
-use crate::stop::{Stop, keep};
+use crate::stop::{IDS, Stop, keep};
 use facts::Fact;
 use histories::{Entry, HistoryLine};
 use lockword::Tid;
@@ -121,7 +121,7 @@ struct Doomed {
 fn last_calls(alloc: Global, lines: &[HistoryLine]) -> Result<Vec<Doomed>, Stop> {
     let reapings = reapings(alloc, lines)?;
     let last = last_of(lines);
-    let mut begins = [0_u32; 65];
+    let mut begins = [0_u32; IDS];
     let mut doomed = Vec::new(alloc);
     let mut at: u32 = 0;
     for line in lines {

@@ -1,6 +1,6 @@
 //! What becomes of each call in the lines that are looked at.
 
-use crate::stop::{Stop, keep};
+use crate::stop::{IDS, Stop, keep};
 use facts::Fact;
 use histories::{Entry, HistoryLine};
 use lockword::{Reply, Tid};
@@ -39,7 +39,7 @@ const OPEN: Fate = Fate {
 
 /// By the threads' ids, when the call began that hasn't ended; 0 where there is none.
 #[derive(Drop)]
-struct Begins([u32; 65]);
+struct Begins([u32; IDS]);
 
 impl Begins {
     fn of(&self, thread: Tid) -> u32 {
@@ -94,7 +94,7 @@ fn tell(fates: &mut Vec<Fate>, begins: &mut Begins, entry: &Entry, now: u32) {
 /// For each line, what becomes of the call that it begins, if it does. What stands behind these lines isn't looked at.
 pub fn fates(alloc: Global, lines: &[HistoryLine]) -> Result<Vec<Fate>, Stop> {
     let mut fates = Vec::new(alloc);
-    let mut begins = Begins([0; 65]);
+    let mut begins = Begins([0; IDS]);
     let mut now: u32 = 0;
     for line in lines {
         now = now.wrapping_add(1);

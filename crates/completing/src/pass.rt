@@ -6,7 +6,7 @@ use crate::fates::{Fate, fates};
 use crate::lives::{Life, Turn};
 use crate::pending::Pending;
 use crate::replies::{allows, only_looks};
-use crate::stop::{OutOfTurn, Refusal, Stop, keep, out_of_turn, place};
+use crate::stop::{IDS, OutOfTurn, Refusal, Stop, keep, out_of_turn, place};
 use facts::{Begun, Fact};
 use histories::{Entry, Head, HistoryLine};
 use lockword::{Reply, Tid};
@@ -30,7 +30,7 @@ pub struct Pass {
     pub(crate) alloc: Global,
     pub(crate) mutexes: Vec<Contended>,
     pub(crate) lives: Vec<Life>,
-    pub(crate) dead: [bool; 65],
+    pub(crate) dead: [bool; IDS],
     pub(crate) looks: Vec<Look>,
     fates: Vec<Fate>,
     now: u32,
@@ -45,14 +45,14 @@ impl Pass {
             push_mutex(&mut mutexes, Contended::new(alloc)?)?;
         }
         let mut lives = Vec::new(alloc);
-        for _ in 0..65 {
+        for _ in 0..IDS {
             push_life(&mut lives, Life::new(alloc))?;
         }
         Ok(Pass {
             alloc,
             mutexes,
             lives,
-            dead: [false; 65],
+            dead: [false; IDS],
             looks: Vec::new(alloc),
             fates: fates(alloc, lines)?,
             now: 0,

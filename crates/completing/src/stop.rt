@@ -1,8 +1,9 @@
 //! Why a search ends before its last line.
 
-ghost use Rattle.std.specs.Prelude.{◌≤◌};
+ghost use Rattle.std.specs.Prelude.{◌<◌, ◌+◌};
+ghost use Rattle.lockword.specs.Threads.{most_threads};
 
-use lockword::{Reply, Tid};
+use lockword::{MOST_THREADS, Reply, Tid};
 use posixmutex::Operation;
 use std::alloc::AllocError;
 
@@ -66,9 +67,12 @@ pub fn out_of_turn(why: OutOfTurn) -> Stop {
     Stop::Refused(Refusal::OutOfTurn(why))
 }
 
+/// How many places there are where things are kept by threads' ids: 0 is no thread's.
+pub const IDS: usize = MOST_THREADS as usize + 1;
+
 /// The place of a thread where things are kept by ids.
 pub fn place(thread: Tid) -> usize
-    ensures { result ≤ 64 }
+    ensures { result < most_threads + 1 }
 {
     usize::from(thread.get())
 }

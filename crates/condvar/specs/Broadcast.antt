@@ -19,6 +19,7 @@
 use Rattle.std.specs.Prelude.{ℕ, ◌==◌, ◌+◌, ◌%◌, ◌^◌, not, if◌then◌else◌}
 use Rattle.lockword.specs.Cells.{Fields, fields_of}
 use Rattle.lockword.specs.declared.reply.Reply.TheVariants.{OK, EPERM, XFULL}
+use Rattle.lockword.specs.Threads.{most_threads}
 use Rattle.stepprograms.specs.declared.access.Access.{Access}
 use Rattle.stepprograms.specs.declared.access.Access.TheVariants as access
 use Rattle.stepprograms.specs.declared.access.Answer.{Answer}
@@ -39,7 +40,7 @@ broadcast_access cell counter LoadCell = access.Load cell
 broadcast_access cell counter LoadCounter = access.Load counter
 broadcast_access cell counter (Count seen) = access.FetchAdd counter 1
 broadcast_access cell counter (SetWaiters seen) = access.FetchOr cell waiters_bit
-broadcast_access cell counter (Move seen) = access.CmpRequeue counter ((seen + 1) % 2 ^ 32) 0 cell 64
+broadcast_access cell counter (Move seen) = access.CmpRequeue counter ((seen + 1) % 2 ^ 32) 0 cell most_threads
 
 -- only the owner may broadcast
 abbrev pub broadcast_sees : ℕ → Fields → CondLed

@@ -17,6 +17,7 @@ use Rattle.std.specs.Prelude.{ℕ, ◌≡◌, ◌≢◌, ◌+◌, ◌%◌, ◌^�
 use Rattle.lockword.specs.Cells.{Fields, fields_of}
 use Rattle.lockword.specs.declared.reply.Reply.{Reply}
 use Rattle.lockword.specs.declared.reply.Reply.TheVariants.{OK, XFULL}
+use Rattle.lockword.specs.Threads.{most_threads}
 use Rattle.stepprograms.specs.declared.access.Access.TheVariants as access
 use Rattle.stepprograms.specs.declared.access.Answer.{Answer}
 use Rattle.stepprograms.specs.declared.access.Answer.TheVariants.{Value}
@@ -124,7 +125,7 @@ pub record Right (t cell : ℕ) (r : CondRow) (l : CondLed) (w k w' k' : ℕ) : 
 
 -- whatever words an access meets
 abbrev pub CallsAreRight : Type 0
-CallsAreRight = (t cell counter w k : ℕ) (r : CondRow) → 1 ≤ t → t ≤ 64 → IsGoing r → k ≤ largest_counter
+CallsAreRight = (t cell counter w k : ℕ) (r : CondRow) → 1 ≤ t → t ≤ most_threads → IsGoing r → k ≤ largest_counter
     → Sound (object_of (fields_of w)) → Expects t r (fields_of w) k
     → Right t cell r (resume_of t r (answer_at (row_access t cell counter r) (met_word r w k))) w k
     (cell_after t cell counter r w) (counter_after t cell counter r k)
@@ -139,7 +140,8 @@ AccessesAreThere = (t cell counter : ℕ) (r : CondRow)
 abbrev pub MovesAreRight : Type 0
 MovesAreRight =
     (t cell counter seen k : ℕ) (c : Fields) → k ≤ largest_counter → Expects t (Broadcast (broadcast.Move seen)) c k
-    → (row_access t cell counter (Broadcast (broadcast.Move seen)) ≡ access.CmpRequeue counter (k % 2 ^ 32) 0 cell 64)
+    → (row_access t cell counter (Broadcast (broadcast.Move seen))
+    ≡ access.CmpRequeue counter (k % 2 ^ 32) 0 cell most_threads)
     × (c.owner ≡ t) × (c.waiters ≡ true)
 
 -- what a call needs of the words is its thread's own while that owns the mutex: where others leave then the owner,

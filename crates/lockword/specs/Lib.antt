@@ -1,3 +1,4 @@
 pub mod Cells
 pub mod Coding
 pub mod Replies
+pub mod Threads

@@ -2,8 +2,8 @@
 //!
 //! A mutex is one 64-bit [`Cell`], whose low half is its futex word: the owner's thread id and the flags WAITERS and
 //! OWNER_DIED, as futex(2) and the kernel's robust-futex-ABI have them. Each change of a cell is proved by its owner
-//! and its flags; the other bits stay. [`Tid`] is a thread's id, and [`Reply`] is how a call answers, whose name is
-//! read back as that reply (`replies_are_read_back`).
+//! and its flags; the other bits stay. [`Tid`] is a thread's id, 1 to [`MOST_THREADS`], and [`Reply`] is how a call
+//! answers, whose name is read back as that reply (`replies_are_read_back`).
 //!
 //! Stands on `thiserror` alone, for the message of a text that is no reply's name.
 //!
@@ -25,4 +25,4 @@ mod tid;
 
 pub use cell::{Cell, OWNER_DIED, UNUSABLE, WAITERS};
 pub use reply::{ParseReplyError, Reply, replies_are_read_back};
-pub use tid::Tid;
+pub use tid::{MOST_THREADS, Tid};

@@ -9,6 +9,7 @@
 -- other word is 0. Source: get_robust_list(2), robust-futex-ABI.
 use Rattle.std.specs.Prelude.{ℕ, ◌≡◌, ◌+◌, ◌-◌, ◌*◌, ◌/◌, ◌%◌, ◌<◌, ◌≤◌, ◌==◌, ◌&&◌, Bool, nat_le}
 use Rattle.std.specs.Prelude.{nat_lt, List, [], ◌∷◌, length, replicate, slice_index, All, if◌then◌else◌}
+use Rattle.lockword.specs.Threads.{most_threads}
 use Rattle.memorymap.specs.Addresses.{address_from, seen_at}
 
 -- so many threads and mutexes, and for each condition variable the number of its mutex; for each thread the number of
@@ -23,7 +24,7 @@ pub record Layout' : Type 0 where
 -- what a layout may be: 1 to 64 threads, 1 to 4,096 mutexes, at most 256 condition variables, each of one of the
 -- mutexes
 abbrev pub HasThreads : ℕ → Type 0
-HasThreads threads = (1 ≤ threads) × (threads ≤ 64)
+HasThreads threads = (1 ≤ threads) × (threads ≤ most_threads)
 
 abbrev pub HasMutexes : ℕ → Type 0
 HasMutexes mutexes = (1 ≤ mutexes) × (mutexes ≤ 4096)

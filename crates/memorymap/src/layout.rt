@@ -1,13 +1,14 @@
 //! The places of the shared words.
 ghost use Rattle.std.specs.Prelude.{◌≡◌, ◌≢◌, ◌<◌, ◌≤◌, ◌-◌, ◌*◌, ◌^◌, ℕ, IsTrue, Some};
 ghost use Rattle.std.specs.Prelude.{None, length, slice_index, MatchOption, if◌then◌else◌};
+ghost use Rattle.lockword.specs.Threads.{most_threads};
 ghost use Rattle.memorymap.specs.Layouts.{Layout', head_place, cell_place, entry_place};
 ghost use Rattle.memorymap.specs.Layouts.{counter_place, words_of, base_of, address_in, place_in};
 ghost use Rattle.memorymap.specs.Layouts.{is_place, thread_of, first_word, IsLayout, PlacesDiffer};
 ghost use Rattle.memorymap.specs.Refusals.{Lays, LaysOver};
 
 use crate::address::{address_from, seen_at};
-use lockword::Tid;
+use lockword::{MOST_THREADS, Tid};
 use std::marker::Model;
 use thiserror::Error;
 
@@ -18,7 +19,7 @@ pub const CONDITION_LIMIT: usize = 256;
 pub const HEAD_SIZE: u64 = 24;
 
 /// How many threads a layout has at most.
-const THREAD_LIMIT: usize = 64;
+const THREAD_LIMIT: usize = MOST_THREADS as usize;
 
 /// How many processes a layout has at most.
 pub const PROCESS_LIMIT: usize = 8;
@@ -93,7 +94,7 @@ impl Layout {
     pub fn new(threads: u8, mutexes: u16, conditions: &[u16]) -> Result<Layout, LayoutFault>
         ensures { Lays threads mutexes conditions.now result }
     {
-        if threads < 1 || 64 < threads {
+        if threads < 1 || MOST_THREADS < threads {
             return Err(LayoutFault::Threads);
         }
         let processes = [0; THREAD_LIMIT];
@@ -170,7 +171,7 @@ impl Layout {
     pub fn threads(&self) -> u8
         ensures value { result ≡ self.now.threads }
         ensures first { 1 ≤ result }
-        ensures last { result ≤ 64 }
+        ensures last { result ≤ most_threads }
     {
         self.threads
     }

@@ -10,6 +10,7 @@ use Rattle.std.specs.Prelude.{ℕ, ◌≡◌, ◌≢◌, ◌↔◌, ◌+◌, ◌
 use Rattle.lockword.specs.Cells.{Fields, fields_of}
 use Rattle.lockword.specs.declared.reply.Reply.{Reply}
 use Rattle.lockword.specs.declared.reply.Reply.TheVariants.{OK, ENOTRECOVERABLE, XRACED}
+use Rattle.lockword.specs.Threads.{most_threads}
 use Rattle.stepprograms.specs.declared.access.Access.TheVariants as access
 use Rattle.stepprograms.specs.declared.access.Answer.{Answer}
 use Rattle.stepprograms.specs.declared.access.Answer.TheVariants.{Value, Exchanged, Changed, Count}
@@ -74,14 +75,14 @@ pub record Right (t cell : ℕ) (r : Row) (l : Led) (w w' : ℕ) : Type 0 where
 
 -- whatever word an access meets, and whoever sleeps on it
 abbrev pub ProgramsAreRight : Type 0
-ProgramsAreRight = (t cell w : ℕ) (queue : List ℕ) (r : Row) → 1 ≤ t → t ≤ 64 → IsGoing r → Knows r
+ProgramsAreRight = (t cell w : ℕ) (queue : List ℕ) (r : Row) → 1 ≤ t → t ≤ most_threads → IsGoing r → Knows r
     → Sound (object_of (fields_of w)) → Expects t r (object_of (fields_of w))
     → Right t cell r (resume_of t r (answer_among (row_access t cell r) w queue)) w
     (word_among (row_access t cell r) w queue)
 
 -- WAITERS stays through every access of a call but a trim: taking, releasing and declaring keep it
 abbrev pub WaitersAreKept : Type 0
-WaitersAreKept = (t cell w : ℕ) (queue : List ℕ) (r : Row) → t ≤ 64 → IsGoing r → Knows r
+WaitersAreKept = (t cell w : ℕ) (queue : List ℕ) (r : Row) → t ≤ most_threads → IsGoing r → Knows r
     → Expects t r (object_of (fields_of w)) → row_access t cell r ≢ access.Trim cell
     → (fields_of w).waiters ≡ true → (fields_of (word_among (row_access t cell r) w queue)).waiters ≡ true
 

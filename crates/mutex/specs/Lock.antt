@@ -25,6 +25,7 @@
 use Rattle.std.specs.Prelude.{ℕ, ◌==◌, if◌then◌else◌}
 use Rattle.lockword.specs.Cells.{Fields, word_of, low_of, fields_of, taken, waiting}
 use Rattle.lockword.specs.declared.reply.Reply.TheVariants.{EDEADLK, ENOTRECOVERABLE}
+use Rattle.lockword.specs.Threads.{most_threads}
 use Rattle.stepprograms.specs.declared.access.Access.{Access}
 use Rattle.stepprograms.specs.declared.access.Access.TheVariants as access
 use Rattle.stepprograms.specs.declared.access.Answer.{Answer}
@@ -41,7 +42,7 @@ lock_access t cell Load = access.Load cell
 lock_access t cell (Take seen) = access.Exchange cell (word_of seen) (word_of (taken seen t))
 lock_access t cell (SetWaiters seen) = access.Exchange cell (word_of seen) (word_of (waiting seen))
 lock_access t cell (Sleep seen) = access.Wait cell (low_of seen)
-lock_access t cell WakeAll = access.Wake cell 64
+lock_access t cell WakeAll = access.Wake cell most_threads
 
 -- where a lock goes on that found the mutex unusable: whoever sleeps there is to be told too
 abbrev pub after_loss : Fields → Row

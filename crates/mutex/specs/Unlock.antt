@@ -21,6 +21,7 @@
 use Rattle.std.specs.Prelude.{ℕ, ◌+◌, ◌==◌, ◌&&◌, Bool, not, if◌then◌else◌}
 use Rattle.lockword.specs.Cells.{Fields, fields_of}
 use Rattle.lockword.specs.declared.reply.Reply.TheVariants.{OK, EPERM}
+use Rattle.lockword.specs.Threads.{most_threads}
 use Rattle.stepprograms.specs.declared.access.Access.{Access}
 use Rattle.stepprograms.specs.declared.access.Access.TheVariants as access
 use Rattle.stepprograms.specs.declared.access.Answer.{Answer}
@@ -39,7 +40,7 @@ released_bits t died = if died then t + 0x1_4000_0000 else t
 abbrev pub unlock_access : ℕ → ℕ → UnlockRow → Access
 unlock_access t cell Load = access.Load cell
 unlock_access t cell (Release died) = access.FetchXor cell (released_bits t died)
-unlock_access t cell (Wake all) = access.Wake cell (if all then 64 else 1)
+unlock_access t cell (Wake all) = access.Wake cell (if all then most_threads else 1)
 unlock_access t cell Trim = access.Trim cell
 
 abbrev pub unlock_sees : ℕ → Fields → Led

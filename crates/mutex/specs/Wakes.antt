@@ -11,6 +11,7 @@ use Rattle.std.specs.Prelude.{ℕ, ◌≡◌, ◌↔◌, ◌≤◌, Bool, true, 
 use Rattle.lockword.specs.Cells.{fields_of}
 use Rattle.lockword.specs.declared.reply.Reply.{Reply}
 use Rattle.lockword.specs.declared.reply.Reply.TheVariants.{OK, ENOTRECOVERABLE}
+use Rattle.lockword.specs.Threads.{most_threads}
 use Rattle.stepprograms.specs.declared.access.Access.TheVariants as access
 use Rattle.posixmutex.specs.declared.object.Object.{Object}
 use Rattle.posixmutex.specs.declared.point.Operation.{Operation}
@@ -22,9 +23,9 @@ use Rattle.mutex.specs.Rows.{Knows, IsGoing}
 use Rattle.mutex.specs.Programs.{row_access, resume_of, row_operation}
 use Rattle.mutex.specs.Laws.{Sound, Expects}
 
--- all that sleep on a word: there are 64 threads at most
+-- all that sleep on a word: there are no more threads
 abbrev pub everybody : ℕ
-everybody = 64
+everybody = most_threads
 
 -- how many sleepers are to learn of a mutex that was left so: one, who may take it; of an unusable one each, since
 -- nobody takes that again
@@ -42,7 +43,7 @@ Wakes op x w o n = ⊥
 -- whatever word an access meets, and whoever sleeps on it, the next one is a wake of n sleepers exactly there, and of
 -- those on the mutex's cell
 abbrev pub WakesAreRight : Type 0
-WakesAreRight = (t cell w at n : ℕ) (queue : List ℕ) (r : Row) → 1 ≤ t → t ≤ 64 → IsGoing r → Knows r
+WakesAreRight = (t cell w at n : ℕ) (queue : List ℕ) (r : Row) → 1 ≤ t → t ≤ most_threads → IsGoing r → Knows r
     → Sound (object_of (fields_of w)) → Expects t r (object_of (fields_of w))
     → (row_access t cell (resume_of t r (answer_among (row_access t cell r) w queue)).row ≡ access.Wake at n)
     ↔

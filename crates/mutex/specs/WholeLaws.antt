@@ -7,6 +7,7 @@ use Rattle.std.specs.Prelude.{ℕ, ◌≡◌, ◌≢◌, ◌≤◌, ◌↔◌, �
 use Rattle.lockword.specs.Cells.{Fields, fields_of}
 use Rattle.lockword.specs.declared.reply.Reply.{Reply}
 use Rattle.lockword.specs.declared.reply.Reply.TheVariants.{OK, XRACED}
+use Rattle.lockword.specs.Threads.{most_threads}
 use Rattle.stepprograms.specs.declared.access.Access.TheVariants as access
 use Rattle.stepprograms.specs.declared.access.Answer.{Answer}
 use Rattle.stepprograms.specs.declared.access.Answer.TheVariants.{Count}
@@ -67,7 +68,8 @@ IsAtCell f = ⊥
 pub record WholeCallsWake : Type 0 where
   -- after an access at its mutex's cell, whatever word that meets and whoever sleeps there, the next one is a wake
   -- exactly where its point asks for one, of so many, and of those on the mutex's cell
-  pub at_the_cell : (p : Whole) (r : Row) (w at n : ℕ) (queue : List ℕ) → IsWhole p → p.thread ≤ 64 → p.phase ≡ AtCell r
+  pub at_the_cell : (p : Whole) (r : Row) (w at n : ℕ) (queue : List ℕ) → IsWhole p → p.thread ≤ most_threads
+      → p.phase ≡ AtCell r
       → IsGoing r → Sound (object_of (fields_of w)) → Expects p.thread r (object_of (fields_of w))
       → WakesNext p (answer_among (whole_access p) w queue) at n
       ↔

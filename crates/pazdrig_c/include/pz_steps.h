@@ -11,6 +11,8 @@
 
 enum pz_state { PZ_GOES, PZ_RETURNED, PZ_NO_SUCH };
 
+enum { PZ_MOST_THREADS = 64 };      /* the ids of threads are 1 to this */
+
 struct pz_phase {           /* where a call on a mutex stands */
     uint64_t x, y;
     uint16_t reply;         /* once it has returned: errno(3), or a number of the project's own */

@@ -5,6 +5,7 @@
 -- loads out. `loads_first` is the order in which C makes it: all loads, and then the changes. The laws `locks_by_plan`,
 -- `unlocks_by_plan`; and `loads_may_come_first` of `storebuffers`, whatever others do in between.
 use Rattle.std.specs.Prelude.{ℕ, ◌≡◌, ◌≢◌, ◌==◌, ◌≤◌, ◌&&◌, Bool, true, false, not, nat_le, List, [], ◌∷◌, ◌++◌, take, drop}
+use Rattle.lockword.specs.Threads.{most_threads}
 use Rattle.lockword.specs.Cells.{Fields, word_of, fields_of, taken}
 use Rattle.lockword.specs.declared.reply.Reply.TheVariants.{OK}
 use Rattle.stepprograms.specs.declared.access.Access.{Access}
@@ -183,7 +184,7 @@ UnlocksByPlan = (t h e c w n p v : ℕ) → 1 ≤ t → is_held (fields_of w) t 
 -- ---- what a plan says
 
 abbrev pub is_thread : ℕ → Bool
-is_thread t = nat_le 1 t && nat_le t 64
+is_thread t = nat_le 1 t && nat_le t most_threads
 
 abbrev pub stores_of : List ℕ → List ℕ → List Access
 stores_of (at ∷ ats) (value ∷ values) = access.Store at value ∷ stores_of ats values

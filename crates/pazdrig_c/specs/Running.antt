@@ -3,6 +3,7 @@
 -- *A call in progress as C keeps it.* A call of a thread from 1 to 64 that hasn't returned, and knows what its phase
 -- does. It goes on as its program does: `moved`, `access_of` and `progress_of` are `mutex`' and `condvar`'s own.
 use Rattle.std.specs.Prelude.{ℕ, ◌≡◌, ◌==◌, ◌≤◌, ◌&&◌, nat_le, Option, Some, None, if◌then◌else◌}
+use Rattle.lockword.specs.Threads.{most_threads}
 use Rattle.lockword.specs.Replies.{number_of}
 use Rattle.stepprograms.specs.declared.access.Access.{Access}
 use Rattle.stepprograms.specs.declared.access.Answer.{Answer}
@@ -23,7 +24,7 @@ use Rattle.pazdrig_c.specs.declared.running.Running.{Running}
 use Rattle.pazdrig_c.specs.declared.running.Running.TheVariants.{OnMutex, OnCondition}
 
 abbrev pub IsThread : ℕ → Type 0
-IsThread t = (1 ≤ t) × (t ≤ 64)
+IsThread t = (1 ≤ t) × (t ≤ most_threads)
 
 -- a program of `mutex` has one of its four operations
 abbrev pub IsOnMutex : Operation → Type 0
@@ -93,7 +94,7 @@ begun_with op c =
     else None
 
 abbrev pub begun : ℕ → PzCall → Option Running
-begun op c = if nat_le 1 c.thread && nat_le c.thread 64 then begun_with op c else None
+begun op c = if nat_le 1 c.thread && nat_le c.thread most_threads then begun_with op c else None
 
 -- 0: it goes on, and this is its access; 2: no call has these numbers, and nothing is written
 abbrev pub Begins : Option Running → ℕ → PzCall → PzCall → PzAccess → PzAccess → Type 0

@@ -10,6 +10,7 @@
 -- pthread_mutex_consistent and the errors of each call.
 use Rattle.std.specs.Prelude.{ℕ, ◌≡◌, ◌≢◌, ◌==◌, ◌+◌, ◌%◌, ◌^◌, ◌&&◌, Bool, true, false, not, Option, Some, None}
 use Rattle.std.specs.Prelude.{List, [], ◌∷◌, ◌++◌, take, length, if◌then◌else◌}
+use Rattle.lockword.specs.Threads.{most_threads}
 use Rattle.lockword.specs.Cells.{Fields, fields_of}
 use Rattle.lockword.specs.Replies.{number_of}
 use Rattle.lockword.specs.declared.reply.Reply.{Reply}
@@ -101,7 +102,7 @@ broadcast_answers w s v u a = Value w ∷ Value s ∷ Value v ∷ Value u ∷ a 
 
 -- where the counter's low half is one more than it was
 abbrev pub move_of : ℕ → ℕ → ℕ → Access
-move_of c q s = access.CmpRequeue q ((s % 2 ^ 32 + 1) % 2 ^ 32) 0 c 64
+move_of c q s = access.CmpRequeue q ((s % 2 ^ 32 + 1) % 2 ^ 32) 0 c most_threads
 
 -- it looks at the cell and at the counter, counts, sets WAITERS in the cell, and moves the counter's sleepers there
 abbrev pub broadcast_plan : ℕ → ℕ → ℕ → List Access

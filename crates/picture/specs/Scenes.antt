@@ -3,8 +3,9 @@
 -- *Scene.* Behind each line: what each thread's lane shows (`after`: a call from its begin to its return or its kill,
 -- sleep until a wake, death), each mutex's object (`stepped`: pthread_mutex_lock, pthread_mutex_consistent), of those
 -- that have bands, and whose event it is, as far as lines tell.
-use Rattle.std.specs.Prelude.{ℕ, ◌==◌, Option, Some, None, List, [], ◌∷◌}
+use Rattle.std.specs.Prelude.{ℕ, ◌+◌, ◌==◌, Option, Some, None, List, [], ◌∷◌}
 use Rattle.std.specs.Prelude.{replicate, slice_index_or, slice_set, if◌then◌else◌}
+use Rattle.lockword.specs.Threads.{most_threads}
 use Rattle.posixmutex.specs.declared.object.Object.{Object}
 use Rattle.posixmutex.specs.declared.point.Decision.{Decision}
 use Rattle.posixmutex.specs.Objects.{fresh, stepped}
@@ -47,7 +48,7 @@ actor_of i (l ∷ ls) =
     if l.event == i then (if is_passive l.fact then actor_of i ls else Some (thread_of l.fact)) else None
 
 abbrev pub first_scene : Scene
-first_scene = record { lanes = replicate 65 Idle; objects = replicate most_bands fresh; event = 0; actor = None }
+first_scene = record { lanes = replicate (most_threads + 1) Idle; objects = replicate most_bands fresh; event = 0; actor = None }
 
 -- behind a line, the first of these
 abbrev pub behind : Bands → Scene → Line → List Line → Scene

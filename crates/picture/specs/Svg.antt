@@ -6,6 +6,7 @@
 use Rattle.std.specs.Prelude.{ℕ, ◌+◌, Bool, true, false, Option, Some, None, List, [], ◌∷◌, ◌++◌, length}
 use Rattle.std.specs.Prelude.{codes, decimal, replicate, slice_index_or, slice_set, if◌then◌else◌}
 use Rattle.std.specs.List.{concat}
+use Rattle.lockword.specs.Threads.{most_threads}
 use Rattle.posixmutex.specs.declared.object.Object.{Object}
 use Rattle.posixmutex.specs.declared.point.Decision.{Decision}
 use Rattle.posixmutex.specs.Objects.{fresh}
@@ -42,7 +43,7 @@ ends_lane (Move t m) = false
 ends_lane f = true
 
 abbrev pub first_since : Since
-first_since = record { lanes = replicate 65 0; bands = replicate most_bands 0 }
+first_since = record { lanes = replicate (most_threads + 1) 0; bands = replicate most_bands 0 }
 
 abbrev pub since_lane : List ℕ → Fact → ℕ → List ℕ
 since_lane lanes f k = if ends_lane f then slice_set lanes (thread_of f) k else lanes

@@ -1,11 +1,12 @@
 //! The rows of a picture in text.
 
 ghost use Rattle.std.specs.Prelude.{◌≡◌, ◌++◌, ◌≤◌, map, string_bytes, IfOk};
+ghost use Rattle.lockword.specs.Threads.{most_threads};
 ghost use Rattle.picture.specs.Rows.{arrow_end, arrow_from, arrow_sign, bands_text, blanks, cell, cells, end_text};
 ghost use Rattle.picture.specs.Rows.{event_text, is_covered, is_from_right, mark, narrow_mark, origin, owner_pieces};
 ghost use Rattle.picture.specs.Rows.{part_of, reach, row_of, row_text, sign, stays_so, tail, taken, wide_mark};
 
-use crate::bands::{Extent, Sheet};
+use crate::bands::{Extent, IDS, Sheet};
 use crate::lane::Lane;
 use crate::layout::{EVENT, band_width, gap, is_wide, width};
 use crate::names::Names;
@@ -243,8 +244,8 @@ fn add_cell(text: &mut String, row: &Row<'_>, shown: Lane, lane: u8) -> Result<(
     }
 }
 
-fn add_cells(text: &mut String, row: &Row<'_>, lanes: &[Lane; 65]) -> Result<(), AllocError>
-    requires { row.now.extent.threads ≤ 64 }
+fn add_cells(text: &mut String, row: &Row<'_>, lanes: &[Lane; IDS]) -> Result<(), AllocError>
+    requires { row.now.extent.threads ≤ most_threads }
     ensures { IfOk result
         (λ _. string_bytes text.new
         ≡ string_bytes text.old
@@ -331,7 +332,7 @@ fn add_row_of(
     scene: &Scene,
     row: &Row<'_>,
 ) -> Result<(), AllocError>
-    requires few { row.now.extent.threads ≤ 64 }
+    requires few { row.now.extent.threads ≤ most_threads }
     requires narrow { row.now.extent.bands.count ≤ 16 }
     ensures { IfOk result
         (λ _. string_bytes text.new
@@ -353,7 +354,7 @@ pub fn add_row(
     scene: &Scene,
     line: &Line,
 ) -> Result<(), AllocError>
-    requires few { sheet.now.extent.threads ≤ 64 }
+    requires few { sheet.now.extent.threads ≤ most_threads }
     requires narrow { sheet.now.extent.bands.count ≤ 16 }
     ensures { IfOk result
         (λ _. string_bytes text.new

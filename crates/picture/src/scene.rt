@@ -5,7 +5,7 @@ ghost use Rattle.facts.specs.Facts.{decision_of};
 ghost use Rattle.posixmutex.specs.Objects.{stepped};
 ghost use Rattle.picture.specs.Scenes.{actor_of, behind, first_scene, lanes_behind, objects_behind};
 
-use crate::bands::Bands;
+use crate::bands::{Bands, IDS};
 use crate::lane::Lane;
 use facts::{Fact, Line};
 use lockword::{Reply, Tid};
@@ -15,7 +15,7 @@ use posixmutex::{Decision, Object, Operation};
 #[derive(Clone, Copy)]
 pub struct Scene {
     /// By the threads' ids, from 0, which is no thread's.
-    pub lanes: [Lane; 65],
+    pub lanes: [Lane; IDS],
     /// The mutexes that have bands, from left to right.
     pub objects: [Object; 16],
     /// The number of the line's event, 0 before the first line.
@@ -83,7 +83,7 @@ fn actor_of(event: u32, lines: &[Line]) -> Option<Tid>
     None
 }
 
-fn lanes_behind(lanes: [Lane; 65], fact: &Fact) -> [Lane; 65]
+fn lanes_behind(lanes: [Lane; IDS], fact: &Fact) -> [Lane; IDS]
     ensures { result ≡ lanes_behind lanes fact.now }
 {
     let mut lanes = lanes;
@@ -111,7 +111,7 @@ impl Scene {
         ensures { result ≡ first_scene }
     {
         Scene {
-            lanes: [Lane::Idle; 65],
+            lanes: [Lane::Idle; IDS],
             objects: [Object::new(); 16],
             event: 0,
             actor: None,

@@ -1,13 +1,14 @@
 //! The parts of an SVG picture: what lanes and bands show from line to line, and over that the lines' marks.
 
 ghost use Rattle.std.specs.Prelude.{◌≡◌, ◌++◌, ◌≤◌, ◌<◌, decimal, map, string_bytes, IfOk};
+ghost use Rattle.lockword.specs.Threads.{most_threads};
 ghost use Rattle.facts.specs.Facts.{decision_of};
 ghost use Rattle.picture.specs.Svg.{band_part, band_rests, begins_at, ends_lane, first_since, foot_text, lane_line};
 ghost use Rattle.picture.specs.Svg.{lane_part, lane_rests, line_marks, line_parts, mark_of, marks_of, rests};
 ghost use Rattle.picture.specs.Svg.{since_band, since_lane, svg_band, svg_bands, svg_heads, svg_lane, svg_lanes};
 ghost use Rattle.picture.specs.Svg.{svg_open};
 
-use crate::bands::{Bands, Extent, Sheet};
+use crate::bands::{Bands, Extent, IDS, Sheet};
 use crate::pieces::add;
 use crate::places::{band_middle, lane_x, row_y, words_room};
 use crate::rows::{arrow_from, is_right_of};
@@ -27,7 +28,7 @@ const NAME_Y: u128 = 20;
 #[derive(Clone, Copy)]
 pub struct Since {
     /// By the threads' ids.
-    pub lanes: [usize; 65],
+    pub lanes: [usize; IDS],
     /// From left to right.
     pub bands: [usize; 16],
 }
@@ -48,7 +49,7 @@ fn ends_lane(fact: &Fact) -> bool
     }
 }
 
-fn since_lane(lanes: [usize; 65], fact: &Fact, line: usize) -> [usize; 65]
+fn since_lane(lanes: [usize; IDS], fact: &Fact, line: usize) -> [usize; IDS]
     ensures { result ≡ since_lane lanes fact.now line }
 {
     let mut lanes = lanes;
@@ -82,7 +83,7 @@ impl Since {
         ensures { result ≡ first_since }
     {
         Since {
-            lanes: [0; 65],
+            lanes: [0; IDS],
             bands: [0; 16],
         }
     }
@@ -179,7 +180,7 @@ fn add_lane_rests(
     since: &Since,
     line: usize,
 ) -> Result<(), AllocError>
-    requires few { extent.now.threads ≤ 64 }
+    requires few { extent.now.threads ≤ most_threads }
     requires narrow { extent.now.bands.count ≤ 16 }
     ensures { IfOk result
         (λ _. string_bytes text.new
@@ -232,7 +233,7 @@ pub fn add_rests(
     since: &Since,
     line: usize,
 ) -> Result<(), AllocError>
-    requires few { sheet.now.extent.threads ≤ 64 }
+    requires few { sheet.now.extent.threads ≤ most_threads }
     requires narrow { sheet.now.extent.bands.count ≤ 16 }
     ensures { IfOk result
         (λ _. string_bytes text.new
@@ -372,7 +373,7 @@ fn add_lane_name(
 }
 
 fn add_lane_names(text: &mut String, sheet: &Sheet<'_>, bottom: u128) -> Result<(), AllocError>
-    requires few { sheet.now.extent.threads ≤ 64 }
+    requires few { sheet.now.extent.threads ≤ most_threads }
     requires narrow { sheet.now.extent.bands.count ≤ 16 }
     ensures { IfOk result
         (λ _. string_bytes text.new ≡ string_bytes text.old ++ svg_lanes sheet.now.names.now sheet.now.extent bottom) }
@@ -411,7 +412,7 @@ fn add_open(text: &mut String, extent: &Extent, lines: usize) -> Result<(), Allo
 
 /// What stands before all lines, of which there are so many.
 pub fn add_svg_heads(text: &mut String, sheet: &Sheet<'_>, lines: usize) -> Result<(), AllocError>
-    requires few { sheet.now.extent.threads ≤ 64 }
+    requires few { sheet.now.extent.threads ≤ most_threads }
     requires narrow { sheet.now.extent.bands.count ≤ 16 }
     ensures { IfOk result
         (λ _. string_bytes text.new ≡ string_bytes text.old ++ svg_heads sheet.now.names.now sheet.now.extent lines) }

@@ -36,6 +36,7 @@ use Rattle.ruledwords.specs.Seen.{holds, Sees, Called}
 use Rattle.ruledwords.specs.OwnWords.{IsOwn, KnowsOwn}
 use Rattle.ruledwords.specs.Rules.{Sat, At, Turns}
 use Rattle.std.proofs.Props.{props}
+use Rattle.lockword.specs.Threads.{most_threads}
 
 -- where a call stands as its mutex sees it: before a row, or at its end once it has been through with the cell
 abbrev pub row_in : Phase → Row
@@ -85,7 +86,7 @@ pub record Made (p : Standing) (q : ℕ) (c : Card) (n : ℕ) (d : Card) : Type 
   pub sound : Sound (object_of (fields_of n))
   pub met : Expects c.thread p.row (object_of (fields_of n))
   pub holder : holds c.thread (at c.seen q) ≡ is_thread c.thread (object_of (fields_of n)).owner
-  pub thread : (1 ≤ c.thread) × (c.thread ≤ 64)
+  pub thread : (1 ≤ c.thread) × (c.thread ≤ most_threads)
 
 -- what the thread knows of its own words is as it was at those that stay its own; and it knows all, if it did
 pub record OwnKept (k : Layout') (c d : Card) : Type 0 where

@@ -1,5 +1,6 @@
 //! How the words are made, with a pass for each thread.
 ghost use Rattle.std.specs.Prelude.{◌≡◌, ℕ, ◌+◌, ◌<◌, Some, IfOk, All, length, slice_get, slice_index};
+ghost use Rattle.lockword.specs.Threads.{most_threads};
 ghost use Rattle.memorymap.specs.Layouts.{words_of, IsLayout};
 ghost use Rattle.ruledwords.specs.Rules.{first_card, opening_word};
 ghost use Rattle.ruledwords.specs.Passes.{layout_of, presets_of, card, IsLive};
@@ -76,7 +77,7 @@ impl Words {
 
 /// The thread that comes after so many.
 fn thread_after(before: u8) -> Tid
-    requires { before < 64 }
+    requires { before < most_threads }
     ensures { result ≡ before + 1 }
 {
     match Tid::new(before + 1) {

@@ -1,6 +1,7 @@
 -- How much a script may have of each thing: the numbers that the definitions mean. The code's constants are proved to
 -- be these wherever they are used.
 use Rattle.std.specs.Prelude.{ℕ}
+use Rattle.lockword.specs.Threads.{most_threads}
 
 -- the bytes of a script: chosen, 64 KiB
 abbrev pub max_bytes : ℕ
@@ -20,7 +21,7 @@ max_base = 1000000000
 
 -- the threads that it may declare: a layout has no more
 abbrev pub max_threads : ℕ
-max_threads = 64
+max_threads = most_threads
 
 -- the mutexes that it may declare, and those of one `mutexes` or `locks` line: a layout has no more
 abbrev pub max_mutexes : ℕ

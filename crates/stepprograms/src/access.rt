@@ -2,9 +2,11 @@
 ghost use Rattle.std.specs.Prelude.{◌≡◌};
 ghost use Rattle.stepprograms.specs.Accesses.{TrimsAreRight};
 
+use lockword::MOST_THREADS;
+
 /// As many as there are threads at most: a wake of so many wakes all who sleep on the word, and a requeue moves all
 /// (futex(2)).
-pub const ALL: u32 = 64;
+pub const ALL: u32 = MOST_THREADS as u32;
 
 /// One access to one word, or one section under a bucket's lock (futex(2)). Addresses count 64-bit words.
 #[derive(Clone, Copy, Debug, PartialEq, Eq)]

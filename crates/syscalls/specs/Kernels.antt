@@ -8,6 +8,7 @@
 use Rattle.std.specs.Prelude.{ℕ, ◌≡◌, ◌≢◌, ◌<◌, ◌≤◌, ◌%◌, ◌-◌, ◌==◌, Bool, List, [], ◌∷◌, ◌++◌, length, take, drop}
 use Rattle.std.specs.Prelude.{slice_index, slice_index_or, slice_get, Some, if◌then◌else◌, AllPairs, Contains}
 use Rattle.std.specs.Prelude.{MatchBool}
+use Rattle.lockword.specs.Threads.{most_threads}
 use Rattle.buckets.specs.BucketCount.{bucket_count}
 use Rattle.buckets.specs.Queues.{Sleepers, queue, without, IsOrderly}
 
@@ -47,11 +48,11 @@ IsAsleep k t = (key : ℕ) × Contains (queue_of k key) t
 abbrev pub IsAwake : Kernel' → ℕ → Type 0
 IsAwake k t = (key : ℕ) → ¬ Contains (queue_of k key) t
 
--- what the queues of a kernel always are: of threads 1 to 64 at most, each of which stands once at most, in one queue
--- or in two
+-- what the queues of a kernel always are: of threads 1 to `most_threads` at most, each of which stands once at most, in
+-- one queue or in two
 pub record IsKernel (k : Kernel') : Type 0 where
   pub first : 1 ≤ k.threads
-  pub last : k.threads ≤ 64
+  pub last : k.threads ≤ most_threads
   pub known : (key t : ℕ) → Contains (queue_of k key) t → (1 ≤ t) × (t ≤ k.threads)
   pub one_place : (key : ℕ) → AllPairs (λ t u. t ≢ u) (queue_of k key)
   pub one_queue : (t key other : ℕ) → Contains (queue_of k key) t → Contains (queue_of k other) t → key ≡ other

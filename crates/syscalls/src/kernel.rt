@@ -3,6 +3,7 @@ ghost use Rattle.std.specs.Prelude.{◌≡◌, ◌≢◌, ◌<◌, ◌≤◌, �
 ghost use Rattle.std.specs.Prelude.{slice_get, Contains, Some, MatchOption, MatchResult, MatchBool, IfOk};
 ghost use Rattle.stepprograms.specs.Accesses.{is_nobody};
 ghost use Rattle.std.specs.List.{All};
+ghost use Rattle.lockword.specs.Threads.{most_threads};
 ghost use Rattle.buckets.specs.Queues.{Stands, StandsNowhere, IsOrderly, IsEmptied, Fits, MovesTo};
 ghost use Rattle.buckets.specs.BucketCount.{bucket_count};
 ghost use Rattle.syscalls.specs.Kernels.{bucket_at, queue_of, StandWhereTold, HasQueuesOf, IsAsleep, IsAwake};
@@ -64,7 +65,7 @@ impl Clone for Kernel {
 /// Buckets where nobody sleeps, each with room for so many.
 fn empty_buckets(alloc: Global, capacity: usize) -> Result<Vec<Bucket>, NoMem>
     requires first { 1 ≤ capacity }
-    requires last { capacity ≤ 64 }
+    requires last { capacity ≤ most_threads }
     ensures count { IfOk result (λ v. length v.items ≡ bucket_count) }
     ensures emptied { IfOk result (λ v. All (λ b. IsEmptied b capacity) v.items) }
     ensures orderly { IfOk result (λ v. All IsOrderly v.items) }
@@ -157,11 +158,11 @@ fn move_between(
 }
 
 impl Kernel {
-    /// A kernel of threads 1 to `threads`, at most 64, none of which sleeps or has set a head. It makes all the room
-    /// that later calls fill.
+    /// A kernel of threads 1 to `threads`, at most [`MOST_THREADS`](lockword::MOST_THREADS), none of which sleeps or
+    /// has set a head. It makes all the room that later calls fill.
     pub fn new(alloc: Global, threads: u8) -> Result<Kernel, NoMem>
         requires first { 1 ≤ threads }
-        requires last { threads ≤ 64 }
+        requires last { threads ≤ most_threads }
         ensures idle { IfOk result (λ k. IsIdle k threads) }
         ensures sound { IfOk result IsKernel }
         ensures buckets { IfOk result (λ k. length k.buckets ≡ 256) }
@@ -175,7 +176,7 @@ impl Kernel {
         })
     }
 
-    /// How many threads it is for: 1 to 64. Their ids go from 1 to this.
+    /// How many threads it is for. Their ids go from 1 to this.
     pub fn threads(&self) -> u8
         ensures value { result ≡ self.now.threads }
         ensures sound { IsKernel self.now }

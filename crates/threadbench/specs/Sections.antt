@@ -2,16 +2,17 @@
 --
 -- *What sections do under a bucket's lock.* A wait: the thread falls asleep exactly where the low half of the word
 -- found there is the expected one, it sleeps nowhere and there is room; else nothing changes. A wake takes the first
--- threads of the key's queue, in order; one of 64 leaves nobody there, one of 1 takes the first, where there is one. A
--- trim is made where nobody sleeps on the word, and nothing is where somebody does; by the word that it found, which it
--- left 0 or as it was, it answers as a trim means it (`Trims`): true only where nobody sleeps there and the word said
--- WAITERS and nothing else. Source: futex(2) FUTEX_WAIT, FUTEX_WAKE; Futexes Are Tricky.
+-- threads of the key's queue, in order; one of `most_threads` leaves nobody there, one of 1 takes the first, where
+-- there is one. A trim is made where nobody sleeps on the word, and nothing is where somebody does; by the word that it
+-- found, which it left 0 or as it was, it answers as a trim means it (`Trims`): true only where nobody sleeps there and
+-- the word said WAITERS and nothing else. Source: futex(2) FUTEX_WAIT, FUTEX_WAKE; Futexes Are Tricky.
 --
 -- *A wait of a thread that may be killed.* Under its bucket's lock it goes on only with what `ask` gave, which asks its
 -- note (that it does is only tested). Where that tells it to stop, neither the bucket nor the call changes, and its
 -- word isn't looked at; else it is a wait.
 use Rattle.std.specs.Prelude.{ℕ, ◌≡◌, ◌≢◌, ◌+◌, ◌%◌, ◌^◌, ◌⊎◌, ◌==◌, if◌then◌else◌, Bool}
 use Rattle.std.specs.Prelude.{true, MatchBool, Option, None, Some, List, [], ◌∷◌}
+use Rattle.lockword.specs.Threads.{most_threads}
 use Rattle.buckets.specs.Queues.{Sleepers, standing, Stands, StandsNowhere, Enqueues}
 use Rattle.stepprograms.specs.Accesses.{Trims}
 use Rattle.ruledwords.specs.declared.pass.Card.{Card}
@@ -87,8 +88,8 @@ pub record TrimsNobodys (queue : List ℕ) (c d : Card) (told : Bool) : Type 0 w
 abbrev pub TrimLeaves : List ℕ → Card → ℕ → Card → Type 0
 TrimLeaves queue c p d = queue ≡ [] → Writes c p d.last (if d.last == 0x8000_0000 then 0 else d.last) d
 
--- a wake of n took these threads out of a queue: a wake of 64, as many as there are threads at most, takes all, and
--- nobody is left; and one of 1 takes the first, where there is one, and leaves those behind it
+-- a wake of n took these threads out of a queue: a wake of `most_threads`, as many as there are threads at most, takes
+-- all, and nobody is left; and one of 1 takes the first, where there is one, and leaves those behind it
 pub record WakesFirsts (old new : List ℕ) (n : ℕ) (woken : List ℕ) : Type 0 where
-  pub all : n ≡ 64 → (woken ≡ old) × (new ≡ [])
+  pub all : n ≡ most_threads → (woken ≡ old) × (new ≡ [])
   pub one : (t : ℕ) (behind : List ℕ) → n ≡ 1 → old ≡ t ∷ behind → (woken ≡ t ∷ []) × (new ≡ behind)

@@ -1,5 +1,6 @@
 //! The bench.
 ghost use Rattle.std.specs.Prelude.{◌≡◌, ◌<◌, ◌≤◌, ◌+◌, ℕ, [], ◌∷◌, All, length, map, slice_get, Some, IfOk, IfErr};
+ghost use Rattle.lockword.specs.Threads.{most_threads};
 ghost use Rattle.ruledwords.specs.Passes.{card, layout_of, presets_of, last_layout, last_words, IsLive, IsPassOf};
 ghost use Rattle.ruledwords.specs.Rules.{first_card, Ends};
 ghost use Rattle.threadbench.specs.Buckets.{AreNumbered};
@@ -14,6 +15,7 @@ use crate::phase::Phase;
 use crate::room::push_in_room;
 use crate::work::{in_scope, work_on};
 use buckets::{BUCKETS, Bucket};
+use lockword::MOST_THREADS;
 use memorymap::{Layout, NoMem};
 use ruledwords::{Last, Live, Pass, Words};
 use std::alloc::Global;
@@ -22,7 +24,7 @@ use std::sync::{Mutex, OnceLock, Wait};
 use std::thread::Threads;
 
 /// How many threads there may be.
-pub(crate) const THREADS: u8 = 64;
+pub(crate) const THREADS: u8 = MOST_THREADS;
 
 /// The words of a layout's threads, and what their calls need to sleep and to wake.
 #[derive(Drop)]
@@ -40,6 +42,7 @@ pub struct Bench {
 
 impl Model for Bench {
     ghost use Rattle.std.specs.Prelude.{◌≡◌, length};
+    ghost use Rattle.lockword.specs.Threads.{most_threads};
     ghost use Rattle.ruledwords.specs.declared.pass.Words.{Words};
     ghost use Rattle.threadbench.specs.Buckets.{AreNumbered};
     ghost use Rattle.threadbench.specs.Notes.{AreNotes};
@@ -49,8 +52,9 @@ impl Model for Bench {
 
     ghost view = { λ b. b.words };
 
-    ghost invariant = { λ b. (length b.buckets.items ≡ 256) × AreNumbered b.buckets.items × (length b.notes.items ≡ 64)
-        × AreNotes b.notes.items × (length b.parkers.items ≡ 64) × AreParkers b.parkers.items };
+    ghost invariant = { λ b. (length b.buckets.items ≡ 256) × AreNumbered b.buckets.items
+        × (length b.notes.items ≡ most_threads) × AreNotes b.notes.items
+        × (length b.parkers.items ≡ most_threads) × AreParkers b.parkers.items };
 }
 
 impl Bench {
@@ -168,7 +172,7 @@ impl Bench {
 /// Buckets where nobody stands, each with room for so many threads, in the order of their numbers.
 fn buckets(alloc: Global, threads: u8) -> Result<Vec<Numbered>, NoMem>
     requires first { 1 ≤ threads }
-    requires last { threads ≤ 64 }
+    requires last { threads ≤ most_threads }
     ensures count { IfOk result (λ v. length v.items ≡ 256) }
     ensures numbers { IfOk result (λ v. AreNumbered v.items) }
 {

@@ -1,6 +1,7 @@
 //! Kills: a thread is told to die, and is woken where it sleeps.
 ghost use Rattle.std.specs.Prelude.{◌≡◌, ◌≤◌, ◌<◌, ◌+◌};
 ghost use Rattle.std.specs.Sync.Mutex.{mutex_guard_value};
+ghost use Rattle.lockword.specs.Threads.{most_threads};
 ghost use Rattle.buckets.specs.Queues.{IsOrderly, Removes};
 ghost use Rattle.ruledwords.specs.Passes.{layout_of};
 ghost use Rattle.threadbench.specs.Kills.{IsOfThread, Kills, KillsAll, IsMember};
@@ -125,7 +126,7 @@ impl Sweep {
 
     /// The next thread was killed, as it is of the process.
     pub(crate) fn kills(&mut self, layout: &Layout, kill: Kill)
-        requires few { self.old.come < 64 }
+        requires few { self.old.come < most_threads }
         requires next { kill.thread ≡ self.old.come + 1 }
         requires member { IsMember layout.now self.old.process (self.old.come + 1) }
         ensures { (self.new.process ≡ self.old.process) × (self.new.come ≡ self.old.come + 1) }
@@ -137,7 +138,7 @@ impl Sweep {
 
     /// The next thread is spared, as it is of another process.
     pub(crate) fn spares(&mut self, layout: &Layout)
-        requires few { self.old.come < 64 }
+        requires few { self.old.come < most_threads }
         requires next { ¬ IsMember layout.now self.old.process (self.old.come + 1) }
         ensures { (self.new.process ≡ self.old.process) × (self.new.come ≡ self.old.come + 1) }
     {
@@ -231,7 +232,7 @@ impl Bench {
 
 /// The thread that comes after so many.
 pub(crate) fn thread_after(before: u8) -> Tid
-    requires { before < 64 }
+    requires { before < most_threads }
     ensures { result ≡ before + 1 }
 {
     match Tid::new(before + 1) {

@@ -1,5 +1,6 @@
 //! Notes of kills.
 ghost use Rattle.std.specs.Prelude.{◌≡◌, ◌+◌, false, if◌then◌else◌, length, IfOk};
+ghost use Rattle.lockword.specs.Threads.{most_threads};
 ghost use Rattle.ruledwords.specs.Passes.{card, layout_of, IsLive};
 ghost use Rattle.ruledwords.specs.Renewals.{IsGone, renewed};
 ghost use Rattle.threadbench.specs.Notes.{AreNotes};
@@ -145,7 +146,7 @@ impl<N> Spared<N> {
 
 /// A note for each id, by which nobody was killed.
 pub(crate) fn notes(alloc: Global) -> Result<Vec<Note>, NoMem>
-    ensures count { IfOk result (λ v. length v.items ≡ 64) }
+    ensures count { IfOk result (λ v. length v.items ≡ most_threads) }
     ensures notes { IfOk result (λ v. AreNotes v.items) }
 {
     let mut notes = Vec::with_capacity(alloc, usize::from(THREADS))?;

@@ -2,6 +2,7 @@
 //! is made here alone.
 ghost use Rattle.std.specs.Prelude.{◌≡◌, ◌<◌, ◌+◌, true, false, Some, length, slice_get, IfOk};
 ghost use Rattle.std.specs.Sync.Mutex.{mutex_guard_value};
+ghost use Rattle.lockword.specs.Threads.{most_threads};
 ghost use Rattle.threadbench.specs.Parkers.{AreParkers};
 
 use crate::bench::THREADS;
@@ -184,7 +185,7 @@ impl Roused {
 
     /// The next of the batch was given one.
     pub(crate) fn one_more(&mut self, woken: &Batch, given: Given)
-        requires few { self.old.count < 64 }
+        requires few { self.old.count < most_threads }
         requires next { slice_get woken.now self.old.count ≡ Some given.thread }
         ensures { self.new.count ≡ self.old.count + 1 }
     {
@@ -203,7 +204,7 @@ impl Roused {
 
 /// A parker for each id, without a token.
 pub(crate) fn parkers(alloc: Global) -> Result<Vec<Parker>, NoMem>
-    ensures count { IfOk result (λ v. length v.items ≡ 64) }
+    ensures count { IfOk result (λ v. length v.items ≡ most_threads) }
     ensures parkers { IfOk result (λ v. AreParkers v.items) }
 {
     let mut parkers = Vec::with_capacity(alloc, usize::from(THREADS))?;

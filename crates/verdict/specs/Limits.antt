@@ -1,6 +1,7 @@
 -- How much a trace may have of each thing: the numbers that the definitions mean. The code's constants are proved to be
 -- these wherever they are used.
 use Rattle.std.specs.Prelude.{ℕ}
+use Rattle.lockword.specs.Threads.{most_threads}
 
 -- the bytes of a trace: chosen, 32 MiB
 abbrev pub max_bytes : ℕ
@@ -8,7 +9,7 @@ max_bytes = 33554432
 
 -- the threads of a trace: a layout has no more
 abbrev pub max_threads : ℕ
-max_threads = 64
+max_threads = most_threads
 
 -- the mutexes of a trace: a layout has no more
 abbrev pub max_mutexes : ℕ

@@ -4,5 +4,5 @@ use Rattle.lockword.proofs.tid.Tid.new.Goals as goal
 pub invariant_of-result : goal.invariant_of-result
 invariant_of-result c = omega arith
 
-pub returns-then-id-le64 : goal.returns-then-id-le64
-returns-then-id-le64 c = omega arith
+pub returns-then-id-le-MOST_THREADS : goal.returns-then-id-le-MOST_THREADS
+returns-then-id-le-MOST_THREADS c = omega arith
