@@ -43,6 +43,9 @@ use Rattle.protocol.proofs.Puts.{by_put}
 use Rattle.protocol.proofs.Steps.{unmoved}
 use Rattle.protocol.proofs.Queues.{stands_none}
 use Rattle.interleave.specs.declared.accesses.Performed.{Performed}
+use Rattle.interleave.specs.declared.calls.InCall.{InCall}
+use Rattle.interleave.specs.declared.calls.InCall.TheVariants as in_call
+use Rattle.interleave.specs.Calls.{access_of, led_by, op_of, progress_behind, queue_in, stage_behind, stage_of}
 use Rattle.interleave.specs.Shown.{thread_at, state_at}
 use Rattle.interleave.specs.Perform.{Performs, list_words, list_met, list_joined, point_in, held_with, decision_with, reply_in, stage_in, stage_at_in}
 
@@ -290,7 +293,7 @@ module _ (l : Layout') (ws ws' : List ℕ) (kernel after : Kernel') (ts : List T
       let is : has_thread s t ≡ true = grind (arith, nat_tests) in
       ap (λ (b : Bool). if b then stepped s t (thread_at ts t).held (thread_at ts t).stage else nothing s) is ∙ ap (λ (z : Thread). stepped s t z.held z.stage) e ∙ goes
 
-  pub step_state : state_at l ws' after (slice_set ts k (record { stage = made.stage; held = made.held })) ≡ (happens s (Step t)).state
+  step_state : state_at l ws' after (slice_set ts k (record { stage = made.stage; held = made.held })) ≡ (happens s (Step t)).state
   step_state =
       let words : (λ p. slice_index ws' p) ≡ words_after s t a = ap (λ (v : List ℕ). λ (p : ℕ). slice_index v p) wrote ∙ words-is l ws kernel ts room t a in
       let queues : (λ p. queue_of after p) ≡ queues_after s t a = queues-is l ws kernel ts room t a after done performs in
@@ -298,16 +301,33 @@ module _ (l : Layout') (ws ws' : List ℕ) (kernel after : Kernel') (ts : List T
       threads-set ts k t (record { stage = made.stage; held = made.held }) at (omega arith) ∙ (λ i. put (thread_at ts) t (record { stage = as_told.stage i; held = as_told.held i })) in
       (λ i. record { layout = l; words = words i; queues = queues i; threads = threads i }) ∙ sym (ap (λ (x : After). x.state) ran)
 
-  pub step_note : Stepped t m made.point (slept_in q done.slept) done.woken done.moved made.returned ≡ (happens s (Step t)).note
+  step_note : Stepped t m made.point (slept_in q done.slept) done.woken done.moved made.returned ≡ (happens s (Step t)).note
   step_note =
       let slept : done.slept ≡ falls_asleep s t a = slept-is l ws kernel ts room t a after done performs in
       let wakes : done.woken ≡ woken s t a = woken-is l ws kernel ts room t a after done performs in
       let moves : done.moved ≡ moved s t a = moved-is l ws kernel ts room t a after done performs in
       (λ i. Stepped t m (as_told.point i) (slept_in q (slept i)) (wakes i) (moves i) (as_told.returned i)) ∙ sym (ap (λ (x : After). x.note) ran)
 
+  -- both what it leaves and what is noted of it
+  pub step_shows : (state_at l ws' after (slice_set ts k (record { stage = made.stage; held = made.held })) ≡ (happens s (Step t)).state)
+      × (Stepped t m made.point (slept_in q done.slept) done.woken done.moved made.returned ≡ (happens s (Step t)).note)
+  step_shows = (step_state, step_note)
+
 -- a thread that stands in no queue makes the next access of its call
-pub goes_called : (s : State) (t held : ℕ) (o : Op) (p : Whole) (g : Stage) → g ≡ Calling o p → ((key : ℕ) → stands_in t (s.queues key) ≡ false)
+goes_called : (s : State) (t held : ℕ) (o : Op) (p : Whole) (g : Stage) → g ≡ Calling o p → ((key : ℕ) → stands_in t (s.queues key) ≡ false)
     → stepped s t held g ≡ went s t held (mutex_of s.layout o) (Mutex (mutex_of s.layout o)) (whole_access p) (led o p (whole_led p (answer_of s t (whole_access p))))
 goes_called s t held o p g is awake =
     ap (stepped s t held) is
     ∙ ap (λ (b : Bool). if b then nothing s else went s t held (mutex_of s.layout o) (Mutex (mutex_of s.layout o)) (whole_access p) (led o p (whole_led p (answer_of s t (whole_access p))))) (stands_none t s.queues (places_of s.layout (Calling o p)) awake)
+
+-- ---- of a call in progress, whatever it is on
+
+pub made_by : (t m held : ℕ) (k : InCall) (x : Answer)
+    → IsMade t m held (led_by k x) (record { stage = stage_behind k x; held = held_with held (point_in (progress_behind k x)); point = decision_with t m (point_in (progress_behind k x)); returned = reply_in (progress_behind k x) })
+made_by t m held (in_call.Calling o p) x = made_called t m held o p (whole_moved p (whole_led p x)) (whole_led p x) (whole_progress p (whole_led p x)) refl refl
+made_by t m held (in_call.AtCondition c p) x = made_at t m held c p (condition.cond_moved p (condition.cond_led p x)) (condition.cond_led p x) (condition.cond_progress (condition.cond_led p x)) refl refl
+
+pub goes_by : (s : State) (t held : ℕ) (k : InCall) (g : Stage) → g ≡ stage_of k → ((key : ℕ) → stands_in t (s.queues key) ≡ false)
+    → stepped s t held g ≡ went s t held (mutex_of s.layout (op_of k)) (queue_in (mutex_of s.layout (op_of k)) k) (access_of k) (led_by k (answer_of s t (access_of k)))
+goes_by s t held (in_call.Calling o p) g is awake = goes_called s t held o p g is awake
+goes_by s t held (in_call.AtCondition c p) g is awake = ap (stepped s t held) is

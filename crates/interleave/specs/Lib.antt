@@ -1,6 +1,7 @@
 pub mod Shown
 pub mod Notes
 pub mod Perform
+pub mod Calls
 pub mod Steps
 pub mod Reached
 pub mod Traces

@@ -28,6 +28,7 @@
 #![tactic(auto)]
 
 mod accesses;
+mod calls;
 mod copies;
 mod deaths;
 mod leaves;

@@ -1,20 +1,18 @@
 //! The machine's threads.
 ghost use Rattle.std.specs.Prelude.{◌≡◌, ◌<◌, ◌≤◌, ℕ, List, true, length};
 ghost use Rattle.memorymap.specs.Layouts.{words_of, head_place, address_in};
-ghost use Rattle.mutex.specs.Whole.{IsUnderWay};
-ghost use Rattle.condvar.specs.Whole as condition;
-ghost use Rattle.condvar.specs.declared.op.Op.TheVariants.{OnCondition};
 ghost use Rattle.protocol.specs.declared.event.Event.TheVariants.{Begin, Step};
-ghost use Rattle.protocol.specs.declared.thread.Stage.TheVariants.{AtCondition, Calling};
 ghost use Rattle.protocol.specs.Machine.{happens, first_stage, is_idle, is_calling, is_exiting, is_gone, slept_in};
 ghost use Rattle.protocol.specs.declared.note.Note.TheVariants.{Stepped};
 ghost use Rattle.condvar.specs.Ops.{is_in};
 ghost use Rattle.syscalls.specs.Kernels.{IsAwake, Kernel', head_of};
+ghost use Rattle.interleave.specs.Calls.{op_of, stage_of, IsGoing};
 ghost use Rattle.interleave.specs.Perform.{decision_with, held_with, point_in, reply_in, stage_at_in, stage_in};
 ghost use Rattle.interleave.specs.Shown.{state_at, thread_at};
 ghost use Rattle.interleave.specs.Steps.{MayStep, SleepsInItsCall};
 
 use crate::accesses::{Performed, perform};
+use crate::calls::InCall;
 use crate::deaths::{kill, walk_on};
 use crate::leaves::{decline, leave};
 use crate::ops::begun;
@@ -236,25 +234,23 @@ pub(crate) fn stepped(
     }
 }
 
-/// A thread that doesn't sleep makes the next access of a mutex's program: of its call on the mutex, or of the lock
-/// that ends its wait.
+/// A thread that doesn't sleep makes the next access of its call.
 fn go_on(
     layout: &Layout,
     memory: &mut PlainMemory,
     kernel: &mut Kernel,
     threads: &mut Vec<Thread>,
     thread: Tid,
-    op: Op,
-    program: Program,
+    call: &InCall,
 ) -> Note
     requires words { length memory.old ≡ words_of layout.now }
     requires kernel { kernel.old.threads ≡ layout.now.threads }
     requires threads { length threads.old.items ≡ layout.now.threads }
     requires known { thread ≤ layout.now.threads }
     requires awake { IsAwake kernel.old thread }
-    requires stands { (thread_at threads.old.items thread).stage ≡ Calling op program }
-    requires inside { is_in layout.now op ≡ true }
-    requires going { IsUnderWay program.phase }
+    requires stands { (thread_at threads.old.items thread).stage ≡ stage_of call.now }
+    requires inside { is_in layout.now (op_of call.now) ≡ true }
+    requires going { IsGoing call.now }
     requires few { (thread_at threads.old.items thread).held < 65535 }
     ensures state { state_at layout.now memory.new kernel.new threads.new.items
         ≡ (happens (state_at layout.now memory.old kernel.old threads.old.items) (Step thread)).state }
@@ -264,60 +260,17 @@ fn go_on(
     ensures heads { kernel.new.heads ≡ kernel.old.heads }
     ensures threads { length threads.new.items ≡ length threads.old.items }
 {
-    let mut program = program;
     let base = layout.base(thread);
-    let done = perform(memory, kernel, base, thread, &program.next());
-    let progress = program.resume(done.answer);
+    let done = perform(memory, kernel, base, thread, &call.next());
+    let (stage, progress) = call.resume(done.answer);
     let index = thread.as_index();
     let held = threads[index].held;
     threads[index] = Thread {
-        stage: stage_after(op, &program, &progress),
+        stage,
         held: held_after(held, point(&progress)),
     };
-    let mutex = op.mutex(layout);
-    stepped(thread, mutex, Queue::Mutex(mutex), &done, &progress)
-}
-
-/// A thread makes the next access of its call on a condition variable.
-fn go_on_at(
-    layout: &Layout,
-    memory: &mut PlainMemory,
-    kernel: &mut Kernel,
-    threads: &mut Vec<Thread>,
-    thread: Tid,
-    call: CondCall,
-    program: CondProgram,
-) -> Note
-    requires words { length memory.old ≡ words_of layout.now }
-    requires kernel { kernel.old.threads ≡ layout.now.threads }
-    requires threads { length threads.old.items ≡ layout.now.threads }
-    requires known { thread ≤ layout.now.threads }
-    requires awake { IsAwake kernel.old thread }
-    requires stands { (thread_at threads.old.items thread).stage ≡ AtCondition call program }
-    requires inside { is_in layout.now (OnCondition call) ≡ true }
-    requires going { condition.IsUnderWay program.phase }
-    requires few { (thread_at threads.old.items thread).held < 65535 }
-    ensures state { state_at layout.now memory.new kernel.new threads.new.items
-        ≡ (happens (state_at layout.now memory.old kernel.old threads.old.items) (Step thread)).state }
-    ensures note { result ≡ (happens (state_at layout.now memory.old kernel.old threads.old.items) (Step thread)).note }
-    ensures words { length memory.new ≡ length memory.old }
-    ensures kernel { kernel.new.threads ≡ kernel.old.threads }
-    ensures heads { kernel.new.heads ≡ kernel.old.heads }
-    ensures threads { length threads.new.items ≡ length threads.old.items }
-{
-    let mut program = program;
-    let base = layout.base(thread);
-    let done = perform(memory, kernel, base, thread, &program.next());
-    let progress = program.resume(done.answer);
-    let index = thread.as_index();
-    let held = threads[index].held;
-    threads[index] = Thread {
-        stage: stage_at(call, &program, &progress),
-        held: held_after(held, point(&progress)),
-    };
-    let mutex = Op::OnCondition(call).mutex(layout);
-    let queue = Queue::Condition(call.condition());
-    stepped(thread, mutex, queue, &done, &progress)
+    let mutex = call.op().mutex(layout);
+    stepped(thread, mutex, call.queue(mutex), &done, &progress)
 }
 
 /// The thread makes the next access of its call, if it is in one and doesn't sleep; or the kernel makes the next one of
@@ -352,10 +305,12 @@ fn step(
     match threads[index].stage {
         Stage::Idle | Stage::Reaped => Note::Nothing,
         Stage::Calling(op, program) => {
-            go_on(layout, memory, kernel, threads, thread, op, program)
+            let call = InCall::Calling(op, program);
+            go_on(layout, memory, kernel, threads, thread, &call)
         }
         Stage::AtCondition(call, program) => {
-            go_on_at(layout, memory, kernel, threads, thread, call, program)
+            let call = InCall::AtCondition(call, program);
+            go_on(layout, memory, kernel, threads, thread, &call)
         }
         Stage::Dying(walk) => walk_on(layout, memory, kernel, threads, thread, walk),
     }

@@ -2,66 +2,49 @@ use Rattle.std.proofs.Common.{◌≡◌, ◌+◌, false, ℕ, arith, sym, ap, �
 use Rattle.std.proofs.lemmas.Grind.{common_steps}
 use Rattle.stepprograms.specs.declared.access.Access.{Access}
 use Rattle.memorymap.specs.Layouts.{base_of}
-use Rattle.stepprograms.specs.declared.access.Answer.{Answer}
-use Rattle.mutex.specs.Whole.{whole_access, whole_led}
-use Rattle.facts.specs.declared.fact.Queue.TheVariants.{Mutex}
+use Rattle.condvar.specs.Ops.{mutex_of}
 use Rattle.syscalls.specs.Kernels.{queue_of}
 use Rattle.protocol.specs.declared.thread.Thread.{Thread}
-use Rattle.protocol.specs.declared.thread.Stage.TheVariants.{Calling}
 use Rattle.protocol.specs.declared.note.Note.TheVariants.{Stepped}
-use Rattle.condvar.specs.Ops.{mutex_of}
-use Rattle.protocol.specs.Machine.{idle, stands_in, slept_in, led}
+use Rattle.protocol.specs.Machine.{idle, stands_in, slept_in}
+use Rattle.interleave.specs.Calls.{access_of, led_by, op_of, progress_behind, queue_in, stage_of}
 use Rattle.interleave.specs.Shown.{state_at}
 use Rattle.interleave.specs.Perform.{list_words, Performs, decision_with, held_with, point_in, reply_in}
-use Rattle.interleave.proofs.Views.{thread_at-index, made_called, goes_called, step_state, step_note}
+use Rattle.interleave.proofs.Views.{thread_at-index, made_by, goes_by, step_shows}
 use Rattle.interleave.proofs.Sleeping.{outside}
 use Rattle.interleave.proofs.threads.go_on.Goals as goal
 
-pub returns-clause-state : goal.returns-clause-state
-returns-clause-state c =
+pub returns : goal.returns
+returns c =
     let l = c.args.layout.now in
     let ws = c.args.memory.now in
     let kernel = c.args.kernel.now in
     let ts = c.args.threads.now.items in
     let t = c.args.thread in
-    let o = c.args.op in
-    let p = c.args.program in
-    let k = c.as_index-index.result in
-    let at : k + 1 ≡ t = omega arith in
-    let read : c.index.result.now ≡ slice_index_or ts k idle = grind (arith, common_steps) in
-    let is = thread_at-index ts k t at ∙ sym read in
-    let stands : c.index.result.now.stage ≡ Calling o p = ap (λ (z : Thread). z.stage) (sym is) ∙ c.requires.stands in
+    let k = c.args.call.now in
+    let m = mutex_of l (op_of k) in
+    let i = c.as_index-index.result in
+    let th = c.index.result.now in
+    let done = c.perform-done.result in
+    let at : i + 1 ≡ t = omega arith in
+    let read : th ≡ slice_index_or ts i idle = grind (arith, common_steps) in
+    let is = thread_at-index ts i t at ∙ sym read in
+    let stands : th.stage ≡ stage_of k = ap (λ (z : Thread). z.stage) (sym is) ∙ c.requires.stands in
     let awake : (key : ℕ) → stands_in t (queue_of kernel key) ≡ false = λ key. outside t (queue_of kernel key) (c.requires.awake key) in
-    let performs : Performs ws kernel c.perform-done.new.kernel (base_of l t) t (whole_access p) c.perform-done.result =
-    subst (λ (x : ℕ × Access). Performs ws kernel c.perform-done.new.kernel x.0 t x.1 c.perform-done.result) (λ i. (c.base-base.ensures.value i, c.next.ensures i)) c.perform-done.ensures.performs in
-    let wrote : c.perform-done.new.memory ≡ list_words ws kernel (base_of l t) (whole_access p) = c.perform-done.ensures.words ∙ (λ i. list_words ws kernel (c.base-base.ensures.value i) (c.next.ensures i)) in
-    let made = made_called t (mutex_of l o) c.index.result.now.held o p c.resume-progress.new.self (whole_led p c.perform-done.result.answer) c.resume-progress.result c.resume-progress.ensures.moved c.resume-progress.ensures.progress in
-    let held : c.held_after.result ≡ held_with c.index.result.now.held (point_in c.resume-progress.result) = c.held_after.ensures ∙ ap (held_with c.index.result.now.held) c.point.ensures in
-    (λ i. state_at l c.perform-done.new.memory c.perform-done.new.kernel (slice_set ts k (record { stage = c.stage_after.ensures i; held = held i })))
-    ∙ step_state l ws c.perform-done.new.memory kernel c.perform-done.new.kernel ts k t (mutex_of l o) (Mutex (mutex_of l o)) (whole_access p) (λ (x : Answer). led o p (whole_led p x)) c.index.result.now c.perform-done.result _
-    c.requires.known at c.requires.threads c.requires.words is (goes_called (state_at l ws kernel ts) t c.index.result.now.held o p c.index.result.now.stage stands awake) performs wrote made
-
-pub returns-clause-note : goal.returns-clause-note
-returns-clause-note c =
-    let l = c.args.layout.now in
-    let ws = c.args.memory.now in
-    let kernel = c.args.kernel.now in
-    let ts = c.args.threads.now.items in
-    let t = c.args.thread in
-    let o = c.args.op in
-    let p = c.args.program in
-    let k = c.as_index-index.result in
-    let at : k + 1 ≡ t = omega arith in
-    let read : c.index.result.now ≡ slice_index_or ts k idle = grind (arith, common_steps) in
-    let is = thread_at-index ts k t at ∙ sym read in
-    let stands : c.index.result.now.stage ≡ Calling o p = ap (λ (z : Thread). z.stage) (sym is) ∙ c.requires.stands in
-    let awake : (key : ℕ) → stands_in t (queue_of kernel key) ≡ false = λ key. outside t (queue_of kernel key) (c.requires.awake key) in
-    let performs : Performs ws kernel c.perform-done.new.kernel (base_of l t) t (whole_access p) c.perform-done.result =
-    subst (λ (x : ℕ × Access). Performs ws kernel c.perform-done.new.kernel x.0 t x.1 c.perform-done.result) (λ i. (c.base-base.ensures.value i, c.next.ensures i)) c.perform-done.ensures.performs in
-    let wrote : c.perform-done.new.memory ≡ list_words ws kernel (base_of l t) (whole_access p) = c.perform-done.ensures.words ∙ (λ i. list_words ws kernel (c.base-base.ensures.value i) (c.next.ensures i)) in
-    let made = made_called t (mutex_of l o) c.index.result.now.held o p c.resume-progress.new.self (whole_led p c.perform-done.result.answer) c.resume-progress.result c.resume-progress.ensures.moved c.resume-progress.ensures.progress in
-    let me : c.mutex-mutex.result ≡ mutex_of l o = c.mutex-mutex.ensures in
-    c.stepped.ensures
-    ∙ (λ i. Stepped t (me i) (decision_with t (me i) (point_in c.resume-progress.result)) (slept_in (Mutex (me i)) c.perform-done.result.slept) c.perform-done.result.woken c.perform-done.result.moved (reply_in c.resume-progress.result))
-    ∙ step_note l ws c.perform-done.new.memory kernel c.perform-done.new.kernel ts k t (mutex_of l o) (Mutex (mutex_of l o)) (whole_access p) (λ (x : Answer). led o p (whole_led p x)) c.index.result.now c.perform-done.result _
-    c.requires.known at c.requires.threads c.requires.words is (goes_called (state_at l ws kernel ts) t c.index.result.now.held o p c.index.result.now.stage stands awake) performs wrote made
+    let performs : Performs ws kernel c.perform-done.new.kernel (base_of l t) t (access_of k) done =
+    subst (λ (x : ℕ × Access). Performs ws kernel c.perform-done.new.kernel x.0 t x.1 done) (λ j. (c.base-base.ensures.value j, c.next.ensures j)) c.perform-done.ensures.performs in
+    let wrote : c.perform-done.new.memory ≡ list_words ws kernel (base_of l t) (access_of k) = c.perform-done.ensures.words ∙ (λ j. list_words ws kernel (c.base-base.ensures.value j) (c.next.ensures j)) in
+    let shows = step_shows l ws c.perform-done.new.memory kernel c.perform-done.new.kernel ts i t m (queue_in m k) (access_of k) (led_by k) th done _
+    c.requires.known at c.requires.threads c.requires.words is (goes_by (state_at l ws kernel ts) t th.held k th.stage stands awake) performs wrote (made_by t m th.held k done.answer) in
+    let came : c.resume-stage.result.1 ≡ progress_behind k done.answer = c.resume-stage.ensures.progress in
+    let held : c.held_after.result ≡ held_with th.held (point_in (progress_behind k done.answer)) = c.held_after.ensures ∙ ap (held_with th.held) (c.point.ensures ∙ ap point_in came) in
+    let of : c.mutex-mutex.result ≡ m = c.mutex-mutex.ensures ∙ ap (mutex_of l) c.op.ensures in
+    let queue : c.queue.result ≡ queue_in m k = c.queue.ensures ∙ ap (λ (z : ℕ). queue_in z k) of in
+    record {
+      state = (λ j. state_at l c.perform-done.new.memory c.perform-done.new.kernel (slice_set ts i (record { stage = c.resume-stage.ensures.stage j; held = held j }))) ∙ shows.0;
+      note = c.stepped.ensures ∙ (λ j. Stepped t (of j) (decision_with t (of j) (point_in (came j))) (slept_in (queue j) done.slept) done.woken done.moved (reply_in (came j))) ∙ shows.1;
+      words = grind (arith, common_steps);
+      kernel = grind (arith, common_steps);
+      heads = grind (arith, common_steps);
+      threads = grind (arith, common_steps);
+    }
