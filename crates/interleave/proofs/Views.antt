@@ -322,11 +322,13 @@ goes_called s t held o p g is awake =
 
 -- ---- of a call in progress, whatever it is on
 
+-- what the code makes of an answer is what the definition makes of it
 pub made_by : (t m held : ℕ) (k : InCall) (x : Answer)
     → IsMade t m held (led_by k x) (record { stage = stage_behind k x; held = held_with held (point_in (progress_behind k x)); point = decision_with t m (point_in (progress_behind k x)); returned = reply_in (progress_behind k x) })
 made_by t m held (in_call.Calling o p) x = made_called t m held o p (whole_moved p (whole_led p x)) (whole_led p x) (whole_progress p (whole_led p x)) refl refl
 made_by t m held (in_call.AtCondition c p) x = made_at t m held c p (condition.cond_moved p (condition.cond_led p x)) (condition.cond_led p x) (condition.cond_progress (condition.cond_led p x)) refl refl
 
+-- a thread that stands in no queue makes its next access
 pub goes_by : (s : State) (t held : ℕ) (k : InCall) (g : Stage) → g ≡ stage_of k → ((key : ℕ) → stands_in t (s.queues key) ≡ false)
     → stepped s t held g ≡ went s t held (mutex_of s.layout (op_of k)) (queue_in (mutex_of s.layout (op_of k)) k) (access_of k) (led_by k (answer_of s t (access_of k)))
 goes_by s t held (in_call.Calling o p) g is awake = goes_called s t held o p g is awake

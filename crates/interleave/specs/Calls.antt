@@ -32,11 +32,12 @@ abbrev pub op_of : InCall → Op
 op_of (Calling o p) = o
 op_of (AtCondition c p) = OnCondition c
 
--- the queue in which a wait of its thread sleeps, the mutex being m
+-- the queue that its thread comes to stand in if it falls asleep, m being its mutex
 abbrev pub queue_in : ℕ → InCall → Queue
 queue_in m (Calling o p) = Mutex m
 queue_in m (AtCondition c p) = Condition (condition_of c)
 
+-- the access that comes next
 abbrev pub access_of : InCall → Access
 access_of (Calling o p) = whole_access p
 access_of (AtCondition c p) = condition.cond_access p

@@ -1,4 +1,4 @@
-//! Calls in progress: a call on a mutex, or one on a condition variable, whose thread is awake and goes on with it.
+//! Calls in progress, on mutexes and condition variables: which access comes next, and where its answer leads.
 ghost use Rattle.std.specs.Prelude.{◌≡◌};
 ghost use Rattle.interleave.specs.Calls.{access_of, op_of, progress_behind, queue_in, stage_behind, IsGoing};
 
@@ -9,7 +9,7 @@ use mutex::Program;
 use protocol::Stage;
 use stepprograms::{Access, Answer, Progress, StepProgram};
 
-/// A call that hasn't returned, and the program that makes its next access.
+/// A call that hasn't returned, with the program that makes its accesses.
 #[derive(Clone, Copy)]
 pub(crate) enum InCall {
     /// At a mutex: a call on it, or a wait in the lock that ends it.
@@ -29,7 +29,7 @@ impl InCall {
         }
     }
 
-    /// The queue in which its thread sleeps if its next access is a wait. It is told the call's mutex.
+    /// The queue that its thread comes to stand in if it falls asleep. The mutex is the call's.
     pub(crate) fn queue(&self, mutex: u16) -> Queue
         ensures { result ≡ queue_in mutex self.now }
     {

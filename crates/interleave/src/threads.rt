@@ -28,7 +28,7 @@ use memorymap::Layout;
 use mutex::Program;
 use posixmutex::{Decision, Operation, Point};
 use protocol::{Event, Note, Stage, Thread};
-use stepprograms::{Progress, StepProgram};
+use stepprograms::Progress;
 use syscalls::{Kernel, PlainMemory};
 
 /// The point that the access was, if it was one.
