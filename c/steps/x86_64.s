@@ -2,7 +2,7 @@
 # `make -C c steps` writes this text; `make -C c prove` compares what cc makes of it with that object. Don't edit it.
 # Each instruction stands as its bytes, with its name, its place in the section and what it does as a remark: an
 # assembler may choose among several encodings of an instruction, and bytes leave it no choice.
-# sources: 1f024211e8a4caaf28b0b9c9c345e2c5f79de9dcea28aa6895da822412d84bdb
+# sources: 8f383182f3a95823fa21f2861a4f9c7ee557b313f6d67f92b1d2bd424b931007
 
 .section ".text.lockword::reply::Reply::number","ax",@progbits
 .balign 16
