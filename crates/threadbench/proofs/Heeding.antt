@@ -1,12 +1,16 @@
 -- What two fates of a thread said, one of which is a note that others write.
-use Rattle.std.proofs.Common.{◌≡◌, ◌⊎◌, inl, inr, ℕ, ◌+◌, subst, arith}
+use Rattle.std.proofs.Common.{◌≡◌, ◌⊎◌, inl, inr, ℕ, ◌+◌, sym, subst, arith}
 use mathlib.Core.Logic.{dite}
 use native.Mathlib.Decide.{ℕ_discrete}
 use Rattle.ruledwords.specs.Fates.{Heeds}
 use Rattle.ruledwords.specs.Outcomes.{stops_in}
+use Rattle.ruledwords.specs.Stretches.{stops_stretching}
 use Rattle.ruledwords.specs.declared.turn.Outcome.{Outcome}
 use Rattle.ruledwords.specs.declared.turn.Outcome.TheVariants as outcome
-use Rattle.threadbench.specs.Calls.{IsHeeded}
+use Rattle.ruledwords.specs.declared.turn.Stretch.{Stretch}
+use Rattle.ruledwords.specs.declared.turn.Turn.{Turn}
+use Rattle.ruledwords.specs.declared.turn.Turn.TheVariants as turn
+use Rattle.threadbench.specs.Calls.{IsHeeded, stretch_of}
 
 pub heeds_on : (f f' f'' n n' n'' k : ℕ) → Heeds f f' n n' 0 → Heeds f' f'' n' n'' k → Heeds f f'' n n'' k
 heeds_on f f' f'' n n' n'' k first more =
@@ -28,6 +32,11 @@ heeds_note f n n' k told = record { fate = omega arith; note = omega (arith, tol
 -- they said so as often as that
 pub heeds_as : (f f' n n' k j : ℕ) → k ≡ j → Heeds f f' n n' k → Heeds f f' n n' j
 heeds_as f f' n n' k j same heeded = subst (λ (z : ℕ). Heeds f f' n n' z) same heeded
+
+-- an access in which nobody dies: neither said so
+pub heeds_onward : (f f' n n' : ℕ) (t : Turn) (s : Stretch) → s ≡ stretch_of t → Heeds f f' n n' 0 → Heeds f f' n n' (stops_stretching s)
+heeds_onward f f' n n' (turn.Goes q) s is heeded = subst (λ (z : Stretch). Heeds f f' n n' (stops_stretching z)) (sym is) heeded
+heeds_onward f f' n n' (turn.Lives b x) s is heeded = subst (λ (z : Stretch). Heeds f f' n n' (stops_stretching z)) (sym is) heeded
 
 -- what the call's fate is told of it
 pub is_heeded : (f f' n n' : ℕ) (o : Outcome) → Heeds f f' n n' (stops_in o) → IsHeeded f f' o

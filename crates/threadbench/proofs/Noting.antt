@@ -6,7 +6,7 @@ use Rattle.std.proofs.Math.ListN.{get_or-append}
 use Rattle.std.proofs.Math.Seq.{get_or-append_seam}
 use Rattle.std.proofs.lemmas.List.{length-append}
 use Rattle.std.proofs.lemmas.Option.{get_or_from_slice_get, slice_get-get_or, slice_get_within}
-use Rattle.threadbench.specs.declared.note.Note.{Note}
+use Rattle.threadbench.specs.declared.kill.note.Note.{Note}
 use Rattle.threadbench.specs.declared.numbered.Numbered.{Numbered}
 use Rattle.threadbench.specs.declared.parker.Parker.{Parker}
 use Rattle.threadbench.specs.Buckets.{AreNumbered}

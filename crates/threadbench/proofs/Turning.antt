@@ -1,5 +1,5 @@
 -- A call whose section was made.
-use Rattle.std.proofs.Common.{◌≡◌, ℕ, ◌+◌, false, sym, ap, ◌∙◌, subst, arith}
+use Rattle.std.proofs.Common.{◌≡◌, ℕ, false, sym, ap, ◌∙◌, subst}
 use Rattle.std.specs.Prelude.{nat_le}
 use Rattle.lockword.specs.declared.reply.Reply.{Reply}
 use Rattle.lockword.specs.declared.reply.Reply.TheVariants.{OK}
@@ -27,7 +27,7 @@ use Rattle.ruledwords.specs.Outcomes.{owed_pass, owed_running, IsOwedOf}
 use Rattle.ruledwords.specs.Seen.{held}
 use Rattle.ruledwords.specs.Passes.{card, layout_of, IsDying}
 use Rattle.ruledwords.specs.Calls.{IsOnMutex, Stands, row_in, standing_of}
-use Rattle.ruledwords.specs.Stretches.{Stretches, stops_stretching}
+use Rattle.ruledwords.specs.Stretches.{Stretches}
 use Rattle.ruledwords.specs.Turns.{running_call, running_pass, running_program, HasDied, HasSeenTheSame, IsDecided, IsRunningOf, IsTurnOf, IsUnderWay, Keeps, KeepsDecided, Unmoved}
 use Rattle.ruledwords.proofs.Exchanges.{expects_at_section}
 use Rattle.ruledwords.proofs.Noted.{seen_noted, seen_on, still_stands}
@@ -79,10 +79,6 @@ stays_there w r there = (there, (λ a call u. u), (λ m c x was. was))
 pub onward : (w : Words) (r : Running) (t : Turn) (s : Stretch) → s ≡ stretch_of t → IsTurnOf w t → Keeps w r t → KeepsDecided w r t → Stretches w r s
 onward w r (turn.Goes q) s is there keeps decided = subst (λ (z : Stretch). Stretches w r z) (sym is) (there, keeps, decided)
 onward w r (turn.Lives b x) s is there keeps decided = subst (λ (z : Stretch). Stretches w r z) (sym is) (tt, keeps, decided)
-
-pub nobody_told : (n : ℕ) (t : Turn) (s : Stretch) → s ≡ stretch_of t → n ≡ n + stops_stretching s
-nobody_told n (turn.Goes q) s is = subst (λ (z : Stretch). n ≡ n + stops_stretching z) (sym is) (omega arith)
-nobody_told n (turn.Lives b x) s is = subst (λ (z : Stretch). n ≡ n + stops_stretching z) (sym is) (omega arith)
 
 -- its thread dies there
 pub dies_there : (w : Words) (r : Running) (d : Pass Dead) → card d ≡ card (running_pass r) → ((w : Words) → IsRunningOf w r → IsDying w d) → ((w : Words) (a : Pass Live) (call : Call) → IsUnderWay w a call r → HasDied w a call d) → Stretches w r (stretch.Dead d)

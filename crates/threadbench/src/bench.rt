@@ -8,7 +8,7 @@ ghost use Rattle.threadbench.specs.Jobs.{IsJobOf, AreDone};
 
 use crate::gate::Gate;
 use crate::job::{Job, Record};
-use crate::note::{Note, notes};
+use crate::kill::note::{Note, notes};
 use crate::numbered::Numbered;
 use crate::parker::{Parker, parkers};
 use crate::phase::Phase;

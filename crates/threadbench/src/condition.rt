@@ -14,7 +14,7 @@ ghost use Rattle.threadbench.specs.Conditions.{stops_turning, CondAnswered, Cond
 
 use crate::bench::Bench;
 use crate::condition_section::{move_to_in, move_within_in, wake_for_condition};
-use crate::note::ByOthers;
+use crate::kill::note::ByOthers;
 use crate::numbered::Away;
 use crate::section::{Waited, wait_on_counter_in};
 use buckets::{BUCKETS, Batch};
@@ -102,7 +102,8 @@ impl Bench {
         self.run_condition_on(rt, running, cell, fate, &mut note)
     }
 
-    /// Runs a call to its end, or until one of its thread's fates ends it. The key is that of its mutex's cell.
+    /// Runs a call to its end, or until one of its thread's fates ends it, turn by turn. The key is that of its mutex's
+    /// cell.
     fn run_condition_on<R: Wait, F: Fate, N: ByOthers>(
         &self,
         rt: &R,
@@ -119,10 +120,7 @@ impl Bench {
     {
         let mut running = running;
         for _ in rt.forever() {
-            if either_stops(fate, note) {
-                return Outcome::Dead(running.die());
-            }
-            match self.condition_turn(rt, running, cell, note) {
+            match self.condition_turn(rt, running, cell, fate, note) {
                 Ok(CondTurn::Goes(next)) => running = next,
                 Ok(CondTurn::Locks(lock)) => return self.run_on(rt, lock, fate, note),
                 Ok(CondTurn::Lives(pass, reply)) => return Outcome::Lives(pass, reply),
@@ -132,20 +130,25 @@ impl Bench {
         unreachable!()
     }
 
-    /// Makes the access that comes next, a section under locks of buckets or a step. The thread dies where its note
-    /// tells it to, in place of falling asleep.
-    fn condition_turn<R: Wait, N: ByOthers>(
+    /// Makes the access that comes next, a section under locks of buckets or a step, unless one of the thread's fates
+    /// ends the call before it.
+    fn condition_turn<R: Wait, F: Fate, N: ByOthers>(
         &self,
         rt: &R,
         running: CondRunning,
         cell: Key,
+        fate: &mut F,
         note: &mut N,
     ) -> Result<CondTurn, Pass<Dead>>
         requires words { IsCondRunningOf self.now running }
         requires cell { IsCellOf self.now running cell.0 }
         ensures comes { CondComesTo self.now running result }
-        ensures note { N.stopped note.new ≡ N.stopped note.old + stops_turning result }
+        ensures fate { Heeds (F.stopped fate.old) (F.stopped fate.new) (N.stopped note.old) (N.stopped note.new)
+            (stops_turning result) }
     {
+        if either_stops(fate, note) {
+            return Err(running.die());
+        }
         match running.next() {
             Access::Wait { expected, .. } => {
                 self.wait_on_counter(rt, running, cell, expected, note)

@@ -1,106 +1,19 @@
 //! Kills: a thread is told to die, and is woken where it sleeps.
 ghost use Rattle.std.specs.Prelude.{◌≡◌, ◌≤◌, ◌<◌, ◌+◌};
-ghost use Rattle.std.specs.Sync.Mutex.{mutex_guard_value};
 ghost use Rattle.lockword.specs.Threads.{most_threads};
-ghost use Rattle.buckets.specs.Queues.{IsOrderly, Removes};
 ghost use Rattle.ruledwords.specs.Passes.{layout_of};
+ghost use Rattle.threadbench.specs.declared.kill.note.KillStage.TheVariants.{Ended};
 ghost use Rattle.threadbench.specs.Kills.{IsOfThread, Kills, KillsAll, IsMember};
 
 use crate::bench::Bench;
+use crate::kill::note::Kill;
 use crate::killing::{BenchKiller, kill_members};
-use crate::note::Killed;
-use crate::numbered::Held;
-use crate::parker::Given;
-use crate::section::remove_in;
 use buckets::BUCKETS;
 use lockword::{Reply, Tid};
 use memorymap::Layout;
 use std::sync::{MutexGuard, Wait};
 
-/// A kill that is noted: its thread was looked for in so many buckets, from the first on. The note comes before the
-/// search, so that a thread which comes to sleep in a bucket behind the search finds it there.
-///
-/// Neither this nor what is made of it, [`Searched`] and [`Kill`], can be let go: whoever has written a note goes on to
-/// the end of the kill.
-pub(crate) struct Search {
-    killed: Killed,
-    looked: usize,
-}
-
-/// A kill whose thread was looked for in each bucket. Nothing makes one but [`Search::end`].
-pub(crate) struct Searched {
-    killed: Killed,
-}
-
-/// A kill that came to its end: it was noted, its thread was looked for in each bucket, and then it was given a token,
-/// so that it wakes where it sleeps. Nothing makes one but [`Searched::rouse`], and nothing lets one go but a [`Sweep`]
-/// or [`Bench::kill`].
-pub(crate) struct Kill {
-    thread: Tid,
-}
-
-impl Search {
-    /// A kill that is noted.
-    pub(crate) fn begin(killed: Killed) -> Search
-        ensures { (result.killed ≡ killed) × (result.looked ≡ 0) }
-    {
-        Search { killed, looked: 0 }
-    }
-
-    /// Takes the thread out of the next bucket's queues.
-    pub(crate) fn look(&mut self, held: &mut Held<'_>)
-        requires few { self.old.looked < 256 }
-        requires next { held.old.number ≡ self.old.looked }
-        ensures removes { (stood : _)
-            × Removes (mutex_guard_value held.old.bucket) (mutex_guard_value held.new.bucket) self.old.killed.thread
-            stood }
-        ensures orderly { IsOrderly (mutex_guard_value held.new.bucket) }
-        ensures looked { self.new.looked ≡ self.old.looked + 1 }
-        ensures same { self.new.killed ≡ self.old.killed }
-    {
-        remove_in(&mut held.bucket, &self.killed);
-        self.looked += 1;
-    }
-
-    /// Each bucket was looked at.
-    pub(crate) fn end(self) -> Searched
-        requires { self.looked ≡ 256 }
-        ensures { result.killed ≡ self.killed }
-    {
-        let Search { killed, looked: _ } = self;
-        Searched { killed }
-    }
-}
-
-impl Searched {
-    /// The thread.
-    pub(crate) fn thread(&self) -> Tid
-        ensures { result ≡ self.now.killed.thread }
-    {
-        self.killed.thread()
-    }
-
-    /// The thread was given a token.
-    pub(crate) fn rouse(self, given: Given) -> Kill
-        requires { given.thread ≡ self.killed.thread }
-        ensures { result.thread ≡ self.killed.thread }
-    {
-        let Searched { killed } = self;
-        Kill {
-            thread: killed.roused(given),
-        }
-    }
-}
-
-impl Kill {
-    /// It is the kill of this thread.
-    fn over(self, thread: Tid)
-        requires { self.thread ≡ thread }
-    {
-        let _thread = thread;
-        let Kill { thread: _ } = self;
-    }
-}
+pub(crate) mod note;
 
 /// The kill of a process on its way: it came to so many threads, in the order of their ids, and each of these that is
 /// of the process was killed, and no other. Nothing begins or ends one but [`Bench::kill_process`].
@@ -128,11 +41,12 @@ impl Sweep {
     pub(crate) fn kills(&mut self, layout: &Layout, kill: Kill)
         requires few { self.old.come < most_threads }
         requires next { kill.thread ≡ self.old.come + 1 }
+        requires ended { kill.stage ≡ Ended }
         requires member { IsMember layout.now self.old.process (self.old.come + 1) }
         ensures { (self.new.process ≡ self.old.process) × (self.new.come ≡ self.old.come + 1) }
     {
         let _layout = layout;
-        let Kill { thread: _ } = kill;
+        kill.over(thread_after(self.come));
         self.come += 1;
     }
 

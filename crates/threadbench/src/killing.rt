@@ -1,8 +1,10 @@
 //! How threads are killed. Nothing here begins or ends a kill of a process, or lets a kill go: that stands in `kill`.
 ghost use Rattle.std.specs.Prelude.{◌≡◌};
+ghost use Rattle.threadbench.specs.declared.kill.note.KillStage.TheVariants.{Ended};
 
 use crate::bench::Bench;
-use crate::kill::{Kill, Search, Sweep, thread_after};
+use crate::kill::note::Kill;
+use crate::kill::{Sweep, thread_after};
 use crate::parker::Due;
 use buckets::BUCKETS;
 use lockword::Tid;
@@ -13,7 +15,8 @@ use std::sync::{MutexGuard, Wait};
 pub(crate) trait Killer {
     /// Kills the thread.
     fn kill(&self, thread: Tid) -> Kill
-        ensures { result.thread ≡ thread };
+        ensures thread { result.thread ≡ thread }
+        ensures stage { result.stage ≡ Ended };
 }
 
 /// Kills threads of a bench, whose lock of moves it holds.
@@ -65,15 +68,16 @@ impl Bench {
         moves: &MutexGuard<'_, ()>,
         thread: Tid,
     ) -> Kill
-        ensures { result.thread ≡ thread }
+        ensures thread { result.thread ≡ thread }
+        ensures stage { result.stage ≡ Ended }
     {
         let _moves = moves;
-        let mut search = Search::begin(self.note(thread).kill());
+        let mut kill = self.note(thread).kill();
         for place in 0..BUCKETS {
-            search.look(&mut self.buckets[place].hold(rt));
+            kill.look(&mut self.buckets[place].hold(rt));
         }
-        let searched = search.end();
-        let given = self.parker(thread).unpark(rt, Due::searched(&searched));
-        searched.rouse(given)
+        let given = self.parker(thread).unpark(rt, Due::killed(&kill));
+        kill.rouse(given);
+        kill
     }
 }

@@ -31,7 +31,6 @@ mod hand;
 mod job;
 mod kill;
 mod killing;
-mod note;
 mod numbered;
 mod parker;
 mod parking;

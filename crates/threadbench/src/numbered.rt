@@ -70,6 +70,13 @@ impl Numbered {
 }
 
 impl Held<'_> {
+    /// Its number.
+    pub(crate) fn number(&self) -> usize
+        ensures { result ≡ self.now.number }
+    {
+        self.number
+    }
+
     /// Looks whether the thread stands in the bucket, and tells where it doesn't.
     pub(crate) fn left_by(&self, thread: Tid) -> Option<Gone>
         ensures looks { MatchOption result (Stands (mutex_guard_value self.now.bucket) thread)

@@ -3,10 +3,12 @@
 ghost use Rattle.std.specs.Prelude.{◌≡◌, ◌<◌, ◌+◌, true, false, Some, length, slice_get, IfOk};
 ghost use Rattle.std.specs.Sync.Mutex.{mutex_guard_value};
 ghost use Rattle.lockword.specs.Threads.{most_threads};
+ghost use Rattle.threadbench.specs.declared.kill.note.KillStage.TheVariants.{Looked};
 ghost use Rattle.threadbench.specs.Parkers.{AreParkers};
 
 use crate::bench::THREADS;
-use crate::kill::{Searched, thread_after};
+use crate::kill::note::Kill;
+use crate::kill::thread_after;
 use crate::room::push_in_room;
 use buckets::Batch;
 use lockword::Tid;
@@ -42,8 +44,8 @@ pub(crate) struct Taken {
 }
 
 /// That a thread is out of the queue in which it slept, if it did, and is to be given a token. It is of a thread that a
-/// wake took ([`Due::woken`]), or that a kill has looked for in each bucket ([`Due::searched`]). It can't be let go:
-/// whoever has one gives the token.
+/// wake took ([`Due::woken`]), or that a kill has looked for in each bucket ([`Due::killed`]). It can't be let go:
+/// whoever has one gives the token. (It is no stage of a [`Kill`], since a wake takes threads that nobody killed.)
 pub(crate) struct Due {
     thread: Tid,
 }
@@ -159,11 +161,12 @@ impl Due {
     }
 
     /// The one who is to die, once it was looked for in each bucket.
-    pub(crate) fn searched(searched: &Searched) -> Due
-        ensures { result.thread ≡ searched.now.killed.thread }
+    pub(crate) fn killed(kill: &Kill) -> Due
+        requires { kill.now.stage ≡ Looked 256 }
+        ensures { result.thread ≡ kill.now.thread }
     {
         Due {
-            thread: searched.thread(),
+            thread: kill.thread(),
         }
     }
 

@@ -19,7 +19,7 @@ ghost use Rattle.threadbench.specs.Sections.{FindsUnlessStopped, IsAsleepOn, Sta
 ghost use Rattle.threadbench.specs.Sections.{TrimsNobodys, TrimsThere, Waits, WaitsUnlessStopped, WakesFirsts};
 ghost use Rattle.threadbench.specs.Sections.{stops_waiting};
 
-use crate::note::{ByOthers, Killed, Spared, ask};
+use crate::kill::note::{ByOthers, Kill, Spared, ask};
 use crate::numbered::{Away, Gone};
 use buckets::{Batch, Bucket};
 use lockword::Tid;
@@ -188,11 +188,11 @@ pub(crate) fn wait_on_counter_in<N: ByOthers>(
 }
 
 /// A kill: takes the thread out of the queue in which it stands, and tells whether it stood in one.
-pub(crate) fn remove_in(bucket: &mut Bucket, killed: &Killed) -> bool
-    ensures removes { Removes bucket.old bucket.new killed.now.thread result }
+pub(crate) fn remove_in(bucket: &mut Bucket, kill: &Kill) -> bool
+    ensures removes { Removes bucket.old bucket.new kill.now.thread result }
     ensures orderly { IsOrderly bucket.new }
 {
-    bucket.remove(killed.thread())
+    bucket.remove(kill.thread())
 }
 
 /// A wake: takes at most so many threads out of the key's queue, those that stand first, in their order.

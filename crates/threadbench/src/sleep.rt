@@ -9,7 +9,7 @@ ghost use Rattle.ruledwords.specs.Turns.{access_in, IsRunningOf, IsTurnOf, Keeps
 ghost use Rattle.threadbench.specs.Calls.{Locked, Paid, Runs, IsHeeded, stretch_of};
 
 use crate::bench::Bench;
-use crate::note::{ByOthers, Note};
+use crate::kill::note::{ByOthers, Note};
 use crate::numbered::{Gone, Numbered};
 use crate::parker::{Due, Parker, Roused};
 use crate::section::{Waited, trim_in, wait_in, wake_in};
@@ -41,7 +41,10 @@ impl Bench {
         ensures fate { IsHeeded (F.stopped fate.old) (F.stopped fate.new) result }
     {
         match Running::call(&self.words, pass, Call::Lock(mutex)) {
-            Ok(running) => self.run(rt, running, fate),
+            Ok(running) => {
+                let mut note = self.note(running.thread()).fate();
+                self.run(rt, running, fate, &mut note)
+            }
             Err((pass, reply)) => Outcome::Lives(pass, reply),
         }
     }
@@ -89,21 +92,11 @@ impl Bench {
         }
     }
 
-    /// Runs a call to its end, or until its thread dies.
-    #[inline(always)]
-    fn run<R: Wait, F: Fate>(&self, rt: &R, running: Running, fate: &mut F) -> Outcome
-        requires { IsRunningOf self.now running }
-        ensures runs { Runs self.now running result }
-        ensures fate { IsHeeded (F.stopped fate.old) (F.stopped fate.new) result }
-    {
-        let mut note = self.note(running.thread()).fate();
-        self.run_begun(rt, running, fate, &mut note)
-    }
-
     /// Runs a call to its end, or until one of its thread's fates ends it: first as far as it makes steps on words,
-    /// where it stands. The compiler knows at which access that is, where it knows where the call begins.
+    /// where it stands, then turn by turn. The compiler knows at which access that is, where it knows where the call
+    /// begins.
     #[inline(always)]
-    fn run_begun<R: Wait, F: Fate, N: ByOthers>(
+    fn run<R: Wait, F: Fate, N: ByOthers>(
         &self,
         rt: &R,
         running: Running,
@@ -122,9 +115,9 @@ impl Bench {
         }
     }
 
-    /// Runs a call to its end, or until one of its thread's fates ends it, access by access: what is left of a call
-    /// that wasn't made in one stretch. (Stretches are made in [`Bench::run_begun`] alone: a function that is called in
-    /// one place is compiled there.)
+    /// Runs a call to its end, or until one of its thread's fates ends it, turn by turn: what is left of a call that
+    /// wasn't made in one stretch. (Stretches are made in [`Bench::run`] alone: a function that is called in one place
+    /// is compiled there.)
     pub(crate) fn run_on<R: Wait, F: Fate, N: ByOthers>(
         &self,
         rt: &R,
@@ -139,7 +132,7 @@ impl Bench {
     {
         let mut running = running;
         for _ in rt.forever() {
-            match self.steps_and_section(rt, running, fate, note) {
+            match self.turn(rt, running, fate, note) {
                 Stretch::Goes(next) => running = next,
                 Stretch::Lives(pass, reply) => return Outcome::Lives(pass, reply),
                 Stretch::Dead(pass) => return Outcome::Dead(pass),
@@ -148,8 +141,9 @@ impl Bench {
         unreachable!()
     }
 
-    /// Makes the steps on words that come next, where the call stands, and the section behind them.
-    fn steps_and_section<R: Wait, F: Fate, N: ByOthers>(
+    /// Makes the steps on words that come next, where the call stands, and the access behind them, a section under the
+    /// bucket's lock or a step, unless one of the thread's fates ends the call before it.
+    fn turn<R: Wait, F: Fate, N: ByOthers>(
         &self,
         rt: &R,
         running: Running,
@@ -161,38 +155,14 @@ impl Bench {
         ensures fate { Heeds (F.stopped fate.old) (F.stopped fate.new) (N.stopped note.old) (N.stopped note.new)
             (stops_stretching result) }
     {
-        match running.more(&self.words, fate, note) {
-            Stretch::Goes(next) => self.heeded_turn(rt, next, fate, note),
-            Stretch::Lives(pass, reply) => Stretch::Lives(pass, reply),
-            Stretch::Dead(pass) => Stretch::Dead(pass),
-        }
-    }
-
-    /// Makes the access that comes next, unless one of the thread's fates ends the call.
-    fn heeded_turn<R: Wait, F: Fate, N: ByOthers>(
-        &self,
-        rt: &R,
-        running: Running,
-        fate: &mut F,
-        note: &mut N,
-    ) -> Stretch
-        requires { IsRunningOf self.now running }
-        ensures stretches { Stretches self.now running result }
-        ensures fate { Heeds (F.stopped fate.old) (F.stopped fate.new) (N.stopped note.old) (N.stopped note.new)
-            (stops_stretching result) }
-    {
+        let running = match running.more(&self.words, fate, note) {
+            Stretch::Goes(next) => next,
+            Stretch::Lives(pass, reply) => return Stretch::Lives(pass, reply),
+            Stretch::Dead(pass) => return Stretch::Dead(pass),
+        };
         if either_stops(fate, note) {
             return Stretch::Dead(running.die());
         }
-        self.turn(rt, running, note)
-    }
-
-    /// Makes the access that comes next, a section under the bucket's lock or a step.
-    fn turn<R: Wait, N: ByOthers>(&self, rt: &R, running: Running, note: &mut N) -> Stretch
-        requires { IsRunningOf self.now running }
-        ensures stretches { Stretches self.now running result }
-        ensures note { N.stopped note.new ≡ N.stopped note.old + stops_stretching result }
-    {
         match running.next() {
             Access::Wait { expected, .. } => self.wait_on_cell(rt, running, expected, note),
             Access::Wake { most, .. } => onward(self.wake(rt, running, most)),

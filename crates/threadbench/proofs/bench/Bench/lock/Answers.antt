@@ -8,6 +8,7 @@ use Rattle.ruledwords.specs.Passes.{card, layout_of, IsLive}
 use Rattle.ruledwords.specs.Seen.{held}
 use Rattle.ruledwords.specs.Turns.{IsUnderWay}
 use Rattle.threadbench.proofs.Beginnings.{lock_begins, lock_refused, picks_true}
+use Rattle.threadbench.proofs.Heeding.{is_heeded}
 use Rattle.threadbench.proofs.Turning.{ran_locked}
 use Rattle.threadbench.proofs.bench.Bench.lock.Goals as goal
 
@@ -26,3 +27,6 @@ returns-in-Err-clause-locked g c =
       subst (λ (b : Pass Live). IsLive c.args.self.now b) (sym same) c.requires.pass,
       picks_true (nat_le 2048 (held (card a))) _ _ many.0 (many.1, ap (λ (b : Pass Live). card b) same),
     )
+
+pub returns-in-Ok-clause-fate : goal.returns-in-Ok-clause-fate
+returns-in-Ok-clause-fate g c = is_heeded _ _ _ _ c.run.result c.run.ensures.fate

@@ -1,9 +1,9 @@
-use Rattle.std.proofs.Common.{ap, subst}
-use Rattle.std.specs.Prelude.{ℕ, Bool, Ok, if◌then◌else◌}
+use Rattle.std.proofs.Common.{subst}
+use Rattle.std.specs.Prelude.{Ok}
 use Rattle.ruledwords.specs.declared.turn.CondTurn.{CondTurn}
 use Rattle.ruledwords.specs.declared.turn.CondTurn.TheVariants.{Goes, Locks}
 use Rattle.threadbench.specs.Conditions.{CondComesTo}
-use Rattle.threadbench.proofs.Heeding.{heeds_as, heeds_note, heeds_on}
+use Rattle.threadbench.proofs.Heeding.{heeds_on}
 use Rattle.threadbench.proofs.Waiting.{came_on, dies_out, locks_out, same_cell}
 use Rattle.threadbench.proofs.bench.Bench.run_condition_on.Goals as goal
 
@@ -13,15 +13,13 @@ loop-preserved g c =
     let w = c.args.self.now in
     let r = c.loop.running in
     let next = c.in-Ok-Goes.next in
-    let on : CondComesTo w r (Ok (Goes next)) = subst (λ (t : CondTurn). CondComesTo w r (Ok t)) c.in-Ok-Goes.field-0-is c.in-Ok-Goes.ensures.comes in
-    let asked = heeds_as _ _ _ _ _ 0 (ap (λ (b : Bool). if◌then◌else◌ {A = ℕ} b 1 0) c.if-either_stops.false) c.either_stops.ensures in
-    let so_far = heeds_on _ _ _ _ _ _ _ i.5 asked in (
+    let on : CondComesTo w r (Ok (Goes next)) = subst (λ (t : CondTurn). CondComesTo w r (Ok t)) c.in-Ok-Goes.field-0-is c.in-Ok-Goes.ensures.comes in (
       tt,
       tt,
       on.0,
       came_on w c.args.running r next i.3 on,
       same_cell w r next c.args.cell.0 i.4 on,
-      heeds_on _ _ _ _ _ _ _ so_far (heeds_note _ _ _ _ c.in-Ok-Goes.ensures.note),
+      heeds_on _ _ _ _ _ _ _ i.5 c.in-Ok-Goes.ensures.fate,
     )
 
 pub returns-in-Ok-Locks-clause-runs : goal.returns-in-Ok-Locks-clause-runs
@@ -34,6 +32,3 @@ returns-in-Ok-Locks-clause-runs g c =
 
 pub returns-in-Err-clause-runs : goal.returns-in-Err-clause-runs
 returns-in-Err-clause-runs g c = dies_out c.args.self.now c.args.running c.loop.running c.in-Err.pass c.loop.invariant.3 c.in-Err.ensures.comes
-
-pub returns-then-either_stops-clause-runs : goal.returns-then-either_stops-clause-runs
-returns-then-either_stops-clause-runs g c = λ a cl u. c.die.ensures.died c.args.self.now a cl (c.loop.invariant.3 a cl u)

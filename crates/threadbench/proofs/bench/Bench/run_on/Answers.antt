@@ -6,8 +6,8 @@ use Rattle.threadbench.proofs.bench.Bench.run_on.Goals as goal
 pub loop-init : goal.loop-init
 loop-init g c = (tt, tt, stays_there c.args.self.now c.args.running c.requires, heeds_nothing _ _)
 
-pub steps_and_section-requires : goal.steps_and_section-requires
-steps_and_section-requires g c = c.loop.invariant.2.0
+pub turn-requires : goal.turn-requires
+turn-requires g c = c.loop.invariant.2.0
 
 pub loop-preserved : goal.loop-preserved
 loop-preserved g c =

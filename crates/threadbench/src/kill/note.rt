@@ -1,15 +1,20 @@
-//! Notes of kills.
-ghost use Rattle.std.specs.Prelude.{◌≡◌, ◌+◌, false, if◌then◌else◌, length, IfOk};
+//! Notes of kills, and kills from their note to their end.
+ghost use Rattle.std.specs.Prelude.{◌≡◌, ◌<◌, ◌+◌, false, if◌then◌else◌, length, IfOk};
+ghost use Rattle.std.specs.Sync.Mutex.{mutex_guard_value};
 ghost use Rattle.lockword.specs.Threads.{most_threads};
+ghost use Rattle.buckets.specs.Queues.{IsOrderly, Removes};
 ghost use Rattle.ruledwords.specs.Passes.{card, layout_of, IsLive};
 ghost use Rattle.ruledwords.specs.Renewals.{IsGone, renewed};
+ghost use Rattle.threadbench.specs.declared.kill.note.KillStage.TheVariants.{Ended, Looked};
 ghost use Rattle.threadbench.specs.Notes.{AreNotes};
 ghost use Rattle.threadbench.specs.Sections.{stops_unless};
 
 use crate::bench::THREADS;
 use crate::kill::thread_after;
+use crate::numbered::Held;
 use crate::parker::{Drained, Given};
 use crate::room::push_in_room;
+use crate::section::remove_in;
 use buckets::Bucket;
 use crossbeam_utils::CachePadded;
 use lockword::Tid;
@@ -28,10 +33,23 @@ pub(crate) struct Note {
     killed: CachePadded<AtomicBool>,
 }
 
-/// A thread that was killed, as a note of its own says. Nothing makes one but [`Note::kill`], so whoever has one has
-/// written such a note before. It can't be let go: nothing takes it but [`Killed::roused`].
-pub(crate) struct Killed {
+/// A kill. Nothing makes one but [`Note::kill`], so whoever has one has noted that its thread was killed. The note
+/// comes before the search, so that a thread which comes to sleep in a bucket behind the search finds it there.
+///
+/// It can't be let go: whoever has noted a kill goes on to its end, where a [`Sweep`](crate::kill::Sweep) or
+/// [`Bench::kill`](crate::Bench::kill) takes it, and nothing else.
+pub(crate) struct Kill {
     thread: Tid,
+    stage: KillStage,
+}
+
+/// How far a kill has come.
+#[derive(Clone, Copy)]
+pub(crate) enum KillStage {
+    /// Its thread was looked for in so many buckets, from the first on.
+    Looked(usize),
+    /// Its thread was looked for in each bucket, and then it was given a token, so that it wakes where it sleeps.
+    Ended,
 }
 
 /// That a thread's note says no more that it was killed, so that the thread may live anew. Nothing makes one but
@@ -70,12 +88,14 @@ impl Note {
     }
 
     /// Notes that the thread was killed whose note it is.
-    pub(crate) fn kill(&self) -> Killed
-        ensures { result.thread ≡ self.now.thread }
+    pub(crate) fn kill(&self) -> Kill
+        ensures thread { result.thread ≡ self.now.thread }
+        ensures stage { result.stage ≡ Looked 0 }
     {
         self.killed.store(true, Ordering::SeqCst);
-        Killed {
+        Kill {
             thread: self.thread,
+            stage: KillStage::Looked(0),
         }
     }
 
@@ -103,7 +123,7 @@ impl Note {
     }
 }
 
-impl Killed {
+impl Kill {
     /// The thread.
     pub(crate) fn thread(&self) -> Tid
         ensures { result ≡ self.now.thread }
@@ -111,14 +131,41 @@ impl Killed {
         self.thread
     }
 
-    /// The thread was given a token, so that it wakes where it sleeps.
-    pub(crate) fn roused(self, given: Given) -> Tid
-        requires { given.thread ≡ self.thread }
-        ensures { result ≡ self.thread }
+    /// Takes the thread out of the next bucket's queues.
+    pub(crate) fn look(&mut self, held: &mut Held<'_>)
+        requires few { held.old.number < 256 }
+        requires next { self.old.stage ≡ Looked held.old.number }
+        ensures removes { (stood : _)
+            × Removes (mutex_guard_value held.old.bucket) (mutex_guard_value held.new.bucket) self.old.thread stood }
+        ensures orderly { IsOrderly (mutex_guard_value held.new.bucket) }
+        ensures thread { self.new.thread ≡ self.old.thread }
+        ensures stage { self.new.stage ≡ Looked (held.old.number + 1) }
+    {
+        remove_in(&mut held.bucket, self);
+        self.stage = KillStage::Looked(held.number() + 1);
+    }
+
+    /// The thread, which was looked for in each bucket, was given a token.
+    pub(crate) fn rouse(&mut self, given: Given)
+        requires thread { given.thread ≡ self.old.thread }
+        requires stage { self.old.stage ≡ Looked 256 }
+        ensures thread { self.new.thread ≡ self.old.thread }
+        ensures stage { self.new.stage ≡ Ended }
     {
         let _given = given;
-        let Killed { thread } = self;
-        thread
+        self.stage = KillStage::Ended;
+    }
+
+    /// It came to its end, and is the kill of this thread.
+    pub(super) fn over(self, thread: Tid)
+        requires thread { self.thread ≡ thread }
+        requires stage { self.stage ≡ Ended }
+    {
+        let _thread = thread;
+        let Kill {
+            thread: _,
+            stage: _,
+        } = self;
     }
 }
 
