@@ -5,10 +5,11 @@
 -- changed nothing it has seen that, if the point's reply is what the call returns. Each trace that shows the lines has
 -- such a state (`Follows`): so where there is none, no trace shows them. And each thread owns as many mutexes as its
 -- lines say.
-use Rattle.std.specs.Prelude.{ℕ, ◌≡◌, ◌≢◌, ◌<◌, ◌==◌, ◌⊎◌, Bool, true, Option, Some, List, [], ◌∷◌, length}
+use Rattle.std.specs.Prelude.{ℕ, ◌≡◌, ◌≢◌, ◌+◌, ◌<◌, ◌==◌, ◌⊎◌, Bool, true, Option, Some, List, [], ◌∷◌, length}
 use Rattle.std.specs.Prelude.{Contains, MatchBool, slice_set, if◌then◌else◌}
 use Rattle.std.specs.Option.{is_some}
 use Rattle.lockword.specs.declared.reply.Reply.{Reply}
+use Rattle.lockword.specs.Threads.{most_threads}
 use Rattle.posixmutex.specs.Histories.{held_by}
 use Rattle.facts.specs.declared.fact.Begun.{Begun}
 use Rattle.facts.specs.declared.fact.Fact.TheVariants.{Begin, Kill, Return, Reap}
@@ -88,19 +89,19 @@ Goes m stage turn c = Unit {0}
 -- the state stands for what this trace has made of mutex m
 pub record StandsFor (m : ℕ) (ts : List Turn) (trace : List Line) (s : State) : Type 0 where
   pub object : s.object ≡ objects_after trace m
-  pub long : length s.calls ≡ 65
+  pub long : length s.calls ≡ most_threads + 1
   pub calls : (t : ℕ) → Goes m (stage_after t trace) (turn_at ts t) (call_at s.calls t)
 
 -- behind these lines of a history of n mutexes, which stand newest first, before those later ones
 pub record Follows (n : ℕ) (h future : List Entry) (r : Refuter) : Type 0 where
-  pub long : length r.turns ≡ 65
+  pub long : length r.turns ≡ most_threads + 1
   pub nobody : turn_at r.turns 0 ≡ turn.Resting
   pub knows : (t : ℕ) (k : Begun) (x : Option Reply) → turn_at r.turns t ≡ turn.Calling k x → x ≡ reply_in t future
   pub turned : (d : ℕ → Bool) (trace : List Line) → Certifies n d trace h → (t : ℕ)
       → Turned (turn_at r.turns t) (stage_after t trace) (d t)
   pub stands : (d : ℕ → Bool) (trace : List Line) → Certifies n d trace h
       → (s : State) × Contains r.states.items s × StandsFor r.mutex r.turns trace s
-  pub holds : length r.held ≡ 65
+  pub holds : length r.held ≡ most_threads + 1
   pub counted : (d : ℕ → Bool) (trace : List Line) → Certifies n d trace h → (t : ℕ)
       → Counted (stage_after t trace) (held_by t (objects_after trace) n) (count_at r.held t)
   pub closed : IsClosed r.mutex r.turns r.states.items

@@ -5,10 +5,10 @@ ghost use Rattle.refuting.specs.States.{Covered};
 ghost use Rattle.refuting.specs.Steps.{AreNoted, FollowsCall, FollowsDeath, FollowsReply, FollowsThread};
 ghost use Rattle.refuting.specs.Steps.{Grows, IsClosed, IsFollowed};
 
-use crate::state::{IDS, MOST_THREADS, State, add};
+use crate::state::{IDS, State, add};
 use crate::steps::{acted, died, noted, thread_after};
 use crate::turn::Turn;
-use lockword::{Reply, Tid};
+use lockword::{MOST_THREADS, Reply, Tid};
 use posixmutex::Operation;
 use std::alloc::AllocError;
 

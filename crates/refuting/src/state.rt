@@ -3,15 +3,12 @@
 ghost use Rattle.std.specs.Prelude.{◌≡◌, ◌⊎◌, ◌↔◌, [], ◌∷◌, ◌++◌, true, IfOk, IsTrue};
 ghost use Rattle.refuting.specs.States.{Covered, Covers, HasAll};
 
-use lockword::Reply;
+use lockword::{MOST_THREADS, Reply};
 use posixmutex::Object;
 use std::alloc::AllocError;
 
-/// How many threads there are at a time, at most.
-pub const MOST_THREADS: u8 = 64;
-
 /// How many places there are where things are kept by threads' ids: 0 is no thread's.
-pub const IDS: usize = 65;
+pub const IDS: usize = MOST_THREADS as usize + 1;
 
 /// What the points of a call have made of its mutex.
 #[derive(Clone, Copy, Debug, PartialEq, Eq)]

@@ -1,16 +1,17 @@
 //! What may happen at a state: points that change the mutex, points that change nothing, and deaths.
 
 ghost use Rattle.std.specs.Prelude.{◌≡◌, ◌↔◌, ◌+◌, ◌<◌, IsTrue, MatchOption};
+ghost use Rattle.lockword.specs.Threads.{most_threads};
 ghost use Rattle.posixmutex.specs.declared.object.Object.{Object};
 ghost use Rattle.refuting.specs.Steps.{IsNoted, MayChange, MayDie, MayLook, MayRelease, Sees, after_change};
 ghost use Rattle.refuting.specs.Steps.{changed, died, next_change, next_look, over, with_sight};
 ghost use Rattle.refuting.specs.States.{Covers};
 ghost use Rattle.refuting.specs.Turns.{turn_at};
 
-use crate::state::{Call, FIRST_CALL, IDS, MOST_THREADS, Made, State};
+use crate::state::{Call, FIRST_CALL, IDS, Made, State};
 use crate::turn::Turn;
 use facts::Begun;
-use lockword::{Reply, Tid};
+use lockword::{MOST_THREADS, Reply, Tid};
 use posixmutex::{HELD_LIMIT, Object, Operation};
 
 /// The operation of the next point that changes the mutex; None where there is none any more.
@@ -99,7 +100,7 @@ fn looks(state: &State, thread: Tid, call: Operation, reply: Reply) -> bool
 
 /// The thread that comes after so many.
 pub fn thread_after(before: u8) -> Tid
-    requires { before < 64 }
+    requires { before < most_threads }
     ensures { result ≡ before + 1 }
 {
     match Tid::new(before + 1) {
