@@ -14,7 +14,7 @@ use Rattle.ruledwords.specs.declared.turn.Running.{Running}
 use Rattle.ruledwords.specs.declared.turn.Turn.TheVariants.{Goes}
 use Rattle.ruledwords.specs.Fates.{Heeds}
 use Rattle.ruledwords.specs.Passes.{layout_of}
-use Rattle.ruledwords.specs.Stretches.{ComesOn, ComesToEnd, StepsOn, StepsTo}
+use Rattle.ruledwords.specs.Stretches.{ComesOn, ComesToEnd, StepsTo}
 use Rattle.ruledwords.specs.Turns.{access_in, running_call, running_pass, EndsIn, IsCallOf, IsInNonblocking, IsOneStep, IsUnderWay, Turned, IsNonblocking, stops_with, stops_within}
 use Rattle.ruledwords.proofs.Ranks.{rank_in, turn_falls}
 use Rattle.ruledwords.proofs.StepsOfCalls.{try_step, consistent_step}
@@ -35,15 +35,6 @@ after w a p b q d (end.Replied y) first ends = ((λ x call is. ends.0 x call (fi
 pub handed_on : (w : Words) (a : Pass Live) (p : Whole) (b : Pass Live) (r : Result Whole End) (e : End) → IsErrAnd r (λ y. y ≡ e) → ComesToEnd w a p b e → StepsTo w a p b r
 handed_on w a p b (Ok q) e is ends = absurd is
 handed_on w a p b (Err y) e is ends = subst (ComesToEnd w a p b) (sym is) ends
-
--- accesses, and more of them
-pub steps_further : (w : Words) (a : Pass Live) (p : Whole) (b : Pass Live) (q : Whole) (d : Pass Live) (s : Whole) (r : Result Unit End) → ComesOn w a p b q → StepsOn w b q d s r → StepsOn w a p d s r
-steps_further w a p b q d s (Ok u) first more = comes_further w a p b q d s first more
-steps_further w a p b q d s (Err e) first more = after w a p b q d e first more
-
--- and a `?` hands on how these ended
-pub ends_further : (w : Words) (a : Pass Live) (p : Whole) (b : Pass Live) (q : Whole) (d : Pass Live) (r : Result Whole End) (e : End) → ComesOn w a p b q → ComesToEnd w b q d e → IsErrAnd r (λ y. y ≡ e) → StepsTo w a p d r
-ends_further w a p b q d r e first more is = handed_on w a p d r e is (after w a p b q d e first more)
 
 pub counts_on : {A : Type 0} (r : Result A End) (e : End) (n m : ℕ) → IsErrAnd r (λ y. y ≡ e) → n ≡ m + stops_with e → n ≡ m + stops_within r
 counts_on (Ok q) e n m is counted = absurd is

@@ -41,7 +41,7 @@ ComesToEnd w a p b end.Stopped = (q : Whole) × ComesOn w a p b q
 ComesToEnd w a p b (end.Replied y) = EndsIn w a p b (end.Replied y)
     × ((m : ℕ) (c : Card) (x : Reply) → IsDecidedIn w m c x a p → GoesOnDecided w m c x (Lives b y))
 
--- an access was made, or some were; or the call stays at its section; or it ended
+-- an access was made, or the call stays at its section, or it ended
 abbrev pub StepsOn : Words → Pass Live → Whole → Pass Live → Whole → Result Unit End → Type 0
 StepsOn w a p b q (Ok u) = ComesOn w a p b q
 StepsOn w a p b q (Err e) = ComesToEnd w a p b e

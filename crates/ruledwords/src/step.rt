@@ -108,42 +108,6 @@ impl Words {
         }
     }
 
-    /// Makes the call's next two accesses, as [`Words::step`] makes one.
-    #[inline(always)]
-    fn two_steps<F: Fate, N: Fate>(
-        &self,
-        pass: &mut Pass<Live>,
-        program: &mut Program,
-        fate: &mut F,
-        note: &mut N,
-    ) -> Result<(), End>
-        requires { IsCallOf self.now pass.old program.old }
-        ensures steps { StepsOn self.now pass.old program.old pass.new program.new result }
-        ensures fate { Heeds (F.stopped fate.old) (F.stopped fate.new) (N.stopped note.old) (N.stopped note.new)
-            (stops_within result) }
-    {
-        self.step(pass, program, fate, note)?;
-        self.step(pass, program, fate, note)
-    }
-
-    /// Makes its next three.
-    #[inline(always)]
-    fn three_steps<F: Fate, N: Fate>(
-        &self,
-        pass: &mut Pass<Live>,
-        program: &mut Program,
-        fate: &mut F,
-        note: &mut N,
-    ) -> Result<(), End>
-        requires { IsCallOf self.now pass.old program.old }
-        ensures steps { StepsOn self.now pass.old program.old pass.new program.new result }
-        ensures fate { Heeds (F.stopped fate.old) (F.stopped fate.new) (N.stopped note.old) (N.stopped note.new)
-            (stops_within result) }
-    {
-        self.two_steps(pass, program, fate, note)?;
-        self.step(pass, program, fate, note)
-    }
-
     /// The accesses of a lock or trylock that nobody crosses, one after the other: so the compiler knows at each where
     /// the call stands. Of one that meets an owned or a changed cell some of them, of other calls none. It is here for
     /// speed alone: its contract lets it make fewer.
@@ -164,7 +128,8 @@ impl Words {
         if !B::begins(program.phase()) {
             return Ok(program);
         }
-        self.two_steps(pass, &mut program, fate, note)?;
+        self.step(pass, &mut program, fate, note)?;
+        self.step(pass, &mut program, fate, note)?;
         if !B::takes(program.phase()) {
             return Ok(program);
         }
@@ -172,8 +137,12 @@ impl Words {
         let Phase::Linking { .. } = program.phase() else {
             return Ok(program);
         };
-        self.three_steps(pass, &mut program, fate, note)?;
-        self.three_steps(pass, &mut program, fate, note)?;
+        self.step(pass, &mut program, fate, note)?;
+        self.step(pass, &mut program, fate, note)?;
+        self.step(pass, &mut program, fate, note)?;
+        self.step(pass, &mut program, fate, note)?;
+        self.step(pass, &mut program, fate, note)?;
+        self.step(pass, &mut program, fate, note)?;
         Ok(program)
     }
 
