@@ -1,5 +1,5 @@
 -- What is known where something was told, or wasn't.
-use Rattle.std.proofs.Common.{◌≡◌, ℕ, ◌<◌, Bool, List, [], ◌++◌, length, reverse, get_or, Option, Some, None, IfOk, IfSome, Result, Ok, Err, IsErr, refl, sym, ap, subst, ◌∙◌}
+use Rattle.std.proofs.Common.{◌≡◌, ℕ, ◌<◌, Bool, List, [], ◌++◌, length, reverse, get_or, Option, Some, None, IfSome, Result, Ok, Err, IsErr, refl, sym, ap, subst, ◌∙◌}
 use Rattle.std.specs.Prelude.{count_by, Vec}
 use Rattle.std.specs.declared.alloc.Global.{Global}
 use Rattle.std.specs.Prelude.{if◌then◌else◌, ◌==◌}
@@ -9,7 +9,6 @@ use Rattle.std.specs.Io.KnownBytes.{Appends, Keeps, prepend_known}
 use Rattle.std.proofs.lemmas.List.{reverse-reverse}
 use Rattle.streams.specs.Leaves.{AppendsFront, Leaves}
 use Rattle.streams.proofs.Writers.{Appends-kept, whole_is_front, leaves_front}
-use Rattle.histories.specs.declared.head.Head.{Head}
 use Rattle.histories.specs.declared.entry.Entry.{Entry}
 use Rattle.histories.specs.declared.entry.HistoryLine.{HistoryLine}
 use Rattle.certificates.specs.declared.waiting.Waiter.{Waiter}
@@ -19,15 +18,17 @@ use Rattle.judge.specs.declared.judging.Judgement.{Judgement}
 use Rattle.judge.specs.declared.judging.Judgement.TheVariants.{Legal, Illegal, Undecided}
 use Rattle.judge.specs.Judgements.{IsJudged, IsLegalBefore, IsNeverLegal}
 use Rattle.judge_report.specs.declared.messages.Failure.{Failure}
-use Rattle.judge_report.specs.declared.messages.Failure.TheVariants.{Usage, CannotRead, CannotWrite, CannotKeep, OutOfMemory, Ill}
+use Rattle.judge_report.specs.declared.messages.Failure.TheVariants.{Usage, CannotRead, CannotWrite, CannotKeep, TooMany, NoPlace, OutOfMemory, Ill}
 use Rattle.judge_report.specs.declared.reading.History.{History}
 use Rattle.judge_report.specs.declared.reading.ReadFault.{ReadFault}
 use Rattle.judge_report.specs.declared.reading.ReadFault.TheVariants as read
 use Rattle.judge_report.specs.Heard.{Heard, Gives, heard_of, history_read}
-use Rattle.judge_report.specs.Said.{AreNamed, IsFilled, IsSaid, IsWritten, Tells, named, status_of}
+use Rattle.judge_report.specs.declared.keeping.Cut.{Cut}
+use Rattle.judge_report.specs.Asked.{Kept}
+use Rattle.judge_report.specs.Kept.{IsFilled, IsUnkept}
+use Rattle.judge_report.specs.Said.{AreNamed, IsSaid, Tells, named, status_of}
 use Rattle.judge_report.specs.Served.{Fails, IsRead, Serves, ServesFront, Unread, failed_by}
-use Rattle.judge_report.specs.Texts.{illegal_text, legal_text, undecided_text, waiters_text}
-use Rattle.windows.specs.Texts.{certificate_text}
+use Rattle.judge_report.specs.Texts.{cuts_text, illegal_text, legal_text, undecided_text, waiters_text}
 use Rattle.judge_report.proofs.Saying.{is_first_illegal, is_legal, is_legal_before}
 
 -- whatever came of a text and of what was done then, a beginning of it stands, if that kept it
@@ -37,30 +38,30 @@ leaves_is_front a b c (Err e) text h k = (h.0, Appends-kept a b c _ h.1 k)
 
 -- ---- what is said
 
-legal_so : (waiting : Bool) (h : History) (steps : List Entry) (points : ℕ) (ws : List Waiter) → points ≡ count_by is_point_step steps → ws ≡ named waiting steps
-    → legal_text points ++ waiters_text h.lines.items ws ≡ legal_text (count_by is_point_step steps) ++ waiters_text (reverse (heard_of h).seen) (named waiting steps)
-legal_so waiting h steps points ws count names =
-    ap (λ (n : ℕ). legal_text n ++ waiters_text h.lines.items ws) count
-    ∙ ap (λ (us : List Waiter). legal_text (count_by is_point_step steps) ++ waiters_text h.lines.items us) names
-    ∙ ap (λ (ls : List HistoryLine). legal_text (count_by is_point_step steps) ++ waiters_text ls (named waiting steps)) (sym (reverse-reverse h.lines.items))
+legal_so : (waiting : Bool) (h : History) (steps : List Entry) (points : ℕ) (cs : List Cut) (ws : List Waiter) → points ≡ count_by is_point_step steps → ws ≡ named waiting steps
+    → legal_text points ++ (cuts_text cs ++ waiters_text h.lines.items ws) ≡ legal_text (count_by is_point_step steps) ++ (cuts_text cs ++ waiters_text (reverse (heard_of h).seen) (named waiting steps))
+legal_so waiting h steps points cs ws count names =
+    ap (λ (n : ℕ). legal_text n ++ (cuts_text cs ++ waiters_text h.lines.items ws)) count
+    ∙ ap (λ (us : List Waiter). legal_text (count_by is_point_step steps) ++ (cuts_text cs ++ waiters_text h.lines.items us)) names
+    ∙ ap (λ (ls : List HistoryLine). legal_text (count_by is_point_step steps) ++ (cuts_text cs ++ waiters_text ls (named waiting steps))) (sym (reverse-reverse h.lines.items))
 
-pub tells_legal : {E : Type 0} (waiting : Bool) (h : History) (j : Judgement) (steps : Vec Entry Global) (points : ℕ) (ws : List Waiter) (old new : Option (List ℕ)) (r : Result (Unit {0}) E) → j ≡ Legal steps
-    → IsJudged h.head h.lines.items j → AreNamed waiting j ws → points ≡ count_by is_point_step steps.items → Leaves old new r (legal_text points ++ waiters_text h.lines.items ws) → Tells waiting (heard_of h) j old new r
-tells_legal waiting h j steps points ws old new r is judged names count leaves =
+pub tells_legal : {E : Type 0} (waiting : Bool) (h : History) (j : Judgement) (steps : Vec Entry Global) (points : ℕ) (cs : List Cut) (ws : List Waiter) (old new : Option (List ℕ)) (r : Result (Unit {0}) E) → j ≡ Legal steps
+    → IsJudged h.head h.lines.items j → AreNamed waiting j ws → points ≡ count_by is_point_step steps.items → Leaves old new r (legal_text points ++ (cuts_text cs ++ waiters_text h.lines.items ws)) → Tells waiting (heard_of h) j cs old new r
+tells_legal waiting h j steps points cs ws old new r is judged names count leaves =
     let so : ws ≡ named waiting steps.items = subst (λ (k : Judgement). AreNamed waiting k ws) is names in
-    subst (λ (k : Judgement). Tells waiting (heard_of h) k old new r) (sym is)
-    (legal_text points ++ waiters_text h.lines.items ws, (is_legal h steps.items (subst (IsJudged h.head h.lines.items) is judged), legal_so waiting h steps.items points ws count so), leaves)
+    subst (λ (k : Judgement). Tells waiting (heard_of h) k cs old new r) (sym is)
+    (legal_text points ++ (cuts_text cs ++ waiters_text h.lines.items ws), (is_legal h steps.items (subst (IsJudged h.head h.lines.items) is judged), legal_so waiting h steps.items points cs ws count so), leaves)
 
-pub tells_illegal : {E : Type 0} (waiting : Bool) (h : History) (j : Judgement) (at : ℕ) (why : Refusal) (l : HistoryLine) (old new : Option (List ℕ)) (r : Result (Unit {0}) E) → j ≡ Illegal at why → IsJudged h.head h.lines.items j
-    → l ≡ get_or h.lines.items at l → Leaves old new r (illegal_text h.lines.items l why) → Tells waiting (heard_of h) j old new r
-tells_illegal waiting h j at why l old new r is judged line leaves =
-    subst (λ (k : Judgement). Tells waiting (heard_of h) k old new r) (sym is)
+pub tells_illegal : {E : Type 0} (waiting : Bool) (h : History) (j : Judgement) (at : ℕ) (why : Refusal) (l : HistoryLine) (cs : List Cut) (old new : Option (List ℕ)) (r : Result (Unit {0}) E) → j ≡ Illegal at why → IsJudged h.head h.lines.items j
+    → l ≡ get_or h.lines.items at l → Leaves old new r (illegal_text h.lines.items l why) → Tells waiting (heard_of h) j cs old new r
+tells_illegal waiting h j at why l cs old new r is judged line leaves =
+    subst (λ (k : Judgement). Tells waiting (heard_of h) k cs old new r) (sym is)
     (illegal_text h.lines.items l why, (l, is_first_illegal h at l (subst (IsJudged h.head h.lines.items) is judged) line, ap (λ (ls : List HistoryLine). illegal_text ls l why) (sym (reverse-reverse h.lines.items))), leaves)
 
-pub tells_undecided : {E : Type 0} (waiting : Bool) (h : History) (j : Judgement) (at : ℕ) (l : HistoryLine) (old new : Option (List ℕ)) (r : Result (Unit {0}) E) → j ≡ Undecided at → IsJudged h.head h.lines.items j
-    → l ≡ get_or h.lines.items at l → Leaves old new r (undecided_text l) → Tells waiting (heard_of h) j old new r
-tells_undecided waiting h j at l old new r is judged line leaves =
-    subst (λ (k : Judgement). Tells waiting (heard_of h) k old new r) (sym is)
+pub tells_undecided : {E : Type 0} (waiting : Bool) (h : History) (j : Judgement) (at : ℕ) (l : HistoryLine) (cs : List Cut) (old new : Option (List ℕ)) (r : Result (Unit {0}) E) → j ≡ Undecided at → IsJudged h.head h.lines.items j
+    → l ≡ get_or h.lines.items at l → Leaves old new r (undecided_text l) → Tells waiting (heard_of h) j cs old new r
+tells_undecided waiting h j at l cs old new r is judged line leaves =
+    subst (λ (k : Judgement). Tells waiting (heard_of h) k cs old new r) (sym is)
     (undecided_text l, (l, is_legal_before h at l (subst (IsJudged h.head h.lines.items) is judged) line, refl), leaves)
 
 pub illegal_within : (h : History) (j : Judgement) (at : ℕ) (why : Refusal) → j ≡ Illegal at why → IsJudged h.head h.lines.items j → at < length h.lines.items
@@ -70,14 +71,14 @@ pub undecided_within : (h : History) (j : Judgement) (at : ℕ) → j ≡ Undeci
 undecided_within h j at is judged = let before : IsLegalBefore h.head h.lines.items at = subst (IsJudged h.head h.lines.items) is judged in before.0
 
 -- what was told stays, if what came then kept it
-pub kept_whole : (waiting : Bool) (k : Heard) (j : Judgement) (a b c : Option (List ℕ)) → (text : List ℕ) × IsSaid waiting k j text × Appends a b text → Keeps b c → (text : List ℕ) × IsSaid waiting k j text × Appends a c text
-kept_whole waiting k j a b c t keeps = (t.0, t.1, Appends-kept a b c t.0 t.2 keeps)
+pub kept_whole : (waiting : Bool) (k : Heard) (j : Judgement) (cs : List Cut) (a b c : Option (List ℕ)) → (text : List ℕ) × IsSaid waiting k j cs text × Appends a b text → Keeps b c → (text : List ℕ) × IsSaid waiting k j cs text × Appends a c text
+kept_whole waiting k j cs a b c t keeps = (t.0, t.1, Appends-kept a b c t.0 t.2 keeps)
 
-pub kept_front : (waiting : Bool) (k : Heard) (j : Judgement) (a b c : Option (List ℕ)) → (text : List ℕ) × IsSaid waiting k j text × Appends a b text → Keeps b c → (text : List ℕ) × IsSaid waiting k j text × AppendsFront a c text
-kept_front waiting k j a b c t keeps = (t.0, t.1, whole_is_front a c t.0 (Appends-kept a b c t.0 t.2 keeps))
+pub kept_front : (waiting : Bool) (k : Heard) (j : Judgement) (cs : List Cut) (a b c : Option (List ℕ)) → (text : List ℕ) × IsSaid waiting k j cs text × Appends a b text → Keeps b c → (text : List ℕ) × IsSaid waiting k j cs text × AppendsFront a c text
+kept_front waiting k j cs a b c t keeps = (t.0, t.1, whole_is_front a c t.0 (Appends-kept a b c t.0 t.2 keeps))
 
-pub tells_err : {E : Type 0} (waiting : Bool) (k : Heard) (j : Judgement) (a b : Option (List ℕ)) (r : Result (Unit {0}) E) → IsErr r → (text : List ℕ) × IsSaid waiting k j text × AppendsFront a b text → Tells waiting k j a b r
-tells_err waiting k j a b r err t = (t.0, t.1, leaves_front a b r t.0 err t.2)
+pub tells_err : {E : Type 0} (waiting : Bool) (k : Heard) (j : Judgement) (cs : List Cut) (a b : Option (List ℕ)) (r : Result (Unit {0}) E) → IsErr r → (text : List ℕ) × IsSaid waiting k j cs text × AppendsFront a b text → Tells waiting k j cs a b r
+tells_err waiting k j cs a b r err t = (t.0, t.1, leaves_front a b r t.0 err t.2)
 
 -- ---- what was read
 
@@ -106,33 +107,32 @@ pub is_unread : {T : Type 0} (remaining : T → Option (List ℕ)) (r : BufReade
 is_unread remaining r input e f inner empty capacity gives is =
     subst (Unread (remaining input)) (sym is) (unread_by (remaining input) e (subst (λ (o : Option (List ℕ)). IfSome o (λ bytes. Gives (history_read bytes) (Err e))) (buffered remaining r input inner empty capacity) gives))
 
-pub unread_fails : (waiting : Bool) (had old : Option (List ℕ)) (f : Failure) → Unread had f → Fails waiting had old old f
-unread_fails waiting had old Usage h = h
-unread_fails waiting had old CannotRead h = refl
-unread_fails waiting had old CannotWrite h = absurd h
-unread_fails waiting had old CannotKeep h = absurd h
-unread_fails waiting had old OutOfMemory h = refl
-unread_fails waiting had old (Ill f) h = (refl, h)
+pub unread_fails : (Makes Fills : List ℕ → Option (List ℕ) → Type 0) (waiting : Bool) (kept : Kept) (had old : Option (List ℕ)) (f : Failure) → Unread had f → Fails Makes Fills waiting kept had old old f
+unread_fails Makes Fills waiting kept had old Usage h = h
+unread_fails Makes Fills waiting kept had old CannotRead h = refl
+unread_fails Makes Fills waiting kept had old CannotWrite h = absurd h
+unread_fails Makes Fills waiting kept had old CannotKeep h = absurd h
+unread_fails Makes Fills waiting kept had old TooMany h = absurd h
+unread_fails Makes Fills waiting kept had old NoPlace h = absurd h
+unread_fails Makes Fills waiting kept had old OutOfMemory h = refl
+unread_fails Makes Fills waiting kept had old (Ill f) h = (refl, h)
+
+pub unkept_fails : (Makes Fills : List ℕ → Option (List ℕ) → Type 0) (waiting : Bool) (kept : Kept) (had old : Option (List ℕ)) (f : Failure) → IsUnkept f → Fails Makes Fills waiting kept had old old f
+unkept_fails Makes Fills waiting kept had old Usage h = absurd h
+unkept_fails Makes Fills waiting kept had old CannotRead h = absurd h
+unkept_fails Makes Fills waiting kept had old CannotWrite h = absurd h
+unkept_fails Makes Fills waiting kept had old CannotKeep h = refl
+unkept_fails Makes Fills waiting kept had old TooMany h = refl
+unkept_fails Makes Fills waiting kept had old NoPlace h = refl
+unkept_fails Makes Fills waiting kept had old OutOfMemory h = refl
+unkept_fails Makes Fills waiting kept had old (Ill f) h = absurd h
 
 -- ---- the whole
 
-pub serves : (Makes Fills : List ℕ → Option (List ℕ) → Type 0) (waiting : Bool) (out had old new : Option (List ℕ)) (k : Heard) (j : Judgement) (status : ℕ) → IsRead had k → IsFilled Makes Fills out k j
-    → (text : List ℕ) × IsSaid waiting k j text × Appends old new text → status ≡ status_of j → Serves Makes Fills waiting out had old new status
-serves Makes Fills waiting out had old new k j status read filled t exit = record { heard = k; read = read; judgement = j; text = t.0; said = t.1; written = t.2; exit = exit; filled = filled }
+pub serves : (Makes Fills : List ℕ → Option (List ℕ) → Type 0) (waiting : Bool) (kept : Kept) (had old new : Option (List ℕ)) (k : Heard) (j : Judgement) (cs : List Cut) (status : ℕ) → IsRead had k → IsFilled Makes Fills kept k j cs
+    → (text : List ℕ) × IsSaid waiting k j cs text × Appends old new text → status ≡ status_of j → Serves Makes Fills waiting kept had old new status
+serves Makes Fills waiting kept had old new k j cs status read filled t exit = record { heard = k; read = read; judgement = j; cuts = cs; filled = filled; text = t.0; said = t.1; written = t.2; exit = exit }
 
-pub serves_front : (waiting : Bool) (had old new : Option (List ℕ)) (k : Heard) (j : Judgement) → IsRead had k → (text : List ℕ) × IsSaid waiting k j text × AppendsFront old new text → ServesFront waiting had old new
-serves_front waiting had old new k j read t = record { heard = k; read = read; judgement = j; text = t.0; said = t.1; written = t.2 }
-
--- ---- certificates
-
-pub written_so : {E : Type 0} (Makes Fills : List ℕ → Option (List ℕ) → Type 0) (name : List ℕ) (h : Head) (steps : List Entry) (a b : Option (List ℕ)) (r : Result (Unit {0}) E) → Makes name a → Appends a b (certificate_text h steps)
-    → IfOk r (λ _. Fills name b) → IfOk r (λ _. IsWritten Makes Fills name h steps)
-written_so Makes Fills name h steps a b (Ok u) makes text fills = record { made = a; filled = b; makes = makes; fills = fills; text = text }
-written_so Makes Fills name h steps a b (Err e) makes text fills = tt
-
--- a certificate that was asked for
-pub filled_so : {E : Type 0} (Makes Fills : List ℕ → Option (List ℕ) → Type 0) (out : Option (List ℕ)) (name : List ℕ) (k : Heard) (j : Judgement) (steps : Vec Entry Global) (r : Result (Unit {0}) E) → out ≡ Some name → j ≡ Legal steps
-    → IfOk r (λ _. IsWritten Makes Fills name k.head steps.items) → IfOk r (λ _. IsFilled Makes Fills out k j)
-filled_so Makes Fills out name k j steps r is legal holds =
-    subst (λ (o : Option (List ℕ)). IfOk r (λ _. IsFilled Makes Fills o k j)) (sym is)
-    (subst (λ (q : Judgement). IfOk r (λ _. IsFilled Makes Fills (Some name) k q)) (sym legal) holds)
+pub serves_front : (Makes Fills : List ℕ → Option (List ℕ) → Type 0) (waiting : Bool) (kept : Kept) (had old new : Option (List ℕ)) (k : Heard) (j : Judgement) (cs : List Cut) → IsRead had k → IsFilled Makes Fills kept k j cs
+    → (text : List ℕ) × IsSaid waiting k j cs text × AppendsFront old new text → ServesFront Makes Fills waiting kept had old new
+serves_front Makes Fills waiting kept had old new k j cs read filled t = record { heard = k; read = read; judgement = j; cuts = cs; filled = filled; text = t.0; said = t.1; written = t.2 }

@@ -3,3 +3,4 @@ pub mod Lines
 pub mod Taking
 pub mod Saying
 pub mod Ends
+pub mod Filing

@@ -1,41 +1,65 @@
 -- The forms of a command line.
-use Rattle.std.specs.Prelude.{ℕ, Bool, true, false, ◌&&◌, List, [], ◌∷◌, codes, Option, Some, None, option_map}
+use Rattle.std.specs.Prelude.{ℕ, Bool, true, false, List, [], ◌∷◌, codes, Option, Some, None}
 use Rattle.std.specs.Prelude.{if◌then◌else◌}
 use Rattle.std.specs.Str.{bytes_eq}
 use Rattle.judge_report.specs.declared.asking.Form.{Form}
 use Rattle.judge_report.specs.declared.asking.Form.TheVariants.{History, Usage}
+use Rattle.judge_report.specs.declared.asking.Keeping.{Keeping}
+use Rattle.judge_report.specs.declared.asking.Keeping.TheVariants as keeping
 use Rattle.streams.specs.Words.{is_file_word}
 
--- a judgement of the history in this file, whether with the calls that still wait and shouldn't, and its certificate in
--- another file, if one is named; or the usage
+-- where the certificate of a legal history is kept: nowhere; whole, in the file of this name; or in windows, each in a
+-- file whose name begins so
+pub data Kept : Type 0 where
+  Nowhere : Kept
+  Whole : List ℕ → Kept
+  Windows : List ℕ → Kept
+
+-- a judgement of the history in this file, whether with the calls that still wait and shouldn't, and where its
+-- certificate is kept; or the usage
 pub data Asked : Type 0 where
-  Judging : Bool → Option (List ℕ) → List ℕ → Asked
+  Judging : Bool → Kept → List ℕ → Asked
   Nothing : Asked
 
 -- the word asks for the calls that still wait and shouldn't
 abbrev pub is_waiting_word : List ℕ → Bool
 is_waiting_word word = bytes_eq word (codes "--waiting")
 
--- the words ask for a certificate in the file that the second names
-abbrev pub are_trace_words : List ℕ → List ℕ → Bool
-are_trace_words word out = bytes_eq word (codes "--trace") && is_file_word out
+-- where the words ask for a certificate to be kept, of which the second is a file's name
+abbrev pub place_words : List ℕ → List ℕ → Option Kept
+place_words word out = if is_file_word out
+    then
+    (if bytes_eq word (codes "--trace") then Some (Whole out)
+    else (if bytes_eq word (codes "--windows") then Some (Windows out) else None))
+    else None
 
 -- a judgement of the history in this file, if it is a file's name
-abbrev pub judging : Bool → Option (List ℕ) → List ℕ → Asked
-judging waiting out file = if is_file_word file then Judging waiting out file else Nothing
+abbrev pub judging : Bool → Kept → List ℕ → Asked
+judging waiting kept file = if is_file_word file then Judging waiting kept file else Nothing
 
--- what the words of a command line ask for, of which the first is the program's name: options, each once at most, in any
--- order, and the file's name
+-- the same, if the certificate is to be kept somewhere
+abbrev pub with_place : Bool → Option Kept → List ℕ → Asked
+with_place waiting (Some kept) file = judging waiting kept file
+with_place waiting None file = Nothing
+
+-- what the words of a command line ask for, of which the first is the program's name: options in any order, each once
+-- at most and the certificate kept in one place at most, and the file's name
 abbrev pub asked_of : List (List ℕ) → Asked
-asked_of (program ∷ file ∷ []) = judging false None file
-asked_of (program ∷ a ∷ file ∷ []) = if is_waiting_word a then judging true None file else Nothing
-asked_of (program ∷ a ∷ b ∷ file ∷ []) = if are_trace_words a b then judging false (Some b) file else Nothing
+asked_of (program ∷ file ∷ []) = judging false Nowhere file
+asked_of (program ∷ a ∷ file ∷ []) = if is_waiting_word a then judging true Nowhere file else Nothing
+asked_of (program ∷ a ∷ b ∷ file ∷ []) = with_place false (place_words a b) file
 asked_of (program ∷ a ∷ b ∷ c ∷ file ∷ []) =
-    if is_waiting_word a && are_trace_words b c then judging true (Some c) file
-    else (if are_trace_words a b && is_waiting_word c then judging true (Some b) file else Nothing)
+    if is_waiting_word a then with_place true (place_words b c) file
+    else (if is_waiting_word c then with_place true (place_words a b) file else Nothing)
 asked_of words = Nothing
+
+-- what a place to keep the certificate says
+abbrev pub kept_of : Keeping → Kept
+kept_of keeping.Nowhere = Nowhere
+kept_of (keeping.Whole name) = Whole name.now
+kept_of (keeping.Windows out) = Windows out.now
 
 -- what a form says
 abbrev pub asked_by : Form → Asked
-asked_by (History waiting out file) = Judging waiting (option_map (λ w. w.now) out) file.now
+asked_by (History waiting kept file) = Judging waiting (kept_of kept) file.now
 asked_by Usage = Nothing

@@ -5,7 +5,7 @@ use Rattle.histories.specs.declared.fault.HistoryFault.{HistoryFault}
 use Rattle.histories.specs.Faults.{number_of, words_of}
 use Rattle.judge_report.specs.declared.messages.Failure.{Failure}
 use Rattle.judge_report.specs.declared.messages.Failure.TheVariants.{Usage, CannotRead, CannotWrite, CannotKeep}
-use Rattle.judge_report.specs.declared.messages.Failure.TheVariants.{OutOfMemory, Ill}
+use Rattle.judge_report.specs.declared.messages.Failure.TheVariants.{TooMany, NoPlace, OutOfMemory, Ill}
 
 -- a fault of a history's text, and its line
 abbrev pub fault_text : List ℕ → ℕ → ℕ → List ℕ → List ℕ
@@ -17,10 +17,14 @@ history_fault_text at = fault_text (codes "rfx-judge: line ") at.line (number_of
 
 -- why the history in a file of this name wasn't judged, or that wasn't told
 abbrev pub failure_text : List ℕ → Failure → List ℕ
-failure_text file Usage = concat (codes "usage: rfx-judge [--waiting] [--trace OUT] FILE\n" ∷ [])
+failure_text file Usage = concat (codes "usage: rfx-judge [--waiting] [--trace OUT | --windows OUT] FILE\n" ∷ [])
 failure_text file CannotRead = concat (codes "rfx-judge: cannot read " ∷ file ∷ codes "\n" ∷ [])
 failure_text file CannotWrite = concat (codes "rfx-judge: cannot write\n" ∷ [])
 failure_text file CannotKeep = concat (codes "rfx-judge: cannot write the certificate\n" ∷ [])
+failure_text file TooMany = concat
+    (codes "rfx-judge: cannot cut the certificate: a window has at most 4096 mutexes and 256 condition variables\n" ∷ [])
+failure_text file NoPlace = concat
+    (codes "rfx-judge: cannot cut the certificate: no place was found\n" ∷ [])
 failure_text file OutOfMemory = concat (codes "rfx-judge: out of memory\n" ∷ [])
 failure_text file (Ill at) = history_fault_text at
 
@@ -30,5 +34,7 @@ failure_status Usage = 2
 failure_status CannotRead = 1
 failure_status CannotWrite = 1
 failure_status CannotKeep = 1
+failure_status TooMany = 1
+failure_status NoPlace = 1
 failure_status OutOfMemory = 1
 failure_status (Ill f) = 1

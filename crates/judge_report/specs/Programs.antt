@@ -1,8 +1,9 @@
 -- What the program does with the words of its command line.
 --
 -- *What `rfx-judge` did.* It read a history, and wrote what is said of it (`IsSaid`): that it is legal, which it then is,
--- and with `--waiting` which calls still wait and shouldn't; or up to which line it is. Before that it filled the file that `--trace` names with the certificate, where there is
--- one (`IsFilled`). Or it told why not.
+-- and with `--waiting` which calls still wait and shouldn't; or up to which line it is. Before that it kept the
+-- certificate, where there is one, in the file that `--trace` names, or in a file for each of its windows (`IsFilled`).
+-- Or it told why not.
 use Rattle.std.specs.Prelude.{ℕ, ◌≡◌, ◌⊎◌, Bool, List, [], Option}
 use Rattle.std.specs.Prelude.{Result, Ok, Err, Vec, String, map, string_bytes}
 use Rattle.std.specs.declared.io.Error.{Error}
@@ -12,7 +13,7 @@ use Rattle.std.specs.declared.io.ErrorKind.TheVariants as kind
 use Rattle.streams.specs.Leaves.{AppendsFront}
 use Rattle.judge_report.specs.declared.messages.Failure.{Failure}
 use Rattle.judge_report.specs.declared.messages.Failure.TheVariants.{Usage, CannotRead, OutOfMemory}
-use Rattle.judge_report.specs.Asked.{Asked, Judging, Nothing, asked_of}
+use Rattle.judge_report.specs.Asked.{Asked, Judging, Kept, Nothing, asked_of}
 use Rattle.judge_report.specs.Messages.{failure_text, failure_status}
 use Rattle.judge_report.specs.Served.{Fails, Serves}
 
@@ -34,12 +35,12 @@ IsTold file f told told' status = AppendsFront told told' (failure_text file f) 
 -- what is said, and nothing else was told; or it wasn't, or not all was said, and that is told; or the file couldn't be
 -- opened
 abbrev pub FileEnds : (List ℕ → Result (Option (List ℕ)) ErrorKind → Type 0) → (List ℕ → Option (List ℕ) → Type 0)
-    → (List ℕ → Option (List ℕ) → Type 0) → Bool → Option (List ℕ) → List ℕ → Option (List ℕ) → Option (List ℕ) → Type 0
-    → Type 0 → Option (List ℕ) → Option (List ℕ) → ℕ → Type 0
-FileEnds Opens Makes Fills waiting out file old new LetGo Quiet told told' status =
+    → (List ℕ → Option (List ℕ) → Type 0) → Bool → Kept → List ℕ → Option (List ℕ) → Option (List ℕ) → Type 0 → Type 0
+    → Option (List ℕ) → Option (List ℕ) → ℕ → Type 0
+FileEnds Opens Makes Fills waiting kept file old new LetGo Quiet told told' status =
     ((had : Option (List ℕ)) × Opens file (Ok had)
-    × ((Serves Makes Fills waiting out had old new status × LetGo × Quiet)
-    ⊎ ((f : Failure) × Fails waiting had old new f × IsTold file f told told' status)))
+    × ((Serves Makes Fills waiting kept had old new status × LetGo × Quiet)
+    ⊎ ((f : Failure) × Fails Makes Fills waiting kept had old new f × IsTold file f told told' status)))
     ⊎ ((e : ErrorKind) × Opens file (Err e) × (new ≡ old) × IsTold file (unopened_by e) told told' status)
 
 -- how a command line ended that asks for this
@@ -47,8 +48,8 @@ abbrev pub AskedEnds : (List ℕ → Result (Option (List ℕ)) ErrorKind → Ty
     → (List ℕ → Option (List ℕ) → Type 0) → Asked → Option (List ℕ) → Option (List ℕ) → Type 0 → Type 0
     → Option (List ℕ) → Option (List ℕ) → ℕ → Type 0
 AskedEnds Opens Makes Fills Nothing old new LetGo Quiet told told' status = (new ≡ old) × IsTold [] Usage told told' status
-AskedEnds Opens Makes Fills (Judging waiting out file) old new LetGo Quiet told told' status =
-    FileEnds Opens Makes Fills waiting out file old new LetGo Quiet told told' status
+AskedEnds Opens Makes Fills (Judging waiting kept file) old new LetGo Quiet told told' status =
+    FileEnds Opens Makes Fills waiting kept file old new LetGo Quiet told told' status
 
 -- how the program ended: as its command line asks; or memory for its words was wanted, and that is told
 abbrev pub RunEnds : (List ℕ → Result (Option (List ℕ)) ErrorKind → Type 0) → (List ℕ → Option (List ℕ) → Type 0)

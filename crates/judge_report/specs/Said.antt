@@ -1,13 +1,12 @@
 -- What the program says of a history, and what that means.
 --
 -- *What is said of a history.* `legal N points`: it is a legal history, with a certificate that has N points; behind that
--- are named the calls that the certificate leaves waiting and shouldn't, where they are asked for. `illegal at line L`: those of its lines that stand before line L are a legal history, and with line L they aren't. `undecided at
--- line L`: those before it are a legal history.
+-- is told which windows it was cut into, where it was, and the calls are named that the certificate leaves waiting and
+-- shouldn't, where they are asked for. `illegal at line L`: those of its lines that stand before line L are a legal
+-- history, and with line L they aren't. `undecided at line L`: those before it are a legal history.
 use Rattle.std.specs.Prelude.{ℕ, ◌≡◌, Bool, true, false, List, [], ◌∷◌, ◌++◌, map, reverse, count_by}
-use Rattle.std.specs.Prelude.{Option, Some, None, Result}
-use Rattle.std.specs.Io.KnownBytes.{Appends}
+use Rattle.std.specs.Prelude.{Option, Result}
 use Rattle.streams.specs.Leaves.{Leaves}
-use Rattle.histories.specs.declared.head.Head.{Head}
 use Rattle.histories.specs.declared.entry.Entry.{Entry}
 use Rattle.histories.specs.declared.entry.HistoryLine.{HistoryLine}
 use Rattle.histories.specs.Histories.{LegalHistory}
@@ -16,9 +15,9 @@ use Rattle.certificates.specs.Certificates.{IsCertificate, is_point_step}
 use Rattle.certificates.specs.Waiters.{waiters}
 use Rattle.judge.specs.declared.judging.Judgement.{Judgement}
 use Rattle.judge.specs.declared.judging.Judgement.TheVariants.{Legal, Illegal, Undecided}
+use Rattle.judge_report.specs.declared.keeping.Cut.{Cut}
 use Rattle.judge_report.specs.Heard.{Heard}
-use Rattle.judge_report.specs.Texts.{illegal_text, legal_text, undecided_text, waiters_text}
-use Rattle.windows.specs.Texts.{certificate_text}
+use Rattle.judge_report.specs.Texts.{cuts_text, illegal_text, legal_text, undecided_text, waiters_text}
 
 -- what lines tell
 abbrev pub told : List HistoryLine → List Entry
@@ -46,13 +45,15 @@ abbrev pub named : Bool → List Entry → List Waiter
 named true steps = waiters (reverse steps)
 named false steps = []
 
--- this is said of it, with the calls that still wait and shouldn't or without them
-abbrev pub IsSaid : Bool → Heard → Judgement → List ℕ → Type 0
-IsSaid waiting k (Legal steps) text = IsLegal k steps.items
-    × (text ≡ legal_text (count_by is_point_step steps.items) ++ waiters_text (reverse k.seen) (named waiting steps.items))
-IsSaid waiting k (Illegal at why) text =
+-- this is said of it, with the windows that its certificate was cut into, and with the calls that still wait and
+-- shouldn't or without them
+abbrev pub IsSaid : Bool → Heard → Judgement → List Cut → List ℕ → Type 0
+IsSaid waiting k (Legal steps) cuts text = IsLegal k steps.items
+    × (text ≡ legal_text (count_by is_point_step steps.items)
+    ++ (cuts_text cuts ++ waiters_text (reverse k.seen) (named waiting steps.items)))
+IsSaid waiting k (Illegal at why) cuts text =
     (line : HistoryLine) × IsFirstIllegal k line × (text ≡ illegal_text (reverse k.seen) line why)
-IsSaid waiting k (Undecided at) text = (line : HistoryLine) × IsLegalBefore k line × (text ≡ undecided_text line)
+IsSaid waiting k (Undecided at) cuts text = (line : HistoryLine) × IsLegalBefore k line × (text ≡ undecided_text line)
 
 -- these are the calls that are named of a history that is so judged
 abbrev pub AreNamed : Bool → Judgement → List Waiter → Type 0
@@ -66,24 +67,7 @@ status_of (Legal steps) = 0
 status_of (Illegal at why) = 1
 status_of (Undecided at) = 1
 
--- a file of this name was made, and filled with the certificate; Makes tells what it held then, Fills what at the end
-pub record IsWritten (Makes Fills : List ℕ → Option (List ℕ) → Type 0) (name : List ℕ) (h : Head) (steps : List Entry)
-    : Type 0 where
-  pub made : Option (List ℕ)
-  pub filled : Option (List ℕ)
-  pub makes : Makes name made
-  pub fills : Fills name filled
-  pub text : Appends made filled (certificate_text h steps)
-
--- so it was where a certificate was asked for, and there is one
-abbrev pub IsFilled : (List ℕ → Option (List ℕ) → Type 0) → (List ℕ → Option (List ℕ) → Type 0) → Option (List ℕ)
-    → Heard → Judgement → Type 0
-IsFilled Makes Fills None k j = Unit {0}
-IsFilled Makes Fills (Some name) k (Legal steps) = IsWritten Makes Fills name k.head steps.items
-IsFilled Makes Fills (Some name) k (Illegal at why) = Unit {0}
-IsFilled Makes Fills (Some name) k (Undecided at) = Unit {0}
-
 -- what is said of a history was written, or a beginning of it
-abbrev pub Tells : {E : Type 0} → Bool → Heard → Judgement → Option (List ℕ) → Option (List ℕ) → Result (Unit {0}) E
-    → Type 0
-Tells waiting k j old new r = (text : List ℕ) × IsSaid waiting k j text × Leaves old new r text
+abbrev pub Tells : {E : Type 0} → Bool → Heard → Judgement → List Cut → Option (List ℕ) → Option (List ℕ)
+    → Result (Unit {0}) E → Type 0
+Tells waiting k j cuts old new r = (text : List ℕ) × IsSaid waiting k j cuts text × Leaves old new r text

@@ -5,35 +5,42 @@ use Rattle.streams.specs.Leaves.{AppendsFront}
 use Rattle.judge.specs.declared.judging.Judgement.{Judgement}
 use Rattle.judge_report.specs.declared.messages.Failure.{Failure}
 use Rattle.judge_report.specs.declared.messages.Failure.TheVariants.{Usage, CannotRead, CannotWrite, CannotKeep}
-use Rattle.judge_report.specs.declared.messages.Failure.TheVariants.{OutOfMemory, Ill}
+use Rattle.judge_report.specs.declared.messages.Failure.TheVariants.{TooMany, NoPlace, OutOfMemory, Ill}
 use Rattle.judge_report.specs.declared.reading.ReadFault.{ReadFault}
 use Rattle.judge_report.specs.declared.reading.ReadFault.TheVariants as read
+use Rattle.judge_report.specs.declared.keeping.Cut.{Cut}
+use Rattle.judge_report.specs.Asked.{Kept}
 use Rattle.judge_report.specs.Heard.{Heard, history_read}
-use Rattle.judge_report.specs.Said.{IsFilled, IsSaid, status_of}
+use Rattle.judge_report.specs.Kept.{IsFilled}
+use Rattle.judge_report.specs.Said.{IsSaid, status_of}
 
 -- the bytes that a reader had, where they are known, are this history
 abbrev pub IsRead : Option (List ℕ) → Heard → Type 0
 IsRead had k = IfSome had (λ bytes. history_read bytes ≡ Ok k)
 
--- a history was read, judged, and that was told; before that its certificate was written, if it was to be
-pub record Serves (Makes Fills : List ℕ → Option (List ℕ) → Type 0) (waiting : Bool) (out had old new : Option (List ℕ))
-    (status : ℕ) : Type 0 where
+-- a history was read and judged, its certificate was kept, if it was to be, and that was told
+pub record Serves (Makes Fills : List ℕ → Option (List ℕ) → Type 0) (waiting : Bool) (kept : Kept)
+    (had old new : Option (List ℕ)) (status : ℕ) : Type 0 where
   pub heard : Heard
   pub read : IsRead had heard
   pub judgement : Judgement
+  pub cuts : List Cut
+  pub filled : IsFilled Makes Fills kept heard judgement cuts
   pub text : List ℕ
-  pub said : IsSaid waiting heard judgement text
+  pub said : IsSaid waiting heard judgement cuts text
   pub written : Appends old new text
   pub exit : status ≡ status_of judgement
-  pub filled : IsFilled Makes Fills out heard judgement
 
--- a beginning of what is said of a history that was read
-pub record ServesFront (waiting : Bool) (had old new : Option (List ℕ)) : Type 0 where
+-- the same, but only a beginning was told
+pub record ServesFront (Makes Fills : List ℕ → Option (List ℕ) → Type 0) (waiting : Bool) (kept : Kept)
+    (had old new : Option (List ℕ)) : Type 0 where
   pub heard : Heard
   pub read : IsRead had heard
   pub judgement : Judgement
+  pub cuts : List Cut
+  pub filled : IsFilled Makes Fills kept heard judgement cuts
   pub text : List ℕ
-  pub said : IsSaid waiting heard judgement text
+  pub said : IsSaid waiting heard judgement cuts text
   pub written : AppendsFront old new text
 
 -- the failure that a fault of reading is told as
@@ -48,15 +55,20 @@ Unread had Usage = ⊥
 Unread had CannotRead = Unit {0}
 Unread had CannotWrite = ⊥
 Unread had CannotKeep = ⊥
+Unread had TooMany = ⊥
+Unread had NoPlace = ⊥
 Unread had OutOfMemory = Unit {0}
 Unread had (Ill f) = IfSome had (λ bytes. history_read bytes ≡ Err f)
 
 -- why nothing was told of a history, or not all: it couldn't be read, or memory was wanted, or the certificate couldn't
--- be written, or the bytes have this fault, before anything was told; or a write failed, behind a beginning
-abbrev pub Fails : Bool → Option (List ℕ) → Option (List ℕ) → Option (List ℕ) → Failure → Type 0
-Fails waiting had old new Usage = ⊥
-Fails waiting had old new CannotRead = new ≡ old
-Fails waiting had old new CannotWrite = ServesFront waiting had old new
-Fails waiting had old new CannotKeep = new ≡ old
-Fails waiting had old new OutOfMemory = new ≡ old
-Fails waiting had old new (Ill f) = (new ≡ old) × IfSome had (λ bytes. history_read bytes ≡ Err f)
+-- be written or cut, or the bytes have this fault, before anything was told; or a write failed, behind a beginning
+abbrev pub Fails : (List ℕ → Option (List ℕ) → Type 0) → (List ℕ → Option (List ℕ) → Type 0) → Bool → Kept
+    → Option (List ℕ) → Option (List ℕ) → Option (List ℕ) → Failure → Type 0
+Fails Makes Fills waiting kept had old new Usage = ⊥
+Fails Makes Fills waiting kept had old new CannotRead = new ≡ old
+Fails Makes Fills waiting kept had old new CannotWrite = ServesFront Makes Fills waiting kept had old new
+Fails Makes Fills waiting kept had old new CannotKeep = new ≡ old
+Fails Makes Fills waiting kept had old new TooMany = new ≡ old
+Fails Makes Fills waiting kept had old new NoPlace = new ≡ old
+Fails Makes Fills waiting kept had old new OutOfMemory = new ≡ old
+Fails Makes Fills waiting kept had old new (Ill f) = (new ≡ old) × IfSome had (λ bytes. history_read bytes ≡ Err f)

@@ -13,6 +13,7 @@ use Rattle.completing.specs.declared.stop.OutOfTurn.{OutOfTurn}
 use Rattle.completing.specs.declared.stop.OutOfTurn.TheVariants.{InCall, NoCall, Dead, Reaped, Alive, NotReaped}
 use Rattle.completing.specs.declared.stop.Refusal.{Refusal}
 use Rattle.completing.specs.declared.stop.Refusal.TheVariants as refusal
+use Rattle.judge_report.specs.declared.keeping.Cut.{Cut}
 
 -- ---- lines of a history
 
@@ -36,6 +37,15 @@ quote l = concat (codes "  | " ∷ []) ++ entry_text l.event l.entry
 
 abbrev pub legal_text : ℕ → List ℕ
 legal_text points = concat (codes "legal " ∷ decimal points ∷ codes " points\n" ∷ [])
+
+-- which of the certificate's events a window has, and how many of its own stand before them
+abbrev pub cut_text : Cut → List ℕ
+cut_text c = concat
+    (codes "window " ∷ decimal c.number ∷ codes ": events behind " ∷ decimal c.before ∷ codes ", up to "
+    ∷ decimal c.last ∷ codes "; before them " ∷ decimal c.preamble ∷ codes " of its own\n" ∷ [])
+
+abbrev pub cuts_text : List Cut → List ℕ
+cuts_text cs = concat (map cut_text cs)
 
 -- the line that the mutex has had no owner since: the last before it was left, if it ever was
 abbrev pub since_line : List HistoryLine → Option ℕ → Option HistoryLine

@@ -1,17 +1,27 @@
 //! What the words of a command line ask for.
 
 ghost use Rattle.std.specs.Prelude.{◌≡◌, map, option_map};
-ghost use Rattle.judge_report.specs.Asked.{are_trace_words, asked_by, asked_of, is_waiting_word, judging};
+ghost use Rattle.judge_report.specs.Asked.{asked_by, asked_of, is_waiting_word, judging, kept_of, place_words, with_place};
 
 use streams::is_file;
+
+/// Where the certificate of a legal history is kept.
+#[derive(Clone, Copy)]
+pub enum Keeping<'a> {
+    Nowhere,
+    /// `--trace OUT`: in this file, as one trace.
+    Whole(&'a str),
+    /// `--windows OUT`: in the files OUT.1, OUT.2 and so on, a window in each.
+    Windows(&'a str),
+}
 
 /// What a command line asks for.
 #[derive(Clone, Copy)]
 pub enum Form<'a> {
-    /// `rfx-judge [--waiting] [--trace OUT] FILE`, the options in any order: the history in FILE is judged, and its
-    /// certificate is written to OUT, if it has one. Where it is true, the calls are named that still wait and shouldn't.
-    /// Neither name begins with a hyphen.
-    History(bool, Option<&'a str>, &'a str),
+    /// `rfx-judge [--waiting] [--trace OUT | --windows OUT] FILE`, the options in any order: the history in FILE is
+    /// judged, and its certificate is kept, if it has one. Where it is true, the calls are named that still wait and
+    /// shouldn't. No name begins with a hyphen.
+    History(bool, Keeping<'a>, &'a str),
     /// Every other command line, those that ask for help or the version among them.
     Usage,
 }
@@ -22,20 +32,39 @@ fn is_waiting_word(word: &str) -> bool
     word == "--waiting"
 }
 
-fn are_trace_words(word: &str, out: &str) -> bool
-    ensures { result ≡ are_trace_words word.now out.now }
+/// Where two words ask for the certificate to be kept, if they do.
+fn place_words<'a>(word: &str, out: &'a str) -> Option<Keeping<'a>>
+    ensures { option_map kept_of result ≡ place_words word.now out.now }
 {
-    word == "--trace" && is_file(out)
+    if !is_file(out) {
+        None
+    } else if word == "--trace" {
+        Some(Keeping::Whole(out))
+    } else if word == "--windows" {
+        Some(Keeping::Windows(out))
+    } else {
+        None
+    }
 }
 
 /// A judgement of the history in this file, if it is a file's name.
-fn judging<'a>(waiting: bool, out: Option<&'a str>, file: &'a str) -> Form<'a>
-    ensures { asked_by result ≡ judging waiting (option_map (λ w. w.now) out.entry) file.now }
+fn judging<'a>(waiting: bool, keeping: Keeping<'a>, file: &'a str) -> Form<'a>
+    ensures { asked_by result ≡ judging waiting (kept_of keeping.entry) file.now }
 {
     if is_file(file) {
-        Form::History(waiting, out, file)
+        Form::History(waiting, keeping, file)
     } else {
         Form::Usage
+    }
+}
+
+/// The same, if the certificate is to be kept somewhere.
+fn with_place<'a>(waiting: bool, keeping: Option<Keeping<'a>>, file: &'a str) -> Form<'a>
+    ensures { asked_by result ≡ with_place waiting (option_map kept_of keeping.entry) file.now }
+{
+    match keeping {
+        Some(keeping) => judging(waiting, keeping, file),
+        None => Form::Usage,
     }
 }
 
@@ -44,26 +73,20 @@ pub fn form_of_words<'a>(words: &'a [&'a str]) -> Form<'a>
     ensures { asked_by result ≡ asked_of (map (λ w. w.now) words.now) }
 {
     match words {
-        [_, file] => judging(false, None, file),
+        [_, file] => judging(false, Keeping::Nowhere, file),
         [_, a, file] => {
             if is_waiting_word(a) {
-                judging(true, None, file)
+                judging(true, Keeping::Nowhere, file)
             } else {
                 Form::Usage
             }
         }
-        [_, a, b, file] => {
-            if are_trace_words(a, b) {
-                judging(false, Some(b), file)
-            } else {
-                Form::Usage
-            }
-        }
+        [_, a, b, file] => with_place(false, place_words(a, b), file),
         [_, a, b, c, file] => {
-            if is_waiting_word(a) && are_trace_words(b, c) {
-                judging(true, Some(c), file)
-            } else if are_trace_words(a, b) && is_waiting_word(c) {
-                judging(true, Some(b), file)
+            if is_waiting_word(a) {
+                with_place(true, place_words(b, c), file)
+            } else if is_waiting_word(c) {
+                with_place(true, place_words(a, b), file)
             } else {
                 Form::Usage
             }

@@ -21,8 +21,12 @@ pub enum Failure {
     CannotRead,
     /// A write failed, or the writer didn't let go of what it kept back.
     CannotWrite,
-    /// The certificate's file couldn't be made, or a write to it failed.
+    /// A file for the certificate couldn't be made, or a write to it failed.
     CannotKeep,
+    /// There are more mutexes or condition variables than a window may have.
+    TooMany,
+    /// No place was found where the certificate could be cut into windows.
+    NoPlace,
     /// Memory was refused.
     OutOfMemory,
     /// The file is no history.
@@ -66,10 +70,23 @@ fn write_failure<E: Write>(err: &mut E, file: &str, failure: Failure) -> io::Res
     ensures { Leaves (E.contents err.old) (E.contents err.new) result (failure_text file.now failure) }
 {
     match failure {
-        Failure::Usage => put(err, &["usage: rfx-judge [--waiting] [--trace OUT] FILE\n"]),
+        Failure::Usage => put(
+            err,
+            &["usage: rfx-judge [--waiting] [--trace OUT | --windows OUT] FILE\n"],
+        ),
         Failure::CannotRead => put(err, &["rfx-judge: cannot read ", file, "\n"]),
         Failure::CannotWrite => put(err, &["rfx-judge: cannot write\n"]),
         Failure::CannotKeep => put(err, &["rfx-judge: cannot write the certificate\n"]),
+        Failure::TooMany => put(
+            err,
+            &[
+                "rfx-judge: cannot cut the certificate: a window has at most 4096 mutexes and 256 condition variables\n",
+            ],
+        ),
+        Failure::NoPlace => put(
+            err,
+            &["rfx-judge: cannot cut the certificate: no place was found\n"],
+        ),
         Failure::OutOfMemory => put(err, &[OUT_OF_MEMORY]),
         Failure::Ill(at) => write_history_fault(err, at),
     }
@@ -84,6 +101,8 @@ fn status_after(failure: Failure) -> u8
         Failure::CannotRead
         | Failure::CannotWrite
         | Failure::CannotKeep
+        | Failure::TooMany
+        | Failure::NoPlace
         | Failure::OutOfMemory
         | Failure::Ill(_) => 1,
     }

@@ -1,10 +1,11 @@
 //! The program: what it does with the words of its command line.
 
-ghost use Rattle.std.specs.Prelude.{◌≡◌, option_map};
+ghost use Rattle.std.specs.Prelude.{◌≡◌};
+ghost use Rattle.judge_report.specs.Asked.{kept_of};
 ghost use Rattle.std.specs.IoError.{error_kind};
 ghost use Rattle.judge_report.specs.Programs.{FileEnds, RunEnds, asked_in, unopened_by};
 
-use crate::asking::{Form, form_of_words};
+use crate::asking::{Form, Keeping, form_of_words};
 use crate::making::Maker;
 use crate::messages::{Failure, fail};
 use crate::serving::serve;
@@ -26,14 +27,14 @@ fn unopened_by(error: &io::Error) -> Failure
 fn run_file<F: Opener, M: Maker, W: Output, E: Write>(
     alloc: Global,
     waiting: bool,
-    name: Option<&str>,
+    keeping: Keeping<'_>,
     file: &str,
     files: &F,
     maker: &M,
     out: &mut W,
     err: &mut E,
 ) -> u8
-    ensures { FileEnds (F.opens files.now) (M.makes maker.now) (M.fills maker.now) waiting (option_map (λ w. w.now) name.entry)
+    ensures { FileEnds (F.opens files.now) (M.makes maker.now) (M.fills maker.now) waiting (kept_of keeping.entry)
         file.now (W.contents out.old) (W.contents out.new) (W.is_let_go out.new) (err.new ≡ err.old) (E.contents err.old)
         (E.contents err.new) result }
 {
@@ -41,7 +42,7 @@ fn run_file<F: Opener, M: Maker, W: Output, E: Write>(
         Ok(input) => input,
         Err(error) => return fail(err, file, unopened_by(&error)),
     };
-    match serve(alloc, waiting, name, input, maker, out) {
+    match serve(alloc, waiting, keeping, input, maker, out) {
         Ok(status) => status,
         Err(failure) => fail(err, file, failure),
     }
@@ -74,8 +75,8 @@ pub fn run<F: Opener, M: Maker, W: Output, E: Write>(
         return fail(err, "", Failure::OutOfMemory);
     };
     match form_of_words(&lent) {
-        Form::History(waiting, name, file) => {
-            run_file(alloc, waiting, name, file, files, maker, out, err)
+        Form::History(waiting, keeping, file) => {
+            run_file(alloc, waiting, keeping, file, files, maker, out, err)
         }
         Form::Usage => fail(err, "", Failure::Usage),
     }

@@ -1,23 +1,25 @@
 //! The program, but for opening its file.
 
-ghost use Rattle.std.specs.Prelude.{◌≡◌, ◌<◌, get_or, length, option_map, IfOk, IfErr, OnOk};
+ghost use Rattle.std.specs.Prelude.{◌≡◌, ◌<◌, get_or, length, IfOk, IfErr, OnOk};
 ghost use Rattle.histories.specs.Reading.{IsHead};
 ghost use Rattle.judge.specs.Judgements.{IsJudged};
 ghost use Rattle.judge_report.specs.Heard.{heard_of};
-ghost use Rattle.judge_report.specs.Said.{AreNamed, IsFilled, IsWritten, Tells, status_of};
+ghost use Rattle.judge_report.specs.Asked.{kept_of};
+ghost use Rattle.judge_report.specs.Said.{AreNamed, Tells, status_of};
 ghost use Rattle.judge_report.specs.Served.{Fails, IsRead, Serves, Unread, failed_by};
 
+use crate::asking::Keeping;
+use crate::keeping::{Cut, keep};
 use crate::making::Maker;
 use crate::messages::Failure;
 use crate::reading::{History, ReadFault, read_history};
 use crate::telling::{tell_illegal, tell_legal, tell_undecided};
 use certificates::{Waiter, points_of, still_waiting};
-use histories::{Entry, Head, HistoryLine};
+use histories::HistoryLine;
 use judge::{Judgement, judge};
 use std::alloc::{AllocError, Global};
 use std::io::{self, BufReader, Read, Write};
 use streams::Output;
-use windows::write_certificate;
 
 /// What a fault of reading is told as.
 fn failed_by(fault: ReadFault) -> Failure
@@ -45,34 +47,6 @@ fn read_file<R: Read + Drop>(alloc: Global, input: R) -> Result<History, Failure
     }
 }
 
-/// Fills the file of this name with a certificate.
-fn fill<M: Maker>(maker: &M, name: &str, head: &Head, steps: &[Entry]) -> io::Result<()>
-    ensures { IfOk result (λ _. IsWritten (M.makes maker.now) (M.fills maker.now) name.now head.now steps.now) }
-{
-    let mut file = maker.make(name)?;
-    write_certificate(&mut file, head, steps)?;
-    maker.fill(name, file)
-}
-
-/// Writes the certificate, where there is one, to the file of this name, if one is named.
-fn certify<M: Maker>(
-    history: &History,
-    judgement: &Judgement,
-    name: Option<&str>,
-    maker: &M,
-) -> io::Result<()>
-    ensures { IfOk result (λ _. IsFilled (M.makes maker.now) (M.fills maker.now) (option_map (λ w. w.now) name.entry)
-        (heard_of history.now) judgement.now) }
-{
-    let Some(name) = name else {
-        return Ok(());
-    };
-    match judgement {
-        Judgement::Legal(steps) => fill(maker, name, &history.head, steps),
-        Judgement::Illegal(..) | Judgement::Undecided(_) => Ok(()),
-    }
-}
-
 /// The calls that are named behind the judgement, if they are asked for.
 fn named(alloc: Global, waiting: bool, judgement: &Judgement) -> Result<Vec<Waiter>, AllocError>
     ensures { IfOk result (λ ws. AreNamed waiting judgement.now ws.items) }
@@ -97,20 +71,22 @@ fn line_of(history: &History, at: usize) -> HistoryLine
     history.lines[at]
 }
 
-/// Tells what the history was found to be, with the calls that still wait and shouldn't, if they are to be named.
+/// Tells what the history was found to be, with the windows that its certificate was cut into, and the calls that still
+/// wait and shouldn't, if they are to be named.
 fn tell<W: Write>(
     out: &mut W,
     waiting: bool,
     history: &History,
     judgement: &Judgement,
+    cuts: &[Cut],
     waiters: &[Waiter],
 ) -> io::Result<()>
     requires judged { IsJudged history.now.head history.now.lines.items judgement.now }
     requires named { AreNamed waiting judgement.now waiters.now }
-    ensures { Tells waiting (heard_of history.now) judgement.now (W.contents out.old) (W.contents out.new) result }
+    ensures { Tells waiting (heard_of history.now) judgement.now cuts.now (W.contents out.old) (W.contents out.new) result }
 {
     match judgement {
-        Judgement::Legal(steps) => tell_legal(out, points_of(steps), &history.lines, waiters),
+        Judgement::Legal(steps) => tell_legal(out, points_of(steps), cuts, &history.lines, waiters),
         Judgement::Illegal(at, why) => {
             tell_illegal(out, &history.lines, &line_of(history, *at), why)
         }
@@ -134,35 +110,37 @@ fn tell_out<W: Output>(
     waiting: bool,
     history: &History,
     judgement: &Judgement,
+    cuts: &[Cut],
     waiters: &[Waiter],
 ) -> io::Result<()>
     requires judged { IsJudged history.now.head history.now.lines.items judgement.now }
     requires named { AreNamed waiting judgement.now waiters.now }
-    ensures tells { Tells waiting (heard_of history.now) judgement.now (W.contents out.old) (W.contents out.new) result }
+    ensures tells { Tells waiting (heard_of history.now) judgement.now cuts.now (W.contents out.old) (W.contents out.new) result }
     ensures let_go { OnOk result (W.is_let_go out.new) }
 {
-    tell(out, waiting, history, judgement, waiters)?;
+    tell(out, waiting, history, judgement, cuts, waiters)?;
     match out.let_go() {
         Ok(()) => Ok(()),
         Err(kept) => Err(kept),
     }
 }
 
-/// Judges the history that the reader has, writes its certificate to the file of this name, if one is named, tells what
-/// the history was found to be, with the calls that still wait and shouldn't, if they are asked for, and answers the exit
-/// status.
+/// Judges the history that the reader has, keeps its certificate where it is to be kept, tells what the history was found
+/// to be, with the windows that its certificate was cut into, and with the calls that still wait and shouldn't, if they
+/// are asked for, and answers the exit status.
 pub fn serve<R: Read + Drop, M: Maker, W: Output>(
     alloc: Global,
     waiting: bool,
-    name: Option<&str>,
+    keeping: Keeping<'_>,
     input: R,
     maker: &M,
     out: &mut W,
 ) -> Result<u8, Failure>
     ensures serves { IfOk result (λ status. Serves (M.makes maker.now) (M.fills maker.now) waiting
-        (option_map (λ w. w.now) name.entry) (R.remaining input) (W.contents out.old) (W.contents out.new) status) }
+        (kept_of keeping.entry) (R.remaining input) (W.contents out.old) (W.contents out.new) status) }
     ensures let_go { OnOk result (W.is_let_go out.new) }
-    ensures fails { IfErr result (Fails waiting (R.remaining input) (W.contents out.old) (W.contents out.new)) }
+    ensures fails { IfErr result (Fails (M.makes maker.now) (M.fills maker.now) waiting (kept_of keeping.entry)
+        (R.remaining input) (W.contents out.old) (W.contents out.new)) }
 {
     let history = match read_file(alloc, input) {
         Ok(history) => history,
@@ -174,10 +152,11 @@ pub fn serve<R: Read + Drop, M: Maker, W: Output>(
     let Ok(waiters) = named(alloc, waiting, &judgement) else {
         return Err(Failure::OutOfMemory);
     };
-    let Ok(()) = certify(&history, &judgement, name, maker) else {
-        return Err(Failure::CannotKeep);
+    let cuts = match keep(alloc, maker, keeping, &history, &judgement) {
+        Ok(cuts) => cuts,
+        Err(failure) => return Err(failure),
     };
-    match tell_out(out, waiting, &history, &judgement, &waiters) {
+    match tell_out(out, waiting, &history, &judgement, &cuts, &waiters) {
         Ok(()) => Ok(status_of(&judgement)),
         Err(_unwritten) => Err(Failure::CannotWrite),
     }

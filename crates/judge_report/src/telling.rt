@@ -5,8 +5,10 @@ ghost use Rattle.streams.specs.Leaves.{Leaves};
 ghost use Rattle.std.specs.List.{slice_get};
 ghost use Rattle.judge_report.specs.Texts.{begin_note, entry_thread, illegal_notes, illegal_text, illegal_title};
 ghost use Rattle.judge_report.specs.Texts.{legal_text, quote_of, since_line, since_note, since_words, turn_words};
+ghost use Rattle.judge_report.specs.Texts.{cut_text, cuts_text};
 ghost use Rattle.judge_report.specs.Texts.{undecided_text, waiter_lines, waiter_text, waiter_title, waiters_text};
 
+use crate::keeping::Cut;
 use crate::writing::write_quote;
 use certificates::Waiter;
 use completing::{OutOfTurn, Refusal};
@@ -268,18 +270,64 @@ fn write_legal<W: Write>(out: &mut W, points: usize) -> io::Result<()>
     )
 }
 
-/// Tells that the history is legal, with so many points, and names these calls that still wait and shouldn't.
-pub fn tell_legal<W: Write>(
+/// Which of the certificate's events a window has.
+fn write_cut<W: Write>(out: &mut W, cut: &Cut) -> io::Result<()>
+    ensures { Leaves (W.contents out.old) (W.contents out.new) result (cut_text cut.now) }
+{
+    put_pieces(
+        out,
+        &[
+            Word("window "),
+            Number(cut.number as u64),
+            Word(": events behind "),
+            Number(cut.before as u64),
+            Word(", up to "),
+            Number(cut.last as u64),
+            Word("; before them "),
+            Number(cut.preamble as u64),
+            Word(" of its own\n"),
+        ],
+    )
+}
+
+/// Which windows the certificate was cut into.
+fn write_cuts<W: Write>(out: &mut W, cuts: &[Cut]) -> io::Result<()>
+    ensures { Leaves (W.contents out.old) (W.contents out.new) result (cuts_text cuts.now) }
+{
+    for cut in cuts {
+        write_cut(out, cut)?;
+    }
+    Ok(())
+}
+
+/// The same, and the calls that still wait and shouldn't.
+fn write_rest<W: Write>(
     out: &mut W,
-    points: usize,
+    cuts: &[Cut],
     lines: &[HistoryLine],
     waiters: &[Waiter],
 ) -> io::Result<()>
     ensures { Leaves (W.contents out.old) (W.contents out.new) result
-        (legal_text points ++ waiters_text lines.now waiters.now) }
+        (cuts_text cuts.now ++ waiters_text lines.now waiters.now) }
+{
+    write_cuts(out, cuts)?;
+    write_waiters(out, lines, waiters)
+}
+
+/// Tells that the history is legal, with so many points, which windows its certificate was cut into, and names these
+/// calls that still wait and shouldn't.
+pub fn tell_legal<W: Write>(
+    out: &mut W,
+    points: usize,
+    cuts: &[Cut],
+    lines: &[HistoryLine],
+    waiters: &[Waiter],
+) -> io::Result<()>
+    ensures { Leaves (W.contents out.old) (W.contents out.new) result
+        (legal_text points ++ (cuts_text cuts.now ++ waiters_text lines.now waiters.now)) }
 {
     write_legal(out, points)?;
-    write_waiters(out, lines, waiters)
+    write_rest(out, cuts, lines, waiters)
 }
 
 /// Tells that no order of the calls explains the lines up to this one.

@@ -6,12 +6,13 @@ use std::cell::Cell;
 use std::io::{self, ErrorKind};
 use text_fixtures::{Answered, Folder, words};
 
-/// A place for files, where only the file of one text can be filled; the file `none` can't be made. It counts what was
-/// filled.
+/// A place for files, where only `out` and `out.1` can be made, and only with one text filled. It counts what was asked
+/// for, and what was filled.
 #[derive(Drop)]
 pub struct Shelf<'a> {
     alloc: Global,
     text: &'a str,
+    pub made: Cell<usize>,
     pub filled: Cell<usize>,
 }
 
@@ -20,6 +21,7 @@ impl<'a> Shelf<'a> {
         Shelf {
             alloc,
             text,
+            made: Cell::new(0),
             filled: Cell::new(0),
         }
     }
@@ -29,9 +31,10 @@ impl Maker for Shelf<'_> {
     type File = Vec<u8>;
 
     fn make(&self, name: &str) -> io::Result<Vec<u8>> {
+        self.made.set(self.made.get().saturating_add(1));
         match name {
-            "none" => Err(io::Error::from(ErrorKind::NotFound)),
-            _ => Ok(Vec::new(self.alloc)),
+            "out" | "out.1" => Ok(Vec::new(self.alloc)),
+            _ => Err(io::Error::from(ErrorKind::NotFound)),
         }
     }
 

@@ -24,12 +24,13 @@ end 11
 const TEXT: &str =
     "illegal at line 12: no order of the calls gives t3 EOWNERDEAD for its lock of m0\n  | 11 return t3 EOWNERDEAD\n  = see line 11: the call began\n  | 10 begin t3 lock m0\n";
 
-const USAGE: &str = "usage: rfx-judge [--waiting] [--trace OUT] FILE\n";
+const USAGE: &str = "usage: rfx-judge [--waiting] [--trace OUT | --windows OUT] FILE\n";
 
 /// A command line, and what comes of it.
-static LINES: [(&[&str], u8, &str, &str); 20] = [
+static LINES: [(&[&str], u8, &str, &str); 24] = [
     (&["rfx-judge", "f"], 1, TEXT, ""),
     (&["rfx-judge", "--trace", "none", "f"], 1, TEXT, ""),
+    (&["rfx-judge", "--windows", "none", "f"], 1, TEXT, ""),
     (&["rfx-judge", "--waiting", "f"], 1, TEXT, ""),
     (
         &["rfx-judge", "--waiting", "--trace", "none", "f"],
@@ -39,6 +40,12 @@ static LINES: [(&[&str], u8, &str, &str); 20] = [
     ),
     (
         &["rfx-judge", "--trace", "none", "--waiting", "f"],
+        1,
+        TEXT,
+        "",
+    ),
+    (
+        &["rfx-judge", "--windows", "none", "--waiting", "f"],
         1,
         TEXT,
         "",
@@ -54,6 +61,13 @@ static LINES: [(&[&str], u8, &str, &str); 20] = [
         "",
         USAGE,
     ),
+    (
+        &["rfx-judge", "--trace", "a", "--windows", "b", "f"],
+        2,
+        "",
+        USAGE,
+    ),
+    (&["rfx-judge", "--windows", "f"], 2, "", USAGE),
     (&[], 2, "", USAGE),
     (&["rfx-judge"], 2, "", USAGE),
     (&["rfx-judge", "-f"], 2, "", USAGE),
@@ -80,7 +94,7 @@ fn command_lines_are_served(rt: HostRuntime) {
     for (line, status, printed, told) in &LINES {
         let shelf = Shelf::new(rt.alloc(), "");
         let answered = answer_of(rt.alloc(), words(rt.alloc(), *line), HISTORY, &shelf);
-        assert!(rt; answered.is(*status, *printed, *told));
+        assert!(rt; answered.is(*status, *printed, *told) && shelf.made.get() == 0);
     }
 }
 

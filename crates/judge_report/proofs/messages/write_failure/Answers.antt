@@ -14,3 +14,9 @@ returns-in-CannotKeep g c = rw c.in-CannotKeep.is c.put-in-CannotKeep.ensures
 
 pub returns-in-OutOfMemory : goal.returns-in-OutOfMemory
 returns-in-OutOfMemory g c = rw c.in-OutOfMemory.is c.put-in-OutOfMemory.ensures
+
+pub returns-in-TooMany : goal.returns-in-TooMany
+returns-in-TooMany g c = rw c.in-TooMany.is c.put-in-TooMany.ensures
+
+pub returns-in-NoPlace : goal.returns-in-NoPlace
+returns-in-NoPlace g c = rw c.in-NoPlace.is c.put-in-NoPlace.ensures

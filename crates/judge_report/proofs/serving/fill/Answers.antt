@@ -1,5 +1,0 @@
-use Rattle.judge_report.proofs.Ends.{written_so}
-use Rattle.judge_report.proofs.serving.fill.Goals as goal
-
-pub returns : goal.returns
-returns g c = written_so (g.M.Maker.makes c.args.maker.now) (g.M.Maker.fills c.args.maker.now) c.args.name.now c.args.head.now c.args.steps.now _ _ c.fill.result c.in_ok-file.ensures c.in_ok-write_certificate.ensures c.fill.ensures

@@ -1,0 +1,86 @@
+-- Where a certificate is kept.
+--
+-- *Windows in files.* The certificate is cut into windows (`IsWindow`), each in a file of its own: OUT.1 begins with the
+-- certificate, each next one where the one before ends, and the last one ends with it. Of each is told which of the
+-- certificate's events it has, and how many of its own stand before them.
+use Rattle.std.specs.Prelude.{ℕ, ◌≡◌, ◌+◌, List, [], ◌∷◌, ◌++◌, length, reverse, take, codes, decimal, Option}
+use Rattle.std.specs.Io.KnownBytes.{Appends}
+use Rattle.histories.specs.declared.head.Head.{Head}
+use Rattle.histories.specs.declared.entry.Entry.{Entry}
+use Rattle.judge.specs.declared.judging.Judgement.{Judgement}
+use Rattle.judge.specs.declared.judging.Judgement.TheVariants.{Legal, Illegal, Undecided}
+use Rattle.windows.specs.declared.cutting.Window.{Window}
+use Rattle.windows.specs.declared.stop.Stop.{Stop}
+use Rattle.windows.specs.declared.stop.Stop.TheVariants as stop
+use Rattle.windows.specs.Texts.{certificate_text, steps_count}
+use Rattle.windows.specs.Windows.{IsWindow}
+use Rattle.judge_report.specs.declared.keeping.Cut.{Cut}
+use Rattle.judge_report.specs.declared.messages.Failure.{Failure}
+use Rattle.judge_report.specs.declared.messages.Failure.TheVariants.{Usage, CannotRead, CannotWrite, CannotKeep}
+use Rattle.judge_report.specs.declared.messages.Failure.TheVariants.{TooMany, NoPlace, OutOfMemory, Ill}
+use Rattle.judge_report.specs.Asked.{Kept, Nowhere, Whole, Windows}
+use Rattle.judge_report.specs.Heard.{Heard}
+
+-- a file of this name was made, and filled with this text; Makes tells what it held then, Fills what at the end
+pub record IsWritten (Makes Fills : List ℕ → Option (List ℕ) → Type 0) (name text : List ℕ) : Type 0 where
+  pub made : Option (List ℕ)
+  pub filled : Option (List ℕ)
+  pub makes : Makes name made
+  pub fills : Fills name filled
+  pub all : Appends made filled text
+
+-- the file that has the window with this number: OUT.1, OUT.2 and so on
+abbrev pub window_name : List ℕ → ℕ → List ℕ
+window_name out n = out ++ (codes "." ++ decimal n)
+
+-- this is what a window has of these steps
+pub record IsCutOf (steps : List Entry) (w : Window) (c : Cut) : Type 0 where
+  pub before : c.before ≡ steps_count (take w.from steps)
+  pub last : c.last ≡ steps_count (take w.to steps)
+  pub preamble : c.preamble ≡ w.preamble
+
+-- a window of these steps, of which this is told, is kept in the file with its number
+pub record IsWindowKept (Makes Fills : List ℕ → Option (List ℕ) → Type 0) (out : List ℕ) (h : Head) (steps : List Entry)
+    (w : Window) (c : Cut) : Type 0 where
+  pub window : IsWindow h steps w
+  pub cut : IsCutOf steps w c
+  pub written : IsWritten Makes Fills (window_name out c.number) w.text.items
+
+-- so are windows of the steps up to here, of which these are told, the last first
+abbrev pub AreKept : (List ℕ → Option (List ℕ) → Type 0) → (List ℕ → Option (List ℕ) → Type 0) → List ℕ → Head
+    → List Entry → ℕ → List Cut → Type 0
+AreKept Makes Fills out h steps to [] = to ≡ 0
+AreKept Makes Fills out h steps to (c ∷ cs) = (w : Window) × (w.to ≡ to) × (c.number ≡ length cs + 1)
+    × IsWindowKept Makes Fills out h steps w c × AreKept Makes Fills out h steps w.from cs
+
+-- a certificate is kept where it is to be kept, in these windows if in any
+abbrev pub IsKept : (List ℕ → Option (List ℕ) → Type 0) → (List ℕ → Option (List ℕ) → Type 0) → Kept → Head
+    → List Entry → List Cut → Type 0
+IsKept Makes Fills Nowhere h steps cuts = cuts ≡ []
+IsKept Makes Fills (Whole name) h steps cuts = IsWritten Makes Fills name (certificate_text h steps) × (cuts ≡ [])
+IsKept Makes Fills (Windows out) h steps cuts = AreKept Makes Fills out h steps (length steps) (reverse cuts)
+
+-- so it is where there is one
+abbrev pub IsFilled : (List ℕ → Option (List ℕ) → Type 0) → (List ℕ → Option (List ℕ) → Type 0) → Kept → Heard
+    → Judgement → List Cut → Type 0
+IsFilled Makes Fills kept k (Legal steps) cuts = IsKept Makes Fills kept k.head steps.items cuts
+IsFilled Makes Fills kept k (Illegal at why) cuts = cuts ≡ []
+IsFilled Makes Fills kept k (Undecided at) cuts = cuts ≡ []
+
+-- what it is told as that a certificate isn't cut
+abbrev pub uncut_by : Stop → Failure
+uncut_by stop.TooMany = TooMany
+uncut_by stop.Memory = OutOfMemory
+uncut_by stop.NoPlace = NoPlace
+uncut_by stop.Refused = NoPlace
+
+-- why a certificate wasn't kept
+abbrev pub IsUnkept : Failure → Type 0
+IsUnkept Usage = ⊥
+IsUnkept CannotRead = ⊥
+IsUnkept CannotWrite = ⊥
+IsUnkept CannotKeep = Unit {0}
+IsUnkept TooMany = Unit {0}
+IsUnkept NoPlace = Unit {0}
+IsUnkept OutOfMemory = Unit {0}
+IsUnkept (Ill f) = ⊥

@@ -1,0 +1,187 @@
+//! Keeping a certificate: in one file, or in a file for each of its windows.
+
+ghost use Rattle.std.specs.Prelude.{◌≡◌, ◌≤◌, length, reverse, string_bytes, IfOk, IfErr};
+ghost use Rattle.histories.specs.Reading.{IsHead};
+ghost use Rattle.windows.specs.Texts.{certificate_text, steps_count};
+ghost use Rattle.windows.specs.Windows.{IsWindow};
+ghost use Rattle.judge_report.specs.Asked.{kept_of};
+ghost use Rattle.judge_report.specs.Heard.{heard_of};
+ghost use Rattle.judge_report.specs.Kept.{AreKept, IsCutOf, IsFilled, IsKept, IsUnkept, IsWindowKept, IsWritten};
+ghost use Rattle.judge_report.specs.Kept.{uncut_by, window_name};
+
+use crate::asking::Keeping;
+use crate::making::Maker;
+use crate::messages::Failure;
+use crate::reading::History;
+use histories::{Entry, Head};
+use itoa::Buffer;
+use judge::Judgement;
+use std::alloc::{AllocError, Global};
+use std::io;
+use streams::put_text;
+use windows::{Cutter, Stop, Window, events_of, write_certificate};
+
+/// What a window has of its certificate.
+#[derive(Clone, Copy)]
+pub struct Cut {
+    /// The window's number, counted from 1.
+    pub number: usize,
+    /// How many of the certificate's events stand before the window's.
+    pub before: usize,
+    /// The last of the certificate's events that it has.
+    pub last: usize,
+    /// How many events it begins with that aren't the certificate's.
+    pub preamble: usize,
+}
+
+/// Fills the file of this name with a certificate.
+fn fill<M: Maker>(maker: &M, name: &str, head: &Head, steps: &[Entry]) -> io::Result<()>
+    ensures { IfOk result (λ _. IsWritten (M.makes maker.now) (M.fills maker.now) name.now
+        (certificate_text head.now steps.now)) }
+{
+    let mut file = maker.make(name)?;
+    write_certificate(&mut file, head, steps)?;
+    maker.fill(name, file)
+}
+
+/// Fills the file of this name with a text.
+fn fill_text<M: Maker>(maker: &M, name: &str, text: &[u8]) -> io::Result<()>
+    ensures { IfOk result (λ _. IsWritten (M.makes maker.now) (M.fills maker.now) name.now text.now) }
+{
+    let mut file = maker.make(name)?;
+    put_text(&mut file, text)?;
+    maker.fill(name, file)
+}
+
+/// The name of the file that has the window with this number.
+fn window_name(alloc: Global, out: &str, number: usize) -> Result<String, AllocError>
+    ensures { IfOk result (λ name. string_bytes name ≡ window_name out.now number) }
+{
+    let mut name = String::from_str(alloc, out)?;
+    name.push_str(".")?;
+    let mut digits = Buffer::new();
+    name.push_str(digits.format(number as u64))?;
+    Ok(name)
+}
+
+/// What it is told as that a certificate isn't cut.
+fn uncut_by(why: Stop) -> Failure
+    ensures { result ≡ uncut_by why }
+{
+    match why {
+        Stop::TooMany => Failure::TooMany,
+        Stop::Memory => Failure::OutOfMemory,
+        Stop::NoPlace | Stop::Refused => Failure::NoPlace,
+    }
+}
+
+/// What the window with this number has of these steps.
+fn cut_of(steps: &[Entry], number: usize, window: &Window) -> Cut
+    requires order { window.now.from ≤ window.now.to }
+    requires within { window.now.to ≤ length steps.now }
+    ensures cut { IsCutOf steps.now window.now result }
+    ensures number { result.number ≡ number }
+{
+    Cut {
+        number,
+        before: events_of(&steps[..window.from]),
+        last: events_of(&steps[..window.to]),
+        preamble: window.preamble,
+    }
+}
+
+/// Fills the file of the window with this number.
+fn keep_window<M: Maker>(
+    alloc: Global,
+    maker: &M,
+    out: &str,
+    number: usize,
+    window: &Window,
+) -> Result<(), Failure>
+    ensures kept { IfOk result (λ _. IsWritten (M.makes maker.now) (M.fills maker.now) (window_name out.now number)
+        window.now.text.items) }
+    ensures fails { IfErr result IsUnkept }
+{
+    let Ok(name) = window_name(alloc, out, number) else {
+        return Err(Failure::OutOfMemory);
+    };
+    match fill_text(maker, &name, &window.text) {
+        Ok(()) => Ok(()),
+        Err(_unwritten) => Err(Failure::CannotKeep),
+    }
+}
+
+/// Cuts a certificate, and fills a file for each window; what they have of it.
+fn keep_windows<M: Maker>(
+    alloc: Global,
+    maker: &M,
+    out: &str,
+    head: &Head,
+    steps: &[Entry],
+) -> Result<Vec<Cut>, Failure>
+    requires { IsHead head.now }
+    ensures kept { IfOk result (λ cuts. AreKept (M.makes maker.now) (M.fills maker.now) out.now head.now steps.now
+        (length steps.now) (reverse cuts.items)) }
+    ensures fails { IfErr result IsUnkept }
+{
+    let mut cutter = match Cutter::new(alloc, head) {
+        Ok(cutter) => cutter,
+        Err(why) => return Err(uncut_by(why)),
+    };
+    let mut cuts = Vec::new(alloc);
+    loop {
+        let window = match cutter.next(alloc, head, steps) {
+            Ok(Some(window)) => window,
+            Ok(None) => return Ok(cuts),
+            Err(why) => return Err(uncut_by(why)),
+        };
+        let number = cuts.len() + 1;
+        keep_window(alloc, maker, out, number, &window)?;
+        let cut = cut_of(steps, number, &window);
+        let Ok(()) = cuts.push(cut) else {
+            return Err(Failure::OutOfMemory);
+        };
+    }
+}
+
+/// Keeps a certificate where it is to be kept; which windows it was cut into.
+fn keep_steps<M: Maker>(
+    alloc: Global,
+    maker: &M,
+    keeping: Keeping<'_>,
+    head: &Head,
+    steps: &[Entry],
+) -> Result<Vec<Cut>, Failure>
+    requires { IsHead head.now }
+    ensures kept { IfOk result (λ cuts. IsKept (M.makes maker.now) (M.fills maker.now) (kept_of keeping.entry) head.now
+        steps.now cuts.items) }
+    ensures fails { IfErr result IsUnkept }
+{
+    match keeping {
+        Keeping::Nowhere => Ok(Vec::new(alloc)),
+        Keeping::Whole(name) => match fill(maker, name, head, steps) {
+            Ok(()) => Ok(Vec::new(alloc)),
+            Err(_unwritten) => Err(Failure::CannotKeep),
+        },
+        Keeping::Windows(out) => keep_windows(alloc, maker, out, head, steps),
+    }
+}
+
+/// Keeps the certificate, where there is one, where it is to be kept; which windows it was cut into.
+pub fn keep<M: Maker>(
+    alloc: Global,
+    maker: &M,
+    keeping: Keeping<'_>,
+    history: &History,
+    judgement: &Judgement,
+) -> Result<Vec<Cut>, Failure>
+    requires { IsHead history.now.head }
+    ensures filled { IfOk result (λ cuts. IsFilled (M.makes maker.now) (M.fills maker.now) (kept_of keeping.entry)
+        (heard_of history.now) judgement.now cuts.items) }
+    ensures fails { IfErr result IsUnkept }
+{
+    match judgement {
+        Judgement::Legal(steps) => keep_steps(alloc, maker, keeping, &history.head, steps),
+        Judgement::Illegal(..) | Judgement::Undecided(_) => Ok(Vec::new(alloc)),
+    }
+}
