@@ -2,6 +2,7 @@
 use Rattle.std.specs.Prelude.{ℕ, ◌≡◌, ◌+◌, ◌<◌, true, false, not, ◌&&◌, Option, Some, None, IfSome, List}
 use Rattle.std.specs.Prelude.{length, slice_index_or, slice_set, if◌then◌else◌}
 use Rattle.std.specs.Option.{is_some}
+use Rattle.lockword.specs.Threads.{most_threads}
 use Rattle.posixmutex.specs.declared.object.Object.{Object}
 use Rattle.posixmutex.specs.declared.point.Decision.{Decision}
 use Rattle.posixmutex.specs.Objects.{fresh, stepped}
@@ -9,6 +10,7 @@ use Rattle.facts.specs.declared.fact.Fact.{Fact}
 use Rattle.facts.specs.declared.fact.Fact.TheVariants.{Begin, Kill, Point, Return}
 use Rattle.facts.specs.Facts.{decision_of}
 use Rattle.verdict.specs.Earlier.{objects_after}
+use Rattle.histories.specs.Limits.{max_mutexes}
 use Rattle.histories.specs.declared.entry.Entry.{Entry}
 use Rattle.histories.specs.declared.entry.Entry.TheVariants.{Told, Doom}
 use Rattle.certificates.specs.declared.walk.Thread.{Thread}
@@ -72,8 +74,8 @@ mutex_behind m es = record { object = objects_after (trace_of es) m; since = lef
 
 -- there is room for every thread and every mutex
 pub record HasRoom (w : Walk) : Type 0 where
-  pub threads : length w.threads.items ≡ 65
-  pub mutexes : length w.mutexes.items ≡ 65536
+  pub threads : length w.threads.items ≡ most_threads + 1
+  pub mutexes : length w.mutexes.items ≡ max_mutexes
 
 -- before the first step
 pub record IsNew (w : Walk) : Type 0 where

@@ -1,6 +1,7 @@
 //! A walk over steps, which takes each as it is: what the steps leave of each thread and each mutex.
 
 ghost use Rattle.std.specs.Prelude.{ℕ, ◌≡◌, ◌+◌, ◌<◌, ◌^◌, length, reverse, slice_set, IfOk, IfSome};
+ghost use Rattle.histories.specs.Limits.{max_mutexes};
 ghost use Rattle.certificates.specs.Certificates.{is_seen, whose};
 ghost use Rattle.certificates.specs.Walks.{HasRoom, IsBehind, IsNew, Walks, became, decision_in, idle, mutex_after};
 ghost use Rattle.certificates.specs.Walks.{mutex_at, mutexes_after, thread_after, thread_at, told_thread, untouched};
@@ -9,16 +10,16 @@ ghost use Rattle.posixmutex.specs.Objects.{stepped};
 
 use crate::certifying::{behind, is_hidden};
 use facts::{Begun, Fact};
-use histories::Entry;
-use lockword::{Reply, Tid};
+use histories::{Entry, MAX_MUTEXES};
+use lockword::{MOST_THREADS, Reply, Tid};
 use posixmutex::{Decision, Object, Operation};
 use std::alloc::{AllocError, Global};
 
 /// As many threads as have ids, and one for 0, which is no thread's.
-const THREADS: usize = 65;
+const THREADS: usize = MOST_THREADS as usize + 1;
 
-/// As many mutexes as two bytes can number.
-const MUTEXES: usize = 65_536;
+/// As many mutexes as a history may have.
+const MUTEXES: usize = MAX_MUTEXES as usize;
 
 /// What is kept of a thread.
 #[derive(Clone, Copy, Debug, PartialEq, Eq)]
@@ -208,7 +209,7 @@ fn decision_in(step: &Entry) -> Option<Decision>
 
 /// Makes a point or a death.
 fn decide(mutexes: &mut Vec<Mutex>, decision: &Decision, lines: usize)
-    requires { length mutexes.old.items ≡ 65536 }
+    requires { length mutexes.old.items ≡ max_mutexes }
     ensures mutex { decision.now.mutex < length mutexes.old.items }
     ensures mutexes { mutexes.new.items ≡ slice_set mutexes.old.items decision.now.mutex
         (mutex_after (mutex_at mutexes.old.items decision.now.mutex) decision.now lines) }
@@ -220,7 +221,7 @@ fn decide(mutexes: &mut Vec<Mutex>, decision: &Decision, lines: usize)
 
 /// Makes a point or a death, if there is one.
 fn change(mutexes: &mut Vec<Mutex>, decision: Option<Decision>, lines: usize)
-    requires { length mutexes.old.items ≡ 65536 }
+    requires { length mutexes.old.items ≡ max_mutexes }
     ensures mutex { IfSome decision (λ d. d.mutex < length mutexes.old.items) }
     ensures mutexes { mutexes.new.items ≡ mutexes_after mutexes.old.items decision lines }
 {
