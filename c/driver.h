@@ -35,7 +35,7 @@
 #define PZ_AT(moment) ((void)0)
 #endif
 
-_Static_assert(PZ_THREADS == PZ_MOST_THREADS, "a file has as many ids as the proved calls take");
+_Static_assert((int)PZ_THREADS == (int)PZ_MOST_THREADS, "a file has as many ids as the proved calls take");
 enum { THREADS = PZ_THREADS, LINE = 8, HELD = 2048, FILES = PZ_FILES, MOST_MUTEXES = 4096, MOST_CONDS = 256 };
 
 /* Of files, and of the companions of libpazdrig_pthread.so: another number for each other layout, and for each change
