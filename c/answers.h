@@ -58,6 +58,42 @@ static const struct {
      "(pz_thread_begin); nothing was done"},
     {"pz_mutex_trylock", EFAULT, "somebody wrote stray values into the library's words, and the call was stopped "
      "there: nobody knows who owns what, so end all who use the file and delete it"},
+    {"pz_mutex_timedlock", 0, "the thread owns the mutex"},
+    {"pz_mutex_timedlock", EOWNERDEAD, "it owns the mutex; an owner died, and nobody has declared the state "
+     "consistent since"},
+    {"pz_mutex_timedlock", ENOTRECOVERABLE, "an owner unlocked it without declaring it consistent: nobody owns it "
+     "again before pz_mutex_reinit"},
+    {"pz_mutex_timedlock", EDEADLK, "it owns the mutex already"},
+    {"pz_mutex_timedlock", ETIMEDOUT, "the time has come, and another thread owns it, which lives, or died and is "
+     "being cleaned up after"},
+    {"pz_mutex_timedlock", EINVAL, "it would have to wait, and tv_nsec isn't 0 to 999,999,999; or the clock is "
+     "neither CLOCK_REALTIME nor CLOCK_MONOTONIC; or there is no such mutex or condition variable; nothing was done; "
+     "or somebody wrote stray values into the library's words, and the call was stopped there: nobody knows who owns "
+     "what, so end all who use the file and delete it"},
+    {"pz_mutex_timedlock", EAGAIN, "it holds 2,048 mutexes of this file already, even if this is one of them; or it "
+     "is the thread's first call, and 64 threads take part already (pz_thread_begin); nothing was done"},
+    {"pz_mutex_timedlock", ENOMEM, "it is the thread's first call, and there is no room to take part "
+     "(pz_thread_begin); nothing was done"},
+    {"pz_mutex_timedlock", EFAULT, "somebody wrote stray values into the library's words, and the call was stopped "
+     "there: nobody knows who owns what, so end all who use the file and delete it"},
+    {"pz_mutex_clocklock", 0, "the thread owns the mutex"},
+    {"pz_mutex_clocklock", EOWNERDEAD, "it owns the mutex; an owner died, and nobody has declared the state "
+     "consistent since"},
+    {"pz_mutex_clocklock", ENOTRECOVERABLE, "an owner unlocked it without declaring it consistent: nobody owns it "
+     "again before pz_mutex_reinit"},
+    {"pz_mutex_clocklock", EDEADLK, "it owns the mutex already"},
+    {"pz_mutex_clocklock", ETIMEDOUT, "the time has come, and another thread owns it, which lives, or died and is "
+     "being cleaned up after"},
+    {"pz_mutex_clocklock", EINVAL, "it would have to wait, and tv_nsec isn't 0 to 999,999,999; or the clock is "
+     "neither CLOCK_REALTIME nor CLOCK_MONOTONIC; or there is no such mutex or condition variable; nothing was done; "
+     "or somebody wrote stray values into the library's words, and the call was stopped there: nobody knows who owns "
+     "what, so end all who use the file and delete it"},
+    {"pz_mutex_clocklock", EAGAIN, "it holds 2,048 mutexes of this file already, even if this is one of them; or it "
+     "is the thread's first call, and 64 threads take part already (pz_thread_begin); nothing was done"},
+    {"pz_mutex_clocklock", ENOMEM, "it is the thread's first call, and there is no room to take part "
+     "(pz_thread_begin); nothing was done"},
+    {"pz_mutex_clocklock", EFAULT, "somebody wrote stray values into the library's words, and the call was stopped "
+     "there: nobody knows who owns what, so end all who use the file and delete it"},
     {"pz_mutex_unlock", 0, "the mutex is free. If its lock answered EOWNERDEAD and nobody called "
      "pz_mutex_consistent, it is unusable instead, until pz_mutex_reinit: all who sleep on it are woken, and are "
      "told ENOTRECOVERABLE if they find it so"},

@@ -10,33 +10,39 @@
 
 /* ---- By steps. */
 
-static uint32_t answer_of(pz *p, unsigned t, const struct pz_access *x, uint64_t *value)
+static uint32_t answer_of(pz *p, unsigned t, const struct pz_access *x, struct limit *limit, uint64_t *value)
 {
     *value = 0;
     if (x->kind != PZ_WAIT)
         return pz_make(p, x, value);
     PZ_TELL(pz_trace_sleep(p, t, x->at));
     pz_trace_unlock();
-    uint32_t answer = pz_sleep(p, t, x->at, (uint32_t)x->a);
+    uint32_t answer = pz_sleep(p, t, x->at, (uint32_t)x->a, limit);
     pz_trace_lock();
     PZ_TELL(pz_trace_wake(t));
     return answer;
 }
 
+/* A sleep that its limit ended has no answer: what is left then of the call is another row. */
+static uint32_t step(struct pz_call *call, struct pz_access *x, uint32_t answer, uint64_t value)
+{
+    return answer == EXPIRED ? pz_expire(call, x) : pz_step(call, x, answer, value);
+}
+
 /* Goes on with an answer until the call has returned. Out of line: it is the slow path. errno stays what it was. */
-static __attribute__((noinline)) uint32_t run_on(pz *p, unsigned t, struct pz_call *call, uint32_t answer,
-                                                 uint64_t value)
+static __attribute__((noinline)) uint32_t run_on(pz *p, unsigned t, struct pz_call *call, struct limit *limit,
+                                                 uint32_t answer, uint64_t value)
 {
     struct pz_access x;
     uint32_t state;
     int saved = errno;
-    while ((state = pz_step(call, &x, answer, value)) == PZ_GOES) {
+    while ((state = step(call, &x, answer, value)) == PZ_GOES) {
         PZ_TELL(pz_trace_step(call, &x, state));
         pz_trace_unlock();
         pz_trace_lock();
         if (x.kind == PZ_WAKE) /* an heir's, of all: it looks at the word no more, so no wake may be left to it */
             pz_disinherit(p, t, call->cell);
-        answer = answer_of(p, t, &x, &value);
+        answer = answer_of(p, t, &x, limit, &value);
     }
     if (state == PZ_RETURNED)
         PZ_TELL(pz_trace_step(call, &x, state));
@@ -45,18 +51,19 @@ static __attribute__((noinline)) uint32_t run_on(pz *p, unsigned t, struct pz_ca
     return state == PZ_RETURNED ? call->phase.lock.reply : EINVAL;
 }
 
-static __attribute__((noinline)) uint32_t run(pz *p, struct pz_call *call, unsigned operation, int c)
+static __attribute__((noinline)) uint32_t run(pz *p, struct pz_call *call, unsigned operation, int c,
+                                              struct limit *limit)
 {
     struct pz_access x;
     uint64_t value;
     unsigned t = call->thread;
     (void)c;
     pz_trace_lock();
-    PZ_TELL(pz_trace_begin(t, operation, mutex_at(call->cell), c));
+    PZ_TELL(pz_trace_begin(t, limit ? PZ_OP_TIMEDLOCK : operation, mutex_at(call->cell), c));
     uint32_t reply = EINVAL;
     if (pz_begin(call, &x, operation) == PZ_GOES) {
-        uint32_t answer = answer_of(p, t, &x, &value); /* no call begins with a sleep */
-        reply = run_on(p, t, call, answer, value);
+        uint32_t answer = answer_of(p, t, &x, NULL, &value); /* no call begins with a sleep */
+        reply = run_on(p, t, call, limit, answer, value);
     }
     pz_trace_unlock();
     return reply;
@@ -94,7 +101,7 @@ static int counted(pz *p, unsigned m, unsigned operation, uint32_t reply)
 }
 
 /* By its steps: what isn't as the ways below want it. */
-int pz_by_steps(pz *p, unsigned m, unsigned operation)
+int pz_by_steps(pz *p, unsigned m, unsigned operation, struct limit *limit)
 {
     int why = 0;
     if (m >= p->mutexes)
@@ -109,18 +116,18 @@ int pz_by_steps(pz *p, unsigned m, unsigned operation)
     word *w = &p->words[call.cell];
     if (operation == PZ_OP_UNLOCK && owner_of(atomic_load(w)) == t)
         tell_given(w);
-    return counted(p, m, operation, run(p, &call, operation, -1));
+    return counted(p, m, operation, run(p, &call, operation, -1, limit));
 }
 
 /* Whose exchange failed, or whose release found that somebody sleeps, and no heir: it goes on by its steps from there.
  */
-int pz_lost(pz *p, unsigned m, unsigned operation, uint64_t seen, uint64_t found)
+int pz_lost(pz *p, unsigned m, unsigned operation, struct limit *limit, uint64_t seen, uint64_t found)
 {
     struct self *self = &pz_self[p->number];
     struct pz_call call = call_of(self->id, cell_place(m));
     call.program = (uint8_t)operation;
     call.phase.lock = (struct pz_phase){.kind = operation == PZ_OP_LOCK ? LOCK_TAKE : TRY_TAKE, .x = seen};
-    return counted(p, m, operation, run_on(p, self->id, &call, PZ_CHANGED, found));
+    return counted(p, m, operation, run_on(p, self->id, &call, limit, PZ_CHANGED, found));
 }
 
 static int released(pz *p, unsigned m, uint64_t found)
@@ -129,7 +136,7 @@ static int released(pz *p, unsigned m, uint64_t found)
     struct pz_call call = call_of(self->id, cell_place(m));
     call.program = PZ_OP_UNLOCK;
     call.phase.lock = (struct pz_phase){.kind = UNLOCK_RELEASE};
-    return counted(p, m, PZ_OP_UNLOCK, run_on(p, self->id, &call, PZ_VALUE, found));
+    return counted(p, m, PZ_OP_UNLOCK, run_on(p, self->id, &call, NULL, PZ_VALUE, found));
 }
 
 /* Whose release found that somebody may sleep, or an heir, leaves the wake of one to that (heir.c). */
@@ -148,15 +155,15 @@ int pz_hand_on(pz *p, unsigned m, uint64_t found)
     return 0;
 }
 
-int pz_take_behind(pz *p, unsigned m)
+int pz_take_behind(pz *p, unsigned m, struct limit *limit)
 {
-    pz_give_way(p, pz_self[p->number].id, m);
-    return pz_take_now(p, m, PZ_OP_LOCK, 1);
+    pz_give_way(p, pz_self[p->number].id, m, limit);
+    return pz_take_now(p, m, PZ_OP_LOCK, limit, 1);
 }
 
 /* The cell was seen owned, or unusable. A lock that isn't the owner's waits, and one that finds sleepers of an unusable
  * mutex wakes them: by their steps. */
-int pz_refused(pz *p, unsigned m, unsigned operation, uint64_t seen)
+int pz_refused(pz *p, unsigned m, unsigned operation, struct limit *limit, uint64_t seen)
 {
     unsigned t = pz_self[p->number].id;
     int is_lock = operation == PZ_OP_LOCK, reply = EBUSY;
@@ -166,7 +173,7 @@ int pz_refused(pz *p, unsigned m, unsigned operation, uint64_t seen)
     } else if (is_lock)
         reply = EDEADLK;
     if (is_lock && (seen & UNUSABLE ? seen & WAITERS : owner_of(seen) != t))
-        return pz_by_steps(p, m, operation);
+        return pz_by_steps(p, m, operation, limit);
     word *pending = &p->words[head_place(t) + 2];
     STORE(pending, cell_place(m) + 1);
     STORE(pending, 0);
@@ -176,6 +183,20 @@ int pz_refused(pz *p, unsigned m, unsigned operation, uint64_t seen)
 /* ---- The calls. */
 
 int pz_mutex_lock(pz *p, unsigned m) { return pz_take(p, m, PZ_OP_LOCK); }
+
+/* A limit that is no time counts as one that has come, where it would wait. */
+int pz_mutex_clocklock(pz *p, unsigned m, clockid_t clock, const struct timespec *until)
+{
+    struct limit limit = {.clock = clock, .at = until};
+    if (clock != CLOCK_REALTIME && clock != CLOCK_MONOTONIC)
+        return EINVAL;
+    int r = pz_take_now(p, m, PZ_OP_LOCK, &limit, 0);
+    return r == ETIMEDOUT && !pz_is_time(until) ? EINVAL : r;
+}
+int pz_mutex_timedlock(pz *p, unsigned m, const struct timespec *until)
+{
+    return pz_mutex_clocklock(p, m, CLOCK_REALTIME, until);
+}
 int pz_mutex_unlock(pz *p, unsigned m) { return pz_give(p, m); }
 int pz_mutex_consistent(pz *p, unsigned m) { return pz_declare(p, m); }
 
@@ -297,7 +318,7 @@ int pz_cond_by_steps(pz *p, unsigned c, unsigned operation)
         OR(counter + 3, bit_of(t));
     else if (owned && count - AGAIN <= FULL - AGAIN)
         pz_begin_again(counter, count);
-    uint32_t reply = run(p, &call, operation, (int)c);
+    uint32_t reply = run(p, &call, operation, (int)c, NULL);
     if (owned)
         tell_taken(w);
     if (owned && owner_of(atomic_load(w)) != t)
@@ -317,7 +338,7 @@ int pz_counted(pz *p, unsigned c, unsigned operation, uint64_t count, uint64_t f
     call.program = ON_CONDITION;
     call.phase.kind = operation == PZ_OP_SIGNAL ? SIGNAL_COUNT : BROADCAST_SET_WAITERS;
     call.phase.seen = operation == PZ_OP_SIGNAL ? 0 : (uint32_t)count;
-    return answer_to(run_on(p, t, &call, PZ_VALUE, found));
+    return answer_to(run_on(p, t, &call, NULL, PZ_VALUE, found));
 }
 
 int pz_cond_wait(pz *p, unsigned c) { return pz_cond_by_steps(p, c, PZ_OP_WAIT); }

@@ -101,6 +101,15 @@ struct self {
 };
 extern _Thread_local struct self pz_self[FILES] __attribute__((tls_model("initial-exec")));
 
+/* Until when a call waits, by CLOCK_REALTIME or CLOCK_MONOTONIC. NULL: as long as it takes. */
+struct limit {
+    clockid_t clock;
+    const struct timespec *at; /* looked at where it would have to wait */
+    int is_relied_on;          /* it was woken, or the heir: others may sleep and know of no later owner */
+};
+/* What pz_sleep says besides answers: the limit came. */
+enum { EXPIRED = PZ_FAULT + 1 };
+
 /* Each so many locks a thread looks whether the heir is late. */
 enum { LOCKS = 8 };
 /* Whether it does so before this one, or gives way. */
@@ -161,17 +170,19 @@ uint32_t pz_make_of_walk(pz *p, const struct pz_access *x, uint64_t *value);
 /* ---- heir.c */
 int pz_let_come(const pz *p, uint64_t cell);
 void pz_comes(const pz *p, unsigned t, uint64_t cell);
-void pz_disinherit(const pz *p, unsigned t, uint64_t cell);
+int pz_disinherit(const pz *p, unsigned t, uint64_t cell);
 void pz_end_nap(const pz *p, uint64_t cell);
-int pz_changes(pz *p, unsigned t, uint64_t at, uint32_t expected);
-void pz_give_way(pz *p, unsigned t, unsigned m);
+int pz_changes(pz *p, unsigned t, uint64_t at, uint32_t expected, const struct limit *limit);
+void pz_give_way(pz *p, unsigned t, unsigned m, const struct limit *limit);
 
 /* ---- sleep.c */
 int pz_has_died(pz *p, unsigned t);
 void pz_reap_if_dead(pz *p, unsigned self, unsigned t);
-uint32_t pz_sleep(pz *p, unsigned t, uint64_t at, uint32_t expected);
+int pz_is_time(const struct timespec *t);
+long pz_left(const struct limit *limit, long most);
+uint32_t pz_sleep(pz *p, unsigned t, uint64_t at, uint32_t expected, struct limit *limit);
 void pz_awake(pz *p, unsigned t, uint64_t cell);
-void pz_sleep_for_id(pz *p, _Atomic uint32_t *given, uint32_t seen);
+int pz_sleep_for_id(pz *p, _Atomic uint32_t *given, uint32_t seen, const struct limit *limit);
 void pz_watch_me(pz *p);
 
 /* ---- reap.c */

@@ -16,6 +16,12 @@
  * the two leaves its own to that one, which is made again if it woke nobody. If the waker is killed there, or the one
  * that was woken, its reaper takes COMES back; where none of the sleepers watched it, that is by whoever polls first.
  *
+ * **An heir whose time is over gives the name up, and looks at the word once more.** An unlock that left its wake to it
+ * has changed the word before that look: so it goes on, and may have the mutex though its limit has come. Where the
+ * word is as it was, somebody owns the mutex, who finds no heir and wakes a sleeper. But of that owner the sleepers may
+ * not know yet, and watch earlier ones: the heir was to watch him, or who was woken and found him there. So one of
+ * these that gives up wakes a sleeper, if there is any, which looks in its place.
+ *
  * **Who waits gets it in time.** The heir keeps its own time, and is due after FAIR: who frees the mutex from then on
  * begins its next lock of it once the heir has had it, or after WAY. An heir whose pauses don't pay naps on its own
  * word: it stays the heir, and an unlock ends the nap. Only who was woken takes COMES, so sleepers get the mutex in
@@ -34,7 +40,8 @@ enum { FAIR = 500000, LATE = 50000, WAY = 2000000, WAY_AWAKE = 20000 };
 enum { FIRST_LOOK = 500, LAST_LOOK = 10000, LEAST_PAUSE = 2000, CROWDED_PAUSE = 20000 };
 enum { LONGEST_PAUSE = PZ_SPIN * 1000, NAP = 1000000, ALL_NAPS = 20000000 };
 
-/* Each so many sleeps a thread pauses as long as may be; and who makes LOCKS of locks in less time does nothing else. */
+/* Each so many sleeps a thread pauses as long as may be; and who makes LOCKS of locks in less time does nothing else.
+ */
 enum { TRY_ALL = 16, BUSY = LOCKS * 3000 };
 
 static long now_ns(void)
@@ -112,16 +119,17 @@ static int is_heir(const pz *p, unsigned t, uint64_t cell)
     return EXCHANGE(heir(p, cell), &is, t | since(heir_since));
 }
 
-/* It isn't it any more; of t 0, nobody waits for who was woken. */
-void pz_disinherit(const pz *p, unsigned t, uint64_t cell)
+/* It isn't it any more, and whether it was; of t 0, nobody waits for who was woken. */
+int pz_disinherit(const pz *p, unsigned t, uint64_t cell)
 {
     uint64_t is = SEE(heir(p, cell));
     while (t ? (is & WHO) == t : (is & COMES) != 0)
         if (EXCHANGE(heir(p, cell), &is, 0)) {
             if (is & AWAITED)
                 wake_all_on(heir(p, cell));
-            return;
+            return 1;
         }
+    return 0;
 }
 
 /* By who freed the mutex. */
@@ -177,25 +185,26 @@ static int is_due(const pz *p, unsigned t, uint64_t cell, long now)
 }
 
 /* Looks are few, each after twice as long: one takes the word's line from its owner, who is about to change it. Who is
- * due looks often. */
-static int changes_soon(const pz *p, unsigned t, uint64_t at, uint32_t expected)
+ * due looks often. (A pause that its limit ends says nothing of what pays.) */
+static int changes_soon(const pz *p, unsigned t, uint64_t at, uint32_t expected, long left)
 {
     long most = longest_pause(p, at), began = now_ns(), next = FIRST_LOOK;
-    for (long now = began; now - began < most; now = now_ns()) {
+    for (long now = began; now - began < most && now - began < left; now = now_ns()) {
         pause_until(is_due(p, t, at, now) ? now : now + next);
         if (differs(p, at, expected))
             return paid(1);
         next = next < LAST_LOOK ? 2 * next : next;
     }
-    return paid(0);
+    return left < most ? 0 : paid(0);
 }
 
 /* NAPS is set before the look at the word: an unlock that doesn't see it has changed the word before that. (It naps
  * only so long at a time, as the owner may die.) */
-static int changes_in_a_nap(pz *p, unsigned t, uint64_t at, uint32_t expected)
+static int changes_in_a_nap(pz *p, unsigned t, uint64_t at, uint32_t expected, const struct limit *limit)
 {
     word *h = heir(p, at);
-    for (long began = now_ns(), now = began; now - began < ALL_NAPS; now = now_ns()) {
+    long left;
+    for (long began = now_ns(), now = began; now - began < ALL_NAPS && (left = pz_left(limit, NAP)); now = now_ns()) {
         long most = is_due(p, t, at, now) ? NAP : heir_since + FAIR - now;
         uint64_t is = SEE(h);
         if ((is & WHO) != t)
@@ -203,7 +212,7 @@ static int changes_in_a_nap(pz *p, unsigned t, uint64_t at, uint32_t expected)
         if (!EXCHANGE(h, &is, is | NAPS))
             continue;
         if (!differs(p, at, expected))
-            rest_on(h, is | NAPS, most);
+            rest_on(h, is | NAPS, most < left ? most : left);
         AND(h, ~(uint64_t)NAPS);
         pz_reap_if_dead(p, t, owner_of(expected));
         if (differs(p, at, expected))
@@ -212,10 +221,12 @@ static int changes_in_a_nap(pz *p, unsigned t, uint64_t at, uint32_t expected)
     return 0;
 }
 
-/* Whether the word changes before the thread need sleep. */
-int pz_changes(pz *p, unsigned t, uint64_t at, uint32_t expected)
+/* Whether the word changes before the thread need sleep, or its limit comes. */
+int pz_changes(pz *p, unsigned t, uint64_t at, uint32_t expected, const struct limit *limit)
 {
-    return is_heir(p, t, at) && (changes_soon(p, t, at, expected) || changes_in_a_nap(p, t, at, expected));
+    long left = pz_left(limit, LONGEST_PAUSE + ALL_NAPS);
+    return left && is_heir(p, t, at) &&
+           (changes_soon(p, t, at, expected, left) || changes_in_a_nap(p, t, at, expected, limit));
 }
 
 /* ---- The others give way. */
@@ -236,12 +247,12 @@ static void help_late(const pz *p, uint64_t cell, uint64_t is)
 }
 
 /* Until it has had the mutex, or isn't due any more: awake at first, then asleep on its word. After WAY it isn't due
- * any more, and may be dead. */
-static void wait_for_it(pz *p, unsigned t, uint64_t cell)
+ * any more, and may be dead. Up to its own limit at most. */
+static void wait_for_it(pz *p, unsigned t, uint64_t cell, long most)
 {
     word *h = heir(p, cell);
     uint64_t is = SEE(h);
-    for (long began = now_ns(), waited = 0; waited < WAY; waited = now_ns() - began, is = SEE(h)) {
+    for (long began = now_ns(), waited = 0; waited < most; waited = now_ns() - began, is = SEE(h)) {
         unsigned owner = owner_of(SEE(&p->words[cell]));
         if (!(is & DUE) || (is & WHO) == t || (owner && owner != (is & WHO)))
             return;
@@ -250,21 +261,23 @@ static void wait_for_it(pz *p, unsigned t, uint64_t cell)
         if (waited < WAY_AWAKE)
             pause_once();
         else if ((is & AWAITED) || EXCHANGE(h, &is, is | AWAITED))
-            rest_on(h, is | AWAITED, WAY - waited);
+            rest_on(h, is | AWAITED, most - waited);
     }
+    if (most < WAY)
+        return;
     if (is & DUE) /* not where it has gone just now: a time alone would be taken for an heir */
         EXCHANGE(h, &is, (uint32_t)(is & ~(uint64_t)DUE) | since(now_ns()));
     pz_reap(p);
 }
 
 /* Before a lock that looks at the heir. */
-void pz_give_way(pz *p, unsigned t, unsigned m)
+void pz_give_way(pz *p, unsigned t, unsigned m, const struct limit *limit)
 {
     struct self *self = &pz_self[p->number];
     uint64_t cell = cell_place(m), is = SEE(heir(p, cell));
     if (self->owes == m + 1) {
         self->owes = 0;
-        wait_for_it(p, t, cell);
+        wait_for_it(p, t, cell, pz_left(limit, WAY));
     } else if (is && !(is & DUE))
         help_late(p, cell, is);
 }

@@ -6,6 +6,7 @@
 #include <stdint.h>
 #include <stddef.h>
 #include <sys/types.h>
+#include <time.h>
 #ifdef __cplusplus
 extern "C" {
 #endif
@@ -13,6 +14,7 @@ extern "C" {
 #define PZ_VERSION "0.1"
 enum { PZ_THREADS = 64 }; /* take part in a file at a time; their ids begin at 1 */
 typedef struct pz pz;
+struct timespec;
 
 /* Opens or makes the file. Its mutexes are 0 to mutexes-1; condition variable c is of mutex mutex_of[c] for good (NULL:
  * c % mutexes). data bytes of it are the program's own (pz_data). 0, or an errno; EINVAL where the file was made with
@@ -37,6 +39,10 @@ unsigned pz_thread_id(pz *);     /* 1 to 64; 0: it doesn't take part */
  * what that guards, and calls pz_mutex_consistent. */
 int pz_mutex_lock(pz *, unsigned m);        /* EOWNERDEAD, ENOTRECOVERABLE, EDEADLK, EAGAIN (2,048 held) */
 int pz_mutex_trylock(pz *, unsigned m);     /* EOWNERDEAD, ENOTRECOVERABLE, EBUSY, EAGAIN (2,048 held) */
+/* Up to a time, by CLOCK_REALTIME, or by that or CLOCK_MONOTONIC: as lock, and ETIMEDOUT; EINVAL: another clock, or it
+ * would have to wait for what is no time. */
+int pz_mutex_timedlock(pz *, unsigned m, const struct timespec *until);
+int pz_mutex_clocklock(pz *, unsigned m, clockid_t clock, const struct timespec *until);
 int pz_mutex_unlock(pz *, unsigned m);      /* EPERM */
 int pz_mutex_consistent(pz *, unsigned m);  /* EPERM, EINVAL: there is nothing to declare */
 int pz_mutex_reinit(pz *, unsigned m);      /* 0: free again, unusable or not; EBUSY: owned or slept on; EAGAIN */

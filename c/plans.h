@@ -12,11 +12,11 @@ static const uint64_t FULL = 0xffffffff, AGAIN = 0x80000000;
 
 /* ---- calls.c: what isn't as the ways below want it goes by its steps; so does, from there on, whose exchange failed,
  * whose release found that somebody may sleep, and whose signal did. Who finds an heir may give way to it. */
-int pz_by_steps(pz *p, unsigned m, unsigned operation);
-int pz_refused(pz *p, unsigned m, unsigned operation, uint64_t seen);
-int pz_lost(pz *p, unsigned m, unsigned operation, uint64_t seen, uint64_t found);
+int pz_by_steps(pz *p, unsigned m, unsigned operation, struct limit *limit);
+int pz_refused(pz *p, unsigned m, unsigned operation, struct limit *limit, uint64_t seen);
+int pz_lost(pz *p, unsigned m, unsigned operation, struct limit *limit, uint64_t seen, uint64_t found);
 int pz_hand_on(pz *p, unsigned m, uint64_t found);
-int pz_take_behind(pz *p, unsigned m);
+int pz_take_behind(pz *p, unsigned m, struct limit *limit);
 int pz_cond_by_steps(pz *p, unsigned c, unsigned operation);
 int pz_counted(pz *p, unsigned c, unsigned operation, uint64_t count, uint64_t found);
 uint64_t pz_begin_again(word *counter, uint64_t count);
@@ -24,24 +24,25 @@ uint64_t pz_begin_again(word *counter, uint64_t count);
 static inline uint64_t own(const word *w) { return atomic_load_explicit(w, memory_order_relaxed); }
 static inline int is_entry(const pz *p, uint64_t at) { return at - LINE < p->places - 2 - LINE; }
 
-/* The cell is free, and the thread may hold one more. */
-static inline __attribute__((always_inline)) int pz_take_now(pz *p, unsigned m, unsigned operation, int has_given_way)
+/* The cell is free, and the thread may hold one more. A lock with a limit is a lock, up to where it sleeps. */
+static inline __attribute__((always_inline)) int pz_take_now(pz *p, unsigned m, unsigned operation, struct limit *limit,
+                                                             int has_given_way)
 {
     struct self *self = &pz_self[p->number];
     uint64_t t = self->id, head = head_place(self->id), cell = cell_place(m), entry = cell + 1;
     if (PZ_TRACE || m >= p->mutexes || !t || self->held >= HELD)
-        return pz_by_steps(p, m, operation);
+        return pz_by_steps(p, m, operation, limit);
     word *words = p->words, *h = &words[head], *w = &words[cell];
     if (!has_given_way && operation == PZ_OP_LOCK && own(w + 4) && looks_at_heir(self, m))
-        return pz_take_behind(p, m);
+        return pz_take_behind(p, m, limit);
     uint64_t seen = atomic_load_explicit(w, memory_order_acquire), found = seen, first = own(h);
     if (seen & (OWNED | UNUSABLE))
-        return pz_refused(p, m, operation, seen);
+        return pz_refused(p, m, operation, limit, seen);
     if (!is_entry(p, first))
-        return pz_by_steps(p, m, operation);
+        return pz_by_steps(p, m, operation, limit);
     STORE(h + 2, entry); /* pending, before the cell is taken */
     if (!EXCHANGE(w, &found, seen | t))
-        return pz_lost(p, m, operation, seen, found);
+        return pz_lost(p, m, operation, limit, seen, found);
     STORE(w + 1, first);
     STORE(w + 2, head);
     if (first != head)
@@ -55,7 +56,7 @@ static inline __attribute__((always_inline)) int pz_take_now(pz *p, unsigned m, 
 
 static inline __attribute__((always_inline)) int pz_take(pz *p, unsigned m, unsigned operation)
 {
-    return pz_take_now(p, m, operation, 0);
+    return pz_take_now(p, m, operation, NULL, 0);
 }
 
 /* The cell is the thread's, and consistent. */
@@ -64,13 +65,13 @@ static inline __attribute__((always_inline)) int pz_give(pz *p, unsigned m)
     struct self *self = &pz_self[p->number];
     uint64_t t = self->id, head = head_place(self->id), cell = cell_place(m), entry = cell + 1;
     if (PZ_TRACE || m >= p->mutexes || !t)
-        return pz_by_steps(p, m, PZ_OP_UNLOCK);
+        return pz_by_steps(p, m, PZ_OP_UNLOCK, NULL);
     word *words = p->words, *h = &words[head], *w = &words[cell];
     uint64_t seen = atomic_load_explicit(w, memory_order_acquire), next = own(w + 1), previous = own(w + 2);
     if ((seen & OWNED) != t)
         return EPERM; /* refused before it stores anything */
     if ((seen & DIED) || !is_entry(p, next) || !is_entry(p, previous))
-        return pz_by_steps(p, m, PZ_OP_UNLOCK);
+        return pz_by_steps(p, m, PZ_OP_UNLOCK, NULL);
     tell_given(w);
     STORE(h + 2, entry);
     STORE(&words[previous], next);
@@ -92,7 +93,7 @@ static inline int pz_declare(pz *p, unsigned m)
 {
     uint64_t t = pz_self[p->number].id;
     if (PZ_TRACE || m >= p->mutexes || !t)
-        return pz_by_steps(p, m, PZ_OP_CONSISTENT);
+        return pz_by_steps(p, m, PZ_OP_CONSISTENT, NULL);
     word *w = &p->words[cell_place(m)];
     uint64_t seen = atomic_load_explicit(w, memory_order_acquire);
     if ((seen & OWNED) != t)

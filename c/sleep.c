@@ -1,5 +1,6 @@
-/* A sleep on a word: it ends when the thread is woken, when the word differs, and when the mutex's owner turns out to
- * be dead, since then nobody but this thread may be there to reap it. (What is waited awake before it: heir.c.) */
+/* A sleep on a word: it ends when the thread is woken, when the word differs, when the mutex's owner turns out to be
+ * dead, since then nobody but this thread may be there to reap it, and when its time limit comes. (What is waited awake
+ * before it: heir.c.) */
 #include "driver.h"
 #include <errno.h>
 #include <linux/futex.h>
@@ -11,13 +12,14 @@
 #define SYS_futex_waitv 449
 #endif
 
-enum { ASLEEP = 0, FIRST_LOOK_MS = 20, LAST_LOOK_MS = 500 };
+enum { ASLEEP = 0, FIRST_LOOK_MS = 20, LAST_LOOK_MS = 500, SECOND_NS = 1000000000 };
 
 struct sleeper {
     pz *p;
     unsigned thread;
     uint64_t at;
     uint32_t expected;
+    struct limit *limit;
     uint64_t before; /* who sleeps there already: they are woken first, and one that is killed then hands nothing on */
     long look_ms;
     int is_woken; /* by its last system call, maybe: not where that says otherwise */
@@ -98,14 +100,51 @@ static unsigned watch_all(const struct sleeper *s, unsigned owner, struct watche
     return 0;
 }
 
-static struct timespec from_now(long ms)
+/* ---- Times. */
+
+static int is_before(const struct timespec *a, const struct timespec *b)
+{
+    return a->tv_sec < b->tv_sec || (a->tv_sec == b->tv_sec && a->tv_nsec < b->tv_nsec);
+}
+int pz_is_time(const struct timespec *t) { return t->tv_nsec >= 0 && t->tv_nsec < SECOND_NS; }
+
+/* For how many nanoseconds, of so many, there is time still: none where the limit has come, or is no time. (It is ahead
+ * of now, which isn't before 1970, where they are subtracted.) */
+long pz_left(const struct limit *limit, long most)
 {
     struct timespec now;
-    clock_gettime(CLOCK_MONOTONIC, &now);
-    now.tv_sec += ms / 1000 + (now.tv_nsec + ms % 1000 * 1000000) / 1000000000;
-    now.tv_nsec = (now.tv_nsec + ms % 1000 * 1000000) % 1000000000;
-    return now;
+    if (!limit)
+        return most;
+    if (!pz_is_time(limit->at))
+        return 0;
+    clock_gettime(limit->clock, &now);
+    if (!is_before(&now, limit->at))
+        return 0;
+    long s = limit->at->tv_sec - now.tv_sec, ns = limit->at->tv_nsec - now.tv_nsec;
+    return s > most / SECOND_NS + 1 || s * SECOND_NS + ns > most ? most : s * SECOND_NS + ns;
 }
+
+static clockid_t clock_of(const struct limit *limit) { return limit ? limit->clock : CLOCK_MONOTONIC; }
+
+/* When it looks by itself, or its limit comes, by the limit's clock: so a sleep ends at once where that is set ahead.
+ * Where it is set back the next look comes later by as much. (The kernel wants no time before 1970: such a limit has
+ * come, and nobody sleeps.) */
+static struct timespec from_now(const struct limit *limit, long ms)
+{
+    struct timespec look;
+    clock_gettime(clock_of(limit), &look);
+    look.tv_sec += ms / 1000 + (look.tv_nsec + ms % 1000 * 1000000) / SECOND_NS;
+    look.tv_nsec = (look.tv_nsec + ms % 1000 * 1000000) % SECOND_NS;
+    return limit && is_before(limit->at, &look) ? *limit->at : look;
+}
+
+static long wait_on(uint32_t *word, uint32_t is, clockid_t clock, const struct timespec *until)
+{
+    int how = FUTEX_WAIT_BITSET | (clock == CLOCK_REALTIME ? FUTEX_CLOCK_REALTIME : 0);
+    return syscall(SYS_futex, word, how, is, until, NULL, FUTEX_BITSET_MATCH_ANY);
+}
+
+/* ---- One sleep. */
 
 /* What a wait's end says: ASLEEP, to wait again. */
 static uint32_t ended(const struct sleeper *s, unsigned owner, int error)
@@ -128,11 +167,10 @@ static uint32_t ended(const struct sleeper *s, unsigned owner, int error)
 /* A requeue can't move whoever sleeps by futex_waitv, so on a counter a thread looks now and then. */
 static uint32_t wait_looking(struct sleeper *s, unsigned owner)
 {
-    long ms = PZ_POLL_S > 1000 ? PZ_POLL_S * 1000l : s->look_ms;
-    struct timespec most = {.tv_sec = ms / 1000, .tv_nsec = ms % 1000 * 1000000};
+    struct timespec until = from_now(s->limit, PZ_POLL_S > 1000 ? PZ_POLL_S * 1000l : s->look_ms);
     if (s->look_ms < LAST_LOOK_MS)
         s->look_ms *= 2;
-    long r = syscall(SYS_futex, (uint32_t *)&s->p->words[s->at], FUTEX_WAIT, s->expected, &most, NULL, 0);
+    long r = wait_on((uint32_t *)&s->p->words[s->at], s->expected, clock_of(s->limit), &until);
     s->is_woken = r >= 0;
     return ended(s, owner, r < 0 ? errno : 0);
 }
@@ -147,8 +185,8 @@ static uint32_t wait_watching(struct sleeper *s, unsigned owner)
         pz_reap_one(s->p, dead);
         return PZ_WOKEN;
     }
-    struct timespec until = from_now(PZ_POLL_S * 1000l);
-    long r = syscall(SYS_futex_waitv, all.v, all.n, 0, &until, CLOCK_MONOTONIC);
+    struct timespec until = from_now(s->limit, PZ_POLL_S * 1000l);
+    long r = syscall(SYS_futex_waitv, all.v, all.n, 0, &until, clock_of(s->limit));
     int error = r < 0 ? errno : 0;
     s->is_woken = r >= 0; /* by a token too: that another woke it by the word meanwhile isn't told */
     for (unsigned i = 1; i < all.n; i++)
@@ -180,24 +218,52 @@ static int is_reaped(const struct sleeper *s)
            pz_reap_one(s->p, owner) == GONE;
 }
 
-uint32_t pz_sleep(pz *p, unsigned t, uint64_t at, uint32_t expected)
+/* Whether it is over: it sleeps nowhere, was given no wake by its last sleep, and isn't the heir. So whoever has
+ * released the mutex, and left the wake to it, has changed the word by now, and it goes on. A dead owner is reaped
+ * first: the mutex may be had. (Where another one does that, it isn't there yet.) */
+static uint32_t gives_up(const struct sleeper *s)
 {
-    int counter = is_counter(p, at);
-    struct sleeper s = {.p = p, .thread = t, .at = at, .expected = expected, .look_ms = FIRST_LOOK_MS};
-    if (!counter && is_reaped(&s))
-        return unless_changed(&s, PZ_WOKEN);
-    if (!counter && pz_changes(p, t, at, expected))
-        return PZ_AGAIN;
-    OR(sleepers(p, at), bit_of(t));
-    if (!counter)
-        pz_disinherit(p, t, at); /* who releases from here on wakes */
+    pz_reap_if_dead(s->p, s->thread, owner_of(s->expected));
+    return unless_changed(s, EXPIRED);
+}
+
+static uint32_t sleep_on(struct sleeper *s)
+{
     uint32_t answer;
     do
-        answer = sleep_once(&s);
+        answer = pz_left(s->limit, 1) ? sleep_once(s) : gives_up(s);
     while (answer == ASLEEP);
+    return answer;
+}
+
+/* Of one with a limit: whoever was woken, or was the heir, is the one who knows of the present owner. Those who sleep
+ * may watch earlier ones. So as it gives up another one looks, by a wake that nobody owes. */
+static void pass_on(const struct sleeper *s, uint32_t answer)
+{
+    if (answer != EXPIRED)
+        s->limit->is_relied_on = 1;
+    else if (s->limit->is_relied_on && SEE(sleepers(s->p, s->at)))
+        syscall(SYS_futex, (uint32_t *)&s->p->words[s->at], FUTEX_WAKE, 1, NULL, NULL, 0);
+}
+
+uint32_t pz_sleep(pz *p, unsigned t, uint64_t at, uint32_t expected, struct limit *limit)
+{
+    int counter = is_counter(p, at);
+    struct sleeper s = {p, t, at, expected, limit, .look_ms = FIRST_LOOK_MS};
+    if (!counter && is_reaped(&s))
+        return unless_changed(&s, PZ_WOKEN);
+    if (!counter && pz_changes(p, t, at, expected, limit))
+        return PZ_AGAIN;
+    OR(sleepers(p, at), bit_of(t));
+    int was_heir = !counter && pz_disinherit(p, t, at); /* who releases from here on wakes */
+    if (was_heir && limit)
+        limit->is_relied_on = 1;
+    uint32_t answer = sleep_on(&s);
     if (s.is_woken)
         pz_comes(p, t, counter ? cell_of(p, at) : at); /* a broadcast may have moved it there */
     AND(sleepers(p, at), ~bit_of(t));
+    if (s.limit)
+        pass_on(&s, answer);
     return answer;
 }
 
@@ -216,27 +282,31 @@ void pz_awake(pz *p, unsigned t, uint64_t cell)
 /* The kernel tells who waits for an id of this thread's death. */
 void pz_watch_me(pz *p) { __atomic_fetch_or(pz_token_word(p, pz_self[p->number].id), FUTEX_WAITERS, __ATOMIC_SEQ_CST); }
 
-/* Until `given` differs, or a thread that has an id dies: else for PZ_POLL_S, as one that was woken may be killed. */
-void pz_sleep_for_id(pz *p, _Atomic uint32_t *given, uint32_t seen)
+/* Until `given` differs, a thread that has an id dies, or its limit comes: else for PZ_POLL_S, as one that was woken
+ * may be killed. Whether anything has come but a time. */
+int pz_sleep_for_id(pz *p, _Atomic uint32_t *given, uint32_t seen, const struct limit *limit)
 {
     static _Thread_local long look_ms = FIRST_LOOK_MS;
     struct watched all = {.n = 1};
     all.v[0] = (struct futex_waitv){.val = seen, .uaddr = (uintptr_t)given, .flags = FUTEX_32};
     for (unsigned t = 1; t <= THREADS; t++)
         if (!watch(p, t, &all))
-            return; /* dead: its id can be had */
+            return 1; /* dead: its id can be had */
     if (all.n < 1 + THREADS)
-        return; /* one is free */
-    struct timespec until = from_now(PZ_POLL_S * 1000l);
-    int is_told = !atomic_load(&no_waitv) &&
-                  (syscall(SYS_futex_waitv, all.v, all.n, 0, &until, CLOCK_MONOTONIC) >= 0 || is_known(errno));
+        return 1; /* one is free */
+    int error = ENOSYS;
+    struct timespec until = from_now(limit, PZ_POLL_S * 1000l);
+    if (!atomic_load(&no_waitv))
+        error = syscall(SYS_futex_waitv, all.v, all.n, 0, &until, clock_of(limit)) < 0 ? errno : 0;
     for (unsigned i = 1; i < all.n; i++) /* a sleeper on its mutex may have been meant */
         if (pz_has_died(p, all.thread[i]))
             pz_reap_one(p, all.thread[i]);
-    if (is_told)
-        return;
-    struct timespec most = {.tv_nsec = look_ms * 1000000};
+    if (is_known(error))
+        return error == 0 || error == EAGAIN;
+    until = from_now(limit, look_ms);
     look_ms = look_ms < LAST_LOOK_MS ? 2 * look_ms : look_ms;
-    if (syscall(SYS_futex, (uint32_t *)given, FUTEX_WAIT, seen, &most, NULL, 0) == 0)
-        look_ms = FIRST_LOOK_MS;
+    if (wait_on((uint32_t *)given, seen, clock_of(limit), &until) < 0)
+        return errno == EAGAIN;
+    look_ms = FIRST_LOOK_MS;
+    return 1;
 }

@@ -3,16 +3,18 @@
 #include "../plans.h"
 #include <errno.h>
 #include <string.h>
+#include <sys/syscall.h>
+#include <unistd.h>
 
 #define SHOWN __attribute__((visibility("default")))
-enum { FIRST_NAP_NS = 50000, LAST_NAP_NS = 5000000, SECOND_NS = 1000000000 };
 
-/* A mutex of libpazdrig, as this process has it. */
+/* A mutex of libpazdrig, as this process has it, and until when a lock of it waits. */
 struct mutex {
     struct ours *bytes;
     struct companion *c;
     pz *p;
     unsigned bank, m;
+    struct limit *limit;
 };
 
 /* Where it is the one still, behind what says that a call is on it. */
@@ -89,12 +91,23 @@ static int taken(const struct mutex *x, int r)
     return r;
 }
 
+/* By its owner: where its type is normal, with a limit, it waits for itself. (clock_nanosleep(2) itself: the C
+ * library's is a cancellation point, and these functions are none.) */
+static int locked_again(struct ours *o, const struct limit *limit)
+{
+    int saved = errno, r = again(o, limit ? ETIMEDOUT : EDEADLK);
+    while (r == ETIMEDOUT && pz_left(limit, 1))
+        syscall(SYS_clock_nanosleep, limit->clock, TIMER_ABSTIME, limit->at, NULL);
+    errno = saved;
+    return r;
+}
+
 static int lock(struct mutex *x)
 {
-    int r = sh_borrow(x->c, x->bank, x->p);
-    if (r || !(r = pz_mutex_lock(x->p, x->m)))
+    int r = sh_borrow(x->c, x->bank, x->p, x->limit);
+    if (r || !(r = pz_take_now(x->p, x->m, PZ_OP_LOCK, x->limit, 0)))
         return r;
-    return r == EDEADLK ? again(x->bytes, EDEADLK) : taken(x, r);
+    return r == EDEADLK ? locked_again(x->bytes, x->limit) : taken(x, r);
 }
 
 /* Without an id a thread can't try; but where somebody lives and owns it the answer is there. */
@@ -176,9 +189,9 @@ static int destroy(struct mutex *x)
 }
 
 /* errno stays what it was. */
-static __attribute__((noinline)) int kept(int (*call)(struct mutex *), struct ours *o)
+static __attribute__((noinline)) int kept_until(struct limit *limit, int (*call)(struct mutex *), struct ours *o)
 {
-    struct mutex x;
+    struct mutex x = {.limit = limit};
     int saved = errno, r = find(o, &x);
     if (!r) {
         PZ_AT(found);
@@ -188,37 +201,7 @@ static __attribute__((noinline)) int kept(int (*call)(struct mutex *), struct ou
     errno = saved;
     return r;
 }
-
-static int is_past(clockid_t clock, const struct timespec *until)
-{
-    struct timespec now;
-    clock_gettime(clock, &now);
-    return now.tv_sec > until->tv_sec || (now.tv_sec == until->tv_sec && now.tv_nsec >= until->tv_nsec);
-}
-
-/* An id isn't there: whoever owns something might keep from the others what they wait for. */
-static int may_wait(int r) { return r == EBUSY || (r == EAGAIN && !sh_owns_any()); }
-
-/* libpazdrig has no time limits: it tries, and naps in between, each time longer. */
-static int timed(struct ours *o, clockid_t clock, const struct timespec *until)
-{
-    if (clock != CLOCK_REALTIME && clock != CLOCK_MONOTONIC)
-        return EINVAL;
-    struct timespec nap = {.tv_nsec = FIRST_NAP_NS};
-    int r, state;
-    while (may_wait(r = kept(try, o))) {
-        if (until->tv_nsec < 0 || until->tv_nsec >= SECOND_NS)
-            return EINVAL;
-        if (is_past(clock, until))
-            return ETIMEDOUT;
-        pthread_setcancelstate(PTHREAD_CANCEL_DISABLE, &state);
-        nanosleep(&nap, NULL);
-        pthread_setcancelstate(state, NULL);
-        if (nap.tv_nsec < LAST_NAP_NS)
-            nap.tv_nsec *= 2;
-    }
-    return r;
-}
+static int kept(int (*call)(struct mutex *), struct ours *o) { return kept_until(NULL, call, o); }
 
 /* ---- Made and destroyed. */
 
@@ -287,29 +270,36 @@ static inline int at_hand(struct ours *o, struct mutex *x)
     return atomic_load_explicit(&x->c->turns, memory_order_relaxed) == turns;
 }
 
-static __attribute__((noinline)) int locked(struct ours *o, struct companion *c, pz *p, int r)
+static __attribute__((noinline)) int locked(struct ours *o, struct companion *c, pz *p, const struct limit *limit,
+                                            int r)
 {
     struct mutex x = {.bytes = o, .c = c, .p = p, .bank = bank_of(o->number)};
-    return r == EDEADLK ? again(o, EDEADLK) : taken(&x, r);
+    return r == EDEADLK ? locked_again(o, limit) : taken(&x, r);
+}
+
+static inline __attribute__((always_inline)) int lock_ours(struct ours *o, struct limit *limit)
+{
+    struct mutex x;
+    if (!at_hand(o, &x))
+        return kept_until(limit, lock, o);
+    int r = pz_take_now(x.p, x.m, PZ_OP_LOCK, limit, 0);
+    return __builtin_expect(r == 0, 1) ? 0 : locked(o, x.c, x.p, limit, r);
 }
 
 static inline __attribute__((always_inline)) int lock_any(pthread_mutex_t *m)
 {
     struct ours *o = sh_ours(m);
-    if (!o)
-        return sh_real.lock(m);
-    struct mutex x;
-    if (!at_hand(o, &x))
-        return kept(lock, o);
-    int r = pz_take(x.p, x.m, PZ_OP_LOCK);
-    return __builtin_expect(r == 0, 1) ? 0 : locked(o, x.c, x.p, r);
+    return o ? lock_ours(o, NULL) : sh_real.lock(m);
 }
 
-static __attribute__((noinline)) int kept_timed(struct ours *o, clockid_t clock, const struct timespec *until)
+/* A limit that is no time counts as one that has come, where it would wait. */
+static int lock_until(struct ours *o, clockid_t clock, const struct timespec *until)
 {
-    int saved = errno, r = timed(o, clock, until);
-    errno = saved;
-    return r;
+    struct limit limit = {.clock = clock, .at = until};
+    if (clock != CLOCK_REALTIME && clock != CLOCK_MONOTONIC)
+        return EINVAL;
+    int r = lock_ours(o, &limit);
+    return r == ETIMEDOUT && !pz_is_time(until) ? EINVAL : r;
 }
 
 /* ---- What is shown. */
@@ -366,13 +356,13 @@ SHOWN int pthread_mutex_trylock(pthread_mutex_t *m)
 SHOWN int pthread_mutex_timedlock(pthread_mutex_t *m, const struct timespec *until)
 {
     struct ours *o = sh_ours(m);
-    return o ? kept_timed(o, CLOCK_REALTIME, until) : sh_real.timedlock(m, until);
+    return o ? lock_until(o, CLOCK_REALTIME, until) : sh_real.timedlock(m, until);
 }
 
 SHOWN int pthread_mutex_clocklock(pthread_mutex_t *m, clockid_t clock, const struct timespec *until)
 {
     struct ours *o = sh_ours(m);
-    return o ? kept_timed(o, clock, until) : sh_real.clocklock(m, clock, until);
+    return o ? lock_until(o, clock, until) : sh_real.clocklock(m, clock, until);
 }
 
 SHOWN int pthread_mutex_consistent(pthread_mutex_t *m)

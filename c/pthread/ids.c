@@ -52,8 +52,9 @@ static long wake_one(_Atomic uint32_t *returned)
     return syscall(SYS_futex, returned, FUTEX_WAKE, 1, NULL, NULL, 0);
 }
 
-/* Until one was given back, or who had one has died. Whoever has waited wakes the next one in turn. */
-static int wait_for_id(struct companion *c, unsigned bank, pz *p)
+/* Until one was given back, or who had one has died, or its limit comes. Whoever has waited wakes the next one in turn.
+ */
+static int wait_for_id(struct companion *c, unsigned bank, pz *p, const struct limit *limit, int *was_woken)
 {
     _Atomic uint32_t *returned = &c->table->ids[bank].returned;
     PZ_AT(asking);
@@ -61,9 +62,14 @@ static int wait_for_id(struct companion *c, unsigned bank, pz *p)
     sh_ask_for_id(c, bank);
     PZ_AT(asked);
     int r = sh_borrow_now(p);
+    if (r == EAGAIN && !pz_left(limit, 1)) {
+        if (*was_woken)
+            wake_one(returned); /* for whoever took the id before it: others don't watch that one yet */
+        return ETIMEDOUT;
+    }
     if (r == EAGAIN) {
         PZ_AT(no_id);
-        pz_sleep_for_id(p, returned, seen);
+        *was_woken |= pz_sleep_for_id(p, returned, seen, limit);
     } else if (!r) {
         sh_ask_for_id(c, bank); /* others may wait still, */
         wake_one(returned);     /* there may be one for the next of them, */
@@ -73,11 +79,11 @@ static int wait_for_id(struct companion *c, unsigned bank, pz *p)
 }
 
 /* Who owns something doesn't wait: others may wait for that, and have the ids. */
-int sh_borrow_slowly(struct companion *c, unsigned bank, pz *p)
+int sh_borrow_slowly(struct companion *c, unsigned bank, pz *p, const struct limit *limit)
 {
-    int r = sh_borrow_now(p);
+    int r = sh_borrow_now(p), was_woken = 0;
     while (r == EAGAIN && !sh_owns_any())
-        r = wait_for_id(c, bank, p);
+        r = wait_for_id(c, bank, p, limit, &was_woken);
     return r;
 }
 

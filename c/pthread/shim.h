@@ -111,10 +111,10 @@ int sh_give_number(struct companion *c, struct ours *o);
 /* ---- ids.c */
 extern _Atomic unsigned sh_wishes; /* how often threads were asked to give back what they keep */
 int sh_borrow_now(pz *p);
-int sh_borrow_slowly(struct companion *c, unsigned bank, pz *p);
-static inline int sh_borrow(struct companion *c, unsigned bank, pz *p)
+int sh_borrow_slowly(struct companion *c, unsigned bank, pz *p, const struct limit *limit);
+static inline int sh_borrow(struct companion *c, unsigned bank, pz *p, const struct limit *limit)
 {
-    return __builtin_expect(pz_self[p->number].id != 0, 1) ? 0 : sh_borrow_slowly(c, bank, p);
+    return __builtin_expect(pz_self[p->number].id != 0, 1) ? 0 : sh_borrow_slowly(c, bank, p, limit);
 }
 int sh_owns_any(void);
 void sh_ask_for_id(struct companion *c, unsigned bank);

@@ -23,19 +23,19 @@ int rec_is_robust(pthread_mutex_t *m)
     return is_theirs(word) || word == KIND;
 }
 
-static int type_flag(pthread_mutex_t *m)
+static int flags_of(pthread_mutex_t *m)
 {
     uint32_t word = word_of(m), type = word == KIND ? ((struct ours *)(void *)m)->type : word & THEIR_TYPE;
-    return type == PTHREAD_MUTEX_RECURSIVE ? RECURSIVE : 0;
+    return (type == PTHREAD_MUTEX_RECURSIVE ? RECURSIVE : 0) | (word == KIND ? OURS : 0);
 }
 
 /* NULL: the call isn't recorded. */
-static inline struct record *begin(enum call call, pthread_mutex_t *m, int flags)
+static inline struct record *begin(enum call call, pthread_mutex_t *m)
 {
     if (!rec_is_on() || !rec_is_robust(m))
         return NULL;
     struct name *place = rec_place(m, A_MUTEX);
-    return place ? rec_begin(call, rec_number(place), 0, flags | type_flag(m)) : NULL;
+    return place ? rec_begin(call, rec_number(place), 0, flags_of(m)) : NULL;
 }
 
 static int is_robust_and_shared(const pthread_mutexattr_t *a)
@@ -66,49 +66,49 @@ SHOWN int pthread_mutex_init(pthread_mutex_t *m, const pthread_mutexattr_t *a)
 
 SHOWN int pthread_mutex_destroy(pthread_mutex_t *m)
 {
-    struct record *r = begin(DESTROY, m, 0);
+    struct record *r = begin(DESTROY, m);
     int reply;
     return BEHIND(rec_real()->destroy(m));
 }
 
 SHOWN int pthread_mutex_lock(pthread_mutex_t *m)
 {
-    struct record *r = begin(LOCK, m, 0);
+    struct record *r = begin(LOCK, m);
     int reply;
     return BEHIND(rec_real()->lock(m));
 }
 
 SHOWN int pthread_mutex_trylock(pthread_mutex_t *m)
 {
-    struct record *r = begin(TRYLOCK, m, 0);
+    struct record *r = begin(TRYLOCK, m);
     int reply;
     return BEHIND(rec_real()->trylock(m));
 }
 
 SHOWN int pthread_mutex_timedlock(pthread_mutex_t *m, const struct timespec *until)
 {
-    struct record *r = begin(LOCK, m, HAS_LIMIT);
+    struct record *r = begin(TIMEDLOCK, m);
     int reply;
     return BEHIND(rec_real()->timedlock(m, until));
 }
 
 SHOWN int pthread_mutex_clocklock(pthread_mutex_t *m, clockid_t clock, const struct timespec *until)
 {
-    struct record *r = begin(LOCK, m, HAS_LIMIT);
+    struct record *r = begin(TIMEDLOCK, m);
     int reply;
     return BEHIND(rec_real()->clocklock(m, clock, until));
 }
 
 SHOWN int pthread_mutex_unlock(pthread_mutex_t *m)
 {
-    struct record *r = begin(UNLOCK, m, 0);
+    struct record *r = begin(UNLOCK, m);
     int reply;
     return BEHIND(rec_real()->unlock(m));
 }
 
 SHOWN int pthread_mutex_consistent(pthread_mutex_t *m)
 {
-    struct record *r = begin(CONSISTENT, m, 0);
+    struct record *r = begin(CONSISTENT, m);
     int reply;
     return BEHIND(rec_real()->consistent(m));
 }

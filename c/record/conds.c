@@ -49,8 +49,7 @@ static struct record *begin_wait(const struct wait *w)
 {
     struct name *m = rec_is_on() && rec_is_robust(w->mutex) ? rec_place(w->mutex, A_MUTEX) : NULL;
     struct name *c = m ? rec_place(w->cond, A_COND) : NULL;
-    int flags = w->call == for_ever ? 0 : HAS_LIMIT;
-    return m ? rec_begin(WAIT, rec_number(m), c ? rec_number(c) : 0, flags) : NULL;
+    return m ? rec_begin(WAIT, rec_number(m), c ? rec_number(c) : 0, 0) : NULL;
 }
 
 /* Its thread owns the mutex again, if that isn't unusable, and runs its handlers: their calls are the program's. */

@@ -51,6 +51,7 @@ static const struct {
     {EBUSY, "EBUSY"},
     {EINVAL, "EINVAL"},
     {EDEADLK, "EDEADLK"},
+    {ETIMEDOUT, "ETIMEDOUT"},
     {EOWNERDEAD, "EOWNERDEAD"},
     {ENOTRECOVERABLE, "ENOTRECOVERABLE"},
 };
@@ -64,11 +65,21 @@ static const char *name_of(struct cursor *c, int reply)
     return NULL;
 }
 
-/* A time limit that passed, or is none. Of a recursive mutex its owner has it once more, or as often as can be. */
+/* A limit that is none; one that came to a thread which waited for itself, as the owner of a normal mutex; or to a
+ * mutex of libpazdrig's whose owner has ended: others clean up after it, and how far they are isn't recorded. */
+static int says_nothing(struct cursor *c, const struct seen *s)
+{
+    return s->call == TIMEDLOCK &&
+           (s->reply == EINVAL ||
+            (s->reply == ETIMEDOUT &&
+             (held_in(c, s->mutex) || (s->flags & OURS && rec_may_be_left(c->view, s->mutex, s->begin)))));
+}
+
+/* Of a recursive mutex its owner has it once more, or as often as can be. */
 static const char *reply_to_lock(struct cursor *c, const struct seen *s)
 {
     struct held *h = held_in(c, s->mutex);
-    if (s->flags & HAS_LIMIT && (s->reply == ETIMEDOUT || s->reply == EINVAL))
+    if (says_nothing(c, s))
         return NULL;
     if (s->flags & RECURSIVE && h && (s->reply == 0 || s->reply == EAGAIN)) {
         h->depth += s->reply == 0;
@@ -121,6 +132,7 @@ static const char *reply_to(struct cursor *c, const struct seen *s)
     switch (s->call) {
     case LOCK:
     case TRYLOCK:
+    case TIMEDLOCK:
         return reply_to_lock(c, s);
     case UNLOCK:
         return reply_to_unlock(c, s);
@@ -161,8 +173,7 @@ static int is_told(const struct cursor *c, const struct seen *s)
     const struct view_name *m = &c->view->name[s->mutex];
     if (m->is_made || s->begin > m->start || is_start(c, s))
         return 1;
-    int may_take = s->call == LOCK || s->call == TRYLOCK || s->call == WAIT;
-    return (!s->end || s->end > m->start) && may_take && (!s->end || rec_takes(s));
+    return (!s->end || s->end > m->start) && rec_may_take(s->call) && (!s->end || rec_takes(s));
 }
 
 /* ---- Lines. */
@@ -203,10 +214,11 @@ static void put_return(struct cursor *c, const struct seen *s, const char *reply
 static void put_open(struct cursor *c, const struct seen *s)
 {
     const struct held *h = held_in(c, s->mutex);
-    if (is_signal(s->call) || (s->flags & RECURSIVE && h && (s->call == LOCK || s->call == TRYLOCK || h->depth > 1)))
+    int again = s->flags & RECURSIVE && h && ((rec_may_take(s->call) && s->call != WAIT) || h->depth > 1);
+    if (is_signal(s->call) || again)
         return;
     put_begin(c, s);
-    c->is_open = 1;
+    c->open = s->mutex;
 }
 
 static void put_call(struct cursor *c, struct seen *s)
@@ -239,7 +251,7 @@ static void put_end(struct cursor *c)
 {
     const struct view_life *l = c->life;
     c->is_over = 1;
-    if (c->is_cut || l->is_alive || (!c->is_open && !c->helds))
+    if (c->is_cut || l->is_alive || (!c->open && !c->helds))
         return;
     c->is_doomed = 1;
     put(c, c->last, DOOMED, NULL, NULL);

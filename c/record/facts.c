@@ -2,11 +2,13 @@
 #include "view.h"
 #include <errno.h>
 
+int rec_may_take(int call) { return call == LOCK || call == TRYLOCK || call == TIMEDLOCK || call == WAIT; }
+
 /* Whether its thread has the mutex then. */
 int rec_takes(const struct seen *c)
 {
     int is_taken = c->reply == 0 || c->reply == EOWNERDEAD || (c->call == WAIT && c->reply == ETIMEDOUT);
-    return c->end && is_taken && (c->call == LOCK || c->call == TRYLOCK || c->call == WAIT);
+    return c->end && is_taken && rec_may_take(c->call);
 }
 
 static int is_within(const struct view *v, uint64_t stamp) { return stamp >= v->from && stamp <= v->to; }

@@ -6,7 +6,7 @@
 #include <string.h>
 
 static const char *const call_word[] = {
-    [LOCK] = "lock", [TRYLOCK] = "trylock", [UNLOCK] = "unlock",       [CONSISTENT] = "consistent",
+    [LOCK] = "lock", [TRYLOCK] = "trylock", [TIMEDLOCK] = "timedlock", [UNLOCK] = "unlock", [CONSISTENT] = "consistent",
     [WAIT] = "wait", [SIGNAL] = "signal",   [BROADCAST] = "broadcast",
 };
 
@@ -137,6 +137,7 @@ static void read_all(struct view *v, const char *path)
 {
     rec_open_view(v, path);
     rec_find_facts(v);
+    rec_find_left(v);
     rec_give_ids(v);
 }
 

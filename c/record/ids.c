@@ -24,7 +24,7 @@ static void go_through(struct view *v, uint32_t life)
         note_line(v, l, it);
         is_reaped |= it->kind == REAPED;
     }
-    int may_go_on = c.is_open || c.helds || c.is_cut;
+    int may_go_on = c.open || c.helds || c.is_cut;
     l->idle_from = may_go_on && !is_reaped ? UINT64_MAX : l->last;
     l->is_reaped = is_reaped;
     rec_end_lines(&c);

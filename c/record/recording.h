@@ -17,14 +17,27 @@
 #define PZ_AT(moment) ((void)0)
 #endif
 
-#define MAGIC 0x31636572647a70ull /* "pzdrec1" */
+#define MAGIC 0x32636572647a70ull /* "pzdrec2" */
 enum { PAGE = 4096, PROCESSES = 1 << 16, LIVES = 1 << 17, NAMES = 1 << 18, OBJECTS = 1 << 12 };
 enum { NAME_SLOTS = 2 * NAMES, OBJECT_SLOTS = 2 * OBJECTS, OBJECT_PATH = 488 };
 enum { BY_TSC, BY_COUNTER };
 
-enum call { LOCK = 1, TRYLOCK, UNLOCK, CONSISTENT, WAIT, SIGNAL, BROADCAST, INIT, DESTROY, COND_INIT, COND_DESTROY };
-enum { RECURSIVE = 1, HAS_LIMIT = 2 }; /* flags of a call */
-enum { CANCELLED = -1 };               /* the reply of a wait that its thread's cancellation ended */
+enum call {
+    LOCK = 1,
+    TRYLOCK,
+    TIMEDLOCK,
+    UNLOCK,
+    CONSISTENT,
+    WAIT,
+    SIGNAL,
+    BROADCAST,
+    INIT,
+    DESTROY,
+    COND_INIT,
+    COND_DESTROY
+};
+enum { RECURSIVE = 1, OURS = 2 }; /* flags of a call: its mutex is recursive; is one of libpazdrig's */
+enum { CANCELLED = -1 };          /* the reply of a wait that its thread's cancellation ended */
 
 /* A call: a thread that was killed in it left `end` 0. */
 struct record {

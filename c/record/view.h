@@ -36,8 +36,16 @@ struct view_name {
     uint32_t starter;
     int reply; /* to the starter */
     int is_made, is_left_out, is_called, is_used;
-    uint32_t mutex; /* of a condition variable: the one that a waiter named; 0: none */
+    size_t left, lefts; /* in the view's `left` */
+    uint32_t mutex;     /* of a condition variable: the one that a waiter named; 0: none */
     uint32_t number;
+};
+
+/* A mutex that a thread may have owned as it ended, and from when on another is seen to have had it since; UINT64_MAX:
+ * never. */
+struct left {
+    uint32_t mutex;
+    uint64_t gone, taken;
 };
 
 struct view {
@@ -46,6 +54,8 @@ struct view {
     uint32_t lives, names;
     struct view_life *life;
     struct view_name *name; /* by number, from 1 */
+    struct left *left;      /* by mutexes, and each one's in time's order */
+    size_t lefts;
     uint32_t ids, mutexes, conds;
     int has_ghost;    /* a thread that was nobody, whose deaths others are told (cursor.c) */
     uint64_t unknown; /* calls with a reply that a history has no word for */
@@ -62,7 +72,12 @@ void *rec_room(size_t count, size_t size);
 
 /* ---- facts.c */
 void rec_find_facts(struct view *v);
+int rec_may_take(int call);
 int rec_takes(const struct seen *c);
+
+/* ---- left.c */
+void rec_find_left(struct view *v);
+int rec_may_be_left(const struct view *v, uint32_t mutex, uint64_t since);
 
 /* ---- cursor.c: the lines of one life. */
 enum kind { BEGINS, DOOMED, RETURNS, REAPED, GHOST }; /* of one stamp in this order: so as much as can be overlaps */
@@ -86,7 +101,8 @@ struct cursor {
     struct held *held;
     size_t helds, room;
     uint64_t last;
-    int is_open, is_cut, is_over; /* in a call; goes on behind what is told; its last lines are given */
+    uint32_t open;       /* the mutex of the call that it is in; 0: in none */
+    int is_cut, is_over; /* goes on behind what is told; its last lines are given */
     int is_doomed;
 };
 void rec_begin_lines(struct cursor *c, struct view *v, uint32_t life);

@@ -639,9 +639,9 @@ static const uint8_t carried_on_condition[] = {
 
 static int is_reply(unsigned reply)
 {
-    static const uint16_t replies[] = {0,          EPERM,      ESRCH,     EAGAIN,     EFAULT,
-                                       EBUSY,      EINVAL,     EDEADLK,   EOWNERDEAD, ENOTRECOVERABLE,
-                                       PZ_X_NOMEM, PZ_X_RACED, PZ_X_HELD, PZ_X_FULL,  PZ_X_STATE};
+    static const uint16_t replies[] = {0,          EPERM,     ESRCH,     EAGAIN,     EFAULT,          EBUSY,
+                                       EINVAL,     EDEADLK,   ETIMEDOUT, EOWNERDEAD, ENOTRECOVERABLE, PZ_X_NOMEM,
+                                       PZ_X_RACED, PZ_X_HELD, PZ_X_FULL, PZ_X_STATE};
     for (unsigned i = 0; i < sizeof replies / sizeof *replies; i++)
         if (replies[i] == reply)
             return 1;
@@ -765,6 +765,17 @@ uint32_t pz_step(struct pz_call *c, struct pz_access *x, uint32_t answer, uint64
     if (on_condition)
         return told(x, led.at.kind == ENDED, access_on_condition(c), led.point, led.operation);
     return told(x, led.at.lock.kind == ENDED, access_on_mutex(c), led.point, led.operation);
+}
+
+/* A lock that sleeps stands at its sleep, or where it goes on from it. It never had the mutex, and its entry, which is
+ * pending, is to be cleared. */
+uint32_t pz_expire(struct pz_call *c, struct pz_access *x)
+{
+    unsigned row = c->phase.lock.kind;
+    if (!is_call(c) || c->program == ON_CONDITION || (row != LOCK_LOAD && row != LOCK_SLEEP))
+        return PZ_NO_SUCH;
+    c->phase = replies(CLEARING, ETIMEDOUT, 0).at;
+    return told(x, 0, access_on_mutex(c), ETIMEDOUT, PZ_OP_TIMEDLOCK);
 }
 
 uint32_t pz_walk_begin(struct pz_walk *w, struct pz_access *x)

@@ -6,7 +6,7 @@
 
 /* Nobody is woken here. */
 int pz_let_come(const pz *p, uint64_t cell) { return (void)p, (void)cell, 0; }
-void pz_disinherit(const pz *p, unsigned t, uint64_t cell) { (void)p, (void)t, (void)cell; }
+int pz_disinherit(const pz *p, unsigned t, uint64_t cell) { return (void)p, (void)t, (void)cell, 0; }
 void pz_end_nap(const pz *p, uint64_t cell) { (void)p, (void)cell; }
 
 static struct pz file;

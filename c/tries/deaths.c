@@ -1,6 +1,6 @@
-/* Processes that lock, wait, signal and are killed at random. Of each mutex the data says who is inside and is written
- * twice, so a second owner or a lost write is seen; each process has to get on, so a lost wake is. usage: deaths DEATHS
- * PROCESSES THREADS [storm] */
+/* Processes that lock, also with a time limit, wait, signal and are killed at random. Of each mutex the data says who
+ * is inside and is written twice, so a second owner or a lost write is seen; each process has to get on, so a lost wake
+ * is. usage: deaths DEATHS PROCESSES THREADS [storm] */
 #include "try.h"
 #include <pthread.h>
 #include <sys/time.h>
@@ -14,6 +14,7 @@ struct guarded {
 struct board {
     struct guarded of[MUTEXES];
     _Atomic long told, repaired, locks;
+    _Atomic long came, before; /* limits: those that came, and those before which it had the mutex */
     _Atomic long got_on[MOST]; /* by process */
     _Atomic long waits;        /* that came to their end */
     _Atomic long items[CONDS]; /* what waits wait for: at most a few */
@@ -65,6 +66,23 @@ static void take(unsigned c, unsigned m)
         atomic_fetch_sub(&b->items[c], 1);
 }
 
+/* With a limit that is past, comes soon, or is far away. */
+static int lock_until(unsigned m, unsigned *random)
+{
+    clockid_t clock = rand_r(random) % 2 ? CLOCK_REALTIME : CLOCK_MONOTONIC;
+    struct timespec until;
+    clock_gettime(clock, &until);
+    unsigned how = (unsigned)rand_r(random) % 4;
+    until.tv_nsec += how < 3 ? rand_r(random) % (how < 2 ? 100000 : 2000000) : 0;
+    until.tv_sec += (how == 3 ? 1000 : 0) + until.tv_nsec / 1000000000;
+    until.tv_nsec %= 1000000000;
+    if (how == 0)
+        until.tv_sec -= 1;
+    int r = pz_mutex_clocklock(p, m, clock, &until);
+    atomic_fetch_add(r == ETIMEDOUT ? &b->came : &b->before, 1);
+    return r;
+}
+
 /* Takes an item, and waits for one where there is none; or gives one. */
 static void wait_or_give(unsigned c, unsigned *random)
 {
@@ -89,8 +107,9 @@ static void *work(void *of)
         if (rand_r(&random) % 4 == 0 && slot != 0)
             wait_or_give((unsigned)rand_r(&random) % CONDS, &random);
         else {
-            int r = rand_r(&random) % 3 ? pz_mutex_lock(p, m) : pz_mutex_trylock(p, m);
-            if (r == EBUSY)
+            unsigned how = (unsigned)rand_r(&random) % 4;
+            int r = how < 2 ? pz_mutex_lock(p, m) : how == 2 ? pz_mutex_trylock(p, m) : lock_until(m, &random);
+            if (r == EBUSY || r == ETIMEDOUT)
                 continue;
             enter(m, r);
             if (n != m && rand_r(&random) % 3 == 0) {
@@ -172,9 +191,11 @@ int main(int argc, char **argv)
     for (int i = 0; i < n; i++)
         kill_and_wait(child[i]);
     pz_reap(p);
-    printf("deaths: %d, %ld times EOWNERDEAD, %ld repairs, %ld rounds, %ld waits\n", deaths, atomic_load(&b->told),
-           atomic_load(&b->repaired), atomic_load(&b->locks), atomic_load(&b->waits));
+    printf("deaths: %d, %ld times EOWNERDEAD, %ld repairs, %ld rounds, %ld waits; of limits %ld came, %ld didn't\n",
+           deaths, atomic_load(&b->told), atomic_load(&b->repaired), atomic_load(&b->locks), atomic_load(&b->waits),
+           atomic_load(&b->came), atomic_load(&b->before));
     CHECK(atomic_load(&b->told) > 0 && atomic_load(&b->waits) > 0);
+    CHECK(atomic_load(&b->came) > 0 && atomic_load(&b->before) > 0);
     pz_close(p);
     unlink(path);
     return 0;

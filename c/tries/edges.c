@@ -133,7 +133,11 @@ static void what_answers_mean(void)
     CHECK(says("pz_open", EINVAL, "4,096") && says("pz_open_fd", EPROTO, "another format"));
     CHECK(says("pz_mutex_trylock", EBUSY, "lives owns it") &&
           !strcmp(pz_strerror("pz_mutex_lock", EBUSY), strerror(EBUSY)));
-    CHECK(says("pz_mutex_lock", EDEADLK, "owns the mutex already"));
+    CHECK(says("pz_mutex_lock", EDEADLK, "owns the mutex already") &&
+          says("pz_mutex_timedlock", EDEADLK, "owns the mutex already"));
+    CHECK(says("pz_mutex_clocklock", ETIMEDOUT, "time has come") && says("pz_mutex_timedlock", EINVAL, "999,999,999"));
+    CHECK(!says("pz_mutex_trylock", EINVAL, "999,999,999") &&
+          !strcmp(pz_strerror("pz_mutex_lock", ETIMEDOUT), strerror(ETIMEDOUT)));
     CHECK(says("pz_mutex_lock", EOWNERDEAD, "owner died") && says("pz_mutex_lock", 0, "owns the mutex"));
     CHECK(!strcmp(pz_strerror("pz_open", ENOENT), strerror(ENOENT)));
     CHECK(!strcmp(pz_strerror("pz_no_call", EPERM), strerror(EPERM)) &&
@@ -489,6 +493,7 @@ static void the_65th_thread(void)
     while (__atomic_load_n(parts, __ATOMIC_SEQ_CST) < 64)
         rest(200);
     SAME(pz_mutex_lock(p, 0), EAGAIN);
+    SAME(pz_mutex_timedlock(p, 0, &(struct timespec){0}), EAGAIN);
     kill_and_wait(child[13]);
     SAME(pz_mutex_lock(p, 0), 0);
     CHECK(pz_thread_id(p) >= 1 && pz_thread_id(p) <= 64);
@@ -604,6 +609,7 @@ static void no_key_is_left(void)
             continue;
         SAME(pz_thread_begin(p), ENOMEM);
         SAME(pz_mutex_lock(p, 0), ENOMEM);
+        SAME(pz_mutex_timedlock(p, 0, &(struct timespec){0}), ENOMEM);
         SAME(pz_thread_id(p), 0);
         _exit(0);
     }

@@ -31,11 +31,22 @@ static void be_interrupted(void)
     CHECK(setitimer(ITIMER_REAL, &often, NULL) == 0);
 }
 
+/* Its limit comes; then, with one that doesn't, its owner dies. */
+static int locks_until(pz *p, _Atomic int *has_come)
+{
+    struct timespec until;
+    clock_gettime(CLOCK_REALTIME, &until);
+    until.tv_sec++;
+    SAME(pz_mutex_timedlock(p, 0, &until), ETIMEDOUT);
+    atomic_store(has_come, 1);
+    return pz_mutex_timedlock(p, 0, &(struct timespec){.tv_sec = INT64_MAX});
+}
+
 /* An older kernel, and a container whose filter doesn't know the call: then a sleeper looks by itself. */
-static void without_futex_waitv(int error, int is_interrupted)
+static void without_futex_waitv(int error, int is_interrupted, int is_timed)
 {
     const char *path = a_file("waitv");
-    _Atomic int *is_held = shared(sizeof *is_held);
+    _Atomic int *is_held = shared(2 * sizeof *is_held), *has_come = is_held + 1;
     pz *p;
     SAME(pz_open(path, 0600, 1, 0, NULL, 0, &p), 0);
     pid_t owner = a_child();
@@ -52,15 +63,17 @@ static void without_futex_waitv(int error, int is_interrupted)
         lose_futex_waitv(error);
         if (is_interrupted)
             be_interrupted();
-        _exit(pz_mutex_lock(p, 0) != EOWNERDEAD);
+        _exit((is_timed ? locks_until(p, has_come) : pz_mutex_lock(p, 0)) != EOWNERDEAD);
     }
+    while (is_timed && !atomic_load(has_come))
+        rest(1000);
     until_asleep(sleeper);
     kill_and_wait(owner);
     int status;
     CHECK(waitpid(sleeper, &status, 0) == sleeper && status == 0);
     pz_close(p);
     unlink(path);
-    munmap(is_held, sizeof *is_held);
+    munmap((void *)is_held, 2 * sizeof *is_held);
 }
 
 static pid_t waiter_of(pz *p)
@@ -93,10 +106,12 @@ static void one_signal_for_two_waiters(void)
 int main(void)
 {
     alarm(120);
-    without_futex_waitv(ENOSYS, 0);
-    without_futex_waitv(EPERM, 0);
-    without_futex_waitv(ENOMEM, 0);
-    without_futex_waitv(ENOSYS, 1);
+    without_futex_waitv(ENOSYS, 0, 0);
+    without_futex_waitv(EPERM, 0, 0);
+    without_futex_waitv(ENOMEM, 0, 0);
+    without_futex_waitv(ENOSYS, 1, 0);
+    without_futex_waitv(ENOSYS, 0, 1);
+    without_futex_waitv(ENOSYS, 1, 1);
     one_signal_for_two_waiters();
     puts("filtered: told without futex_waitv; each waiter returns after a signal");
     return 0;

@@ -1,8 +1,9 @@
 /* How a thread waits for a mutex awake, by a clock and a kernel that are played. The heir pauses PZ_SPIN microseconds
  * at most, half as long after each time that it didn't pay, twice as long after each that it did, and now and then
  * PZ_SPIN again; less where many sleep, and not at all where the word's owner is dead. It falls due, and whoever owes
- * it the mutex waits for it, and not too long. Only who was woken takes the place of one that was. And how long a
- * waiter sleeps until it looks by itself. */
+ * it the mutex waits for it, and not too long. Only who was woken takes the place of one that was. How long a waiter
+ * sleeps until it looks by itself. And a time limit: it ends pauses and naps, the kernel is asked for it by its own
+ * clock, which may be set, and it comes where it is past, or no time. */
 #include <sched.h>
 #include <time.h>
 #include <unistd.h>
@@ -43,13 +44,16 @@ enum fate pz_reap_one(pz *p, unsigned t)
 }
 int pz_reap(pz *p) { return (void)p, reaps++, 0; }
 
-/* Each look at it takes STEP; a second begins soon after the first. */
-static long clock_ns = 999750000;
+/* Each look at it takes STEP; a second begins soon after the first. The other one is ahead of it by an hour. */
+enum { SECOND = 1000000000 };
+static long clock_ns = 999750000, ahead_ns = 3600l * SECOND;
 static int reads;
+static struct timespec of_ns(long ns) { return (struct timespec){ns / SECOND, ns % SECOND}; }
+static long ns_of(const struct timespec *t) { return t->tv_sec * SECOND + t->tv_nsec; }
+static long time_by(clockid_t clock) { return clock == CLOCK_REALTIME ? clock_ns + ahead_ns : clock_ns; }
 static int played_clock(clockid_t clock, struct timespec *now)
 {
-    (void)clock;
-    *now = (struct timespec){clock_ns / 1000000000, clock_ns % 1000000000};
+    *now = of_ns(time_by(clock));
     clock_ns += STEP;
     reads++;
     return 0;
@@ -64,27 +68,44 @@ static int played_processors(pid_t thread, size_t size, cpu_set_t *set)
     return 0;
 }
 
-/* What the kernel was asked for last; what it answers a wait; what happens meanwhile. */
+/* What the kernel was asked for last: a sleep up to a time by a clock, or a nap of so many ns; what it answers a wait;
+ * what happens meanwhile. */
 static struct {
     uint32_t *on;
     int operation;
-    long ms;
+    clockid_t clock;
+    long until, ns;
 } asked;
-static int refuses, wakes;
+static int refuses, wakes, sleeps_asked;
 static void (*meanwhile)(void);
+
+static void is_asked(long number, va_list all)
+{
+    asked.on = va_arg(all, uint32_t *);
+    asked.operation = va_arg(all, int);
+    if (number == SYS_futex_waitv)
+        asked.operation = FUTEX_WAIT_BITSET;
+    if (asked.operation == FUTEX_WAKE)
+        return;
+    (void)va_arg(all, uint32_t);
+    asked.ns = ns_of(va_arg(all, const struct timespec *));
+    asked.clock = asked.operation & FUTEX_CLOCK_REALTIME ? CLOCK_REALTIME : CLOCK_MONOTONIC;
+    if (number == SYS_futex_waitv)
+        asked.clock = va_arg(all, clockid_t);
+    asked.operation &= ~FUTEX_CLOCK_REALTIME;
+    if (asked.operation == FUTEX_WAIT_BITSET) {
+        sleeps_asked++;
+        asked.until = asked.ns;
+        asked.ns -= time_by(asked.clock) - STEP; /* from the look at it on */
+    }
+}
 static long played_call(long number, ...)
 {
     va_list all;
-    va_start(all, number);
-    asked.on = va_arg(all, uint32_t *);
-    asked.operation = number == SYS_futex ? va_arg(all, int) : FUTEX_WAIT;
-    if (number == SYS_futex && asked.operation == FUTEX_WAIT) {
-        (void)va_arg(all, uint32_t);
-        const struct timespec *most = va_arg(all, const struct timespec *);
-        asked.ms = most->tv_sec * 1000 + most->tv_nsec / 1000000;
-    }
-    va_end(all);
     CHECK(number == SYS_futex || number == SYS_futex_waitv);
+    va_start(all, number);
+    is_asked(number, all);
+    va_end(all);
     wakes += asked.operation == FUTEX_WAKE;
     if (meanwhile)
         meanwhile();
@@ -101,7 +122,7 @@ static void begin(uint64_t is, uint64_t its_heir)
     *heir(&file, cell) = its_heir;
     file.cell_of[0] = cell;
     pz_self[0] = (struct self){.id = SELF};
-    refuses = wakes = reaps = 0;
+    refuses = wakes = reaps = sleeps_asked = 0;
     meanwhile = NULL;
 }
 
@@ -112,7 +133,7 @@ static void pauses_for(long us, int changed)
 {
     heir_since = clock_ns;
     long since = clock_ns;
-    CHECK(changes_soon(&file, SELF, cell, OTHER) == changed);
+    CHECK(changes_soon(&file, SELF, cell, OTHER, ALL_NAPS) == changed);
     long took = (clock_ns - since) / 1000, looks = LAST_LOOK / 1000 + 4 * STEP / 1000;
     CHECK(took >= us && took <= us + looks);
 }
@@ -159,7 +180,7 @@ static void a_dead_owner(void)
 {
     begin(DEAD, 0);
     reads = 0;
-    SAME((int)pz_sleep(&file, SELF, cell, DEAD), PZ_AGAIN);
+    SAME((int)pz_sleep(&file, SELF, cell, DEAD, NULL), PZ_AGAIN);
     CHECK(reads == 0 && !*sleepers(&file, cell) && !*heir(&file, cell));
 }
 
@@ -168,7 +189,7 @@ static void an_owner_dies_meanwhile(void)
 {
     begin(DEAD, SELF);
     long since = heir_since = clock_ns;
-    CHECK(changes_in_a_nap(&file, SELF, cell, DEAD) && clock_ns - since < ALL_NAPS);
+    CHECK(changes_in_a_nap(&file, SELF, cell, DEAD, NULL) && clock_ns - since < ALL_NAPS);
 }
 
 /* Whoever sleeps already has it before one that comes. */
@@ -203,12 +224,12 @@ static void it_does_not_come(void)
     begin(0, OTHER | DUE);
     pz_self[0].owes = 1;
     long since = clock_ns;
-    pz_give_way(&file, SELF, 0);
+    pz_give_way(&file, SELF, 0, NULL);
     CHECK(clock_ns - since >= WAY && clock_ns - since < 2 * WAY && asked.on == (uint32_t *)heir(&file, cell));
     CHECK((*heir(&file, cell) & (WHO | DUE)) == OTHER && reaps == 1 && pz_self[0].owes == 0);
     since = clock_ns;
     *heir(&file, cell) |= DUE;
-    pz_give_way(&file, SELF, 0); /* it owes nothing */
+    pz_give_way(&file, SELF, 0, NULL); /* it owes nothing */
     CHECK(clock_ns == since);
 }
 
@@ -223,7 +244,7 @@ static void it_goes_at_the_end(void)
     begin(0, OTHER | DUE);
     pz_self[0].owes = 1;
     meanwhile = goes_at_the_end;
-    pz_give_way(&file, SELF, 0);
+    pz_give_way(&file, SELF, 0, NULL);
     CHECK(*heir(&file, cell) == 0 && pz_self[0].owes == 0);
 }
 
@@ -234,11 +255,11 @@ static void it_comes(void)
     pz_self[0].owes = 1;
     long since = clock_ns;
     meanwhile = has_had_it;
-    pz_give_way(&file, SELF, 0);
+    pz_give_way(&file, SELF, 0, NULL);
     CHECK(clock_ns - since < WAY_AWAKE && reaps == 0 && wakes == 1); /* its nap was ended */
     begin(OTHER, OTHER | DUE);
     pz_self[0].owes = 2;
-    pz_give_way(&file, SELF, 0); /* another mutex */
+    pz_give_way(&file, SELF, 0, NULL); /* another mutex */
     CHECK(pz_self[0].owes == 2);
 }
 
@@ -250,7 +271,7 @@ static void one_is_late(void)
     *sleepers(&file, cell) = bit_of(OTHER);
     for (int i = 0; i < 10 * LOCKS; i++) {
         if (looks_at_heir(&pz_self[0], 0))
-            pz_give_way(&file, SELF, 0);
+            pz_give_way(&file, SELF, 0, NULL);
         clock_ns += LATE / 2 / LOCKS;
     }
     CHECK(wakes >= 4 && wakes <= 5 && asked.on == (uint32_t *)&words[cell]);
@@ -262,11 +283,11 @@ static void one_is_late(void)
 static void who_was_woken(void)
 {
     begin(OTHER | WAITERS, COMES);
-    SAME((int)pz_sleep(&file, SELF, cell, (uint32_t)(OTHER | WAITERS)), PZ_WOKEN);
+    SAME((int)pz_sleep(&file, SELF, cell, (uint32_t)(OTHER | WAITERS), NULL), PZ_WOKEN);
     CHECK((uint32_t)*heir(&file, cell) == SELF && !*sleepers(&file, cell));
     begin(WAITERS, COMES);
     refuses = EAGAIN;
-    SAME((int)pz_sleep(&file, SELF, cell, OTHER), PZ_AGAIN);
+    SAME((int)pz_sleep(&file, SELF, cell, OTHER, NULL), PZ_AGAIN);
     CHECK(*heir(&file, cell) == COMES && !*sleepers(&file, cell));
 }
 
@@ -276,7 +297,7 @@ enum { LOOKS = sizeof look_after_ms / sizeof look_after_ms[0] };
 static int slept;
 static void sleeps_on(void)
 {
-    CHECK(slept < LOOKS && asked.ms == look_after_ms[slept]);
+    CHECK(slept < LOOKS && asked.clock == CLOCK_MONOTONIC && asked.ns == look_after_ms[slept] * 1000000);
     refuses = ++slept < LOOKS ? ETIMEDOUT : 0;
 }
 
@@ -284,12 +305,168 @@ static void a_waiter_looks(void)
 {
     begin(0, 0);
     meanwhile = sleeps_on;
-    SAME((int)pz_sleep(&file, SELF, counter_place(&file, 0), 0), PZ_WOKEN);
+    SAME((int)pz_sleep(&file, SELF, counter_place(&file, 0), 0, NULL), PZ_WOKEN);
     CHECK(slept == LOOKS);
+}
+
+/* ---- Until its limit. */
+
+static struct timespec at;
+static struct limit until_then(clockid_t clock, long ns) /* from now on */
+{
+    at = of_ns(time_by(clock) + ns);
+    return (struct limit){.clock = clock, .at = &at};
+}
+
+/* What the pause says of what pays isn't kept. */
+static void a_pause_ends_there(void)
+{
+    begin(OTHER, SELF);
+    patience.sleeps = 0;
+    patience.ns = LONGEST_PAUSE;
+    long since = heir_since = clock_ns, most = LONGEST_PAUSE / 4;
+    CHECK(!changes_soon(&file, SELF, cell, OTHER, most));
+    CHECK(clock_ns - since >= most && clock_ns - since < most + LAST_LOOK + 4 * STEP && patience.ns == LONGEST_PAUSE);
+}
+
+/* No nap is longer than what is left. */
+static long limit_ns;
+static void naps_on(void)
+{
+    CHECK(asked.operation == FUTEX_WAIT && asked.ns > 0 && clock_ns - STEP + asked.ns <= limit_ns + 4 * STEP);
+    clock_ns += asked.ns;
+}
+static void naps_end_there(void)
+{
+    begin(OTHER, SELF);
+    struct limit limit = until_then(CLOCK_REALTIME, NAP * 5 / 2);
+    limit_ns = ns_of(&at) - ahead_ns;
+    heir_since = clock_ns;
+    refuses = ETIMEDOUT;
+    meanwhile = naps_on;
+    CHECK(!changes_in_a_nap(&file, SELF, cell, OTHER, &limit));
+    CHECK(clock_ns >= limit_ns && clock_ns < limit_ns + NAP / 10);
+}
+
+/* It comes as it sleeps. */
+static void time_passes(void)
+{
+    CHECK(asked.clock == CLOCK_MONOTONIC || asked.clock == CLOCK_REALTIME);
+    clock_ns += asked.ns;
+}
+static void a_sleep_ends_there(clockid_t clock)
+{
+    begin(OTHER | WAITERS, 64); /* it doesn't wait awake */
+    struct limit limit = until_then(clock, SECOND / 4);
+    refuses = ETIMEDOUT;
+    meanwhile = time_passes;
+    SAME((int)pz_sleep(&file, SELF, cell, (uint32_t)(OTHER | WAITERS), &limit), EXPIRED);
+    CHECK(sleeps_asked >= 1 && asked.clock == clock && asked.until == ns_of(&at) && !*sleepers(&file, cell));
+    CHECK(wakes == 0 && time_by(clock) >= ns_of(&at));
+}
+
+/* It is far away: it looks by itself meanwhile, as ever. The longest there is too. */
+static void sleeps_twice(void)
+{
+    long ms = no_waitv ? FIRST_LOOK_MS * sleeps_asked : PZ_POLL_S * 1000l;
+    CHECK(asked.ns == ms * 1000000);
+    refuses = sleeps_asked < 2 ? ETIMEDOUT : 0;
+    clock_ns += asked.ns;
+}
+static void a_limit_that_is_far(clockid_t clock)
+{
+    begin(OTHER | WAITERS, 64);
+    at = (struct timespec){INT64_MAX, SECOND - 1};
+    struct limit limit = {.clock = clock, .at = &at};
+    meanwhile = sleeps_twice;
+    SAME((int)pz_sleep(&file, SELF, cell, (uint32_t)(OTHER | WAITERS), &limit), PZ_WOKEN);
+    CHECK(sleeps_asked == 2 && asked.clock == clock);
+}
+
+/* The clock is set ahead while it sleeps: that ends by the kernel. It is set back: it sleeps on. */
+static void is_set(void) { ahead_ns += sleeps_asked == 1 ? -60l * SECOND : 3600l * SECOND; }
+static void a_clock_that_is_set(void)
+{
+    begin(OTHER | WAITERS, 64);
+    struct limit limit = until_then(CLOCK_REALTIME, SECOND / 100);
+    refuses = ETIMEDOUT;
+    meanwhile = is_set;
+    SAME((int)pz_sleep(&file, SELF, cell, (uint32_t)(OTHER | WAITERS), &limit), EXPIRED);
+    CHECK(sleeps_asked == 2);
+    ahead_ns = 3600l * SECOND;
+}
+
+/* It has come, or is no time: nobody pauses, naps, sleeps, or is an heir. */
+static void it_has_come(clockid_t clock)
+{
+    static const struct timespec past[] = {{0, 0},  {0, 1},         {-1, SECOND - 1},    {INT64_MIN, 0},
+                                           {7, -1}, {7, INT64_MIN}, {INT64_MAX, SECOND}, {INT64_MAX, INT64_MAX}};
+    for (size_t i = 0; i < sizeof past / sizeof *past; i++) {
+        begin(OTHER | WAITERS, 0);
+        struct limit limit = {.clock = clock, .at = &past[i]};
+        SAME((int)pz_sleep(&file, SELF, cell, (uint32_t)(OTHER | WAITERS), &limit), EXPIRED);
+        CHECK(sleeps_asked == 0 && wakes == 0 && !*sleepers(&file, cell) && !*heir(&file, cell));
+        SAME((int)pz_sleep(&file, SELF, cell, OTHER, &limit), PZ_AGAIN);
+    }
+}
+
+/* Its owner dies just before: it is reaped, and the mutex may be had. */
+static void its_owner_dies_there(void)
+{
+    begin(DEAD, 64);
+    struct limit limit = until_then(CLOCK_MONOTONIC, -1);
+    struct sleeper s = {.p = &file, .thread = SELF, .at = cell, .expected = DEAD, .limit = &limit};
+    SAME((int)sleep_on(&s), PZ_AGAIN);
+}
+
+/* Who owes the mutex to an heir waits for that up to its limit, and the heir is due still. */
+static void it_owes(void)
+{
+    begin(0, OTHER | DUE);
+    pz_self[0].owes = 1;
+    struct limit limit = until_then(CLOCK_MONOTONIC, WAY / 4);
+    long since = clock_ns;
+    pz_give_way(&file, SELF, 0, &limit);
+    CHECK(clock_ns - since >= WAY / 4 && clock_ns - since < WAY / 3 && (*heir(&file, cell) & DUE) && reaps == 0);
+}
+
+/* It was woken, and others sleep: one of them looks in its place. One that was never woken wakes nobody, nor one that
+ * was, where nobody sleeps. */
+static void others_look(void)
+{
+    for (int was_woken = 0; was_woken < 2; was_woken++)
+        for (int others = 0; others < 2; others++) {
+            begin(OTHER | WAITERS, 64);
+            *sleepers(&file, cell) = others ? bit_of(5) : 0;
+            struct limit limit = until_then(CLOCK_MONOTONIC, SECOND);
+            if (was_woken)
+                SAME((int)pz_sleep(&file, SELF, cell, (uint32_t)(OTHER | WAITERS), &limit), PZ_WOKEN);
+            at = (struct timespec){0, 0};
+            SAME((int)pz_sleep(&file, SELF, cell, (uint32_t)(OTHER | WAITERS), &limit), EXPIRED);
+            CHECK(wakes == (was_woken && others));
+        }
+}
+
+/* So does one that was the heir. */
+static void an_heir_gives_up(void)
+{
+    begin(OTHER | WAITERS, SELF);
+    *sleepers(&file, cell) = bit_of(5);
+    struct limit limit = until_then(CLOCK_MONOTONIC, -1);
+    SAME((int)pz_sleep(&file, SELF, cell, (uint32_t)(OTHER | WAITERS), &limit), EXPIRED);
+    CHECK(wakes == 1 && asked.on == (uint32_t *)&words[cell] && !*heir(&file, cell));
+}
+
+static void with_a_limit(clockid_t clock)
+{
+    a_sleep_ends_there(clock);
+    a_limit_that_is_far(clock);
+    it_has_come(clock);
 }
 
 int main(void)
 {
+    alarm(60);
     a_word_that_stays();
     a_word_that_changes();
     where_many_sleep();
@@ -303,5 +480,16 @@ int main(void)
     one_is_late();
     who_was_woken();
     a_waiter_looks();
+    a_pause_ends_there();
+    naps_end_there();
+    for (no_waitv = 0; no_waitv < 2; no_waitv++) {
+        with_a_limit(CLOCK_MONOTONIC);
+        with_a_limit(CLOCK_REALTIME);
+        a_clock_that_is_set();
+    }
+    its_owner_dies_there();
+    it_owes();
+    others_look();
+    an_heir_gives_up();
     return 0;
 }

@@ -10,12 +10,29 @@ static long counter[2];
 static enum stage stage;
 static _Atomic pid_t sleeper;
 
+/* With time limits, till it has it. */
+static void lock_soon(unsigned m)
+{
+    struct timespec until;
+    int r;
+    do {
+        clock_gettime(CLOCK_MONOTONIC, &until);
+        until.tv_sec += until.tv_nsec / 999900000;
+        until.tv_nsec = until.tv_nsec < 999900000 ? until.tv_nsec + 100000 : 0;
+        r = pz_mutex_clocklock(p, m, CLOCK_MONOTONIC, &until);
+    } while (r == ETIMEDOUT);
+    SAME(r, 0);
+}
+
 static void *work(void *unused)
 {
     (void)unused;
     for (int i = 0; i < ROUNDS; i++) {
         unsigned m = (unsigned)i % 2;
-        SAME(pz_mutex_lock(p, m), 0);
+        if (i % 3)
+            SAME(pz_mutex_lock(p, m), 0);
+        else
+            lock_soon(m);
         counter[m]++;
         SAME(pz_mutex_unlock(p, m), 0);
     }

@@ -1,6 +1,6 @@
 /* Rounds that stop for good where a wake is lost: built with a driver that looks so seldom by itself that it would be
- * seen. Two play ping-pong by signals, three by broadcasts, and some contend for one mutex. usage: rounds TURNS
- * CONTENDED */
+ * seen. Two play ping-pong by signals, three by broadcasts, and some contend for one mutex, now and then with a time
+ * limit. usage: rounds TURNS CONTENDED */
 #include "try.h"
 
 static pz *p;
@@ -19,10 +19,28 @@ static void play(int me, int of, long turns, int broadcast)
     }
 }
 
+/* With a limit that comes within 64 us, as often as it comes. */
+static void lock_soon(unsigned m, long i)
+{
+    struct timespec until;
+    int r;
+    do {
+        clock_gettime(CLOCK_MONOTONIC, &until);
+        until.tv_nsec += i++ % 64 * 1000;
+        until.tv_sec += until.tv_nsec / 1000000000;
+        until.tv_nsec %= 1000000000;
+        r = pz_mutex_clocklock(p, m, CLOCK_MONOTONIC, &until);
+    } while (r == ETIMEDOUT);
+    SAME(r, 0);
+}
+
 static void contend(long rounds)
 {
     for (long i = 0; i < rounds; i++) {
-        SAME(pz_mutex_lock(p, 2), 0);
+        if (i % 4)
+            SAME(pz_mutex_lock(p, 2), 0);
+        else
+            lock_soon(2, i / 4);
         turn[2] = turn[2] + 1;
         SAME(pz_mutex_unlock(p, 2), 0);
     }

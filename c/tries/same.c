@@ -5,6 +5,7 @@
  * which is printed, is what a machine with both can be asked for. */
 #define pz_begin      c_begin
 #define pz_step       c_step
+#define pz_expire     c_expire
 #define pz_walk_begin c_walk_begin
 #define pz_walk_next  c_walk_next
 #define pz_walk_step  c_walk_step
@@ -13,6 +14,7 @@
 #ifndef PZ_ALONE
 #undef pz_begin
 #undef pz_step
+#undef pz_expire
 #undef pz_walk_begin
 #undef pz_walk_next
 #undef pz_walk_step
@@ -24,6 +26,7 @@
 
 uint32_t pz_begin(struct pz_call *call, struct pz_access *access, uint32_t operation);
 uint32_t pz_step(struct pz_call *call, struct pz_access *access, uint32_t answer, uint64_t value);
+uint32_t pz_expire(struct pz_call *call, struct pz_access *access);
 uint32_t pz_walk_begin(struct pz_walk *walk, struct pz_access *access);
 uint32_t pz_walk_step(struct pz_walk *walk, struct pz_access *access, uint32_t answer, uint64_t value);
 uint32_t pz_walk_next(const struct pz_walk *walk, struct pz_access *access);
@@ -102,14 +105,14 @@ static _Noreturn void differs(const char *what, uint32_t answer, uint64_t value)
     exit(1);
 }
 
-static void call_differs(const struct pz_call *c, uint32_t answer, uint64_t value)
+static void call_differs(const char *what, const struct pz_call *c, uint32_t answer, uint64_t value)
 {
     const struct pz_phase *p = &c->phase.lock;
     fprintf(stderr,
             "program %u, thread %u, kind %u, flag %u, x %" PRIx64 ", y %" PRIx64
             ", reply %u; on condition %u, seen %x\n",
             c->program, c->thread, p->kind, p->flag, p->x, p->y, p->reply, c->phase.kind, c->phase.seen);
-    differs("pz_step", answer, value);
+    differs(what, answer, value);
 }
 
 static void walk_differs(const struct pz_walk *w, uint32_t answer, uint64_t value)
@@ -130,10 +133,23 @@ static int step(const struct pz_call *is, uint32_t answer, uint64_t value)
     uint32_t r = pz_step(&a, &x, answer, value);
     compared++;
     if (c_step(&b, &y, answer, value) != r || !same_call(&a, &b) || !same_access(&x, &y))
-        call_differs(is, answer, value);
+        call_differs("pz_step", is, answer, value);
     add_access(r, &y);
     add_call(&b);
     return r != PZ_NO_SUCH;
+}
+
+/* Its time limit comes. */
+static void expire(const struct pz_call *is)
+{
+    struct pz_call a = *is, b = *is;
+    struct pz_access x = untouched, y = untouched;
+    uint32_t r = pz_expire(&a, &x);
+    compared++;
+    if (c_expire(&b, &y) != r || !same_call(&a, &b) || !same_access(&x, &y))
+        call_differs("pz_expire", is, 0, 0);
+    add_access(r, &y);
+    add_call(&b);
 }
 
 static int walk_step(const struct pz_walk *is, uint32_t answer, uint64_t value)
@@ -187,6 +203,7 @@ static void with_each_word(struct pz_call *c, unsigned salt)
 {
     for (unsigned x = 0; x < many; x++) {
         c->phase.lock.x = words[x];
+        expire(c);
         if (step(c, x % ANSWERS, words[(x + salt) % many]))
             with_each_answer(c);
     }

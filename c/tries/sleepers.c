@@ -1,6 +1,7 @@
 /* One thread goes to sleep, as a mutex's heir first, while another changes the word and wakes, in orders of their
  * instructions over a kernel that is played: nobody is left asleep, no sleeper's bit is left behind, and nobody waits
- * for one that was woken. */
+ * for one that was woken. So too where the one has a time limit, which comes at any moment of its sleep, and a third
+ * sleeps beside it: that one has the wake that the first gave up, and no entry stays pending. */
 #define PZ_SPIN 0
 #include "turns.h"
 #include <linux/futex.h>
@@ -18,12 +19,22 @@ static int played_clock(clockid_t clock, struct timespec *now);
 #undef clock_gettime
 #include "../calls.c"
 
-enum { OWNER = 1, SLEEPER = 2, DEAD = 3, OTHER = 4, TID = 77, INTERRUPTIONS = 4 };
+enum {
+    OWNER = 1,
+    SLEEPER = 2,
+    DEAD = 3,
+    OTHER = 4,
+    TID = 77,
+    INTERRUPTIONS = 4,
+    FEW_INTERRUPTIONS = 3,
+    FAR_AWAY_S = 1000000000
+};
 
 static struct pz file;
 static word words[80 * LINE];
 static uint32_t tokens[1 + THREADS];
-static uint32_t *asleep_on; /* the one futex queue with somebody in it */
+static uint32_t *asleep_on, *other_asleep_on; /* the futex queues with somebody in it */
+static int other_is_first;
 
 /* ---- The rest of the driver: both take part, and nobody dies. */
 
@@ -40,6 +51,10 @@ void pz_leave_closed(void) {}
 static long refused(int why) { return errno = why, -1; }
 static int is_awake(void) { return !asleep_on; }
 
+/* Whether it has a time limit, which comes at some moment of its sleep, and whether that has come. */
+static int is_timed, time_is_over;
+static int may_end(void) { return 1; }
+
 /* How many of the next sleeps on that word a signal's handler ends (EINTR); and whether one has just ended so: then the
  * sleeper asks whether somebody has died. */
 static int interruptions, is_interrupted;
@@ -52,7 +67,7 @@ static int played_clock(clockid_t clock, struct timespec *now)
 {
     static long ms;
     (void)clock;
-    *now = (struct timespec){++ms * 21 / 1000, ms * 21 % 1000 * 1000000};
+    *now = (struct timespec){++ms * 21 / 1000 + (time_is_over ? 2 * FAR_AWAY_S : 0), ms * 21 % 1000 * 1000000};
     return 0;
 }
 
@@ -63,16 +78,25 @@ static long fall_asleep(uint32_t *on)
     if (on == (uint32_t *)&words[slept_at] && interruptions-- > 0)
         return is_interrupted = 1, refused(EINTR);
     asleep_on = on;
-    wait_until(is_awake);
-    return 0;
-}
-
-static long wake_up(uint32_t *on)
-{
-    if (asleep_on != on)
+    wait_until(is_timed ? may_end : is_awake);
+    if (!asleep_on)
         return 0;
     asleep_on = NULL;
-    return 1;
+    time_is_over = 1;
+    return refused(ETIMEDOUT);
+}
+
+static long wake_up(uint32_t *on, unsigned most)
+{
+    uint32_t **queue[] = {other_is_first ? &other_asleep_on : &asleep_on,
+                          other_is_first ? &asleep_on : &other_asleep_on};
+    unsigned n = 0;
+    for (int i = 0; i < 2 && n < most; i++)
+        if (*queue[i] == on) {
+            *queue[i] = NULL;
+            n++;
+        }
+    return n;
 }
 
 static long move(uint32_t *from, uint32_t *to)
@@ -105,9 +129,10 @@ static long played_call(long number, ...)
     va_end(all);
     switch (operation) {
     case FUTEX_WAIT:
+    case FUTEX_WAIT_BITSET:
         return is == value ? fall_asleep(on) : refused(EAGAIN);
     case FUTEX_WAKE:
-        return wake_up(on);
+        return wake_up(on, value);
     case FUTEX_CMP_REQUEUE:
         return is == expected ? move(on, other) : refused(EAGAIN);
     default:
@@ -125,7 +150,7 @@ static int is_released(void) { return owner_of(words[cell_place(0)]) == 0; }
 /* Behind a wait it has the mutex once that is released. */
 static void sleeps_there(void)
 {
-    answer = pz_sleep(&file, SLEEPER, slept_at, slept_while);
+    answer = pz_sleep(&file, SLEEPER, slept_at, slept_while, NULL);
     wait_until(is_released);
     if (is_counter(&file, slept_at))
         pz_awake(&file, SLEEPER, cell_place(0));
@@ -136,7 +161,7 @@ static void locks_there(void)
 {
     uint64_t cell = cell_place(0), seen;
     while (owner_of(seen = SEE(&words[cell])))
-        answer = pz_sleep(&file, SLEEPER, cell, (uint32_t)seen);
+        answer = pz_sleep(&file, SLEEPER, cell, (uint32_t)seen, NULL);
     pz_disinherit(&file, SLEEPER, cell);
 }
 
@@ -144,9 +169,23 @@ static void locks_there(void)
 static void locks_by_its_steps(void)
 {
     struct pz_call lock = call_of(SLEEPER, cell_place(0));
-    SAME((int)run(&file, &lock, PZ_OP_LOCK, -1), 0);
+    SAME((int)run(&file, &lock, PZ_OP_LOCK, -1, NULL), 0);
     CHECK((*heir(&file, cell_place(0)) & WHO) != SLEEPER);
     answer = PZ_WOKEN;
+}
+
+/* The same with a time limit. It has the mutex in the end, or its time is over; and what it had it gives back. */
+static void locks_for_a_time(void)
+{
+    static const struct timespec far_away = {FAR_AWAY_S, 0};
+    struct limit limit = {.clock = CLOCK_MONOTONIC, .at = &far_away};
+    struct pz_call call = call_of(SLEEPER, cell_place(0));
+    answer = run(&file, &call, PZ_OP_LOCK, -1, &limit);
+    CHECK((*heir(&file, cell_place(0)) & WHO) != SLEEPER);
+    if (answer)
+        return;
+    call = call_of(SLEEPER, cell_place(0));
+    SAME((int)run(&file, &call, PZ_OP_UNLOCK, -1, NULL), 0);
 }
 
 static void makes_them(void)
@@ -163,6 +202,12 @@ static void unlocks_twice(void)
     unlocks();
     SAME(pz_take(&file, 0, PZ_OP_LOCK), 0);
     SAME(pz_give(&file, 0), 0);
+}
+static void unlocks_and_tries(void)
+{
+    unlocks();
+    if (pz_take(&file, 0, PZ_OP_TRYLOCK) == 0)
+        SAME(pz_give(&file, 0), 0);
 }
 static void signals(void)
 {
@@ -245,6 +290,53 @@ static void on_a_cell(uint64_t cell)
     in_orders(unlocks, locks_by_its_steps, 0, 0);
 }
 
+/* ---- With a time limit. */
+
+static long timed_out, had_it;
+
+/* A third one sleeps too, if any: it has been woken in the end, as nobody has the mutex. */
+static void one_with_a_limit(void (*wakes)(void), uint64_t its_heir, int is_over, int third)
+{
+    uint64_t cell = cell_place(0);
+    do {
+        begin_words();
+        *sleepers(&file, cell) = third ? bit_of(OTHER) : 0;
+        *heir(&file, cell) = its_heir;
+        other_asleep_on = third ? (uint32_t *)&words[cell] : NULL;
+        time_is_over = is_over;
+        CHECK(take_turns(wakes, locks_for_a_time));
+        if (third && other_asleep_on)
+            fail(__FILE__, __LINE__, "the wake is lost");
+        CHECK(owner_of(words[cell]) == 0 && words[head_place(SLEEPER) + 2] == 0 && !asleep_on);
+        CHECK(words[head_place(SLEEPER)] == head_place(SLEEPER) && (third || !(*heir(&file, cell) & COMES)));
+        CHECK(*sleepers(&file, cell) == (third ? bit_of(OTHER) : 0) && (answer == 0 || answer == ETIMEDOUT));
+        timed_out += answer == ETIMEDOUT;
+        had_it += answer == 0;
+        orders++;
+    } while (next_order());
+}
+
+static void with_a_limit(void (*wakes)(void))
+{
+    for (int is_over = 0; is_over < 2; is_over++)
+        for (int third = 0; third < 2; third++)
+            for (other_is_first = 0; other_is_first <= third; other_is_first++) {
+                one_with_a_limit(wakes, 0, is_over, third);
+                one_with_a_limit(wakes, SLEEPER, is_over, third);
+            }
+}
+
+static void it_has_a_limit(void)
+{
+    is_timed = 1;
+    most_interruptions = FEW_INTERRUPTIONS;
+    with_a_limit(unlocks);
+    with_a_limit(unlocks_and_tries);
+    CHECK(timed_out > 1000 && had_it > 1000);
+    is_timed = time_is_over = 0;
+    most_interruptions = INTERRUPTIONS;
+}
+
 /* A call's wake is left to who is the heir; a walk's is made. */
 static void beside_an_heir(uint64_t cell)
 {
@@ -271,7 +363,10 @@ int main(void)
     beside_an_heir(cell_place(0));
     for (no_waitv = 0; no_waitv < 2; no_waitv++)
         on_a_cell(cell_place(0));
-    printf("sleepers: nobody was left asleep in any of %ld orders of instructions\n", orders);
+    for (no_waitv = 0; no_waitv < 2; no_waitv++)
+        it_has_a_limit();
+    printf("sleepers: nobody was left asleep in any of %ld orders of instructions; %ld times a limit came\n", orders,
+           timed_out);
     CHECK(orders > 20000);
     return 0;
 }

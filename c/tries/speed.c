@@ -1,6 +1,7 @@
 /* Calls beside the C library's robust, process-shared, error-checking mutex, in one run and in turn: locks and unlocks
- * alone, by 2 and by 4 processes; a lock, a signal to nobody and an unlock; refusals; and the time from a SIGKILL until
- * a sleeper has EOWNERDEAD, or of a lock behind one. Prints a row a case: ours, the C library's, the quotient, in ns or
+ * alone, also with a time limit, by 2 and by 4 processes; a lock, a signal to nobody and an unlock; refusals; and the
+ * time from a SIGKILL until a sleeper has EOWNERDEAD, or of a lock behind one, and from a time limit until its lock has
+ * ETIMEDOUT. Prints a row a case: ours, the C library's, the quotient, in ns or
  * us, the middle of RUNS; of a pair alone of 20 times as many short ones, so that both meet what else the machine does.
  * (Work inside and outside the mutex, and more processes: load.c.) usage: speed RUNS */
 #include "libc.h"
@@ -44,6 +45,20 @@ static double alone(int unused, int ours)
     (void)unused;
     double since = now();
     pairs(ours, PAIRS / SLICES);
+    return (now() - since) * 1e9 / (PAIRS / SLICES);
+}
+
+/* With a time limit, which doesn't come. */
+static double alone_timed(int unused, int ours)
+{
+    static const struct timespec far_away = {INT64_MAX, 0};
+    double since = now();
+    (void)unused;
+    for (long i = 0; i < PAIRS / SLICES; i++) {
+        CHECK((ours ? pz_mutex_clocklock(p, 0, CLOCK_MONOTONIC, &far_away)
+                    : pthread_mutex_clocklock(&b->libc, CLOCK_MONOTONIC, &far_away)) == 0);
+        CHECK((ours ? pz_mutex_unlock(p, 0) : pthread_mutex_unlock(&b->libc)) == 0);
+    }
     return (now() - since) * 1e9 / (PAIRS / SLICES);
 }
 
@@ -135,6 +150,15 @@ static double dead_already(int unused, int ours)
     return (until - since) * 1e6;
 }
 
+/* It is killed, and what it owned free again. */
+static void end_owner(pid_t owner, int ours)
+{
+    kill_and_wait(owner);
+    SAME(ours ? pz_mutex_lock(p, 1) : pthread_mutex_lock(&b->libc), EOWNERDEAD);
+    SAME(ours ? pz_mutex_consistent(p, 1) : pthread_mutex_consistent(&b->libc), 0);
+    SAME(ours ? pz_mutex_unlock(p, 1) : pthread_mutex_unlock(&b->libc), 0);
+}
+
 /* ns a trylock of a mutex that another process owns. */
 static double busy(int unused, int ours)
 {
@@ -144,11 +168,25 @@ static double busy(int unused, int ours)
     for (long i = 0; i < PAIRS; i++)
         SAME(ours ? pz_mutex_trylock(p, 1) : pthread_mutex_trylock(&b->libc), EBUSY);
     double until = now();
-    kill_and_wait(owner);
-    SAME(ours ? pz_mutex_lock(p, 1) : pthread_mutex_lock(&b->libc), EOWNERDEAD);
-    SAME(ours ? pz_mutex_consistent(p, 1) : pthread_mutex_consistent(&b->libc), 0);
-    SAME(ours ? pz_mutex_unlock(p, 1) : pthread_mutex_unlock(&b->libc), 0);
+    end_owner(owner, ours);
     return (until - since) * 1e9 / PAIRS;
+}
+
+/* us from a limit, so many ms ahead, to the return of a lock of a mutex that another process owns. */
+static double late(int ms, int ours)
+{
+    struct timespec until;
+    pid_t owner = an_owner(ours);
+    clock_gettime(CLOCK_MONOTONIC, &until);
+    until.tv_nsec += ms * 1000000l;
+    until.tv_sec += until.tv_nsec / 1000000000;
+    until.tv_nsec %= 1000000000;
+    SAME(ours ? pz_mutex_clocklock(p, 1, CLOCK_MONOTONIC, &until)
+              : pthread_mutex_clocklock(&b->libc, CLOCK_MONOTONIC, &until),
+         ETIMEDOUT);
+    double is = now();
+    end_owner(owner, ours);
+    return (is - (double)until.tv_sec - (double)until.tv_nsec * 1e-9) * 1e6;
 }
 
 /* us from the kill of an owner to its sleeper's EOWNERDEAD. */
@@ -202,6 +240,7 @@ int main(int argc, char **argv)
     make_libc_condition(&b->told);
     puts("                                        ours   libc's  times");
     row("lock and unlock alone, ns", alone, 0, SLICES * runs, 1.1);
+    row("the same with a time limit, ns", alone_timed, 0, SLICES * runs, 1.1);
     row("one mutex, 2 processes, ns", contended, 2, runs, 1.1);
     row("one mutex, 4 processes, ns", contended, 4, runs, 1.1);
     row("lock, signal, unlock, ns", notified, 0, runs, 1.5);
@@ -211,6 +250,8 @@ int main(int argc, char **argv)
     row("unlock by another (EPERM), ns", refused, 1, runs, 1.5);
     row("SIGKILL to EOWNERDEAD, us", death, 0, runs * 3, 0);
     row("lock, its owner dead already, us", dead_already, 0, runs * 3, 0);
+    row("a limit 2 ms ahead to ETIMEDOUT, us", late, 2, runs * 3, 0);
+    row("a limit 100 ms ahead to it, us", late, 100, runs * 3, 0);
     pz_close(p);
     unlink(path);
     return 0;

@@ -1,9 +1,11 @@
 /* A thread dies before each of its instructions, one run for each, in calls of which some go by a plan and some by
- * their steps; and its reaper dies behind each access of its walk, and before the record of it. Whatever the thread
- * held is told to the next one as such, and whatever it didn't isn't; and nobody is left asleep. */
+ * their steps, and one gives up at its time limit; and its reaper dies behind each access of its walk, and before the
+ * record of it. Whatever the thread held is told to the next one as such, and whatever it didn't isn't; and nobody is
+ * left asleep. */
+#include "driver.h"
 #include "try.h"
 
-enum { MUTEXES = 3, FREE = 0, UNSURE = 1, HELD_BY_IT = 2 };
+enum { MUTEXES = 3, ANOTHERS = MUTEXES, FREE = 0, UNSURE = 1, HELD_BY_IT = 2 };
 
 struct seen {
     _Atomic long made;          /* accesses of a thread that is counted */
@@ -49,8 +51,8 @@ static void give(unsigned m)
     atomic_store(&seen->state[m], FREE);
 }
 
-/* Three mutexes are on the list at once; one is taken from the middle of it; a condition variable's mutex is released
- * by a wait. */
+/* Three mutexes are on the list at once; one is taken from the middle of it; a fourth is another's, up to a limit; a
+ * condition variable's mutex is released by a wait. */
 static void calls(int waits)
 {
     take(0, 0);
@@ -58,6 +60,7 @@ static void calls(int waits)
     take(2, 0);
     give(1);
     take(1, 0);
+    SAME(pz_mutex_clocklock(p, ANOTHERS, CLOCK_MONOTONIC, &(struct timespec){0}), ETIMEDOUT);
     give(2);
     SAME(pz_cond_signal(p, 0), 0);
     if (waits) {
@@ -90,6 +93,8 @@ static void look(void)
         SAME(pz_mutex_unlock(p, m), 0);
         atomic_store(&seen->state[m], FREE);
     }
+    pz_reap(p);
+    CHECK(!atomic_load(sleepers(p, cell_place(ANOTHERS))) && !atomic_load(heir(p, cell_place(ANOTHERS))));
 }
 
 /* Somebody sleeps on the first mutex, and gets it. */
@@ -243,14 +248,28 @@ static void take_and_repair(void)
     int r = pz_mutex_lock(p, 0);
     SAME(r == EOWNERDEAD ? pz_mutex_consistent(p, 0) : r, 0);
 }
-static long heirs_die(void)
+
+/* With a limit it naps, and gives up. */
+static int waits_as_heir(int is_timed)
+{
+    struct timespec until;
+    clock_gettime(CLOCK_MONOTONIC, &until);
+    until.tv_nsec += 2000000;
+    until.tv_sec += until.tv_nsec / 1000000000;
+    until.tv_nsec %= 1000000000;
+    int r = is_timed ? pz_mutex_clocklock(p, 0, CLOCK_MONOTONIC, &until) : pz_mutex_lock(p, 0);
+    if (is_timed && r == ETIMEDOUT)
+        return 0;
+    return r || pz_mutex_unlock(p, 0);
+}
+static long heirs_die(int is_timed)
 {
     long n = 0;
     for (int died = 1, status; died; n++) {
         take_and_repair();
         pid_t second = one_behind(), first = child(n + 1, 0);
         if (!first)
-            _exit(pz_mutex_lock(p, 0) || pz_mutex_unlock(p, 0));
+            _exit(waits_as_heir(is_timed));
         until_it_rests(first);
         atomic_store(&seen->may_lock, 1);
         until_it_rests(second);
@@ -332,7 +351,8 @@ int main(void)
     const char *path = a_file("steps");
     long instructions = 0, walks = 0;
     alarm(280);
-    SAME(pz_open(path, 0600, MUTEXES, 1, NULL, 0, &p), 0);
+    SAME(pz_open(path, 0600, MUTEXES + 1, 1, NULL, 0, &p), 0);
+    SAME(pz_mutex_lock(p, ANOTHERS), 0);
     seen = shared(sizeof *seen);
     for (long n = 1; !one(n, 0, 0, 0); n++)
         instructions = n;
@@ -348,14 +368,16 @@ int main(void)
             if (atomic_load(&seen->walked) - before < k)
                 break; /* it had ended before */
         }
-    long waits = heirs_die();
+    long waits = heirs_die(0), timed = heirs_die(1);
     a_trylock_beside_a_reaper();
     leavers_die();
     openers_die_after_a_reboot();
     makers_die();
-    printf("steps: dead before each of %ld instructions, and of %ld of a wait, and %ld times amid the walk\n",
-           instructions, waits, walks);
-    CHECK(instructions >= 50 && waits >= 20 && walks > 500);
+    SAME(pz_mutex_unlock(p, ANOTHERS), 0);
+    printf("steps: dead before each of %ld instructions, of %ld of a wait and %ld of a timed one, and %ld times amid "
+           "the walk\n",
+           instructions, waits, timed, walks);
+    CHECK(instructions >= 50 && waits >= 20 && timed >= 20 && walks > 500);
     pz_close(p);
     unlink(path);
     return 0;

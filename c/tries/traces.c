@@ -1,6 +1,6 @@
-/* A trace of processes that lock, wait and are killed, for `rfx check`: 200 of them, six at a time, so each id has many
- * lives. Mutexes but the first, of which there are waiters, become unusable now and then, and are made free again.
- * usage: traces SEED >TRACE */
+/* A trace of processes that lock, also with time limits, wait and are killed, for `rfx check`: 200 of them, six at a
+ * time, so each id has many lives. Mutexes but the first, of which there are waiters, become unusable now and then, and
+ * are made free again. usage: traces SEED >TRACE */
 #include "trace.h"
 #include "try.h"
 
@@ -19,6 +19,17 @@ static void settle(unsigned m, int r)
         SAME(r, 0);
 }
 
+/* With a limit that is past, comes soon, or doesn't. */
+static int lock_until(unsigned m, unsigned *random)
+{
+    struct timespec until;
+    clock_gettime(CLOCK_MONOTONIC, &until);
+    unsigned how = (unsigned)rand_r(random) % 3;
+    until.tv_sec += how == 0 ? -1 : how == 1 ? 1000 : until.tv_nsec / 999000000;
+    until.tv_nsec = how < 2 ? until.tv_nsec : (until.tv_nsec + 1000000) % 1000000000;
+    return pz_mutex_clocklock(p, m, CLOCK_MONOTONIC, &until);
+}
+
 static void work(int slot)
 {
     unsigned random = (unsigned)getpid();
@@ -28,8 +39,9 @@ static void work(int slot)
         if (round >= HASTE)
             rest(1000);
         unsigned m = (unsigned)rand_r(&random) % MUTEXES;
-        int r = rand_r(&random) % 2 ? pz_mutex_lock(p, m) : pz_mutex_trylock(p, m);
-        if (r == EBUSY)
+        unsigned how = (unsigned)rand_r(&random) % 4;
+        int r = how < 2 ? pz_mutex_trylock(p, m) : how == 2 ? pz_mutex_lock(p, m) : lock_until(m, &random);
+        if (r == EBUSY || r == ETIMEDOUT)
             continue;
         if (r == ENOTRECOVERABLE) {
             r = pz_mutex_reinit(p, m);

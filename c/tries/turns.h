@@ -9,7 +9,7 @@ static void pz_between(void);
 #include "try.h"
 #include <ucontext.h>
 
-enum { MOST_CHOICES = 64, MOST_TURNS = 1000, STACK = 1 << 16 };
+enum { MOST_CHOICES = 256, MOST_TURNS = 1000, STACK = 1 << 16 };
 
 static struct {
     void (*job)(void);

@@ -129,6 +129,8 @@ static int one_call(const char *call, pthread_mutex_t *m)
         return pthread_mutex_consistent(m);
     if (!strcmp(call, "destroy"))
         return pthread_mutex_destroy(m);
+    if (!strcmp(call, "normal"))
+        return init_type(m, PTHREAD_MUTEX_NORMAL);
     if (!strcmp(call, "init") || !strcmp(call, "last"))
         return init(m);
     return pthread_cond_timedwait(&c, m, &past);
@@ -479,11 +481,27 @@ static struct timespec from_now(long ms)
     return (struct timespec){t.tv_sec + ns / 1000000000, ns % 1000000000};
 }
 
+/* A normal one, by its owner: up to the limit, which handlers don't end. */
+static void waits_for_itself(pthread_mutex_t *m)
+{
+    struct timespec until = from_now(50), is;
+    SAME(init_type(m, PTHREAD_MUTEX_NORMAL), 0);
+    SAME(pthread_mutex_timedlock(m, &until), 0);
+    errno = WAS;
+    SAME(pthread_mutex_timedlock(m, &until), ETIMEDOUT);
+    SAME(errno, WAS);
+    clock_gettime(CLOCK_REALTIME, &is);
+    CHECK(is.tv_sec > until.tv_sec || (is.tv_sec == until.tv_sec && is.tv_nsec >= until.tv_nsec));
+    until.tv_nsec = 1000000000;
+    SAME(pthread_mutex_timedlock(m, &until), EINVAL);
+    SAME(pthread_mutex_unlock(m), 0);
+}
+
 static void errno_stays(void)
 {
     const char *path = file("errno"), *missing = file("missing");
     struct itimerval often = {{0, 2000}, {0, 2000}}, never = {{0, 0}, {0, 0}};
-    pthread_mutex_t *m = map(path, 1), *n = map(missing, 1);
+    pthread_mutex_t *m = map(path, 2), *n = map(missing, 1);
     SAME(comes(missing, 0, "init", 1), 0);
     CHECK(unlink(companion_of(missing)) == 0);
     errno = WAS;
@@ -497,6 +515,10 @@ static void errno_stays(void)
           !setitimer(ITIMER_REAL, &often, NULL));
     errno = WAS;
     SAME(pthread_mutex_timedlock(m, &until), ETIMEDOUT);
+    SAME(errno, WAS);
+    waits_for_itself(&m[1]);
+    until = from_now(20);
+    SAME(pthread_mutex_timedlock(m, &until), ETIMEDOUT); /* it has an id there by now */
     SAME(errno, WAS);
     CHECK(!setitimer(ITIMER_REAL, &never, NULL));
     kill_and_wait(it);
@@ -513,6 +535,8 @@ static void *is_cancelled(void *owned)
     SAME(pthread_mutex_lock(made), 0);
     SAME(init(to_make), 0);
     SAME(pthread_mutex_timedlock(owned, &until), ETIMEDOUT);
+    until = from_now(20);
+    SAME(pthread_mutex_timedlock(made, &until), ETIMEDOUT);
     SAME(pthread_mutex_unlock(made), 0);
     SAME(pthread_mutex_destroy(made), 0);
     went_on = 1;
@@ -525,7 +549,7 @@ static void cancelled_later(void)
     pthread_t t;
     void *end;
     pthread_mutex_t *owned = map(file("owned"), 1);
-    SAME(comes(file("made"), 0, "init", 1), 0);
+    SAME(comes(file("made"), 0, "normal", 1), 0);
     made = map(file("made"), 1);
     to_make = map(file("to-make"), 1);
     SAME(init(owned), 0);
@@ -815,6 +839,26 @@ static void more_threads_than_ids(void)
 }
 
 /* ---- First openers are killed while they make mutexes: the next one makes them all. */
+
+/* Of its second turn on it makes anew some that it owns. (So few turns that it owns fewer than it may, however late it
+ * is killed.) */
+static void opens_first(const char *path, int mutexes, int keeps)
+{
+    enum { TURNS = 10 };
+    pthread_mutex_t *m = map(path, mutexes);
+    for (int n = 0; n < TURNS * mutexes; n++) {
+        int i = n % mutexes;
+        SAME(init(&m[i]), 0);
+        SAME(pthread_mutex_lock(&m[i]), 0);
+        if (i % 2)
+            SAME(pthread_mutex_unlock(&m[i]), 0);
+        else if (!keeps)
+            pthread_mutex_unlock(&m[i]);
+    }
+    for (;;)
+        pause();
+}
+
 static void first_openers_are_killed(void)
 {
     enum { MUTEXES = 300, DEATHS = 300 };
@@ -824,15 +868,7 @@ static void first_openers_are_killed(void)
             unlink(path);
         pid_t it = fork();
         if (!it)
-            for (pthread_mutex_t *m = map(path, MUTEXES);;)
-                for (int i = 0; i < MUTEXES; i++) {
-                    SAME(init(&m[i]), 0);
-                    SAME(pthread_mutex_lock(&m[i]), 0);
-                    if (i % 2)
-                        SAME(pthread_mutex_unlock(&m[i]), 0);
-                    else if (k % 2)
-                        pthread_mutex_unlock(&m[i]);
-                }
+            opens_first(path, MUTEXES, k % 2 == 0);
         rest(k * 13 % 1000);
         kill_and_wait(it);
         pthread_mutex_t *m = map(path, MUTEXES);

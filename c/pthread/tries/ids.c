@@ -1,24 +1,42 @@
-/* All ids of a bank are had, and more threads come: what becomes of them. Polling is off, and they stop or die where
- * they are told to: so one that isn't woken sleeps for good. usage: ids FOLDER; libpazdrig_pthread.so, built with
- * hooks.h, is loaded in front. */
+/* All ids of a bank are had, and more threads come, also with a time limit: what becomes of them. Polling is off, and
+ * they stop or die, and their time is over, where they are told to: so one that isn't woken sleeps for good. usage: ids
+ * FOLDER; libpazdrig_pthread.so, built with hooks.h, is loaded in front. */
 #include "../../tries/try.h"
 #include <fcntl.h>
 #include <pthread.h>
 #include <sys/stat.h>
+#include <sys/syscall.h>
 
 enum { IDS = 64, WAITERS = 4, ALL = IDS + WAITERS, FIRST = 30 }; /* its mutexes are of the second bank */
 enum order { STAY, UNLOCK, TRY_A_BUSY_ONE, TAKE_A_DEAD_ONES, SLEEP_FOR_A_DEAD_ONES, LEAVE };
 enum moment { ASKING, ASKED, NO_ID, GIVING, MOMENTS };
 enum at_moment { GO_ON, STOP, DIE };
 
-/* One process: what it is told to do, and how often it has done that; its mutex was the first. */
+/* One process: what it is told to do, and how often it has done that; its mutex was the first, and with a limit what
+ * its lock was told. */
 struct part {
-    _Atomic int order, done, at[MOMENTS];
+    _Atomic int order, done, at[MOMENTS], is_timed, told;
 };
 static struct part *part;
 static pthread_mutex_t *m;
 static pid_t process[ALL];
 static int self = -1, its, dead_one;
+
+/* What each clock shows, to the library too: to one whose time is over, a time behind its limit. */
+static const struct timespec limit = {4000000000, 0};
+static volatile sig_atomic_t time_is_over;
+int clock_gettime(clockid_t clock, struct timespec *is)
+{
+    if (!time_is_over)
+        return (int)syscall(SYS_clock_gettime, clock, is);
+    *is = (struct timespec){limit.tv_sec * 2, 0};
+    return 0;
+}
+static void time_comes(int unused)
+{
+    (void)unused;
+    time_is_over = 1;
+}
 
 static void stands_at(enum moment moment)
 {
@@ -63,8 +81,11 @@ static void comes_to(int i, int mutex)
         return;
     self = i;
     its = mutex;
-    int r = pthread_mutex_lock(&m[its]);
-    CHECK(r == 0 || (r == EOWNERDEAD && its != i));
+    CHECK(!sigaction(SIGUSR1, &(struct sigaction){.sa_handler = time_comes}, NULL));
+    int is_timed = atomic_load(&part[i].is_timed);
+    int r = is_timed ? pthread_mutex_timedlock(&m[its], &limit) : pthread_mutex_lock(&m[its]);
+    CHECK(r == 0 || (r == EOWNERDEAD && its != i) || (r == ETIMEDOUT && time_is_over));
+    atomic_store(&part[i].told, r);
     for (atomic_fetch_add(&part[i].done, 1);;)
         do_as_told(&part[i]);
 }
@@ -353,6 +374,55 @@ static void who_had_to_wait_dies(const char *path)
     end(path);
 }
 
+/* It waits with a limit that is far away: an id comes, by its giver and by a death. */
+static void one_has_a_limit(const char *path)
+{
+    begin(path, 0);
+    atomic_store(&part[IDS].is_timed, 1);
+    sleeps_for_one(IDS);
+    tell(0, UNLOCK);
+    until_done(IDS, 1);
+    atomic_store(&part[IDS + 1].is_timed, 1);
+    sleeps_for_one(IDS + 1);
+    is_killed(20);
+    until_done(IDS + 1, 1);
+    SAME(atomic_load(&part[IDS].told), 0);
+    SAME(atomic_load(&part[IDS + 1].told), 0);
+    end(path);
+}
+
+/* Its time is over: by then it sleeps, or it was woken and stands still before it looks; and there somebody else has
+ * had the id (1), or nobody. Who waits behind it is told of the next one: by a giver, or by the death of who had it. */
+static void its_limit_comes(const char *path, int is_woken, int is_had)
+{
+    enum { FIRST_ONE = IDS, NEXT, TAKER };
+    begin(path, 2);
+    atomic_store(&part[FIRST_ONE].is_timed, 1);
+    sleeps_for_one(FIRST_ONE);
+    sleeps_for_one(NEXT);
+    if (is_woken) {
+        int status;
+        atomic_store(&part[FIRST_ONE].at[ASKING], STOP);
+        tell(0, UNLOCK);
+        CHECK(waitpid(process[FIRST_ONE], &status, WUNTRACED) == process[FIRST_ONE] && WIFSTOPPED(status));
+    }
+    if (is_had) {
+        comes(TAKER);
+        until_done(TAKER, 1);
+    }
+    kill(process[FIRST_ONE], SIGUSR1);
+    kill(process[FIRST_ONE], SIGCONT);
+    until_done(FIRST_ONE, 1);
+    SAME(atomic_load(&part[FIRST_ONE].told), is_woken && !is_had ? 0 : ETIMEDOUT);
+    until_asleep(process[NEXT]);
+    if (is_had)
+        is_killed(TAKER);
+    else
+        tell(1, UNLOCK);
+    until_done(NEXT, 1);
+    end(path);
+}
+
 int main(int argc, char **argv)
 {
     char path[512];
@@ -369,6 +439,10 @@ int main(int argc, char **argv)
     one_more_is_free(path);
     one_who_need_not_know(path);
     who_had_to_wait_dies(path);
+    one_has_a_limit(path);
+    its_limit_comes(path, 0, 0);
+    its_limit_comes(path, 1, 0);
+    its_limit_comes(path, 1, 1);
     puts("ids: each who waited for one had one");
     return 0;
 }

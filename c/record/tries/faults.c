@@ -1,6 +1,7 @@
 /* Faults that the C library has, a mutex each. usage: faults NAME FILE [HISTORY] */
 #include "shared.h"
 #include <sys/syscall.h>
+#include <time.h>
 
 enum { MOST = 2049 };
 static pthread_mutex_t *m;
@@ -12,6 +13,17 @@ static void second_trylock(void)
     make_unusable(m);
     pthread_mutex_trylock(m);
     pthread_mutex_trylock(m);
+}
+
+/* The trylock that is told leaves it taken, so another one's limit comes as if somebody owned it. */
+static void timedlock_of_an_unusable(void)
+{
+    make_unusable(m);
+    pthread_mutex_trylock(m);
+    pid_t it = a_child();
+    if (!it)
+        _exit(pthread_mutex_timedlock(m, &(struct timespec){0}));
+    until_dead(it);
 }
 
 static void consistent_by_another(void)
@@ -96,6 +108,7 @@ static const struct {
     void (*show)(void);
 } faults[] = {
     {"second_trylock", second_trylock},
+    {"timedlock_of_an_unusable", timedlock_of_an_unusable},
     {"consistent_by_another", consistent_by_another},
     {"many_held", many_held},
     {"wait_of_an_inconsistent", wait_of_an_inconsistent},

@@ -94,8 +94,9 @@ static inline void make_unusable(pthread_mutex_t *m)
     CHECK(pthread_mutex_lock(m) == EOWNERDEAD && pthread_mutex_unlock(m) == 0);
 }
 
-/* A child does something once, and is killed after so many instructions of the second time. 0: that had ended. */
-static inline int dies_within(void (*first)(void), void (*again)(void), int instructions)
+/* A child does something once, stands still after so many instructions of the second time, and is killed. 0: that had
+ * ended. */
+static inline int stands_within(void (*first)(void), void (*again)(void), int instructions, void (*meanwhile)(void))
 {
     int status, is_within = 1;
     pid_t it = a_child();
@@ -112,8 +113,14 @@ static inline int dies_within(void (*first)(void), void (*again)(void), int inst
         CHECK(waitpid(it, &status, 0) == it && WIFSTOPPED(status));
         is_within = WSTOPSIG(status) == SIGTRAP;
     }
+    meanwhile();
     until_killed(it);
     return is_within;
+}
+static inline void nothing(void) {}
+static inline int dies_within(void (*first)(void), void (*again)(void), int instructions)
+{
+    return stands_within(first, again, instructions, nothing);
 }
 
 /* Whether all of them sleep, or have ended, however often that is looked at. */

@@ -1,9 +1,11 @@
 /* A thread is killed before each instruction of its calls: of the recorder, and of the library beneath. What is
  * recorded of it is what happened. usage: steps FILE CALL [STRIDE]; so many instructions lie between two deaths. */
 #include "shared.h"
+#include <time.h>
 
 static pthread_mutex_t *m;
 static pthread_cond_t *c;
+static _Atomic int *owned;
 
 static void lock(void) { pthread_mutex_lock(m); }
 static void unlock(void) { pthread_mutex_unlock(m); }
@@ -16,6 +18,13 @@ static void trylock(void) { pthread_mutex_trylock(m); }
 static void trylock_and_unlock(void)
 {
     trylock();
+    unlock();
+}
+/* Its limit has come already. */
+static void timedlock(void) { pthread_mutex_timedlock(m, &(struct timespec){0}); }
+static void timedlock_and_unlock(void)
+{
+    timedlock();
     unlock();
 }
 static void consistent(void) { pthread_mutex_consistent(m); }
@@ -53,6 +62,20 @@ static void take_and_signal(void)
     take();
     signal_one();
 }
+/* Somebody owns it, and is killed once this one is. */
+static void be_too_late(void)
+{
+    both();
+    pid_t it = a_child();
+    if (!it) {
+        lock();
+        atomic_store(owned, 1);
+        for (;;)
+            pause();
+    }
+    while (!atomic_exchange(owned, 0))
+        usleep(100);
+}
 static void make_anew(void) { make(m, PTHREAD_MUTEX_NORMAL); }
 
 static const struct {
@@ -61,6 +84,8 @@ static const struct {
 } calls[] = {
     {"lock", both, lock},
     {"trylock", trylock_and_unlock, trylock},
+    {"timedlock", timedlock_and_unlock, timedlock},
+    {"too_late", be_too_late, timedlock},
     {"lock_of_a_dead_owners", take_dead_owners, lock},
     {"unlock", take, unlock},
     {"consistent", own_dead_owners, consistent},
@@ -83,6 +108,7 @@ int main(int argc, char **argv)
     char *at = mapped(argv[1], 4096, NULL);
     m = (void *)at;
     c = (void *)(at + 256);
+    owned = (void *)(at + 512);
     size_t k = 0, most = sizeof calls / sizeof *calls;
     while (k < most && strcmp(calls[k].name, argv[2]))
         k++;

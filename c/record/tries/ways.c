@@ -93,15 +93,10 @@ static void recursive(void)
     CHECK(pthread_mutex_unlock(m) == EPERM);
 }
 
-static void limits(void)
+static void timed_waits(void)
 {
     struct timespec past = {0};
     lock();
-    pid_t it = a_child();
-    if (!it)
-        _exit(pthread_mutex_timedlock(m, &past) != ETIMEDOUT ||
-              pthread_mutex_clocklock(m, CLOCK_MONOTONIC, &past) != ETIMEDOUT);
-    until_dead(it);
     CHECK(pthread_cond_timedwait(c, m, &past) == ETIMEDOUT);
     CHECK(pthread_cond_signal(c) == 0);
     unlock();
@@ -277,7 +272,7 @@ static const struct {
     {"detached", detached, 0},
     {"bare_fork", bare_fork, 0},
     {"recursive", recursive, 0},
-    {"limits", limits, 0},
+    {"timed_waits", timed_waits, 0},
     {"private", private, 0},
     {"cancelled", cancelled, 0},
     {"private_cond", private_cond, 0},

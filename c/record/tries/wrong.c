@@ -4,9 +4,12 @@
 #include <pthread.h>
 #include <stdlib.h>
 #include <string.h>
+#include <time.h>
 
 typedef int one(pthread_mutex_t *);
+typedef int one_until(pthread_mutex_t *, const struct timespec *);
 static one *lock, *trylock, *unlock, *consistent;
+static one_until *timedlock;
 static const char *wrong = "";
 
 __attribute__((constructor)) static void find(void)
@@ -15,6 +18,7 @@ __attribute__((constructor)) static void find(void)
     *(void **)&trylock = dlsym(RTLD_NEXT, "pthread_mutex_trylock");
     *(void **)&unlock = dlsym(RTLD_NEXT, "pthread_mutex_unlock");
     *(void **)&consistent = dlsym(RTLD_NEXT, "pthread_mutex_consistent");
+    *(void **)&timedlock = dlsym(RTLD_NEXT, "pthread_mutex_timedlock");
     if (getenv("PZ_WRONG"))
         wrong = getenv("PZ_WRONG");
 }
@@ -30,7 +34,20 @@ int pthread_mutex_lock(pthread_mutex_t *m)
         return consistent(m), 0;
     if (r == EOWNERDEAD && is("lock_gives_up"))
         return unlock(m), ENOTRECOVERABLE;
+    if (r == 0 && is("lock_has_a_limit"))
+        return unlock(m), ETIMEDOUT;
     return r == 0 && is("death_is_told_of_nobody") ? EOWNERDEAD : r;
+}
+
+int pthread_mutex_timedlock(pthread_mutex_t *m, const struct timespec *until)
+{
+    static int is_later;
+    if (is("limit_comes_beside_the_dead") && !is_later++)
+        return ETIMEDOUT;
+    int r = timedlock(m, until);
+    if (r == 0 && is("limit_comes_though_it_is_free"))
+        return unlock(m), ETIMEDOUT;
+    return r == ETIMEDOUT && is("limit_is_no_matter") ? 0 : r;
 }
 
 int pthread_mutex_trylock(pthread_mutex_t *m) { return is("trylock_does_not_look") ? EBUSY : trylock(m); }

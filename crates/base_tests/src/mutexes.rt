@@ -1,16 +1,19 @@
 //! The table of the object, and the words of its operations.
 
 use crate::words::REPLIES;
-use Operation::{Broadcast, Consistent, Death, Lock, Reinit, Signal, TryLock, Unlock, Wait};
+use Operation::{
+    Broadcast, Consistent, Death, Lock, Reinit, Signal, TimedLock, TryLock, Unlock, Wait,
+};
 use State::{Bereaved, Free, Inherited, Mine, Theirs, Unusable};
 use lockword::{Reply, Tid};
 use posixmutex::{HELD_LIMIT, Object, Operation, ParseOperationError, operations_are_read_back};
 use std::test::Fail;
 
 /// Every operation, and its word.
-static OPERATIONS: [(Operation, &str); 9] = [
+static OPERATIONS: [(Operation, &str); 10] = [
     (Lock, "lock"),
     (TryLock, "trylock"),
+    (TimedLock, "timedlock"),
     (Unlock, "unlock"),
     (Consistent, "consistent"),
     (Wait, "wait"),
@@ -37,7 +40,7 @@ static STATES: [State; 6] = [Free, Bereaved, Mine, Inherited, Theirs, Unusable];
 #[derive(Clone, Copy)]
 struct Row(State, Operation, Reply, State);
 
-static TABLE: [Row; 49] = [
+static TABLE: [Row; 55] = [
     Row(Free, Lock, Reply::OK, Mine),
     Row(Bereaved, Lock, Reply::EOWNERDEAD, Inherited),
     Row(Mine, Lock, Reply::EDEADLK, Mine),
@@ -51,6 +54,12 @@ static TABLE: [Row; 49] = [
     Row(Inherited, TryLock, Reply::EBUSY, Inherited),
     Row(Theirs, TryLock, Reply::EBUSY, Theirs),
     Row(Unusable, TryLock, Reply::ENOTRECOVERABLE, Unusable),
+    Row(Free, TimedLock, Reply::ETIMEDOUT, Free),
+    Row(Bereaved, TimedLock, Reply::ETIMEDOUT, Bereaved),
+    Row(Mine, TimedLock, Reply::ETIMEDOUT, Mine),
+    Row(Inherited, TimedLock, Reply::ETIMEDOUT, Inherited),
+    Row(Theirs, TimedLock, Reply::ETIMEDOUT, Theirs),
+    Row(Unusable, TimedLock, Reply::ETIMEDOUT, Unusable),
     Row(Mine, Unlock, Reply::OK, Free),
     Row(Inherited, Unlock, Reply::OK, Unusable),
     Row(Free, Unlock, Reply::EPERM, Free),
@@ -102,8 +111,8 @@ fn told(old: State, operation: Operation, reply: Reply) -> Option<State> {
 // What holds for a thread that owns as many mutexes as it may.
 fn told_at_limit(old: State, operation: Operation, reply: Reply) -> Option<State> {
     match (operation, reply) {
-        (Lock | TryLock, Reply::XHELD) => Some(old),
-        (Lock | TryLock, _) => None,
+        (Lock | TryLock | TimedLock, Reply::XHELD) => Some(old),
+        (Lock | TryLock | TimedLock, _) => None,
         _ => told(old, operation, reply),
     }
 }

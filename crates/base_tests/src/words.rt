@@ -163,7 +163,7 @@ fn a_cell_changes_by_its_bits(rt: HostRuntime) {
 }
 
 /// A reply, its number and its name.
-pub(crate) static REPLIES: [(Reply, u16, &str); 15] = [
+pub(crate) static REPLIES: [(Reply, u16, &str); 16] = [
     (Reply::OK, 0, "OK"),
     (Reply::EPERM, 1, "EPERM"),
     (Reply::ESRCH, 3, "ESRCH"),
@@ -172,6 +172,7 @@ pub(crate) static REPLIES: [(Reply, u16, &str); 15] = [
     (Reply::EBUSY, 16, "EBUSY"),
     (Reply::EINVAL, 22, "EINVAL"),
     (Reply::EDEADLK, 35, "EDEADLK"),
+    (Reply::ETIMEDOUT, 110, "ETIMEDOUT"),
     (Reply::EOWNERDEAD, 130, "EOWNERDEAD"),
     (Reply::ENOTRECOVERABLE, 131, "ENOTRECOVERABLE"),
     (Reply::XNOMEM, 1000, "X_NOMEM"),

@@ -1,11 +1,11 @@
 //! Sleepers that sleep again, counters that go back to 0, wakes that are spared, accesses of walks that are made once
-//! more, and mutexes that are made anew late.
+//! more, mutexes that are made anew late, and time limits that come.
 
 use crate::machine_rows::{LOCK, UNLOCK, first_owner, machine, play, thread};
 use buckets::Batch;
 use condvar::{CondCall, Op};
 use interleave::Machine;
-use lockword::{Tid, UNUSABLE, WAITERS};
+use lockword::{OWNER_DIED, Reply, Tid, UNUSABLE, WAITERS};
 use mutex::Call;
 use protocol::{Event, Note};
 use std::test::Fail;
@@ -13,6 +13,10 @@ use std::test::Fail;
 const WAIT: Op = Op::OnCondition(CondCall::Wait(0));
 
 const SIGNAL: Op = Op::OnCondition(CondCall::Signal(0));
+
+const BROADCAST: Op = Op::OnCondition(CondCall::Broadcast(0));
+
+const TIMED_LOCK: Op = Op::OnMutex(Call::TimedLock(0));
 
 /// The thread begins a call, and goes on until it sleeps or has returned.
 fn goes(machine: &mut Machine, thread: Tid, op: Op) {
@@ -216,5 +220,105 @@ fn a_walk_makes_all_but_its_marks_twice(rt: HostRuntime) -> Result<(), Fail> {
     assert_eq!(rt; (once, woken), (1, 1));
     assert!(rt; !machine.asleep(two));
     assert!(rt; machine.step(Event::Repeat(one)) == Note::Nothing);
+    Ok(())
+}
+
+/// Thread 2 sleeps on the mutex of thread 1, with its entry pending, until its time limit comes: then it clears the
+/// entry, and its call returns.
+#[test]
+fn a_lock_ends_at_its_time_limit(rt: HostRuntime) -> Result<(), Fail> {
+    let mut machine = machine(rt.alloc(), 2, 1, &[])?;
+    let (one, two) = (thread(1)?, thread(2)?);
+    let (pending, cell) = (6, 7);
+    goes(&mut machine, one, Op::OnMutex(LOCK));
+    goes(&mut machine, two, TIMED_LOCK);
+    assert!(rt; sleep_there(&machine, cell, &[2]));
+    assert!(rt; machine.step(Event::Expire(one)) == Note::Nothing);
+    let expired = Note::Expired {
+        thread: two,
+        mutex: 0,
+    };
+    assert!(rt; machine.step(Event::Expire(two)) == expired);
+    assert!(rt; sleep_there(&machine, cell, &[]) && machine.busy(two));
+    assert!(rt; machine.step(Event::Expire(two)) == Note::Nothing);
+    assert!(rt; machine.word(pending) == Some(8));
+    let returned = Note::Stepped {
+        thread: two,
+        mutex: 0,
+        point: None,
+        slept: None,
+        woken: Batch::new(),
+        moved: Batch::new(),
+        returned: Some(Reply::ETIMEDOUT),
+    };
+    assert!(rt; machine.step(Event::Step(two)) == returned);
+    assert!(rt; machine.word(pending) == Some(0) && !machine.busy(two));
+    assert!(rt; first_owner(&machine) == Some(one));
+    Ok(())
+}
+
+/// A lock has no time limit. One that has one, and was woken before that comes, takes the mutex.
+#[test]
+fn a_time_limit_ends_only_a_timed_lock_that_sleeps(rt: HostRuntime) -> Result<(), Fail> {
+    let mut machine = machine(rt.alloc(), 3, 1, &[])?;
+    let (one, two, three) = (thread(1)?, thread(2)?, thread(3)?);
+    goes(&mut machine, one, Op::OnMutex(LOCK));
+    goes(&mut machine, two, TIMED_LOCK);
+    goes(&mut machine, three, Op::OnMutex(LOCK));
+    assert!(rt; machine.step(Event::Expire(three)) == Note::Nothing);
+    goes(&mut machine, one, Op::OnMutex(UNLOCK));
+    assert!(rt; !machine.asleep(two) && machine.asleep(three));
+    assert!(rt; machine.step(Event::Expire(two)) == Note::Nothing);
+    for _ in 0..20 {
+        let _ = machine.step(Event::Step(two));
+    }
+    assert!(rt; first_owner(&machine) == Some(two));
+    Ok(())
+}
+
+/// The walk over its dead owner's list has marked the mutex, and hasn't woken thread 2 yet, whose time limit comes. The
+/// wake finds nobody; thread 2's next lock takes the mutex as a dead owner left it.
+#[test]
+fn a_time_limit_comes_before_the_wake_of_a_walk(rt: HostRuntime) -> Result<(), Fail> {
+    let mut machine = machine(rt.alloc(), 2, 1, &[])?;
+    let (one, two) = (thread(1)?, thread(2)?);
+    let cell = 7;
+    goes(&mut machine, one, Op::OnMutex(LOCK));
+    goes(&mut machine, two, TIMED_LOCK);
+    let _ = machine.step(Event::Kill(one));
+    for _ in 0..6 {
+        let _ = machine.step(Event::Step(one));
+    }
+    assert!(rt; machine.word(cell) == Some(OWNER_DIED | WAITERS) && machine.asleep(two));
+    let expired = Note::Expired {
+        thread: two,
+        mutex: 0,
+    };
+    assert!(rt; machine.step(Event::Expire(two)) == expired);
+    assert!(rt; machine.dying(one));
+    let _ = machine.step(Event::Step(one));
+    assert!(rt; machine.reaped(one) && machine.busy(two));
+    let _ = machine.step(Event::Step(two));
+    assert!(rt; !machine.busy(two) && first_owner(&machine) == None);
+    goes(&mut machine, two, TIMED_LOCK);
+    assert!(rt; machine.word(cell) == Some(OWNER_DIED | WAITERS | 2));
+    Ok(())
+}
+
+/// A wait has no time limit, be it asleep on its condition variable or, moved there, on its mutex.
+#[test]
+fn no_time_limit_comes_to_a_wait(rt: HostRuntime) -> Result<(), Fail> {
+    let mut machine = machine(rt.alloc(), 2, 1, &[0])?;
+    let (one, two) = (thread(1)?, thread(2)?);
+    let (cell, counter) = (7, 10);
+    goes(&mut machine, one, Op::OnMutex(LOCK));
+    goes(&mut machine, one, WAIT);
+    assert!(rt; sleep_there(&machine, counter, &[1]));
+    assert!(rt; machine.step(Event::Expire(one)) == Note::Nothing);
+    goes(&mut machine, two, Op::OnMutex(LOCK));
+    goes(&mut machine, two, BROADCAST);
+    assert!(rt; sleep_there(&machine, cell, &[1]));
+    assert!(rt; machine.step(Event::Expire(one)) == Note::Nothing);
+    assert!(rt; sleep_there(&machine, cell, &[1]));
     Ok(())
 }

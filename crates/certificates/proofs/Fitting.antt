@@ -1,6 +1,6 @@
 -- What is kept of a certificate says what its lines so far told.
 use Rattle.std.proofs.Common.{◌≡◌, ◌≢◌, ℕ, ◌<◌, ◌==◌, ◌+◌, Bool, true, false, List, [], ◌∷◌, length, refl, sym, ap, subst, ◌∙◌, arith, get_or-set_same, get_or-set_other}
-use Rattle.std.specs.Prelude.{if◌then◌else◌, slice_set}
+use Rattle.std.specs.Prelude.{if◌then◌else◌, slice_index, slice_set}
 use Rattle.std.proofs.lemmas.Bool.Decides.{nat_tests}
 use mathlib.Core.Path.{fun_ext}
 use Rattle.posixmutex.specs.declared.object.Object.{Object}
@@ -10,10 +10,12 @@ use Rattle.facts.specs.declared.fact.Fact.TheVariants.{Point}
 use Rattle.facts.specs.declared.fact.Line.{Line}
 use Rattle.facts.specs.Facts.{thread_of, decision_of}
 use Rattle.facts.specs.Orders.{Each, Later}
-use Rattle.verdict.specs.Earlier.{moved, objects_after, told_of}
-use Rattle.verdict.specs.Fits.{Allows, Fits, OwnsNothing}
-use Rattle.verdict.specs.Judges.{object_at}
+use Rattle.verdict.specs.Earlier.{begun_at, freed_at, moved, objects_after, told_of}
+use Rattle.verdict.specs.Fits.{Allows, Fits, IsDue, OwnsNothing}
+use Rattle.verdict.specs.Judges.{IsMutex, begun_next, freed_next, object_at}
 use Rattle.verdict.specs.Stages.{May, next}
+use Rattle.verdict.specs.Verdicts.{AllFit}
+use Rattle.verdict.proofs.Chances.{begun_kept, begun_length, freed_kept, freed_length, so_waited}
 use Rattle.verdict.proofs.Stages.{Kept, may_fits, next_kept, same_call}
 use Rattle.histories.specs.declared.entry.Entry.{Entry}
 use Rattle.histories.specs.declared.entry.Entry.TheVariants.{Told, Doom}
@@ -23,7 +25,7 @@ use Rattle.certificates.specs.declared.phase.Phase.{Phase}
 use Rattle.certificates.specs.declared.phase.Phase.TheVariants.{Resting, Calling, Dying, Reaped}
 use Rattle.certificates.specs.declared.state.State.{State}
 use Rattle.certificates.specs.Phases.{stage_of}
-use Rattle.certificates.specs.States.{Accepts, IsNew, Moves, Releases, phase_at}
+use Rattle.certificates.specs.States.{Accepts, Awaits, IsNew, IsSound, Moves, Releases, phase_at}
 use Rattle.certificates.specs.Certificates.{trace_of}
 
 -- ---- numbers
@@ -55,16 +57,27 @@ later a b lt = record {
 pub record Reflects (s : State) (told : List Line) : Type 0 where
   pub phases : (t : ℕ) → Kept (stage_of (phase_at s.phases.items t)) (told_of t told)
   pub objects : object_at s.objects.items ≡ objects_after told
+  pub lines : s.lines ≡ length told
+  pub begun : (t : ℕ) → t < length s.begun.items → slice_index s.begun.items t ≡ begun_at t told
+  pub freed : (m : ℕ) → m < length s.freed.items → slice_index s.freed.items m ≡ freed_at m told
 
 -- the next line
 abbrev pub line : List Entry → Fact → Line
 line es f = record { event = number es; fact = f }
 
-pub accepts_fits : (s : State) (es : List Entry) (f : Fact) → Reflects s (trace_of es) → Accepts s f → Fits (length s.objects.items) (trace_of es) (line es f)
-accepts_fits s es f r a = record {
+awaits_due : (n : ℕ) (s : State) (told : List Line) (f : Fact) → IsSound s → Reflects s told → AllFit n told → thread_of f < length s.phases.items → IsMutex (length s.objects.items) f → May (stage_of (phase_at s.phases.items (thread_of f))) f → Allows (length s.objects.items) (object_at s.objects.items) (decision_of f) → Awaits s f → IsDue told f
+awaits_due n s told (Point d) sound r fit thread mutex may allows awaits = λ by on late.
+    sym (so_waited n (length s.objects.items) (object_at s.objects.items) told (stage_of (phase_at s.phases.items d.thread)) d (slice_index s.begun.items d.thread) (slice_index s.freed.items d.mutex) fit (r.phases d.thread) may allows late r.objects
+    (r.begun d.thread (omega (arith, thread, sound.each_begun))) (r.freed d.mutex (omega (arith, mutex, sound.each_freed))))
+    ∙ awaits late
+awaits_due n s told f sound r fit thread mutex may allows awaits = tt
+
+pub accepts_fits : (n : ℕ) (s : State) (es : List Entry) (f : Fact) → IsSound s → Reflects s (trace_of es) → AllFit n (trace_of es) → Accepts s f → Fits (length s.objects.items) (trace_of es) (line es f)
+accepts_fits n s es f sound r fit a = record {
   in_order = each_weaker (λ b. b.event < number es) (λ b. Later b (line es f)) (trace_of es) (λ b lt. later b (line es f) lt) (below es);
   of_thread = may_fits _ f _ (r.phases (thread_of f)) a.may;
   allowed = subst (λ os. Allows (length s.objects.items) os (decision_of f)) r.objects a.allowed;
+  due = awaits_due n s (trace_of es) f sound r fit a.thread a.inside a.may a.allowed a.awaits;
   reaped = subst (λ os. OwnsNothing (length s.objects.items) os f) r.objects a.reaped;
 }
 
@@ -94,15 +107,27 @@ phases_next xs told e after lt kept may goes t = by_cases (thread_of e.fact == t
       let other : t ≢ thread_of e.fact = grind (arith, nat_tests) in
       subst (λ z. Kept (stage_of z) (told_of t told)) (sym (get_or-set_other xs (thread_of e.fact) t after Resting other)) (kept t)
 
-pub reflects_next : (s k : State) (told : List Line) (e : Line) (ds : List Bool) → Reflects s told → Accepts s e.fact → Moves s e.fact ds k → Reflects k (e ∷ told)
-reflects_next s k told e ds r a m = record {
+pub reflects_next : (s k : State) (told : List Line) (e : Line) (ds : List Bool) → e.event ≡ length told + 1 → Reflects s told → Accepts s e.fact → Moves s e.fact ds k → Reflects k (e ∷ told)
+reflects_next s k told e ds number r a m = record {
   phases = λ t. subst (λ xs. Kept (stage_of (phase_at xs t)) (told_of t (e ∷ told))) (sym m.phases) (phases_next s.phases.items told e m.after a.thread r.phases a.may m.goes t);
   objects = m.objects ∙ ap (λ os. moved os (decision_of e.fact)) r.objects;
-}
+  lines = omega (arith, m.lines, r.lines);
+  begun = λ t low.
+      let its : k.begun.items ≡ begun_next s.begun.items e.event e.fact = m.begun ∙ ap (λ i. begun_next s.begun.items i e.fact) at in
+      ap (λ bs. slice_index bs t) its ∙ begun_kept s.begun.items told e r.begun t (omega (arith, low, ap length its, begun_length s.begun.items e.event e.fact));
+  freed = λ j low.
+      let its : k.freed.items ≡ freed_next s.freed.items e.event e.fact = m.freed ∙ ap (λ i. freed_next s.freed.items i e.fact) at in
+      ap (λ fs. slice_index fs j) its ∙ freed_kept s.freed.items told e r.freed j (omega (arith, low, ap length its, freed_length s.freed.items e.event e.fact));
+} where
+  at : s.lines + 1 ≡ e.event
+  at = omega (arith, number, r.lines)
 
 -- before the first line
 pub reflects_new : (h : Head) (s : State) → IsNew h s → Reflects s []
 reflects_new h s new = record {
   phases = λ t. subst (λ p. Kept (stage_of p) []) (sym (new.phases t)) (refl, refl, refl, refl);
   objects = fun_ext new.objects;
+  lines = new.lines;
+  begun = λ t lt. new.begun t;
+  freed = λ m lt. new.freed m;
 }

@@ -4,3 +4,5 @@ pub mod Standing
 pub mod Following
 pub mod Behind
 pub mod Naming
+pub mod Members
+pub mod Points

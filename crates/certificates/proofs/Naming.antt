@@ -1,12 +1,12 @@
 -- A call that is named could go on, and stands in the history where it is said to.
-use Rattle.std.proofs.Common.{◌≡◌, ℕ, ◌+◌, ◌-◌, ◌==◌, Bool, true, false, List, [], ◌∷◌, ◌++◌, length, reverse, if◌then◌else◌, Option, Some, None, ◌⊎◌, inl, inr, refl, sym, ap, subst, ◌∙◌, arith, append_assoc}
+use Rattle.std.proofs.Common.{◌≡◌, ℕ, ◌+◌, ◌-◌, ◌==◌, Bool, true, false, List, [], ◌∷◌, ◌++◌, length, reverse, if◌then◌else◌, Option, Some, None, ◌⊎◌, ⊎_elim, inl, inr, refl, sym, ap, subst, ◌∙◌, arith, append_assoc}
 use Rattle.std.specs.List.{slice_get}
 use Rattle.std.specs.Option.{is_some}
 use Rattle.std.proofs.lemmas.Bool.Decides.{nat_tests}
 use Rattle.std.proofs.lemmas.List.{length-reverse, reverse-append, reverse-reverse}
 use Rattle.posixmutex.specs.declared.object.Object.{Object}
 use Rattle.posixmutex.specs.declared.point.Operation.{Operation}
-use Rattle.posixmutex.specs.declared.point.Operation.TheVariants.{Lock}
+use Rattle.posixmutex.specs.declared.point.Operation.TheVariants.{Lock, TimedLock}
 use Rattle.posixmutex.specs.Objects.{Does, IsUnanswered}
 use Rattle.posixmutex.specs.Histories.{held_by}
 use Rattle.posixmutex.proofs.Replies.{calls}
@@ -20,10 +20,11 @@ use Rattle.facts.specs.Lives.{Act}
 use Rattle.verdict.specs.Earlier.{call_in, objects_after, points_in, told_of}
 use Rattle.histories.specs.declared.entry.Entry.{Entry}
 use Rattle.histories.specs.declared.entry.Entry.TheVariants.{Told, Doom}
+use Rattle.histories.specs.declared.entry.HistoryLine.{HistoryLine}
 use Rattle.certificates.specs.declared.waiting.Waiter.{Waiter}
-use Rattle.certificates.specs.Certificates.{entries, is_doomed, is_seen, seen_of, trace_of, whose}
-use Rattle.certificates.specs.Laws.{IsAnswered, IsNamed, NamedCallsAreStuck, StuckCallsAreNamed}
-use Rattle.certificates.specs.Waiters.{begun_at, is_owned, left_at, locked_by, locks, unmade_lock, waiter_for}
+use Rattle.certificates.specs.Certificates.{IsCertificate, entries, is_doomed, is_seen, seen_of, trace_of, whose}
+use Rattle.certificates.specs.Laws.{IsAnswered, IsNamed, IsStuck}
+use Rattle.certificates.specs.Waiters.{begun_at, is_owned, left_at, locked_by, locks, unmade_lock, waiter_for, waiter_of}
 use Rattle.certificates.proofs.Standing.{told_seen}
 
 -- ---- where a call began
@@ -102,47 +103,49 @@ answered n t m told free = go (calls (held_by t (objects_after told) n) (objects
   go (inr h) = let no : None ≡ Some h.0 = sym free ∙ h.1 in absurd cc
 
 -- a mutex that nobody owns
-of_free : (n t : ℕ) (history : List Entry) (es : List Entry) (c : Begun) (w : Waiter) → seen_of es ≡ reverse history → is_doomed t es ≡ false → call_in (told_of t (trace_of es)) ≡ Some c → points_in (told_of t (trace_of es)) ≡ [] → c.operation ≡ Lock
+of_free : (n t : ℕ) (history : List Entry) (es : List Entry) (c : Begun) (w : Waiter) → seen_of es ≡ reverse history → is_doomed t es ≡ false → call_in (told_of t (trace_of es)) ≡ Some c → points_in (told_of t (trace_of es)) ≡ [] → (c.operation ≡ Lock) ⊎ (c.operation ≡ TimedLock)
     → (o : Bool) → is_owned c.mutex (trace_of es) ≡ o → (if o then None else Some (record { thread = t; mutex = c.mutex; unusable = (objects_after (trace_of es) c.mutex).unusable; begin = begun_at t es; since = left_at c.mutex es })) ≡ Some w
-    → IsNamed n t history (trace_of es) w
+    → IsNamed n history (trace_of es) w
 of_free n t history es c w seen alive call points lock true owned is = let no : None ≡ Some w = is in absurd cc
 of_free n t history es c w seen alive call points lock false owned is =
     let free = unowned (objects_after (trace_of es) c.mutex).owner owned in
     let made : record { thread = t; mutex = c.mutex; unusable = (objects_after (trace_of es) c.mutex).unusable; begin = begun_at t es; since = left_at c.mutex es } ≡ w = cc in
-    subst (IsNamed n t history (trace_of es)) made (record {
+    subst (IsNamed n history (trace_of es)) made (record {
       call = c;
-      thread = refl;
       mutex = refl;
+      unusable = refl;
       stuck = record { in_call = call; lock = lock; unmade = points; unowned = free };
       answered = answered n t c.mutex (trace_of es) free;
       began = there t c es history seen (began t c es call alive);
     })
 
 of_lock : (n t : ℕ) (history : List Entry) (es : List Entry) (c : Begun) (w : Waiter) → seen_of es ≡ reverse history → is_doomed t es ≡ false → call_in (told_of t (trace_of es)) ≡ Some c → points_in (told_of t (trace_of es)) ≡ []
-    → (op : Operation) → c.operation ≡ op → waiter_for t (begun_at t es) es (locked_by op c.mutex) ≡ Some w → IsNamed n t history (trace_of es) w
-of_lock n t history es c w seen alive call points Lock lock is = of_free n t history es c w seen alive call points lock (is_owned c.mutex (trace_of es)) refl is
+    → (op : Operation) → c.operation ≡ op → waiter_for t (begun_at t es) es (locked_by op c.mutex) ≡ Some w → IsNamed n history (trace_of es) w
+of_lock n t history es c w seen alive call points Lock lock is = of_free n t history es c w seen alive call points (inl lock) (is_owned c.mutex (trace_of es)) refl is
+of_lock n t history es c w seen alive call points TimedLock lock is = of_free n t history es c w seen alive call points (inr lock) (is_owned c.mutex (trace_of es)) refl is
 of_lock n t history es c w seen alive call points op lock is = let no : None ≡ Some w = is in absurd cc
 
 of_call : (n t : ℕ) (history : List Entry) (es : List Entry) (w : Waiter) → seen_of es ≡ reverse history → (d : Bool) (call : Option Begun) (points : List Act) → is_doomed t es ≡ d → call_in (told_of t (trace_of es)) ≡ call → points_in (told_of t (trace_of es)) ≡ points
-    → (if d then None else waiter_for t (begun_at t es) es (unmade_lock call points)) ≡ Some w → IsNamed n t history (trace_of es) w
+    → (if d then None else waiter_for t (begun_at t es) es (unmade_lock call points)) ≡ Some w → IsNamed n history (trace_of es) w
 of_call n t history es w seen true call points alive in_call made is = let no : None ≡ Some w = is in absurd cc
 of_call n t history es w seen false None points alive in_call made is = let no : None ≡ Some w = is in absurd cc
 of_call n t history es w seen false (Some c) (p ∷ ps) alive in_call made is = let no : None ≡ Some w = is in absurd cc
 of_call n t history es w seen false (Some c) [] alive in_call made is = of_lock n t history es c w seen alive in_call made c.operation refl is
 
-pub named_are_stuck : NamedCallsAreStuck
-named_are_stuck n t history steps w certificate is =
+pub of_waiter : (n t : ℕ) (history : List HistoryLine) (steps : List Entry) (w : Waiter) → IsCertificate n history steps → waiter_of t (reverse steps) ≡ Some w → IsNamed n (entries history) (trace_of (reverse steps)) w
+of_waiter n t history steps w certificate is =
     let es = reverse steps in
     of_call n t (entries history) es w certificate.seen (is_doomed t es) (call_in (told_of t (trace_of es))) (points_in (told_of t (trace_of es))) refl refl refl is
 
-pub stuck_are_named : StuckCallsAreNamed
-stuck_are_named t steps c stuck alive =
+pub of_stuck : (t : ℕ) (steps : List Entry) (call : Begun) → IsStuck t (trace_of (reverse steps)) call → is_doomed t (reverse steps) ≡ false → (w : Waiter) × (w.thread ≡ t) × (waiter_of t (reverse steps) ≡ Some w)
+of_stuck t steps c stuck alive =
     let es = reverse steps in
     let m = c.mutex in
     let w : Waiter = record { thread = t; mutex = m; unusable = (objects_after (trace_of es) m).unusable; begin = begun_at t es; since = left_at m es } in
-    let locked : locks t (trace_of es) ≡ Some m = ap (λ (o : Option Begun). unmade_lock o (points_in (told_of t (trace_of es)))) stuck.in_call ∙ ap (unmade_lock (Some c)) stuck.unmade ∙ ap (λ (op : Operation). locked_by op m) stuck.lock in
+    let locked : locks t (trace_of es) ≡ Some m = ap (λ (o : Option Begun). unmade_lock o (points_in (told_of t (trace_of es)))) stuck.in_call ∙ ap (unmade_lock (Some c)) stuck.unmade ∙ ⊎_elim (λ lock. ap (λ (op : Operation). locked_by op m) lock) (λ lock. ap (λ (op : Operation). locked_by op m) lock) stuck.lock in
     let free : is_owned m (trace_of es) ≡ false = ap is_some stuck.unowned in (
       w,
+      refl,
       ap (λ (d : Bool). if d then None else waiter_for t (begun_at t es) es (locks t (trace_of es))) alive
           ∙ ap (waiter_for t (begun_at t es) es) locked ∙ ap (λ (b : Bool). if b then None else Some w) free,
     )

@@ -2,12 +2,12 @@
 use Rattle.std.proofs.Common.{◌≡◌, ℕ, zero, suc, ◌<◌, ◌≤◌, ◌+◌, ◌==◌, inl, inr, Bool, true, false, not, ◌||◌, List, [], ◌∷◌, ◌++◌, length, reverse, take, Option, Some, None, refl, sym, ap, subst, ◌∙◌, arith, add-one}
 use Rattle.std.specs.List.{slice_get}
 use Rattle.std.proofs.lemmas.List.{reverse-append}
-use Rattle.std.specs.Prelude.{if◌then◌else◌, slice_set}
+use Rattle.std.specs.Prelude.{if◌then◌else◌, slice_index, slice_set}
 use Rattle.std.proofs.lemmas.Bool.Decides.{nat_tests}
 use Rattle.facts.specs.declared.fact.Fact.{Fact}
 use Rattle.facts.specs.declared.fact.Fact.TheVariants.{Kill}
 use Rattle.facts.specs.Facts.{thread_of}
-use Rattle.verdict.specs.Earlier.{told_of}
+use Rattle.verdict.specs.Earlier.{begun_at, freed_at, told_of}
 use Rattle.verdict.specs.Fits.{Fits}
 use Rattle.verdict.specs.Judges.{IsMutex, object_at}
 use Rattle.verdict.proofs.Stages.{Kept}
@@ -68,13 +68,13 @@ begins h s new = record {
 }
 
 -- a line that fits, where it shows this history
-goes : (n : ℕ) (h more steps : List Entry) (f : Fact) (ds : List Bool) (s k : State) → Stands n h steps s → Accepts s f → Moves s f ds k → (Shows (doom_at s.doomed.items) (trace_of steps) h → Shows (doom_at ds) (line steps f ∷ trace_of steps) more)
+goes : (n : ℕ) (h more steps : List Entry) (f : Fact) (ds : List Bool) (s k : State) → IsSound s → Stands n h steps s → Accepts s f → Moves s f ds k → (Shows (doom_at s.doomed.items) (trace_of steps) h → Shows (doom_at ds) (line steps f ∷ trace_of steps) more)
     → ((t : ℕ) → doom_at ds t ≡ is_doomed t (Told f ∷ steps)) → seen_of (Told f ∷ steps) ≡ more → Stands n more (Told f ∷ steps) k
-goes n h more steps f ds s k w a m shows doomed seen = record {
+goes n h more steps f ds s k sound w a m shows doomed seen = record {
   many = m.many ∙ w.many;
-  reflects = reflects_next s k (trace_of steps) (line steps f) ds w.reflects a m;
+  reflects = reflects_next s k (trace_of steps) (line steps f) ds refl w.reflects a m;
   certifies = record {
-    fits = (subst (λ j. Fits j (trace_of steps) (line steps f)) w.many (accepts_fits s steps f w.reflects a), w.certifies.fits);
+    fits = (subst (λ j. Fits j (trace_of steps) (line steps f)) w.many (accepts_fits n s steps f sound w.reflects w.certifies.fits a), w.certifies.fits);
     waits = (accepts_releases s (trace_of steps) f w.reflects a, w.certifies.waits);
     inside = (subst (λ j. IsMutex j f) w.many a.inside, w.certifies.inside);
     shows = subst (λ xs. Shows (doom_at xs) (line steps f ∷ trace_of steps) more) (sym m.doomed) (shows w.certifies.shows);
@@ -86,17 +86,17 @@ goes n h more steps f ds s k w a m shows doomed seen = record {
 takes_fact : (n : ℕ) (h steps : List Entry) (next : Option Entry) (f : Fact) (tells : Bool) (s k : State) → IsSound s → Stands n h steps s → Accepts s f → TakesFact s next f tells k → Stands n (if tells then Told f ∷ h else h) (Told f ∷ steps) k
 takes_fact n h steps next f tells s k sound w a (inl x) =
     subst (λ b. Stands n (if b then Told f ∷ h else h) (Told f ∷ steps) k) (sym x.1)
-    (goes n h h steps f s.doomed.items s k w a x.2 (λ shows. Hides (doom_at s.doomed.items) (line steps f) (trace_of steps) h x.0 shows)
+    (goes n h h steps f s.doomed.items s k sound w a x.2 (λ shows. Hides (doom_at s.doomed.items) (line steps f) (trace_of steps) h x.0 shows)
     (λ t. w.doomed t ∙ sym (hidden_dooms f t steps x.0)) (hidden_unseen f steps x.0 ∙ w.seen))
 takes_fact n h steps next f tells s k sound w a (inr (inl x)) =
     let free : is_doomed (thread_of f) steps ≡ false = sym (w.doomed (thread_of f)) ∙ x.1 in
     subst (λ b. Stands n (if b then Told f ∷ h else h) (Told f ∷ steps) k) (sym x.2)
-    (goes n h (Told f ∷ h) steps f s.doomed.items s k w a x.4 (λ shows. Tells (doom_at s.doomed.items) (line steps f) (trace_of steps) h x.0 x.1 shows)
+    (goes n h (Told f ∷ h) steps f s.doomed.items s k sound w a x.4 (λ shows. Tells (doom_at s.doomed.items) (line steps f) (trace_of steps) h x.0 x.1 shows)
     (λ t. w.doomed t ∙ sym (free_dooms f t steps free)) (told_seen f steps x.0 free ∙ ap (λ (es : List Entry). Told f ∷ es) w.seen))
 takes_fact n h steps next f tells s k sound w a (inr (inr x)) =
     let inside : thread_of f < length s.doomed.items = omega (arith, a.thread, sound.each_doom) in
     subst (λ b. Stands n (if b then Told f ∷ h else h) (Told f ∷ steps) k) (sym x.2)
-    (goes n h h steps f (slice_set s.doomed.items (thread_of f) false) s k w a x.3
+    (goes n h h steps f (slice_set s.doomed.items (thread_of f) false) s k sound w a x.3
     (λ shows. subst (λ d. Shows d (line steps f ∷ trace_of steps) h) (sym (without_one s.doomed.items (thread_of f) inside))
     (Kills (doom_at s.doomed.items) (thread_of f) (line steps f) (trace_of steps) h x.0 x.1 shows))
     (λ t. ap (λ (d : ℕ → Bool). d t) (without_one s.doomed.items (thread_of f) inside) ∙ kill_dooms f t steps (doom_at s.doomed.items) x.0 (w.doomed t))
@@ -112,6 +112,9 @@ dooms n h steps t s k sound w d =
       reflects = record {
         phases = λ u. subst (λ xs. Kept (stage_of (phase_at xs u)) (told_of u (trace_of steps))) (sym d.phases) (w.reflects.phases u);
         objects = ap object_at d.objects ∙ w.reflects.objects;
+        lines = d.lines ∙ w.reflects.lines;
+        begun = subst (λ bs. (u : ℕ) → u < length bs → slice_index bs u ≡ begun_at u (trace_of steps)) (sym d.begun) w.reflects.begun;
+        freed = subst (λ fs. (u : ℕ) → u < length fs → slice_index fs u ≡ freed_at u (trace_of steps)) (sym d.freed) w.reflects.freed;
       };
       certifies = record {
         fits = w.certifies.fits;

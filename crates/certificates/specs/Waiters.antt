@@ -1,13 +1,14 @@
 -- Which calls still wait and shouldn't, behind the steps of a certificate. Steps stand newest first.
 --
--- *A call that still waits and shouldn't.* Its thread is neither killed nor doomed, and the call is a lock that has had no
--- point, of a mutex that nobody owns: it is free or unusable. The trace that the steps are says so, in the words of the
--- judge of traces. Lines of the history are counted by what is seen of the steps (`seen_of`).
+-- *A call that still waits and shouldn't.* Its thread is neither killed nor doomed, and the call is a lock, with a time
+-- limit or without, that has had no point, of a mutex that nobody owns: it is free or unusable. The trace that the steps
+-- are says so, in the words of the judge of traces. Lines of the history are counted by what is seen of the steps
+-- (`seen_of`).
 use Rattle.std.specs.Prelude.{ℕ, zero, suc, ◌==◌, ◌+◌, Bool, not, ◌&&◌, Option, Some, None, List, [], ◌∷◌, ◌++◌}
 use Rattle.std.specs.Prelude.{length, if◌then◌else◌}
 use Rattle.std.specs.Option.{is_some}
 use Rattle.posixmutex.specs.declared.point.Operation.{Operation}
-use Rattle.posixmutex.specs.declared.point.Operation.TheVariants.{Lock}
+use Rattle.posixmutex.specs.declared.point.Operation.TheVariants.{Lock, TimedLock}
 use Rattle.facts.specs.declared.fact.Begun.{Begun}
 use Rattle.facts.specs.declared.fact.Fact.TheVariants.{Begin}
 use Rattle.facts.specs.declared.fact.Line.{Line}
@@ -21,9 +22,10 @@ use Rattle.certificates.specs.Certificates.{is_doomed, seen_of, trace_of}
 
 -- ---- of a trace
 
--- the mutex that a call locks, if it is a lock
+-- the mutex that a call locks, if it is a lock, with a time limit or without
 abbrev pub locked_by : Operation → ℕ → Option ℕ
 locked_by Lock m = Some m
+locked_by TimedLock m = Some m
 locked_by op m = None
 
 -- and it has had no point

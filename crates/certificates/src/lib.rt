@@ -10,7 +10,8 @@
 //! [`still_waiting`] names the calls that a certificate leaves waiting, though nobody owns their mutex. Two laws say what
 //! that is worth: each call that is named is a lock that has had no point and would have a reply, and it began at the line
 //! that is named ([`named_calls_are_stuck`]); and each such call of a thread that isn't doomed is named
-//! ([`stuck_calls_are_named`]).
+//! ([`stuck_calls_are_named`]). [`points_of`] counts the points as the judge of traces does
+//! ([`points_are_the_judges`]).
 //!
 //! Stands on `histories`, for what a legal history is, on `verdict`, for the rules of a trace's lines, on `facts`, for
 //! what lines say, on `posixmutex`, for mutexes as objects, and on `lockword`, for thread ids and replies.
@@ -32,7 +33,7 @@ mod waiting;
 mod walk;
 
 pub use certifying::{certify, points_of};
-pub use laws::{named_calls_are_stuck, stuck_calls_are_named};
+pub use laws::{named_calls_are_stuck, points_are_the_judges, stuck_calls_are_named};
 pub use phase::{Made, Phase};
 pub use state::State;
 pub use waiting::{Waiter, still_waiting};

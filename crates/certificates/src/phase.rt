@@ -34,7 +34,7 @@ fn begun(call: Operation, operation: Operation, reply: Reply) -> Option<Made>
     ensures { IfSome result (λ after. MayPoint call (made_of Made.Nothing) operation reply
         × (made_of after ≡ pointed call operation reply)) }
 {
-    if operation == call {
+    if operation == call || (call == Operation::TimedLock && operation == Operation::Lock) {
         return Some(Made::Decided(reply));
     }
     if call == Operation::Wait && operation == Operation::Unlock && reply == Reply::OK {

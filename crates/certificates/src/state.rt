@@ -1,19 +1,19 @@
 //! What is kept of a certificate's lines so far, and whether a line fits them.
 
 ghost use Rattle.std.specs.Prelude.{ℕ, ◌≡◌, ◌+◌, ◌<◌, Some, true, false, length, slice_index, IfOk, IfSome};
-ghost use Rattle.certificates.specs.States.{Accepts, IsNew, IsSound, Moves, Releases, doom_at, phase_at};
+ghost use Rattle.certificates.specs.States.{Accepts, Awaits, IsNew, IsSound, Moves, Releases, doom_at, phase_at};
 ghost use Rattle.facts.specs.Facts.{decision_of, thread_of};
 ghost use Rattle.histories.specs.Reading.{IsHead};
 ghost use Rattle.posixmutex.specs.Histories.{is_thread};
 ghost use Rattle.posixmutex.specs.Objects.{fresh};
-ghost use Rattle.verdict.specs.Earlier.{moved};
+ghost use Rattle.verdict.specs.Earlier.{gives_up, moved};
 ghost use Rattle.verdict.specs.Fits.{Allows, OwnsNothing};
-ghost use Rattle.verdict.specs.Judges.{AreCounted, IsMutex, object_at, one};
+ghost use Rattle.verdict.specs.Judges.{AreCounted, IsMutex, begun_next, freed_next, has_waited, object_at, one};
 
 use crate::phase::Phase;
 use facts::Fact;
 use histories::Head;
-use lockword::Tid;
+use lockword::{Reply, Tid};
 use posixmutex::{Decision, Object, Operation};
 use std::alloc::{AllocError, Global};
 
@@ -28,6 +28,12 @@ pub struct State {
     pub objects: Vec<Object>,
     /// Who is doomed and not killed yet, by the threads' ids.
     pub doomed: Vec<bool>,
+    /// How many lines there are.
+    pub lines: usize,
+    /// The line that told of each thread's newest begin, counted from 1, by the threads' ids; 0 where there is none.
+    pub begun: Vec<usize>,
+    /// The line by which each mutex lost its last owner, by the mutexes' numbers; 0 where it has lost none.
+    pub freed: Vec<usize>,
 }
 
 /// How many mutexes a thread owns after a step; None where they can't be counted.
@@ -145,6 +151,50 @@ fn releases_well(phase: &Phase, objects: &[Object], fact: &Fact) -> bool
     }
 }
 
+/// Whether another thread has owned a mutex since the line by which this one began its call, which has neither taken nor
+/// released it: by its owner, and the line by which it lost its last one.
+fn has_waited(thread: Tid, owner: Option<Tid>, begun: usize, freed: usize) -> bool
+    ensures { result ≡ has_waited thread owner begun freed }
+{
+    match owner {
+        None => begun < freed,
+        Some(owner) => owner != thread,
+    }
+}
+
+/// Whether an operation that replies so takes the mutex from its owner.
+fn gives_up(operation: Operation, reply: Reply) -> bool
+    ensures { result ≡ gives_up operation reply }
+{
+    matches!(operation, Operation::Unlock | Operation::Death) && reply == Reply::OK
+}
+
+/// Keeps the line by which its thread began a call, if the fact tells that.
+fn note_begin(begun: &mut Vec<usize>, line: usize, fact: &Fact)
+    requires { thread_of fact.now < length begun.old.items }
+    ensures { begun.new.items ≡ begun_next begun.old.items line fact.now }
+{
+    if let Fact::Begin(thread, _) = *fact {
+        begun[usize::from(thread.get())] = line;
+    }
+}
+
+/// Keeps the line by which a mutex lost its owner, if the fact tells that.
+fn note_freeing(freed: &mut Vec<usize>, line: usize, fact: &Fact)
+    requires { IsMutex (length freed.old.items) fact.now }
+    ensures { freed.new.items ≡ freed_next freed.old.items line fact.now }
+{
+    match *fact {
+        Fact::Point(point) => {
+            if gives_up(point.operation, point.reply) {
+                freed[usize::from(point.mutex)] = line;
+            }
+        }
+        Fact::Death(_, mutex) => freed[usize::from(mutex)] = line,
+        _ => {}
+    }
+}
+
 /// So many mutexes that nobody has locked yet.
 fn free(alloc: Global, count: usize) -> Result<Vec<Object>, AllocError>
     ensures count { IfOk result (λ v. length v.items ≡ count) }
@@ -186,6 +236,15 @@ fn undoomed(alloc: Global, count: usize) -> Result<Vec<bool>, AllocError>
     Ok(doomed)
 }
 
+/// So many lines that weren't told yet.
+fn untold(alloc: Global, count: usize) -> Result<Vec<usize>, AllocError>
+    ensures count { IfOk result (λ v. length v.items ≡ count) }
+    ensures each { IfOk result (λ v. (k : ℕ) → slice_index v.items k ≡ 0) }
+{
+    let lines = vec![in alloc; 0_usize; count]?;
+    Ok(lines)
+}
+
 impl State {
     /// Before the first line, with room for all that is kept.
     pub fn new(alloc: Global, head: &Head) -> Result<State, AllocError>
@@ -198,12 +257,37 @@ impl State {
         let held = owning_nothing(alloc, threads)?;
         let doomed = undoomed(alloc, threads)?;
         let objects = free(alloc, mutexes)?;
+        let begun = untold(alloc, threads)?;
+        let freed = untold(alloc, mutexes)?;
         Ok(State {
             phases,
             held,
             objects,
             doomed,
+            lines: 0,
+            begun,
+            freed,
         })
+    }
+
+    /// Whether another thread has owned the mutex of a point that tells of a time limit since its call began, if the fact
+    /// is that.
+    fn awaits(&self, fact: &Fact) -> bool
+        ensures { result ≡ true → Awaits self.now fact.now }
+    {
+        let Fact::Point(point) = *fact else {
+            return true;
+        };
+        if point.reply != Reply::ETIMEDOUT {
+            return true;
+        }
+        let by = usize::from(point.thread.get());
+        let at = usize::from(point.mutex);
+        if by >= self.begun.len() || at >= self.objects.len() || at >= self.freed.len() {
+            return false;
+        }
+        let owner = self.objects[at].owner;
+        has_waited(point.thread, owner, self.begun[by], self.freed[at])
     }
 
     /// Takes a fact, if it fits the lines so far.
@@ -219,11 +303,15 @@ impl State {
         }
         let phase = self.phases[by];
         let after = phase.after(fact)?;
-        if !releases_well(&phase, &self.objects, fact) {
+        if !releases_well(&phase, &self.objects, fact) || !self.awaits(fact) {
             return None;
         }
+        let line = self.lines.checked_add(1)?;
         change(&mut self.objects, &mut self.held, fact)?;
+        note_begin(&mut self.begun, line, fact);
+        note_freeing(&mut self.freed, line, fact);
         self.phases[by] = after;
+        self.lines = line;
         Some(())
     }
 }

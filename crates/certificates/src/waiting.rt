@@ -9,7 +9,8 @@ use histories::Entry;
 use lockword::{MOST_THREADS, Tid};
 use std::alloc::{AllocError, Global};
 
-/// A call that still waits and shouldn't: a lock without a point, of a mutex that nobody owns.
+/// A call that still waits and shouldn't: a lock without a point, with a time limit or without, of a mutex that nobody
+/// owns.
 #[derive(Clone, Copy, Debug, PartialEq, Eq)]
 pub struct Waiter {
     pub thread: Tid,

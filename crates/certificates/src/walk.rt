@@ -55,7 +55,7 @@ fn locked_by(call: Begun) -> Option<u16>
     ensures { result ≡ locked_by call.operation call.mutex }
 {
     match call.operation {
-        Operation::Lock => Some(call.mutex),
+        Operation::Lock | Operation::TimedLock => Some(call.mutex),
         _ => None,
     }
 }
@@ -179,6 +179,7 @@ fn stepped(object: Object, decision: &Decision) -> Object
         Operation::Consistent => declared(object, thread, reply),
         Operation::Death => bereaved(object, thread, reply),
         Operation::Reinit => reinited(object, thread, reply),
+        Operation::TimedLock => object,
         Operation::Wait => object,
         Operation::Signal => object,
         Operation::Broadcast => object,

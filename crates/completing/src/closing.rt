@@ -136,10 +136,9 @@ fn takers_step(state: &State, call: &Pending, now: u32) -> Option<Onward> {
     after.owner = Some(call.thread);
     after.free = now;
     after.retaken = call.operation == Operation::Wait;
-    let operation = if after.retaken {
-        Operation::Lock
-    } else {
-        call.operation
+    let operation = match call.operation {
+        Operation::Wait | Operation::TimedLock => Operation::Lock,
+        operation => operation,
     };
     let reply = if state.inconsistent {
         Reply::EOWNERDEAD

@@ -59,9 +59,10 @@ impl Life {
     pub fn settle(&mut self, mutex: u16, operation: Operation, reply: Reply) -> Result<(), Stop> {
         self.turn = Turn::Resting;
         match (operation, reply) {
-            (Operation::Lock | Operation::TryLock, Reply::OK | Reply::EOWNERDEAD) => {
-                keep(&mut self.owned, mutex)
-            }
+            (
+                Operation::Lock | Operation::TryLock | Operation::TimedLock,
+                Reply::OK | Reply::EOWNERDEAD,
+            ) => keep(&mut self.owned, mutex),
             (Operation::Unlock, Reply::OK) | (Operation::Wait, Reply::ENOTRECOVERABLE) => {
                 self.owned.retain(|owned| *owned != mutex);
                 Ok(())

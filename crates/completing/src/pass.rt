@@ -5,7 +5,7 @@ use crate::contended::Contended;
 use crate::fates::{Fate, fates};
 use crate::lives::{Life, Turn};
 use crate::pending::Pending;
-use crate::replies::{allows, only_looks};
+use crate::replies::{allows, only_looks, told_as};
 use crate::stop::{IDS, OutOfTurn, Refusal, Stop, keep, out_of_turn, place};
 use facts::{Begun, Fact};
 use histories::{Entry, Head, HistoryLine};
@@ -136,15 +136,10 @@ impl Pass {
         if !only_looks(call.operation, reply) {
             return Ok(());
         }
-        let waited = call.operation == Operation::Wait && reply == Reply::ENOTRECOVERABLE;
         let look = Look {
             thread: call.thread,
             mutex,
-            operation: if waited {
-                Operation::Lock
-            } else {
-                call.operation
-            },
+            operation: told_as(call.operation, reply),
             reply,
             begin: call.begin,
             end: self.now,

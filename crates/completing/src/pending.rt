@@ -28,7 +28,9 @@ impl Pending {
     /// Whether it may still take the mutex.
     pub fn may_take(&self) -> bool {
         match self.operation {
-            Operation::Lock | Operation::TryLock => !self.owned && !self.full,
+            Operation::Lock | Operation::TryLock | Operation::TimedLock => {
+                !self.owned && !self.full
+            }
             Operation::Wait => self.owned && !self.inconsistent,
             _ => false,
         }
@@ -151,7 +153,9 @@ fn looks(outlook: &mut Outlook, call: &Pending) {
                 outlook.next = Some(call.thread);
             }
         }
-        End::Returns(Reply::EBUSY) => outlook.held = outlook.held.min(call.begin),
+        End::Returns(Reply::EBUSY | Reply::ETIMEDOUT) => {
+            outlook.held = outlook.held.min(call.begin);
+        }
         End::Returns(Reply::XRACED) => outlook.free = outlook.free.min(call.begin),
         End::Returns(Reply::ENOTRECOVERABLE) => outlook.spoiled = outlook.spoiled.min(call.begin),
         End::Open => outlook.open = Some(call.thread),

@@ -8,11 +8,14 @@ use posixmutex::Operation;
 fn taken(call: &Pending, reply: Reply, state: &State) -> bool {
     let owns = state.owner == Some(call.thread);
     let tries = call.operation == Operation::TryLock;
+    let timed = call.operation == Operation::TimedLock;
+    let was_held = state.owner.is_some() || state.held >= call.begin;
     match reply {
         Reply::OK => owns && !state.inconsistent,
         Reply::EOWNERDEAD => owns && state.inconsistent,
         Reply::ENOTRECOVERABLE => !owns && (state.unusable || state.spoiled >= call.begin),
-        Reply::EBUSY => tries && !owns && (state.owner.is_some() || state.held >= call.begin),
+        Reply::EBUSY => tries && !owns && was_held,
+        Reply::ETIMEDOUT => timed && !owns && was_held,
         Reply::XRACED => {
             let free = state.owner.is_none() && !state.unusable;
             tries && !owns && (free || state.free >= call.begin)
@@ -21,7 +24,7 @@ fn taken(call: &Pending, reply: Reply, state: &State) -> bool {
     }
 }
 
-/// The same of a lock or trylock.
+/// The same of a lock, with a time limit or without, or of a trylock.
 fn locked(call: &Pending, reply: Reply, state: &State) -> bool {
     if call.full {
         return reply == Reply::XHELD;
@@ -68,7 +71,9 @@ fn owned(call: &Pending, reply: Reply, state: &State) -> bool {
 /// Whether the call may return so from this state.
 pub fn allows(call: &Pending, reply: Reply, state: &State) -> bool {
     match call.operation {
-        Operation::Lock | Operation::TryLock => locked(call, reply, state),
+        Operation::Lock | Operation::TryLock | Operation::TimedLock => {
+            locked(call, reply, state)
+        }
         Operation::Reinit => reply == Reply::OK && call.has_acted(state),
         Operation::Death => false,
         _ => {
@@ -81,11 +86,22 @@ pub fn allows(call: &Pending, reply: Reply, state: &State) -> bool {
     }
 }
 
+/// The operation of the point by which a call is told so: a lock with a time limit is told as a lock, unless the limit
+/// came; a wait that lost its mutex, as the lock that it ends with.
+pub fn told_as(operation: Operation, reply: Reply) -> Operation {
+    match operation {
+        Operation::TimedLock if reply != Reply::ETIMEDOUT => Operation::Lock,
+        Operation::Wait if reply == Reply::ENOTRECOVERABLE => Operation::Lock,
+        _ => operation,
+    }
+}
+
 /// Whether the reply's point changes nothing; it then stands wherever the state allows it.
 pub fn only_looks(operation: Operation, reply: Reply) -> bool {
     match operation {
-        Operation::Lock | Operation::TryLock => reply != Reply::OK && reply != Reply::EOWNERDEAD,
-        Operation::Wait => reply != Reply::OK && reply != Reply::EOWNERDEAD,
+        Operation::Lock | Operation::TryLock | Operation::TimedLock | Operation::Wait => {
+            reply != Reply::OK && reply != Reply::EOWNERDEAD
+        }
         Operation::Unlock | Operation::Consistent | Operation::Reinit => reply != Reply::OK,
         _ => true,
     }

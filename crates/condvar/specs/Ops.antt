@@ -16,6 +16,11 @@ abbrev pub operation_of : Op → Operation
 operation_of (OnMutex c) = mutex.operation_of c
 operation_of (OnCondition c) = condition.operation_of c
 
+-- what its accesses do to its mutex: a lock with a time limit is a lock while that hasn't come
+abbrev pub acts_as : Op → Operation
+acts_as (OnMutex c) = mutex.acts_as c
+acts_as (OnCondition c) = condition.operation_of c
+
 -- the mutex that a call is about: on a condition variable, the one that the layout gives this
 abbrev pub mutex_of : Layout' → Op → ℕ
 mutex_of l (OnMutex c) = mutex.mutex_of c

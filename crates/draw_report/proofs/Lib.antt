@@ -1,3 +1,4 @@
 pub mod Ends
 mod Parts
 mod Plain
+mod Sufficing

@@ -13,7 +13,7 @@ marks_legend = codes
     ∷ codes "z on m0          the thread falls asleep\n"
     ∷ codes "> woken, < woken it is woken by the thread from whose lane the arrow comes\n"
     ∷ codes "> to m0, < to m0 it is moved, asleep, to the mutex\n"
-    ∷ ring ∷ codes " woken          it left its queue by itself, or no line tells who woke it\n"
+    ∷ ring ∷ codes " woken          it left its queue by itself or at its time limit, or no line tells who woke it\n"
     ∷ cross ∷ codes " killed         the thread is killed\n"
     ∷ codes "! m0 owner died  the kernel marks a mutex that it owned\n"
     ∷ dagger ∷ codes " reaped         the kernel has gone through its list\n"

@@ -6,4 +6,5 @@ pub mod Plain
 pub mod Reading
 pub mod Scripts
 pub mod Served
+pub mod Sufficing
 pub mod Programs

@@ -19,7 +19,7 @@ pub fn marks_legend() -> &'static [&'static str]
         "> woken, < woken it is woken by the thread from whose lane the arrow comes\n",
         "> to m0, < to m0 it is moved, asleep, to the mutex\n",
         "○",
-        " woken          it left its queue by itself, or no line tells who woke it\n",
+        " woken          it left its queue by itself or at its time limit, or no line tells who woke it\n",
         "╳",
         " killed         the thread is killed\n",
         "! m0 owner died  the kernel marks a mutex that it owned\n",

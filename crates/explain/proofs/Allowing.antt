@@ -4,12 +4,12 @@ use Rattle.std.specs.Option.{is_none, is_some}
 use Rattle.std.proofs.lemmas.Bool.{and_parts}
 use Rattle.std.proofs.lemmas.List.{at_drop_all, at_drop_more}
 use Rattle.lockword.specs.declared.reply.Reply.{Reply}
-use Rattle.lockword.specs.declared.reply.Reply.TheVariants.{OK, EPERM, EBUSY, EINVAL, EDEADLK, EOWNERDEAD, ENOTRECOVERABLE, XRACED, XFULL, XSTATE}
+use Rattle.lockword.specs.declared.reply.Reply.TheVariants.{OK, EPERM, EBUSY, EINVAL, EDEADLK, ETIMEDOUT, EOWNERDEAD, ENOTRECOVERABLE, XRACED, XFULL, XSTATE}
 use Rattle.posixmutex.specs.Histories.{is_thread}
 use Rattle.posixmutex.specs.Objects.{Permits, bereaved, declared_consistent, freed, fresh, owned_by}
 use Rattle.posixmutex.specs.declared.object.Object.{Object}
 use Rattle.posixmutex.specs.declared.point.Operation.{Operation}
-use Rattle.posixmutex.specs.declared.point.Operation.TheVariants.{Lock, TryLock, Unlock, Consistent, Wait, Signal, Broadcast, Death, Reinit}
+use Rattle.posixmutex.specs.declared.point.Operation.TheVariants.{Lock, TryLock, TimedLock, Unlock, Consistent, Wait, Signal, Broadcast, Death, Reinit}
 use Rattle.verdict.proofs.Misfits.{is_owner}
 use Rattle.verdict.proofs.Owners.{not_owner, owns_itself}
 use Rattle.explain.specs.declared.explanation.Standing.{Standing}
@@ -73,6 +73,7 @@ passes o t TryLock EOWNERDEAD h =
 passes o t TryLock ENOTRECOVERABLE h = (o, (h, refl))
 passes o t TryLock EBUSY h = (o, (some_then o.owner h, refl))
 passes o t TryLock XRACED h = let f = free_then o t h in (o, (f.0, f.1, refl))
+passes o t TimedLock ETIMEDOUT h = (o, refl)
 passes o t Unlock OK h = (freed o, (is_owner t o.owner h, refl))
 passes o t Unlock EPERM h = (o, (other_then t o.owner h, refl))
 passes o t Consistent OK h =
@@ -110,6 +111,7 @@ passed o t TryLock EOWNERDEAD n p = both (is_free (standing_of o t)) o.inconsist
 passed o t TryLock ENOTRECOVERABLE n p = p.0
 passed o t TryLock EBUSY n p = then_some o.owner p.0
 passed o t TryLock XRACED n p = then_free o t p.0 p.1
+passed o t TimedLock ETIMEDOUT n p = refl
 passed o t Unlock OK n p = owns_itself t o.owner p.0
 passed o t Unlock EPERM n p = then_other t o.owner p.0
 passed o t Consistent OK n p = both (is_thread t o.owner) o.inconsistent (owns_itself t o.owner p.0) p.1

@@ -8,12 +8,12 @@ use Rattle.std.specs.Prelude.{codes, if◌then◌else◌}
 use Rattle.std.specs.List.{concat}
 use Rattle.std.specs.Option.{is_none}
 use Rattle.lockword.specs.declared.reply.Reply.{Reply}
-use Rattle.lockword.specs.declared.reply.Reply.TheVariants.{OK, EPERM, EBUSY, EINVAL, EDEADLK, EOWNERDEAD}
+use Rattle.lockword.specs.declared.reply.Reply.TheVariants.{OK, EPERM, EBUSY, EINVAL, EDEADLK, ETIMEDOUT, EOWNERDEAD}
 use Rattle.lockword.specs.declared.reply.Reply.TheVariants.{ENOTRECOVERABLE, XRACED, XFULL, XSTATE}
 use Rattle.lockword.specs.Replies.{all_replies, reply_word}
 use Rattle.posixmutex.specs.declared.object.Object.{Object}
 use Rattle.posixmutex.specs.declared.point.Operation.{Operation}
-use Rattle.posixmutex.specs.declared.point.Operation.TheVariants.{Lock, TryLock, Unlock, Consistent, Wait}
+use Rattle.posixmutex.specs.declared.point.Operation.TheVariants.{Lock, TryLock, TimedLock, Unlock, Consistent, Wait}
 use Rattle.posixmutex.specs.declared.point.Operation.TheVariants.{Signal, Broadcast, Death, Reinit}
 use Rattle.posixmutex.specs.Histories.{is_thread}
 use Rattle.posixmutex.specs.Objects.{Permits}
@@ -44,6 +44,7 @@ allows s TryLock EOWNERDEAD = is_free s && s.inconsistent
 allows s TryLock ENOTRECOVERABLE = s.unusable
 allows s TryLock EBUSY = not s.free
 allows s TryLock XRACED = is_free s
+allows s TimedLock ETIMEDOUT = true
 allows s Unlock OK = s.owns
 allows s Unlock EPERM = not s.owns
 allows s Consistent OK = s.owns && s.inconsistent
@@ -95,6 +96,12 @@ unfoldable pub allowed_words : Standing → Operation → Bool → List Reply �
 allowed_words s op told [] = end_words op told
 allowed_words s op told (r ∷ rs) = reply_words s op told r ++ allowed_words s op (told || allows s op r) rs
 
+-- what stands behind them: a time limit may come only behind another's ownership, which this mutex needn't show any
+-- more, and a lock whose limit doesn't come is told as a lock without one
+abbrev pub behind_replies : Operation → List ℕ
+behind_replies TimedLock = codes " where another thread owned the mutex since the call began, and else its point is a `lock`\n"
+behind_replies op = codes " here\n"
+
 abbrev pub allowed_text : Standing → Operation → List ℕ
 allowed_text s op = concat (codes "  = " ∷ operation_word op ∷ [])
-    ++ (allowed_words s op false all_replies ++ concat (codes " here\n" ∷ []))
+    ++ (allowed_words s op false all_replies ++ concat (behind_replies op ∷ []))

@@ -11,7 +11,8 @@ use Rattle.verdict.specs.declared.misfit.Misfit.TheVariants.{EventFalls, Another
 use Rattle.verdict.specs.declared.misfit.Misfit.TheVariants.{EventKilled, InCall, NoCall, Asleep, Awake, Killed}
 use Rattle.verdict.specs.declared.misfit.Misfit.TheVariants.{NotReaped, Reaped, Alive, OtherMutex, OtherOperation}
 use Rattle.verdict.specs.declared.misfit.Misfit.TheVariants.{ReleaseRefused, Released, Decided, Undecided, OtherReply}
-use Rattle.verdict.specs.declared.misfit.Misfit.TheVariants.{NotAllowed, AtLimit, NotOwner, StillOwns, EndFalls}
+use Rattle.verdict.specs.declared.misfit.Misfit.TheVariants.{NotAllowed, AtLimit, NotOwner, TooEarly, StillOwns}
+use Rattle.verdict.specs.declared.misfit.Misfit.TheVariants.{EndFalls}
 use Rattle.verdict.specs.declared.misfit.TraceMisfit.{TraceMisfit}
 
 abbrev pub is_begin : Fact → Bool
@@ -73,6 +74,7 @@ is_origin (OtherReply x) e a = is_own e a && is_point a.fact
 is_origin (NotAllowed o x) e a = is_step_like (decision_of e.fact) (decision_of a.fact)
 is_origin (AtLimit k) e a = false
 is_origin (NotOwner o) e a = is_step_like (decision_of e.fact) (decision_of a.fact)
+is_origin (TooEarly i) e a = is_own e a && is_begin a.fact
 is_origin (StillOwns m) e a = is_step_of m (decision_of a.fact)
 is_origin (EndFalls i) e a = true
 

@@ -87,11 +87,17 @@ abbrev pub first_note : Kind → List (List ℕ) → List ℕ → Option Note
 first_note k ws w = if starts_with nat_eq w byte_order_mark then Some ByteOrderMark
     else (if is_slashes w then Some (slashes_note k) else capitals_note w (kind_note k ws w))
 
+-- another word: the line may be one of the machine's scripts, with a call that others don't make
+abbrev pub later_note : Kind → List (List ℕ) → Option Note
+later_note (Script k) ws = if is_line (Script Run) ws then Some (OtherMode Run) else None
+later_note Head ws = None
+later_note Trace ws = None
+
 abbrev pub word_note : Kind → List ℕ → ℕ → List ℕ → Option Note
 word_note k text i w = if ends_in_return text then Some CarriageReturn
     else (if has_tab w then Some Tab
     else (if is_remark w then Some (remark_note k)
-    else (if i == 0 then first_note k (words_of text) w else None)))
+    else (if i == 0 then first_note k (words_of text) w else later_note k (words_of text))))
 
 abbrev pub note_of : Kind → List ℕ → ℕ → Option (List ℕ) → Option Note
 note_of k text i None = None

@@ -3,7 +3,7 @@
 ghost use Rattle.std.specs.Prelude.{◌≡◌, ◌++◌, ◌||◌, false, IfOk, OnOk};
 ghost use Rattle.lockword.specs.Replies.{all_replies};
 ghost use Rattle.explain.specs.Allowed.{AllowedArePermitted, allowed_text, allowed_words, allows, before_reply};
-ghost use Rattle.explain.specs.Allowed.{end_words, reply_words, standing_of, unanswered};
+ghost use Rattle.explain.specs.Allowed.{behind_replies, end_words, reply_words, standing_of, unanswered};
 ghost use Rattle.posixmutex.specs.Histories.{is_thread};
 
 use crate::explanation::Standing;
@@ -25,6 +25,7 @@ fn replies() -> &'static [Reply]
         Reply::EBUSY,
         Reply::EINVAL,
         Reply::EDEADLK,
+        Reply::ETIMEDOUT,
         Reply::EOWNERDEAD,
         Reply::ENOTRECOVERABLE,
         Reply::XNOMEM,
@@ -141,6 +142,7 @@ fn allows(standing: Standing, operation: Operation, reply: Reply) -> bool
     match operation {
         Operation::Lock => allows_lock(standing, reply),
         Operation::TryLock => allows_trylock(standing, reply),
+        Operation::TimedLock => reply == Reply::ETIMEDOUT,
         Operation::Unlock => allows_unlock(standing, reply),
         Operation::Consistent => allows_consistent(standing, reply),
         Operation::Wait => allows_wait(standing, reply),
@@ -165,6 +167,19 @@ fn unanswered(operation: Operation) -> &'static str
         Operation::Lock => " sleeps",
         Operation::Wait => " isn't refused",
         _ => " has no reply",
+    }
+}
+
+/// What stands behind the replies: a time limit may come only behind another's ownership, which this mutex needn't show
+/// any more, and a lock whose limit doesn't come is told as a lock without one.
+fn behind_replies(operation: Operation) -> &'static str
+    ensures { result.now ≡ behind_replies operation }
+{
+    match operation {
+        Operation::TimedLock => {
+            " where another thread owned the mutex since the call began, and else its point is a `lock`\n"
+        }
+        _ => " here\n",
     }
 }
 
@@ -225,5 +240,5 @@ pub fn add_allowed(
 {
     add(text, &["  = ", operation.word()])?;
     add_replies(text, standing, operation)?;
-    add(text, &[" here\n"])
+    add(text, &[behind_replies(operation)])
 }

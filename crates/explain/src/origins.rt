@@ -38,7 +38,8 @@ fn is_origin(why: &Misfit, entry: &Line, earlier: &Line) -> bool
         | Misfit::OtherMutex { .. }
         | Misfit::OtherOperation { .. }
         | Misfit::ReleaseRefused
-        | Misfit::Undecided => own && matches!(earlier.fact, Fact::Begin(..)),
+        | Misfit::Undecided
+        | Misfit::TooEarly { .. } => own && matches!(earlier.fact, Fact::Begin(..)),
         Misfit::NoCall => own && matches!(earlier.fact, Fact::Return(..) | Fact::Renew(_)),
         Misfit::Asleep => own && matches!(earlier.fact, Fact::Sleep(..)),
         Misfit::Awake => own && matches!(earlier.fact, Fact::Wake(_) | Fact::Renew(_)),

@@ -29,7 +29,7 @@ pub fn uses_of(keyword: &str, call: &str) -> &'static [(Things, usize)]
         "cond" => &[(Things::Mutexes, 2)],
         "step" | "kill" | "renew" => &[(Things::Threads, 1)],
         "reinit" | "remake" => &[(Things::Threads, 1), (Things::Mutexes, 2)],
-        "leave" | "decline" | "go" | "die" => &[(Things::Threads, 1)],
+        "leave" | "expire" | "decline" | "go" | "die" => &[(Things::Threads, 1)],
         "recount" => &[(Things::Conditions, 1)],
         "spare" | "resleep" | "repeat" => &[(Things::Threads, 1)],
         "killall" => &[(Things::Processes, 1)],

@@ -6,7 +6,7 @@ ghost use Rattle.lines.specs.Lines.{words_of};
 ghost use Rattle.explain.specs.Advised.{IsStray, note_or};
 ghost use Rattle.explain.specs.Roles.{lack_note};
 ghost use Rattle.explain.specs.Stray.{IsMarked, blank_note, byte_order_mark, ends_in_return, first_note, has_capital};
-ghost use Rattle.explain.specs.Stray.{has_tab, is_remark, is_slashes, kind_note, remark_note, slashes_note};
+ghost use Rattle.explain.specs.Stray.{has_tab, is_remark, is_slashes, kind_note, later_note, remark_note, slashes_note};
 ghost use Rattle.explain.specs.Stray.{stray_note, word_note};
 
 use crate::explanation::{Advice, Mark, Note};
@@ -147,6 +147,22 @@ fn first_note(kind: Kind, text: &str, word: &str) -> Option<Note>
     }
 }
 
+/// What is said of a wrong word behind the first: it may be a call that only scripts for the machine make.
+fn later_note(kind: Kind, text: &str) -> Option<Note>
+    ensures { result ≡ later_note kind (words_of text.now) }
+{
+    match kind {
+        Kind::Script(_) => {
+            if is_line(Kind::Script(Mode::Run), text) {
+                Some(Note::OtherMode(Mode::Run))
+            } else {
+                None
+            }
+        }
+        Kind::Head | Kind::Trace => None,
+    }
+}
+
 /// What is said of a wrong word that has letters.
 fn word_note(kind: Kind, text: &str, index: usize, word: &str) -> Option<Note>
     ensures { result ≡ word_note kind text.now index word.now }
@@ -163,7 +179,7 @@ fn word_note(kind: Kind, text: &str, index: usize, word: &str) -> Option<Note>
     if index == 0 {
         first_note(kind, text, word)
     } else {
-        None
+        later_note(kind, text)
     }
 }
 

@@ -87,11 +87,11 @@ pub fn expected_words(next: Next) -> &'static str
     match next {
         Next::End => "the end of the line",
         Next::Keyword(_) | Next::Head | Next::Deed => "one of",
-        Next::Call | Next::Operation | Next::CallReply | Next::Reply => "one of",
+        Next::Call(_) | Next::Operation | Next::CallReply | Next::Reply => "one of",
         Next::Name | Next::NewThread | Next::NameNumber | Next::NameNameNumber => {
             "a name: 1 to 16 of a to z, 0 to 9 and _, the first a letter"
         }
-        Next::NameCall | Next::NameName =>
+        Next::NameCall(_) | Next::NameName =>
             "a name: 1 to 16 of a to z, 0 to 9 and _, the first a letter",
         Next::StemNumber => "a name: 1 to 12 of a to z, 0 to 9 and _, the first a letter",
         Next::ProcessOrEnd => "the name of a process, or the end of the line",

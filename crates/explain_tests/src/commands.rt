@@ -10,7 +10,7 @@ use text_fixtures::{Faulty, Folder, words};
 const SCRIPT: &[u8] = b"tread a\n";
 
 const TEXT: &str =
-    "f: line 1: fault 2: unknown word (a script for `rfx run`)\n  | tread a\n  | ^^^^^\n  = expected one of `process` `thread` `mutex` `mutexes` `cond` `call` `begin` `step` `kill` `killall` `renew` `reinit` `remake` `leave` `decline` `recount` `spare` `resleep` `repeat` `go` `locks`\n  = did you mean `thread`?\n";
+    "f: line 1: fault 2: unknown word (a script for `rfx run`)\n  | tread a\n  | ^^^^^\n  = expected one of `process` `thread` `mutex` `mutexes` `cond` `call` `begin` `step` `kill` `killall` `renew` `reinit` `remake` `leave` `expire` `decline` `recount` `spare` `resleep` `repeat` `go` `locks`\n  = did you mean `thread`?\n";
 
 const USAGE: &str = "usage: rfx-explain FILE\n";
 

@@ -8,7 +8,7 @@ use text_fixtures::words;
 type Told = (&'static [u8], u8, &'static str);
 
 /// Files without fault, and words that are wrong.
-static WORDS: [Told; 35] = [
+static WORDS: [Told; 41] = [
     // scripts and traces without fault
     (
         b"thread a\nmutex m\ncall a lock m\n",
@@ -34,7 +34,7 @@ static WORDS: [Told; 35] = [
     (
         b"thread a\nmutx m\n",
         1,
-        "f: line 2: fault 2: unknown word (a script for `rfx run`)\n  | mutx m\n  | ^^^^\n  = expected one of `process` `thread` `mutex` `mutexes` `cond` `call` `begin` `step` `kill` `killall` `renew` `reinit` `remake` `leave` `decline` `recount` `spare` `resleep` `repeat` `go` `locks`\n  = did you mean `mutex`?\n",
+        "f: line 2: fault 2: unknown word (a script for `rfx run`)\n  | mutx m\n  | ^^^^\n  = expected one of `process` `thread` `mutex` `mutexes` `cond` `call` `begin` `step` `kill` `killall` `renew` `reinit` `remake` `leave` `expire` `decline` `recount` `spare` `resleep` `repeat` `go` `locks`\n  = did you mean `mutex`?\n",
     ),
     (
         b"thread a\nmutex m\nphase\ncall a trylok m\n",
@@ -54,12 +54,43 @@ static WORDS: [Told; 35] = [
     (
         b"trace 1 1 0\n1 begin t1 lock m0\n2 point t1 m0 lok OK\nend 2\n",
         1,
-        "f: line 3: fault 2: unknown word (a trace)\n  | 2 point t1 m0 lok OK\n  |               ^^^\n  = expected one of `lock` `trylock` `unlock` `consistent` `wait` `signal` `broadcast` `reinit`\n  = did you mean `lock`?\n",
+        "f: line 3: fault 2: unknown word (a trace)\n  | 2 point t1 m0 lok OK\n  |               ^^^\n  = expected one of `lock` `trylock` `timedlock` `unlock` `consistent` `wait` `signal` `broadcast` `reinit`\n  = did you mean `lock`?\n",
     ),
     (
         b"trace 1 1 0\n1 begin t1 lock m0\n2 point t1 m0 lock EPRM\nend 2\n",
         1,
-        "f: line 3: fault 2: unknown word (a trace)\n  | 2 point t1 m0 lock EPRM\n  |                    ^^^^\n  = expected one of `OK` `EPERM` `ESRCH` `EAGAIN` `EFAULT` `EBUSY` `EINVAL` `EDEADLK` `EOWNERDEAD` `ENOTRECOVERABLE` `X_NOMEM` `X_RACED` `X_HELD` `X_FULL` `X_STATE`\n  = did you mean `EPERM`?\n",
+        "f: line 3: fault 2: unknown word (a trace)\n  | 2 point t1 m0 lock EPRM\n  |                    ^^^^\n  = expected one of `OK` `EPERM` `ESRCH` `EAGAIN` `EFAULT` `EBUSY` `EINVAL` `EDEADLK` `ETIMEDOUT` `EOWNERDEAD` `ENOTRECOVERABLE` `X_NOMEM` `X_RACED` `X_HELD` `X_FULL` `X_STATE`\n  = did you mean `EPERM`?\n",
+    ),
+    // time limits, which scripts for real threads don't have
+    (
+        b"thread a\nmutex m\ncall a timedlock m\nexpire a\n",
+        0,
+        "f: a good script for `rfx run`\n",
+    ),
+    (
+        b"thread a\nmutex m\ncall a timedlok m\n",
+        1,
+        "f: line 3: fault 2: unknown word (a script for `rfx run`)\n  | call a timedlok m\n  |        ^^^^^^^^\n  = expected one of `lock` `trylock` `timedlock` `unlock` `consistent` `wait` `signal` `broadcast`\n  = did you mean `timedlock`?\n",
+    ),
+    (
+        b"thread a\nmutex m\nexpre a\n",
+        1,
+        "f: line 3: fault 2: unknown word (a script for `rfx run`)\n  | expre a\n  | ^^^^^\n  = expected one of `process` `thread` `mutex` `mutexes` `cond` `call` `begin` `step` `kill` `killall` `renew` `reinit` `remake` `leave` `expire` `decline` `recount` `spare` `resleep` `repeat` `go` `locks`\n  = did you mean `expire`?\n",
+    ),
+    (
+        b"thread a\nmutex m\nexpire\n",
+        1,
+        "f: line 3: fault 2: unknown word (a script for `rfx run`)\n  | expire\n  |        ^\n  = expected a name: 1 to 16 of a to z, 0 to 9 and _, the first a letter\n  = what is missing: the name of a thread\n",
+    ),
+    (
+        b"thread a\nmutex m\nphase\nexpire a\n",
+        1,
+        "f: line 4: fault 2: unknown word (a script for `rfx threads`)\n  | expire a\n  | ^^^^^^\n  = expected one of `process` `thread` `mutex` `mutexes` `cond` `call` `phase` `die`\n  = a script for `rfx run` has such lines\n",
+    ),
+    (
+        b"thread a\nmutex m\nphase\ncall a timedlock m\n",
+        1,
+        "f: line 4: fault 2: unknown word (a script for `rfx threads`)\n  | call a timedlock m\n  |        ^^^^^^^^^\n  = expected one of `lock` `trylock` `unlock` `consistent` `wait` `signal` `broadcast`\n  = a script for `rfx run` has such lines\n",
     ),
     // a word that is missing, and one too many
     (
@@ -99,7 +130,7 @@ static WORDS: [Told; 35] = [
     (
         b"  thread a\n",
         1,
-        "f: line 1: fault 2: unknown word (a script for `rfx run`)\n  |   thread a\n  | ^\n  = expected one of `process` `thread` `mutex` `mutexes` `cond` `call` `begin` `step` `kill` `killall` `renew` `reinit` `remake` `leave` `decline` `recount` `spare` `resleep` `repeat` `go` `locks`\n  = a blank stands before the first word\n",
+        "f: line 1: fault 2: unknown word (a script for `rfx run`)\n  |   thread a\n  | ^\n  = expected one of `process` `thread` `mutex` `mutexes` `cond` `call` `begin` `step` `kill` `killall` `renew` `reinit` `remake` `leave` `expire` `decline` `recount` `spare` `resleep` `repeat` `go` `locks`\n  = a blank stands before the first word\n",
     ),
     (
         b"thread  a\n",
@@ -114,7 +145,7 @@ static WORDS: [Told; 35] = [
     (
         b"thread\ta\n",
         1,
-        "f: line 1: fault 2: unknown word (a script for `rfx run`)\n  | thread\u{2409}a\n  | ^^^^^^^^\n  = expected one of `process` `thread` `mutex` `mutexes` `cond` `call` `begin` `step` `kill` `killall` `renew` `reinit` `remake` `leave` `decline` `recount` `spare` `resleep` `repeat` `go` `locks`\n  = did you mean `thread`?\n  = a tab stands here: words have one blank between them\n",
+        "f: line 1: fault 2: unknown word (a script for `rfx run`)\n  | thread\u{2409}a\n  | ^^^^^^^^\n  = expected one of `process` `thread` `mutex` `mutexes` `cond` `call` `begin` `step` `kill` `killall` `renew` `reinit` `remake` `leave` `expire` `decline` `recount` `spare` `resleep` `repeat` `go` `locks`\n  = did you mean `thread`?\n  = a tab stands here: words have one blank between them\n",
     ),
     (
         b"mutex m\r\n",
@@ -130,12 +161,12 @@ static WORDS: [Told; 35] = [
     (
         b"thread a\nmutex m\nstep a 1\nphase\n",
         1,
-        "f: line 4: fault 2: unknown word (a script for `rfx run`)\n  | phase\n  | ^^^^^\n  = expected one of `process` `thread` `mutex` `mutexes` `cond` `call` `begin` `step` `kill` `killall` `renew` `reinit` `remake` `leave` `decline` `recount` `spare` `resleep` `repeat` `go` `locks`\n  = a script for `rfx threads` has such lines\n",
+        "f: line 4: fault 2: unknown word (a script for `rfx run`)\n  | phase\n  | ^^^^^\n  = expected one of `process` `thread` `mutex` `mutexes` `cond` `call` `begin` `step` `kill` `killall` `renew` `reinit` `remake` `leave` `expire` `decline` `recount` `spare` `resleep` `repeat` `go` `locks`\n  = a script for `rfx threads` has such lines\n",
     ),
     (
         b"1 kill t1\n",
         1,
-        "f: line 1: fault 2: unknown word (a script for `rfx run`)\n  | 1 kill t1\n  | ^\n  = expected one of `process` `thread` `mutex` `mutexes` `cond` `call` `begin` `step` `kill` `killall` `renew` `reinit` `remake` `leave` `decline` `recount` `spare` `resleep` `repeat` `go` `locks`\n  = this is a line of a trace, which begins with `trace T M C`\n",
+        "f: line 1: fault 2: unknown word (a script for `rfx run`)\n  | 1 kill t1\n  | ^\n  = expected one of `process` `thread` `mutex` `mutexes` `cond` `call` `begin` `step` `kill` `killall` `renew` `reinit` `remake` `leave` `expire` `decline` `recount` `spare` `resleep` `repeat` `go` `locks`\n  = this is a line of a trace, which begins with `trace T M C`\n",
     ),
     (
         b"trace 1 1 0\nthread a\nend 1\n",
@@ -198,7 +229,7 @@ static WORDS: [Told; 35] = [
 ];
 
 /// Numbers, names, and lines that don't fit those before them.
-static SENSES: [Told; 37] = [
+static SENSES: [Told; 39] = [
     // numbers
     (
         b"thread a\nmutex m\nstep a 0\n",
@@ -366,6 +397,18 @@ static SENSES: [Told; 37] = [
         1,
         "f: line 3: fault 4: no such name (a script for `rfx run`)\n  | renew b\n  |       ^\n  = no line before declares a thread of this name\n",
     ),
+    // a time limit that comes though nobody had the mutex
+    (
+        b"trace 1 1 0\n1 begin t1 timedlock m0\n2 point t1 m0 timedlock ETIMEDOUT\nend 2\n",
+        1,
+        "f: line 3: illegal: no other thread owned the mutex since event 1, in which the call began\n  | 2 point t1 m0 timedlock ETIMEDOUT\n  = see line 2:\n  | 1 begin t1 timedlock m0\n",
+    ),
+    // a lock with a time limit that takes its mutex
+    (
+        b"trace 1 1 0\n1 begin t1 timedlock m0\n2 point t1 m0 timedlock OK\nend 2\n",
+        1,
+        "f: line 3: illegal: the mutex doesn't allow the reply OK: nobody owns it\n  | 2 point t1 m0 timedlock OK\n  = timedlock may reply ETIMEDOUT where another thread owned the mutex since the call began, and else its point is a `lock`\n",
+    ),
     // mutexes made anew
     (
         b"thread a\nmutex m\nreinit a n\n",
@@ -380,12 +423,12 @@ static SENSES: [Told; 37] = [
     (
         b"thread a\nmutex m\ncall a reinit m\n",
         1,
-        "f: line 3: fault 2: unknown word (a script for `rfx run`)\n  | call a reinit m\n  |        ^^^^^^\n  = expected one of `lock` `trylock` `unlock` `consistent` `wait` `signal` `broadcast`\n",
+        "f: line 3: fault 2: unknown word (a script for `rfx run`)\n  | call a reinit m\n  |        ^^^^^^\n  = expected one of `lock` `trylock` `timedlock` `unlock` `consistent` `wait` `signal` `broadcast`\n",
     ),
     (
         b"trace 1 1 0\n1 begin t1 rinit m0\nend 1\n",
         1,
-        "f: line 2: fault 2: unknown word (a trace)\n  | 1 begin t1 rinit m0\n  |            ^^^^^\n  = expected one of `lock` `trylock` `unlock` `consistent` `wait` `signal` `broadcast` `reinit`\n  = did you mean `reinit`?\n",
+        "f: line 2: fault 2: unknown word (a trace)\n  | 1 begin t1 rinit m0\n  |            ^^^^^\n  = expected one of `lock` `trylock` `timedlock` `unlock` `consistent` `wait` `signal` `broadcast` `reinit`\n  = did you mean `reinit`?\n",
     ),
     (
         b"trace 1 1 0\n1 begin t1 reinit m0\n1 point t1 m0 reinit OK\n1 return t1 OK\nend 1\n",

@@ -13,7 +13,7 @@ const DECLARED: &str =
 type Undeclared = (&'static str, &'static str, &'static str);
 
 /// They may stand in scripts for a run.
-static FOR_A_RUN: [Undeclared; 20] = [
+static FOR_A_RUN: [Undeclared; 22] = [
     ("thread reader x", "              ^", "process"),
     ("cond items x 0", "           ^", "mutex"),
     ("call x lock table", "     ^", "thread"),
@@ -38,6 +38,12 @@ static FOR_A_RUN: [Undeclared; 20] = [
     ("kill x", "     ^", "thread"),
     ("killall x", "        ^", "process"),
     ("leave x", "      ^", "thread"),
+    ("expire x", "       ^", "thread"),
+    (
+        "call writer timedlock x",
+        "                      ^",
+        "mutex",
+    ),
     ("decline x", "        ^", "thread"),
     ("recount x", "        ^", "condition variable"),
     ("spare x", "      ^", "thread"),

@@ -1,3 +1,4 @@
+pub mod Chances
 pub mod Facts
 pub mod Lives
 pub mod Orders

@@ -7,11 +7,11 @@
 -- *A life.* What is told of one thread's calls and death: calls that returned, each with exactly its points, of its own
 -- mutex; perhaps one that hasn't returned, with a beginning of its points; perhaps a kill, which ends that call, then
 -- deaths, and perhaps a reaping; no other point or death.
-use Rattle.std.specs.Prelude.{ℕ, ◌≡◌, ◌==◌, ◌&&◌, Bool, true, false, List, [], ◌∷◌, ◌++◌, map, if◌then◌else◌}
+use Rattle.std.specs.Prelude.{ℕ, ◌≡◌, ◌⊎◌, ◌==◌, ◌&&◌, Bool, true, false, List, [], ◌∷◌, ◌++◌, map, if◌then◌else◌}
 use Rattle.lockword.specs.declared.reply.Reply.{Reply}
 use Rattle.lockword.specs.declared.reply.Reply.TheVariants.{OK}
 use Rattle.posixmutex.specs.declared.point.Operation.{Operation}
-use Rattle.posixmutex.specs.declared.point.Operation.TheVariants.{Lock, Unlock, Wait}
+use Rattle.posixmutex.specs.declared.point.Operation.TheVariants.{Lock, TimedLock, Unlock, Wait}
 use Rattle.facts.specs.declared.fact.Begun.{Begun}
 use Rattle.facts.specs.declared.fact.Fact.{Fact}
 use Rattle.facts.specs.declared.fact.Fact.TheVariants.{Begin, Point, Death, Sleep, Wake}
@@ -25,10 +25,12 @@ use Rattle.facts.specs.Facts.{thread_of}
 abbrev pub Act : Type 0
 Act = Operation × Reply
 
--- these are all the points of a call of this operation that returns that reply: one of its own operation, and of a wait
--- that isn't refused a release and then a lock
+-- these are all the points of a call of this operation that returns that reply: one of its own operation; of a lock
+-- with a time limit that isn't refused, and isn't out of time, a lock; and of a wait that isn't refused a release and
+-- then a lock
 abbrev pub Complete : Operation → List Act → Reply → Type 0
 Complete op [] x = ⊥
+Complete TimedLock (p ∷ []) x = (p ≡ (TimedLock, x)) ⊎ (p ≡ (Lock, x))
 Complete op (p ∷ []) x = p ≡ (op, x)
 Complete op (p ∷ q ∷ r ∷ ps) x = ⊥
 Complete Wait (p ∷ q ∷ []) x = (p ≡ (Unlock, OK)) × (q ≡ (Lock, x))

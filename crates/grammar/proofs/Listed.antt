@@ -23,8 +23,7 @@ use Rattle.grammar.specs.declared.next.Next.TheVariants.{End, Keyword, Name, Num
 use Rattle.grammar.specs.declared.next.Next.TheVariants.{Deed, Reply, Operation, CallReply}
 use Rattle.grammar.specs.Known.{call_words, deeds, keywords, known_words, reply_words, told_words}
 use Rattle.grammar.specs.Laws.{TakesJustTheListed, KnownWordsAreThoseThatFit}
-use Rattle.grammar.specs.Nexts.{after, deed, event, fitting, is_call, is_reply, is_scripted, keyword, made_on, or_else}
-use Rattle.grammar.specs.Nexts.{scripted}
+use Rattle.grammar.specs.Nexts.{after, deed, event, fitting, is_call, is_made, is_reply, keyword, made, made_on, or_else}
 
 -- whether the word is one of these
 abbrev is_among : List ℕ → List (List ℕ) → Bool
@@ -105,27 +104,39 @@ passed {A} keep w x o vs dropped apart behind = go _ refl
     go true e = dropped ∙ sym (subst (λ v. is_among v vs ≡ false) ((bytes_eq-Decides (operation_word x) w).0 e) apart)
     go false e = behind
 
-call_is : (w : List ℕ) → is_scripted w ≡ is_among w call_words
+-- the calls of scripts behind those with a time limit
+abbrev behind_timed : List (List ℕ)
+behind_timed = map operation_word (op.Unlock ∷ op.Consistent ∷ op.Wait ∷ op.Signal ∷ op.Broadcast ∷ [])
+
+call_is : (k : Mode) (w : List ℕ) → is_made k w ≡ is_among w (call_words k)
 unfolding operation_of
-call_is w = kept scripted w op.Lock _ _ refl (kept scripted w op.TryLock _ _ refl
-    (kept scripted w op.Unlock _ _ refl (kept scripted w op.Consistent _ _ refl
-    (kept scripted w op.Wait _ _ refl (kept scripted w op.Signal _ _ refl
-    (kept scripted w op.Broadcast _ _ refl (passed scripted w op.Death _ [] refl refl
-    (passed scripted w op.Reinit _ [] refl refl refl))))))))
+call_is Run w = kept (made Run) w op.Lock _ _ refl (kept (made Run) w op.TryLock _ _ refl
+    (kept (made Run) w op.TimedLock _ _ refl (kept (made Run) w op.Unlock _ _ refl
+    (kept (made Run) w op.Consistent _ _ refl (kept (made Run) w op.Wait _ _ refl
+    (kept (made Run) w op.Signal _ _ refl (kept (made Run) w op.Broadcast _ _ refl
+    (passed (made Run) w op.Death _ [] refl refl (passed (made Run) w op.Reinit _ [] refl refl refl)))))))))
+call_is Threads w = kept (made Threads) w op.Lock _ _ refl (kept (made Threads) w op.TryLock _ _ refl
+    (passed (made Threads) w op.TimedLock _ behind_timed refl refl
+    (kept (made Threads) w op.Unlock _ _ refl (kept (made Threads) w op.Consistent _ _ refl
+    (kept (made Threads) w op.Wait _ _ refl (kept (made Threads) w op.Signal _ _ refl
+    (kept (made Threads) w op.Broadcast _ _ refl (passed (made Threads) w op.Death _ [] refl refl
+    (passed (made Threads) w op.Reinit _ [] refl refl refl)))))))))
 
 -- where just those operations are kept that calls have
 told_is : {A : Type 0} (keep : Op → Option A) → ((x : Op) → is_some (keep x) ≡ is_some (of_call x))
     → (w : List ℕ) → is_some (option_and_then keep (operation_of w)) ≡ is_among w told_words
 unfolding operation_of
 told_is keep h w = kept keep w op.Lock _ _ (h op.Lock) (kept keep w op.TryLock _ _ (h op.TryLock)
+    (kept keep w op.TimedLock _ _ (h op.TimedLock)
     (kept keep w op.Unlock _ _ (h op.Unlock) (kept keep w op.Consistent _ _ (h op.Consistent)
     (kept keep w op.Wait _ _ (h op.Wait) (kept keep w op.Signal _ _ (h op.Signal)
     (kept keep w op.Broadcast _ _ (h op.Broadcast) (passed keep w op.Death _ (codes "reinit" ∷ []) (h op.Death) refl
-    (kept keep w op.Reinit _ _ (h op.Reinit) refl))))))))
+    (kept keep w op.Reinit _ _ (h op.Reinit) refl)))))))))
 
 every_call_is_made_on_something : (x : Op) → is_some (made_on x) ≡ is_some (of_call x)
 every_call_is_made_on_something op.Lock = refl
 every_call_is_made_on_something op.TryLock = refl
+every_call_is_made_on_something op.TimedLock = refl
 every_call_is_made_on_something op.Unlock = refl
 every_call_is_made_on_something op.Consistent = refl
 every_call_is_made_on_something op.Wait = refl
@@ -173,7 +184,7 @@ known_words_fit = record {
   head = listed Head (λ w. fits _ ThreeNumbers ∙ alone (bytes_eq w (codes "trace")));
   event = listed_or_number;
   deed = listed Deed deed_is;
-  call = listed Call (λ w. fits (is_scripted w) Name ∙ call_is w);
+  call = λ k. listed (Call k) (λ w. fits (is_made k w) Name ∙ call_is k w);
   operation = listed Operation (told_is made_on every_call_is_made_on_something);
   call_reply = listed CallReply (λ w. fits (is_call w) Reply ∙ call_told_is w);
   reply = listed Reply (λ w. fits (is_reply w) End ∙ reply_is w);

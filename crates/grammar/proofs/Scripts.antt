@@ -11,10 +11,10 @@ use Rattle.posixmutex.specs.Words.{operation_of}
 use Rattle.script.specs.declared.command.Mode.{Mode}
 use Rattle.script.specs.declared.command.Mode.TheVariants.{Run, Threads}
 use Rattle.script.specs.Limits.{max_steps, max_access, max_mutexes, max_base, max_counter}
-use Rattle.script.specs.Forms.{CallForm, lock, trylock, unlock, consistent, wait, signal, broadcast, Form, process, thread, member, mutex, mutexes, cond, begins, steps, kills, kills_all, goes, renews, reinits, remakes, leaves, declines, recounts, spares, resleeps, repeats, calls, locks, phase, dies, is_name, is_stem, has, of_mode, or_else, call_on, call_form, calling_form, words_form}
+use Rattle.script.specs.Forms.{CallForm, lock, trylock, timedlock, unlock, consistent, wait, signal, broadcast, Form, process, thread, member, mutex, mutexes, cond, begins, steps, kills, kills_all, goes, renews, reinits, remakes, leaves, expires, declines, recounts, spares, resleeps, repeats, calls, locks, phase, dies, is_name, is_stem, is_untimed, has, of_mode, or_else, call_on, call_form, calling_form, words_form}
 use Rattle.grammar.specs.declared.next.Next.{Next}
 use Rattle.grammar.specs.declared.next.Next.TheVariants.{End, Keyword, Name, NewThread, ProcessOrEnd, NameNumber, NameNameNumber, NameName, StemNumber, Number, NameCall, Call}
-use Rattle.grammar.specs.Nexts.{fitting, is_scripted, scripted, keyword}
+use Rattle.grammar.specs.Nexts.{fitting, is_made, keyword, made, timed}
 use Rattle.grammar.proofs.Running.{ends, run}
 use Rattle.grammar.proofs.Fitting.{both, fits_end, fits_last, fits_then}
 use Rattle.grammar.proofs.Words.{pick}
@@ -118,27 +118,61 @@ abbrev call_line : (List ℕ → CallForm → Form) → List (List ℕ) → Opti
 call_line F (t ∷ c ∷ m ∷ []) = option_and_then (λ x. if is_name t then Some (F t x) else None) (call_form c m)
 call_line F ws = None
 
-called : (k : Mode) (F : List ℕ → CallForm → Form) (on : Bool) (t m : List ℕ) → ((x : CallForm) → has k (F t x) ≡ on) → (bt bm : Bool) (o : Option Operation) → said k (option_and_then (λ x. if bt then Some (F t x) else None) (if not bm then None else option_and_then (call_on m) o)) ≡ (on && (bt && (is_some (option_and_then scripted o) && bm)))
-called k F on t m h bt false o = never on ∙ ap (λ (b : Bool). on && b) (sym (both bt _ (both (is_some (option_and_then scripted o)) false refl)))
+-- scripts of the mode make it, if they make calls there
+abbrev takes : Mode → CallForm → Bool
+takes k (timedlock m) = is_some (timed k)
+takes k x = true
+
+regrouped : (on c b : Bool) → ((on && c) && b) ≡ (on && (b && (c && true)))
+regrouped true true true = refl
+regrouped true true false = refl
+regrouped true false true = refl
+regrouped true false false = refl
+regrouped false c b = refl
+
+called : (k : Mode) (F : List ℕ → CallForm → Form) (on : Bool) (t m : List ℕ) → ((x : CallForm) → has k (F t x) ≡ (on && takes k x)) → (bt bm : Bool) (o : Option Operation) → said k (option_and_then (λ x. if bt then Some (F t x) else None) (if not bm then None else option_and_then (call_on m) o)) ≡ (on && (bt && (is_some (option_and_then (made k) o) && bm)))
+called k F on t m h bt false o = never on ∙ ap (λ (b : Bool). on && b) (sym (both bt _ (both (is_some (option_and_then (made k) o)) false refl)))
 called k F on t m h bt true None = never on ∙ ap (λ (b : Bool). on && b) (sym (both bt false refl))
-called k F on t m h bt true (Some op.Lock) = decided k (F t (lock m)) on bt (h (lock m)) ∙ ap (λ (b : Bool). on && b) (sym (alone_true bt))
-called k F on t m h bt true (Some op.TryLock) = decided k (F t (trylock m)) on bt (h (trylock m)) ∙ ap (λ (b : Bool). on && b) (sym (alone_true bt))
-called k F on t m h bt true (Some op.Unlock) = decided k (F t (unlock m)) on bt (h (unlock m)) ∙ ap (λ (b : Bool). on && b) (sym (alone_true bt))
-called k F on t m h bt true (Some op.Consistent) = decided k (F t (consistent m)) on bt (h (consistent m)) ∙ ap (λ (b : Bool). on && b) (sym (alone_true bt))
-called k F on t m h bt true (Some op.Wait) = decided k (F t (wait m)) on bt (h (wait m)) ∙ ap (λ (b : Bool). on && b) (sym (alone_true bt))
-called k F on t m h bt true (Some op.Signal) = decided k (F t (signal m)) on bt (h (signal m)) ∙ ap (λ (b : Bool). on && b) (sym (alone_true bt))
-called k F on t m h bt true (Some op.Broadcast) = decided k (F t (broadcast m)) on bt (h (broadcast m)) ∙ ap (λ (b : Bool). on && b) (sym (alone_true bt))
+called k F on t m h bt true (Some op.Lock) = decided k (F t (lock m)) (on && true) bt (h (lock m)) ∙ regrouped on true bt
+called k F on t m h bt true (Some op.TryLock) = decided k (F t (trylock m)) (on && true) bt (h (trylock m)) ∙ regrouped on true bt
+called k F on t m h bt true (Some op.TimedLock) = decided k (F t (timedlock m)) (on && is_some (timed k)) bt (h (timedlock m)) ∙ regrouped on (is_some (timed k)) bt
+called k F on t m h bt true (Some op.Unlock) = decided k (F t (unlock m)) (on && true) bt (h (unlock m)) ∙ regrouped on true bt
+called k F on t m h bt true (Some op.Consistent) = decided k (F t (consistent m)) (on && true) bt (h (consistent m)) ∙ regrouped on true bt
+called k F on t m h bt true (Some op.Wait) = decided k (F t (wait m)) (on && true) bt (h (wait m)) ∙ regrouped on true bt
+called k F on t m h bt true (Some op.Signal) = decided k (F t (signal m)) (on && true) bt (h (signal m)) ∙ regrouped on true bt
+called k F on t m h bt true (Some op.Broadcast) = decided k (F t (broadcast m)) (on && true) bt (h (broadcast m)) ∙ regrouped on true bt
 called k F on t m h bt true (Some op.Death) = never on ∙ ap (λ (b : Bool). on && b) (sym (both bt false refl))
 called k F on t m h bt true (Some op.Reinit) = never on ∙ ap (λ (b : Bool). on && b) (sym (both bt false refl))
 
-calling : (k : Mode) (F : List ℕ → CallForm → Form) (on : Bool) → ((t : List ℕ) (x : CallForm) → has k (F t x) ≡ on) → (ws : List (List ℕ)) → said k (call_line F ws) ≡ (on && ends (run NameCall ws))
+calling : (k : Mode) (F : List ℕ → CallForm → Form) (on : Bool) → ((t : List ℕ) (x : CallForm) → has k (F t x) ≡ (on && takes k x)) → (ws : List (List ℕ)) → said k (call_line F ws) ≡ (on && ends (run (NameCall k) ws))
 calling k F on h [] = never on
-calling k F on h (t ∷ []) = never on ∙ ap (λ (b : Bool). on && b) (sym (fits_then (is_name t) Call [] ∙ both (is_name t) false refl))
-calling k F on h (t ∷ c ∷ []) = never on ∙ ap (λ (b : Bool). on && b) (sym (fits_then (is_name t) Call (c ∷ []) ∙ both (is_name t) _ (fits_then (is_scripted c) Name [] ∙ both (is_scripted c) false refl)))
+calling k F on h (t ∷ []) = never on ∙ ap (λ (b : Bool). on && b) (sym (fits_then (is_name t) (Call k) [] ∙ both (is_name t) false refl))
+calling k F on h (t ∷ c ∷ []) = never on ∙ ap (λ (b : Bool). on && b) (sym (fits_then (is_name t) (Call k) (c ∷ []) ∙ both (is_name t) _ (fits_then (is_made k c) Name [] ∙ both (is_made k c) false refl)))
 calling k F on h (t ∷ c ∷ m ∷ []) =
     called k F on t m (h t) (is_name t) (is_name m) (operation_of c)
-    ∙ ap (λ (b : Bool). on && b) (sym (fits_then (is_name t) Call (c ∷ m ∷ []) ∙ ap (λ (b : Bool). is_name t && b) (fits_then (is_scripted c) Name (m ∷ []) ∙ ap (λ (b : Bool). is_scripted c && b) (fits_end (is_name m)))))
-calling k F on h (t ∷ c ∷ m ∷ b ∷ ws) = never on ∙ ap (λ (q : Bool). on && q) (sym (fits_then (is_name t) Call (c ∷ m ∷ b ∷ ws) ∙ both (is_name t) _ (fits_then (is_scripted c) Name (m ∷ b ∷ ws) ∙ both (is_scripted c) _ (fits_last (is_name m) b ws))))
+    ∙ ap (λ (b : Bool). on && b) (sym (fits_then (is_name t) (Call k) (c ∷ m ∷ []) ∙ ap (λ (b : Bool). is_name t && b) (fits_then (is_made k c) Name (m ∷ []) ∙ ap (λ (b : Bool). is_made k c && b) (fits_end (is_name m)))))
+calling k F on h (t ∷ c ∷ m ∷ b ∷ ws) = never on ∙ ap (λ (q : Bool). on && q) (sym (fits_then (is_name t) (Call k) (c ∷ m ∷ b ∷ ws) ∙ both (is_name t) _ (fits_then (is_made k c) Name (m ∷ b ∷ ws) ∙ both (is_made k c) _ (fits_last (is_name m) b ws))))
+
+-- the calls of each mode
+all_taken : (x : CallForm) → true ≡ takes Run x
+all_taken (lock m) = refl
+all_taken (trylock m) = refl
+all_taken (timedlock m) = refl
+all_taken (unlock m) = refl
+all_taken (consistent m) = refl
+all_taken (wait m) = refl
+all_taken (signal m) = refl
+all_taken (broadcast m) = refl
+
+untimed_taken : (x : CallForm) → is_untimed x ≡ takes Threads x
+untimed_taken (lock m) = refl
+untimed_taken (trylock m) = refl
+untimed_taken (timedlock m) = refl
+untimed_taken (unlock m) = refl
+untimed_taken (consistent m) = refl
+untimed_taken (wait m) = refl
+untimed_taken (signal m) = refl
+untimed_taken (broadcast m) = refl
 
 -- no word at all
 abbrev no_words : List (List ℕ) → Option Form
@@ -307,6 +341,17 @@ law_repeat : (k : Mode) (ws : List (List ℕ)) → said k (words_form (codes "re
 law_repeat Run ws = ap (said Run) (shape_repeat ws) ∙ named Run repeats true (λ a. refl) ws
 law_repeat Threads ws = ap (said Threads) (shape_repeat ws) ∙ named Threads repeats false (λ a. refl) ws
 
+shape_expire : (ws : List (List ℕ)) → words_form (codes "expire" ∷ ws) ≡ one_name expires ws
+shape_expire [] = refl
+shape_expire (a ∷ []) = flipped (is_name a) (expires a)
+shape_expire (a ∷ n ∷ []) = refl
+shape_expire (t ∷ c ∷ m ∷ []) = no_call (is_name t) (call_form c m)
+shape_expire (t ∷ c ∷ m ∷ b ∷ ws) = refl
+
+law_expire : (k : Mode) (ws : List (List ℕ)) → said k (words_form (codes "expire" ∷ ws)) ≡ ends (run (Keyword k) (codes "expire" ∷ ws))
+law_expire Run ws = ap (said Run) (shape_expire ws) ∙ named Run expires true (λ a. refl) ws
+law_expire Threads ws = ap (said Threads) (shape_expire ws) ∙ named Threads expires false (λ a. refl) ws
+
 shape_go : (ws : List (List ℕ)) → words_form (codes "go" ∷ ws) ≡ one_name goes ws
 shape_go [] = refl
 shape_go (a ∷ []) = flipped (is_name a) (goes a)
@@ -392,7 +437,7 @@ shape_begin (t ∷ c ∷ m ∷ []) = some_call (is_name t) (begins t) (call_form
 shape_begin (t ∷ c ∷ m ∷ b ∷ ws) = refl
 
 law_begin : (k : Mode) (ws : List (List ℕ)) → said k (words_form (codes "begin" ∷ ws)) ≡ ends (run (Keyword k) (codes "begin" ∷ ws))
-law_begin Run ws = ap (said Run) (shape_begin ws) ∙ calling Run begins true (λ t x. refl) ws
+law_begin Run ws = ap (said Run) (shape_begin ws) ∙ calling Run begins true (λ t x. all_taken x) ws
 law_begin Threads ws = ap (said Threads) (shape_begin ws) ∙ calling Threads begins false (λ t x. refl) ws
 
 shape_call : (ws : List (List ℕ)) → words_form (codes "call" ∷ ws) ≡ call_line calls ws
@@ -403,8 +448,8 @@ shape_call (t ∷ c ∷ m ∷ []) = some_call (is_name t) (calls t) (call_form c
 shape_call (t ∷ c ∷ m ∷ b ∷ ws) = refl
 
 law_call : (k : Mode) (ws : List (List ℕ)) → said k (words_form (codes "call" ∷ ws)) ≡ ends (run (Keyword k) (codes "call" ∷ ws))
-law_call Run ws = ap (said Run) (shape_call ws) ∙ calling Run calls true (λ t x. refl) ws
-law_call Threads ws = ap (said Threads) (shape_call ws) ∙ calling Threads calls true (λ t x. refl) ws
+law_call Run ws = ap (said Run) (shape_call ws) ∙ calling Run calls true (λ t x. all_taken x) ws
+law_call Threads ws = ap (said Threads) (shape_call ws) ∙ calling Threads calls true (λ t x. untimed_taken x) ws
 
 shape_thread : (ws : List (List ℕ)) → words_form (codes "thread" ∷ ws) ≡ thread_line ws
 shape_thread [] = refl
@@ -454,6 +499,7 @@ record Unknown (w : List ℕ) : Type 0 where
   spare_isnt : bytes_eq w (codes "spare") ≡ false
   resleep_isnt : bytes_eq w (codes "resleep") ≡ false
   repeat_isnt : bytes_eq w (codes "repeat") ≡ false
+  expire_isnt : bytes_eq w (codes "expire") ≡ false
   go_isnt : bytes_eq w (codes "go") ≡ false
   locks_isnt : bytes_eq w (codes "locks") ≡ false
   phase_isnt : bytes_eq w (codes "phase") ≡ false
@@ -465,13 +511,13 @@ no_calling w t b c (Some x) = simp (b, c) (flipped_none (is_name t))
 
 unknown_line : (w : List ℕ) (ws : List (List ℕ)) → Unknown w → words_form (w ∷ ws) ≡ None
 unknown_line w [] u = simp (u.phase_isnt)
-unknown_line w (a ∷ []) u = simp (u.thread_isnt, u.mutex_isnt, u.kill_isnt, u.killall_isnt, u.go_isnt, u.renew_isnt, u.leave_isnt, u.decline_isnt, u.recount_isnt, u.spare_isnt, u.resleep_isnt, u.repeat_isnt) (flipped_none (is_name a))
+unknown_line w (a ∷ []) u = simp (u.thread_isnt, u.mutex_isnt, u.kill_isnt, u.killall_isnt, u.go_isnt, u.renew_isnt, u.leave_isnt, u.decline_isnt, u.recount_isnt, u.spare_isnt, u.resleep_isnt, u.repeat_isnt, u.expire_isnt) (flipped_none (is_name a))
 unknown_line w (a ∷ n ∷ []) u = simp (u.step_isnt, u.die_isnt, u.mutexes_isnt, u.process_isnt, u.thread_isnt, u.reinit_isnt, u.remake_isnt)
 unknown_line w (t ∷ c ∷ m ∷ []) u = simp (u.locks_isnt, u.cond_isnt) (no_calling w t u.begin_isnt u.call_isnt (call_form c m))
 unknown_line w (t ∷ c ∷ m ∷ b ∷ ws) u = refl
 
 unknown_word : (k : Mode) (w : List ℕ) → Unknown w → keyword k w ≡ None
-unknown_word Run w u = simp (u.process_isnt, u.thread_isnt, u.mutex_isnt, u.mutexes_isnt, u.cond_isnt, u.call_isnt, u.begin_isnt, u.step_isnt, u.kill_isnt, u.killall_isnt, u.renew_isnt, u.reinit_isnt, u.remake_isnt, u.leave_isnt, u.decline_isnt, u.recount_isnt, u.spare_isnt, u.resleep_isnt, u.repeat_isnt, u.go_isnt, u.locks_isnt)
+unknown_word Run w u = simp (u.process_isnt, u.thread_isnt, u.mutex_isnt, u.mutexes_isnt, u.cond_isnt, u.call_isnt, u.begin_isnt, u.step_isnt, u.kill_isnt, u.killall_isnt, u.renew_isnt, u.reinit_isnt, u.remake_isnt, u.leave_isnt, u.expire_isnt, u.decline_isnt, u.recount_isnt, u.spare_isnt, u.resleep_isnt, u.repeat_isnt, u.go_isnt, u.locks_isnt)
 unknown_word Threads w u = simp (u.process_isnt, u.thread_isnt, u.mutex_isnt, u.mutexes_isnt, u.cond_isnt, u.call_isnt, u.phase_isnt, u.die_isnt)
 
 unknown : (k : Mode) (w : List ℕ) (ws : List (List ℕ)) → Unknown w → said k (words_form (w ∷ ws)) ≡ ends (run (Keyword k) (w ∷ ws))
@@ -504,8 +550,9 @@ scripts_are_run k (w ∷ ws) =
     pick (Agree k ws) w (codes "spare") (law_spare k ws) (λ e19.
     pick (Agree k ws) w (codes "resleep") (law_resleep k ws) (λ e20.
     pick (Agree k ws) w (codes "repeat") (law_repeat k ws) (λ e21.
+    pick (Agree k ws) w (codes "expire") (law_expire k ws) (λ e23.
     pick (Agree k ws) w (codes "go") (law_go k ws) (λ e12.
     pick (Agree k ws) w (codes "locks") (law_locks k ws) (λ e13.
     pick (Agree k ws) w (codes "phase") (law_phase k ws) (λ e14.
     pick (Agree k ws) w (codes "die") (law_die k ws) (λ e15.
-    unknown k w ws (record { process_isnt = e0; thread_isnt = e1; mutex_isnt = e2; mutexes_isnt = e3; cond_isnt = e4; call_isnt = e5; begin_isnt = e6; step_isnt = e7; kill_isnt = e8; killall_isnt = e9; leave_isnt = e10; decline_isnt = e11; go_isnt = e12; locks_isnt = e13; phase_isnt = e14; die_isnt = e15; renew_isnt = e16; reinit_isnt = e17; recount_isnt = e18; spare_isnt = e19; resleep_isnt = e20; repeat_isnt = e21; remake_isnt = e22 }))))))))))))))))))))))))
+    unknown k w ws (record { process_isnt = e0; thread_isnt = e1; mutex_isnt = e2; mutexes_isnt = e3; cond_isnt = e4; call_isnt = e5; begin_isnt = e6; step_isnt = e7; kill_isnt = e8; killall_isnt = e9; leave_isnt = e10; decline_isnt = e11; go_isnt = e12; locks_isnt = e13; phase_isnt = e14; die_isnt = e15; renew_isnt = e16; reinit_isnt = e17; recount_isnt = e18; spare_isnt = e19; resleep_isnt = e20; repeat_isnt = e21; remake_isnt = e22; expire_isnt = e23 })))))))))))))))))))))))))

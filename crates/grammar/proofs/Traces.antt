@@ -126,6 +126,7 @@ begun : (i u : Option ℕ) (o : Option Op) (m : List ℕ) (p : Option (Option �
 begun i u None m p e = refl
 begun i u (Some op.Lock) m p e = bound_last p (λ mutex. Told i (said.Begin u op.Lock mutex)) ∙ e ∙ sym (fits_end (is_lettered 109 m))
 begun i u (Some op.TryLock) m p e = bound_last p (λ mutex. Told i (said.Begin u op.TryLock mutex)) ∙ e ∙ sym (fits_end (is_lettered 109 m))
+begun i u (Some op.TimedLock) m p e = bound_last p (λ mutex. Told i (said.Begin u op.TimedLock mutex)) ∙ e ∙ sym (fits_end (is_lettered 109 m))
 begun i u (Some op.Unlock) m p e = bound_last p (λ mutex. Told i (said.Begin u op.Unlock mutex)) ∙ e ∙ sym (fits_end (is_lettered 109 m))
 begun i u (Some op.Consistent) m p e = bound_last p (λ mutex. Told i (said.Begin u op.Consistent mutex)) ∙ e ∙ sym (fits_end (is_lettered 109 m))
 begun i u (Some op.Reinit) m p e = bound_last p (λ mutex. Told i (said.Begin u op.Reinit mutex)) ∙ e ∙ sym (fits_end (is_lettered 109 m))
@@ -147,6 +148,7 @@ begun_on : (i u : Option ℕ) (o : Option Op) (b c : List ℕ) → is_some (((o 
 begun_on i u None b c = refl
 begun_on i u (Some op.Lock) b c = sym (fits_last (is_lettered 109 b) c [])
 begun_on i u (Some op.TryLock) b c = sym (fits_last (is_lettered 109 b) c [])
+begun_on i u (Some op.TimedLock) b c = sym (fits_last (is_lettered 109 b) c [])
 begun_on i u (Some op.Unlock) b c = sym (fits_last (is_lettered 109 b) c [])
 begun_on i u (Some op.Consistent) b c = sym (fits_last (is_lettered 109 b) c [])
 begun_on i u (Some op.Reinit) b c = sym (fits_last (is_lettered 109 b) c [])
@@ -160,6 +162,7 @@ made_long : (o : Option Op) (b c d : List ℕ) (ws : List (List ℕ)) → ends (
 made_long None b c d ws = refl
 made_long (Some op.Lock) b c d ws = fits_last (is_lettered 109 b) c (d ∷ ws)
 made_long (Some op.TryLock) b c d ws = fits_last (is_lettered 109 b) c (d ∷ ws)
+made_long (Some op.TimedLock) b c d ws = fits_last (is_lettered 109 b) c (d ∷ ws)
 made_long (Some op.Unlock) b c d ws = fits_last (is_lettered 109 b) c (d ∷ ws)
 made_long (Some op.Consistent) b c d ws = fits_last (is_lettered 109 b) c (d ∷ ws)
 made_long (Some op.Reinit) b c d ws = fits_last (is_lettered 109 b) c (d ∷ ws)
@@ -172,6 +175,7 @@ made_short : (o : Option Op) → ends (option_and_then (λ n. run n []) (option_
 made_short None = refl
 made_short (Some op.Lock) = refl
 made_short (Some op.TryLock) = refl
+made_short (Some op.TimedLock) = refl
 made_short (Some op.Unlock) = refl
 made_short (Some op.Consistent) = refl
 made_short (Some op.Reinit) = refl

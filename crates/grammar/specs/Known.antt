@@ -1,6 +1,6 @@
 -- The words that may stand at a place.
 use Rattle.std.specs.Prelude.{ℕ, List, [], ◌∷◌, map, codes}
-use Rattle.posixmutex.specs.declared.point.Operation.TheVariants.{Lock, TryLock, Unlock, Consistent}
+use Rattle.posixmutex.specs.declared.point.Operation.TheVariants.{Lock, TryLock, TimedLock, Unlock, Consistent}
 use Rattle.posixmutex.specs.declared.point.Operation.TheVariants.{Wait, Signal, Broadcast, Reinit}
 use Rattle.posixmutex.specs.Words.{operation_word}
 use Rattle.lockword.specs.Replies.{all_replies, reply_word}
@@ -9,13 +9,16 @@ use Rattle.script.specs.declared.command.Mode.TheVariants.{Run, Threads}
 use Rattle.grammar.specs.declared.next.Next.{Next}
 use Rattle.grammar.specs.declared.next.Next.TheVariants.{Keyword, Call, Head, Event, Deed, Reply, Operation, CallReply}
 
--- the words of the calls that scripts make
-abbrev pub call_words : List (List ℕ)
-call_words = map operation_word (Lock ∷ TryLock ∷ Unlock ∷ Consistent ∷ Wait ∷ Signal ∷ Broadcast ∷ [])
+-- the words of the calls that scripts make: those with a time limit are for the machine
+abbrev pub call_words : Mode → List (List ℕ)
+call_words Run =
+    map operation_word (Lock ∷ TryLock ∷ TimedLock ∷ Unlock ∷ Consistent ∷ Wait ∷ Signal ∷ Broadcast ∷ [])
+call_words Threads = map operation_word (Lock ∷ TryLock ∷ Unlock ∷ Consistent ∷ Wait ∷ Signal ∷ Broadcast ∷ [])
 
 -- and of those that traces tell
 abbrev pub told_words : List (List ℕ)
-told_words = map operation_word (Lock ∷ TryLock ∷ Unlock ∷ Consistent ∷ Wait ∷ Signal ∷ Broadcast ∷ Reinit ∷ [])
+told_words =
+    map operation_word (Lock ∷ TryLock ∷ TimedLock ∷ Unlock ∷ Consistent ∷ Wait ∷ Signal ∷ Broadcast ∷ Reinit ∷ [])
 
 abbrev pub reply_words : List (List ℕ)
 reply_words = map reply_word all_replies
@@ -24,7 +27,7 @@ reply_words = map reply_word all_replies
 abbrev pub keywords : Mode → List (List ℕ)
 keywords Run = codes "process" ∷ codes "thread" ∷ codes "mutex" ∷ codes "mutexes" ∷ codes "cond" ∷ codes "call"
     ∷ codes "begin" ∷ codes "step" ∷ codes "kill" ∷ codes "killall" ∷ codes "renew" ∷ codes "reinit" ∷ codes "remake"
-    ∷ codes "leave" ∷ codes "decline" ∷ codes "recount" ∷ codes "spare" ∷ codes "resleep" ∷ codes "repeat"
+    ∷ codes "leave" ∷ codes "expire" ∷ codes "decline" ∷ codes "recount" ∷ codes "spare" ∷ codes "resleep" ∷ codes "repeat"
     ∷ codes "go" ∷ codes "locks" ∷ []
 keywords Threads = codes "process" ∷ codes "thread" ∷ codes "mutex" ∷ codes "mutexes" ∷ codes "cond" ∷ codes "call"
     ∷ codes "phase" ∷ codes "die" ∷ []
@@ -40,7 +43,7 @@ known_words (Keyword k) = keywords k
 known_words Head = codes "trace" ∷ []
 known_words Event = codes "end" ∷ []
 known_words Deed = deeds
-known_words Call = call_words
+known_words (Call k) = call_words k
 known_words Operation = told_words
 known_words CallReply = told_words
 known_words Reply = reply_words

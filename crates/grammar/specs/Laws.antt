@@ -19,7 +19,7 @@ pub record KnownWordsAreThoseThatFit : Type 0 where
   pub head : TakesJustTheListed Head
   pub event : (w : List ℕ) → (is_some (after Event w) ≡ true) ↔ (Contains (known_words Event) w ⊎ (is_number w ≡ true))
   pub deed : TakesJustTheListed Deed
-  pub call : TakesJustTheListed Call
+  pub call : (k : Mode) → TakesJustTheListed (Call k)
   pub operation : TakesJustTheListed Operation
   pub call_reply : TakesJustTheListed CallReply
   pub reply : TakesJustTheListed Reply

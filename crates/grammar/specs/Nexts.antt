@@ -42,6 +42,18 @@ is_scripted w = is_some (option_and_then scripted (operation_of w))
 abbrev pub is_reply : List ℕ → Bool
 is_reply w = is_some (reply_of w)
 
+-- those that scripts of a mode make: time limits are the machine's
+abbrev pub timed : Mode → Option Op
+timed mode.Run = Some op.TimedLock
+timed mode.Threads = None
+
+abbrev pub made : Mode → Op → Option Op
+made k op.TimedLock = timed k
+made k o = scripted o
+
+abbrev pub is_made : Mode → List ℕ → Bool
+is_made k w = is_some (option_and_then (made k) (operation_of w))
+
 -- what follows a word that fits
 abbrev pub fitting : Bool → Next → Option Next
 fitting fits next = if fits then Some next else None
@@ -49,17 +61,17 @@ fitting fits next = if fits then Some next else None
 -- ---- scripts
 
 -- behind the first word of a line that scripts of both modes have
-abbrev pub shared : List ℕ → Option Next
-shared w = if bytes_eq w (codes "process") then Some NameNumber
+abbrev pub shared : Mode → List ℕ → Option Next
+shared k w = if bytes_eq w (codes "process") then Some NameNumber
     else (if bytes_eq w (codes "thread") then Some NewThread
     else (if bytes_eq w (codes "mutex") then Some Name
     else (if bytes_eq w (codes "mutexes") then Some StemNumber
     else (if bytes_eq w (codes "cond") then Some NameNameNumber
-    else (if bytes_eq w (codes "call") then Some NameCall else None)))))
+    else (if bytes_eq w (codes "call") then Some (NameCall k) else None)))))
 
 -- that only scripts for the machine have: its events
 abbrev pub of_run : List ℕ → Option Next
-of_run w = if bytes_eq w (codes "begin") then Some NameCall
+of_run w = if bytes_eq w (codes "begin") then Some (NameCall mode.Run)
     else (if bytes_eq w (codes "step") then Some NameNumber
     else (if bytes_eq w (codes "kill") then Some Name
     else (if bytes_eq w (codes "killall") then Some Name
@@ -67,13 +79,14 @@ of_run w = if bytes_eq w (codes "begin") then Some NameCall
     else (if bytes_eq w (codes "reinit") then Some NameName
     else (if bytes_eq w (codes "remake") then Some NameName
     else (if bytes_eq w (codes "leave") then Some Name
+    else (if bytes_eq w (codes "expire") then Some Name
     else (if bytes_eq w (codes "decline") then Some Name
     else (if bytes_eq w (codes "recount") then Some Name
     else (if bytes_eq w (codes "spare") then Some Name
     else (if bytes_eq w (codes "resleep") then Some Name
     else (if bytes_eq w (codes "repeat") then Some Name
     else (if bytes_eq w (codes "go") then Some Name
-    else (if bytes_eq w (codes "locks") then Some NameNameNumber else None))))))))))))))
+    else (if bytes_eq w (codes "locks") then Some NameNameNumber else None)))))))))))))))
 
 -- that only scripts for real threads have
 abbrev pub of_threads : List ℕ → Option Next
@@ -91,7 +104,7 @@ or_else (Some n) o = Some n
 or_else None o = o
 
 abbrev pub keyword : Mode → List ℕ → Option Next
-keyword k w = or_else (shared w) (alone k w)
+keyword k w = or_else (shared k w) (alone k w)
 
 -- ---- traces
 
@@ -112,6 +125,7 @@ deed w = if bytes_eq w (codes "begin") then Some ThreadCall
 abbrev pub made_on : Op → Option Next
 made_on op.Lock = Some Mutex
 made_on op.TryLock = Some Mutex
+made_on op.TimedLock = Some Mutex
 made_on op.Unlock = Some Mutex
 made_on op.Consistent = Some Mutex
 made_on op.Reinit = Some Mutex
@@ -141,8 +155,8 @@ after NameNameNumber w = fitting (is_name w) NameNumber
 after NameName w = fitting (is_name w) Name
 after StemNumber w = fitting (is_stem w) Number
 after Number w = fitting (is_number w) End
-after NameCall w = fitting (is_name w) Call
-after Call w = fitting (is_scripted w) Name
+after (NameCall k) w = fitting (is_name w) (Call k)
+after (Call k) w = fitting (is_made k w) Name
 after Head w = fitting (bytes_eq w (codes "trace")) ThreeNumbers
 after ThreeNumbers w = fitting (is_number w) TwoNumbers
 after TwoNumbers w = fitting (is_number w) Number

@@ -13,6 +13,7 @@ fn told_words() -> &'static [&'static str]
     &[
         "lock",
         "trylock",
+        "timedlock",
         "unlock",
         "consistent",
         "wait",
@@ -22,11 +23,22 @@ fn told_words() -> &'static [&'static str]
     ]
 }
 
-/// Those of the calls that scripts make: all but the last.
-fn call_words() -> &'static [&'static str]
-    ensures { map (λ w. w.now) result.now ≡ call_words }
+/// Those of the calls that scripts make: for the machine all but the last.
+fn call_words(mode: Mode) -> &'static [&'static str]
+    ensures { map (λ w. w.now) result.now ≡ call_words mode }
 {
-    &told_words()[..7]
+    match mode {
+        Mode::Run => &told_words()[..8],
+        Mode::Threads => &[
+            "lock",
+            "trylock",
+            "unlock",
+            "consistent",
+            "wait",
+            "signal",
+            "broadcast",
+        ],
+    }
 }
 
 /// The words of replies.
@@ -42,6 +54,7 @@ fn reply_words() -> &'static [&'static str]
         "EBUSY",
         "EINVAL",
         "EDEADLK",
+        "ETIMEDOUT",
         "EOWNERDEAD",
         "ENOTRECOVERABLE",
         "X_NOMEM",
@@ -59,8 +72,8 @@ fn keywords(mode: Mode) -> &'static [&'static str]
     match mode {
         Mode::Run => &[
             "process", "thread", "mutex", "mutexes", "cond", "call", "begin", "step", "kill",
-            "killall", "renew", "reinit", "remake", "leave", "decline", "recount", "spare",
-            "resleep", "repeat", "go", "locks",
+            "killall", "renew", "reinit", "remake", "leave", "expire", "decline", "recount",
+            "spare", "resleep", "repeat", "go", "locks",
         ],
         Mode::Threads => &[
             "process", "thread", "mutex", "mutexes", "cond", "call", "phase", "die",
@@ -86,7 +99,7 @@ pub fn known_words(next: Next) -> &'static [&'static str]
         Next::Head => &["trace"],
         Next::Event => &["end"],
         Next::Deed => deeds(),
-        Next::Call => call_words(),
+        Next::Call(mode) => call_words(mode),
         Next::Operation | Next::CallReply => told_words(),
         Next::Reply => reply_words(),
         _ => &[],

@@ -3,7 +3,7 @@
 ghost use Rattle.std.specs.Prelude.{◌≡◌, ◌<◌};
 ghost use Rattle.std.specs.List.{list_all};
 ghost use Rattle.script.specs.Forms.{is_name, is_name_byte, is_stem};
-ghost use Rattle.grammar.specs.Nexts.{deed, event, fitting, is_call, is_lettered, is_reply, is_scripted};
+ghost use Rattle.grammar.specs.Nexts.{deed, event, fitting, is_call, is_lettered, is_made, is_reply, is_scripted};
 ghost use Rattle.grammar.specs.Nexts.{keyword, mode_of_word, of_run, of_threads, operation, shared};
 
 use lines::is_number_word;
@@ -36,9 +36,9 @@ pub enum Next {
     /// A number, the last word.
     Number,
     /// A name, and then a call.
-    NameCall,
+    NameCall(Mode),
     /// A call's word, and then a name.
-    Call,
+    Call(Mode),
 
     /// The first word of a trace.
     Head,
@@ -135,6 +135,20 @@ pub fn is_scripted(word: &str) -> bool
     }
 }
 
+/// Whether the word is that of a call that scripts of this mode make: those with a time limit are for the machine.
+fn is_made(mode: Mode, word: &str) -> bool
+    ensures { result ≡ is_made mode word.now }
+{
+    match word.parse::<Operation>() {
+        Ok(Operation::Death) | Ok(Operation::Reinit) | Err(_) => false,
+        Ok(Operation::TimedLock) => match mode {
+            Mode::Run => true,
+            Mode::Threads => false,
+        },
+        Ok(_) => true,
+    }
+}
+
 /// Whether the word is that of a reply.
 fn is_reply(word: &str) -> bool
     ensures { result ≡ is_reply word.now }
@@ -143,8 +157,8 @@ fn is_reply(word: &str) -> bool
 }
 
 /// What follows the word of a line that scripts of both modes have.
-fn shared(word: &str) -> Option<Next>
-    ensures { result ≡ shared word.now }
+fn shared(mode: Mode, word: &str) -> Option<Next>
+    ensures { result ≡ shared mode word.now }
 {
     match word {
         "process" => Some(Next::NameNumber),
@@ -152,7 +166,7 @@ fn shared(word: &str) -> Option<Next>
         "mutex" => Some(Next::Name),
         "mutexes" => Some(Next::StemNumber),
         "cond" => Some(Next::NameNameNumber),
-        "call" => Some(Next::NameCall),
+        "call" => Some(Next::NameCall(mode)),
         _ => None,
     }
 }
@@ -162,11 +176,11 @@ fn of_run(word: &str) -> Option<Next>
     ensures { result ≡ of_run word.now }
 {
     match word {
-        "begin" => Some(Next::NameCall),
+        "begin" => Some(Next::NameCall(Mode::Run)),
         "step" => Some(Next::NameNumber),
         "kill" | "killall" | "renew" => Some(Next::Name),
         "reinit" | "remake" => Some(Next::NameName),
-        "leave" | "decline" | "go" => Some(Next::Name),
+        "leave" | "expire" | "decline" | "go" => Some(Next::Name),
         "recount" | "spare" => Some(Next::Name),
         "resleep" | "repeat" => Some(Next::Name),
         "locks" => Some(Next::NameNameNumber),
@@ -189,7 +203,7 @@ fn of_threads(word: &str) -> Option<Next>
 fn keyword(mode: Mode, word: &str) -> Option<Next>
     ensures { result ≡ keyword mode word.now }
 {
-    match shared(word) {
+    match shared(mode, word) {
         Some(next) => Some(next),
         None => match mode {
             Mode::Run => of_run(word),
@@ -224,6 +238,7 @@ fn operation(word: &str) -> Option<Next>
     match word.parse::<Operation>() {
         Ok(Operation::Lock) => Some(Next::Mutex),
         Ok(Operation::TryLock) => Some(Next::Mutex),
+        Ok(Operation::TimedLock) => Some(Next::Mutex),
         Ok(Operation::Unlock) => Some(Next::Mutex),
         Ok(Operation::Consistent) => Some(Next::Mutex),
         Ok(Operation::Reinit) => Some(Next::Mutex),
@@ -270,8 +285,8 @@ impl Next {
             Next::NameName => fitting(is_name(word), Next::Name),
             Next::StemNumber => fitting(is_stem(word), Next::Number),
             Next::Number => fitting(is_number_word(word), Next::End),
-            Next::NameCall => fitting(is_name(word), Next::Call),
-            Next::Call => fitting(is_scripted(word), Next::Name),
+            Next::NameCall(mode) => fitting(is_name(word), Next::Call(mode)),
+            Next::Call(mode) => fitting(is_made(mode, word), Next::Name),
             Next::Head => fitting(word == "trace", Next::ThreeNumbers),
             Next::ThreeNumbers => fitting(is_number_word(word), Next::TwoNumbers),
             Next::TwoNumbers => fitting(is_number_word(word), Next::Number),

@@ -17,7 +17,7 @@ struct Case {
     points: Option<usize>,
 }
 
-static CASES: [Case; 9] = [
+static CASES: [Case; 11] = [
     Case {
         name: "a lock with its point",
         history: "history 1 1 0\n1 begin t1 lock m0\n2 return t1 OK\nend 2\n",
@@ -65,6 +65,20 @@ static CASES: [Case; 9] = [
         history: "history 1 1 0\n1 kill t1\n2 doom t1\nend 2\n",
         trace: "trace 1 1 0\n1 kill t1\nend 1\n",
         dooms: &[(1, 1)],
+        points: None,
+    },
+    Case {
+        name: "a time limit of a mutex that was another's",
+        history: "history 2 1 0\n1 begin t1 lock m0\n2 return t1 OK\n3 begin t2 timedlock m0\n4 begin t1 unlock m0\n5 return t2 ETIMEDOUT\nend 5\n",
+        trace: "trace 2 1 0\n1 begin t1 lock m0\n2 point t1 m0 lock OK\n3 return t1 OK\n4 begin t2 timedlock m0\n5 begin t1 unlock m0\n6 point t1 m0 unlock OK\n7 point t2 m0 timedlock ETIMEDOUT\n8 return t2 ETIMEDOUT\nend 8\n",
+        dooms: &[],
+        points: Some(3),
+    },
+    Case {
+        name: "a time limit of a mutex that nobody owned since",
+        history: "history 2 1 0\n1 begin t1 lock m0\n2 return t1 OK\n3 begin t1 unlock m0\n4 begin t2 timedlock m0\n5 return t2 ETIMEDOUT\nend 5\n",
+        trace: "trace 2 1 0\n1 begin t1 lock m0\n2 point t1 m0 lock OK\n3 return t1 OK\n4 begin t1 unlock m0\n5 point t1 m0 unlock OK\n6 begin t2 timedlock m0\n7 point t2 m0 timedlock ETIMEDOUT\n8 return t2 ETIMEDOUT\nend 8\n",
+        dooms: &[],
         points: None,
     },
     Case {

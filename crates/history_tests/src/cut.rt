@@ -135,12 +135,12 @@ impl Draft {
         self.point(5, Operation::TryLock, 4, Reply::OK)
     }
 
-    /// Thread 6 is killed owning mutex 5, and 7 is doomed, and was told that 4 is busy.
+    /// Thread 6 is killed owning mutex 5, and 7 is doomed, and was told that its time limit came as it waited for 4.
     fn leave_dead(&mut self) -> Option<()> {
         self.call(6, Operation::Lock, 5, Reply::OK)?;
         self.kill(6)?;
-        self.begin(7, Operation::TryLock, 4)?;
-        self.point(7, Operation::TryLock, 4, Reply::EBUSY)?;
+        self.begin(7, Operation::TimedLock, 4)?;
+        self.point(7, Operation::TimedLock, 4, Reply::ETIMEDOUT)?;
         self.doom(7)
     }
 

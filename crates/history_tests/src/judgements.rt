@@ -24,7 +24,7 @@ struct Case {
     found: Found,
 }
 
-static CASES: [Case; 14] = [
+static CASES: [Case; 21] = [
     Case {
         text: "history 3 2 1\nend 0\n",
         found: Found::Legal(0),
@@ -105,6 +105,60 @@ static CASES: [Case; 14] = [
                 begin: 6,
             },
         ),
+    },
+    // nobody has owned the mutex, nobody owned it in the call, or its own thread did
+    Case {
+        text: "history 3 2 1\n1 begin t1 timedlock m0\n2 return t1 ETIMEDOUT\nend 2\n",
+        found: Found::Illegal(
+            3,
+            Refusal::NoOrder {
+                operation: Operation::TimedLock,
+                mutex: 0,
+                reply: Reply::ETIMEDOUT,
+                begin: 1,
+            },
+        ),
+    },
+    Case {
+        text: "history 3 2 1\n1 begin t2 lock m0\n2 return t2 OK\n3 begin t2 unlock m0\n4 return t2 OK\n5 begin t1 timedlock m0\n6 return t1 ETIMEDOUT\nend 6\n",
+        found: Found::Illegal(
+            7,
+            Refusal::NoOrder {
+                operation: Operation::TimedLock,
+                mutex: 0,
+                reply: Reply::ETIMEDOUT,
+                begin: 5,
+            },
+        ),
+    },
+    Case {
+        text: "history 3 2 1\n1 begin t1 timedlock m0\n2 return t1 OK\n3 begin t1 timedlock m0\n4 return t1 ETIMEDOUT\nend 4\n",
+        found: Found::Illegal(
+            5,
+            Refusal::NoOrder {
+                operation: Operation::TimedLock,
+                mutex: 0,
+                reply: Reply::ETIMEDOUT,
+                begin: 3,
+            },
+        ),
+    },
+    Case {
+        text: "history 3 2 1\n1 begin t1 timedlock m0\n2 return t1 OK\n3 begin t1 timedlock m0\n4 return t1 EDEADLK\nend 4\n",
+        found: Found::Legal(2),
+    },
+    // another thread owned it, at first, or for a while, or perhaps before it was killed
+    Case {
+        text: "history 3 2 1\n1 begin t2 lock m0\n2 return t2 OK\n3 begin t1 timedlock m0\n4 begin t2 unlock m0\n5 return t2 OK\n6 return t1 ETIMEDOUT\nend 6\n",
+        found: Found::Legal(3),
+    },
+    Case {
+        text: "history 3 2 1\n1 begin t1 timedlock m0\n2 begin t2 timedlock m0\n3 return t2 OK\n4 begin t2 unlock m0\n5 return t2 OK\n6 begin t3 lock m0\n7 return t1 ETIMEDOUT\n8 return t3 OK\nend 8\n",
+        found: Found::Legal(4),
+    },
+    Case {
+        text: "history 3 2 1\n1 begin t2 lock m0\n2 begin t1 timedlock m0\n3 kill t2\n4 return t1 ETIMEDOUT\nend 4\n",
+        found: Found::Legal(2),
     },
     Case {
         text: "history 3 2 1\n1 begin t1 lock m0\n2 begin t1 lock m1\nend 2\n",

@@ -6,6 +6,7 @@ pub mod Runs
 mod Sleeping
 mod Requeues
 mod Trims
+mod Expiring
 mod Leaving
 mod Renewing
 mod Reiniting

@@ -17,7 +17,7 @@ use Rattle.posixmutex.specs.declared.point.Operation.{Operation}
 use Rattle.mutex.specs.declared.phase.Phase.{Phase}
 use Rattle.mutex.specs.declared.phase.Phase.TheVariants.{Announcing, AtCell, Linking, Unlinking, Clearing, Ended}
 use Rattle.mutex.specs.Standings.{Whole}
-use Rattle.mutex.specs.Whole.{whole_access, whole_led, IsUnderWay, PhaseKnows}
+use Rattle.mutex.specs.Whole.{may_expire, whole_access, whole_led, IsUnderWay, PhaseKnows}
 use Rattle.condvar.specs.declared.phase.CondPhase.{CondPhase}
 use Rattle.condvar.specs.declared.phase.CondPhase.TheVariants as cond
 use Rattle.condvar.specs.Standings.{CondWhole}
@@ -27,12 +27,12 @@ use Rattle.condvar.specs.declared.op.Op.{Op}
 use Rattle.condvar.specs.declared.op.Op.TheVariants.{OnMutex, OnCondition}
 use Rattle.condvar.specs.Ops.{mutex_of, is_in}
 use Rattle.protocol.specs.declared.event.Event.{Event}
-use Rattle.protocol.specs.declared.event.Event.TheVariants.{Begin, Step, Kill, Leave, Decline, Renew, Reinit, Remake, Recount, Spare, Resleep, Repeat}
+use Rattle.protocol.specs.declared.event.Event.TheVariants.{Begin, Step, Kill, Leave, Expire, Decline, Renew, Reinit, Remake, Recount, Spare, Resleep, Repeat}
 use Rattle.protocol.specs.declared.thread.Thread.{Thread}
 use Rattle.protocol.specs.declared.thread.Stage.{Stage}
 use Rattle.protocol.specs.declared.thread.Stage.TheVariants.{Idle, Calling, AtCondition, Dying, Reaped}
 use Rattle.protocol.specs.declared.note.Note.{Note}
-use Rattle.protocol.specs.Machine.{State, After, put, idle, start, is_valid, has_thread, may_begin, may_reinit, may_remake, waiters_of, first_stage, begun, nothing, is_alive, is_gone, killed, renewed, reinited, departed, declined, spared, is_asleep, is_trim, sleeps, led, went, stepped, answer_of, happens, run, notes}
+use Rattle.protocol.specs.Machine.{State, After, put, idle, start, is_valid, has_thread, may_begin, may_reinit, may_remake, waiters_of, first_stage, begun, nothing, is_alive, is_gone, killed, renewed, reinited, departed, declined, expired, is_timed, lapsed, spared, is_asleep, is_trim, sleeps, led, went, stepped, answer_of, happens, run, notes}
 use Rattle.protocol.specs.Machine.{Led, led_at, another_answers, is_mark, may_recount, recounted, repeated, repeating, resleeping, reslept, sparing, stands_in, wakes_next, wakes_one}
 use Rattle.stepprograms.specs.declared.access.Answer.TheVariants.{Count}
 use Rattle.condvar.specs.Calls.{condition_of}
@@ -160,6 +160,16 @@ stays s (Leave t) = go (has_thread s t && is_asleep s t)
     go : (b : Bool) → is_nothing (if b then departed s t else nothing s).note ≡ true → (if b then departed s t else nothing s).state ≡ s
     go true h = absurd cc
     go false h = refl
+stays s (Expire t) = go (has_thread s t) (s.threads t).stage
+  where
+    lapses : (o : Op) (p : Whole) (a : Bool) → is_nothing (if a then lapsed s t (s.threads t).held o p else nothing s).note ≡ true → (if a then lapsed s t (s.threads t).held o p else nothing s).state ≡ s
+    lapses o p true h = absurd cc
+    lapses o p false h = refl
+
+    go : (b : Bool) (g : Stage) → is_nothing (if b then expired s t (s.threads t).held g else nothing s).note ≡ true → (if b then expired s t (s.threads t).held g else nothing s).state ≡ s
+    go true (Calling o p) h = lapses o p (is_timed o && may_expire p.phase && sleeps s t (Calling o p)) h
+    go true g h = refl
+    go false g h = refl
 stays s (Decline t) = go (has_thread s t) (s.threads t).stage
   where
     trims : (o : Op) (p : Whole) (a : Bool) → is_nothing (if a then spared s t (s.threads t).held (mutex_of s.layout o) (led o p (whole_led p (Trimmed false))) else nothing s).note ≡ true

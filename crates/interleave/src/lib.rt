@@ -31,6 +31,7 @@ mod accesses;
 mod calls;
 mod copies;
 mod deaths;
+mod expiries;
 mod leaves;
 mod machine;
 mod ops;

@@ -14,6 +14,7 @@ ghost use Rattle.interleave.specs.Steps.{MayStep, SleepsInItsCall};
 use crate::accesses::{Performed, perform};
 use crate::calls::InCall;
 use crate::deaths::{kill, walk_on};
+use crate::expiries::expire;
 use crate::leaves::{decline, leave};
 use crate::ops::begun;
 use crate::recounts::recount;
@@ -344,6 +345,7 @@ pub(crate) fn apply(
         Event::Step(thread) => step(layout, memory, kernel, threads, thread),
         Event::Kill(thread) => kill(layout, kernel, threads, thread),
         Event::Leave(thread) => leave(layout, kernel, thread),
+        Event::Expire(thread) => expire(layout, kernel, threads, thread),
         Event::Decline(thread) => decline(layout, kernel, threads, thread),
         Event::Renew(thread) => renew(layout, memory, threads, thread),
         Event::Reinit(thread, mutex) => reinit(layout, memory, kernel, threads, thread, mutex),

@@ -5,11 +5,16 @@ use std::alloc::Global;
 use text_fixtures::{Answered, words};
 
 /// A history, and what is said of it where the calls are asked for that still wait and shouldn't.
-static CASES: [(&[u8], &str); 8] = [
+static CASES: [(&[u8], &str); 9] = [
     // t1 left the mutex, and t3 was never woken
     (
         b"history 3 1 0\n1 begin t1 lock m0\n2 return t1 OK\n3 begin t3 lock m0\n4 begin t1 unlock m0\n5 return t1 OK\nend 5\n",
         "legal 2 points\nstill waits: t3 for m0, which nobody owns since line 5\n  | 3 begin t3 lock m0\n  = see line 5:\n  | 4 begin t1 unlock m0\n",
+    ),
+    // so it is with a time limit
+    (
+        b"history 3 1 0\n1 begin t1 lock m0\n2 return t1 OK\n3 begin t3 timedlock m0\n4 begin t1 unlock m0\n5 return t1 OK\nend 5\n",
+        "legal 2 points\nstill waits: t3 for m0, which nobody owns since line 5\n  | 3 begin t3 timedlock m0\n  = see line 5:\n  | 4 begin t1 unlock m0\n",
     ),
     // one call for a mutex that was never owned, one for a mutex that is owned
     (

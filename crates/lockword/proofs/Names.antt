@@ -4,7 +4,7 @@ use Rattle.std.specs.Prelude.{cond, find}
 use Rattle.std.specs.Str.{bytes_eq}
 use Rattle.std.proofs.lemmas.Slice.Eq.{bytes_eq-Decides}
 use Rattle.lockword.specs.declared.reply.Reply.{Reply}
-use Rattle.lockword.specs.declared.reply.Reply.TheVariants.{OK, EPERM, ESRCH, EAGAIN, EFAULT, EBUSY, EINVAL, EDEADLK, EOWNERDEAD, ENOTRECOVERABLE, XNOMEM, XRACED, XHELD, XFULL, XSTATE}
+use Rattle.lockword.specs.declared.reply.Reply.TheVariants.{OK, EPERM, ESRCH, EAGAIN, EFAULT, EBUSY, EINVAL, EDEADLK, ETIMEDOUT, EOWNERDEAD, ENOTRECOVERABLE, XNOMEM, XRACED, XHELD, XFULL, XSTATE}
 use Rattle.lockword.specs.Replies.{RepliesAreReadBack, all_replies, reply_of, reply_word}
 
 -- what is found passes the test
@@ -30,6 +30,7 @@ back EFAULT = refl
 back EBUSY = refl
 back EINVAL = refl
 back EDEADLK = refl
+back ETIMEDOUT = refl
 back EOWNERDEAD = refl
 back ENOTRECOVERABLE = refl
 back XNOMEM = refl

@@ -7,8 +7,8 @@ use Rattle.std.specs.Prelude.{ℕ, ◌≡◌, List, [], ◌∷◌, Option, Some,
 use Rattle.std.specs.Str.{bytes_eq}
 use Rattle.lockword.specs.declared.reply.Reply.{Reply}
 use Rattle.lockword.specs.declared.reply.Reply.TheVariants.{OK, EPERM, ESRCH, EAGAIN, EFAULT, EBUSY}
-use Rattle.lockword.specs.declared.reply.Reply.TheVariants.{EINVAL, EDEADLK, EOWNERDEAD, ENOTRECOVERABLE}
-use Rattle.lockword.specs.declared.reply.Reply.TheVariants.{XNOMEM, XRACED, XHELD, XFULL, XSTATE}
+use Rattle.lockword.specs.declared.reply.Reply.TheVariants.{EINVAL, EDEADLK, ETIMEDOUT, EOWNERDEAD}
+use Rattle.lockword.specs.declared.reply.Reply.TheVariants.{ENOTRECOVERABLE, XNOMEM, XRACED, XHELD, XFULL, XSTATE}
 
 abbrev pub number_of : Reply → ℕ
 number_of OK = 0
@@ -19,6 +19,7 @@ number_of EFAULT = 14
 number_of EBUSY = 16
 number_of EINVAL = 22
 number_of EDEADLK = 35
+number_of ETIMEDOUT = 110
 number_of EOWNERDEAD = 130
 number_of ENOTRECOVERABLE = 131
 number_of XNOMEM = 1000
@@ -36,6 +37,7 @@ reply_word EFAULT = codes "EFAULT"
 reply_word EBUSY = codes "EBUSY"
 reply_word EINVAL = codes "EINVAL"
 reply_word EDEADLK = codes "EDEADLK"
+reply_word ETIMEDOUT = codes "ETIMEDOUT"
 reply_word EOWNERDEAD = codes "EOWNERDEAD"
 reply_word ENOTRECOVERABLE = codes "ENOTRECOVERABLE"
 reply_word XNOMEM = codes "X_NOMEM"
@@ -46,8 +48,8 @@ reply_word XSTATE = codes "X_STATE"
 
 -- every reply
 abbrev pub all_replies : List Reply
-all_replies = OK ∷ EPERM ∷ ESRCH ∷ EAGAIN ∷ EFAULT ∷ EBUSY ∷ EINVAL ∷ EDEADLK ∷ EOWNERDEAD ∷ ENOTRECOVERABLE ∷ XNOMEM
-    ∷ XRACED ∷ XHELD ∷ XFULL ∷ XSTATE ∷ []
+all_replies = OK ∷ EPERM ∷ ESRCH ∷ EAGAIN ∷ EFAULT ∷ EBUSY ∷ EINVAL ∷ EDEADLK ∷ ETIMEDOUT ∷ EOWNERDEAD ∷ ENOTRECOVERABLE
+    ∷ XNOMEM ∷ XRACED ∷ XHELD ∷ XFULL ∷ XSTATE ∷ []
 
 -- the reply that has this name
 unfoldable pub reply_of : List ℕ → Option Reply

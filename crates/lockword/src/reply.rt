@@ -19,6 +19,8 @@ pub enum Reply {
     EBUSY,
     EINVAL,
     EDEADLK,
+    /// The time limit of a timed call came before the mutex could be taken.
+    ETIMEDOUT,
     EOWNERDEAD,
     ENOTRECOVERABLE,
     /// No memory was left.
@@ -47,6 +49,7 @@ impl Reply {
             Reply::EBUSY => 16,
             Reply::EINVAL => 22,
             Reply::EDEADLK => 35,
+            Reply::ETIMEDOUT => 110,
             Reply::EOWNERDEAD => 130,
             Reply::ENOTRECOVERABLE => 131,
             Reply::XNOMEM => 1000,
@@ -70,6 +73,7 @@ impl Reply {
             Reply::EBUSY => "EBUSY",
             Reply::EINVAL => "EINVAL",
             Reply::EDEADLK => "EDEADLK",
+            Reply::ETIMEDOUT => "ETIMEDOUT",
             Reply::EOWNERDEAD => "EOWNERDEAD",
             Reply::ENOTRECOVERABLE => "ENOTRECOVERABLE",
             Reply::XNOMEM => "X_NOMEM",
@@ -87,7 +91,7 @@ impl Reply {
 pub struct ParseReplyError;
 
 /// Every reply, in the order of their numbers.
-fn replies() -> array::IntoIter<Reply, 15>
+fn replies() -> array::IntoIter<Reply, 16>
     ensures { array_into_iter_items result ≡ all_replies }
 {
     [
@@ -99,6 +103,7 @@ fn replies() -> array::IntoIter<Reply, 15>
         Reply::EBUSY,
         Reply::EINVAL,
         Reply::EDEADLK,
+        Reply::ETIMEDOUT,
         Reply::EOWNERDEAD,
         Reply::ENOTRECOVERABLE,
         Reply::XNOMEM,

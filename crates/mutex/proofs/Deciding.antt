@@ -207,6 +207,7 @@ are_permitted (a ∷ answers) p c h s = (
 
 begins_stands : (t : ℕ) (c : Call) → (l : Layout') → Stands t (begins l t c).phase None
 begins_stands t (call.Lock m) l = tt
+begins_stands t (call.TimedLock m) l = tt
 begins_stands t (call.TryLock m) l = tt
 begins_stands t (call.Unlock m) l = tt
 begins_stands t (call.Consistent m) l = tt

@@ -13,3 +13,4 @@ pub mod Steps
 pub mod Alone
 pub mod Once
 pub mod Deciding
+pub mod Expiries

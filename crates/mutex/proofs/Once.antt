@@ -297,14 +297,15 @@ phase_so p (Clearing x) a ds h = λ m. absurd (m refl)
 phase_so p (Ended x) a ds h = quiet (Ended x) ds h
 
 -- all answers
-run_so : (answers : List Answer) (p : Whole) (ds : List Reply) → DecidedSo p.phase ds → DecidedSo (whole_reached p answers).phase (ds ++ decided_by p answers)
+pub run_so : (answers : List Answer) (p : Whole) (ds : List Reply) → DecidedSo p.phase ds → DecidedSo (whole_reached p answers).phase (ds ++ decided_by p answers)
 run_so [] p ds h = quiet p.phase ds h
 run_so (a ∷ answers) p ds h =
     subst (DecidedSo (whole_reached p (a ∷ answers)).phase) (assoc ds (replies (whole_led p a).point) (decided_by (whole_moved p (whole_led p a)) answers))
     (run_so answers (whole_moved p (whole_led p a)) (ds ++ replies (whole_led p a).point) (phase_so p p.phase a ds h))
 
-begins_so : (l : Layout') (t : ℕ) (c : Call) → DecidedSo (begins l t c).phase []
+pub begins_so : (l : Layout') (t : ℕ) (c : Call) → DecidedSo (begins l t c).phase []
 begins_so l t (call.Lock m) = (tt, refl)
+begins_so l t (call.TimedLock m) = (tt, refl)
 begins_so l t (call.TryLock m) = (tt, refl)
 begins_so l t (call.Unlock m) = (tt, refl)
 begins_so l t (call.Consistent m) = (tt, refl)

@@ -29,7 +29,7 @@ use Rattle.mutex.specs.declared.phase.Phase.TheVariants.{Announcing, AtCell, Lin
 use Rattle.mutex.specs.Standings.{Whole}
 use Rattle.mutex.specs.declared.call.Call.{Call}
 use Rattle.mutex.specs.declared.call.Call.TheVariants as call
-use Rattle.mutex.specs.Calls.{mutex_of, operation_of}
+use Rattle.mutex.specs.Calls.{mutex_of, acts_as}
 use Rattle.mutex.specs.Programs.{resume_of}
 use Rattle.stepprograms.specs.declared.access.Answer.{Answer}
 use Rattle.mutex.proofs.AtTheCell.{by_row}
@@ -202,8 +202,9 @@ link_is l h e x y = λ i. record { head = sym x i; entry = sym y i; row = l.row 
 unlink_is : (u : UnlinkStanding) (h e : ℕ) → u.head ≡ h → u.entry ≡ e → record { head = h; entry = e; row = u.row } ≡ u
 unlink_is u h e x y = λ i. record { head = sym x i; entry = sym y i; row = u.row }
 
-begins_so : (l : Layout') (t : ℕ) (owns : ℕ → Bool) (c : Call) (w : ℕ → ℕ) → IsThere l t (mutex_of c) → HasList l t owns w → KeepsList l t owns (mutex_of c) (operation_of c) (first_phase c) w
+begins_so : (l : Layout') (t : ℕ) (owns : ℕ → Bool) (c : Call) (w : ℕ → ℕ) → IsThere l t (mutex_of c) → HasList l t owns w → KeepsList l t owns (mutex_of c) (acts_as c) (first_phase c) w
 begins_so l t owns (call.Lock m) w is h = record { knows = (tt, tt); stands = (tt, tt, refl); entries = h.entries; owned = h.owned; chain = h.chain; pending = h.pending }
+begins_so l t owns (call.TimedLock m) w is h = record { knows = (tt, tt); stands = (tt, tt, refl); entries = h.entries; owned = h.owned; chain = h.chain; pending = h.pending }
 begins_so l t owns (call.TryLock m) w is h = record { knows = (tt, tt); stands = (tt, tt, refl); entries = h.entries; owned = h.owned; chain = h.chain; pending = h.pending }
 begins_so l t owns (call.Unlock m) w is h = record { knows = (tt, tt); stands = (tt, refl); entries = h.entries; owned = h.owned; chain = h.chain; pending = h.pending }
 begins_so l t owns (call.Consistent m) w is h = record { knows = (tt, tt); stands = (tt, refl); entries = h.entries; owned = h.owned; chain = h.chain; pending = h.pending }

@@ -58,6 +58,7 @@ reached_quiet p (a ∷ answers) quiet = reached_quiet (whole_moved p (whole_led 
 
 begins_quiet : (c : Call) → IsQuiet (first_phase c)
 begins_quiet (call.Lock m) = tt
+begins_quiet (call.TimedLock m) = tt
 begins_quiet (call.TryLock m) = tt
 begins_quiet (call.Unlock m) = tt
 begins_quiet (call.Consistent m) = tt

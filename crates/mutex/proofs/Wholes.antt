@@ -84,6 +84,7 @@ goes_on t (row.Ended x) a pos k = (tt, tt)
 -- a call begins at a row of its operation
 begins_whole : (l : Layout') (t : ℕ) (c : Call) → 1 ≤ t → IsWhole (begins l t c)
 begins_whole l t (call.Lock m) pos = (pos, (tt, refl))
+begins_whole l t (call.TimedLock m) pos = (pos, (tt, refl))
 begins_whole l t (call.TryLock m) pos = (pos, (tt, refl))
 begins_whole l t (call.Unlock m) pos = (pos, (tt, refl))
 begins_whole l t (call.Consistent m) pos = (pos, (tt, refl))
@@ -409,6 +410,7 @@ after (a ∷ answers) p n h is = let further = after answers (whole_moved p (who
 
 begins_met : (l : Layout') (t : ℕ) (c : Call) → PhaseMet (begins l t c).phase 0
 begins_met l t (call.Lock m) = tt
+begins_met l t (call.TimedLock m) = tt
 begins_met l t (call.TryLock m) = tt
 begins_met l t (call.Unlock m) = tt
 begins_met l t (call.Consistent m) = tt

@@ -16,3 +16,4 @@ pub mod WholeLists
 pub mod Steps
 pub mod Alone
 pub mod Decisions
+pub mod Expiries

@@ -27,6 +27,7 @@ use Rattle.mutex.specs.Consistent.{consistent_access, consistent_resume}
 
 abbrev pub first_row : Call → Row
 first_row (call.Lock m) = Lock lock.Load
+first_row (call.TimedLock m) = Lock lock.Load
 first_row (call.TryLock m) = TryLock try.Load
 first_row (call.Unlock m) = Unlock unlock.Load
 first_row (call.Consistent m) = Consistent consistent.Load

@@ -10,9 +10,9 @@
 --
 -- A lock or trylock begins by Announcing. An unlock announces when it has seen that the mutex is its thread's; a
 -- declaration that it is consistent never does.
-use Rattle.std.specs.Prelude.{ℕ, ◌&&◌, Bool, nat_le, Option, Some, None, Result, Ok, Err, if◌then◌else◌}
+use Rattle.std.specs.Prelude.{ℕ, ◌&&◌, Bool, true, false, nat_le, Option, Some, None, Result, Ok, Err, if◌then◌else◌}
 use Rattle.lockword.specs.declared.reply.Reply.{Reply}
-use Rattle.lockword.specs.declared.reply.Reply.TheVariants.{OK, EFAULT, EOWNERDEAD, XHELD}
+use Rattle.lockword.specs.declared.reply.Reply.TheVariants.{OK, EFAULT, ETIMEDOUT, EOWNERDEAD, XHELD}
 use Rattle.stepprograms.specs.declared.access.Access.{Access}
 use Rattle.stepprograms.specs.declared.access.Access.TheVariants as access
 use Rattle.stepprograms.specs.declared.access.Answer.{Answer}
@@ -42,7 +42,7 @@ use Rattle.mutex.specs.declared.unlock.UnlockRow.TheVariants.{Release}
 use Rattle.mutex.specs.declared.phase.Phase.{Phase}
 use Rattle.mutex.specs.declared.phase.Phase.TheVariants.{Announcing, AtCell, Linking, Unlinking, Clearing, Ended}
 use Rattle.mutex.specs.declared.phase.Onward.{Onward}
-use Rattle.mutex.specs.Calls.{mutex_of, operation_of}
+use Rattle.mutex.specs.Calls.{acts_as, mutex_of, operation_of}
 use Rattle.mutex.specs.Rows.{Knows, IsGoing}
 use Rattle.mutex.specs.Standings.{Whole}
 use Rattle.mutex.specs.Programs.{first_row, row_access, resume_of}
@@ -73,6 +73,7 @@ PhaseKnows f = Unit {0}
 -- a lock or trylock makes its entry pending first
 abbrev pub first_phase : Call → Phase
 first_phase (call.Lock m) = Announcing (first_row (call.Lock m))
+first_phase (call.TimedLock m) = Announcing (first_row (call.TimedLock m))
 first_phase (call.TryLock m) = Announcing (first_row (call.TryLock m))
 first_phase c = AtCell (first_row c)
 
@@ -82,7 +83,7 @@ whole_at t op h e cell f = record { thread = t; operation = op; head = h; entry 
 
 -- where it begins
 abbrev pub begun_at : ℕ → ℕ → ℕ → ℕ → Call → Whole
-begun_at t h e cell c = whole_at t (operation_of c) h e cell (first_phase c)
+begun_at t h e cell c = whole_at t (acts_as c) h e cell (first_phase c)
 
 -- it speaks of its head, its entry and its cell by their addresses in the thread's process
 abbrev pub begins : Layout' → ℕ → Call → Whole
@@ -179,6 +180,21 @@ whole_led p a = phase_led p p.phase a
 
 abbrev pub whole_moved : Whole → Onward → Whole
 whole_moved p o = record p { phase = o.phase }
+
+-- ---- a lock whose time limit comes while it sleeps
+
+-- a lock that sleeps: it stands at its sleep, or where it goes on when it is woken
+abbrev pub may_expire : Phase → Bool
+may_expire (AtCell (row.Lock lock.Load)) = true
+may_expire (AtCell (row.Lock (lock.Sleep seen))) = true
+may_expire f = false
+
+-- out of time: the mutex was never its own, and its entry, which is pending, is to be cleared
+abbrev pub timed_out : Whole → Whole
+timed_out p = record p { phase = Clearing ETIMEDOUT }
+
+abbrev pub expired : Whole → Option Whole
+expired p = if may_expire p.phase then Some (timed_out p) else None
 
 -- ---- how far an answer brought the call
 

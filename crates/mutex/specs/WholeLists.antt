@@ -28,7 +28,7 @@ use Rattle.mutex.specs.declared.row.Row.TheVariants as row
 use Rattle.mutex.specs.declared.unlock.UnlockRow.TheVariants as unlock
 use Rattle.mutex.specs.declared.phase.Phase.{Phase}
 use Rattle.mutex.specs.declared.phase.Phase.TheVariants.{Announcing, AtCell, Linking, Unlinking, Clearing, Ended}
-use Rattle.mutex.specs.Calls.{mutex_of, operation_of}
+use Rattle.mutex.specs.Calls.{acts_as, mutex_of}
 use Rattle.mutex.specs.Standings.{Whole}
 use Rattle.mutex.specs.declared.row.Led.{Led}
 use Rattle.mutex.specs.Programs.{row_operation, resume_of}
@@ -198,7 +198,7 @@ pub record Owns (m : ℕ) (op : Operation) (led : Led) (owns owns' : ℕ → Boo
 pub record WholeListsAreKept : Type 0 where
   -- a call begins with the list as it is between calls
   pub begins_so : (l : Layout') (t : ℕ) (owns : ℕ → Bool) (c : Call) (w : ℕ → ℕ) → IsThere l t (mutex_of c)
-      → HasList l t owns w → KeepsList l t owns (mutex_of c) (operation_of c) (first_phase c) w
+      → HasList l t owns w → KeepsList l t owns (mutex_of c) (acts_as c) (first_phase c) w
   -- an access of its thread's own words is at such a word, and leaves a list
   pub own_words : (l : Layout') (t : ℕ) (owns : ℕ → Bool) (m : ℕ) (p : Whole) (w : ℕ → ℕ) → IsThere l t m
       → IsCallOn l t m p → IsOwnAccess p.phase → KeepsList l t owns m p.operation p.phase w →

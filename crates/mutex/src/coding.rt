@@ -207,6 +207,7 @@ fn numbered(number: u16) -> Option<Reply>
         16 => Some(Reply::EBUSY),
         22 => Some(Reply::EINVAL),
         35 => Some(Reply::EDEADLK),
+        110 => Some(Reply::ETIMEDOUT),
         130 => Some(Reply::EOWNERDEAD),
         131 => Some(Reply::ENOTRECOVERABLE),
         1000 => Some(Reply::XNOMEM),

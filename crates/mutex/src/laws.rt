@@ -5,6 +5,7 @@ ghost use Rattle.mutex.specs.Wakes.{WakesAreRight};
 ghost use Rattle.mutex.specs.WholeLaws.{WholeCallsAreRight, WholeCallsWake, WholeUnlocksTrim};
 ghost use Rattle.mutex.specs.WholeLists.{WholeListsAreKept};
 ghost use Rattle.mutex.specs.Decisions.{WholeCallsAreDecided};
+ghost use Rattle.mutex.specs.Expiries.{ExpiriesAreRight};
 
 /// Whatever word an access of a call meets, it is a step of the mutex as POSIX sees it, and leaves what the call's next
 /// access needs.
@@ -72,4 +73,10 @@ pub fn whole_calls_are_decided()
 /// wherever the thread dies, the kernel finds in them all that it owns.
 pub fn whole_calls_keep_lists()
     ensures { WholeListsAreKept }
+{}
+
+/// A lock that is out of time has had no point, so it never owned the mutex; the one access that is left clears its
+/// entry, and it returns `ETIMEDOUT`. Its thread's list is as between calls.
+pub fn expiries_are_right()
+    ensures { ExpiriesAreRight }
 {}

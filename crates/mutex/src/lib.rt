@@ -46,9 +46,9 @@ pub use call::Call;
 pub use coding::CodedPhase;
 pub use consistent::ConsistentRow;
 pub use laws::{
-    gives_up_after_four, points_are_permitted, programs_are_right, raced_after_four,
-    unlocks_trim_after_waking_nobody, waiters_are_kept, wakes_are_right, whole_calls_are_decided,
-    whole_calls_are_right, whole_calls_keep_lists, whole_calls_wake,
+    expiries_are_right, gives_up_after_four, points_are_permitted, programs_are_right,
+    raced_after_four, unlocks_trim_after_waking_nobody, waiters_are_kept, wakes_are_right,
+    whole_calls_are_decided, whole_calls_are_right, whole_calls_keep_lists, whole_calls_wake,
 };
 pub use lock::LockRow;
 pub use phase::{Onward, Phase};

@@ -62,7 +62,7 @@ impl Program {
     ghost use Rattle.mutex.specs.declared.phase.Phase.TheVariants.{AtCell};
     ghost use Rattle.mutex.specs.Whole.{whole_started, whole_at, begun_at, retaking, whole_access};
     ghost use Rattle.mutex.specs.Whole.{whole_led, whole_moved, whole_point, whole_progress, announced};
-    ghost use Rattle.mutex.specs.Whole.{from_cell, after_cell, leaving, IsUnderWay, PhaseKnows};
+    ghost use Rattle.mutex.specs.Whole.{expired, from_cell, after_cell, leaving, IsUnderWay, PhaseKnows};
 
     /// A call of a thread that holds so many mutexes. It speaks of words by their addresses in the thread's process. A
     /// lock or trylock by a thread that holds 2,048 is refused with `XHELD` before any access.
@@ -92,7 +92,7 @@ impl Program {
     {
         Program {
             thread,
-            operation: call.operation(),
+            operation: call.acts_as(),
             head,
             entry,
             cell,
@@ -146,6 +146,22 @@ impl Program {
         ensures { result ≡ self.now.phase }
     {
         self.phase
+    }
+
+    /// A lock that sleeps, once its time limit has come: what is left is that it clears its entry and returns
+    /// `ETIMEDOUT`. `None` where it doesn't sleep. Whoever asks knows whether it has a time limit.
+    pub fn expired(&self) -> Option<Program>
+        ensures { result ≡ expired self.now }
+    {
+        match self.phase {
+            Phase::AtCell(Row::Lock(LockRow::Load | LockRow::Sleep { .. })) => Some(Program {
+                phase: Phase::Clearing {
+                    reply: Reply::ETIMEDOUT,
+                },
+                ..*self
+            }),
+            _ => None,
+        }
     }
 
     #[inline(always)]
@@ -332,7 +348,7 @@ fn from_unlink(mut unlink: Unlink, died: bool, answer: Answer) -> Onward
 fn is_refused(held: u16, call: Call) -> bool
     ensures { result ≡ (acquires (operation_of call) && nat_le held_limit held) }
 {
-    matches!(call, Call::Lock(_) | Call::TryLock(_)) && HELD_LIMIT <= held
+    matches!(call, Call::Lock(_) | Call::TimedLock(_) | Call::TryLock(_)) && HELD_LIMIT <= held
 }
 
 /// Where a call begins: a lock or trylock makes its entry pending first.
@@ -342,7 +358,7 @@ fn first_phase(call: Call) -> Phase
     ensures knows { PhaseKnows result }
 {
     match call {
-        Call::Lock(_) | Call::TryLock(_) => Phase::Announcing {
+        Call::Lock(_) | Call::TimedLock(_) | Call::TryLock(_) => Phase::Announcing {
             next: Row::first(call),
         },
         Call::Unlock(_) | Call::Consistent(_) => Phase::AtCell(Row::first(call)),

@@ -26,7 +26,7 @@ pub enum Row {
 }
 
 impl Row {
-    ghost use Rattle.mutex.specs.Calls.{operation_of};
+    ghost use Rattle.mutex.specs.Calls.{acts_as};
     ghost use Rattle.mutex.specs.Programs.{first_row, row_access, resume_of, row_operation};
     ghost use Rattle.mutex.specs.Rows.{IsGoing, Knows};
 
@@ -36,10 +36,10 @@ impl Row {
         ensures value { result ≡ first_row call }
         ensures knows { Knows result }
         ensures going { IsGoing result }
-        ensures operation { row_operation result ≡ operation_of call }
+        ensures operation { row_operation result ≡ acts_as call }
     {
         match call {
-            Call::Lock(_) => Row::Lock(LockRow::Load),
+            Call::Lock(_) | Call::TimedLock(_) => Row::Lock(LockRow::Load),
             Call::TryLock(_) => Row::TryLock(TryLockRow::Load),
             Call::Unlock(_) => Row::Unlock(UnlockRow::Load),
             Call::Consistent(_) => Row::Consistent(ConsistentRow::Load),

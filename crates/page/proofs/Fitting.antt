@@ -1,12 +1,13 @@
--- The lines that a page shows fit.
-use Rattle.std.proofs.Common.{◌≡◌, inl, inr, ℕ, ◌+◌, ◌-◌, ◌≤◌, List, [], ◌∷◌, ◌++◌, length, take, drop, refl, sym, ap, subst, ◌∙◌, append_assoc, arith, length-append, take-append-drop}
+-- The lines that a page shows fit, and none that fits is left out.
+use Rattle.std.proofs.Common.{◌≡◌, ⊎_elim, inl, inr, ℕ, ◌+◌, ◌-◌, ◌<◌, ◌≤◌, min, List, [], ◌∷◌, ◌++◌, length, take, drop, refl, sym, ap, subst, ◌∙◌, append_assoc, arith, length-append, take-append-drop}
 use Rattle.std.specs.Prelude.{Some, reverse, slice_get}
+use Rattle.std.proofs.lemmas.Bool.{cases_lt}
 use Rattle.std.proofs.lemmas.List.{length-reverse, length-take, reverse-append, reverse-reverse}
 use Rattle.facts.specs.declared.fact.Line.{Line}
 use Rattle.verdict.specs.declared.checking.Finding.TheVariants.{Legal, Illegal}
 use Rattle.verdict.specs.Verdicts.{AllFit, IsFirstMisfit}
 use Rattle.page.specs.Data.{shown_lines}
-use Rattle.page.specs.Judged.{MisfitsAreTold, ShownLinesFit}
+use Rattle.page.specs.Judged.{FittingLinesAreShown, MisfitsAreTold, ShownLinesFit}
 
 fit_behind : (n : ℕ) (newer earlier : List Line) → AllFit n (newer ++ earlier) → AllFit n earlier
 fit_behind n [] es fit = fit
@@ -43,6 +44,35 @@ pub shown_lines_fit : ShownLinesFit
 shown_lines_fit t (Legal points) found = fit_taken t.head.mutexes (shown_lines (Legal points) (length t.lines.items)) t.lines.items found.0.fits
 shown_lines_fit t (Illegal why) (inl found) = fit_before t.head.mutexes (shown_lines (Illegal why) (length t.lines.items)) why.line t.lines.items found.first (omega arith)
 shown_lines_fit t (Illegal why) (inr found) = fit_taken t.head.mutexes (shown_lines (Illegal why) (length t.lines.items)) t.lines.items found.short.fit
+
+-- ---- and none is left out
+
+-- a line up to which all fit stands before the first that doesn't
+before_misfit : (n k line : ℕ) (ls : List Line) → IsFirstMisfit n (reverse ls) line → k < length ls → AllFit n (reverse (take (k + 1) ls)) → k < line - 2
+before_misfit n k line ls first inside fit =
+    let same : first.newer ++ first.misfit ∷ first.earlier ≡ reverse (drop (k + 1) ls) ++ reverse (take (k + 1) ls) = sym first.all ∙ parted ls (k + 1) in
+    let here = first.here in
+    ⊎_elim (λ less. less)
+    (λ more.
+    let t = length-take (k + 1) ls in
+    let r = length-reverse (take (k + 1) ls) in
+    let end = shorter (first.newer) (first.misfit ∷ first.earlier) (reverse (drop (k + 1) ls)) (reverse (take (k + 1) ls)) same (omega (arith, here, t, r, inside, more)) in
+    let behind : AllFit n (first.misfit ∷ first.earlier) = fit_behind n end.more (first.misfit ∷ first.earlier) (subst (AllFit n) end.all fit) in
+    absurd (first.fails behind.0))
+    (cases_lt k (line - 2))
+
+shown_of_fitting : (count fitting k : ℕ) (ls : List Line) → count ≡ length ls → k < count → k < fitting → k < 100000 → k < length (take (min fitting 100000) ls)
+shown_of_fitting count fitting k ls all inside fits few = let t = length-take (min fitting 100000) ls in omega (arith, all, inside, fits, few, t)
+
+pub fitting_lines_are_shown : FittingLinesAreShown
+fitting_lines_are_shown t (Legal points) k found inside few fit = shown_of_fitting (length t.lines.items) (length t.lines.items) k t.lines.items refl inside inside few
+fitting_lines_are_shown t (Illegal why) k (inl found) inside few fit =
+    let early = before_misfit t.head.mutexes k why.line t.lines.items found.first inside fit in
+    shown_of_fitting (length t.lines.items) (min (length t.lines.items) (why.line - 2)) k t.lines.items refl inside (omega (arith, inside, early)) few
+fitting_lines_are_shown t (Illegal why) k (inr found) inside few fit =
+    let here = found.short.here in
+    let r = length-reverse t.lines.items in
+    shown_of_fitting (length t.lines.items) (min (length t.lines.items) (why.line - 2)) k t.lines.items refl inside (omega (arith, inside, here, r)) few
 
 -- ---- the one that doesn't
 

@@ -10,7 +10,7 @@ use mathlib.Core.Path.{fun_ext}
 use Rattle.lockword.specs.declared.reply.Reply.{Reply}
 use Rattle.posixmutex.specs.declared.object.Object.{Object}
 use Rattle.posixmutex.specs.declared.point.Operation.{Operation}
-use Rattle.posixmutex.specs.declared.point.Operation.TheVariants.{Unlock, Wait}
+use Rattle.posixmutex.specs.declared.point.Operation.TheVariants.{TimedLock, Unlock, Wait}
 use Rattle.posixmutex.specs.Objects.{fresh}
 use Rattle.facts.specs.declared.fact.Queue.{Queue}
 use Rattle.facts.specs.declared.fact.Queue.TheVariants.{Mutex}
@@ -48,8 +48,10 @@ point_next : (a : Operation) (made : Made) (b : Operation) (x : Reply) (p : Opti
 point_next Wait Nothing Wait x p h m = inl refl
 point_next Wait Nothing Unlock x p h m = (refl, ap (λ (y : Reply). Some (Unlock, y)) m)
 point_next Wait Nothing b x p h m = absurd cc
-point_next Wait Released b x p h m = subst (λ (r : Operation). IsPointOf Wait (pointed Wait r x) (Some (r, x))) (sym m) (inr (refl, refl))
+point_next Wait Released b x p h m = subst (λ (r : Operation). IsPointOf Wait (pointed Wait r x) (Some (r, x))) (sym m) (inr (inl refl, refl))
 point_next Wait (Decided y) b x p h m = absurd m
+point_next TimedLock Nothing b x p h (inl m) = inl (ap (λ (o : Operation). Some (o, x)) m)
+point_next TimedLock Nothing b x p h (inr m) = subst (λ (r : Operation). IsPointOf TimedLock (pointed TimedLock r x) (Some (r, x))) (sym m) (inr (inr refl, refl))
 point_next a Nothing b x p h m = inl (ap (λ (o : Operation). Some (o, x)) m)
 point_next a Released b x p h m = let e : a ≡ Wait = h.0 in absurd cc
 point_next a (Decided y) b x p h m = absurd m

@@ -5,4 +5,5 @@ mod Turns
 mod Lines
 mod Judged
 mod Fitting
+mod Flagging
 mod Quoting

@@ -11,7 +11,7 @@ use Rattle.std.proofs.lemmas.List.Sums.{AllPass-from_list_all, fold-append, list
 use Rattle.percent_encoding.specs.declared.ascii_set.TheConstants.{NON_ALPHANUMERIC}
 use Rattle.percent_encoding.proofs.PercentLemmas.{percent_encode-append}
 use Rattle.lockword.specs.declared.reply.Reply.{Reply}
-use Rattle.lockword.specs.declared.reply.Reply.TheVariants.{OK, EPERM, ESRCH, EAGAIN, EFAULT, EBUSY, EINVAL, EDEADLK, EOWNERDEAD, ENOTRECOVERABLE, XNOMEM, XRACED, XHELD, XFULL, XSTATE}
+use Rattle.lockword.specs.declared.reply.Reply.TheVariants.{OK, EPERM, ESRCH, EAGAIN, EFAULT, EBUSY, EINVAL, EDEADLK, ETIMEDOUT, EOWNERDEAD, ENOTRECOVERABLE, XNOMEM, XRACED, XHELD, XFULL, XSTATE}
 use Rattle.lockword.specs.Replies.{reply_word}
 use Rattle.posixmutex.specs.declared.object.Object.{Object}
 use Rattle.posixmutex.specs.declared.point.Operation.{Operation}
@@ -105,6 +105,7 @@ label_fine head tail = simp (list_all-append, escaped_fine)
 operation_fine : (o : Operation) → Fine (operation_word o)
 operation_fine operation.Lock = refl
 operation_fine operation.TryLock = refl
+operation_fine operation.TimedLock = refl
 operation_fine operation.Unlock = refl
 operation_fine operation.Consistent = refl
 operation_fine operation.Wait = refl
@@ -122,6 +123,7 @@ reply_fine EFAULT = refl
 reply_fine EBUSY = refl
 reply_fine EINVAL = refl
 reply_fine EDEADLK = refl
+reply_fine ETIMEDOUT = refl
 reply_fine EOWNERDEAD = refl
 reply_fine ENOTRECOVERABLE = refl
 reply_fine XNOMEM = refl

@@ -8,12 +8,12 @@
 -- sleeps, and since which line, is what its newest sleep or move tells; its newest point is the newest one that is told
 -- of it; it has lived once, and once more for each renewal. And each mutex is what the judge has of it.
 use Rattle.std.specs.Prelude.{ℕ, ◌≡◌, ◌+◌, ◌<◌, ◌⊎◌, true, false, Option, Some, None, List, [], ◌∷◌, ◌++◌}
-use Rattle.std.specs.Prelude.{length, reverse, slice_index_or}
+use Rattle.std.specs.Prelude.{length, reverse, slice_index_or, take}
 use Rattle.std.specs.Option.{is_some}
 use Rattle.std.specs.List.{count_by}
 use Rattle.lockword.specs.declared.reply.Reply.TheVariants.{OK}
 use Rattle.posixmutex.specs.declared.point.Operation.{Operation}
-use Rattle.posixmutex.specs.declared.point.Operation.TheVariants.{Lock, Unlock, Wait}
+use Rattle.posixmutex.specs.declared.point.Operation.TheVariants.{Lock, TimedLock, Unlock, Wait}
 use Rattle.posixmutex.specs.Objects.{fresh}
 use Rattle.facts.specs.declared.fact.Queue.{Queue}
 use Rattle.facts.specs.declared.fact.Queue.TheVariants.{Mutex}
@@ -62,11 +62,11 @@ HasTaken h (e ∷ es) j = (i : Judge) × HasTaken h es i × IsOf h e × Accepts 
 -- ---- a status and a stage
 
 -- the newest point of a call of this operation of which these are made: none; the release of a wait; or the one that
--- decided the call's reply, which is of its own operation, or a wait's lock
+-- decided the call's reply: of its own operation, or a lock, that of a wait or of a lock before its time limit
 abbrev pub IsPointOf : Operation → Made → Option Act → Type 0
 IsPointOf a Nothing p = p ≡ None
 IsPointOf a Released p = (a ≡ Wait) × (p ≡ Some (Unlock, OK))
-IsPointOf a (Decided x) p = (p ≡ Some (a, x)) ⊎ ((a ≡ Wait) × (p ≡ Some (Lock, x)))
+IsPointOf a (Decided x) p = (p ≡ Some (a, x)) ⊎ (((a ≡ Wait) ⊎ (a ≡ TimedLock)) × (p ≡ Some (Lock, x)))
 
 -- a status in no call has no point and no bed
 pub record IsIdle (s : Status) : Type 0 where
@@ -136,6 +136,11 @@ StatesAreTheJudges =
 abbrev pub ShownLinesFit : Type 0
 ShownLinesFit =
     (t : Told) (f : Finding) → IsFound (trace_of t) f → AllFit t.head.mutexes (reverse (lines_shown t f))
+
+-- and none of the first 100,000 is left out up to which all fit: that of place k, from 0, is shown
+abbrev pub FittingLinesAreShown : Type 0
+FittingLinesAreShown = (t : Told) (f : Finding) (k : ℕ) → IsFound (trace_of t) f → k < length t.lines.items → k < 100000
+    → AllFit t.head.mutexes (reverse (take (k + 1) t.lines.items)) → k < length (lines_shown t f)
 
 -- and where a line doesn't fit, that line is told, unless it is the last line of the trace
 abbrev pub MisfitsAreTold : Type 0

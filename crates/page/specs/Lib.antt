@@ -1,5 +1,6 @@
 pub mod Data
 pub mod Escapes
+pub mod Flags
 pub mod Judged
 pub mod Names
 pub mod Pages

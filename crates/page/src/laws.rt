@@ -1,7 +1,8 @@
 //! What holds of every page.
 
 ghost use Rattle.page.specs.Escapes.{NamesAreEscaped};
-ghost use Rattle.page.specs.Judged.{MisfitsAreTold, ShownLinesFit, StatesAreTheJudges};
+ghost use Rattle.page.specs.Flags.{FlagsAreRead};
+ghost use Rattle.page.specs.Judged.{FittingLinesAreShown, MisfitsAreTold, ShownLinesFit, StatesAreTheJudges};
 ghost use Rattle.page.specs.Quoting.{NamesStandInQuotes};
 ghost use Rattle.page.specs.Shows.{PageShows};
 
@@ -26,9 +27,19 @@ pub fn shown_lines_fit()
     ensures { ShownLinesFit }
 {}
 
+/// Each line of a trace up to which all fit is shown, if it is one of the first 100,000 behind the head.
+pub fn fitting_lines_are_shown()
+    ensures { FittingLinesAreShown }
+{}
+
 /// Where the judge of traces finds that a line doesn't fit, what the page tells beside the reason is that very line.
 pub fn misfits_are_told()
     ensures { MisfitsAreTold }
+{}
+
+/// What a page says is so or isn't, a script that reads its data takes for true just where it is.
+pub fn flags_are_read()
+    ensures { FlagsAreRead }
 {}
 
 /// Whatever things are called, who reads the texts in quotes from a page's data, byte by byte, finds first the name of

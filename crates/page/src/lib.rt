@@ -1,8 +1,9 @@
 //! Pages of HTML to step through a trace.
 //!
 //! [`write_page`] writes one file: a frame, the trace's picture as `picture` draws it as SVG, and as data the state
-//! behind each line that fits those before it: what each thread does, what each mutex is (`state_behind`), as the judge
-//! of traces has them ([`states_are_the_judges`], [`shown_lines_fit`]). The data are whole states, and between them what
+//! behind each line that fits those before it, of the first 100,000: what each thread does, what each mutex is
+//! (`state_behind`), as the judge of traces has them ([`states_are_the_judges`], [`shown_lines_fit`],
+//! [`fitting_lines_are_shown`], [`flags_are_read`]). The data are whole states, and between them what
 //! each line changes; who reads them comes to just the states behind the lines, in their order ([`page_shows`]). The
 //! page's script shows them. Names in the data are escaped ([`names_are_escaped`]), in quotes that they don't end
 //! ([`names_stand_in_quotes`]). How the judge of traces found all of the trace stands behind the data, with the line
@@ -35,6 +36,6 @@ mod texts;
 
 pub use html::write_page;
 pub use laws::{
-    misfits_are_told, names_are_escaped, names_stand_in_quotes, page_shows, shown_lines_fit,
-    states_are_the_judges,
+    fitting_lines_are_shown, flags_are_read, misfits_are_told, names_are_escaped,
+    names_stand_in_quotes, page_shows, shown_lines_fit, states_are_the_judges,
 };

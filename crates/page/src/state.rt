@@ -60,7 +60,8 @@ fn stepped(object: Object, decision: &Decision) -> Object
             Reply::OK => Object::new(),
             _ => object,
         },
-        Operation::Wait | Operation::Signal | Operation::Broadcast => object,
+        Operation::TimedLock | Operation::Wait => object,
+        Operation::Signal | Operation::Broadcast => object,
     }
 }
 

@@ -48,7 +48,8 @@ enum pz_access_kind {
 };
 
 enum pz_operation {
-    PZ_OP_LOCK, PZ_OP_TRYLOCK, PZ_OP_UNLOCK, PZ_OP_CONSISTENT, PZ_OP_WAIT, PZ_OP_SIGNAL, PZ_OP_BROADCAST, PZ_OP_DEATH
+    PZ_OP_LOCK, PZ_OP_TRYLOCK, PZ_OP_UNLOCK, PZ_OP_CONSISTENT, PZ_OP_WAIT, PZ_OP_SIGNAL, PZ_OP_BROADCAST, PZ_OP_DEATH,
+    PZ_OP_REINIT, PZ_OP_TIMEDLOCK
 };
 
 struct pz_access {
@@ -72,6 +73,11 @@ enum pz_reply { PZ_X_NOMEM = 1000, PZ_X_RACED, PZ_X_HELD, PZ_X_FULL, PZ_X_STATE 
 /* head, entry, cell, counter and thread are given; the rest is written. */
 uint32_t pz_begin(struct pz_call *call, struct pz_access *access, uint32_t operation);
 uint32_t pz_step(struct pz_call *call, struct pz_access *access, uint32_t answer, uint64_t value);
+
+/* The time limit of a lock has come while it sleeps, and it was given no wake: it is begun, and told till then, as
+ * PZ_OP_LOCK. PZ_GOES: what is left is this access, whose point is ETIMEDOUT of PZ_OP_TIMEDLOCK. PZ_NO_SUCH: no lock
+ * that sleeps. */
+uint32_t pz_expire(struct pz_call *call, struct pz_access *access);
 
 /* head and thread are given. */
 uint32_t pz_walk_begin(struct pz_walk *walk, struct pz_access *access);

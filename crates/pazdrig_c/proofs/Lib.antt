@@ -2,3 +2,4 @@ pub mod Loads
 pub mod Locks
 pub mod Unlocks
 pub mod Refusals
+pub mod Expiries

@@ -217,5 +217,6 @@ try_plan_is t h e c w f sees = record { asks = asks; returns = returns; takes = 
 pub by_plan : LocksByPlan
 by_plan (call.Lock m) t h e c w f k pos free = let is : LockByPlan (call.Lock 0) t h e c w f = lock_plan_is t h e c w f (lock_takes t (fields_of w) pos free) in record { asks = is.asks; returns = is.returns; takes = is.takes; loads = is.loads }
 by_plan (call.TryLock m) t h e c w f k pos free = let is : LockByPlan (call.TryLock 0) t h e c w f = try_plan_is t h e c w f (try_takes (fields_of w) free) in record { asks = is.asks; returns = is.returns; takes = is.takes; loads = is.loads }
+by_plan (call.TimedLock m) t h e c w f k pos free = absurd k
 by_plan (call.Unlock m) t h e c w f k pos free = absurd k
 by_plan (call.Consistent m) t h e c w f k pos free = absurd k

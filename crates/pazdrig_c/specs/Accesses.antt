@@ -27,6 +27,7 @@
 -- | else   | Fault                   |
 use Rattle.std.specs.Prelude.{ℕ, ◌/◌, ◌%◌, ◌^◌, ◌==◌, nat_lt, not, Option, Some, None, if◌then◌else◌}
 use Rattle.lockword.specs.Replies.{number_of}
+use Rattle.lockword.specs.declared.reply.Reply.{Reply}
 use Rattle.stepprograms.specs.declared.access.Access.{Access}
 use Rattle.stepprograms.specs.declared.access.Access.TheVariants.{Load, Store, Exchange, FetchXor, FetchOr, FetchAnd}
 use Rattle.stepprograms.specs.declared.access.Access.TheVariants.{FetchAdd, Wait, Wake, CmpRequeue, Trim, Requeue}
@@ -48,6 +49,7 @@ operation_number operation.Signal = 5
 operation_number operation.Broadcast = 6
 operation_number operation.Death = 7
 operation_number operation.Reinit = 8
+operation_number operation.TimedLock = 9
 
 abbrev pub plain : ℕ → ℕ → ℕ → ℕ → ℕ → ℕ → PzAccess
 plain kind at a b most wakes =
@@ -70,10 +72,14 @@ access_code (CmpRequeue from expected wake to moves) = plain 10 from expected to
 access_code (Trim at) = plain 11 at 0 0 0 0
 access_code (Requeue from wake to moves) = plain 12 from 0 to moves wake
 
+-- with a point
+abbrev pub decided : Operation → Reply → PzAccess → PzAccess
+decided op r x = record x { point = number_of r; operation = operation_number op }
+
 -- with the point that the answer before it decided
 abbrev pub with_point : Option Point → PzAccess → PzAccess
 with_point None x = x
-with_point (Some p) x = record x { point = number_of p.reply; operation = operation_number p.operation }
+with_point (Some p) x = decided p.operation p.reply x
 
 abbrev pub answer_of : ℕ → ℕ → Answer
 answer_of kind value =

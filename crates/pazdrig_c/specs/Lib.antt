@@ -4,3 +4,4 @@ pub mod Running
 pub mod Walks
 pub mod Plans
 pub mod Shorts
+pub mod Expiring

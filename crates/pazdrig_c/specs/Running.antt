@@ -2,12 +2,14 @@
 --
 -- *A call in progress as C keeps it.* A call of a thread from 1 to 64 that hasn't returned, and knows what its phase
 -- does. It goes on as its program does: `moved`, `access_of` and `progress_of` are `mutex`' and `condvar`'s own.
-use Rattle.std.specs.Prelude.{ℕ, ◌≡◌, ◌==◌, ◌≤◌, ◌&&◌, nat_le, Option, Some, None, if◌then◌else◌}
+use Rattle.std.specs.Prelude.{ℕ, ◌≡◌, ◌==◌, ◌≤◌, ◌&&◌, nat_le, Option, Some, None, option_map, if◌then◌else◌}
 use Rattle.lockword.specs.Threads.{most_threads}
 use Rattle.lockword.specs.Replies.{number_of}
+use Rattle.lockword.specs.declared.reply.Reply.TheVariants.{ETIMEDOUT}
 use Rattle.stepprograms.specs.declared.access.Access.{Access}
 use Rattle.stepprograms.specs.declared.access.Answer.{Answer}
 use Rattle.posixmutex.specs.declared.point.Operation.{Operation}
+use Rattle.posixmutex.specs.declared.point.Operation.TheVariants as operation
 use Rattle.posixmutex.specs.declared.point.Operation.TheVariants.{Lock, TryLock, Unlock, Consistent}
 use Rattle.stepprograms.specs.declared.program.Progress.{Progress}
 use Rattle.stepprograms.specs.declared.program.Progress.TheVariants.{Goes, Returns}
@@ -17,7 +19,7 @@ use Rattle.mutex.specs.Codings as coded
 use Rattle.condvar.specs.declared.call.CondCall.TheVariants as cond_call
 use Rattle.condvar.specs.Whole as condition
 use Rattle.condvar.specs.Codings as cond_coded
-use Rattle.pazdrig_c.specs.Accesses.{operation_number, access_code, no_access, with_point}
+use Rattle.pazdrig_c.specs.Accesses.{operation_number, access_code, decided, no_access, with_point}
 use Rattle.pazdrig_c.specs.declared.structs.PzCall.{PzCall}
 use Rattle.pazdrig_c.specs.declared.structs.PzAccess.{PzAccess}
 use Rattle.pazdrig_c.specs.declared.running.Running.{Running}
@@ -126,3 +128,17 @@ pub record GoesOn (r : Running) (a : Answer) (answered : ℕ) (new : PzCall) (ne
   pub call : new ≡ call_code (moved r a)
   pub access : next ≡ told (progress_of r a) (moved r a)
   pub replies : Replies (progress_of r a) new
+
+-- ---- a time limit
+
+-- what is left of a lock whose time limit comes while it sleeps
+abbrev pub expired : Running → Option Running
+expired (OnMutex p) = option_map OnMutex (mutex.expired p)
+expired (OnCondition p) = None
+
+-- 0: it goes on, out of time, and this is its access; 2: it is no lock that sleeps, and nothing is written
+abbrev pub Expires : Option Running → ℕ → PzCall → PzCall → PzAccess → PzAccess → Type 0
+Expires None result old new access access' = (result ≡ 2) × (new ≡ old) × (access' ≡ access)
+Expires (Some r) result old new access access' =
+    (result ≡ 0) × (new ≡ call_code r)
+    × (access' ≡ decided operation.TimedLock ETIMEDOUT (access_code (access_of r)))

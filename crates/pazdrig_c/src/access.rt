@@ -1,8 +1,10 @@
 //! Accesses and answers as numbers.
 ghost use Rattle.std.specs.Prelude.{◌≡◌};
-ghost use Rattle.pazdrig_c.specs.Accesses.{plain, no_access, access_code, with_point, answer_of, operation_number};
+ghost use Rattle.pazdrig_c.specs.Accesses.{plain, no_access, access_code, decided, with_point, answer_of};
+ghost use Rattle.pazdrig_c.specs.Accesses.{operation_number};
 
 use crate::structs::PzAccess;
+use lockword::Reply;
 use posixmutex::{Operation, Point};
 use stepprograms::{Access, Answer};
 
@@ -79,6 +81,18 @@ pub(crate) fn with_point(point: Option<Point>, access: PzAccess) -> PzAccess
     }
 }
 
+/// With a point that no answer decided.
+#[inline(always)]
+pub(crate) fn decided(operation: Operation, reply: Reply, access: PzAccess) -> PzAccess
+    ensures { result ≡ decided operation reply access }
+{
+    PzAccess {
+        point: reply.number(),
+        operation: numbered(operation),
+        ..access
+    }
+}
+
 fn numbered(operation: Operation) -> u8
     ensures { result ≡ operation_number operation }
 {
@@ -92,6 +106,7 @@ fn numbered(operation: Operation) -> u8
         Operation::Broadcast => 6,
         Operation::Death => 7,
         Operation::Reinit => 8,
+        Operation::TimedLock => 9,
     }
 }
 

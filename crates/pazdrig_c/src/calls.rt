@@ -1,15 +1,15 @@
 //! Calls, access by access.
 ghost use Rattle.std.specs.Prelude.{◌≡◌, ◌≢◌, Some};
-ghost use Rattle.mutex.specs.Calls.{operation_of};
+ghost use Rattle.mutex.specs.Calls.{acts_as};
 ghost use Rattle.mutex.specs.Whole as mutex;
 ghost use Rattle.condvar.specs.Whole as condition;
 ghost use Rattle.pazdrig_c.specs.Accesses.{answer_of, operation_number};
-ghost use Rattle.pazdrig_c.specs.Running.{IsRunning, Begins, GoesOn, begun, call_code};
+ghost use Rattle.pazdrig_c.specs.Running.{IsRunning, Begins, Expires, GoesOn, begun, call_code, expired};
 ghost use Rattle.pazdrig_c.specs.declared.running.Running.{Running};
 ghost use Rattle.pazdrig_c.specs.declared.running.Running.TheVariants.{OnMutex, OnCondition};
 
 use crate::access::{answer, coded};
-use crate::running::{GOES, INVALID, ON_CONDITION, go_on, read};
+use crate::running::{GOES, INVALID, ON_CONDITION, expire, go_on, read};
 use crate::structs::{PzAccess, PzCall};
 use condvar::{CodedCondPhase, CondCall, CondProgram};
 use lockword::Tid;
@@ -54,6 +54,22 @@ pub extern "C" fn pz_step(call: &mut PzCall, access: &mut PzAccess, kind: u32, v
     }
 }
 
+/// The time limit of a lock has come, while it sleeps (pthread_mutex_timedlock(3p)): tells the one access that is left,
+/// which clears its entry, with the point; behind that it returns `ETIMEDOUT`. 0; or 2, and nothing is written: no lock
+/// that sleeps has these numbers. Whoever asks has taken the thread out of its queue, and gave it no wake.
+#[unsafe(no_mangle)]
+pub extern "C" fn pz_expire(call: &mut PzCall, access: &mut PzAccess) -> u32
+    ensures expires { (r : Running) → IsRunning r → call_code r ≡ call.old
+        → Expires (expired r) result call.old call.new access.old access.new }
+    ensures refused { ((r : Running) → IsRunning r → call_code r ≢ call.old)
+        → (result ≡ 2) × (call.new ≡ call.old) × (access.new ≡ access.old) }
+{
+    match read(call) {
+        Some(running) => expire(running, call, access),
+        None => INVALID,
+    }
+}
+
 fn begin_on_mutex(
     call: &mut PzCall,
     access: &mut PzAccess,
@@ -62,7 +78,7 @@ fn begin_on_mutex(
     number: u8,
 ) -> u32
     requires thread { thread ≡ call.old.thread }
-    requires number { number ≡ operation_number (operation_of on_mutex) }
+    requires number { number ≡ operation_number (acts_as on_mutex) }
     ensures { Begins (Some (OnMutex (mutex.begun_at thread call.old.head call.old.entry call.old.cell on_mutex))) result
         call.old call.new access.old access.new }
 {

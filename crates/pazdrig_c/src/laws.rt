@@ -1,4 +1,6 @@
-//! What holds of the plans.
+//! What holds of the plans, and of calls that are out of time.
+
+ghost use Rattle.pazdrig_c.specs.Expiring.{OnlySleepersExpire};
 ghost use Rattle.pazdrig_c.specs.Plans.{LocksByPlan, UnlocksByPlan};
 ghost use Rattle.pazdrig_c.specs.Shorts.{SignalsByPlan, BroadcastsByPlan, DeclaresByPlan, RefusalsByPlan};
 
@@ -48,4 +50,10 @@ pub fn declares_by_plan()
 /// who sleep there, and isn't told here.
 pub fn refusals_by_plan()
     ensures { RefusalsByPlan }
+{}
+
+/// A lock whose time limit comes (`pz_expire`) has its look at the mutex's cell next, or its sleep on it: so it gives up
+/// no mutex that it is about to take, and no wake that it owes.
+pub fn only_sleepers_expire()
+    ensures { OnlySleepersExpire }
 {}

@@ -12,7 +12,7 @@
 //! [`locks_by_plan`] and [`unlocks_by_plan`] say that it makes the accesses of the step program. Of short calls, those
 //! that what they load decides ([`pz_plan_signal`], [`pz_plan_broadcast`], [`pz_plan_consistent`],
 //! [`pz_plan_refusal`]), [`signals_by_plan`], [`broadcasts_by_plan`], [`declares_by_plan`] and [`refusals_by_plan`] say
-//! so.
+//! so. A lock may be out of time ([`pz_expire`]) where it looks or sleeps, and nowhere else ([`only_sleepers_expire`]).
 //!
 //! Stands on `mutex`, `condvar` and `exitwalk`, whose programs these are, on `stepprograms` for accesses, on
 //! `memorymap` and `posixmutex` for addresses and points, and on `lockword` for replies.
@@ -40,6 +40,6 @@ mod structs;
 mod walks;
 
 pub use laws::{
-    broadcasts_by_plan, declares_by_plan, locks_by_plan, refusals_by_plan, signals_by_plan,
-    unlocks_by_plan,
+    broadcasts_by_plan, declares_by_plan, locks_by_plan, only_sleepers_expire, refusals_by_plan,
+    signals_by_plan, unlocks_by_plan,
 };

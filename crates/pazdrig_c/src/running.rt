@@ -2,14 +2,14 @@
 ghost use Rattle.std.specs.Prelude.{◌≡◌, IfSome, Some};
 ghost use Rattle.posixmutex.specs.declared.point.Operation.{Operation};
 ghost use Rattle.pazdrig_c.specs.Accesses.{operation_number};
-ghost use Rattle.pazdrig_c.specs.Running.{IsRunning, IsOnMutex, GoesOn, call_code};
+ghost use Rattle.pazdrig_c.specs.Running.{IsRunning, IsOnMutex, Expires, GoesOn, call_code, expired};
 ghost use Rattle.pazdrig_c.specs.declared.running.Running.{Running};
 ghost use Rattle.pazdrig_c.specs.declared.running.Running.TheVariants.{OnMutex, OnCondition};
 
-use crate::access::{coded, no_access, with_point};
+use crate::access::{coded, decided, no_access, with_point};
 use crate::structs::{PzAccess, PzCall};
 use condvar::{CodedCondPhase, CondProgram};
-use lockword::Tid;
+use lockword::{Reply, Tid};
 use mutex::{CodedPhase, Program};
 use posixmutex::Operation;
 use stepprograms::{Answer, Progress, StepProgram};
@@ -133,4 +133,21 @@ fn on_condition(
             RETURNED
         }
     }
+}
+
+/// The time limit of a lock has come: its numbers become those of what is left of it, and its access is told; of a call
+/// that is no lock that may sleep nothing changes.
+pub(crate) fn expire(running: Running, call: &mut PzCall, access: &mut PzAccess) -> u32
+    requires { call_code running ≡ call.old }
+    ensures { Expires (expired running) result call.old call.new access.old access.new }
+{
+    let Running::OnMutex(program) = running else {
+        return INVALID;
+    };
+    let Some(left) = program.expired() else {
+        return INVALID;
+    };
+    call.phase.lock = CodedPhase::of(&left.phase());
+    *access = decided(Operation::TimedLock, Reply::ETIMEDOUT, coded(left.next()));
+    GOES
 }

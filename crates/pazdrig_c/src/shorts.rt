@@ -183,6 +183,7 @@ fn numbered(operation: u32) -> Option<Operation>
         6 => Some(Operation::Broadcast),
         7 => Some(Operation::Death),
         8 => Some(Operation::Reinit),
+        9 => Some(Operation::TimedLock),
         _ => None,
     }
 }
@@ -198,7 +199,8 @@ fn refused(operation: Operation, thread: Tid, cell: Cell, count: u64) -> Option<
         Operation::Lock if own => Some(Reply::EDEADLK),
         Operation::TryLock if cell.unusable() => Some(Reply::ENOTRECOVERABLE),
         Operation::TryLock if cell.owner() != 0 => Some(Reply::EBUSY),
-        Operation::Lock | Operation::TryLock | Operation::Death | Operation::Reinit => None,
+        Operation::Lock | Operation::TryLock | Operation::TimedLock => None,
+        Operation::Death | Operation::Reinit => None,
         _ if !own => Some(Reply::EPERM),
         Operation::Consistent if !cell.owner_died() => Some(Reply::EINVAL),
         Operation::Wait if cell.owner_died() => Some(Reply::XSTATE),

@@ -10,7 +10,7 @@ use Rattle.std.proofs.lemmas.Fmt.{digits_decimal, length-decimal-le}
 use Rattle.std.proofs.lemmas.List.{length-append}
 use Rattle.std.proofs.lemmas.Str.Parse.{IsNumeralModel, numerals_by_value, tells_all_ascii_digits}
 use Rattle.lockword.specs.declared.reply.Reply.{Reply}
-use Rattle.lockword.specs.declared.reply.Reply.TheVariants.{OK, EPERM, ESRCH, EAGAIN, EFAULT, EBUSY, EINVAL, EDEADLK, EOWNERDEAD, ENOTRECOVERABLE, XNOMEM, XRACED, XHELD, XFULL, XSTATE}
+use Rattle.lockword.specs.declared.reply.Reply.TheVariants.{OK, EPERM, ESRCH, EAGAIN, EFAULT, EBUSY, EINVAL, EDEADLK, ETIMEDOUT, EOWNERDEAD, ENOTRECOVERABLE, XNOMEM, XRACED, XHELD, XFULL, XSTATE}
 use Rattle.lockword.specs.Replies.{reply_word}
 use Rattle.posixmutex.specs.declared.point.Operation.{Operation}
 use Rattle.posixmutex.specs.declared.point.Operation.TheVariants as op
@@ -75,6 +75,7 @@ four n small = number_letters n 4 (omega arith) small (omega (arith, small))
 pub operation_letters : (o : Operation) → Letters (operation_word o) 10
 operation_letters op.Lock = record { single = refl; few = omega arith }
 operation_letters op.TryLock = record { single = refl; few = omega arith }
+operation_letters op.TimedLock = record { single = refl; few = omega arith }
 operation_letters op.Unlock = record { single = refl; few = omega arith }
 operation_letters op.Consistent = record { single = refl; few = omega arith }
 operation_letters op.Wait = record { single = refl; few = omega arith }
@@ -92,6 +93,7 @@ reply_letters EFAULT = record { single = refl; few = omega arith }
 reply_letters EBUSY = record { single = refl; few = omega arith }
 reply_letters EINVAL = record { single = refl; few = omega arith }
 reply_letters EDEADLK = record { single = refl; few = omega arith }
+reply_letters ETIMEDOUT = record { single = refl; few = omega arith }
 reply_letters EOWNERDEAD = record { single = refl; few = omega arith }
 reply_letters ENOTRECOVERABLE = record { single = refl; few = omega arith }
 reply_letters XNOMEM = record { single = refl; few = omega arith }

@@ -32,7 +32,7 @@ fn is_drawn(alloc: Global, trace: &str, picture: &str) -> bool {
 }
 
 /// Traces and their pictures: whole schedules, lanes of each width, and what else has a place of its own in a row.
-static PICTURES: [(&str, &str); 24] = [
+static PICTURES: [(&str, &str); 25] = [
     // An owner dies, and the next one is told.
     (
         "trace 2 1 0\n1 begin t1 lock m0\n4 point t1 m0 lock OK\n9 return t1 OK\n10 kill t1\n16 death t1 m0\n16 reaped t1\n17 begin t2 lock m0\n20 point t2 m0 lock EOWNERDEAD\n25 return t2 EOWNERDEAD\n26 begin t2 consistent m0\n28 point t2 m0 consistent OK\n28 return t2 OK\nend 28\n",
@@ -143,6 +143,11 @@ static PICTURES: [(&str, &str); 24] = [
     (
         "trace 2 1 0\n1 begin t1 lock m0\n2 point t1 m0 lock OK\n3 return t1 OK\n4 begin t2 lock m0\n5 sleep t2 m0\n6 kill t2\n7 begin t1 unlock m0\n8 reaped t2\n9 point t1 m0 unlock OK\n9 return t1 OK\nend 9\n",
         " event  m0   t1                      t2\n     1  -    ┌ lock m0               ·\n     2  t1   ● m0 OK                 ·\n     3  t1   └ OK                    ·\n     4  t1   ·                       ┌ lock m0\n     5  t1   ·                       z on m0\n     6  t1   ·                       ╳ killed\n     7  t1   ┌ unlock m0             ╎\n     8  t1   │                       † reaped\n     9  -    ● m0 OK                 †\n     9  -    └ OK                    †\n     9  end\n",
+    ),
+    // A sleeper's time limit comes, and later it locks the mutex.
+    (
+        "trace 2 1 0\n1 begin t1 lock m0\n2 point t1 m0 lock OK\n3 return t1 OK\n4 begin t2 timedlock m0\n5 sleep t2 m0\n6 wake t2\n6 point t2 m0 timedlock ETIMEDOUT\n7 return t2 ETIMEDOUT\n8 begin t2 timedlock m0\n9 begin t1 unlock m0\n10 point t1 m0 unlock OK\n11 return t1 OK\n12 point t2 m0 lock OK\n13 return t2 OK\nend 13\n",
+        " event  m0   t1                      t2\n     1  -    ┌ lock m0               ·\n     2  t1   ● m0 OK                 ·\n     3  t1   └ OK                    ·\n     4  t1   ·                       ┌ timedlock m0\n     5  t1   ·                       z on m0\n     6  t1   ·                       ○ woken\n     6  t1   ·                       ● m0 ETIMEDOUT\n     7  t1   ·                       └ ETIMEDOUT\n     8  t1   ·                       ┌ timedlock m0\n     9  t1   ┌ unlock m0             │\n    10  -    ● m0 OK                 │\n    11  -    └ OK                    │\n    12  t2   ·                       ● m0 lock OK\n    13  t2   ·                       └ OK\n    13  end\n",
     ),
     // A mutex that is lost stays so, whatever dies.
     (

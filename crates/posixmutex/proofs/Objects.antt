@@ -1,9 +1,9 @@
 -- What runs of points do to a mutex.
 use Rattle.std.proofs.Common.{◌≡◌, ◌≢◌, ℕ, true, Some, None, List, [], ◌∷◌, ◌++◌, refl, sym, ap, ◌∙◌, subst}
 use Rattle.lockword.specs.declared.reply.Reply.{Reply}
-use Rattle.lockword.specs.declared.reply.Reply.TheVariants.{OK, EPERM, EBUSY, EINVAL, EDEADLK, EOWNERDEAD, ENOTRECOVERABLE, XRACED, XFULL, XSTATE}
+use Rattle.lockword.specs.declared.reply.Reply.TheVariants.{OK, EPERM, EBUSY, EINVAL, EDEADLK, ETIMEDOUT, EOWNERDEAD, ENOTRECOVERABLE, XRACED, XFULL, XSTATE}
 use Rattle.posixmutex.specs.declared.point.Operation.{Operation}
-use Rattle.posixmutex.specs.declared.point.Operation.TheVariants.{Lock, TryLock, Unlock, Consistent, Wait, Signal, Broadcast, Death, Reinit}
+use Rattle.posixmutex.specs.declared.point.Operation.TheVariants.{Lock, TryLock, TimedLock, Unlock, Consistent, Wait, Signal, Broadcast, Death, Reinit}
 use Rattle.posixmutex.specs.declared.point.Point.{Point}
 use Rattle.posixmutex.specs.declared.object.Object.{Object}
 use Rattle.posixmutex.specs.Objects.{Permits, Run}
@@ -19,6 +19,7 @@ permits_same o t TryLock EOWNERDEAD m n a b = a.3 ∙ sym b.3
 permits_same o t TryLock ENOTRECOVERABLE m n a b = a.1 ∙ sym b.1
 permits_same o t TryLock EBUSY m n a b = a.1 ∙ sym b.1
 permits_same o t TryLock XRACED m n a b = a.2 ∙ sym b.2
+permits_same o t TimedLock ETIMEDOUT m n a b = a ∙ sym b
 permits_same o t Unlock OK m n a b = a.1 ∙ sym b.1
 permits_same o t Unlock EPERM m n a b = a.1 ∙ sym b.1
 permits_same o t Consistent OK m n a b = a.2 ∙ sym b.2
@@ -60,6 +61,7 @@ others_keep o n t u TryLock EOWNERDEAD own apart p = absurd (cc (own, p.1))
 others_keep o n t u TryLock ENOTRECOVERABLE own apart p = p.1
 others_keep o n t u TryLock EBUSY own apart p = p.1
 others_keep o n t u TryLock XRACED own apart p = p.2
+others_keep o n t u TimedLock ETIMEDOUT own apart p = p
 others_keep o n t u Unlock OK own apart p = let same : t ≡ u = cc (own, p.0) in absurd (apart same)
 others_keep o n t u Unlock EPERM own apart p = p.1
 others_keep o n t u Consistent OK own apart p = let same : t ≡ u = cc (own, p.0) in absurd (apart same)
@@ -88,6 +90,7 @@ permits_sound o t TryLock EOWNERDEAD n is a u = absurd (cc (a.0, ap (λ (z : Obj
 permits_sound o t TryLock ENOTRECOVERABLE n is a u = subst (λ (z : Object). z.unusable ≡ true → z.owner ≡ None) (sym a.1) is u
 permits_sound o t TryLock EBUSY n is a u = subst (λ (z : Object). z.unusable ≡ true → z.owner ≡ None) (sym a.1) is u
 permits_sound o t TryLock XRACED n is a u = subst (λ (z : Object). z.unusable ≡ true → z.owner ≡ None) (sym a.2) is u
+permits_sound o t TimedLock ETIMEDOUT n is a u = subst (λ (z : Object). z.unusable ≡ true → z.owner ≡ None) (sym a) is u
 permits_sound o t Unlock OK n is a u = ap (λ (z : Object). z.owner) a.1
 permits_sound o t Unlock EPERM n is a u = subst (λ (z : Object). z.unusable ≡ true → z.owner ≡ None) (sym a.1) is u
 permits_sound o t Consistent OK n is a u = ap (λ (z : Object). z.owner) a.2 ∙ is (sym (ap (λ (z : Object). z.unusable) a.2) ∙ u)

@@ -1,10 +1,10 @@
 -- Why steps change objects.
 use Rattle.std.proofs.Common.{◌≡◌, ◌⊎◌, ⊎_elim, inl, inr, ℕ, ◌&&◌, Bool, true, false, nat_le, if◌then◌else◌, MatchBool, Some, None, refl, ap, ◌∙◌}
 use Rattle.lockword.specs.declared.reply.Reply.{Reply}
-use Rattle.lockword.specs.declared.reply.Reply.TheVariants.{OK, EPERM, EBUSY, EINVAL, EDEADLK, EOWNERDEAD, ENOTRECOVERABLE, XRACED, XHELD, XFULL, XSTATE}
+use Rattle.lockword.specs.declared.reply.Reply.TheVariants.{OK, EPERM, EBUSY, EINVAL, EDEADLK, ETIMEDOUT, EOWNERDEAD, ENOTRECOVERABLE, XRACED, XHELD, XFULL, XSTATE}
 use Rattle.posixmutex.specs.declared.object.Object.{Object}
 use Rattle.posixmutex.specs.declared.point.Operation.{Operation}
-use Rattle.posixmutex.specs.declared.point.Operation.TheVariants.{Lock, TryLock, Unlock, Consistent, Wait, Signal, Broadcast, Death, Reinit}
+use Rattle.posixmutex.specs.declared.point.Operation.TheVariants.{Lock, TryLock, TimedLock, Unlock, Consistent, Wait, Signal, Broadcast, Death, Reinit}
 use Rattle.posixmutex.specs.Objects.{Permits, acquires, releases, IsByOwner, IsTaking, ChangesWithReason, ChangesHaveReasons}
 use Rattle.posixmutex.proofs.Objects.{others_keep}
 
@@ -27,6 +27,7 @@ of_usable o t TryLock EOWNERDEAD n p none us = inr (refl, told_ill o.inconsisten
 of_usable o t TryLock ENOTRECOVERABLE n p none us = inl p.1
 of_usable o t TryLock EBUSY n p none us = inl p.1
 of_usable o t TryLock XRACED n p none us = inl p.2
+of_usable o t TimedLock ETIMEDOUT n p none us = inl p
 of_usable o t Unlock OK n p none us = absurd (cc (none, p.0))
 of_usable o t Unlock EPERM n p none us = inl p.1
 of_usable o t Consistent OK n p none us = absurd (cc (none, p.0))
@@ -55,6 +56,7 @@ of_unusable o t TryLock EOWNERDEAD n p none us = absurd (cc (us, p.0))
 of_unusable o t TryLock ENOTRECOVERABLE n p none us = inl p.1
 of_unusable o t TryLock EBUSY n p none us = inl p.1
 of_unusable o t TryLock XRACED n p none us = inl p.2
+of_unusable o t TimedLock ETIMEDOUT n p none us = inl p
 of_unusable o t Unlock OK n p none us = absurd (cc (none, p.0))
 of_unusable o t Unlock EPERM n p none us = inl p.1
 of_unusable o t Consistent OK n p none us = absurd (cc (none, p.0))
@@ -83,6 +85,7 @@ of_own o t TryLock EOWNERDEAD n p mine = absurd (cc (mine, p.1))
 of_own o t TryLock ENOTRECOVERABLE n p mine = inl p.1
 of_own o t TryLock EBUSY n p mine = inl p.1
 of_own o t TryLock XRACED n p mine = inl p.2
+of_own o t TimedLock ETIMEDOUT n p mine = inl p
 of_own o t Unlock OK n p mine = inr (refl, (ap (λ (z : Object). z.owner) p.1, ap (λ (z : Object). z.inconsistent) p.1, ap (λ (z : Object). z.unusable) p.1))
 of_own o t Unlock EPERM n p mine = inl p.1
 of_own o t Consistent OK n p mine = inr (refl, (p.1, ap (λ (z : Object). z.owner) p.2, ap (λ (z : Object). z.inconsistent) p.2, ap (λ (z : Object). z.unusable) p.2))
@@ -111,6 +114,7 @@ of_taking o t TryLock EOWNERDEAD n p is told = ap (λ (z : Object). z.owner) p.3
 of_taking o t TryLock ENOTRECOVERABLE n p is told = ⊎_elim (λ (e : ENOTRECOVERABLE ≡ OK). absurd (cc e)) (λ (e : ENOTRECOVERABLE ≡ EOWNERDEAD). absurd (cc e)) told
 of_taking o t TryLock EBUSY n p is told = ⊎_elim (λ (e : EBUSY ≡ OK). absurd (cc e)) (λ (e : EBUSY ≡ EOWNERDEAD). absurd (cc e)) told
 of_taking o t TryLock XRACED n p is told = ⊎_elim (λ (e : XRACED ≡ OK). absurd (cc e)) (λ (e : XRACED ≡ EOWNERDEAD). absurd (cc e)) told
+of_taking o t TimedLock ETIMEDOUT n p is told = ⊎_elim (λ (e : ETIMEDOUT ≡ OK). absurd (cc e)) (λ (e : ETIMEDOUT ≡ EOWNERDEAD). absurd (cc e)) told
 of_taking o t Unlock OK n p is told = absurd cc
 of_taking o t Unlock EPERM n p is told = absurd cc
 of_taking o t Consistent OK n p is told = absurd cc
@@ -139,6 +143,7 @@ of_freeing o t TryLock EOWNERDEAD n p is told = absurd cc
 of_freeing o t TryLock ENOTRECOVERABLE n p is told = absurd cc
 of_freeing o t TryLock EBUSY n p is told = absurd cc
 of_freeing o t TryLock XRACED n p is told = absurd cc
+of_freeing o t TimedLock ETIMEDOUT n p is told = absurd cc
 of_freeing o t Unlock OK n p is told = (p.0, ap (λ (z : Object). z.owner) p.1)
 of_freeing o t Unlock EPERM n p is told = absurd cc
 of_freeing o t Consistent OK n p is told = absurd cc
@@ -174,6 +179,7 @@ first false b e = e
 apart : (op : Operation) → acquires op ≡ true → releases op ≡ true → ⊥
 apart Lock a b = cc
 apart TryLock a b = cc
+apart TimedLock a b = cc
 apart op a b = cc
 
 -- a thread that holds as many as it may

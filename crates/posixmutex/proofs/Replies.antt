@@ -3,10 +3,10 @@ use Rattle.std.proofs.Common.{◌≡◌, ◌≢◌, ◌≤◌, ◌↔◌, ◌⊎
 use mathlib.Core.Logic.{dite}
 use native.Mathlib.Decide.{ℕ_discrete}
 use Rattle.lockword.specs.declared.reply.Reply.{Reply}
-use Rattle.lockword.specs.declared.reply.Reply.TheVariants.{OK, EPERM, EBUSY, EINVAL, EDEADLK, EOWNERDEAD, ENOTRECOVERABLE, XRACED, XHELD, XFULL, XSTATE}
+use Rattle.lockword.specs.declared.reply.Reply.TheVariants.{OK, EPERM, EBUSY, EINVAL, EDEADLK, ETIMEDOUT, EOWNERDEAD, ENOTRECOVERABLE, XRACED, XHELD, XFULL, XSTATE}
 use Rattle.posixmutex.specs.declared.object.Object.{Object}
 use Rattle.posixmutex.specs.declared.point.Operation.{Operation}
-use Rattle.posixmutex.specs.declared.point.Operation.TheVariants.{Lock, TryLock, Unlock, Consistent, Wait, Signal, Broadcast, Death, Reinit}
+use Rattle.posixmutex.specs.declared.point.Operation.TheVariants.{Lock, TryLock, TimedLock, Unlock, Consistent, Wait, Signal, Broadcast, Death, Reinit}
 use Rattle.posixmutex.specs.Objects.{Permits, Does, acquires, bereaved, declared_consistent, freed, fresh, owned_by, CallsAreAnswered, HasReason, IsUnanswered, LimitIsExact, ReasonsSuffice, RepliesHaveReasons}
 
 permitted : (held : ℕ) (o : Object) (t : ℕ) (op : Operation) (r : Reply) (n : Object) → Permits o t op r n → HasReason held o t op r
@@ -19,6 +19,7 @@ permitted held o t TryLock EOWNERDEAD n p = (refl, p.1, p.2, p.0)
 permitted held o t TryLock ENOTRECOVERABLE n p = (refl, p.0)
 permitted held o t TryLock EBUSY n p = (refl, p.0)
 permitted held o t TryLock XRACED n p = (refl, p.1, p.0)
+permitted held o t TimedLock ETIMEDOUT n p = refl
 permitted held o t Unlock OK n p = p.0
 permitted held o t Unlock EPERM n p = p.0
 permitted held o t Consistent OK n p = (p.0, p.1)
@@ -37,10 +38,12 @@ permitted held o t Reinit OK n p = (p.1, p.0)
 permitted held o t op r n p = absurd p
 
 at_limit : (held : ℕ) (o : Object) (t : ℕ) (op : Operation) (r : Reply) → acquires op ≡ true → nat_le 2048 held ≡ true → r ≡ XHELD → HasReason held o t op r
-at_limit held o t Lock XHELD is full told = (inl refl, full)
-at_limit held o t TryLock XHELD is full told = (inr refl, full)
+at_limit held o t Lock XHELD is full told = (refl, full)
+at_limit held o t TryLock XHELD is full told = (refl, full)
+at_limit held o t TimedLock XHELD is full told = (refl, full)
 at_limit held o t Lock r is full told = absurd (cc told)
 at_limit held o t TryLock r is full told = absurd (cc told)
+at_limit held o t TimedLock r is full told = absurd (cc told)
 at_limit held o t op r is full told = absurd cc
 
 first : (a b : Bool) → (a && b) ≡ true → a ≡ true
@@ -62,6 +65,7 @@ replies held o t op r n h = by_cases (acquires op && nat_le 2048 held) refl h wh
 never_held : (o : Object) (t : ℕ) (op : Operation) (n : Object) → Permits o t op XHELD n → ⊥
 never_held o t Lock n p = absurd p
 never_held o t TryLock n p = absurd p
+never_held o t TimedLock n p = absurd p
 never_held o t Unlock n p = absurd p
 never_held o t Consistent n p = absurd p
 never_held o t Wait n p = absurd p
@@ -126,6 +130,7 @@ owned o t op not_taking i u w ei eu ew sound mine = absurd cc
 answered : (o : Object) (t : ℕ) (op : Operation) → (o.unusable ≡ true → o.owner ≡ None) → Permitted_to o t op
 answered o t Lock sound = taking_lock o t o.inconsistent o.unusable o.owner refl refl refl
 answered o t TryLock sound = taking_try o t o.inconsistent o.unusable o.owner refl refl refl
+answered o t TimedLock sound = inl (ETIMEDOUT, o, refl)
 answered o t Unlock sound = owned o t Unlock refl o.inconsistent o.unusable o.owner refl refl refl sound (by_owner o t o.owner refl)
 answered o t Consistent sound = owned o t Consistent refl o.inconsistent o.unusable o.owner refl refl refl sound (by_owner o t o.owner refl)
 answered o t Wait sound = owned o t Wait refl o.inconsistent o.unusable o.owner refl refl refl sound (by_owner o t o.owner refl)
@@ -145,6 +150,7 @@ calls held o t op sound = go (acquires op && nat_le 2048 held) refl (answered o 
 may : (held : ℕ) (o : Object) (t : ℕ) (op : Operation) (r : Reply) → r ≢ XHELD → HasReason held o t op r → (n : Object) × Permits o t op r n
 may held o t Lock OK other h = (owned_by o t, (h.2, h.0, h.1, refl))
 may held o t TryLock OK other h = (owned_by o t, (h.2, h.0, h.1, refl))
+may held o t TimedLock OK other h = absurd h
 may held o t Unlock OK other h = (freed o, (h, refl))
 may held o t Consistent OK other h = (declared_consistent o, (h.0, h.1, refl))
 may held o t Wait OK other h = absurd h
@@ -154,6 +160,7 @@ may held o t Death OK other h = (bereaved o, (h, refl))
 may held o t Reinit OK other h = (fresh, (h.1, h.0, refl))
 may held o t Lock EOWNERDEAD other h = (owned_by o t, (h.3, h.1, h.2, refl))
 may held o t TryLock EOWNERDEAD other h = (owned_by o t, (h.3, h.1, h.2, refl))
+may held o t TimedLock EOWNERDEAD other h = absurd (cc h.0)
 may held o t Unlock EOWNERDEAD other h = absurd (cc h.0)
 may held o t Consistent EOWNERDEAD other h = absurd (cc h.0)
 may held o t Wait EOWNERDEAD other h = absurd (cc h.0)
@@ -163,6 +170,7 @@ may held o t Death EOWNERDEAD other h = absurd (cc h.0)
 may held o t Reinit EOWNERDEAD other h = absurd (cc h.0)
 may held o t Lock ENOTRECOVERABLE other h = (o, (h.1, refl))
 may held o t TryLock ENOTRECOVERABLE other h = (o, (h.1, refl))
+may held o t TimedLock ENOTRECOVERABLE other h = absurd (cc h.0)
 may held o t Unlock ENOTRECOVERABLE other h = absurd (cc h.0)
 may held o t Consistent ENOTRECOVERABLE other h = absurd (cc h.0)
 may held o t Wait ENOTRECOVERABLE other h = absurd (cc h.0)
@@ -172,6 +180,7 @@ may held o t Death ENOTRECOVERABLE other h = absurd (cc h.0)
 may held o t Reinit ENOTRECOVERABLE other h = absurd (cc h.0)
 may held o t Lock EDEADLK other h = (o, (h.1, refl))
 may held o t TryLock EDEADLK other h = absurd (cc h.0)
+may held o t TimedLock EDEADLK other h = absurd (cc h.0)
 may held o t Unlock EDEADLK other h = absurd (cc h.0)
 may held o t Consistent EDEADLK other h = absurd (cc h.0)
 may held o t Wait EDEADLK other h = absurd (cc h.0)
@@ -179,8 +188,19 @@ may held o t Signal EDEADLK other h = absurd (cc h.0)
 may held o t Broadcast EDEADLK other h = absurd (cc h.0)
 may held o t Death EDEADLK other h = absurd (cc h.0)
 may held o t Reinit EDEADLK other h = absurd (cc h.0)
+may held o t Lock ETIMEDOUT other h = absurd (cc h)
+may held o t TryLock ETIMEDOUT other h = absurd (cc h)
+may held o t TimedLock ETIMEDOUT other h = (o, refl)
+may held o t Unlock ETIMEDOUT other h = absurd (cc h)
+may held o t Consistent ETIMEDOUT other h = absurd (cc h)
+may held o t Wait ETIMEDOUT other h = absurd (cc h)
+may held o t Signal ETIMEDOUT other h = absurd (cc h)
+may held o t Broadcast ETIMEDOUT other h = absurd (cc h)
+may held o t Death ETIMEDOUT other h = absurd (cc h)
+may held o t Reinit ETIMEDOUT other h = absurd (cc h)
 may held o t Lock EBUSY other h = absurd (cc h.0)
 may held o t TryLock EBUSY other h = (o, (h.1, refl))
+may held o t TimedLock EBUSY other h = absurd (cc h.0)
 may held o t Unlock EBUSY other h = absurd (cc h.0)
 may held o t Consistent EBUSY other h = absurd (cc h.0)
 may held o t Wait EBUSY other h = absurd (cc h.0)
@@ -190,6 +210,7 @@ may held o t Death EBUSY other h = absurd (cc h.0)
 may held o t Reinit EBUSY other h = absurd (cc h.0)
 may held o t Lock EPERM other h = absurd h
 may held o t TryLock EPERM other h = absurd h
+may held o t TimedLock EPERM other h = absurd h
 may held o t Unlock EPERM other h = (o, (h, refl))
 may held o t Consistent EPERM other h = (o, (h, refl))
 may held o t Wait EPERM other h = (o, (h, refl))
@@ -199,6 +220,7 @@ may held o t Death EPERM other h = absurd h
 may held o t Reinit EPERM other h = absurd h
 may held o t Lock EINVAL other h = absurd (cc h.0)
 may held o t TryLock EINVAL other h = absurd (cc h.0)
+may held o t TimedLock EINVAL other h = absurd (cc h.0)
 may held o t Unlock EINVAL other h = absurd (cc h.0)
 may held o t Consistent EINVAL other h = (o, (h.1, h.2, refl))
 may held o t Wait EINVAL other h = absurd (cc h.0)
@@ -208,6 +230,7 @@ may held o t Death EINVAL other h = absurd (cc h.0)
 may held o t Reinit EINVAL other h = absurd (cc h.0)
 may held o t Lock XSTATE other h = absurd (cc h.0)
 may held o t TryLock XSTATE other h = absurd (cc h.0)
+may held o t TimedLock XSTATE other h = absurd (cc h.0)
 may held o t Unlock XSTATE other h = absurd (cc h.0)
 may held o t Consistent XSTATE other h = absurd (cc h.0)
 may held o t Wait XSTATE other h = (o, (h.1, h.2, refl))
@@ -217,6 +240,7 @@ may held o t Death XSTATE other h = absurd (cc h.0)
 may held o t Reinit XSTATE other h = absurd (cc h.0)
 may held o t Lock XFULL other h = absurd (⊎_elim (λ (e : Lock ≡ Signal). absurd (cc e)) (λ (e : Lock ≡ Broadcast). absurd (cc e)) h.0)
 may held o t TryLock XFULL other h = absurd (⊎_elim (λ (e : TryLock ≡ Signal). absurd (cc e)) (λ (e : TryLock ≡ Broadcast). absurd (cc e)) h.0)
+may held o t TimedLock XFULL other h = absurd (⊎_elim (λ (e : TimedLock ≡ Signal). absurd (cc e)) (λ (e : TimedLock ≡ Broadcast). absurd (cc e)) h.0)
 may held o t Unlock XFULL other h = absurd (⊎_elim (λ (e : Unlock ≡ Signal). absurd (cc e)) (λ (e : Unlock ≡ Broadcast). absurd (cc e)) h.0)
 may held o t Consistent XFULL other h = absurd (⊎_elim (λ (e : Consistent ≡ Signal). absurd (cc e)) (λ (e : Consistent ≡ Broadcast). absurd (cc e)) h.0)
 may held o t Wait XFULL other h = absurd (⊎_elim (λ (e : Wait ≡ Signal). absurd (cc e)) (λ (e : Wait ≡ Broadcast). absurd (cc e)) h.0)
@@ -226,6 +250,7 @@ may held o t Death XFULL other h = absurd (⊎_elim (λ (e : Death ≡ Signal). 
 may held o t Reinit XFULL other h = absurd (⊎_elim (λ (e : Reinit ≡ Signal). absurd (cc e)) (λ (e : Reinit ≡ Broadcast). absurd (cc e)) h.0)
 may held o t Lock XRACED other h = absurd (cc h.0)
 may held o t TryLock XRACED other h = (o, (h.2, h.1, refl))
+may held o t TimedLock XRACED other h = absurd (cc h.0)
 may held o t Unlock XRACED other h = absurd (cc h.0)
 may held o t Consistent XRACED other h = absurd (cc h.0)
 may held o t Wait XRACED other h = absurd (cc h.0)
@@ -239,13 +264,8 @@ may held o t op r other h = absurd h
 held_few : (held : ℕ) (o : Object) (t : ℕ) (op : Operation) → (acquires op && nat_le 2048 held) ≡ false → HasReason held o t op XHELD → ⊥
 held_few held o t Lock e why = cc (e, why.1)
 held_few held o t TryLock e why = cc (e, why.1)
-held_few held o t Unlock e why = ⊎_elim (λ (x : Unlock ≡ Lock). cc x) (λ (x : Unlock ≡ TryLock). cc x) why.0
-held_few held o t Consistent e why = ⊎_elim (λ (x : Consistent ≡ Lock). cc x) (λ (x : Consistent ≡ TryLock). cc x) why.0
-held_few held o t Wait e why = ⊎_elim (λ (x : Wait ≡ Lock). cc x) (λ (x : Wait ≡ TryLock). cc x) why.0
-held_few held o t Signal e why = ⊎_elim (λ (x : Signal ≡ Lock). cc x) (λ (x : Signal ≡ TryLock). cc x) why.0
-held_few held o t Broadcast e why = ⊎_elim (λ (x : Broadcast ≡ Lock). cc x) (λ (x : Broadcast ≡ TryLock). cc x) why.0
-held_few held o t Death e why = ⊎_elim (λ (x : Death ≡ Lock). cc x) (λ (x : Death ≡ TryLock). cc x) why.0
-held_few held o t Reinit e why = ⊎_elim (λ (x : Reinit ≡ Lock). cc x) (λ (x : Reinit ≡ TryLock). cc x) why.0
+held_few held o t TimedLock e why = cc (e, why.1)
+held_few held o t op e why = cc why.0
 
 pub suffice : ReasonsSuffice
 suffice held o t op r h limit = by_cases (acquires op && nat_le 2048 held) refl where

@@ -1,10 +1,10 @@
 -- What steps of objects leave.
 use Rattle.std.proofs.Common.{◌≡◌, ℕ, ◌&&◌, Bool, true, false, nat_le, MatchBool, refl, sym, ap, ◌∙◌}
 use Rattle.lockword.specs.declared.reply.Reply.{Reply}
-use Rattle.lockword.specs.declared.reply.Reply.TheVariants.{OK, EPERM, EBUSY, EINVAL, EDEADLK, EOWNERDEAD, ENOTRECOVERABLE, XRACED, XHELD, XFULL, XSTATE}
+use Rattle.lockword.specs.declared.reply.Reply.TheVariants.{OK, EPERM, EBUSY, EINVAL, EDEADLK, ETIMEDOUT, EOWNERDEAD, ENOTRECOVERABLE, XRACED, XHELD, XFULL, XSTATE}
 use Rattle.posixmutex.specs.declared.object.Object.{Object}
 use Rattle.posixmutex.specs.declared.point.Operation.{Operation}
-use Rattle.posixmutex.specs.declared.point.Operation.TheVariants.{Lock, TryLock, Unlock, Consistent, Wait, Signal, Broadcast, Death, Reinit}
+use Rattle.posixmutex.specs.declared.point.Operation.TheVariants.{Lock, TryLock, TimedLock, Unlock, Consistent, Wait, Signal, Broadcast, Death, Reinit}
 use Rattle.posixmutex.specs.Objects.{Permits, acquires, stepped, StepsAreDetermined}
 
 permits_steps : (o : Object) (t : ℕ) (op : Operation) (x : Reply) (n : Object) → Permits o t op x n → n ≡ stepped o t op x
@@ -17,6 +17,7 @@ permits_steps o t TryLock EOWNERDEAD n h = h.3
 permits_steps o t TryLock ENOTRECOVERABLE n h = h.1
 permits_steps o t TryLock EBUSY n h = h.1
 permits_steps o t TryLock XRACED n h = h.2
+permits_steps o t TimedLock ETIMEDOUT n h = h
 permits_steps o t Unlock OK n h = h.1
 permits_steps o t Unlock EPERM n h = h.1
 permits_steps o t Consistent OK n h = h.2
@@ -38,6 +39,7 @@ permits_steps o t op x n h = absurd h
 refused_steps : (o : Object) (t : ℕ) (op : Operation) (x : Reply) (n : Object) → acquires op ≡ true → (x ≡ XHELD) × (n ≡ o) → n ≡ stepped o t op x
 refused_steps o t Lock x n e h = h.1 ∙ ap (λ y. stepped o t Lock y) (sym h.0)
 refused_steps o t TryLock x n e h = h.1 ∙ ap (λ y. stepped o t TryLock y) (sym h.0)
+refused_steps o t TimedLock x n e h = h.1 ∙ ap (λ y. stepped o t TimedLock y) (sym h.0)
 refused_steps o t op x n e h = absurd cc
 
 first : (a b : Bool) → (a && b) ≡ true → a ≡ true

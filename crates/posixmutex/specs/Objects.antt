@@ -16,11 +16,11 @@ use Rattle.std.specs.Prelude.{ℕ, zero, suc, ◌≡◌, ◌≢◌, Bool, true, 
 use Rattle.std.specs.Prelude.{nat_le, if◌then◌else◌, MatchBool, Option, Some, None, List, [], ◌∷◌}
 use Rattle.lockword.specs.Cells.{Fields}
 use Rattle.lockword.specs.declared.reply.Reply.{Reply}
-use Rattle.lockword.specs.declared.reply.Reply.TheVariants.{OK, EPERM, EBUSY, EINVAL, EDEADLK, EOWNERDEAD}
-use Rattle.lockword.specs.declared.reply.Reply.TheVariants.{ENOTRECOVERABLE, XRACED, XHELD, XFULL, XSTATE}
+use Rattle.lockword.specs.declared.reply.Reply.TheVariants.{OK, EPERM, EBUSY, EINVAL, EDEADLK, ETIMEDOUT}
+use Rattle.lockword.specs.declared.reply.Reply.TheVariants.{EOWNERDEAD, ENOTRECOVERABLE, XRACED, XHELD, XFULL, XSTATE}
 use Rattle.posixmutex.specs.declared.point.Operation.{Operation}
-use Rattle.posixmutex.specs.declared.point.Operation.TheVariants.{Lock, TryLock, Unlock, Consistent, Wait}
-use Rattle.posixmutex.specs.declared.point.Operation.TheVariants.{Signal, Broadcast, Death, Reinit}
+use Rattle.posixmutex.specs.declared.point.Operation.TheVariants.{Lock, TryLock, TimedLock, Unlock, Consistent}
+use Rattle.posixmutex.specs.declared.point.Operation.TheVariants.{Wait, Signal, Broadcast, Death, Reinit}
 use Rattle.posixmutex.specs.declared.point.Point.{Point}
 use Rattle.posixmutex.specs.declared.object.Object.{Object}
 
@@ -40,7 +40,9 @@ declared_consistent o = record { owner = o.owner; inconsistent = false; unusable
 abbrev pub bereaved : Object → Object
 bereaved o = record { owner = None; inconsistent = true; unusable = o.unusable }
 
--- from the old object, thread t's operation may reply so and leave the new one: one clause for each operation and reply
+-- from the old object, thread t's operation may reply so and leave the new one: one clause for each operation and
+-- reply. A call with a time limit is a lock, or out of time, which changes nothing: that another thread owned the mutex
+-- at some moment of the call is a matter of a trace's lines, since that moment may be past
 abbrev pub Permits : Object → ℕ → Operation → Reply → Object → Type 0
 Permits o t Lock OK n = (o.unusable ≡ false) × (o.owner ≡ None) × (o.inconsistent ≡ false) × (n ≡ owned_by o t)
 Permits o t Lock EOWNERDEAD n = (o.unusable ≡ false) × (o.owner ≡ None) × (o.inconsistent ≡ true) × (n ≡ owned_by o t)
@@ -52,6 +54,7 @@ Permits o t TryLock EOWNERDEAD n =
 Permits o t TryLock ENOTRECOVERABLE n = (o.unusable ≡ true) × (n ≡ o)
 Permits o t TryLock EBUSY n = (o.owner ≢ None) × (n ≡ o)
 Permits o t TryLock XRACED n = (o.unusable ≡ false) × (o.owner ≡ None) × (n ≡ o)
+Permits o t TimedLock ETIMEDOUT n = n ≡ o
 Permits o t Unlock OK n = (o.owner ≡ Some t) × (n ≡ freed o)
 Permits o t Unlock EPERM n = (o.owner ≢ Some t) × (n ≡ o)
 Permits o t Consistent OK n = (o.owner ≡ Some t) × (o.inconsistent ≡ true) × (n ≡ declared_consistent o)
@@ -70,9 +73,16 @@ Permits o t Reinit OK n = (o.unusable ≡ true) × (o.owner ≡ None) × (n ≡ 
 Permits o t op r n = ⊥
 
 -- the operations that take a mutex
+abbrev pub takes : Operation → Bool
+takes Lock = true
+takes TryLock = true
+takes op = false
+
+-- those of calls that may take one
 abbrev pub acquires : Operation → Bool
 acquires Lock = true
 acquires TryLock = true
+acquires TimedLock = true
 acquires op = false
 
 -- how many mutexes a thread may hold, and how many entries of a dead thread's list the kernel walks: so a walk meets
@@ -148,15 +158,18 @@ HasReason held o t Lock OK = (o.owner ≡ None) × (o.inconsistent ≡ false) ×
 HasReason held o t TryLock OK = (o.owner ≡ None) × (o.inconsistent ≡ false) × (o.unusable ≡ false)
 HasReason held o t Consistent OK = (o.owner ≡ Some t) × (o.inconsistent ≡ true)
 HasReason held o t Reinit OK = (o.owner ≡ None) × (o.unusable ≡ true)
+HasReason held o t TimedLock OK = ⊥
 HasReason held o t Wait OK = ⊥
 HasReason held o t op OK = o.owner ≡ Some t
 HasReason held o t op EOWNERDEAD =
-    (acquires op ≡ true) × (o.owner ≡ None) × (o.inconsistent ≡ true) × (o.unusable ≡ false)
-HasReason held o t op ENOTRECOVERABLE = (acquires op ≡ true) × (o.unusable ≡ true)
+    (takes op ≡ true) × (o.owner ≡ None) × (o.inconsistent ≡ true) × (o.unusable ≡ false)
+HasReason held o t op ENOTRECOVERABLE = (takes op ≡ true) × (o.unusable ≡ true)
 HasReason held o t op EDEADLK = (op ≡ Lock) × (o.owner ≡ Some t)
+HasReason held o t op ETIMEDOUT = op ≡ TimedLock
 HasReason held o t op EBUSY = (op ≡ TryLock) × (o.owner ≢ None)
 HasReason held o t Lock EPERM = ⊥
 HasReason held o t TryLock EPERM = ⊥
+HasReason held o t TimedLock EPERM = ⊥
 HasReason held o t Death EPERM = ⊥
 HasReason held o t Reinit EPERM = ⊥
 HasReason held o t op EPERM = o.owner ≢ Some t
@@ -164,7 +177,7 @@ HasReason held o t op EINVAL = (op ≡ Consistent) × (o.owner ≡ Some t) × (o
 HasReason held o t op XSTATE = (op ≡ Wait) × (o.owner ≡ Some t) × (o.inconsistent ≡ true)
 HasReason held o t op XFULL = ((op ≡ Signal) ⊎ (op ≡ Broadcast)) × (o.owner ≡ Some t)
 HasReason held o t op XRACED = (op ≡ TryLock) × (o.owner ≡ None) × (o.unusable ≡ false)
-HasReason held o t op XHELD = ((op ≡ Lock) ⊎ (op ≡ TryLock)) × (nat_le held_limit held ≡ true)
+HasReason held o t op XHELD = (acquires op ≡ true) × (nat_le held_limit held ≡ true)
 HasReason held o t op r = ⊥
 
 abbrev pub RepliesHaveReasons : Type 0

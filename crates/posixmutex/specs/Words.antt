@@ -5,12 +5,13 @@
 use Rattle.std.specs.Prelude.{ℕ, ◌≡◌, List, [], ◌∷◌, Option, Some, find, codes}
 use Rattle.std.specs.Str.{bytes_eq}
 use Rattle.posixmutex.specs.declared.point.Operation.{Operation}
-use Rattle.posixmutex.specs.declared.point.Operation.TheVariants.{Lock, TryLock, Unlock, Consistent, Wait}
-use Rattle.posixmutex.specs.declared.point.Operation.TheVariants.{Signal, Broadcast, Death, Reinit}
+use Rattle.posixmutex.specs.declared.point.Operation.TheVariants.{Lock, TryLock, TimedLock, Unlock, Consistent}
+use Rattle.posixmutex.specs.declared.point.Operation.TheVariants.{Wait, Signal, Broadcast, Death, Reinit}
 
 abbrev pub operation_word : Operation → List ℕ
 operation_word Lock = codes "lock"
 operation_word TryLock = codes "trylock"
+operation_word TimedLock = codes "timedlock"
 operation_word Unlock = codes "unlock"
 operation_word Consistent = codes "consistent"
 operation_word Wait = codes "wait"
@@ -21,7 +22,8 @@ operation_word Reinit = codes "reinit"
 
 -- every operation
 abbrev pub all_operations : List Operation
-all_operations = Lock ∷ TryLock ∷ Unlock ∷ Consistent ∷ Wait ∷ Signal ∷ Broadcast ∷ Death ∷ Reinit ∷ []
+all_operations =
+    Lock ∷ TryLock ∷ TimedLock ∷ Unlock ∷ Consistent ∷ Wait ∷ Signal ∷ Broadcast ∷ Death ∷ Reinit ∷ []
 
 -- the operation that has this word
 unfoldable pub operation_of : List ℕ → Option Operation

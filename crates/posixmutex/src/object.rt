@@ -39,7 +39,9 @@ impl Object {
         ensures { MatchOption result ((new : Object) → ¬ Does held self thread operation reply new)
             (λ new. Does held self thread operation reply new) }
     {
-        let acquires = operation == Operation::Lock || operation == Operation::TryLock;
+        let acquires = operation == Operation::Lock
+            || operation == Operation::TryLock
+            || operation == Operation::TimedLock;
         if acquires && HELD_LIMIT <= held {
             return self.kept(reply == Reply::XHELD);
         }
@@ -53,6 +55,7 @@ impl Object {
         match operation {
             Operation::Lock => self.locked(thread, reply),
             Operation::TryLock => self.tried(thread, reply),
+            Operation::TimedLock => self.timed(thread, reply),
             Operation::Unlock => self.unlocked(thread, reply),
             Operation::Consistent => self.declared(thread, reply),
             Operation::Wait => self.waited(thread, reply),
@@ -90,6 +93,13 @@ impl Object {
             Reply::XRACED => self.kept(free),
             _ => None,
         }
+    }
+
+    fn timed(self, thread: Tid, reply: Reply) -> Option<Object>
+        ensures { MatchOption result ((new : Object) → ¬ Permits self thread Operation.TimedLock reply new)
+            (λ new. Permits self thread Operation.TimedLock reply new) }
+    {
+        self.kept(reply == Reply::ETIMEDOUT)
     }
 
     fn unlocked(self, thread: Tid, reply: Reply) -> Option<Object>

@@ -14,6 +14,8 @@ use thiserror::Error;
 pub enum Operation {
     Lock,
     TryLock,
+    /// A lock's time limit came (pthread_mutex_timedlock(3p)): one that takes its mutex, or is refused, is a lock.
+    TimedLock,
     Unlock,
     Consistent,
     Wait,
@@ -34,6 +36,7 @@ impl Operation {
         match self {
             Operation::Lock => "lock",
             Operation::TryLock => "trylock",
+            Operation::TimedLock => "timedlock",
             Operation::Unlock => "unlock",
             Operation::Consistent => "consistent",
             Operation::Wait => "wait",
@@ -51,12 +54,13 @@ impl Operation {
 pub struct ParseOperationError;
 
 /// Every operation.
-fn operations() -> array::IntoIter<Operation, 9>
+fn operations() -> array::IntoIter<Operation, 10>
     ensures { array_into_iter_items result ≡ all_operations }
 {
     [
         Operation::Lock,
         Operation::TryLock,
+        Operation::TimedLock,
         Operation::Unlock,
         Operation::Consistent,
         Operation::Wait,

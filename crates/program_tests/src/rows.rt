@@ -53,6 +53,41 @@ static OF_TWO_THREADS: Runs = Runs {
              22 point t1 m0 unlock OK\n25 return t1 OK\n27 point t2 m0 lock OK\n32 return t2 OK\nend 32\n",
             "thread a idle 0 OK\nthread b idle 1 OK\nmutex m 0000000080000002 b -\n",
         ),
+        // A time limit comes while the mutex has its owner. The owner's unlock finds nobody asleep, and trims.
+        (
+            "call b timedlock m\nexpire b\ngo b\ncall a unlock m\n",
+            "10 begin t2 timedlock m0\n14 sleep t2 m0\n15 wake t2\n15 point t2 m0 timedlock ETIMEDOUT\n\
+             16 return t2 ETIMEDOUT\n17 begin t1 unlock m0\n23 point t1 m0 unlock OK\n26 return t1 OK\nend 26\n",
+            "thread a idle 0 OK\nthread b idle 0 ETIMEDOUT\nmutex m 0000000000000000 - -\n",
+        ),
+        // It comes behind the mark of the dead owner's mutex, before its wake, which finds nobody.
+        (
+            "call b timedlock m\nkill a\nstep a 6\nexpire b\ngo b\ngo a\ncall b timedlock m\n",
+            "10 begin t2 timedlock m0\n14 sleep t2 m0\n15 kill t1\n21 death t1 m0\n22 wake t2\n\
+             22 point t2 m0 timedlock ETIMEDOUT\n23 return t2 ETIMEDOUT\n24 reaped t1\n\
+             25 begin t2 timedlock m0\n28 point t2 m0 lock EOWNERDEAD\n33 return t2 EOWNERDEAD\nend 33\n",
+            "thread a reaped 0 OK\nthread b idle 1 EOWNERDEAD\nmutex m 00000000c0000002 b -\n",
+        ),
+        // It comes behind the unlock's wake: nothing happens, and the thread takes the mutex.
+        (
+            "call b timedlock m\ncall a unlock m\nexpire b\ngo b\n",
+            "10 begin t2 timedlock m0\n14 sleep t2 m0\n15 begin t1 unlock m0\n21 point t1 m0 unlock OK\n\
+             22 wake t2\n23 return t1 OK\n26 point t2 m0 lock OK\n31 return t2 OK\nend 31\n",
+            "thread a idle 0 OK\nthread b idle 1 OK\nmutex m 0000000080000002 b -\n",
+        ),
+        // It is killed between its limit and the store that clears its entry: its walk finds that pending.
+        (
+            "call b timedlock m\nexpire b\nkill b\ngo b\n",
+            "10 begin t2 timedlock m0\n14 sleep t2 m0\n15 wake t2\n15 point t2 m0 timedlock ETIMEDOUT\n\
+             16 kill t2\n20 reaped t2\nend 20\n",
+            "thread a idle 1 OK\nthread b reaped 0 -\nmutex m 0000000080000001 a -\n",
+        ),
+        // A lock, an owner and a thread in no call have no time limit.
+        (
+            "expire b\ncall b lock m\nexpire b\nexpire a\ngo b\n",
+            "11 begin t2 lock m0\n15 sleep t2 m0\nend 17\n",
+            "thread a idle 1 OK\nthread b asleep 0 -\nmutex m 0000000080000001 a b\n",
+        ),
         // The owner is killed between the unlink store and the release.
         (
             "begin a unlock m\nstep a 5\nkill a\ngo a\ncall b lock m\n",
@@ -172,6 +207,15 @@ static WHOLE: Runs = Runs {
              killall p\nkillall p\n",
             "trace 4 1 0\n1 kill t1\n2 kill t4\nend 4\n",
             "thread a dying 0 -\nthread b idle 0 -\nthread c idle 0 -\nthread d dying 0 -\nmutex m 0000000000000000 - -\n",
+        ),
+        // Nor has a wait, be it asleep on its condition variable or, moved there, on the mutex.
+        (
+            "thread a\nthread b\nmutex m\ncond c m 0\ncall a lock m\ncall a wait c\nexpire a\ncall b lock m\n\
+             call b broadcast c\nexpire a\n",
+            "trace 2 1 1\n1 begin t1 lock m0\n4 point t1 m0 lock OK\n9 return t1 OK\n10 begin t1 wait c0 m0\n\
+             17 point t1 m0 unlock OK\n18 sleep t1 c0\n20 begin t2 lock m0\n23 point t2 m0 lock OK\n28 return t2 OK\n\
+             29 begin t2 broadcast c0 m0\n32 point t2 m0 broadcast OK\n34 move t1 m0\n34 return t2 OK\nend 35\n",
+            "thread a asleep 0 OK\nthread b idle 1 OK\nmutex m 0000000080000002 b a\ncond c 1 -\n",
         ),
         // Who doesn't own the mutex of a condition variable is refused.
         (
@@ -313,10 +357,12 @@ fn sleepers_of_one_bucket_wake_by_their_mutex(rt: HostRuntime) {
 
 #[test]
 fn a_thread_holds_2048_mutexes_and_dies(rt: HostRuntime) {
-    let script = "thread a\nmutexes m 2049\nlocks a m0 2048\ncall a lock m2048\nkill a\ngo a\n";
+    let script =
+        "thread a\nmutexes m 2049\nlocks a m0 2048\ncall a lock m2048\ncall a timedlock m2048\nkill a\ngo a\n";
     let lines = "20480 begin t1 lock m2048\n20480 point t1 m2048 lock X_HELD\n\
-        20480 return t1 X_HELD\n20481 kill t1\n20487 death t1 m2047\n20490 death t1 m2046\n\
-        26628 death t1 m0\n26628 reaped t1\nend 26628\n";
+        20480 return t1 X_HELD\n20481 begin t1 timedlock m2048\n20481 point t1 m2048 timedlock X_HELD\n\
+        20481 return t1 X_HELD\n20482 kill t1\n20488 death t1 m2047\n20491 death t1 m2046\n\
+        26629 death t1 m0\n26629 reaped t1\nend 26629\n";
     assert!(rt; trace_has(&rt, script, lines));
     let table = table(&rt, script);
     assert!(rt; table.status == 0 && table.told.is_empty());

@@ -75,6 +75,11 @@ fn sample(alloc: Global) -> Result<Trace, AllocError> {
         stepped(20, None, Some(Reply::OK)),
         stepped(3, Some(inherited), None),
         began(2, Call::TryLock(7), None),
+        began(4, Call::TimedLock(8), None),
+        Note::Expired {
+            thread: tid(4),
+            mutex: 8,
+        },
     ];
     Ok(Trace {
         threads: 64,
@@ -95,7 +100,10 @@ const TEXT: &str = "trace 64 4096 10\n\
     7 return t20 OK\n\
     8 point t3 m2 lock EOWNERDEAD\n\
     9 begin t2 trylock m7\n\
-    end 9\n";
+    10 begin t4 timedlock m8\n\
+    11 wake t4\n\
+    11 point t4 m8 timedlock ETIMEDOUT\n\
+    end 11\n";
 
 #[test]
 fn each_kind_of_note_has_its_lines(rt: HostRuntime) -> Result<(), AllocError> {

@@ -1,9 +1,11 @@
 -- The points that a call has made so far, and what each access adds to them.
-use Rattle.std.proofs.Common.{◌≡◌, ◌⊎◌, ⊎_elim, inl, inr, ℕ, Option, Some, None, List, [], ◌∷◌, ◌++◌, refl, sym, ap, ◌∙◌, subst, arith}
+use Rattle.std.proofs.Common.{◌≡◌, ◌≢◌, ◌⊎◌, ⊎_elim, inl, inr, ℕ, Option, Some, None, List, [], ◌∷◌, ◌++◌, refl, sym, ap, ◌∙◌, subst, arith}
 use Rattle.protocol.proofs.Vocabulary.{CondCall, CondRow, CondPhase, CondWhole, cond_access, cond_led, Begun, Fact, Operation, Layout', Fields, Reply, OK, Phase, Onward, Joins}
 use Rattle.protocol.proofs.Vocabulary.{Whole, Op, OnMutex, OnCondition, Stage, Idle, Calling, AtCondition, Dying, Reaped, begun_of, answer_among, stage_after, returned, led}
 use Rattle.protocol.proofs.Vocabulary.{led_at, WaitRow, SignalRow, BroadcastRow}
 use Rattle.mutex.specs.Calls as mutex
+use Rattle.mutex.specs.declared.call.Call.{Call}
+use Rattle.lockword.specs.declared.reply.Reply.TheVariants.{ETIMEDOUT}
 use Rattle.mutex.specs.declared.phase.Phase.TheVariants.{Ended}
 use Rattle.condvar.specs.Calls as condition
 use Rattle.facts.specs.declared.fact.Fact.TheVariants.{Begin, Renew}
@@ -20,10 +22,15 @@ use Rattle.protocol.proofs.Kept.{IsFor, AtPhase}
 abbrev pub released : List Act
 released = (Operation.Unlock, OK) ∷ []
 
+-- the operation of a call's point with this reply: of a lock that is out of time its own
+abbrev pub told_as : Call → Reply → Operation
+told_as (Call.TimedLock m) ETIMEDOUT = Operation.TimedLock
+told_as c x = mutex.acts_as c
+
 -- of a call on a mutex, or of a wait in the lock that ends it, undecided or decided
 abbrev pub acts_by : Op → Option Reply → List Act
 acts_by (OnMutex c) None = []
-acts_by (OnMutex c) (Some x) = (mutex.operation_of c, x) ∷ []
+acts_by (OnMutex c) (Some x) = (told_as c x, x) ∷ []
 acts_by (OnCondition (CondCall.Wait k)) None = released
 acts_by (OnCondition (CondCall.Wait k)) (Some x) = (Operation.Unlock, OK) ∷ (Operation.Lock, x) ∷ []
 acts_by (OnCondition c) d = []
@@ -43,15 +50,30 @@ acts_in c (CondPhase.AtWords r) = acts_row c r
 acts_in c f = []
 
 -- they are the first of such a call's points
+pub own_point : (op : Operation) (x : Reply) → Complete op ((op, x) ∷ []) x
+own_point Operation.TimedLock x = inl refl
+own_point op x = refl
+
 begins_with : (op : Operation) (x : Reply) → Beginning op []
-begins_with op x = ((op, x) ∷ [], x, refl)
+begins_with op x = ((op, x) ∷ [], x, own_point op x)
 
 one_point : (op : Operation) (x : Reply) → Beginning op ((op, x) ∷ [])
-one_point op x = ([], x, refl)
+one_point op x = ([], x, own_point op x)
+
+timed_point : (m : ℕ) (x : Reply) → Complete Operation.TimedLock ((told_as (Call.TimedLock m) x, x) ∷ []) x
+timed_point m ETIMEDOUT = inl refl
+timed_point m x = inr refl
+
+call_point : (c : Call) (x : Reply) → Complete (mutex.operation_of c) ((told_as c x, x) ∷ []) x
+call_point (Call.TimedLock m) x = timed_point m x
+call_point (Call.Lock m) x = refl
+call_point (Call.TryLock m) x = refl
+call_point (Call.Unlock m) x = refl
+call_point (Call.Consistent m) x = refl
 
 pub acts_begin : (o : Op) (d : Option Reply) → Beginning (operation_of o) (acts_by o d)
 acts_begin (OnMutex c) None = begins_with (mutex.operation_of c) OK
-acts_begin (OnMutex c) (Some x) = one_point (mutex.operation_of c) x
+acts_begin (OnMutex c) (Some x) = ([], x, call_point c x)
 acts_begin (OnCondition (CondCall.Wait k)) None = ((Operation.Lock, OK) ∷ [], OK, (refl, refl))
 acts_begin (OnCondition (CondCall.Wait k)) (Some x) = ([], x, (refl, refl))
 acts_begin (OnCondition (CondCall.Signal k)) d = begins_with Operation.Signal OK
@@ -77,11 +99,14 @@ acts_of op None = []
 acts_of op (Some x) = (op, x) ∷ []
 
 -- of a call on a mutex, or of the lock that ends a wait
-joined_acts : (l : Layout') (o : Op) (op : Operation) (d x y : Option Reply) → IsFor l o op → Joins d x y → acts_by o y ≡ acts_by o d ++ acts_of op x
-joined_acts l o op d x y is joins = grind (arith)
+joined_acts : (l : Layout') (o : Op) (op : Operation) (d x y : Option Reply) → IsFor l o op → Joins d x y → x ≢ Some ETIMEDOUT → acts_by o y ≡ acts_by o d ++ acts_of op x
+joined_acts l o op d x y is joins timely = grind (arith)
 
 completed : (l : Layout') (o : Op) (op : Operation) (x : Reply) → IsFor l o op → Complete (operation_of o) (acts_by o (Some x)) x
-completed l o op x is = grind (arith)
+completed l (OnMutex c) op x is = call_point c x
+completed l (OnCondition (CondCall.Wait k)) op x is = (refl, refl)
+completed l (OnCondition (CondCall.Signal k)) op x is = absurd (cc is.1)
+completed l (OnCondition (CondCall.Broadcast k)) op x is = absurd (cc is.1)
 
 -- ---- of a call on a condition variable, at a row
 
@@ -116,11 +141,11 @@ pub record Follows (l : Layout') (t : ℕ) (o : Op) (ps : List Act) (g : Led) : 
   pub back : (x : Reply) → g.returned ≡ Some x → Complete (operation_of o) (ps ++ acts_of g.operation g.point) x
 
 -- of a call on a mutex, or of the lock that ends a wait
-pub call_follows : (l : Layout') (t : ℕ) (o : Op) (p : Whole) (g : Onward) → IsFor l o p.operation → Joins (decided_at p.phase) g.point (decided_at g.phase) → Follows l t o (acts_by o (decided_at p.phase)) (led o p g)
-call_follows l t o p g is joins = record { on = λ none fs later. on none fs later; back = λ x e. back x (ended_or_not g.phase) e }
+pub call_follows : (l : Layout') (t : ℕ) (o : Op) (p : Whole) (g : Onward) → IsFor l o p.operation → Joins (decided_at p.phase) g.point (decided_at g.phase) → g.point ≢ Some ETIMEDOUT → Follows l t o (acts_by o (decided_at p.phase)) (led o p g)
+call_follows l t o p g is joins timely = record { on = λ none fs later. on none fs later; back = λ x e. back x (ended_or_not g.phase) e }
   where
     adds : acts_by o (decided_at g.phase) ≡ acts_by o (decided_at p.phase) ++ acts_of p.operation g.point
-    adds = joined_acts l o p.operation (decided_at p.phase) g.point (decided_at g.phase) is joins
+    adds = joined_acts l o p.operation (decided_at p.phase) g.point (decided_at g.phase) is joins timely
 
     on : returned g.phase ≡ None → (fs : List Fact) → Goes l t (stage_after o p g.phase) fs → Doing t (begun_of l o) (acts_by o (decided_at p.phase) ++ acts_of p.operation g.point) fs
     on none fs later =

@@ -3,11 +3,16 @@ use Rattle.std.proofs.Common.{◌≡◌, ◌≢◌, ℕ, ◌≤◌, ◌==◌, Bo
 use Rattle.protocol.proofs.Vocabulary.{Left, Renewed, Reinited, Trimmed, spared, departed, renewed, reinited, waiters_of, MayRemake, Whole, cell_place}
 use Rattle.protocol.specs.Machine.{is_gone, may_reinit, may_remake}
 use Rattle.protocol.proofs.Departures.{asleep_where}
+use Rattle.mutex.specs.Whole.{may_expire, timed_out}
+use Rattle.protocol.proofs.Vocabulary.{Call, OnMutex}
+use Rattle.protocol.proofs.Expiring.{lapse_goes, loads_next}
 use Rattle.protocol.proofs.Declines.{decline_goes, decline_rests}
 use Rattle.protocol.proofs.Queued.{asleep_there}
 use Rattle.protocol.proofs.Events.{trims_at}
 use Rattle.protocol.specs.Machine.{is_trim}
-use Rattle.protocol.specs.Applies.{Agrees, IsQuietAccessOf}
+use Rattle.protocol.specs.Applies.{Agrees, IsQuietAccessOf, IsTold}
+use Rattle.protocol.specs.PassedBy.{call_told}
+use Rattle.protocol.proofs.CallsTold.{told_run}
 use Rattle.protocol.proofs.Vocabulary.{cond_access, cond_led, Mutex, Condition, Queue, Fact, Decision, Layout', Access, Reply, XHELD, whole_access, whole_led, Op, OnMutex}
 use Rattle.protocol.proofs.Vocabulary.{OnCondition, mutex_of, begun_of, Event, Note, Began, Stepped, Walked, Thread, Stage, Idle, Calling, Dying, Reaped, facts_of}
 use Rattle.protocol.proofs.Vocabulary.{return_facts, reap_facts, State, After, put, start, answer_of, is_calling, is_alive, begun, nothing, decision, slept_in, falls_asleep, woken}
@@ -136,6 +141,9 @@ on_a_walk_agrees s u t w a v is =
     subst (λ (x : Told). Agrees x ((walked s u (s.threads u).held v).state.threads t).stage) (sym (told_walked t w u death (woken s u (exit.access_of v)) (has_ended r)))
     (walked_agrees s u t (held_after (s.threads u).held Operation.Death (told_of_death death)) v w is a r)
 
+calls_on : (w : Told) (o : Op) (p q : Whole) → Agrees w (Calling o p) → Agrees w (Calling o q)
+calls_on w o p q a = grind (arith)
+
 next_agrees : (s : State) (e : Event) (t : ℕ) (w : Told) → Agrees w (s.threads t).stage → Agrees (told_after t w (facts_of (happens s e).note)) ((happens s e).state.threads t).stage
 next_agrees s e t w a =
     by_event s (λ (x : Event) (z : After). Agrees (told_after t w (facts_of z.note)) (z.state.threads t).stage)
@@ -150,6 +158,7 @@ next_agrees s e t w a =
     (λ v is awake. on_a_walk_agrees s u t w a v is))
     (λ u pos known alive. moved s u t w Dead _ a tt)
     (λ u pos known asleep. a)
+    (λ u m p pos known is asleep may. unmoved s u t w Gone (record { stage = Calling (OnMutex (Call.TimedLock m)) (timed_out p); held = (s.threads u).held }) a (λ same. calls_on w (OnMutex (Call.TimedLock m)) p (timed_out p) (subst (Agrees w) (ap (λ (y : ℕ). (s.threads y).stage) same ∙ is) a)))
     (λ u o p pos known is awake trims. spared_agrees s u t (s.threads u).held (mutex_of s.layout o) (led o p (whole_led p (Trimmed false))) w (ap is_calling is) (call_ends o p (whole_led p (Trimmed false))) a)
     (λ u pos known gone. moved s u t w AtRest _ a tt)
     (λ u m may. refused_agrees s u t w may.remake.resting a)
@@ -174,7 +183,7 @@ both true true e f = refl
 both true false e f = f
 both false b e f = e
 
-module _ (s : State) (ns : List Note) (inv : Kept s) (queued : Queued s) (agrees : (t : ℕ) → Agrees (last_told t ns) (s.threads t).stage) where
+module _ (s : State) (ns : List Note) (inv : Kept s) (queued : Queued s) (agrees : (t : ℕ) → Agrees (last_told t ns) (s.threads t).stage) (calls : (t : ℕ) → IsTold s.layout (s.threads t).stage (call_told t ns)) where
   known : (t : ℕ) → IsThread s.layout t → has_thread s t ≡ true
   known t range = let first : 1 ≤ t = range.0 in let most : t ≤ s.layout.threads = range.1 in grind (arith, nat_tests)
 
@@ -236,6 +245,21 @@ module _ (s : State) (ns : List Note) (inv : Kept s) (queued : Queued s) (agrees
           let last : t ≤ s.layout.threads = grind (arith, nat_tests) in
           let asleep : is_asleep s t ≡ true = grind (arith, nat_tests) in
           absurd (never ((first, last), asleep_where s t asleep))
+
+  -- ---- time limits
+  expires_so : (t : ℕ) → Applies s.layout s ns (Event.Expire t) → IsNotedAs s.layout s (Event.Expire t) (happens s (Event.Expire t)).note
+  expires_so t ((first, last), there, (m, (p, is))) = (m, (p, is), let asleep = asleep_there s t there.0 queued there.1 in ap (λ (z : After). z.note) (lapse_goes s t m p first last is asleep (ap may_expire (loads_next s t (OnMutex (Call.TimedLock m)) p queued is asleep))))
+
+  expires_else : (t : ℕ) → ¬ Applies s.layout s ns (Event.Expire t) → happens s (Event.Expire t) ≡ nothing s
+  expires_else t never =
+      by_event s (λ (x : Event) (a : After). x ≡ Event.Expire t → a ≡ nothing s) (λ x same. refl) (λ u o pos known named idle b full same. absurd cc) (λ u pos known same. absurd cc) (λ u pos known alive same. absurd cc) (λ u pos known asleep same. absurd cc)
+      (λ u m p pos known is asleep may same. absurd (subst (λ (v : ℕ). ¬ Applies s.layout s ns (Event.Expire v)) (sym (expires_is u t same)) never ((pos, known), asleep_where s u asleep, (m, (p, is)))))
+      (λ u o p pos known is awake trims same. absurd cc) (λ u pos known gone same. absurd cc) (λ u m may same. absurd cc) (λ u m may same. absurd cc)
+      (λ k may same. absurd cc) (λ u m g sp same. absurd cc) (λ u c p pos known is there same. absurd cc) (λ u w pos known is reads same. absurd cc)
+      (Event.Expire t) refl
+    where
+      expires_is : (u v : ℕ) → Event.Expire u ≡ Event.Expire v → u ≡ v
+      expires_is u v e = cc
 
   -- ---- declines
   same_call : (o c : Op) (p q : Whole) → Calling o p ≡ Calling c q → o ≡ c
@@ -352,6 +376,7 @@ module _ (s : State) (ns : List Note) (inv : Kept s) (queued : Queued s) (agrees
   so (Event.Step t) on = steps_so t on
   so (Event.Kill t) on = kills_so t on
   so (Event.Leave t) on = leaves_so t on
+  so (Event.Expire t) on = expires_so t on
   so (Event.Decline t) on = declines_so t on
   so (Event.Renew t) on = renews_so t on
   so (Event.Reinit t m) on = reinits_so t m on
@@ -366,6 +391,7 @@ module _ (s : State) (ns : List Note) (inv : Kept s) (queued : Queued s) (agrees
   idles (Event.Step t) never = steps_else t never
   idles (Event.Kill t) never = kills_else t never
   idles (Event.Leave t) never = leaves_else t never
+  idles (Event.Expire t) never = expires_else t never
   idles (Event.Decline t) never = declines_else t never
   idles (Event.Renew t) never = renews_else t never
   idles (Event.Reinit t m) never = reinits_else t m never
@@ -379,6 +405,7 @@ module _ (s : State) (ns : List Note) (inv : Kept s) (queued : Queued s) (agrees
   next_applies = record {
     layout = refl;
     stands = λ t there. agrees t;
+    call = λ t there. calls t;
     happens_so = so;
     else_nothing = λ e never. (ap (λ (a : After). a.note) (idles e never), ap (λ (a : After). a.state) (idles e never));
   }
@@ -388,4 +415,4 @@ pub applied : EventsApply
 applied l counters events is =
     let inv = start_kept l counters is in
     subst (λ (k : Layout'). NextApplies k (run (start l counters) events) (notes (start l counters) events)) (run_layout (start l counters) events inv)
-    (next_applies (run (start l counters) events) (notes (start l counters) events) (run_kept (start l counters) events inv) (run_queued l counters events is) (λ t. run_agrees (start l counters) events t AtRest tt))
+    (next_applies (run (start l counters) events) (notes (start l counters) events) (run_kept (start l counters) events inv) (run_queued l counters events is) (λ t. run_agrees (start l counters) events t AtRest tt) (λ t. told_run (start l counters) events t None tt))

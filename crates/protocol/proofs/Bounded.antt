@@ -227,6 +227,7 @@ module _ (s : State) (inv : Kept s) (queued : Queued s) where
       (λ t pos known is. absurd cc)
       (λ t pos known alive is. absurd cc)
       (λ t pos known asleep is n within. inr within)
+      (λ t m p pos known is asleep may other n within. absurd (subst (Within n) is within).0)
       (λ t o p pos known is awake trims other n within.
       let there = subst (Within n) is within in
       let fits = fits_in s t o p inv pos known is in
@@ -286,6 +287,7 @@ event_on s e t n inv queued pos known lives within = by_same (caller e) t (mine 
     mine (Kill u) alive h me = absurd (alive (ap Kill me))
     mine (Begin u o) alive h me = others (Begin u o) refl refl h me
     mine (Event.Leave u) alive h me = others (Event.Leave u) refl refl h me
+    mine (Event.Expire u) alive h me = others (Event.Expire u) refl refl h me
     mine (Event.Recount u) alive h me = others (Event.Recount u) refl refl h me
     mine (Event.Spare u) alive h me = others (Event.Spare u) refl refl h me
     mine (Event.Resleep u) alive h me = others (Event.Resleep u) refl refl h me
@@ -305,6 +307,7 @@ first_spared t (Kill u) es h = ((λ is. h.0 (same u is)), h.1)
 first_spared t (Step u) es h = ((λ is. cc is), h)
 first_spared t (Begin u o) es h = ((λ is. cc is), h)
 first_spared t (Event.Leave u) es h = ((λ is. cc is), h)
+first_spared t (Event.Expire u) es h = ((λ is. cc is), h)
 first_spared t (Event.Recount u) es h = ((λ is. cc is), h)
 first_spared t (Event.Spare u) es h = ((λ is. cc is), h)
 first_spared t (Event.Resleep u) es h = ((λ is. cc is), h)
@@ -364,6 +367,7 @@ module _ (s : State) where
       (λ w at awake none quiet. absurd (subst Quiet at quiet)))
       (λ t pos known alive is. absurd cc)
       (λ t pos known asleep is none quiet. quiet)
+      (λ t m p pos known at asleep may is none quiet. absurd (subst Quiet at quiet))
       (λ t o p pos known at awake trims is none quiet. put_quiet t _ (quiet_after o p _ (subst Quiet at quiet)))
       (λ t pos known gone is none quiet. absurd (subst Quiet gone quiet))
       (λ t m may is none quiet. absurd (none.0 refl))
@@ -386,6 +390,7 @@ module _ (s : State) where
       alive (Step u) never me = refl
       alive (Begin u o) never me = refl
       alive (Event.Leave u) never me = refl
+      alive (Event.Expire u) never me = refl
       alive (Event.Recount u) never me = refl
       alive (Event.Spare u) never me = refl
       alive (Event.Resleep u) never me = refl

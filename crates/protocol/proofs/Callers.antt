@@ -26,6 +26,9 @@ use Rattle.exitwalk.specs.Walks as exit
 one_else : (f : Fact) (t : ℕ) (q : Queue) → (f ≡ Sleep t q → ⊥) → IsAmong (Sleep t q) (f ∷ []) → ⊥
 one_else f t q other h = ⊎_elim other (λ none. none) h
 
+two_else : (f g : Fact) (t : ℕ) (q : Queue) → (f ≡ Sleep t q → ⊥) → (g ≡ Sleep t q → ⊥) → IsAmong (Sleep t q) (f ∷ (g ∷ [])) → ⊥
+two_else f g t q first second h = ⊎_elim first (one_else g t q second) h
+
 three_else : (f g k : Fact) (t : ℕ) (q : Queue) → (f ≡ Sleep t q → ⊥) → (g ≡ Sleep t q → ⊥) → (k ≡ Sleep t q → ⊥) → IsAmong (Sleep t q) (f ∷ (g ∷ (k ∷ []))) → ⊥
 three_else f g k t q first second third h = ⊎_elim first (λ more. ⊎_elim second (one_else k t q third) more) h
 
@@ -94,6 +97,7 @@ module _ (s : State) (inv : Kept s) (calls : ℕ → Option Begun) (left : ℕ �
       (λ w is awake t q h. absurd (none_walked (Sleep t q) u _ _ _ refl h)))
       (λ u pos known alive t q h. absurd (one_else _ t q (λ e. cc e) h))
       (λ u pos known asleep t q h. absurd (one_else _ t q (λ e. cc e) h))
+      (λ u m p pos known is asleep may t q h. absurd (two_else _ _ t q (λ e. cc e) (λ e. cc e) h))
       (λ u o p pos known is awake trims. subst Tells (sym (spared_is s u o p is trims inv pos known)) (λ t q h. absurd h))
       (λ u pos known gone t q h. absurd (one_else _ t q (λ e. cc e) h))
       (λ u m may t q h. absurd (three_else _ _ _ t q (λ e. cc e) (λ e. cc e) (λ e. cc e) h))

@@ -53,6 +53,7 @@ theirs s e t =
     (λ w is awake apart. put-other s.threads u _ t (λ e. apart (sym e))))
     (λ u pos known alive apart. put-other s.threads u _ t (λ e. apart (sym e)))
     (λ u pos known asleep apart. refl)
+    (λ u m p pos known is asleep may apart. put-other s.threads u _ t (λ e. apart (sym e)))
     (λ u o p pos known is awake trims apart. put-other s.threads u _ t (λ e. apart (sym e)))
     (λ u pos known gone apart. put-other s.threads u _ t (λ e. apart (sym e)))
     (λ u m may apart. refl)

@@ -258,6 +258,7 @@ recount_or (Event.Begin t o) = inl tt
 recount_or (Event.Step t) = inl tt
 recount_or (Event.Kill t) = inl tt
 recount_or (Event.Leave t) = inl tt
+recount_or (Event.Expire t) = inl tt
 recount_or (Event.Decline t) = inl tt
 recount_or (Event.Renew t) = inl tt
 recount_or (Event.Reinit t m) = inl tt
@@ -287,6 +288,12 @@ passes s e inv counted =
       theirs = λ u other. ap (λ (z : Thread). z.stage) (put-other s.threads t _ u other);
     })
     (λ t pos known asleep other. record { layout = refl; rises = λ k. inl refl; knows = λ first last. counted.knows t first last; theirs = λ u other. refl })
+    (λ t m p pos known is asleep may other. record {
+      layout = refl;
+      rises = λ k. inl refl;
+      knows = λ first last. subst (λ (z : Thread). KnowsIn s.layout s.words z.stage) (sym (put-same s.threads t _)) tt;
+      theirs = λ u other. ap (λ (z : Thread). z.stage) (put-other s.threads t _ u other);
+    })
     (λ t o p pos known is awake trims other. subst (λ (a : After). Passes s t a.state) (sym (spared_is s t o p is trims inv pos known)) (declines t o p is trims))
     (λ t pos known gone other. record {
       layout = refl;

@@ -3,6 +3,7 @@ use Rattle.std.proofs.Common.{◌≡◌, ◌≢◌, ℕ, ◌+◌, ◌<◌, ◌�
 use Rattle.protocol.proofs.Vocabulary.{CondCall, CondRow, CondWhole, CondOnward, cond_access, cond_led, condition_of, met_word, counter_after, full, Mutex, Condition, Queue, Fact, Begun, Decision, Operation, Layout', counter_place}
 use Rattle.protocol.proofs.Vocabulary.{Reply, OK, XHELD, Whole, whole_access, whole_led, Op, OnCondition, mutex_of, begun_of, reinit_of, Event, Note, Stepped, Walked, Stage, Calling, AtCondition, Dying, State, After, answer_at, decision, decided_at, reply_at, facts_of, facts_among}
 use Rattle.protocol.proofs.Vocabulary.{return_facts, reap_facts, led, led_at, begun, walked, happens, run, notes, start, place_met, if◌then◌else◌, last_begun}
+use Rattle.lockword.specs.declared.reply.Reply.TheVariants.{ETIMEDOUT}
 use Rattle.posixmutex.specs.declared.point.Point.{Point}
 use Rattle.exitwalk.specs.Standings as walks
 use Rattle.condvar.specs.declared.row.Decided.{Decided}
@@ -29,7 +30,8 @@ use Rattle.protocol.proofs.Vocabulary.{cell_place}
 use Rattle.protocol.proofs.Reinits.{waiters_say_nothing, reinited_counter}
 use Rattle.protocol.proofs.Events.{begins_at, by_event, by_stage}
 use Rattle.protocol.proofs.NoteFacts.{IsOfSleep, behind_point, of_walk}
-use Rattle.protocol.proofs.PassedBy.{IsTold, told_on, told_run}
+use Rattle.protocol.specs.Applies.{IsTold}
+use Rattle.protocol.proofs.CallsTold.{told_on, told_run}
 use Rattle.protocol.proofs.Runs.{sound, start_kept, run_kept, run_layout}
 use Rattle.protocol.proofs.Vocabulary.{repeated, woken}
 use Rattle.exitwalk.specs.Walks as exit
@@ -99,6 +101,9 @@ refused_none k b op = grind (arith)
 reinit_none : (k : ℕ) (b : Option Begun) → one_of k b Operation.Reinit OK ≡ 0
 reinit_none k b = grind (arith)
 
+expired_none : (k : ℕ) (b : Option Begun) → one_of k b Operation.TimedLock ETIMEDOUT ≡ 0
+expired_none k b = grind (arith)
+
 -- no call on a mutex, and no lock that ends a wait
 called_none : (k : ℕ) (l : Layout') (o : Op) (op : Operation) (b : Option Begun) (x : Reply) → IsFor l o op → one_of k b op x ≡ 0
 called_none k l o op b x is = grind (arith)
@@ -143,6 +148,7 @@ first_none k (Event.Begin t o) es none = (tt, none)
 first_none k (Event.Step t) es none = (tt, none)
 first_none k (Event.Kill t) es none = (tt, none)
 first_none k (Event.Leave t) es none = (tt, none)
+first_none k (Event.Expire t) es none = (tt, none)
 first_none k (Event.Decline t) es none = (tt, none)
 first_none k (Event.Renew t) es none = (tt, none)
 first_none k (Event.Reinit t m) es none = (tt, none)
@@ -245,6 +251,7 @@ module _ (s : State) (k : ℕ) (calls : ℕ → Option Begun) (inv : Kept s) (co
       (λ w is awake. on_a_walk u w pos known is))
       (λ u pos known alive other. omega arith)
       (λ u pos known asleep other. omega arith)
+      (λ u m p pos known is asleep may other. let none = expired_none k (calls u) in omega (arith, none))
       (λ u o p pos known is awake trims other. subst CountsUp (sym (spared_is s u o p is trims inv pos known)) (omega arith))
       (λ u pos known gone other. let same = renewed_counter s u pos known k in omega (arith, same))
       (λ u m may other. let same = reinited_counter s u m 0 refl may.remake k in let none = reinit_none k (if u == u then Some (reinit_of m) else calls u) in omega (arith, same, none))
@@ -265,7 +272,7 @@ counts_run s (e ∷ es) k calls inv counted inside told none =
     let fs = facts_of (happens s e).note in
     let each = first_none k e es none in
     let later = counts_run (happens s e).state es k (calls_after calls fs) next.kept (counted_on s e inv counted) (subst (λ (l : Layout'). k < length l.conditions) (sym next.same) inside)
-    (λ t. subst (IsTold (happens s e).state.layout ((happens s e).state.threads t).stage) (sym (calls_last t calls fs)) (told_on s e inv counted t (calls t) (told t))) each.1 in
+    (λ t. subst (IsTold (happens s e).state.layout ((happens s e).state.threads t).stage) (sym (calls_last t calls fs)) (told_on s e t (calls t) (told t))) each.1 in
     let here = counts_up s k calls inv counted inside told e each.0 in
     let there : (run (happens s e).state es).words (counter_place s.layout k) ≡ (happens s e).state.words (counter_place s.layout k) + signals_in k (calls_after calls fs) (facts_among (notes (happens s e).state es))
     = subst (λ (l : Layout'). (run (happens s e).state es).words (counter_place l k) ≡ (happens s e).state.words (counter_place l k) + signals_in k (calls_after calls fs) (facts_among (notes (happens s e).state es))) next.same later in
@@ -280,7 +287,7 @@ counters_count_up l counters is presets k inside = record {
   since = λ before later none.
       subst (λ (y : Layout'). (run (run s0 before) later).words (counter_place y k) ≡ (run s0 before).words (counter_place y k) + signals_in k (λ t. call_told t (notes s0 before)) (facts_among (notes (run s0 before) later))) (run_layout s0 before inv)
       (counts_run (run s0 before) later k (λ t. call_told t (notes s0 before)) (run_kept s0 before inv) (run_counted s0 before inv counted) (subst (λ (y : Layout'). k < length y.conditions) (sym (run_layout s0 before inv)) inside)
-      (λ t. told_run s0 before inv counted t None tt) none);
+      (λ t. told_run s0 before t None tt) none);
 }
   where
     s0 : State

@@ -147,6 +147,7 @@ module _ (s : State) (t : ℕ) (o : Op) (p : Whole) (is : (s.threads t).stage �
 pub decline_rests : (s : State) (t : ℕ) → (1 ≤ t → t ≤ s.layout.threads → IsAboutToTrim s t → ⊥) → happens s (Decline t) ≡ nothing s
 decline_rests s t never =
     by_event s (λ (x : Event) (a : After). x ≡ Decline t → a ≡ nothing s) (λ x same. refl) (λ u o pos known named idle b full same. absurd cc) (λ u pos known same. absurd cc) (λ u pos known alive same. absurd cc) (λ u pos known asleep same. absurd cc)
+    (λ u m p pos known is asleep may same. absurd cc)
     (λ u o p pos known is awake trims same.
     absurd (subst (λ (v : ℕ). 1 ≤ v → v ≤ s.layout.threads → IsAboutToTrim s v → ⊥) (sym (thread_is u t same)) never pos known (o, p, p.cell, is, ap (phase_access p) trims)))
     (λ u pos known gone same. absurd cc)

@@ -24,7 +24,9 @@ use Rattle.protocol.proofs.Accesses.{fits_in}
 use Rattle.protocol.proofs.Events.{by_event, by_stage}
 use Rattle.protocol.proofs.Runs.{start_kept, run_kept, run_layout}
 use Rattle.protocol.proofs.QueueRuns.{run_queued}
-use Rattle.protocol.proofs.PassedBy.{IsTold, told_run, never_passed}
+use Rattle.protocol.specs.Applies.{IsTold}
+use Rattle.protocol.proofs.CallsTold.{told_run}
+use Rattle.protocol.proofs.PassedBy.{never_passed}
 use Rattle.protocol.proofs.Queued.{Queued}
 use Rattle.protocol.proofs.CondSteps.{cond_of}
 use Rattle.protocol.proofs.CondAccesses.{IsBefore, cond_stepping, fits_at}
@@ -223,7 +225,7 @@ module _ (s : State) (t k : ℕ) (b : Begun) (op : Operation) (inv : Kept s) (to
       by_event s (λ (e : Event) (a : After). e ≡ Step t → Ends a) (λ e same among. absurd among)
       (λ u o pos known inside idle full is same. absurd cc)
       (λ u pos known same. subst (λ (v : ℕ). 1 ≤ v → v ≤ s.layout.threads → Ends (stepped s v (s.threads v).held (s.threads v).stage)) (step_same u t (sym same)) step_ends pos known)
-      (λ u pos known alive same. absurd cc) (λ u pos known asleep same. absurd cc) (λ u o p pos known is awake trims same. absurd cc) (λ u pos known gone same. absurd cc) (λ u m may same. absurd cc) (λ u m may same. absurd cc)
+      (λ u pos known alive same. absurd cc) (λ u pos known asleep same. absurd cc) (λ u m p pos known is asleep may same. absurd cc) (λ u o p pos known is awake trims same. absurd cc) (λ u pos known gone same. absurd cc) (λ u m may same. absurd cc) (λ u m may same. absurd cc)
       (λ j may same. absurd cc) (λ u m g sp same. absurd cc) (λ u d p pos known is there same. absurd cc) (λ u w pos known is reads same. absurd cc) (Step t) refl
     where
       step_same : (u v : ℕ) → Step v ≡ Step u → v ≡ u
@@ -274,4 +276,4 @@ nobody_passed l counters events is presets = record {
     counted = start_counted l counters presets
 
     told_so : (before : List Event) (t : ℕ) (b : Begun) → call_told t (notes s0 before) ≡ Some b → IsTold (run s0 before).layout ((run s0 before).threads t).stage (Some b)
-    told_so before t b told = subst (IsTold (run s0 before).layout ((run s0 before).threads t).stage) told (told_run s0 before inv counted t None tt)
+    told_so before t b told = subst (IsTold (run s0 before).layout ((run s0 before).threads t).stage) told (told_run s0 before t None tt)

@@ -4,20 +4,20 @@ use Rattle.protocol.proofs.Vocabulary.{CondCall, condition_of, CondWhole, Mutex,
 use Rattle.protocol.proofs.Vocabulary.{OnCondition, Event, Step, Stage, Idle, Calling, AtCondition, Dying, mutex_of, Names, State, After, is_alive, killed, may_begin, begun}
 use Rattle.protocol.proofs.Vocabulary.{first_stage, nothing, answer_of, is_asleep, led, led_at, went, walked, stepped, happens, if◌then◌else◌, nat_le, nat_tests}
 use Rattle.std.proofs.lemmas.List.Elements.{All-get_or}
-use Rattle.mutex.specs.Whole.{begins}
+use Rattle.mutex.specs.Whole.{begins, may_expire}
 use Rattle.condvar.specs.Whole as condition
 use Rattle.exitwalk.specs.Standings as walks
-use Rattle.protocol.specs.declared.event.Event.TheVariants.{Begin, Kill, Leave, Decline, Renew, Reinit, Remake, Recount, Spare, Resleep, Repeat}
+use Rattle.protocol.specs.declared.event.Event.TheVariants.{Begin, Kill, Leave, Expire, Decline, Renew, Reinit, Remake, Recount, Spare, Resleep, Repeat}
 use Rattle.mutex.specs.declared.row.Row.TheVariants.{Unlock}
-use Rattle.protocol.proofs.Vocabulary.{departed, renewed, reinited, spared, sleeps, sleepers, Reaped, Trimmed, Phase, AtCell, UnlockRow, not, nat_lt, Object, MayReinit, MayRemake, waiters_of, cell_place}
+use Rattle.protocol.proofs.Vocabulary.{Call, departed, lapsed, renewed, reinited, spared, sleeps, sleepers, Reaped, Trimmed, Phase, AtCell, UnlockRow, not, nat_lt, Object, MayReinit, MayRemake, waiters_of, cell_place}
 use Rattle.protocol.proofs.Vocabulary.{CondPhase, CondRow, WaitRow, cond_led, Count, Thread, eqb-false, is_calling, counter_place, stands_in, Led, another_answers, holds_count, none_counts, may_recount, recounted, MayRecount, sparing, wakes_one}
 use Rattle.protocol.proofs.Vocabulary.{resleeping, reslept, is_mark, repeating, repeated}
 use Rattle.protocol.proofs.Stepping.{wakes_next}
 use Rattle.protocol.proofs.Endings.{EndsOrGoes, call_ends, cond_ends}
 use Rattle.stepprograms.specs.Accesses.{is_nobody}
 use Rattle.protocol.proofs.Steps.{seen-inside}
-use Rattle.condvar.specs.Ops.{operation_of, is_in}
-use Rattle.protocol.specs.Machine.{has_thread, is_gone, is_idle, is_trim, is_unusable, may_reinit, may_remake, declined}
+use Rattle.condvar.specs.Ops.{acts_as, operation_of, is_in}
+use Rattle.protocol.specs.Machine.{has_thread, is_gone, is_idle, is_trim, is_unusable, may_reinit, may_remake, declined, expired}
 
 -- whoever may begin is idle
 pub at_rest : (g : Stage) → is_idle g ≡ true → g ≡ Idle
@@ -51,6 +51,15 @@ begins_at l t (OnCondition c) = AtCondition c (condition.begins l t c)
 -- one that takes a mutex is refused where its thread owns 2,048
 pub first_is : (l : Layout') (t held : ℕ) (o : Op) → first_stage l t held o ≡ (if acquires (operation_of o) && nat_le 2048 held then Err XHELD else Ok (begins_at l t o))
 first_is l t held o = grind (arith)
+
+-- what it may take while its limit hasn't come
+pub acquires_same : (o : Op) → acquires (acts_as o) ≡ acquires (operation_of o)
+acquires_same (OnMutex (Call.Lock m)) = refl
+acquires_same (OnMutex (Call.TimedLock m)) = refl
+acquires_same (OnMutex (Call.TryLock m)) = refl
+acquires_same (OnMutex (Call.Unlock m)) = refl
+acquires_same (OnMutex (Call.Consistent m)) = refl
+acquires_same (OnCondition c) = refl
 
 -- ---- trims
 
@@ -175,6 +184,8 @@ pub by_event : (s : State) (P : Event → After → Type 0) → ((e : Event) →
     → ((t : ℕ) → 1 ≤ t → t ≤ s.layout.threads → P (Step t) (stepped s t (s.threads t).held (s.threads t).stage))
     → ((t : ℕ) → 1 ≤ t → t ≤ s.layout.threads → is_alive (s.threads t).stage ≡ true → P (Kill t) (killed s t))
     → ((t : ℕ) → 1 ≤ t → t ≤ s.layout.threads → is_asleep s t ≡ true → P (Leave t) (departed s t))
+    → ((t m : ℕ) (p : Whole) → 1 ≤ t → t ≤ s.layout.threads → (s.threads t).stage ≡ Calling (OnMutex (Call.TimedLock m)) p → is_asleep s t ≡ true → may_expire p.phase ≡ true
+    → P (Expire t) (lapsed s t (s.threads t).held (OnMutex (Call.TimedLock m)) p))
     → ((t : ℕ) (o : Op) (p : Whole) → 1 ≤ t → t ≤ s.layout.threads → (s.threads t).stage ≡ Calling o p → is_asleep s t ≡ false → IsTrimming p
     → P (Decline t) (spared s t (s.threads t).held (mutex_of s.layout o) (led o p (whole_led p (Trimmed false)))))
     → ((t : ℕ) → 1 ≤ t → t ≤ s.layout.threads → (s.threads t).stage ≡ Reaped → P (Renew t) (renewed s t))
@@ -185,7 +196,7 @@ pub by_event : (s : State) (P : Event → After → Type 0) → ((e : Event) →
     → ((t : ℕ) (c : CondCall) (p : Whole) → 1 ≤ t → t ≤ s.layout.threads → (s.threads t).stage ≡ Calling (OnCondition c) p → stands_in t (s.queues (counter_place s.layout (condition_of c))) ≡ true → P (Resleep t) (reslept s t (condition_of c)))
     → ((t : ℕ) (w : walks.Standing) → 1 ≤ t → t ≤ s.layout.threads → (s.threads t).stage ≡ Dying w → is_mark w.row ≡ false → P (Repeat t) (repeated s t w))
     → (e : Event) → P e (happens s e)
-by_event s P none begins_so steps_so kills_so leaves_so declines_so renews_so reinits_so remakes_so recounts_so spares_so resleeps_so repeats_so (Begin t o) = go (may_begin s t o) refl
+by_event s P none begins_so steps_so kills_so leaves_so expires_so declines_so renews_so reinits_so remakes_so recounts_so spares_so resleeps_so repeats_so (Begin t o) = go (may_begin s t o) refl
   where
     go : (b : Bool) → may_begin s t o ≡ b → P (Begin t o) (if b then begun s t o (first_stage s.layout t (s.threads t).held o) else nothing s)
     go true e =
@@ -195,10 +206,28 @@ by_event s P none begins_so steps_so kills_so leaves_so declines_so renews_so re
         subst (λ (r : Result Stage Reply). P (Begin t o) (begun s t o r)) (sym (first_is s.layout t (s.threads t).held o))
         (begins_so t o pos known (names_so s.layout o inside) (at_rest (s.threads t).stage (grind (arith, nat_tests))) (acquires (operation_of o) && nat_le 2048 (s.threads t).held) refl)
     go false e = none (Begin t o)
-by_event s P none begins_so steps_so kills_so leaves_so declines_so renews_so reinits_so remakes_so recounts_so spares_so resleeps_so repeats_so (Step t) = grind (arith)
-by_event s P none begins_so steps_so kills_so leaves_so declines_so renews_so reinits_so remakes_so recounts_so spares_so resleeps_so repeats_so (Kill t) = grind (arith)
-by_event s P none begins_so steps_so kills_so leaves_so declines_so renews_so reinits_so remakes_so recounts_so spares_so resleeps_so repeats_so (Leave t) = grind (arith)
-by_event s P none begins_so steps_so kills_so leaves_so declines_so renews_so reinits_so remakes_so recounts_so spares_so resleeps_so repeats_so (Decline t) = go (has_thread s t) refl
+by_event s P none begins_so steps_so kills_so leaves_so expires_so declines_so renews_so reinits_so remakes_so recounts_so spares_so resleeps_so repeats_so (Step t) = grind (arith)
+by_event s P none begins_so steps_so kills_so leaves_so expires_so declines_so renews_so reinits_so remakes_so recounts_so spares_so resleeps_so repeats_so (Kill t) = grind (arith)
+by_event s P none begins_so steps_so kills_so leaves_so expires_so declines_so renews_so reinits_so remakes_so recounts_so spares_so resleeps_so repeats_so (Leave t) = grind (arith)
+by_event s P none begins_so steps_so kills_so leaves_so expires_so declines_so renews_so reinits_so remakes_so recounts_so spares_so resleeps_so repeats_so (Expire t) = go (has_thread s t) refl
+  where
+    lapses : (m : ℕ) (p : Whole) → has_thread s t ≡ true → (s.threads t).stage ≡ Calling (OnMutex (Call.TimedLock m)) p → (a : Bool) → may_expire p.phase ≡ a → (b : Bool) → sleeps s t (Calling (OnMutex (Call.TimedLock m)) p) ≡ b
+        → P (Expire t) (if a && b then lapsed s t (s.threads t).held (OnMutex (Call.TimedLock m)) p else nothing s)
+    lapses m p there is true may true asleep =
+        let pos : 1 ≤ t = grind (arith, nat_tests) in
+        let known : t ≤ s.layout.threads = grind (arith, nat_tests) in
+        expires_so t m p pos known is (ap (sleeps s t) is ∙ asleep) may
+    lapses m p there is true may false awake = none (Expire t)
+    lapses m p there is false may b e = none (Expire t)
+
+    at : has_thread s t ≡ true → (g : Stage) → (s.threads t).stage ≡ g → P (Expire t) (expired s t (s.threads t).held g)
+    at there (Calling (OnMutex (Call.TimedLock m)) p) is = lapses m p there is (may_expire p.phase) refl (sleeps s t (Calling (OnMutex (Call.TimedLock m)) p)) refl
+    at there g is = none (Expire t)
+
+    go : (b : Bool) → has_thread s t ≡ b → P (Expire t) (if b then expired s t (s.threads t).held (s.threads t).stage else nothing s)
+    go true there = at there (s.threads t).stage refl
+    go false e = none (Expire t)
+by_event s P none begins_so steps_so kills_so leaves_so expires_so declines_so renews_so reinits_so remakes_so recounts_so spares_so resleeps_so repeats_so (Decline t) = go (has_thread s t) refl
   where
     trims : (o : Op) (p : Whole) → has_thread s t ≡ true → (s.threads t).stage ≡ Calling o p → (a : Bool) → is_trim (whole_access p) ≡ a → (b : Bool) → sleeps s t (Calling o p) ≡ b
         → P (Decline t) (if a && not b then spared s t (s.threads t).held (mutex_of s.layout o) (led o p (whole_led p (Trimmed false))) else nothing s)
@@ -216,7 +245,7 @@ by_event s P none begins_so steps_so kills_so leaves_so declines_so renews_so re
     go : (b : Bool) → has_thread s t ≡ b → P (Decline t) (if b then declined s t (s.threads t).held (s.threads t).stage else nothing s)
     go true there = at there (s.threads t).stage refl
     go false e = none (Decline t)
-by_event s P none begins_so steps_so kills_so leaves_so declines_so renews_so reinits_so remakes_so recounts_so spares_so resleeps_so repeats_so (Renew t) = go (has_thread s t && is_gone (s.threads t).stage) refl
+by_event s P none begins_so steps_so kills_so leaves_so expires_so declines_so renews_so reinits_so remakes_so recounts_so spares_so resleeps_so repeats_so (Renew t) = go (has_thread s t && is_gone (s.threads t).stage) refl
   where
     go : (b : Bool) → (has_thread s t && is_gone (s.threads t).stage) ≡ b → P (Renew t) (if b then renewed s t else nothing s)
     go true e =
@@ -224,22 +253,22 @@ by_event s P none begins_so steps_so kills_so leaves_so declines_so renews_so re
         let known : t ≤ s.layout.threads = grind (arith, nat_tests) in
         renews_so t pos known (reaped_is (s.threads t).stage (grind (arith, nat_tests)))
     go false e = none (Renew t)
-by_event s P none begins_so steps_so kills_so leaves_so declines_so renews_so reinits_so remakes_so recounts_so spares_so resleeps_so repeats_so (Reinit t m) = go (may_reinit s t m) refl
+by_event s P none begins_so steps_so kills_so leaves_so expires_so declines_so renews_so reinits_so remakes_so recounts_so spares_so resleeps_so repeats_so (Reinit t m) = go (may_reinit s t m) refl
   where
     go : (b : Bool) → may_reinit s t m ≡ b → P (Reinit t m) (if b then reinited s t m 0 else nothing s)
     go true e = reinits_so t m (reinit_so s t m e)
     go false e = none (Reinit t m)
-by_event s P none begins_so steps_so kills_so leaves_so declines_so renews_so reinits_so remakes_so recounts_so spares_so resleeps_so repeats_so (Remake t m) = go (may_remake s t m) refl
+by_event s P none begins_so steps_so kills_so leaves_so expires_so declines_so renews_so reinits_so remakes_so recounts_so spares_so resleeps_so repeats_so (Remake t m) = go (may_remake s t m) refl
   where
     go : (b : Bool) → may_remake s t m ≡ b → P (Remake t m) (if b then reinited s t m (waiters_of (s.words (cell_place s.layout m))) else nothing s)
     go true e = remakes_so t m (remake_so s t m e)
     go false e = none (Remake t m)
-by_event s P none begins_so steps_so kills_so leaves_so declines_so renews_so reinits_so remakes_so recounts_so spares_so resleeps_so repeats_so (Recount k) = go (may_recount s k) refl
+by_event s P none begins_so steps_so kills_so leaves_so expires_so declines_so renews_so reinits_so remakes_so recounts_so spares_so resleeps_so repeats_so (Recount k) = go (may_recount s k) refl
   where
     go : (b : Bool) → may_recount s k ≡ b → P (Recount k) (if b then recounted s k else nothing s)
     go true e = recounts_so k (recount_so s k e)
     go false e = none (Recount k)
-by_event s P none begins_so steps_so kills_so leaves_so declines_so renews_so reinits_so remakes_so recounts_so spares_so resleeps_so repeats_so (Spare t) = go (has_thread s t) refl
+by_event s P none begins_so steps_so kills_so leaves_so expires_so declines_so renews_so reinits_so remakes_so recounts_so spares_so resleeps_so repeats_so (Spare t) = go (has_thread s t) refl
   where
     calls : (o : Op) (p : Whole) → has_thread s t ≡ true → (s.threads t).stage ≡ Calling o p → (a : Bool) → wakes_one p.phase ≡ a → (b : Bool) → another_answers s t (mutex_of s.layout o) s.layout.threads ≡ b
         → P (Spare t) (if a && b then spared s t (s.threads t).held (mutex_of s.layout o) (led o p (whole_led p (Count 1))) else nothing s)
@@ -264,7 +293,7 @@ by_event s P none begins_so steps_so kills_so leaves_so declines_so renews_so re
     go : (b : Bool) → has_thread s t ≡ b → P (Spare t) (if b then sparing s t (s.threads t).held (s.threads t).stage else nothing s)
     go true there = at there (s.threads t).stage refl
     go false e = none (Spare t)
-by_event s P none begins_so steps_so kills_so leaves_so declines_so renews_so reinits_so remakes_so recounts_so spares_so resleeps_so repeats_so (Resleep t) = go (has_thread s t) refl
+by_event s P none begins_so steps_so kills_so leaves_so expires_so declines_so renews_so reinits_so remakes_so recounts_so spares_so resleeps_so repeats_so (Resleep t) = go (has_thread s t) refl
   where
     sleeps_on : (c : CondCall) (p : Whole) → has_thread s t ≡ true → (s.threads t).stage ≡ Calling (OnCondition c) p → (a : Bool) → stands_in t (s.queues (counter_place s.layout (condition_of c))) ≡ a
         → P (Resleep t) (if a then reslept s t (condition_of c) else nothing s)
@@ -278,7 +307,7 @@ by_event s P none begins_so steps_so kills_so leaves_so declines_so renews_so re
     go : (b : Bool) → has_thread s t ≡ b → P (Resleep t) (if b then resleeping s t (s.threads t).stage else nothing s)
     go true there = at there (s.threads t).stage refl
     go false e = none (Resleep t)
-by_event s P none begins_so steps_so kills_so leaves_so declines_so renews_so reinits_so remakes_so recounts_so spares_so resleeps_so repeats_so (Repeat t) = go (has_thread s t) refl
+by_event s P none begins_so steps_so kills_so leaves_so expires_so declines_so renews_so reinits_so remakes_so recounts_so spares_so resleeps_so repeats_so (Repeat t) = go (has_thread s t) refl
   where
     reads : (w : walks.Standing) → has_thread s t ≡ true → (s.threads t).stage ≡ Dying w → (a : Bool) → is_mark w.row ≡ a → P (Repeat t) (if a then nothing s else repeated s t w)
     reads w there is true marks = none (Repeat t)

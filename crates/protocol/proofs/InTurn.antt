@@ -1,5 +1,6 @@
 -- In each queue threads stand in the order in which they came, as the trace tells it, and the front is woken or moved first.
 use Rattle.std.proofs.Common.{◌≡◌, ◌≢◌, ⊎_elim, ℕ, ◌%◌, ◌^◌, ◌<◌, ◌≤◌, ◌==◌, Bool, true, false, Option, Some, None, Ok, Err, List, [], ◌∷◌, ◌++◌, map, length, take, drop, refl, sym, ap, ◌∙◌, subst, arith, eq-eqb, eqb-true, append-nil}
+use Rattle.protocol.proofs.Vocabulary.{Call, Expired}
 use Rattle.protocol.proofs.Vocabulary.{Access, Queue, Mutex, Condition, Fact, Decision, Layout', cell_place, counter_place, sleeps_at, Reply, XHELD, OnMutex, OnCondition, Op, Whole, Event, Note, Stepped}
 use Rattle.protocol.proofs.Vocabulary.{mutex_of, condition_of, Walked, Stage, Idle, Calling, AtCondition, Dying, Reaped, facts_of, sleep_facts, moves_to, point_facts, return_facts, death_facts, reap_facts, State, After, start, woken_by, moved_by}
 use Rattle.protocol.proofs.Vocabulary.{queue_after, stands_in, begun, decision, slept_in, happens, run, notes, facts_among, if◌then◌else◌, not, slice_index, queue_place, place_in, place_met, joined, put}
@@ -482,6 +483,7 @@ event_tells s e w inv queued said =
     (λ u pos known. by_step s u inv pos known (Tells s w) (λ rests. (said, tt)) (λ v n is awake g noted. let told = step_tells s u v g inv queued pos known w said n noted in (told.0, note_fronts s u v w n noted told.1)))
     (λ u pos known alive. ((λ q inside. ap (without u) (said q inside)), (tt, tt)))
     (λ u pos known asleep. ((λ q inside. ap (without u) (said q inside)), leaves_so u (asleep_where s u asleep)))
+    (λ u m p pos known is asleep may. ((λ q inside. ap (without u) (said q inside)), expires_so u m p is (fits_in s u (OnMutex (Call.TimedLock m)) p inv pos known is).0.inside (asleep_where s u asleep)))
     (λ u o p pos known is awake trims. subst (Tells s w) (sym (spared_is s u o p is trims inv pos known)) (said, tt))
     (λ u pos known gone. (said, (tt, tt)))
     (λ u m may. (said, (tt, (tt, (tt, tt)))))
@@ -540,6 +542,13 @@ event_tells s e w inv queued said =
         let there = placed s key u inv queued stands in
         (there.0, there.1, ap (stands_in u) (sym (said there.0 there.1)) ∙ (ap (λ (x : ℕ). stands_in u (s.queues x)) (sym there.2) ∙ stands))
 
+    -- whoever is out of time stands in its mutex's queue
+    expires_so : (u m : ℕ) (p : Whole) → (s.threads u).stage ≡ Calling (OnMutex (Call.TimedLock m)) p → m < s.layout.mutexes → IsInAQueue s u → (m < s.layout.mutexes) × (stands_in u (w (Mutex m)) ≡ true)
+    expires_so u m p is inside (key, stands) =
+        let slept : SleepsAs s.layout key (Calling (OnMutex (Call.TimedLock m)) p) = subst (SleepsAs s.layout key) is (queued.sleeps key u stands).2 in
+        let here : key ≡ cell_place s.layout m = ⊎_elim (λ e. e) (λ none. absurd none) slept.1 in
+        (inside, ap (stands_in u) (sym (said (Mutex m) inside)) ∙ (ap (λ (x : ℕ). stands_in u (s.queues x)) (sym here) ∙ stands))
+
 -- ---- runs
 
 -- after these notes too, and they name fronts
@@ -566,6 +575,7 @@ told_in_turn l counters events inv = run_tells (start l counters) events nobody 
 abbrev IsNoLeave : Note → Type 0
 IsNoLeave (Left t) = ⊥
 IsNoLeave (Reslept t k) = ⊥
+IsNoLeave (Expired t m) = ⊥
 IsNoLeave n = Unit {0}
 
 abbrev NoneLeaves : List Note → Type 0
@@ -575,12 +585,13 @@ NoneLeaves (n ∷ ns) = IsNoLeave n × NoneLeaves ns
 abbrev IsNoLeaving : Event → Type 0
 IsNoLeaving (Event.Leave t) = ⊥
 IsNoLeaving (Event.Resleep t) = ⊥
+IsNoLeaving (Event.Expire t) = ⊥
 IsNoLeaving e = Unit {0}
 
 no_leave : (s : State) (e : Event) → IsNoLeaving e → IsNoLeave (happens s e).note
 no_leave s e =
     by_event s (λ (x : Event) (a : After). IsNoLeaving x → IsNoLeave a.note) (λ x none. tt) (λ u o pos known inside idle b full none. begins_so u o b)
-    (λ u pos known none. by_stage s u (λ (a : After). IsNoLeave a.note) (λ rests. tt) (λ o p is awake. tt) (λ c p is awake. tt) (λ v is awake. tt)) (λ u pos known alive none. tt) (λ u pos known asleep none. absurd none)
+    (λ u pos known none. by_stage s u (λ (a : After). IsNoLeave a.note) (λ rests. tt) (λ o p is awake. tt) (λ c p is awake. tt) (λ v is awake. tt)) (λ u pos known alive none. tt) (λ u pos known asleep none. absurd none) (λ u m p pos known is asleep may none. absurd none)
     (λ u o p pos known is awake trims none. tt) (λ u pos known gone none. tt) (λ u m may none. tt) (λ u m may none. tt)
     (λ k may none. tt) (λ u m g sp none. tt) (λ u c p pos known is there none. absurd none) (λ u w pos known is reads none. tt) e
   where
@@ -591,6 +602,7 @@ no_leave s e =
 noted_none : (s : State) (es : List Event) → NobodyLeaves es → NoneLeaves (notes s es)
 noted_none s [] none = tt
 noted_none s (Event.Leave t ∷ es) none = absurd none
+noted_none s (Event.Expire t ∷ es) none = absurd none
 noted_none s (Event.Begin t o ∷ es) none = (no_leave s (Event.Begin t o) tt, noted_none (happens s (Event.Begin t o)).state es none)
 noted_none s (Event.Step t ∷ es) none = (no_leave s (Event.Step t) tt, noted_none (happens s (Event.Step t)).state es none)
 noted_none s (Event.Kill t ∷ es) none = (no_leave s (Event.Kill t) tt, noted_none (happens s (Event.Kill t)).state es none)
@@ -607,6 +619,7 @@ fronts_of : (l : Layout') (w : Queue → List ℕ) (n : Note) → IsNoLeave n �
 fronts_of l w (Left t) none h = absurd none
 fronts_of l w (Reslept t k) none h = absurd none
 fronts_of l w (Recounted k) none h = h
+fronts_of l w (Expired t m) none h = absurd none
 fronts_of l w Nothing none h = h
 fronts_of l w (Began t c x) none h = h
 fronts_of l w (Stepped t m d z us vs y) none h = h

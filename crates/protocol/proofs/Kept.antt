@@ -66,7 +66,7 @@ pub record Fits (s : State) (t held m : ℕ) (p : Whole) : Type 0 where
 
 -- it does what the call is to do; in a wait it is the lock that ends it
 abbrev pub IsFor : Layout' → Op → Operation → Type 0
-IsFor l (OnMutex c) op = op ≡ calls.operation_of c
+IsFor l (OnMutex c) op = op ≡ calls.acts_as c
 IsFor l (OnCondition c) op = (op ≡ Lock) × (conditions.operation_of c ≡ Wait) × (conditions.condition_of c < length l.conditions)
 
 abbrev pub Serves : Layout' → Op → Whole → Type 0

@@ -39,6 +39,8 @@ use Rattle.protocol.proofs.Arrivals.{ended_or_not}
 use Rattle.protocol.proofs.CondAccesses.{IsBefore, cond_stepping, fits_at}
 use Rattle.protocol.proofs.Counters.{CondMove, By_row, Before_release, cond_moves}
 use Rattle.protocol.proofs.WalkSteps.{by_walked}
+use Rattle.mutex.specs.Whole.{timed_out}
+use Rattle.protocol.proofs.Vocabulary.{lapsed}
 use Rattle.protocol.proofs.Declines.{declined_state, quiet, spared_is}
 use Rattle.protocol.proofs.Events.{begins_at, by_event, by_stage, IsTrimming}
 use Rattle.protocol.proofs.Runs.{sound}
@@ -416,9 +418,22 @@ reinit_teaches s u m w idle = record {
   others = λ t b o apart. (of_another u t (Some (reinit_of m)) b apart, of_another u t (Some (seen (reinited s u m w).state m)) (if u == t then None else o) apart ∙ of_another u t None o apart);
 }
 
+-- behind a time limit that came
+expire_teaches : (s : State) (u m : ℕ) (p : Whole) → (s.threads u).stage ≡ Calling (OnMutex (Call.TimedLock m)) p → Teaches s u (lapsed s u (s.threads u).held (OnMutex (Call.TimedLock m)) p)
+expire_teaches s u m p is = record {
+  layout = refl;
+  own = λ b o h. subst (λ (z : Thread). Learnt s.layout z.stage b (if u == u then Some (seen s m) else o)) (sym (put-same s.threads u _)) (learns b o (if u == u then Some (seen s m) else o) (subst (λ (g : Stage). Learnt s.layout g b o) is h));
+  theirs = λ t apart. ap (λ (z : Thread). z.stage) (put-other s.threads u _ t (λ e. apart (sym e)));
+  others = λ t b o apart. (refl, of_another u t (Some (seen s m)) o apart);
+}
+  where
+    learns : (b : Option Begun) (o o' : Option Object) → Learnt s.layout (Calling (OnMutex (Call.TimedLock m)) p) b o → Learnt s.layout (Calling (OnMutex (Call.TimedLock m)) (timed_out p)) b o'
+    learns b o o' h = (h.0, tt, λ at n e. absurd cc)
+
 -- a call that begins
 first_learns : (l : Layout') (t : ℕ) (c : Op) (o : Option Object) → Learnt l (begins_at l t c) (Some (begun_of l c)) o
 first_learns l t (OnMutex (Call.Lock m)) o = (refl, tt, λ k n e. absurd (whole.whole_wakes.first l t (Call.Lock m) k n e))
+first_learns l t (OnMutex (Call.TimedLock m)) o = (refl, tt, λ k n e. absurd (whole.whole_wakes.first l t (Call.TimedLock m) k n e))
 first_learns l t (OnMutex (Call.TryLock m)) o = (refl, tt, λ k n e. absurd (whole.whole_wakes.first l t (Call.TryLock m) k n e))
 first_learns l t (OnMutex (Call.Unlock m)) o = (refl, tt, λ k n e. absurd (whole.whole_wakes.first l t (Call.Unlock m) k n e))
 first_learns l t (OnMutex (Call.Consistent m)) o = (refl, tt, λ k n e. absurd (whole.whole_wakes.first l t (Call.Consistent m) k n e))
@@ -456,6 +471,7 @@ teaches s e inv =
     (λ w is awake. walk_teaches s t w))
     (λ t pos known alive. kill_teaches s t)
     (λ t pos known asleep. leave_teaches s t)
+    (λ t m p pos known is asleep may. expire_teaches s t m p is)
     (λ t o p pos known is awake trims. subst (Teaches s t) (sym (spared_is s t o p is trims inv pos known)) (decline_teaches s t o p is trims))
     (λ t pos known gone. renew_teaches s t pos known)
     (λ t m may. reinit_teaches s t m 0 may.remake.resting)

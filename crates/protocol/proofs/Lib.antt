@@ -36,6 +36,7 @@ pub mod Declines
 pub mod Recounting
 pub mod Sparing
 pub mod Repeating
+pub mod Expiring
 pub mod Renewals
 pub mod Reinits
 pub mod Lists
@@ -56,6 +57,8 @@ pub mod Applying
 pub mod InTurn
 pub mod Counters
 pub mod Passing
+mod CallsTold
+mod Unlimited
 pub mod Splits
 pub mod PassedBy
 pub mod Emptied
@@ -73,3 +76,5 @@ mod Bounded
 mod Counting
 mod Releases
 mod WalksOn
+pub mod LoneExpiries
+pub mod TimeLimits

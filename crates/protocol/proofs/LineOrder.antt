@@ -1,12 +1,13 @@
 -- In which order the facts of an event, and those of one event after the other, are told.
 use Rattle.std.proofs.Common.{◌≡◌, ℕ, ◌+◌, ◌≤◌, Bool, true, false, Option, Some, None, List, [], ◌∷◌, ◌++◌, map, refl, sym, ◌∙◌, arith}
+use Rattle.protocol.proofs.Vocabulary.{Expired}
 use Rattle.protocol.proofs.Vocabulary.{Left, Renewed, Reinited}
 use Rattle.protocol.proofs.Vocabulary.{Fact, Queue, Operation, Reply, Stepped, Event, facts_of, sleep_facts, moves_to, return_facts, death_facts, reap_facts, decision, caller}
 use Rattle.protocol.proofs.Vocabulary.{line_of, caller_of, lines_from, Note, Nothing, Began, Killed, Walked}
 use Rattle.facts.specs.declared.fact.Line.{Line}
 use Rattle.facts.specs.Facts.{thread_of, decides, is_passive, is_kill, is_renewal}
 use Rattle.facts.specs.Orders.{Later, Each, Orderly}
-use Rattle.protocol.specs.Explained.{is_begin, is_last, Within, AreWithin}
+use Rattle.protocol.specs.Explained.{is_begin, is_last, decides_first, Within, AreWithin}
 use Rattle.protocol.proofs.NoteFacts.{IsOfSleep, behind_woken, behind_point, of_access, of_walk}
 use Rattle.protocol.proofs.Vocabulary.{Recounted, Reslept}
 
@@ -155,16 +156,16 @@ placed i e es (f ∷ fs) ls fine alone (order, called) =
 
 abbrev Inside : Fact → List Fact → Type 0
 Inside f [] = Unit {0}
-Inside f (g ∷ gs) = (is_begin g ≡ false) × (is_last f ≡ false) × (is_passive f ≡ true → decides g ≡ false) × ((is_renewal f ≡ false) × (is_renewal g ≡ false)) × Inside f gs
+Inside f (g ∷ gs) = (is_begin g ≡ false) × (is_last f ≡ false) × (is_passive f ≡ true → decides_first g ≡ false) × ((is_renewal f ≡ false) × (is_renewal g ≡ false)) × Inside f gs
 
 abbrev pub AreInside : List Fact → Type 0
 AreInside [] = Unit {0}
 AreInside (f ∷ fs) = Inside f fs × AreInside fs
 
--- facts none of which begins a call, decides anything or is a renewal
+-- facts none of which begins a call, decides anything before a wake or is a renewal
 abbrev Plain : List Fact → Type 0
 Plain [] = Unit {0}
-Plain (f ∷ fs) = (is_begin f ≡ false) × (decides f ≡ false) × (is_renewal f ≡ false) × Plain fs
+Plain (f ∷ fs) = (is_begin f ≡ false) × (decides_first f ≡ false) × (is_renewal f ≡ false) × Plain fs
 
 -- they may stand behind whatever isn't the last, and no renewal
 behind : (f : Fact) → is_last f ≡ false → is_renewal f ≡ false → (fs : List Fact) → Plain fs → Inside f fs
@@ -175,10 +176,10 @@ behind f goes_on old (g ∷ gs) plain = (plain.0, goes_on, (λ e. plain.1), (old
 abbrev Ordered : List Fact → Type 0
 Ordered fs = Plain fs × AreInside fs
 
-ahead : (f : Fact) → is_begin f ≡ false → decides f ≡ false → is_last f ≡ false → is_renewal f ≡ false → (fs : List Fact) → Ordered fs → Ordered (f ∷ fs)
+ahead : (f : Fact) → is_begin f ≡ false → decides_first f ≡ false → is_last f ≡ false → is_renewal f ≡ false → (fs : List Fact) → Ordered fs → Ordered (f ∷ fs)
 ahead f begins decided goes_on old fs h = ((begins, decided, old, h.0), (behind f goes_on old fs h.0, h.1))
 
-of_sleep : (u : ℕ) (f : Fact) → IsOfSleep u f → (is_begin f ≡ false) × (decides f ≡ false) × (is_last f ≡ false) × (is_renewal f ≡ false)
+of_sleep : (u : ℕ) (f : Fact) → IsOfSleep u f → (is_begin f ≡ false) × (decides_first f ≡ false) × (is_last f ≡ false) × (is_renewal f ≡ false)
 of_sleep u f of = grind (arith)
 
 returned_ordered : (u : ℕ) (y : Option Reply) → Ordered (return_facts u y)
@@ -206,6 +207,7 @@ told_inside (Killed t) = (tt, tt)
 told_inside (Left t) = (tt, tt)
 told_inside (Recounted k) = tt
 told_inside (Reslept t k) = ((refl, refl, (λ e. refl), (refl, refl), tt), (tt, tt))
+told_inside (Expired t m) = ((refl, refl, (λ e. refl), (refl, refl), tt), (tt, tt))
 told_inside (Renewed t) = (tt, tt)
 told_inside (Reinited t m) = ((refl, refl, (λ e. absurd cc), (refl, refl), (refl, refl, (λ e. absurd cc), (refl, refl), tt)), ((refl, refl, (λ e. absurd cc), (refl, refl), tt), (tt, tt)))
 told_inside (Walked u None ws y) = (woken_ordered u ws y).1

@@ -16,6 +16,13 @@ use Rattle.protocol.proofs.Phases.{decided_at}
 use Rattle.protocol.proofs.Kept.{Kept}
 use Rattle.protocol.proofs.Steps.{met_no_move, answer-is, onto}
 use Rattle.protocol.proofs.CallSteps.{CallStep}
+use Rattle.lockword.specs.declared.reply.Reply.TheVariants.{ETIMEDOUT}
+use Rattle.mutex.specs.Whole.{timed_out}
+use Rattle.protocol.proofs.Vocabulary.{Call, Expired, Object, OnMutex, lapsed}
+use Rattle.protocol.proofs.Steps.{Tells}
+use Rattle.protocol.proofs.Acts.{own_point}
+use Rattle.protocol.proofs.Kept.{IsFor}
+use Rattle.protocol.proofs.Expiring.{expires_at}
 use Rattle.protocol.proofs.Declines.{declined_state, quiet, spared_is}
 use Rattle.protocol.proofs.Events.{begins_at, by_event, by_stage, IsTrimming}
 use Rattle.protocol.proofs.Endings.{EndsOrGoes, call_ends, cond_ends}
@@ -117,6 +124,7 @@ calls_of (Stepped t m point slept woken moved returned) = point_facts point ++ r
 calls_of (Walked t death woken reaped) = death_facts t death ++ reap_facts t reaped
 calls_of (Left t) = []
 calls_of (Reslept t k) = []
+calls_of (Expired t m) = point_by t m Operation.TimedLock ETIMEDOUT ∷ []
 calls_of n = facts_of n
 
 -- who sleeps, who is woken and who is moved is told of no call
@@ -137,6 +145,7 @@ own-calls t i (Killed u) ls = refl
 own-calls t i (Left u) ls = refl
 own-calls t i (Recounted k) ls = refl
 own-calls t i (Reslept u k) ls = refl
+own-calls t i (Expired u m) ls = refl
 own-calls t i (Renewed u) ls = refl
 own-calls t i (Reinited u m) ls = refl
 own-calls t i (Walked u None ws y) ls = reaped_own t i u ws y ls
@@ -234,7 +243,7 @@ module _ (s : State) (u : ℕ) (o : Op) (idle : (s.threads u).stage ≡ Idle) wh
         let third = own-mine u i (Return u XHELD) ls refl refl in
         subst (λ g. Goes s.layout u g (own u (line_of i (Begin u b) ∷ (line_of i (point_by u b.mutex b.operation XHELD) ∷ (line_of i (Return u XHELD) ∷ ls))))) (sym idle)
         (subst (Lives u) (sym (first ∙ ap (λ fs. Begin u b ∷ fs) (second ∙ ap (λ fs. point_by u b.mutex b.operation XHELD ∷ fs) third)))
-        (returns_on u b ((b.operation, XHELD) ∷ []) XHELD (own u ls) refl (subst (λ g. Goes s.layout u g (own u ls)) idle later)));
+        (returns_on u b ((b.operation, XHELD) ∷ []) XHELD (own u ls) (own_point b.operation XHELD) (subst (λ g. Goes s.layout u g (own u ls)) idle later)));
     others = λ t apart. refl;
   }
   begins_call false = record {
@@ -246,6 +255,13 @@ module _ (s : State) (u : ℕ) (o : Op) (idle : (s.threads u).stage ≡ Idle) wh
         subst (λ g. Goes s.layout u g (own u (line_of i (Begin u b) ∷ ls))) (sym idle) (subst (Lives u) (sym (own-mine u i (Begin u b) ls refl refl)) (first_acts s.layout u o (own u ls) begun_there));
     others = λ t apart. ap (λ (z : Thread). z.stage) (put-other s.threads u (record (s.threads u) { stage = begins_at s.layout u o }) t (λ is. apart (sym is)));
   }
+
+-- no call's access is a lock with a time limit that came
+pub timed_is : (l : Layout') (o : Op) (op : Operation) → IsFor l o op → op ≢ Operation.TimedLock
+timed_is l o op is = grind (arith)
+
+timely : (old new : Object) (t : ℕ) (op : Operation) (x : Option Reply) → op ≢ Operation.TimedLock → Tells t old op x new → x ≢ Some ETIMEDOUT
+timely old new t op x other tells = grind (arith)
 
 -- a call makes its access
 accesses_add : (s : State) (u : ℕ) (o : Op) (k : Queue) (a : Access) (ps : List Act) (g : Led) → ((fs : List Fact) → Doing u (begun_of s.layout o) ps fs → Goes s.layout u (s.threads u).stage fs) → Follows s.layout u o ps g → EndsOrGoes g.stage g.returned
@@ -267,7 +283,7 @@ goes s u inv pos known o p is =
     let valid = met_no_move s.layout u (whole_access p) g.no_move ∙ g.valid in
     accesses_add s u o (Mutex (mutex_of s.layout o)) (whole_access p) (acts_by o (decided_at p.phase)) (led o p (whole_led p (answer_of s u (whole_access p))))
     (λ fs later. subst (λ (z : Stage). Goes s.layout u z fs) (sym is) later)
-    (subst (λ (a : Answer). Follows s.layout u o (acts_by o (decided_at p.phase)) (led o p (whole_led p a))) (sym (answer-is s u (whole_access p) valid)) (call_follows s.layout u o p (onto s u p) fits.1 g.moves.joins))
+    (subst (λ (a : Answer). Follows s.layout u o (acts_by o (decided_at p.phase)) (led o p (whole_led p a))) (sym (answer-is s u (whole_access p) valid)) (call_follows s.layout u o p (onto s u p) fits.1 g.moves.joins (timely _ _ u p.operation (onto s u p).point (timed_is s.layout o p.operation fits.1) g.tells)))
     (call_ends o p (whole_led p (answer_of s u (whole_access p))))
 
 goes_at : (s : State) (u : ℕ) → Kept s → 1 ≤ u → u ≤ s.layout.threads → (c : CondCall) (p : CondWhole) → (s.threads u).stage ≡ AtCondition c p
@@ -302,6 +318,20 @@ dies_so s u alive = record {
 -- a sleeper leaves its queue
 leaves_so : (s : State) (u : ℕ) → Adds s u (departed s u)
 leaves_so s u = record { fine = ((λ e. refl), (λ e. tt), tt); alone = tt; says = nothing_new; mine = λ i ls later. later; others = λ t apart. refl }
+
+-- its time limit comes: a point, of an operation of its own
+expires_so : (s : State) (u m : ℕ) (p : Whole) → (s.threads u).stage ≡ Calling (OnMutex (Call.TimedLock m)) p → decided_at p.phase ≡ None → Adds s u (lapsed s u (s.threads u).held (OnMutex (Call.TimedLock m)) p)
+expires_so s u m p is none = record {
+  fine = ((λ e. refl), (λ e. absurd cc), ((λ e. refl), (λ e. tt), tt));
+  alone = (refl, (refl, tt));
+  says = decided m Operation.TimedLock ETIMEDOUT;
+  mine = λ i ls later.
+      let now : Goes s.layout u (Calling (OnMutex (Call.TimedLock m)) (timed_out p)) (own u ls) = subst (λ (z : Thread). Goes s.layout u z.stage (own u ls)) (put-same s.threads u _) later in
+      subst (λ (g : Stage). Goes s.layout u g (own u (line_of i (point_by u m Operation.TimedLock ETIMEDOUT) ∷ ls))) (sym is)
+      (subst (λ (d : Option Reply). Doing u (begun_of s.layout (OnMutex (Call.TimedLock m))) (acts_by (OnMutex (Call.TimedLock m)) d) (own u (line_of i (point_by u m Operation.TimedLock ETIMEDOUT) ∷ ls))) (sym none)
+      (subst (λ (fs : List Fact). Doing u (begun_of s.layout (OnMutex (Call.TimedLock m))) [] fs) (sym (own-mine u i (point_by u m Operation.TimedLock ETIMEDOUT) ls refl refl)) now));
+  others = λ t apart. ap (λ (z : Thread). z.stage) (put-other s.threads u _ t (λ same. apart (sym same)));
+}
 
 -- a trim is declined: the call has had its point
 declines_so : (s : State) (u : ℕ) (o : Op) (p : Whole) (is : (s.threads u).stage ≡ Calling o p) (trims : IsTrimming p) → Adds s u (record { state = declined_state s u o p is trims; note = quiet s u o p is trims })
@@ -417,6 +447,7 @@ adds s e inv =
     (λ u pos known. by_stage s u (Adds s u) (λ rests. idles s u) (λ o p is awake. goes s u inv pos known o p is) (λ c p is awake. goes_at s u inv pos known c p is) (λ w is awake. walks_on s u inv pos known w is))
     (λ u pos known alive. dies_so s u alive)
     (λ u pos known asleep. leaves_so s u)
+    (λ u m p pos known is asleep may. expires_so s u m p is (expires_at p.phase may).2)
     (λ u o p pos known is awake trims. subst (Adds s u) (sym (spared_is s u o p is trims inv pos known)) (declines_so s u o p is trims))
     (λ u pos known gone. renews_so s u pos known gone)
     (λ u m may. reinits_so s u m 0 may.remake.resting)

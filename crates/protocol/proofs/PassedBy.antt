@@ -22,8 +22,11 @@ use Rattle.protocol.proofs.Puts.{put-same}
 use Rattle.protocol.proofs.Kept.{IsFor, Kept}
 use Rattle.protocol.proofs.Arrivals.{ended_or_not}
 use Rattle.protocol.proofs.Accesses.{fits_in}
-use Rattle.protocol.proofs.Passing.{point_noted, sleep_noted, none_walked, Begins_nothing, begins_stepped, begins_walked, last_begun-append, begins_first, begins_later}
+use Rattle.protocol.specs.Applies.{IsTold}
+use Rattle.protocol.proofs.CallsTold.{told_on, told_run}
+use Rattle.protocol.proofs.Passing.{point_noted, sleep_noted, none_walked, last_begun-append, begins_first, begins_later}
 use Rattle.protocol.proofs.WalkSteps.{by_walked}
+use Rattle.protocol.proofs.Vocabulary.{lapsed, Call, OnMutex}
 use Rattle.protocol.proofs.Declines.{declined_state, quiet, spared_is}
 use Rattle.protocol.proofs.Events.{begins_at, by_event, by_stage, IsTrimming}
 use Rattle.protocol.proofs.Counters.{CondMove, By_row, Before_release, CondGoes, cond_moves, KnowsCount, KnowsAt, KnowsIn, Counted, never_falls, passes, counted_on, run_counted}
@@ -115,12 +118,6 @@ behind_now l words words' k g more past knows = grind (arith)
 
 -- ---- one event
 
--- the call that it is in was told so
-abbrev pub IsTold : Layout' → Stage → Option Begun → Type 0
-IsTold l (Calling o p) b = b ≡ Some (begun_of l o)
-IsTold l (AtCondition c p) b = b ≡ Some (begun_of l (OnCondition c))
-IsTold l g b = Unit {0}
-
 -- an event of thread u, which leaves a
 record Makes (s : State) (u : ℕ) (a : After) : Type 0 where
   points : (d : Decision) → IsAmong (Fact.Point d) (facts_of a.note) → (d.thread ≡ u) × (1 ≤ u) × (u ≤ s.layout.threads)
@@ -130,8 +127,6 @@ record Makes (s : State) (u : ℕ) (a : After) : Type 0 where
   counts : (d : Decision) → IsAmong (Fact.Point d) (facts_of a.note) → Counts d.operation d.reply
       → (c : CondCall) × (p : CondWhole) × ((s.threads u).stage ≡ AtCondition c p) × (a.state.words (counter_place s.layout (condition_of c)) ≡ s.words (counter_place s.layout (condition_of c)) + 1) × ((k : ℕ) → IsBehind s.layout a.state.words k (a.state.threads u).stage)
   sleeps : (t k : ℕ) → IsAmong (Fact.Sleep t (Condition k)) (facts_of a.note) → a.note ≢ Reslept t k → IsBehind s.layout s.words k (s.threads t).stage → ⊥
-  told : (b : Option Begun) → IsTold s.layout (s.threads u).stage b → IsTold s.layout (a.state.threads u).stage (last_begun u b (facts_of a.note))
-  others : (t : ℕ) (b : Option Begun) → u ≢ t → last_begun t b (facts_of a.note) ≡ b
 
 nothing_makes : (s : State) (u : ℕ) → Makes s u (nothing s)
 nothing_makes s u = grind (arith)
@@ -145,9 +140,6 @@ past_call o p f = ⊎_elim (λ ended. subst (λ (x : Phase). IsPast (stage_after
 
 behind_call : (l : Layout') (words : ℕ → ℕ) (k : ℕ) (o : Op) (p : Whole) (f : Phase) → IsBehind l words k (stage_after o p f)
 behind_call l words k o p f = ⊎_elim (λ ended. subst (λ (x : Phase). IsBehind l words k (stage_after o p x)) (sym ended.1) tt) (λ on. subst (IsBehind l words k) (sym (on o p)) tt) (ended_or_not f)
-
-told_call : (l : Layout') (o : Op) (p : Whole) (f : Phase) (b : Option Begun) → b ≡ Some (begun_of l o) → IsTold l (stage_after o p f) b
-told_call l o p f b is = ⊎_elim (λ ended. subst (λ (x : Phase). IsTold l (stage_after o p x) b) (sym ended.1) tt) (λ on. subst (λ (g : Stage). IsTold l g b) (sym (on o p)) is) (ended_or_not f)
 
 -- it counts nothing
 never_counts : (l : Layout') (o : Op) (op : Operation) (x : Reply) → IsFor l o op → Counts op x → ⊥
@@ -174,9 +166,6 @@ module _ (s : State) (u : ℕ) (o : Op) (p : Whole) (inv : Kept s) (pos : 1 ≤ 
   pointed None d e = absurd cc
   pointed (Some x) d e = let same = decided_is u m p.operation x d e in (same.0, same.1)
 
-  nothing_begins : Begins_nothing (facts_of a.note)
-  nothing_begins = begins_stepped u m _ _ _ _ _
-
   call_makes : Makes s u a
   call_makes = record {
     points = λ d h. (sym (pointed called.point d (point_is d h)).0, pos, known);
@@ -185,9 +174,6 @@ module _ (s : State) (u : ℕ) (o : Op) (p : Whole) (inv : Kept s) (pos : 1 ≤ 
     behind = λ k first none h. subst (IsBehind s.layout a.state.words k) (sym stage_is) (behind_call s.layout a.state.words k o p _);
     counts = λ d h c. absurd (never_counts s.layout o p.operation d.reply (fits_in s u o p inv pos known is).1 (subst (λ (z : Operation). Counts z d.reply) (sym (pointed called.point d (point_is d h)).1) c));
     sleeps = λ t k h fresh b. never (falls_asleep s u (whole_access p)) k (sleep_noted t (Condition k) u m _ _ _ _ _ h).1;
-    told = λ b h. subst (λ (z : Option Begun). IsTold s.layout (a.state.threads u).stage z) (sym (nothing_begins.same u b))
-        (subst (λ (g : Stage). IsTold s.layout g b) (sym stage_is) (told_call s.layout o p _ b (subst (λ (g : Stage). IsTold s.layout g b) is h)));
-    others = λ t b apart. nothing_begins.same t b;
   }
     where
       never : (b : Bool) (k : ℕ) → slept_in (Mutex m) b ≡ Some (Condition k) → ⊥
@@ -198,9 +184,6 @@ module _ (s : State) (u : ℕ) (o : Op) (p : Whole) (inv : Kept s) (pos : 1 ≤ 
 
 past_before : (seen : ℕ) (f : CondPhase) → IsBefore seen f → IsPastIn f → ⊥
 past_before seen f is h = grind (arith)
-
-told_at : (l : Layout') (c : CondCall) (p : CondWhole) (f : CondPhase) (b : Option Begun) → b ≡ Some (begun_of l (OnCondition c)) → IsTold l (stage_at c p f) b
-told_at l c p f b is = grind (arith)
 
 module _ (s : State) (u : ℕ) (c : CondCall) (p : CondWhole) (inv : Kept s) (counted : Counted s) (pos : 1 ≤ u) (known : u ≤ s.layout.threads) (is : (s.threads u).stage ≡ AtCondition c p) where
   abbrev n : ℕ
@@ -254,9 +237,6 @@ module _ (s : State) (u : ℕ) (c : CondCall) (p : CondWhole) (inv : Kept s) (co
   stage_row : (r : CondRow) → cond_onto s u p ≡ from_words p (to_led r) → ((cond_after s u c p).threads u).stage ≡ stage_at c p (after_words p (to_led r).row)
   stage_row r leads = stage_then ∙ ap (λ (g : CondOnward). stage_at c p g.phase) leads
 
-  nothing_begins_at : Begins_nothing (facts_of (cond_note s u c p))
-  nothing_begins_at = begins_stepped u (its_mutex s c) _ _ _ _ _
-
   unlocks_at : (d : Decision) → Told_point d → d.operation ≡ Operation.Unlock → CondMove s u c p → IsPast ((cond_after s u c p).threads u).stage
   unlocks_at d told op (Before_release seen before later none same) = absurd (cc (sym none ∙ told.1))
   unlocks_at d told op (By_row r from going of needs counts leads) =
@@ -289,9 +269,6 @@ module _ (s : State) (u : ℕ) (c : CondCall) (p : CondWhole) (inv : Kept s) (co
     sleeps = λ t k h fresh b.
         let noted = sleep_noted t (Condition k) u (its_mutex s c) _ _ _ _ _ h in
         sleeps_on k noted.1 (subst (IsBehind s.layout s.words k) (ap (λ (y : ℕ). (s.threads y).stage) (sym noted.0) ∙ is) b) moved.move;
-    told = λ b h. subst (λ (y : Option Begun). IsTold s.layout ((cond_after s u c p).threads u).stage y) (sym (nothing_begins_at.same u b))
-        (subst (λ (g : Stage). IsTold s.layout g b) (sym stage_then) (told_at s.layout c p (cond_onto s u p).phase b (subst (λ (g : Stage). IsTold s.layout g b) is h)));
-    others = λ t b apart. nothing_begins_at.same t b;
   }
 
 -- ---- each event
@@ -318,12 +295,13 @@ decline_makes s u o p is trims = record {
   behind = λ k first none h. subst (IsBehind s.layout s.words k) (sym stage_is) tt;
   counts = λ d h c. absurd h;
   sleeps = λ t k h fresh b. h;
-  told = λ b h. subst (λ (g : Stage). IsTold s.layout g b) (sym stage_is) (subst (λ (g : Stage). IsTold s.layout g b) is h);
-  others = λ t b apart. refl;
 }
   where
     stage_is : ((declined_state s u o p is trims).threads u).stage ≡ Calling o (record p { phase = Clearing OK })
     stage_is = ap (λ (z : Thread). z.stage) (put-same s.threads u _)
+
+expire_makes : (s : State) (u m : ℕ) (p : Whole) → 1 ≤ u → u ≤ s.layout.threads → (s.threads u).stage ≡ Calling (OnMutex (Call.TimedLock m)) p → Makes s u (lapsed s u (s.threads u).held (OnMutex (Call.TimedLock m)) p)
+expire_makes s u m p pos known is = grind (arith)
 
 renew_makes : (s : State) (u : ℕ) → 1 ≤ u → u ≤ s.layout.threads → Makes s u (renewed s u)
 renew_makes s u pos known = record {
@@ -333,8 +311,6 @@ renew_makes s u pos known = record {
   behind = λ k first none h. subst (λ (z : Thread). IsBehind s.layout (renewed s u).state.words k z.stage) (sym (renewed_thread s u pos known)) tt;
   counts = λ d h c. absurd (no_point d h);
   sleeps = λ t k h fresh b. ⊎_elim (λ e. cc e) (λ none. none) h;
-  told = λ b h. subst (λ (z : Thread). IsTold s.layout z.stage b) (sym (renewed_thread s u pos known)) tt;
-  others = λ t b apart. refl;
 }
   where
     no_point : (d : Decision) → IsAmong (Fact.Point d) (facts_of (renewed s u).note) → ⊥
@@ -351,9 +327,6 @@ module _ (s : State) (u : ℕ) (v : walks.Standing) where
   dying : (P : Stage → Type 0) → P Reaped → ((y : walks.Standing) → P (Dying y)) → P (after_walk.state.threads u).stage
   dying P reaped walks_on = subst (λ (z : Thread). P z.stage) (sym (put-same s.threads u _)) (by_walked P v _ (λ ended. reaped) (λ going. walks_on _))
 
-  nothing_of_walk : Begins_nothing (facts_of after_walk.note)
-  nothing_of_walk = begins_walked u _ _ _
-
   walk_makes : Makes s u after_walk
   walk_makes = record {
     points = λ d h. absurd (none_walked (Fact.Point d) u _ _ _ refl h);
@@ -362,8 +335,6 @@ module _ (s : State) (u : ℕ) (v : walks.Standing) where
     behind = λ k first never h. dying (IsBehind s.layout after_walk.state.words k) tt (λ y. tt);
     counts = λ d h c. absurd (none_walked (Fact.Point d) u _ _ _ refl h);
     sleeps = λ t k h fresh x. none_walked (Fact.Sleep t (Condition k)) u _ _ _ refl h;
-    told = λ b h. dying (λ (g : Stage). IsTold s.layout g (last_begun u b (facts_of after_walk.note))) tt (λ y. tt);
-    others = λ t b apart. nothing_of_walk.same t b;
   }
 
 recount_makes : (s : State) (k : ℕ) → Makes s 0 (recounted s k)
@@ -374,8 +345,6 @@ recount_makes s k = record {
   behind = λ j first none h. absurd (omega (arith, first));
   counts = λ d h c. absurd h;
   sleeps = λ t j h fresh b. h;
-  told = λ b h. h;
-  others = λ t b apart. refl;
 }
 
 spare_makes : (s : State) (u m : ℕ) (g : Led) (sp : Sparing s u m g) → Makes s u (record { state = spared_state s u m g sp.how; note = unwoken u m })
@@ -386,8 +355,6 @@ spare_makes s u m g sp = record {
   behind = λ k first none h. subst (IsBehind s.layout s.words k) (sym stage_is) (behind_on k sp.how h);
   counts = λ d h c. absurd h;
   sleeps = λ t k h fresh b. h;
-  told = λ b h. subst (λ (z : Stage). IsTold s.layout z b) (sym stage_is) (told_so b sp.how h);
-  others = λ t b apart. refl;
 }
   where
     stage_is : ((spared_state s u m g sp.how).threads u).stage ≡ next_of s u m g sp.how
@@ -401,10 +368,6 @@ spare_makes s u m g sp = record {
     behind_on k (Of_unlock o p is mutex at leads) h = tt
     behind_on k (Of_wait c p x is mutex at leads) h = λ here. subst (IsBehindIn (s.words (counter_place s.layout k))) at (subst (IsBehind s.layout s.words k) is h here)
 
-    told_so : (b : Option Begun) (how : HowSpared s u m g) → IsTold s.layout (s.threads u).stage b → IsTold s.layout (next_of s u m g how) b
-    told_so b (Of_unlock o p is mutex at leads) h = subst (λ (z : Stage). IsTold s.layout z b) is h
-    told_so b (Of_wait c p x is mutex at leads) h = subst (λ (z : Stage). IsTold s.layout z b) is h
-
 resleep_makes : (s : State) (u k : ℕ) → 1 ≤ u → u ≤ s.layout.threads → Makes s u (reslept s u k)
 resleep_makes s u k pos known = record {
   points = λ d h. absurd (no_point d h);
@@ -413,8 +376,6 @@ resleep_makes s u k pos known = record {
   behind = λ j first none h. h;
   counts = λ d h c. absurd (no_point d h);
   sleeps = λ t j h fresh b. ⊎_elim (λ e. cc e) (λ more. ⊎_elim (λ e. fresh (same t j e)) (λ none. none) more) h;
-  told = λ b h. h;
-  others = λ t b apart. refl;
 }
   where
     no_point : (d : Decision) → IsAmong (Fact.Point d) (facts_of (reslept s u k).note) → ⊥
@@ -431,8 +392,6 @@ repeat_makes s u w = record {
   behind = λ k first never h. h;
   counts = λ d h c. absurd (none_walked (Fact.Point d) u None (woken s u (exit.access_of w)) false refl h);
   sleeps = λ t k h fresh x. none_walked (Fact.Sleep t (Condition k)) u None (woken s u (exit.access_of w)) false refl h;
-  told = λ b h. subst (IsTold s.layout (s.threads u).stage) (sym ((begins_walked u None (woken s u (exit.access_of w)) false).same u b)) h;
-  others = λ t b apart. (begins_walked u None (woken s u (exit.access_of w)) false).same t b;
 }
 
 makes : (s : State) (e : Event) → Kept s → Counted s → Makes s (caller e) (happens s e)
@@ -449,6 +408,7 @@ makes s e inv counted =
     (λ w is awake. walk_makes s t w))
     (λ t pos known alive. kill_makes s t)
     (λ t pos known asleep. leave_makes s t)
+    (λ t m p pos known is asleep may. expire_makes s t m p pos known is)
     (λ t o p pos known is awake trims. subst (Makes s t) (sym (spared_is s t o p is trims inv pos known)) (decline_makes s t o p is trims))
     (λ t pos known gone. renew_makes s t pos known)
     (λ t m may. reinit_makes s t m 0 may.remake.first may.remake.last may.remake.resting)
@@ -510,13 +470,6 @@ module _ (s : State) (e : Event) (inv : Kept s) (counted : Counted s) (t : ℕ) 
       ⊎_elim (λ other. behind_later s.layout s.words s'.words k (s.threads t).stage (never_falls s (caller e) s' inv counted (passes s e inv counted other) k) h)
       (λ recounts. subst (λ (x : Event). IsBehind s.layout (happens s x).state.words k (s.threads t).stage) (sym recounts.1) (behind_recount s recounts.0 k t first last h)) (recount_or e)))
 
-  pub told_on : (b : Option Begun) → IsTold s.layout (s.threads t).stage b → IsTold s'.layout (s'.threads t).stage (last_begun t b told_facts)
-  told_on b h =
-      subst (λ (l : Layout'). IsTold l (s'.threads t).stage (last_begun t b told_facts)) (sym same_layout)
-      (either (λ (g : Stage). IsTold s.layout g (last_begun t b told_facts))
-      (λ me. subst (λ (v : ℕ). IsTold s.layout (s.threads v).stage b → IsTold s.layout (s'.threads v).stage (last_begun v b told_facts)) me (made.told b) h)
-      (λ apart. subst (IsTold s.layout (s.threads t).stage) (sym (made.others t b apart)) h))
-
   -- a count on condition variable k leaves it behind, if it is past its release
   counted_by : (k : ℕ) (d : Decision) (b : Option Begun) → 1 ≤ t → t ≤ s.layout.threads → IsPast (s.threads t).stage → IsAmong (Fact.Point d) told_facts → Counts d.operation d.reply → IsTold s.layout (s.threads d.thread).stage b → IsOn k b → IsBehind s'.layout s'.words k (s'.threads t).stage
   counted_by k d b first last past among counts told on =
@@ -545,12 +498,6 @@ behind_run s [] inv counted t k first last none h = h
 behind_run s (e ∷ es) inv counted t k first last none h =
     behind_run (happens s e).state es (sound s e inv).kept (counted_on s e inv counted) t k first (subst (λ (l : Layout'). t ≤ l.threads) (sym (sound s e inv).same) last) (begins_later t (facts_of (happens s e).note) (facts_among (notes (happens s e).state es)) none)
     (behind_on s e inv counted t k first last (begins_first t (facts_of (happens s e).note) (facts_among (notes (happens s e).state es)) none) h)
-
-pub told_run : (s : State) (es : List Event) → Kept s → Counted s → (t : ℕ) (b : Option Begun) → IsTold s.layout (s.threads t).stage b → IsTold (run s es).layout ((run s es).threads t).stage (last_begun t b (facts_among (notes s es)))
-told_run s [] inv counted t b h = h
-told_run s (e ∷ es) inv counted t b h =
-    subst (IsTold (run (happens s e).state es).layout ((run (happens s e).state es).threads t).stage) (sym (last_begun-append t b (facts_of (happens s e).note) (facts_among (notes (happens s e).state es))))
-    (told_run (happens s e).state es (sound s e inv).kept (counted_on s e inv counted) t (last_begun t b (facts_of (happens s e).note)) (told_on s e inv counted t b h))
 
 -- from a state in which no call was told
 module _ (s0 : State) (events : List Event) (inv : Kept s0) (counted : Counted s0) (untold : (t : ℕ) → IsTold s0.layout (s0.threads t).stage None) (t k : ℕ) (h : IsPassedBy t k (notes s0 events)) where
@@ -611,7 +558,7 @@ module _ (s0 : State) (events : List Event) (inv : Kept s0) (counted : Counted s
   told3 : IsTold s3.layout (s3.threads v).stage (call_told v (h.before ++ h.release ∷ h.between))
   told3 =
       subst (IsTold s3.layout (s3.threads v).stage) calls
-      (told_run s2 count_at.first good2.0 good2.1 v _ (told_on s1 release_at.event good1.0 good1.1 v _ (told_run s0 release_at.first inv counted v None (untold v))))
+      (told_run s2 count_at.first v _ (told_on s1 release_at.event v _ (told_run s0 release_at.first v None (untold v))))
     where
       calls : last_begun v (last_begun v (last_begun v None (facts_among (notes s0 release_at.first))) (facts_of (happens s1 release_at.event).note)) (facts_among (notes s2 count_at.first)) ≡ call_told v (h.before ++ h.release ∷ h.between)
       calls =

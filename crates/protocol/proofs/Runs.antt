@@ -26,6 +26,10 @@ use Rattle.protocol.proofs.Seeing.{head_in, words_in, head_again}
 use Rattle.memorymap.specs.Layouts.{thread_of, head_word, cell_offset}
 use Rattle.protocol.proofs.Frames.{knows_at}
 use Rattle.protocol.proofs.Departures.{queues_kept}
+use Rattle.lockword.specs.declared.reply.Reply.TheVariants.{ETIMEDOUT}
+use Rattle.mutex.specs.declared.row.Row.TheVariants.{Lock}
+use Rattle.protocol.proofs.Vocabulary.{AtCell, Call, LockRow, OnMutex, lapsed}
+use Rattle.protocol.proofs.Expiring.{expires_at, lapse_kept}
 use Rattle.protocol.proofs.Declines.{declined_state, quiet, spared_is, decline_kept}
 use Rattle.buckets.specs.Queues.{without}
 use Rattle.protocol.proofs.Vocabulary.{Led, condition_of, recounted, reslept, repeated, woken}
@@ -185,6 +189,18 @@ kill_sound s t inv pos known alive = record { kept = kill_kept s t inv pos known
 leave_sound : (s : State) (t : ℕ) → Kept s → Sound' s (departed s t)
 leave_sound s t inv = record { kept = queues_kept s (λ key. without t (s.queues key)) inv; same = refl; told = λ k. refl }
 
+-- and a lock that is out of time: its point changes nothing
+lapse_sound : (s : State) (t m : ℕ) (p : Whole) → Kept s → 1 ≤ t → t ≤ s.layout.threads → (s.threads t).stage ≡ Calling (OnMutex (Call.TimedLock m)) p → (r : LockRow) → p.phase ≡ AtCell (Lock r)
+    → Sound' s (lapsed s t (s.threads t).held (OnMutex (Call.TimedLock m)) p)
+lapse_sound s t m p inv pos known is r at =
+    let fits = subst (Sits s t (s.threads t).held) (is ∙ ap (Calling (OnMutex (Call.TimedLock m))) (λ i. record { thread = p.thread; operation = p.operation; head = p.head; entry = p.entry; cell = p.cell; phase = at i })) (inv.sits t pos known) in
+    let room : (s.threads t).held < 2048 = fits.0.stands.room (ap acquires fits.1) in
+    record {
+      kept = lapse_kept s t (OnMutex (Call.TimedLock m)) p is r at inv pos known;
+      same = refl;
+      told = (fits.0.inside, does _ t _ _ Operation.TimedLock ETIMEDOUT (λ takes. subst (λ (h : ℕ). h < 2048) (inv.held t pos known) room) refl, (λ k apart. refl), refl);
+    }
+
 -- and a trim that is declined
 decline_sound : (s : State) (t : ℕ) (o : Op) (p : Whole) (is : (s.threads t).stage ≡ Calling o p) (trims : IsTrimming p) → Kept s → 1 ≤ t → t ≤ s.layout.threads
     → Sound' s (record { state = declined_state s t o p is trims; note = quiet s t o p is trims })
@@ -226,6 +242,7 @@ sound s e inv =
     (λ t pos known. by_step s t inv pos known (Sound' s) (λ rests. idles s inv) (λ v n is awake g noted. access_sound s t v n inv pos known g noted))
     (λ t pos known alive. kill_sound s t inv pos known alive)
     (λ t pos known asleep. leave_sound s t inv)
+    (λ t m p pos known is asleep may. let e = expires_at p.phase may in lapse_sound s t m p inv pos known is e.0 e.1)
     (λ t o p pos known is awake trims. subst (Sound' s) (sym (spared_is s t o p is trims inv pos known)) (decline_sound s t o p is trims inv pos known))
     (λ t pos known gone. renew_sound s t inv pos known gone)
     (λ t m may. reinit_sound s t m 0 refl inv may.remake)
@@ -239,7 +256,7 @@ sound s e inv =
 -- ---- the beginning
 
 -- so at the start each mutex is free
-seen-start : (l : Layout') (counters : ℕ → ℕ) (m : ℕ) → seen (start l counters) m ≡ fresh
+pub seen-start : (l : Layout') (counters : ℕ → ℕ) (m : ℕ) → seen (start l counters) m ≡ fresh
 seen-start l counters m = grind (arith)
 
 -- and nobody holds any

@@ -320,6 +320,7 @@ spare_so s t m g queued sp = (m, next_of s t m g sp.how, go sp.how, record { oth
 pub spare_rests : (s : State) (t : ℕ) → Queued s → (1 ≤ t → t ≤ s.layout.threads → MaySpare s t → ⊥) → happens s (Spare t) ≡ nothing s
 spare_rests s t queued never =
     by_event s (λ (x : Event) (a : After). x ≡ Spare t → a ≡ nothing s) (λ x same. refl) (λ u o pos known named idle b full same. absurd cc) (λ u pos known same. absurd cc) (λ u pos known alive same. absurd cc) (λ u pos known asleep same. absurd cc)
+    (λ u m p pos known is asleep may same. absurd cc)
     (λ u o p pos known is awake trims same. absurd cc) (λ u pos known gone same. absurd cc) (λ u m may same. absurd cc) (λ u m may same. absurd cc) (λ k may same. absurd cc)
     (λ u m g sp same. absurd (subst (λ (v : ℕ). 1 ≤ v → v ≤ s.layout.threads → MaySpare s v → ⊥) (sym (thread_is u t same)) never sp.first sp.last (spare_so s u m g queued sp)))
     (λ u c p pos known is there same. absurd cc) (λ u w pos known is reads same. absurd cc)

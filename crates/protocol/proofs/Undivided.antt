@@ -28,6 +28,8 @@ use Rattle.protocol.proofs.Working.{call_goes}
 use Rattle.protocol.proofs.Runs.{sound, start_kept, run_kept}
 use Rattle.protocol.proofs.Queued.{Queued, in_none, out_awake, mine, still_out, went_queued}
 use Rattle.protocol.proofs.QueueRuns.{run_queued, queued_on}
+use Rattle.condvar.specs.Ops.{acts_as}
+use Rattle.protocol.proofs.Events.{acquires_same}
 use Rattle.protocol.proofs.Owed.{somebody_owes, ends_alone}
 use Rattle.protocol.proofs.Returning.{still_run, still_tells, idle_still}
 use Rattle.protocol.proofs.Comings.{ComesBack, at_first, takes_step}
@@ -35,15 +37,15 @@ use Rattle.protocol.proofs.CondAlone.{comes_at}
 
 -- what holds of a call where it sleeps: a lock of a mutex that another owns, or a wait by the owner of a consistent one
 abbrev SleepsSo : Object → ℕ → Op → State → Type 0
-SleepsSo o t c z = IsKeptWaiting o t (operation_of c) ⊎ IsWaiting o t (operation_of c) (condition_of c) z
+SleepsSo o t c z = IsKeptWaiting o t (acts_as c) ⊎ IsWaiting o t (acts_as c) (condition_of c) z
 
 -- ---- the call on a mutex of thread t, which held so many mutexes when its mutex was this object
-module _ (t held : ℕ) (c : Call) (o : Object) (room : acquires (calls.operation_of c) ≡ true → held < 2048) where
+module _ (t held : ℕ) (c : Call) (o : Object) (room : acquires (calls.acts_as c) ≡ true → held < 2048) where
   abbrev m : ℕ
   m = calls.mutex_of c
 
   abbrev op : Operation
-  op = calls.operation_of c
+  op = calls.acts_as c
 
   -- it sleeps only on a mutex that another owns
   abbrev KeptOut : State → Type 0
@@ -149,8 +151,8 @@ first_few : (s : State) (t : ℕ) (o : Op) → left_of s (begins_at s.layout t o
 first_few s t o = grind (arith)
 
 -- where it has begun, with the mutex as it was
-first_comes : (o : Object) (held n : ℕ) (s : State) (t : ℕ) (c : Op) → (acquires (operation_of c) ≡ true → held < 2048) → seen s (mutex_of s.layout c) ≡ o → Kept s → Queued s → 1 ≤ t → t ≤ s.layout.threads → (s.threads t).stage ≡ begins_at s.layout t c → is_asleep s t ≡ false
-    → ComesBack t held (mutex_of s.layout c) (operation_of c) o (SleepsSo o t c) s n
+first_comes : (o : Object) (held n : ℕ) (s : State) (t : ℕ) (c : Op) → (acquires (acts_as c) ≡ true → held < 2048) → seen s (mutex_of s.layout c) ≡ o → Kept s → Queued s → 1 ≤ t → t ≤ s.layout.threads → (s.threads t).stage ≡ begins_at s.layout t c → is_asleep s t ≡ false
+    → ComesBack t held (mutex_of s.layout c) (acts_as c) o (SleepsSo o t c) s n
 first_comes o held n s t (OnMutex c) room same inv queued pos known is awake =
     let back = comes t held c o room n s (begins s.layout t c) inv queued pos known is awake (first_steady t c (s.words (cell_place s.layout (calls.mutex_of c))))
     (subst (λ (d : Option Reply). Decided t held c o room d (seen s (calls.mutex_of c))) (sym (first_decided c)) same) in
@@ -194,8 +196,8 @@ module _ (s : State) (t : ℕ) (c : Op) (n : ℕ) (inv : Kept s) (queued : Queue
             let said = subst (λ (a : After). IsAmong (Return t x) (facts_of a.note ++ facts_among (notes a.state (replicate n (Step t))))) to among in
             let is : x ≡ XHELD = only x (subst (λ fs. IsAmong (Return t x) (facts_of (begun_to true).note ++ fs)) (still_tells s t n still) said) in (
               (λ raced. cc (sym is ∙ raced)),
-              subst (λ (z : Reply × State). Does owned (seen s k) t (operation_of c) z.0 (seen z.1 k)) (λ i. (sym is i, sym back i))
-                  (subst (λ (b : Bool). MatchBool b ((XHELD ≡ XHELD) × (seen s k ≡ seen s k)) (Permits (seen s k) t (operation_of c) XHELD (seen s k))) (sym holds) (refl, refl)),
+              subst (λ (z : Reply × State). Does owned (seen s k) t (acts_as c) z.0 (seen z.1 k)) (λ i. (sym is i, sym back i))
+                  (subst (λ (b : Bool). MatchBool b ((XHELD ≡ XHELD) × (seen s k ≡ seen s k)) (Permits (seen s k) t (acts_as c) XHELD (seen s k))) (sym (ap (λ (b : Bool). b && nat_le 2048 owned) (acquires_same c) ∙ holds)) (refl, refl)),
             );
         sleeps = λ asleep. absurd (cc (sym (ap (λ (z : State). is_asleep z t) back ∙ ap (sleeps s t) idle) ∙ asleep));
       }
@@ -211,14 +213,14 @@ module _ (s : State) (t : ℕ) (c : Op) (n : ℕ) (inv : Kept s) (queued : Queue
       let kept1 : Kept s1 = subst (λ (a : After). Kept a.state) to (sound s (Begin t c) inv).kept in
       let queued1 : Queued s1 = subst (λ (a : After). Queued a.state) to (queued_on s (Begin t c) inv queued) in
       let begins_here : (s1.threads t).stage ≡ begins_at s.layout t c = ap (λ (z : Thread). z.stage) (put-same s.threads t (record (s.threads t) { stage = begins_at s.layout t c })) in
-      let comes1 = first_comes (seen s k) owned n s1 t c room refl kept1 queued1 pos known begins_here (out_awake s1 t (in_none s t queued (ap (sleeps s t) idle))) in
+      let comes1 = first_comes (seen s k) owned n s1 t c (λ takes. room (sym (acquires_same c) ∙ takes)) refl kept1 queued1 pos known begins_here (out_awake s1 t (in_none s t queued (ap (sleeps s t) idle))) in
       record {
         ends = λ enough.
             subst (λ (a : After). ((x : Reply) × IsAmong (Return t x) (facts_of a.note ++ facts_among (notes a.state (replicate n (Step t))))) ⊎ (is_asleep (run a.state (replicate n (Step t))) t ≡ true)) (sym to)
             (⊎_elim (λ told. inl (told.0, inr told.1)) inr (comes1.1 (few enough)));
         returns = λ x among.
             let said = subst (λ (a : After). IsAmong (Return t x) (facts_of a.note ++ facts_among (notes a.state (replicate n (Step t))))) to among in
-            subst (λ (a : After). (x ≢ XRACED) × Does owned (seen s k) t (operation_of c) x (seen (run a.state (replicate n (Step t))) k)) (sym to)
+            subst (λ (a : After). (x ≢ XRACED) × Does owned (seen s k) t (acts_as c) x (seen (run a.state (replicate n (Step t))) k)) (sym to)
             (comes1.0.returns x (⊎_elim (λ b. absurd (cc b)) (λ rest. rest) said));
         sleeps = λ asleep.
             subst (λ (a : After). SleepsSo (seen s k) t c (run a.state (replicate n (Step t)))) (sym to)

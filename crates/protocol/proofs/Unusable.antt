@@ -1,6 +1,6 @@
 -- Mutexes that are unusable: what a reinit does, and that nothing else changes them.
 use Rattle.std.proofs.Common.{◌≡◌, ◌≢◌, ◌⊎◌, inl, inr, ℕ, ◌<◌, ◌≤◌, Bool, true, false, Option, Some, None, Ok, Err, List, [], ◌∷◌, refl, sym, ap, ◌∙◌, subst, arith}
-use Rattle.protocol.proofs.Vocabulary.{CondCall, CondWhole, cond_access, cond_led, condition_of, Mutex, Condition, Object, Operation, Permits, Layout', cell_place, Fields, fields_of, Reply, XHELD, whole_access, whole_led, answer_among, Op, OnMutex, OnCondition, mutex_of}
+use Rattle.protocol.proofs.Vocabulary.{CondCall, CondWhole, cond_access, cond_led, condition_of, Mutex, Condition, Object, Operation, Permits, Layout', cell_place, Fields, Reply, XHELD, whole_access, whole_led, answer_among, Op, OnMutex, OnCondition, mutex_of}
 use Rattle.protocol.proofs.Vocabulary.{Event, Calling, AtCondition, State, After, Call, Sleeps, sleepers, stands_in, seen, start, happens, nothing, begun, walked, run, facts_of, is_asleep, sleeps_at, Note, led, led_at, decided_at, if◌then◌else◌, reinited, waiters_of, MayReinit, MayRemake}
 use Rattle.condvar.specs.Ops.{operation_of}
 use Rattle.condvar.specs.Calls as condition
@@ -148,6 +148,7 @@ module _ (s : State) (m : ℕ) (inv : Kept s) (lost : (seen s m).unusable ≡ tr
       (subst Stays (sym (walked-is s t w.row g.valid)) (access_stays t (walk_transition s t w.row) g (λ e. cc)))))
       (λ t pos known alive other. lost)
       (λ t pos known asleep other. lost)
+      (λ t k p pos known is asleep may other. lost)
       (λ t o p pos known is awake trims other. subst Stays (sym (spared_is s t o p is trims inv pos known)) lost)
       (λ t pos known gone other. ap (λ (o : Object). o.unusable) (renewed_seen s t pos known m) ∙ lost)
       (λ t k may other. ap (λ (o : Object). o.unusable) (reinited_far s t k 0 refl may.remake m (λ e. other (sym e))) ∙ lost)
@@ -190,6 +191,7 @@ module _ (s : State) (m : ℕ) (inv : Kept s) (lost : (seen s m).unusable ≡ tr
         (λ v n is awake g noted. access_joins t v n g pos known is awake))
         (λ t pos known alive u there. (without_stands t u (sleepers s m) there).0)
         (λ t pos known asleep u there. (without_stands t u (sleepers s m) there).0)
+        (λ t k p pos known is asleep may u there. (without_stands t u (sleepers s m) there).0)
         (λ t o p pos known is awake trims u there. there)
         (λ t pos known gone u there. there)
         (λ t k may u there. there)
@@ -218,6 +220,7 @@ parted m (Event.Recount t) es none = (tt, none)
 parted m (Event.Spare t) es none = (tt, none)
 parted m (Event.Resleep t) es none = (tt, none)
 parted m (Event.Repeat t) es none = (tt, none)
+parted m (Event.Expire t) es none = (tt, none)
 parted m (Event.Decline t) es none = (tt, none)
 parted m (Event.Renew t) es none = (tt, none)
 

@@ -43,6 +43,7 @@ stay_on s e inv =
     (λ t pos known. by_step s t inv pos known (λ (a : After). WaitersStay s a.state) (λ rests m below on. inl on) (λ v n is awake g noted. g.waiters))
     (λ t pos known alive m below on. inl on)
     (λ t pos known asleep m below on. inl on)
+    (λ t k p pos known is asleep may m below on. inl on)
     (λ t o p pos known is awake trims m below on. inl on)
     (λ t pos known gone m below on. inl (ap (λ (w : ℕ). (fields_of w).waiters) (renewed_cell s t pos known m) ∙ on))
     (λ t k may m below on. reinit_stays t k 0 refl may.remake (λ on. inr (may.unslept, unowned s t k 0 refl may.remake inv)) m on)

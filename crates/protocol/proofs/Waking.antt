@@ -25,6 +25,7 @@ use Rattle.protocol.proofs.QueueRuns.{queued_on, start_queued, run_queued}
 use Rattle.protocol.proofs.Runs.{sound, start_kept, run_kept, run_layout}
 use Rattle.protocol.proofs.InTurn.{same_queue, TellsAll, told_in_turn}
 use Rattle.protocol.proofs.Departures.{asleep_where}
+use Rattle.protocol.proofs.Vocabulary.{lapsed, Call, OnMutex, Whole}
 use Rattle.protocol.proofs.Declines.{spared_is}
 use Rattle.protocol.specs.Applies.{IsInAQueue}
 use Rattle.protocol.proofs.Vocabulary.{departed}
@@ -253,6 +254,14 @@ resleep_turn s u k t below there = go (u == t) refl
         Goes_again k (ap (λ (v : ℕ). Wake v ∷ (Sleep v (Condition k) ∷ [])) same) below (subst (λ (v : ℕ). stands_in v (s.queues (counter_place s.layout k)) ≡ true) same there) same_key (ap Event.Resleep same)
     go false e = Stays refl same_key
 
+expire_turn : (s : State) (u t m : ℕ) (p : Whole) → is_asleep s u ≡ true → TurnOf s t (Event.Expire u) (lapsed s u (s.threads u).held (OnMutex (Call.TimedLock m)) p)
+expire_turn s u t m p asleep =
+    by_equal (Turn s (λ key. without u (s.queues key)) t (Event.Expire u)) u t (Wake u ∷ []) []
+    (λ same.
+    let stood = subst (λ (v : ℕ). IsInAQueue s v) same (asleep_where s u asleep) in
+    Is_woken stood.0 (ap (λ (v : ℕ). Wake v ∷ []) same) stood.1 (λ key. ap (λ (v : ℕ). stands_in v (without u (s.queues key))) (sym same) ∙ without_gone u (s.queues key)) (λ e. cc))
+    (λ apart. Stays refl (λ key. stands_without t u (s.queues key) (grind (arith))))
+
 turn : (s : State) (e : Event) → Kept s → Queued s → (t : ℕ) → TurnOf s t e (happens s e)
 turn s e inv queued t =
     by_event s (λ (x : Event) (z : After). TurnOf s t x z)
@@ -261,6 +270,7 @@ turn s e inv queued t =
     (λ u pos known. by_step s u inv pos known (TurnOf s t (Event.Step u)) (λ rests. idle_turn s t (Event.Step u)) (λ v n is awake g noted. step_turn s u t v g pos known is queued awake (Event.Step u) (λ same. cc same) n noted))
     (λ u pos known alive. kill_turn s u t)
     (λ u pos known asleep. leave_turn s u t asleep)
+    (λ u m p pos known is asleep may. expire_turn s u t m p asleep)
     (λ u o p pos known is awake trims. subst (TurnOf s t (Event.Decline u)) (sym (spared_is s u o p is trims inv pos known)) (Stays refl (λ key. refl)))
     (λ u pos known gone. Stays refl (λ key. refl))
     (λ u m may. Stays refl (λ key. refl))

@@ -322,6 +322,7 @@ module _ (s : State) (inv : Kept s) (queued : Queued s) (told : ℕ → Told) (b
   WhomAt (Event.Leave t) a = WakesItself t (facts_of a.note)
   WhomAt (Event.Resleep t) a = WakesItself t (facts_of a.note)
   WhomAt (Event.Repeat t) a = WakesWhom s Dead None None (facts_of a.note)
+  WhomAt (Event.Expire t) a = WakesItself t (facts_of a.note)
   WhomAt e a = (wakes_in (facts_of a.note) ≡ []) × (moves_in (facts_of a.note) ≡ [])
 
   nothing_whom : (e : Event) → WhomAt e (nothing s)
@@ -329,6 +330,7 @@ module _ (s : State) (inv : Kept s) (queued : Queued s) (told : ℕ → Told) (b
   nothing_whom (Event.Begin t c) = (refl, refl)
   nothing_whom (Event.Kill t) = (refl, refl)
   nothing_whom (Event.Leave t) = (inl refl, refl)
+  nothing_whom (Event.Expire t) = (inl refl, refl)
   nothing_whom (Event.Decline t) = (refl, refl)
   nothing_whom (Event.Renew t) = (refl, refl)
   nothing_whom (Event.Reinit t m) = (refl, refl)
@@ -374,6 +376,7 @@ module _ (s : State) (inv : Kept s) (queued : Queued s) (told : ℕ → Told) (b
       (λ w is awake. walks_whom t w pos known is))
       (λ t pos known alive. (refl, refl))
       (λ t pos known asleep. (inr refl, refl))
+      (λ t m p pos known is asleep may. (inr refl, refl))
       (λ t c p pos known is awake trims. subst (WhomAt (Event.Decline t)) (sym (spared_is s t c p is trims inv pos known)) (refl, refl))
       (λ t pos known gone. (refl, refl))
       (λ t m may. (refl, refl))
@@ -405,6 +408,7 @@ woken_right l counters events is e = go e (next_whom (run s0 events) (run_kept s
     go (Event.Spare t) h = h
     go (Event.Resleep t) h = h
     go (Event.Repeat t) h = h
+    go (Event.Expire t) h = h
     go (Event.Decline t) h = h
     go (Event.Renew t) h = h
     go (Event.Reinit t m) h = h

@@ -45,11 +45,11 @@ no_points t m z ws ms y = behind_point (λ (fs : List Fact). points_of fs ≡ []
 pub reaped_points : (t : ℕ) (ws : List ℕ) (y : Bool) → points_of (map Fact.Wake ws ++ reap_facts t y) ≡ []
 reaped_points t ws y = behind_woken (λ (fs : List Fact). points_of fs ≡ []) ws (reap_facts t y) (λ w fs none. none) (grind (arith))
 
-told_call : (t m : ℕ) (op : Operation) (x : Option Reply) (z : Option Queue) (ws ms : List ℕ) (y : Option Reply) → points_of (facts_of (Stepped t m (decision t m op x) z ws ms y)) ≡ point_of t m op x
+pub told_call : (t m : ℕ) (op : Operation) (x : Option Reply) (z : Option Queue) (ws ms : List ℕ) (y : Option Reply) → points_of (facts_of (Stepped t m (decision t m op x) z ws ms y)) ≡ point_of t m op x
 told_call t m op None z ws ms y = no_points t m z ws ms y
 told_call t m op (Some x) z ws ms y = ap (λ (ds : List Decision). record { thread = t; mutex = m; operation = op; reply = x } ∷ ds) (no_points t m z ws ms y)
 
-told_walk : (t : ℕ) (d : Option ℕ) (us : List ℕ) (y : Bool) → points_of (facts_of (Walked t d us y)) ≡ point_of t (or_first d) Operation.Death (told_of d)
+pub told_walk : (t : ℕ) (d : Option ℕ) (us : List ℕ) (y : Bool) → points_of (facts_of (Walked t d us y)) ≡ point_of t (or_first d) Operation.Death (told_of d)
 told_walk t None us y = reaped_points t us y
 told_walk t (Some m) us y = ap (λ (ds : List Decision). record { thread = t; mutex = m; operation = Operation.Death; reply = OK } ∷ ds) (reaped_points t us y)
 

@@ -2,8 +2,8 @@
 --
 -- *Which events apply.* By what the trace has told of its thread: a begin where that lives, is in no call, and the
 -- mutex or condition variable is one of the layout; a step where it is in a call, or killed and not reaped, and sleeps
--- nowhere; a kill where it lives; a leave where it stands in a queue; a decline where its next access is a trim
--- (`IsAboutToTrim`); a renewal where it was reaped, and hasn't been renewed since; a reinit where it lives and is in no
+-- nowhere; a kill where it lives; a leave where it stands in a queue; an expiry where it does so in a call that was told
+-- as a lock with a time limit (`IsTold`); a decline where its next access is a trim (`IsAboutToTrim`); a renewal where it was reaped, and hasn't been renewed since; a reinit where it lives and is in no
 -- call, and the mutex, one of the layout, is unusable and nobody sleeps on it, and a remake whoever sleeps on it; a
 -- recount, a spare (`IsSparedAccessOf`), a resleep and a repeat (`IsAboutToRead`) where they happen. Such an event is
 -- noted as what it is, every other as nothing, and that changes nothing: the law `events_apply`.
@@ -15,16 +15,19 @@ use Rattle.memorymap.specs.Layouts.{Layout', IsLayout}
 use Rattle.posixmutex.specs.Histories.{held_by}
 use Rattle.posixmutex.specs.Objects.{held_limit, acquires}
 use Rattle.mutex.specs.Calls as mutex
+use Rattle.mutex.specs.declared.call.Call.TheVariants as call
 use Rattle.condvar.specs.Calls as condition
 use Rattle.condvar.specs.Ops.{operation_of, mutex_of}
 use Rattle.protocol.specs.Ops.{begun_of}
+use Rattle.protocol.specs.PassedBy.{call_told}
 use Rattle.condvar.specs.declared.op.Op.{Op}
 use Rattle.condvar.specs.declared.op.Op.TheVariants.{OnMutex, OnCondition}
 use Rattle.protocol.specs.declared.event.Event.{Event}
 use Rattle.protocol.specs.declared.event.Event.TheVariants as event
 use Rattle.protocol.specs.declared.note.Note.{Note}
 use Rattle.protocol.specs.declared.note.Note.TheVariants.{Nothing, Began, Stepped, Killed}
-use Rattle.protocol.specs.declared.note.Note.TheVariants.{Walked, Left, Renewed, Reinited, Recounted, Reslept}
+use Rattle.protocol.specs.declared.note.Note.TheVariants.{Walked, Left, Expired, Renewed, Reinited, Recounted, Reslept}
+use Rattle.facts.specs.declared.fact.Begun.{Begun}
 use Rattle.facts.specs.declared.fact.Queue.TheVariants.{Condition}
 use Rattle.facts.specs.declared.fact.Fact.{Fact}
 use Rattle.facts.specs.declared.fact.Fact.TheVariants.{Begin, Return, Kill, Reap, Renew}
@@ -89,6 +92,12 @@ Agrees Dead (Dying w) = Unit {0}
 Agrees Gone Reaped = Unit {0}
 Agrees w g = ⊥
 
+-- a thread that is in a call is in the one that was told: with its operation, its mutex and its condition variable
+abbrev pub IsTold : Layout' → Stage → Option Begun → Type 0
+IsTold l (Calling o p) b = b ≡ Some (begun_of l o)
+IsTold l (AtCondition c p) b = b ≡ Some (begun_of l (OnCondition c))
+IsTold l g b = Unit {0}
+
 -- ---- events
 
 abbrev pub IsThread : Layout' → ℕ → Type 0
@@ -109,22 +118,27 @@ IsInAQueue s t = (key : ℕ) × (stands_in t (s.queues key) ≡ true)
 abbrev pub IsAboutToTrim : State → ℕ → Type 0
 IsAboutToTrim s t = (o : Op) × (p : Whole) × (at : ℕ) × ((s.threads t).stage ≡ Calling o p) × (whole_access p ≡ Trim at)
 
+-- thread t is in a lock of mutex m that has a time limit
+abbrev pub IsInTimedLock : State → ℕ → ℕ → Type 0
+IsInTimedLock s t m = (p : Whole) × ((s.threads t).stage ≡ Calling (OnMutex (call.TimedLock m)) p)
+
 -- the next access of thread t's walk is a load or a wake
 abbrev pub IsAboutToRead : State → ℕ → Type 0
 IsAboutToRead s t = (w : Standing) × ((s.threads t).stage ≡ Dying w) × (is_mark w.row ≡ false)
 
 -- a begin applies where its thread lives, is in no call, and what it calls is in the layout; a step where its thread is
 -- in a call, or was killed and not reaped, and sleeps on nothing; a kill where its thread lives; a leave where it
--- sleeps; a decline where it is about to trim; a renewal where its thread was reaped; a reinit where its thread lives
--- and is in no call, and its mutex, one of the layout, is unusable and nobody sleeps on it; a remake likewise, whoever
--- sleeps on it; a recount where nobody may miss a signal by it; a spare where its thread is about to wake one of a
--- mutex, for which another answers; a resleep where its thread sleeps on a condition variable; a repeat where its
--- thread's walk is about to load or to wake
+-- sleeps; an expiry where it sleeps in a lock with a time limit; a decline where it is about to trim; a renewal where
+-- its thread was reaped; a reinit where its thread lives and is in no call, and its mutex, one of the layout, is
+-- unusable and nobody sleeps on it; a remake likewise, whoever sleeps on it; a recount where nobody may miss a signal
+-- by it; a spare where its thread is about to wake one of a mutex, for which another answers; a resleep where its
+-- thread sleeps on a condition variable; a repeat where its thread's walk is about to load or to wake
 abbrev pub Applies : Layout' → State → List Note → Event → Type 0
 Applies l s ns (event.Begin t o) = IsThread l t × Names l o × (last_told t ns ≡ AtRest)
 Applies l s ns (event.Step t) = IsThread l t × HasAccess (last_told t ns) × IsInNoQueue s t
 Applies l s ns (event.Kill t) = IsThread l t × IsLiving (last_told t ns)
 Applies l s ns (event.Leave t) = IsThread l t × IsInAQueue s t
+Applies l s ns (event.Expire t) = IsThread l t × IsInAQueue s t × ((m : ℕ) × IsInTimedLock s t m)
 Applies l s ns (event.Decline t) = IsThread l t × IsAboutToTrim s t
 Applies l s ns (event.Renew t) = IsThread l t × (last_told t ns ≡ Gone)
 Applies l s ns (event.Reinit t m) =
@@ -165,6 +179,7 @@ IsNotedAs l s (event.Begin t o) n = n ≡ Began t (begun_of l o) (refusal l s t 
 IsNotedAs l s (event.Step t) n = IsAccessOf t n
 IsNotedAs l s (event.Kill t) n = n ≡ Killed t
 IsNotedAs l s (event.Leave t) n = n ≡ Left t
+IsNotedAs l s (event.Expire t) n = (m : ℕ) × IsInTimedLock s t m × (n ≡ Expired t m)
 IsNotedAs l s (event.Decline t) n = IsQuietAccessOf l s t n
 IsNotedAs l s (event.Renew t) n = n ≡ Renewed t
 IsNotedAs l s (event.Reinit t m) n = n ≡ Reinited t m
@@ -175,10 +190,12 @@ IsNotedAs l s (event.Resleep t) n = (k : ℕ) → StandsIn s t (Condition k) →
 IsNotedAs l s (event.Repeat t) n = IsAccessOf t n
 
 -- of a state that events lead to that were noted so: its layout is as it was, and each thread stands where it was told
--- to stand; whatever event comes next, it happens where it applies, and else it does nothing
+-- to stand, and is in the call whose begin was told last; whatever event comes next, it happens where it applies, and
+-- else it does nothing
 pub record NextApplies (l : Layout') (s : State) (ns : List Note) : Type 0 where
   pub layout : s.layout ≡ l
   pub stands : (t : ℕ) → IsThread l t → Agrees (last_told t ns) (s.threads t).stage
+  pub call : (t : ℕ) → IsThread l t → IsTold l (s.threads t).stage (call_told t ns)
   pub happens_so : (e : Event) → Applies l s ns e → IsNotedAs l s e (happens s e).note
   pub else_nothing : (e : Event) → ¬ Applies l s ns e → ((happens s e).note ≡ Nothing) × ((happens s e).state ≡ s)
 

@@ -23,6 +23,7 @@ use Rattle.protocol.specs.PassedBy.{BeginsNone}
 
 abbrev pub NeverWaits : Operation → Type 0
 NeverWaits operation.Lock = ⊥
+NeverWaits operation.TimedLock = ⊥
 NeverWaits operation.Wait = ⊥
 NeverWaits op = Unit {0}
 

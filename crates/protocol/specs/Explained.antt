@@ -3,13 +3,16 @@
 -- *Explained.* What a trace tells of each thread is its lives, one behind the other, each but the last ended by its
 -- reaping and followed by its renewal (`Lives`; `facts/specs/Lives.antt`); in a life each call has the points of its
 -- operation, on its mutex, or a beginning of them; lines are in order, and of those of one event a begin is the first,
--- a return or a reaping the last, a renewal the only one, and wakes and moves stand behind the point; and each line but
--- a wake or a move is of an event of its own thread. The law `trace_is_explained` states it of every layout and list of
--- events, and `Machine::run` of what the machine did.
+-- a return or a reaping the last, a renewal the only one, and wakes and moves stand behind the point, but where a lock
+-- ends for its time limit, whose wake stands before its point; and each line but a wake or a move is of an event of its
+-- own thread. The law `trace_is_explained` states it of every layout and list of events, and `Machine::run` of what the
+-- machine did.
 use Rattle.std.specs.Prelude.{ℕ, ◌≡◌, ◌+◌, ◌==◌, Bool, true, false, List, [], ◌∷◌, if◌then◌else◌}
+use Rattle.lockword.specs.declared.reply.Reply.{Reply}
+use Rattle.lockword.specs.declared.reply.Reply.TheVariants.{ETIMEDOUT}
 use Rattle.memorymap.specs.Layouts.{Layout', IsLayout}
 use Rattle.facts.specs.declared.fact.Fact.{Fact}
-use Rattle.facts.specs.declared.fact.Fact.TheVariants.{Begin, Return, Reap}
+use Rattle.facts.specs.declared.fact.Fact.TheVariants.{Begin, Point, Return, Reap}
 use Rattle.facts.specs.declared.fact.Line.{Line}
 use Rattle.facts.specs.Facts.{thread_of, is_passive, decides, is_renewal}
 use Rattle.facts.specs.Lives.{own, Lives}
@@ -26,6 +29,7 @@ caller (event.Begin t o) = t
 caller (event.Step t) = t
 caller (event.Kill t) = t
 caller (event.Leave t) = t
+caller (event.Expire t) = t
 caller (event.Decline t) = t
 caller (event.Renew t) = t
 caller (event.Reinit t m) = t
@@ -53,13 +57,23 @@ is_last (Return t x) = true
 is_last (Reap t) = true
 is_last f = false
 
+-- not that a time limit came
+abbrev is_in_time : Reply → Bool
+is_in_time ETIMEDOUT = false
+is_in_time x = true
+
+-- it stands before the wakes and moves of its event: a death, or a point, but of a lock that ends for its time limit
+abbrev pub decides_first : Fact → Bool
+decides_first (Point d) = is_in_time d.reply
+decides_first f = decides f
+
 -- how line b may stand behind line a, near or far, where both are of one event: a begin is its first line, a return and
--- a reaping are its last, whom it wakes or moves stands behind its point, or the death that it tells, and a renewal is
--- its only line
+-- a reaping are its last, whom it wakes or moves stands behind its point, or the death that it tells, but where a lock
+-- ends for its time limit, and a renewal is its only line
 pub record Within (a b : Line) : Type 0 where
   pub first : a.event ≡ b.event → is_begin b.fact ≡ false
   pub last : a.event ≡ b.event → is_last a.fact ≡ false
-  pub decided : a.event ≡ b.event → is_passive a.fact ≡ true → decides b.fact ≡ false
+  pub decided : a.event ≡ b.event → is_passive a.fact ≡ true → decides_first b.fact ≡ false
   pub alone : a.event ≡ b.event → (is_renewal a.fact ≡ false) × (is_renewal b.fact ≡ false)
 
 abbrev pub AreWithin : List Line → Type 0

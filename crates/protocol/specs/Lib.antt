@@ -24,3 +24,5 @@ pub mod Bounded
 pub mod Changes
 pub mod Counting
 pub mod Releases
+pub mod Expiries
+pub mod TimeLimits

@@ -6,16 +6,22 @@
 --
 -- *Step.* A begin begins a call of an idle thread; a step makes the next access of a thread that is in a call and
 -- doesn't sleep, or of a dying thread's walk; a kill takes a thread out of its queue and ends its call; a leave takes a
--- sleeper out of its queue; a decline is the step of a thread whose next access is a trim, answered that this cleared
--- nothing; a renewal lets a reaped thread live anew; a reinit makes an unusable mutex anew. A recount puts a counter
--- back to 0, a spare leaves a wake out for which another thread answers, a resleep takes a sleeper to the end of its
--- queue, and a repeat makes an access of a walk that is made once more behind it. An event that can't apply notes
--- nothing and changes nothing.
+-- sleeper out of its queue, and so does an expiry of one whose lock has a time limit; a decline is the step of a thread
+-- whose next access is a trim, answered that this cleared nothing; a renewal lets a reaped thread live anew; a reinit
+-- makes an unusable mutex anew. A recount puts a counter back to 0, a spare leaves a wake out for which another thread
+-- answers, a resleep takes a sleeper to the end of its queue, and a repeat makes an access of a walk that is made once
+-- more behind it. An event that can't apply notes nothing and changes nothing.
 --
 -- *A leave and a declined trim.* A thread that sleeps stands where it goes on when it is woken; so a leave only takes
 -- it out of its queue: no word changes, no thread, and no place of another in a queue, and its wake is told. A declined
 -- trim is answered that the word wasn't cleared, whatever that is, and changes no word and no queue; its thread goes on
 -- as behind a trim that was made. The law `leaves_and_declines_are_lone`. Source: futex(2), EINTR.
+--
+-- *An expiry.* The time limit of a lock comes while its thread sleeps on the mutex: the thread leaves the queue, woken by
+-- nobody, and its call is decided with ETIMEDOUT, which changes no mutex; no word changes, and no other thread. What is
+-- left of the call is one access, which clears its pending entry, and behind which it returns. The law
+-- `expiries_are_lone`. The law `nobody_times_out_early` says that another thread owned the mutex meanwhile. Source:
+-- pthread_mutex_timedlock(3p).
 --
 -- *A renewal.* A thread that was reaped lives anew, with the same id: the three words of its head are as at first, an
 -- empty list that nothing is pending beside, and it is in no call and owns nothing; nothing else changes, and that it
@@ -53,11 +59,12 @@ use Rattle.memorymap.specs.Layouts.{words_of, address_in, place_in, head_word, f
 use Rattle.buckets.specs.Queues.{without}
 use Rattle.stepprograms.specs.Accesses.{address_of, word_among, answer_among, sleeps_at, is_nobody}
 use Rattle.mutex.specs.declared.call.Call.{Call}
+use Rattle.mutex.specs.declared.call.Call.TheVariants as call
 use Rattle.mutex.specs.declared.phase.Phase.{Phase}
 use Rattle.mutex.specs.declared.phase.Phase.TheVariants.{AtCell, Ended}
 use Rattle.mutex.specs.declared.phase.Onward.{Onward}
 use Rattle.mutex.specs.Standings.{Whole}
-use Rattle.mutex.specs.Whole.{whole_started, whole_access, whole_led}
+use Rattle.mutex.specs.Whole.{may_expire, timed_out, whole_started, whole_access, whole_led}
 use Rattle.mutex.specs.Alone.{answers_for}
 use Rattle.mutex.specs.declared.row.Row.TheVariants.{Unlock}
 use Rattle.mutex.specs.declared.unlock.UnlockRow.TheVariants.{Wake}
@@ -84,14 +91,14 @@ use Rattle.protocol.specs.Ops.{begun_of}
 use Rattle.condvar.specs.declared.op.Op.{Op}
 use Rattle.condvar.specs.declared.op.Op.TheVariants.{OnMutex, OnCondition}
 use Rattle.protocol.specs.declared.event.Event.{Event}
-use Rattle.protocol.specs.declared.event.Event.TheVariants.{Begin, Step, Kill, Leave, Decline, Renew, Reinit}
+use Rattle.protocol.specs.declared.event.Event.TheVariants.{Begin, Step, Kill, Leave, Expire, Decline, Renew, Reinit}
 use Rattle.protocol.specs.declared.event.Event.TheVariants.{Remake, Recount, Spare, Resleep, Repeat}
 use Rattle.protocol.specs.declared.thread.Thread.{Thread}
 use Rattle.protocol.specs.declared.thread.Stage.{Stage}
 use Rattle.protocol.specs.declared.thread.Stage.TheVariants.{Idle, Calling, AtCondition, Dying, Reaped}
 use Rattle.protocol.specs.declared.note.Note.{Note}
 use Rattle.protocol.specs.declared.note.Note.TheVariants.{Nothing, Began, Stepped, Killed}
-use Rattle.protocol.specs.declared.note.Note.TheVariants.{Walked, Left, Renewed, Reinited, Recounted, Reslept}
+use Rattle.protocol.specs.declared.note.Note.TheVariants.{Walked, Left, Expired, Renewed, Reinited, Recounted, Reslept}
 
 -- the words by place, who sleeps on each, also by place, in the order in which they are to be woken, and the threads by
 -- id
@@ -383,6 +390,30 @@ went s t held m q a g =
 abbrev pub departed : State → ℕ → After
 departed s t = record { state = record s { queues = λ key. without t (s.queues key) }; note = Left t }
 
+-- ---- time limits
+
+-- a call with a time limit
+abbrev pub is_timed : Op → Bool
+is_timed (OnMutex (call.TimedLock m)) = true
+is_timed o = false
+
+-- thread t's lock is out of time: it leaves its mutex's queue, woken by nobody, and never owned the mutex; what is left
+-- of its call is to clear its entry and to return ETIMEDOUT
+abbrev pub lapsed : State → ℕ → ℕ → Op → Whole → After
+lapsed s t held o p =
+    record {
+      state = record (departed s t).state {
+        threads = put s.threads t (record { stage = Calling o (timed_out p); held = held });
+      };
+      note = Expired t (mutex_of s.layout o);
+    }
+
+-- where a thread sleeps in such a call
+abbrev pub expired : State → ℕ → ℕ → Stage → After
+expired s t held (Calling o p) =
+    if is_timed o && may_expire p.phase && sleeps s t (Calling o p) then lapsed s t held o p else nothing s
+expired s t held g = nothing s
+
 -- ---- trims that are declined
 
 abbrev pub is_trim : Access → Bool
@@ -648,17 +679,18 @@ repeating s t (Dying w) = if is_mark w.row then nothing s else repeated s t w
 repeating s t g = nothing s
 
 -- a begin of a busy, killed or unknown thread or of a call outside the layout, a step of an idle, sleeping, reaped or
--- unknown thread, a kill of a killed or unknown thread, a leave of a thread that doesn't sleep, a decline of one that
--- isn't about to trim, a renewal of one that wasn't reaped, a reinit by one that isn't idle, or of a mutex that is
--- usable or slept on, a remake by one that isn't idle, or of a mutex that is usable, a recount of a counter that
--- somebody sleeps on or knows, a spare of a thread that isn't about to wake one of a mutex, or is alone to answer for
--- it, a resleep of one that doesn't sleep on a counter, and a repeat of one whose walk isn't about to load or to wake,
--- do nothing
+-- unknown thread, a kill of a killed or unknown thread, a leave of a thread that doesn't sleep, an expiry of one that
+-- doesn't sleep in a lock with a time limit, a decline of one that isn't about to trim, a renewal of one that wasn't
+-- reaped, a reinit by one that isn't idle, or of a mutex that is usable or slept on, a remake by one that isn't idle,
+-- or of a mutex that is usable, a recount of a counter that somebody sleeps on or knows, a spare of a thread that isn't
+-- about to wake one of a mutex, or is alone to answer for it, a resleep of one that doesn't sleep on a counter, and a
+-- repeat of one whose walk isn't about to load or to wake, do nothing
 abbrev pub happens : State → Event → After
 happens s (Begin t o) = if may_begin s t o then begun s t o (first_stage s.layout t (s.threads t).held o) else nothing s
 happens s (Step t) = if has_thread s t then stepped s t (s.threads t).held (s.threads t).stage else nothing s
 happens s (Kill t) = if has_thread s t && is_alive (s.threads t).stage then killed s t else nothing s
 happens s (Leave t) = if has_thread s t && is_asleep s t then departed s t else nothing s
+happens s (Expire t) = if has_thread s t then expired s t (s.threads t).held (s.threads t).stage else nothing s
 happens s (Decline t) = if has_thread s t then declined s t (s.threads t).held (s.threads t).stage else nothing s
 happens s (Renew t) = if has_thread s t && is_gone (s.threads t).stage then renewed s t else nothing s
 happens s (Reinit t m) = if may_reinit s t m then reinited s t m 0 else nothing s

@@ -1,16 +1,17 @@
 -- The lines that notes stand for, in their order.
 --
 -- *What a note tells.* Facts, one after the other: a begin, a point, a sleep, wakes, moves, a return; a kill, a death
--- of a mutex's owner, a reaping, a renewal; of a leave a wake; of a reinit a begin, a point and a return; of a resleep
--- a wake and a sleep; of a recount nothing. A call that is refused at once is decided and returns at its begin.
+-- of a mutex's owner, a reaping, a renewal; of a leave a wake; of an expiry a wake and a point; of a reinit a begin, a
+-- point and a return; of a resleep a wake and a sleep; of a recount nothing. A call that is refused at once is decided
+-- and returns at its begin.
 use Rattle.std.specs.Prelude.{ℕ, ◌+◌, Bool, true, false, Option, Some, None, List, [], ◌∷◌, ◌++◌, map}
 use Rattle.lockword.specs.declared.reply.Reply.{Reply}
-use Rattle.lockword.specs.declared.reply.Reply.TheVariants.{OK}
+use Rattle.lockword.specs.declared.reply.Reply.TheVariants.{OK, ETIMEDOUT}
 use Rattle.posixmutex.specs.declared.point.Operation.TheVariants as operation
 use Rattle.posixmutex.specs.declared.point.Decision.{Decision}
 use Rattle.protocol.specs.declared.note.Note.{Note}
 use Rattle.protocol.specs.declared.note.Note.TheVariants.{Nothing, Began, Stepped, Killed}
-use Rattle.protocol.specs.declared.note.Note.TheVariants.{Walked, Left, Renewed, Reinited, Recounted, Reslept}
+use Rattle.protocol.specs.declared.note.Note.TheVariants.{Walked, Left, Expired, Renewed, Reinited, Recounted, Reslept}
 use Rattle.facts.specs.declared.fact.Begun.{Begun}
 use Rattle.facts.specs.declared.fact.Queue.{Queue}
 use Rattle.facts.specs.declared.fact.Queue.TheVariants.{Condition}
@@ -62,6 +63,8 @@ facts_of (Stepped t m point slept woken moved returned) = point_facts point
     ++ (sleep_facts t slept ++ (map Wake woken ++ (map (moves_to m) moved ++ return_facts t returned)))
 facts_of (Killed t) = Kill t ∷ []
 facts_of (Left t) = Wake t ∷ []
+facts_of (Expired t m) = Wake t
+    ∷ Point (record { thread = t; mutex = m; operation = operation.TimedLock; reply = ETIMEDOUT }) ∷ []
 facts_of (Renewed t) = Renew t ∷ []
 facts_of (Reinited t m) = Begin t (reinit_of m)
     ∷ Point (record { thread = t; mutex = m; operation = operation.Reinit; reply = OK }) ∷ Return t OK ∷ []

@@ -28,7 +28,7 @@ use Rattle.posixmutex.specs.declared.point.Operation.{Operation}
 use Rattle.facts.specs.declared.fact.Queue.{Queue}
 use Rattle.facts.specs.declared.fact.Queue.TheVariants.{Condition}
 use Rattle.condvar.specs.declared.op.Op.{Op}
-use Rattle.condvar.specs.Ops.{mutex_of, operation_of, condition_of}
+use Rattle.condvar.specs.Ops.{acts_as, mutex_of, condition_of}
 use Rattle.protocol.specs.Ops.{queue_place}
 use Rattle.protocol.specs.declared.event.Event.{Event}
 use Rattle.protocol.specs.declared.event.Event.TheVariants.{Begin, Step}
@@ -103,11 +103,11 @@ pub record IsUndivided (s : State) (t : ℕ) (c : Op) (n : ℕ) : Type 0 where
       ⊎ (is_asleep (run s (Begin t c ∷ replicate n (Step t))) t ≡ true)
   pub returns : (x : Reply) → IsAmong (Return t x) (facts_among (notes s (Begin t c ∷ replicate n (Step t))))
       → (x ≢ XRACED)
-      × Does (held_by t (seen s) s.layout.mutexes) (seen s (mutex_of s.layout c)) t (operation_of c) x
+      × Does (held_by t (seen s) s.layout.mutexes) (seen s (mutex_of s.layout c)) t (acts_as c) x
       (seen (run s (Begin t c ∷ replicate n (Step t))) (mutex_of s.layout c))
   pub sleeps : is_asleep (run s (Begin t c ∷ replicate n (Step t))) t ≡ true
-      → IsKeptWaiting (seen s (mutex_of s.layout c)) t (operation_of c)
-      ⊎ IsWaiting (seen s (mutex_of s.layout c)) t (operation_of c) (condition_of c)
+      → IsKeptWaiting (seen s (mutex_of s.layout c)) t (acts_as c)
+      ⊎ IsWaiting (seen s (mutex_of s.layout c)) t (acts_as c) (condition_of c)
       (run s (Begin t c ∷ replicate n (Step t)))
 
 -- what thread t can do alone in every state that events lead to: the three together

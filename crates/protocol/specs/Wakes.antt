@@ -13,7 +13,7 @@
 use Rattle.std.specs.Prelude.{ℕ, ◌≡◌, ◌<◌, ◌==◌, ◌⊎◌, Option, Some, None, List, [], ◌∷◌, map, take, if◌then◌else◌}
 use Rattle.posixmutex.specs.declared.object.Object.{Object}
 use Rattle.posixmutex.specs.declared.point.Operation.{Operation}
-use Rattle.posixmutex.specs.declared.point.Operation.TheVariants.{Lock, Unlock, Wait, Signal, Broadcast}
+use Rattle.posixmutex.specs.declared.point.Operation.TheVariants.{Lock, TimedLock, Unlock, Wait, Signal, Broadcast}
 use Rattle.memorymap.specs.Layouts.{Layout', IsLayout}
 use Rattle.facts.specs.declared.fact.Begun.{Begun}
 use Rattle.facts.specs.declared.fact.Queue.TheVariants.{Condition}
@@ -76,6 +76,7 @@ the_first (Some o) q = take 1 q
 abbrev pub whom_it_wakes : State → Option Object → Operation → ℕ → Option ℕ → List ℕ
 whom_it_wakes s o Signal m (Some k) = the_first o (s.queues (queue_place s.layout (Condition k)))
 whom_it_wakes s o Lock m k = to_tell o (sleepers s m)
+whom_it_wakes s o TimedLock m k = to_tell o (sleepers s m)
 whom_it_wakes s o Unlock m k = to_tell o (sleepers s m)
 whom_it_wakes s o Wait m k = to_tell o (sleepers s m)
 whom_it_wakes s o op m k = []
@@ -101,7 +102,7 @@ WakesWhom s Dead b o fs = ((wakes_in fs ≡ [])
     ⊎ (m : ℕ) × (m < s.layout.mutexes) × (wakes_in fs ≡ map Wake (take 1 (sleepers s m)))) × (moves_in fs ≡ [])
 WakesWhom s w b o fs = (wakes_in fs ≡ []) × (moves_in fs ≡ [])
 
--- a leave or a resleep wakes nobody but its own thread, if that sleeps, and moves nobody
+-- a leave, an expiry or a resleep wakes nobody but its own thread, if that sleeps, and moves nobody
 abbrev pub WakesItself : ℕ → List Fact → Type 0
 WakesItself t fs = AreNoneOr (Wake t ∷ []) (wakes_in fs) × (moves_in fs ≡ [])
 
@@ -114,6 +115,7 @@ WakesSo s events (event.Leave t) = WakesItself t (facts_of (happens (run s event
 WakesSo s events (event.Resleep t) = WakesItself t (facts_of (happens (run s events) (event.Resleep t)).note)
 WakesSo s events (event.Repeat t) =
     WakesWhom (run s events) Dead None None (facts_of (happens (run s events) (event.Repeat t)).note)
+WakesSo s events (event.Expire t) = WakesItself t (facts_of (happens (run s events) (event.Expire t)).note)
 WakesSo s events e = (wakes_in (facts_of (happens (run s events) e).note) ≡ [])
     × (moves_in (facts_of (happens (run s events) e).note) ≡ [])
 

@@ -18,11 +18,11 @@ use Rattle.std.specs.Prelude.{ℕ, length, slice_index, ◌≡◌, ◌≢◌, �
 use Rattle.std.specs.Prelude.{false, Option, Some, None, List, [], ◌∷◌, ◌++◌, if◌then◌else◌}
 use Rattle.buckets.specs.Queues.{without}
 use Rattle.memorymap.specs.Layouts.{Layout', IsLayout}
-use Rattle.posixmutex.specs.declared.point.Operation.TheVariants.{Lock, Wait}
+use Rattle.posixmutex.specs.declared.point.Operation.TheVariants.{Lock, TimedLock, Wait}
 use Rattle.protocol.specs.declared.event.Event.{Event}
 use Rattle.protocol.specs.declared.event.Event.TheVariants as event
 use Rattle.protocol.specs.declared.note.Note.{Note}
-use Rattle.protocol.specs.declared.note.Note.TheVariants.{Left, Reslept}
+use Rattle.protocol.specs.declared.note.Note.TheVariants.{Left, Expired, Reslept}
 use Rattle.facts.specs.declared.fact.Begun.{Begun}
 use Rattle.facts.specs.declared.fact.Queue.{Queue}
 use Rattle.facts.specs.declared.fact.Queue.TheVariants.{Mutex, Condition}
@@ -123,6 +123,7 @@ NameFronts l w (f ∷ fs) = NamesFront l w f × NameFronts l (queues_next f w) f
 -- are woken or moved are fronts
 abbrev pub NotesFronts : Layout' → (Queue → List ℕ) → Note → Type 0
 NotesFronts l w (Left t) = (q : Queue) × IsQueue l q × (stands_in t (w q) ≡ true)
+NotesFronts l w (Expired t m) = (m < l.mutexes) × (stands_in t (w (Mutex m)) ≡ true)
 NotesFronts l w (Reslept t k) = (k < length l.conditions) × (stands_in t (w (Condition k)) ≡ true)
 NotesFronts l w n = NameFronts l w (facts_of n)
 
@@ -165,11 +166,12 @@ pub record TellsTurns (s : State) (e : Event) (t : ℕ) : Type 0 where
 
 -- ---- whose sleep is told
 
--- a call, as its begin was told, may come to sleep there: a lock in the queue of its mutex, and a wait in that of its
--- condition variable or of its mutex
+-- a call, as its begin was told, may come to sleep there: a lock, with a time limit or without, in the queue of its
+-- mutex, and a wait in that of its condition variable or of its mutex
 abbrev pub MaySleepIn : Queue → Option Begun → Type 0
 MaySleepIn q None = ⊥
-MaySleepIn (Mutex m) (Some b) = (b.mutex ≡ m) × ((b.operation ≡ Lock) ⊎ (b.operation ≡ Wait))
+MaySleepIn (Mutex m) (Some b) =
+    (b.mutex ≡ m) × ((b.operation ≡ Lock) ⊎ ((b.operation ≡ TimedLock) ⊎ (b.operation ≡ Wait)))
 MaySleepIn (Condition k) (Some b) = (b.condition ≡ Some k) × (b.operation ≡ Wait)
 
 -- ---- runs

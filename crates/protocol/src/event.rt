@@ -17,6 +17,8 @@ pub enum Event {
     /// The thread leaves the queue in which it sleeps, woken by nobody, and goes on as if it had been: a signal handler
     /// ran (futex(2), EINTR), say.
     Leave(Tid),
+    /// The time limit of the thread's lock comes while it sleeps on the mutex: it leaves the queue, out of time.
+    Expire(Tid),
     /// The next access of the thread's call, a trim, is declined: whatever the word is, it stays, and the thread is
     /// answered so.
     Decline(Tid),

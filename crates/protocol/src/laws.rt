@@ -1,4 +1,6 @@
 //! What holds of every run.
+ghost use Rattle.protocol.specs.Expiries.{ExpiriesAreLone};
+ghost use Rattle.protocol.specs.TimeLimits.{LocksWithoutLimits, NobodyTimesOutEarly, WaitedIsOwned};
 ghost use Rattle.protocol.specs.Headline.{HistoryIsLegal, NoReapedOwner};
 ghost use Rattle.protocol.specs.Explained.{TraceIsExplained};
 ghost use Rattle.protocol.specs.Sleepers.{NoSleeperIsStranded, LoneThreadsComeToRest, UndividedCallsReply};
@@ -77,15 +79,16 @@ pub fn lists_are_kept()
     ensures { ListsAreKept }
 {}
 
-/// Whatever happens, by what the trace has told so far: each thread stands where that says, in no call, in one, killed
-/// or reaped; a begin by a thread in no call, on a mutex or condition variable of the layout, is noted as a begin,
-/// which is refused only where it is to take a mutex and the thread owns 2,048; a kill of a thread that lives is noted;
-/// a step is an access of its thread where that is in a call, or was killed and not reaped, and sleeps on nothing; a
-/// leave is its thread's where that sleeps; a decline is an access of its thread's call, and of that call's mutex, that
-/// tells nothing, where the thread's next access is a trim; a renewal is its thread's where that was reaped, and hasn't
-/// been renewed since; and a reinit is that of its mutex where its thread lives and is in no call, and the mutex, one
-/// of the layout, is unusable and nobody sleeps on it, and a remake whoever sleeps on it; a recount, a spare, a resleep
-/// and a repeat where their laws say. Every other event is noted as nothing, and changes nothing.
+/// Whatever happens, by what the trace has told so far: each thread stands where that says, in no call, in the one that
+/// it began last, killed or reaped; a begin by a thread in no call, on a mutex or condition variable of the layout, is
+/// noted as a begin, which is refused only where it is to take a mutex and the thread owns 2,048; a kill of a thread
+/// that lives is noted; a step is an access of its thread where that is in a call, or was killed and not reaped, and
+/// sleeps on nothing; a leave is its thread's where that sleeps, and an expiry where it sleeps in a lock that was told
+/// with a time limit; a decline is an access of its thread's call, and of that call's mutex, that tells nothing, where
+/// the thread's next access is a trim; a renewal is its thread's where that was reaped, and hasn't been renewed since;
+/// and a reinit is that of its mutex where its thread lives and is in no call, and the mutex, one of the layout, is
+/// unusable and nobody sleeps on it, and a remake whoever sleeps on it; a recount, a spare, a resleep and a repeat
+/// where their laws say. Every other event is noted as nothing, and changes nothing.
 pub fn events_apply()
     ensures { EventsApply }
 {}
@@ -246,4 +249,33 @@ pub fn spares_are_lone()
 /// that will be made once more wakes whom the walk's step would, tells just that, and changes no word and no thread.
 pub fn resleeps_and_repeats_are_lone()
     ensures { ResleepsAndRepeatsAreLone }
+{}
+
+/// A time limit that comes takes its thread out of its mutex's queue, and does nothing else: no word changes, no other
+/// thread, and not how many mutexes it owns; it is told that the thread is awake, and then the call's point. By its next
+/// step the thread clears its pending entry and the call returns ETIMEDOUT; no other word changes, no queue and no other
+/// thread.
+pub fn expiries_are_lone()
+    ensures { ExpiriesAreLone }
+{}
+
+/// Whatever happens: a lock is told to be out of time only where another thread owned its mutex at some moment since
+/// the call began, by what was told. So no call is that could have locked the mutex at each moment since it began.
+pub fn nobody_times_out_early()
+    ensures { NobodyTimesOutEarly }
+{}
+
+/// Whatever is told, of a thread that began a call and no other since: what counts for it as a reason to be out of time
+/// is that another thread owned the mutex at a moment since that begin, the begin itself included. The thread itself
+/// doesn't count, nobody doesn't, and no owner from before.
+pub fn waited_is_owned()
+    ensures { WaitedIsOwned }
+{}
+
+/// Whatever else happens, where no time limit comes: no lock is told to be out of time, so that none returns ETIMEDOUT
+/// (`trace_is_explained`). And a lock with a limit is as one without: if each had begun without it, every event would
+/// have been noted as it was, but for the name of the operation in these begins, and each word and each queue would be
+/// the same.
+pub fn without_expiries_as_before()
+    ensures { LocksWithoutLimits }
 {}

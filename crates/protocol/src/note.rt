@@ -41,6 +41,11 @@ pub enum Note {
     Left {
         thread: Tid,
     },
+    /// The time limit of a thread's lock came: it left its mutex's queue, and its call is decided.
+    Expired {
+        thread: Tid,
+        mutex: u16,
+    },
     /// The kernel made an access for a thread that died: of which mutex it told the owner's death, whom it woke, and
     /// whether it has reaped the thread.
     Walked {
@@ -225,6 +230,15 @@ impl Note {
             },
             Note::Killed { thread } => Facts::of(Some(Fact::Kill(thread)), None, None),
             Note::Left { thread } => Facts::of(Some(Fact::Wake(thread)), None, None),
+            Note::Expired { thread, mutex } => {
+                let decision = Decision {
+                    thread,
+                    mutex,
+                    operation: Operation::TimedLock,
+                    reply: Reply::ETIMEDOUT,
+                };
+                Facts::of(Some(Fact::Wake(thread)), Some(Fact::Point(decision)), None)
+            }
             Note::Walked {
                 thread,
                 death,

@@ -1,2 +1,3 @@
 pub mod Pieces
+mod Mutexes
 mod Truths

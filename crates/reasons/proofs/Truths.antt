@@ -12,7 +12,7 @@ use Rattle.posixmutex.specs.declared.point.Decision.{Decision}
 use Rattle.verdict.specs.declared.misfit.Misfit.{Misfit}
 use Rattle.verdict.specs.declared.misfit.Misfit.TheVariants as misfit
 use Rattle.verdict.specs.Earlier.{objects_after, told_of}
-use Rattle.verdict.specs.Misfits.{IsMisfit, IsOutOfLife, IsOutOfOrder, OwnsSome, Refuses, RefusesStep}
+use Rattle.verdict.specs.Misfits.{IsMisfit, IsOutOfLife, IsOutOfOrder, IsTooEarly, OwnsSome, Refuses, RefusesStep}
 use Rattle.reasons.specs.Reasons.{call_text, reason_text}
 use Rattle.reasons.specs.Truths.{HasNoPoint, ReasonsAreTrue}
 
@@ -64,11 +64,12 @@ no_step : (m : Misfit) (n : ℕ) (os : ℕ → Object) → ((held : ℕ) (o : Ob
 no_step m n os never None h = h
 no_step m n os never (Some d) h = never (held_by d.thread os n) (os d.mutex) d h
 
-of_life : (m : Misfit) (n : ℕ) (es : List Line) (e : Line) → (IsOutOfOrder m es e → ⊥) → ((held : ℕ) (o : Object) (d : Decision) → RefusesStep m held o d → ⊥) → (OwnsSome m n (objects_after es) e.fact → ⊥) → IsMisfit m n es e → IsOutOfLife m (told_of (thread_of e.fact) es) e.fact
-of_life m n es e a b c (inl h) = absurd (a h.0)
-of_life m n es e a b c (inr (inl h)) = h.1
-of_life m n es e a b c (inr (inr (inl h))) = absurd (no_step m n (objects_after es) b (decision_of e.fact) h.2)
-of_life m n es e a b c (inr (inr (inr h))) = absurd (c h.2)
+of_life : (m : Misfit) (n : ℕ) (es : List Line) (e : Line) → (IsOutOfOrder m es e → ⊥) → ((held : ℕ) (o : Object) (d : Decision) → RefusesStep m held o d → ⊥) → (OwnsSome m n (objects_after es) e.fact → ⊥) → (IsTooEarly m es e.fact → ⊥) → IsMisfit m n es e → IsOutOfLife m (told_of (thread_of e.fact) es) e.fact
+of_life m n es e a b c d (inl h) = absurd (a h.0)
+of_life m n es e a b c d (inr (inl h)) = h.1
+of_life m n es e a b c d (inr (inr (inl h))) = absurd (no_step m n (objects_after es) b (decision_of e.fact) h.2)
+of_life m n es e a b c d (inr (inr (inr (inl h)))) = absurd (d h.3)
+of_life m n es e a b c d (inr (inr (inr (inr h)))) = absurd (c h.2)
 
 undecided_so : (fs : List Fact) (f : Fact) → IsOutOfLife misfit.Undecided fs f → HasNoPoint fs
 undecided_so fs (Return t x) h = record { call = h.0; is = h.1.call; points = h.2 }
@@ -78,13 +79,13 @@ pub reasons_are_true : ReasonsAreTrue
 reasons_are_true n es e m why =
     let fs = told_of (thread_of e.fact) es in
     record {
-      asleep = λ h. (of_life misfit.Asleep n es e (λ x. x) (λ k o d x. x) (λ x. x) (subst (λ (k : Misfit). IsMisfit k n es e) (only_asleep m h) why)).1;
-      awake = λ h. (of_life misfit.Awake n es e (λ x. x) (λ k o d x. x) (λ x. x) (subst (λ (k : Misfit). IsMisfit k n es e) (only_awake m h) why)).1;
-      idle = λ h. (of_life misfit.NoCall n es e (λ x. x) (λ k o d x. x) (λ x. x) (subst (λ (k : Misfit). IsMisfit k n es e) (only_idle m h) why)).1;
-      in_call = λ operation k h. let c = only_in_call m operation k h in record { call = c.0; is = (of_life (misfit.InCall c.0) n es e (λ x. x) (λ k o d x. x) (λ x. x) (subst (λ (k : Misfit). IsMisfit k n es e) c.1 why)).1; named = ap reason_text c.1 };
-      undecided = λ h. undecided_so fs e.fact (of_life misfit.Undecided n es e (λ x. x) (λ k o d x. x) (λ x. x) (subst (λ (k : Misfit). IsMisfit k n es e) (only_undecided m h) why));
-      alive = λ h. (of_life misfit.Alive n es e (λ x. x) (λ k o d x. x) (λ x. x) (subst (λ (k : Misfit). IsMisfit k n es e) (only_alive m h) why)).1;
-      killed = λ h. let k = of_life misfit.Killed n es e (λ x. x) (λ k o d x. x) (λ x. x) (subst (λ (k : Misfit). IsMisfit k n es e) (only_killed m h) why) in (k.1.killed, k.2);
-      unreaped = λ h. let k = of_life misfit.NotReaped n es e (λ x. x) (λ k o d x. x) (λ x. x) (subst (λ (k : Misfit). IsMisfit k n es e) (only_unreaped m h) why) in (k.1.killed, k.2);
-      reaped = λ h. (of_life misfit.Reaped n es e (λ x. x) (λ k o d x. x) (λ x. x) (subst (λ (k : Misfit). IsMisfit k n es e) (only_reaped m h) why)).2;
+      asleep = λ h. (of_life misfit.Asleep n es e (λ x. x) (λ k o d x. x) (λ x. x) (λ x. x) (subst (λ (k : Misfit). IsMisfit k n es e) (only_asleep m h) why)).1;
+      awake = λ h. (of_life misfit.Awake n es e (λ x. x) (λ k o d x. x) (λ x. x) (λ x. x) (subst (λ (k : Misfit). IsMisfit k n es e) (only_awake m h) why)).1;
+      idle = λ h. (of_life misfit.NoCall n es e (λ x. x) (λ k o d x. x) (λ x. x) (λ x. x) (subst (λ (k : Misfit). IsMisfit k n es e) (only_idle m h) why)).1;
+      in_call = λ operation k h. let c = only_in_call m operation k h in record { call = c.0; is = (of_life (misfit.InCall c.0) n es e (λ x. x) (λ k o d x. x) (λ x. x) (λ x. x) (subst (λ (k : Misfit). IsMisfit k n es e) c.1 why)).1; named = ap reason_text c.1 };
+      undecided = λ h. undecided_so fs e.fact (of_life misfit.Undecided n es e (λ x. x) (λ k o d x. x) (λ x. x) (λ x. x) (subst (λ (k : Misfit). IsMisfit k n es e) (only_undecided m h) why));
+      alive = λ h. (of_life misfit.Alive n es e (λ x. x) (λ k o d x. x) (λ x. x) (λ x. x) (subst (λ (k : Misfit). IsMisfit k n es e) (only_alive m h) why)).1;
+      killed = λ h. let k = of_life misfit.Killed n es e (λ x. x) (λ k o d x. x) (λ x. x) (λ x. x) (subst (λ (k : Misfit). IsMisfit k n es e) (only_killed m h) why) in (k.1.killed, k.2);
+      unreaped = λ h. let k = of_life misfit.NotReaped n es e (λ x. x) (λ k o d x. x) (λ x. x) (λ x. x) (subst (λ (k : Misfit). IsMisfit k n es e) (only_unreaped m h) why) in (k.1.killed, k.2);
+      reaped = λ h. (of_life misfit.Reaped n es e (λ x. x) (λ k o d x. x) (λ x. x) (λ x. x) (subst (λ (k : Misfit). IsMisfit k n es e) (only_reaped m h) why)).2;
     }

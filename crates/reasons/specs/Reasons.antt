@@ -12,7 +12,8 @@ use Rattle.verdict.specs.declared.misfit.Misfit.TheVariants.{EventFalls, Another
 use Rattle.verdict.specs.declared.misfit.Misfit.TheVariants.{EventKilled, InCall, NoCall, Asleep, Awake, Killed}
 use Rattle.verdict.specs.declared.misfit.Misfit.TheVariants.{NotReaped, Reaped, Alive, OtherMutex, OtherOperation}
 use Rattle.verdict.specs.declared.misfit.Misfit.TheVariants.{ReleaseRefused, Released, Decided, Undecided, OtherReply}
-use Rattle.verdict.specs.declared.misfit.Misfit.TheVariants.{NotAllowed, AtLimit, NotOwner, StillOwns, EndFalls}
+use Rattle.verdict.specs.declared.misfit.Misfit.TheVariants.{NotAllowed, AtLimit, NotOwner, TooEarly, StillOwns}
+use Rattle.verdict.specs.declared.misfit.Misfit.TheVariants.{EndFalls}
 
 abbrev pub with_number : List ℕ → ℕ → List ℕ → List ℕ
 with_number before n behind = concat (before ∷ decimal n ∷ behind ∷ [])
@@ -57,5 +58,7 @@ reason_text (NotAllowed o x) =
     concat (codes "the mutex doesn't allow the reply " ∷ reply_word x ∷ codes ": " ∷ []) ++ object_text o
 reason_text (AtLimit k) = with_number (codes "the thread holds ") k (codes " mutexes, so that the reply is X_HELD")
 reason_text (NotOwner o) = concat (codes "the thread doesn't own the mutex: " ∷ []) ++ object_text o
+reason_text (TooEarly i) =
+    with_number (codes "no other thread owned the mutex since event ") i (codes ", in which the call began")
 reason_text (StillOwns m) = with_number (codes "the thread still owns m") m []
 reason_text (EndFalls i) = with_number (codes "the end is before event ") i (codes ", of which a line was told")

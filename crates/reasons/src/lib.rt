@@ -1,8 +1,9 @@
 //! The words for why a line of a trace doesn't fit those before it.
 //!
 //! [`add_reason`] says what the judge of traces found of a line: one text for each of its reasons, with their numbers
-//! and words (`reason_text`). What a text says of the line's thread is so ([`reasons_are_true`]). Whoever tells of an
-//! illegal trace says it so: `explain`, and `page`. [`add`] puts a text together of pieces.
+//! and words (`reason_text`). What a text says of the line's thread is so ([`reasons_are_true`]), and what it says of a
+//! mutex ([`mutexes_are_true`]). Whoever tells of an illegal trace says it so: `explain`, and `page`. [`add`] puts a text
+//! together of pieces.
 //!
 //! Stands on `verdict`, for what is found, on `facts`, `posixmutex` and `lockword`, for what lines tell, mutexes as
 //! objects, operations, replies and thread ids, and on `itoa`, for numbers.
@@ -19,5 +20,5 @@ mod laws;
 mod reasons;
 
 pub use adding::add;
-pub use laws::reasons_are_true;
+pub use laws::{mutexes_are_true, reasons_are_true};
 pub use reasons::add_reason;

@@ -123,6 +123,14 @@ pub fn add_reason(text: &mut Vec<u8>, misfit: &Misfit) -> Result<(), AllocError>
             add(text, &["the thread doesn't own the mutex: "])?;
             add_object(text, &object)
         }
+        Misfit::TooEarly { began } => {
+            add_number(
+                text,
+                "no other thread owned the mutex since event ",
+                began,
+                ", in which the call began",
+            )
+        }
         Misfit::StillOwns { mutex } => add_number(
             text,
             "the thread still owns m",

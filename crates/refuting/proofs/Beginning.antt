@@ -33,7 +33,7 @@ unseen m n ts ss known first d es g (Tells d' l es' g' seen free shows) is fit w
 unseen m n ts ss known first d es g (Dooms d' u es' g' free alive shows) is fit well inside = let no : Doom u ∷ g' ≡ [] = is in absurd cc
 unseen m n ts ss known first d es g (Kills d' u l es' g' kill doomed shows) is fit well inside =
     subst (λ f. Standing m ts ss (without u d') (record { event = l.event; fact = f } ∷ es')) (sym kill)
-    (killed_line m ts ss d' l.event u es' (unseen m n ts ss known first d' es' g' shows is fit.1 well.1 inside.1) doomed)
+    (killed_line m ts ss d' l.event u es' known (unseen m n ts ss known first d' es' g' shows is fit.1 well.1 inside.1) doomed)
 
 opening_held : (t n : ℕ) → held_by t (objects_after []) n ≡ 0
 opening_held t zero = refl
@@ -54,7 +54,7 @@ begins r long holds none rest s only stands n future = record {
   nobody = rest 0;
   knows = λ t k x is. let no : Resting ≡ Calling k x = sym (rest t) ∙ is in absurd cc;
   turned = λ d es c. (all d es c).turned;
-  stands = λ d es c. let st = (all d es c).stood in (st.state, st.there, st.stands);
+  stands = λ d es c. let st = (all d es c).stood in (st.state, st.there, st.stands, st.waits);
   holds = holds;
   counted = λ d es c. counts n (count_at r.held) none d es [] c.shows refl c.fits c.waits c.inside;
   closed = closed;
@@ -74,7 +74,7 @@ begins r long holds none rest s only stands n future = record {
   first : Standing r.mutex r.turns r.states.items (λ t. false) []
   first = record {
     turned = λ t. subst (λ z. Turned z (stage_after t []) false) (sym (rest t)) tt;
-    stood = record { state = s; there = there; stands = stands };
+    stood = record { state = s; there = there; stands = stands; waits = λ t. tt };
   }
 
   all : (d : ℕ → Bool) (es : List Line) → Certifies n d es [] → Standing r.mutex r.turns r.states.items d es

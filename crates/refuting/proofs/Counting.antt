@@ -3,11 +3,11 @@ use Rattle.std.proofs.Common.{◌≡◌, ◌≢◌, ℕ, ◌+◌, ◌<◌, ◌�
 use Rattle.std.specs.Prelude.{Some, None}
 use Rattle.std.proofs.lemmas.Bool.Decides.{nat_tests}
 use Rattle.lockword.specs.declared.reply.Reply.{Reply}
-use Rattle.lockword.specs.declared.reply.Reply.TheVariants.{OK, EPERM, EBUSY, EINVAL, EDEADLK, EOWNERDEAD, ENOTRECOVERABLE, XRACED, XHELD, XFULL, XSTATE}
+use Rattle.lockword.specs.declared.reply.Reply.TheVariants.{OK, EPERM, EBUSY, EINVAL, EDEADLK, ETIMEDOUT, EOWNERDEAD, ENOTRECOVERABLE, XRACED, XHELD, XFULL, XSTATE}
 use Rattle.posixmutex.specs.declared.object.Object.{Object}
 use Rattle.posixmutex.specs.declared.point.Decision.{Decision}
 use Rattle.posixmutex.specs.declared.point.Operation.{Operation}
-use Rattle.posixmutex.specs.declared.point.Operation.TheVariants.{Lock, TryLock, Unlock, Consistent, Wait, Signal, Broadcast, Death, Reinit}
+use Rattle.posixmutex.specs.declared.point.Operation.TheVariants.{Lock, TryLock, TimedLock, Unlock, Consistent, Wait, Signal, Broadcast, Death, Reinit}
 use Rattle.posixmutex.specs.Histories.{held_by, is_thread}
 use Rattle.posixmutex.specs.Objects.{Does, Permits, acquires, stepped}
 use Rattle.posixmutex.proofs.Replies.{limit}
@@ -23,7 +23,7 @@ use Rattle.verdict.specs.Stages.{MayPoint, pointed}
 use Rattle.verdict.proofs.Owners.{does_owners, held_put, held_same, others_own}
 use Rattle.refuting.specs.Counts.{AtLimit, Counted, KeepsLimit, lost, lost_by, won, won_by}
 use Rattle.refuting.proofs.Standing.{moved_here, moved_there, same_or_not}
-use Rattle.refuting.proofs.Hiding.{is_wait, plain_may, wait_may}
+use Rattle.refuting.proofs.Hiding.{is_timed, is_wait, plain_may, wait_may}
 
 -- ---- what a point changes
 
@@ -62,6 +62,7 @@ shifts o t TryLock EOWNERDEAD n h = takes t o n h.1 (ap (λ (z : Object). z.owne
 shifts o t TryLock ENOTRECOVERABLE n h = stays t o n h.1
 shifts o t TryLock EBUSY n h = stays t o n h.1
 shifts o t TryLock XRACED n h = stays t o n h.2
+shifts o t TimedLock ETIMEDOUT n h = stays t o n h
 shifts o t Unlock OK n h = gives t o n h.0 (ap (λ (z : Object). z.owner) h.1)
 shifts o t Unlock EPERM n h = stays t o n h.1
 shifts o t Consistent OK n h = ap (λ z. one (is_thread t z) + 0) (ap (λ (z : Object). z.owner) h.2)
@@ -83,6 +84,7 @@ shifts o t op x n h = absurd h
 refused : (o : Object) (t : ℕ) (op : Operation) (n : Object) → acquires op ≡ true → n ≡ o → Shifts o t op XHELD n
 refused o t Lock n e same = stays t o n same
 refused o t TryLock n e same = stays t o n same
+refused o t TimedLock n e same = stays t o n same
 refused o t op n e same = absurd cc
 
 first_of_two : (a b : Bool) → (a && b) ≡ true → a ≡ true
@@ -113,6 +115,7 @@ retakes_all held o t x n h = by_cases (nat_le 2048 held) h where
 at_limit : (count k : ℕ) (o : Object) (t : ℕ) (op : Operation) (x : Reply) (n : Object) → count ≡ k → Does count o t op x n → AtLimit op x k
 at_limit count k o t Lock x n same h = let l = limit count o t Lock x n h in (λ is. subst (λ z. 2048 ≤ z) same (l.0 is).1, λ le. l.1 (refl, subst (λ z. 2048 ≤ z) (sym same) le))
 at_limit count k o t TryLock x n same h = let l = limit count o t TryLock x n h in (λ is. subst (λ z. 2048 ≤ z) same (l.0 is).1, λ le. l.1 (refl, subst (λ z. 2048 ≤ z) (sym same) le))
+at_limit count k o t TimedLock x n same h = let l = limit count o t TimedLock x n h in (λ is. subst (λ z. 2048 ≤ z) same (l.0 is).1, λ le. l.1 (refl, subst (λ z. 2048 ≤ z) (sym same) le))
 at_limit count k o t Wait x n same h = λ is. absurd (never (subst (λ y. Permits o t Wait y n) is h)) where
   never : Permits o t Wait XHELD n → ⊥
   never p = p
@@ -153,6 +156,12 @@ own_point a y made before after owns owned_ lines points counts shift same limit
     let sum : after + lost_by a y ≡ lines + won_by a y = omega (arith, counts, shift, same) in
     subst (λ q. (after + lost a q ≡ lines + won a q) × KeepsLimit a q lines) (sym points) (sum, limit)
 
+-- a lock with a time limit takes what a lock does
+as_lock : (y : Reply) → (won_by TimedLock y ≡ won_by Lock y) × (lost_by TimedLock y ≡ lost_by Lock y)
+as_lock OK = (refl, refl)
+as_lock EOWNERDEAD = (refl, refl)
+as_lock y = (refl, refl)
+
 points_to : (a : Operation) (y : Reply) → pointed a a y ≡ Decided y
 points_to Wait y = refl
 points_to a y = refl
@@ -168,7 +177,7 @@ point_counted k Released t b y o new z before after lines wait may does counts c
     subst (λ q. Counted (stage.Calling k (pointed q b y) z) after lines) (sym a)
     (subst (λ q. Counted (stage.Calling k (pointed Wait q y) z) after lines) (sym may)
     (subst (λ q. (after + lost q (Decided y) ≡ lines + won q (Decided y)) × KeepsLimit q (Decided y) lines) (sym a) (sum, λ is. let l = limit before o t Lock y new its in let le : 2048 ≤ before = (l.0 is).1 in omega (arith, le, c.0))))
-point_counted k Nothing t b y o new z before after lines wait may does counts c = by_cases (is_wait k.operation) where
+point_counted k Nothing t b y o new z before after lines wait may does counts c = by_cases (is_wait k.operation) (is_timed k.operation) where
   same : before ≡ lines
   same = omega (arith, c.0)
 
@@ -187,6 +196,17 @@ point_counted k Nothing t b y o new z before after lines wait may does counts c 
       subst (λ q. Counted (stage.Calling k (pointed q b y) z) after lines) (sym a)
       (subst (λ q. Counted (stage.Calling k (pointed Wait q y) z) after lines) (sym release.0) (sum, tt))
 
-  by_cases : (k.operation ≡ Wait) ⊎ (k.operation ≢ Wait) → Counted (stage.Calling k (pointed k.operation b y) z) after lines
-  by_cases (inl a) = by_wait a (wait_may b y (subst (λ q. MayPoint q Nothing b y) a may))
-  by_cases (inr a) = own_one (plain_may k.operation b y a may)
+  -- a lock with a time limit that is told as a lock
+  by_timed : k.operation ≡ TimedLock → (b ≡ TimedLock) ⊎ (b ≡ Lock) → Counted (stage.Calling k (pointed k.operation b y) z) after lines
+  by_timed a (inl is) = own_one (is ∙ sym a)
+  by_timed a (inr is) =
+      let its : Does before o t Lock y new = subst (λ q. Does before o t q y new) is does in
+      let shift = shifts_all before o t Lock y new its in
+      let sum : after + lost_by TimedLock y ≡ lines + won_by TimedLock y = (let e = as_lock y in omega (arith, counts, shift, same, e.0, e.1)) in
+      subst (λ q. Counted (stage.Calling k (pointed q b y) z) after lines) (sym a)
+      (subst (λ q. (after + lost q (Decided y) ≡ lines + won q (Decided y)) × KeepsLimit q (Decided y) lines) (sym a) (sum, at_limit before lines o t Lock y new same its))
+
+  by_cases : (k.operation ≡ Wait) ⊎ (k.operation ≢ Wait) → (k.operation ≡ TimedLock) ⊎ (k.operation ≢ TimedLock) → Counted (stage.Calling k (pointed k.operation b y) z) after lines
+  by_cases (inl a) timed = by_wait a (wait_may b y (subst (λ q. MayPoint q Nothing b y) a may))
+  by_cases (inr a) (inl timed) = by_timed timed (subst (λ q. MayPoint q Nothing b y) timed may)
+  by_cases (inr a) (inr untimed) = own_one (plain_may k.operation b y a untimed may)

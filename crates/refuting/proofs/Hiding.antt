@@ -1,13 +1,13 @@
 -- A line that nobody sees leaves a state that stands for the trace.
-use Rattle.std.proofs.Common.{◌≡◌, ◌≢◌, ℕ, ◌==◌, ◌⊎◌, inl, inr, Bool, true, false, List, ◌∷◌, length, refl, sym, ap, subst, ◌∙◌, arith}
+use Rattle.std.proofs.Common.{◌≡◌, ◌≢◌, ℕ, ◌==◌, ◌⊎◌, ⊎_elim, inl, inr, nat_le, MatchBool, Bool, true, false, List, ◌∷◌, length, refl, sym, ap, subst, ◌∙◌, arith}
 use Rattle.std.specs.Prelude.{if◌then◌else◌, Option, Some, None, Contains}
 use Rattle.std.proofs.lemmas.Bool.Decides.{nat_tests}
 use Rattle.lockword.specs.declared.reply.Reply.{Reply}
-use Rattle.lockword.specs.declared.reply.Reply.TheVariants.{OK, EOWNERDEAD}
+use Rattle.lockword.specs.declared.reply.Reply.TheVariants.{OK, ETIMEDOUT, EOWNERDEAD, XHELD}
 use Rattle.posixmutex.specs.declared.object.Object.{Object}
 use Rattle.posixmutex.specs.declared.point.Decision.{Decision}
 use Rattle.posixmutex.specs.declared.point.Operation.{Operation}
-use Rattle.posixmutex.specs.declared.point.Operation.TheVariants.{Lock, Unlock, Wait, Death}
+use Rattle.posixmutex.specs.declared.point.Operation.TheVariants.{Lock, TimedLock, Unlock, Wait, Death}
 use Rattle.posixmutex.specs.Histories.{held_by}
 use Rattle.posixmutex.specs.Objects.{Does, Permits, stepped}
 use Rattle.posixmutex.proofs.Steps.{determined}
@@ -19,8 +19,10 @@ use Rattle.verdict.specs.declared.stage.Made.{Made as TheirMade}
 use Rattle.verdict.specs.declared.stage.Made.TheVariants as made
 use Rattle.verdict.specs.declared.stage.Stage.{Stage}
 use Rattle.verdict.specs.declared.stage.Stage.TheVariants as stage
-use Rattle.verdict.specs.Earlier.{objects_after}
+use Rattle.verdict.specs.Earlier.{chances_behind, objects_after}
+use Rattle.verdict.specs.Fits.{IsDue}
 use Rattle.verdict.specs.Stages.{May, MayPoint, next, pointed}
+use Rattle.verdict.proofs.Chances.{late_is_timed}
 use Rattle.refuting.specs.declared.state.Call.{Call}
 use Rattle.refuting.specs.declared.state.Made.{Made}
 use Rattle.refuting.specs.declared.state.Made.TheVariants.{Nothing, Released, Changed}
@@ -28,11 +30,12 @@ use Rattle.refuting.specs.declared.state.State.{State}
 use Rattle.refuting.specs.declared.turn.Turn.{Turn}
 use Rattle.refuting.specs.declared.turn.Turn.TheVariants.{Resting, Calling, Dying}
 use Rattle.refuting.specs.States.{Covered, call_at}
-use Rattle.refuting.specs.Steps.{FollowsReply, IsClosed, MayChange, MayLook, MayRelease, Sees, after_change, changed, next_change, next_look, over}
+use Rattle.refuting.specs.Steps.{FollowsReply, IsClosed, MayChange, MayLook, MayRelease, after_change, changed, next_change, next_look, over, told_as}
 use Rattle.std.specs.Option.{is_some}
-use Rattle.refuting.specs.Following.{Goes, HasCome, IsOpen, StandsFor, stage_after}
+use Rattle.refuting.specs.Following.{Goes, HasCome, IsOpen, StandsFor, Waits, stage_after}
 use Rattle.refuting.specs.Turns.{InCall, IsKilled, Turned, call_on, if_on, reply_of, turn_at}
-use Rattle.refuting.proofs.Standing.{HasId, Stood, changes_tell, has_id, held_no_more, moved_here, moved_there, no_change, own_change, same_object, same_or_not, waits_still}
+use Rattle.refuting.proofs.Waiting.{HasId, Setting, busy_calling, has_id, sees_there}
+use Rattle.refuting.proofs.Standing.{Stood, changes_tell, held_no_more, moved_here, moved_there, no_change, own_change, same_object, same_or_not, waits_still}
 
 -- what is known of a state that stands for a trace
 pub record Scene (m : ℕ) (ts : List Turn) (ss : List State) (es : List Line) (d : ℕ → Bool) (s : State) : Type 0 where
@@ -60,9 +63,9 @@ killed_turn turn d is = absurd is
 busy_dying : (turn : Turn) → IsDying turn → turn ≢ Resting
 busy_dying turn d rests = let no : Resting ≡ Dying d.call = sym rests ∙ d.is in absurd cc
 
-pub death_stands : (n m : ℕ) (ts : List Turn) (ss : List State) (es : List Line) (d : ℕ → Bool) (s : State) → Scene m ts ss es d s → (k t m' : ℕ) → May (stage_after t es) (fact.Death t m')
+pub death_stands : (n m : ℕ) (ts : List Turn) (ss : List State) (es : List Line) (d : ℕ → Bool) (s : State) → Scene m ts ss es d s → (k t m' : ℕ) → Setting m ts ts ss d s (record { event = k; fact = fact.Death t m' }) es → May (stage_after t es) (fact.Death t m')
     → (new : Object) → Does (held_by t (objects_after es) n) (objects_after es m') t Death OK new → Stood m ts ss (record { event = k; fact = fact.Death t m' } ∷ es)
-death_stands n m ts ss es d s x k t m' may new does = by_cases (same_or_not m' m) where
+death_stands n m ts ss es d s x k t m' y may new does = by_cases (same_or_not m' m) where
   e : Line
   e = record { event = k; fact = fact.Death t m' }
 
@@ -86,25 +89,25 @@ death_stands n m ts ss es d s x k t m' may new does = by_cases (same_or_not m' m
       let here : objects_after es m' ≡ s.object = ap (objects_after es) same ∙ sym x.stands.object in
       let its : Does 0 s.object t Death OK new = subst (λ o. Does 0 o t Death OK new) here does in
       let object : new ≡ objects_after (e ∷ es) m = determined 0 s.object t Death OK new its ∙ ap (λ o. stepped o t Death OK) x.stands.object ∙ sym (moved_here (objects_after es) dec m same) in
-      own_change m ts ss e es s (over (is_some turn.call)) new x.stands object id.last (own (over (is_some turn.call))) ((x.closed.followed s x.there t id.first).dies turn.call new turn.is its)
-  by_cases (inr other) = no_change m ts ss e es s x.there x.stands (moved_there (objects_after es) dec m other) (own (call_at s.calls t))
+      own_change m ts ss d e es s (over (is_some turn.call)) new y may refl x.stands object id.last (own (over (is_some turn.call))) ((x.closed.followed s x.there t id.first).dies turn.call new turn.is its)
+  by_cases (inr other) = no_change m ts ss d e es s y x.there x.stands (moved_there (objects_after es) dec m other) (own (call_at s.calls t))
 
 -- ---- sleep
 
-pub sleep_stands : (m : ℕ) (ts : List Turn) (ss : List State) (es : List Line) (d : ℕ → Bool) (s : State) → Scene m ts ss es d s → (k t : ℕ) (q : Queue) → May (stage_after t es) (fact.Sleep t q) → Stood m ts ss (record { event = k; fact = fact.Sleep t q } ∷ es)
-sleep_stands m ts ss es d s x k t q may = no_change m ts ss (record { event = k; fact = fact.Sleep t q }) es s x.there x.stands refl (slept (stage_after t es) may (x.stands.calls t)) where
+pub sleep_stands : (m : ℕ) (ts : List Turn) (ss : List State) (es : List Line) (d : ℕ → Bool) (s : State) → Scene m ts ss es d s → (k t : ℕ) (q : Queue) → Setting m ts ts ss d s (record { event = k; fact = fact.Sleep t q }) es → May (stage_after t es) (fact.Sleep t q) → Stood m ts ss (record { event = k; fact = fact.Sleep t q } ∷ es)
+sleep_stands m ts ss es d s x k t q y may = no_change m ts ss d (record { event = k; fact = fact.Sleep t q }) es s y x.there x.stands refl (slept (stage_after t es) may (x.stands.calls t)) where
   slept : (z : Stage) → May z (fact.Sleep t q) → Goes m z (turn_at ts t) (call_at s.calls t) → Goes m (next z (fact.Sleep t q)) (turn_at ts t) (call_at s.calls t)
   slept (stage.Calling c made a) may h = h
   slept z may h = absurd may
 
-pub wake_stands : (m : ℕ) (ts : List Turn) (ss : List State) (es : List Line) (d : ℕ → Bool) (s : State) → Scene m ts ss es d s → (k t : ℕ) → May (stage_after t es) (fact.Wake t) → Stood m ts ss (record { event = k; fact = fact.Wake t } ∷ es)
-wake_stands m ts ss es d s x k t may = no_change m ts ss (record { event = k; fact = fact.Wake t }) es s x.there x.stands refl (woken (stage_after t es) may (x.stands.calls t)) where
+pub wake_stands : (m : ℕ) (ts : List Turn) (ss : List State) (es : List Line) (d : ℕ → Bool) (s : State) → Scene m ts ss es d s → (k t : ℕ) → Setting m ts ts ss d s (record { event = k; fact = fact.Wake t }) es → May (stage_after t es) (fact.Wake t) → Stood m ts ss (record { event = k; fact = fact.Wake t } ∷ es)
+wake_stands m ts ss es d s x k t y may = no_change m ts ss d (record { event = k; fact = fact.Wake t }) es s y x.there x.stands refl (woken (stage_after t es) may (x.stands.calls t)) where
   woken : (z : Stage) → May z (fact.Wake t) → Goes m z (turn_at ts t) (call_at s.calls t) → Goes m (next z (fact.Wake t)) (turn_at ts t) (call_at s.calls t)
   woken (stage.Calling c made a) may h = h
   woken z may h = absurd may
 
-pub move_stands : (m : ℕ) (ts : List Turn) (ss : List State) (es : List Line) (d : ℕ → Bool) (s : State) → Scene m ts ss es d s → (k t m' : ℕ) → May (stage_after t es) (fact.Move t m') → Stood m ts ss (record { event = k; fact = fact.Move t m' } ∷ es)
-move_stands m ts ss es d s x k t m' may = no_change m ts ss (record { event = k; fact = fact.Move t m' }) es s x.there x.stands refl (moves (stage_after t es) may (x.stands.calls t)) where
+pub move_stands : (m : ℕ) (ts : List Turn) (ss : List State) (es : List Line) (d : ℕ → Bool) (s : State) → Scene m ts ss es d s → (k t m' : ℕ) → Setting m ts ts ss d s (record { event = k; fact = fact.Move t m' }) es → May (stage_after t es) (fact.Move t m') → Stood m ts ss (record { event = k; fact = fact.Move t m' } ∷ es)
+move_stands m ts ss es d s x k t m' y may = no_change m ts ss d (record { event = k; fact = fact.Move t m' }) es s y x.there x.stands refl (moves (stage_after t es) may (x.stands.calls t)) where
   moves : (z : Stage) → May z (fact.Move t m') → Goes m z (turn_at ts t) (call_at s.calls t) → Goes m (next z (fact.Move t m')) (turn_at ts t) (call_at s.calls t)
   moves (stage.Calling c made a) may h = h
   moves z may h = absurd may
@@ -112,31 +115,49 @@ move_stands m ts ss es d s x k t m' may = no_change m ts ss (record { event = k;
 -- ---- points
 
 -- a point of a call that isn't a wait's release
-record Plain (a : Operation) (my : Made) (b : Operation) : Type 0 where
-  look : next_look a my ≡ Some b
+record Plain (a : Operation) (my : Made) (b : Operation) (x : Reply) : Type 0 where
+  look : next_look a my x ≡ Some b
   change : next_change a my ≡ Some b
   releases : (o : Object) → MayRelease a my o
   after : (y : Reply) → after_change a my y ≡ Changed y
   points : (y : Reply) → pointed a b y ≡ made.Decided y
   still : IsOpen my
 
-plain_nothing : (a : Operation) → a ≢ Wait → Plain a Nothing a
-plain_nothing Wait ne = absurd (ne refl)
-plain_nothing a ne = record { look = refl; change = refl; releases = λ o. tt; after = λ y. refl; points = λ y. refl; still = tt }
+plain_nothing : (a : Operation) (x : Reply) → a ≢ Wait → a ≢ TimedLock → Plain a Nothing a x
+plain_nothing Wait x ne timed = absurd (ne refl)
+plain_nothing TimedLock x ne timed = absurd (timed refl)
+plain_nothing a x ne timed = record { look = refl; change = refl; releases = λ o. tt; after = λ y. refl; points = λ y. refl; still = tt }
 
-plain_released : (a : Operation) → Plain a Released Lock
-plain_released a = elim_plain a where
-  elim_plain : (a : Operation) → Plain a Released Lock
+plain_released : (a : Operation) (x : Reply) → Plain a Released Lock x
+plain_released a x = elim_plain a where
+  elim_plain : (a : Operation) → Plain a Released Lock x
   elim_plain Wait = record { look = refl; change = refl; releases = λ o. tt; after = λ y. refl; points = λ y. refl; still = tt }
   elim_plain a = record { look = refl; change = refl; releases = λ o. tt; after = λ y. refl; points = λ y. refl; still = tt }
+
+-- a lock with a time limit that is told as a lock
+told_lock : (x : Reply) → x ≢ ETIMEDOUT → told_as TimedLock x ≡ Lock
+told_lock ETIMEDOUT ne = absurd (ne refl)
+told_lock x ne = refl
+
+plain_timed : (x : Reply) → x ≢ ETIMEDOUT → Plain TimedLock Nothing Lock x
+plain_timed x ne = record { look = ap Some (told_lock x ne); change = refl; releases = λ o. tt; after = λ y. refl; points = λ y. refl; still = tt }
+
+pub is_timed : (a : Operation) → (a ≡ TimedLock) ⊎ (a ≢ TimedLock)
+is_timed TimedLock = inl refl
+is_timed a = inr (λ e. absurd cc)
+
+-- out of time is only told as a lock with a time limit
+never_late : (held : ℕ) (o : Object) (t : ℕ) (op : Operation) (x : Reply) (n : Object) → Does held o t op x n → op ≢ TimedLock → x ≢ ETIMEDOUT
+never_late held o t op x n does ne late = ne (late_is_timed held o t op n (subst (λ y. Does held o t op y n) late does))
 
 pub is_wait : (a : Operation) → (a ≡ Wait) ⊎ (a ≢ Wait)
 is_wait Wait = inl refl
 is_wait a = inr (λ e. absurd cc)
 
-pub plain_may : (a b : Operation) (x : Reply) → a ≢ Wait → MayPoint a made.Nothing b x → b ≡ a
-plain_may Wait b x ne may = absurd (ne refl)
-plain_may a b x ne may = may
+pub plain_may : (a b : Operation) (x : Reply) → a ≢ Wait → a ≢ TimedLock → MayPoint a made.Nothing b x → b ≡ a
+plain_may Wait b x ne timed may = absurd (ne refl)
+plain_may TimedLock b x ne timed may = absurd (timed refl)
+plain_may a b x ne timed may = may
 
 pub wait_may : (b : Operation) (x : Reply) → MayPoint Wait made.Nothing b x → (b ≡ Wait) ⊎ ((b ≡ Unlock) × (x ≡ OK))
 wait_may Wait x may = inl refl
@@ -166,19 +187,6 @@ call_there m (Calling c x) k false is on = ap (if_on m) is ∙ if_there m k on
 call_there m (Dying c) k true is on = ap (λ z. call_on m (Dying z)) is ∙ if_there m k on
 call_there m turn k d is on = absurd is
 
-sees_there : (m : ℕ) (turn : Turn) (k : Begun) (d : Bool) (s : State) (t : ℕ) (y : Reply) → InCall k turn d → k.mutex ≡ m → reply_of turn ≡ Some y → MayLook s t k.operation y → Sees m turn s t
-sees_there m (Calling c None) k false s t y is on reply look = let no : None ≡ Some y = reply in absurd cc
-sees_there m (Calling c (Some x)) k false s t y is on reply look =
-    let same : y ≡ x = cc in
-    (ap (λ (b : Begun). b.mutex) is ∙ on, subst (λ (b : Begun). MayLook s t b.operation x) (sym is) (subst (MayLook s t k.operation) same look))
-sees_there m (Dying c) k true s t y is on reply look = let no : None ≡ Some y = reply in absurd cc
-sees_there m turn k d s t y is on reply look = absurd is
-
-busy_calling : (turn : Turn) (k : Begun) (d : Bool) → InCall k turn d → turn ≢ Resting
-busy_calling (Calling c x) k d is rests = absurd cc
-busy_calling (Dying c) k d is rests = absurd cc
-busy_calling turn k d is rests = absurd is
-
 -- a change by the thread's call
 by_call : (m : ℕ) (ts : List Turn) (ss : List State) (es : List Line) (d : ℕ → Bool) (s : State) → Scene m ts ss es d s → (k : Begun) (t : ℕ) → InCall k (turn_at ts t) (d t) → k.mutex ≡ m
     → (held : ℕ) (op : Operation) (y : Reply) (new : Object) → next_change k.operation (call_at s.calls t).made ≡ Some op → MayRelease k.operation (call_at s.calls t).made s.object
@@ -201,11 +209,11 @@ by_call m ts ss es d s x k t call on held op y new is releases does ne = by_case
   by_cases (inr dead) = subst (λ r. FollowsReply ss s t k.operation r) (sym dead) follows.1 new may
 
 -- a point that isn't a wait's release
-plain_point : (n m : ℕ) (ts : List Turn) (ss : List State) (es : List Line) (d : ℕ → Bool) (s : State) → Scene m ts ss es d s → (i : ℕ) (p : Decision) (k : Begun) (my : Made) (z : Bool)
-    → InCall k (turn_at ts p.thread) (d p.thread) → k.mutex ≡ m → p.mutex ≡ m → (call_at s.calls p.thread).made ≡ my → Plain k.operation my p.operation
+plain_point : (n m : ℕ) (ts : List Turn) (ss : List State) (es : List Line) (d : ℕ → Bool) (s : State) → Scene m ts ss es d s → (i : ℕ) (p : Decision) → Setting m ts ts ss d s (record { event = i; fact = fact.Point p }) es → May (stage_after p.thread es) (fact.Point p) → p.operation ≢ TimedLock → (k : Begun) (my : Made) (z : Bool)
+    → InCall k (turn_at ts p.thread) (d p.thread) → k.mutex ≡ m → p.mutex ≡ m → (call_at s.calls p.thread).made ≡ my → Plain k.operation my p.operation p.reply
     → next (stage_after p.thread es) (fact.Point p) ≡ stage.Calling k (pointed k.operation p.operation p.reply) z
     → (new : Object) → Does (held_by p.thread (objects_after es) n) s.object p.thread p.operation p.reply new → Stood m ts ss (record { event = i; fact = fact.Point p } ∷ es)
-plain_point n m ts ss es d s x i p k my z call on here is plain goes new does = by_cases (same_object new s.object) where
+plain_point n m ts ss es d s x i p y may untimed k my z call on here is plain goes new does = by_cases (same_object new s.object) where
   t : ℕ
   t = p.thread
 
@@ -222,27 +230,30 @@ plain_point n m ts ss es d s x i p k my z call on here is plain goes new does = 
   decided c come = subst (λ q. Goes m q (turn_at ts t) c) (sym goes) (λ at. subst (λ q. HasCome q (reply_of (turn_at ts t)) c) (sym (plain.points p.reply)) come)
 
   seen : reply_of (turn_at ts t) ≡ Some p.reply → new ≡ s.object → (call_at s.calls t).seen ≡ true
-  seen reply same = x.closed.noted s x.there t id.first (sees_there m (turn_at ts t) k (d t) s t p.reply call on reply (record {
-    operation = p.operation;
-    next = ap (next_look k.operation) is ∙ plain.look;
-    held = held_by t (objects_after es) n;
-    does = subst (Does (held_by t (objects_after es) n) s.object t p.operation p.reply) same does;
-  }))
+  seen reply same = x.closed.noted s x.there t id.first (sees_there m (turn_at ts t) k (d t) s t p.reply call on reply (
+    record {
+      operation = p.operation;
+      next = ap (λ q. next_look k.operation q p.reply) is ∙ plain.look;
+      held = held_by t (objects_after es) n;
+      does = subst (Does (held_by t (objects_after es) n) s.object t p.operation p.reply) same does;
+    },
+    λ late. absurd (never_late (held_by t (objects_after es) n) s.object t p.operation p.reply new does untimed late),
+  ))
 
   by_cases : (new ≡ s.object) ⊎ (new ≢ s.object) → Stood m ts ss (record { event = i; fact = fact.Point p } ∷ es)
-  by_cases (inl same) = no_change m ts ss e es s x.there x.stands (sym object ∙ same ∙ x.stands.object)
+  by_cases (inl same) = no_change m ts ss d e es s y x.there x.stands (sym object ∙ same ∙ x.stands.object)
       (decided (call_at s.calls t) (inr (subst IsOpen (sym is) plain.still, λ reply. seen reply same)))
   by_cases (inr ne) =
       let cov : Covered ss (changed s t k.operation p.reply new) = by_call m ts ss es d s x k t call on (held_by t (objects_after es) n) p.operation p.reply new (ap (next_change k.operation) is ∙ plain.change) (subst (λ q. MayRelease k.operation q s.object) (sym is) (plain.releases s.object)) does ne in
-      own_change m ts ss e es s (record { made = after_change k.operation (call_at s.calls t).made p.reply; seen = false }) new x.stands object id.last
+      own_change m ts ss d e es s (record { made = after_change k.operation (call_at s.calls t).made p.reply; seen = false }) new y may refl x.stands object id.last
       (decided (record { made = after_change k.operation (call_at s.calls t).made p.reply; seen = false }) (inl (ap (λ q. after_change k.operation q p.reply) is ∙ plain.after p.reply))) cov
 
 -- a wait's own point changes nothing
-wait_point : (n m : ℕ) (ts : List Turn) (ss : List State) (es : List Line) (d : ℕ → Bool) (s : State) → Scene m ts ss es d s → (i : ℕ) (p : Decision) (k : Begun) (z : Bool)
+wait_point : (n m : ℕ) (ts : List Turn) (ss : List State) (es : List Line) (d : ℕ → Bool) (s : State) → Scene m ts ss es d s → (i : ℕ) (p : Decision) → Setting m ts ts ss d s (record { event = i; fact = fact.Point p }) es → (k : Begun) (z : Bool)
     → InCall k (turn_at ts p.thread) (d p.thread) → k.mutex ≡ m → p.mutex ≡ m → (call_at s.calls p.thread).made ≡ Nothing → k.operation ≡ Wait → p.operation ≡ Wait
     → next (stage_after p.thread es) (fact.Point p) ≡ stage.Calling k (pointed k.operation p.operation p.reply) z
     → (new : Object) → Does (held_by p.thread (objects_after es) n) s.object p.thread p.operation p.reply new → Stood m ts ss (record { event = i; fact = fact.Point p } ∷ es)
-wait_point n m ts ss es d s x i p k z call on here is wait op goes new does =
+wait_point n m ts ss es d s x i p y k z call on here is wait op goes new does =
     let t = p.thread in
     let e : Line = record { event = i; fact = fact.Point p } in
     let its : Permits s.object t Wait p.reply new = subst (λ a. Does (held_by t (objects_after es) n) s.object t a p.reply new) op does in
@@ -250,13 +261,16 @@ wait_point n m ts ss es d s x i p k z call on here is wait op goes new does =
     let id : HasId ts t = has_id ts t x.long x.nobody (busy_calling (turn_at ts t) k (d t) call) in
     let object : new ≡ objects_after (e ∷ es) m = determined (held_by t (objects_after es) n) s.object t p.operation p.reply new does ∙ ap (λ o. stepped o t p.operation p.reply) x.stands.object ∙ sym (moved_here (objects_after es) p m here) in
     let points : pointed k.operation p.operation p.reply ≡ made.Decided p.reply = ap (λ a. pointed a p.operation p.reply) wait ∙ ap (λ b. pointed Wait b p.reply) op in
-    let look : MayLook s t k.operation p.reply = record {
-      operation = Wait;
-      next = ap (next_look k.operation) is ∙ ap (λ a. next_look a Nothing) wait;
-      held = 0;
-      does = subst (λ o. Permits s.object t Wait p.reply o) same its;
-    } in
-    no_change m ts ss e es s x.there x.stands (sym object ∙ same ∙ x.stands.object)
+    let look : MayLook s t k.operation p.reply = (
+      record {
+        operation = Wait;
+        next = ap (λ q. next_look k.operation q p.reply) is ∙ ap (λ a. next_look a Nothing p.reply) wait;
+        held = 0;
+        does = subst (λ o. Permits s.object t Wait p.reply o) same its;
+      },
+      λ late. absurd (never_late (held_by t (objects_after es) n) s.object t p.operation p.reply new does (λ timed. let no : Wait ≡ TimedLock = sym op ∙ timed in absurd cc) late),
+    ) in
+    no_change m ts ss d e es s y x.there x.stands (sym object ∙ same ∙ x.stands.object)
     (subst (λ q. Goes m q (turn_at ts t) (call_at s.calls t)) (sym goes)
     (λ at. subst (λ q. HasCome q (reply_of (turn_at ts t)) (call_at s.calls t)) (sym points)
     (inr (subst IsOpen (sym is) tt, λ reply. x.closed.noted s x.there t id.first (sees_there m (turn_at ts t) k (d t) s t p.reply call on reply look)))))
@@ -269,12 +283,12 @@ frees o t new h same =
     let no : None ≡ Some t = sym none ∙ some in
     absurd cc
 
-release_point : (n m : ℕ) (ts : List Turn) (ss : List State) (es : List Line) (d : ℕ → Bool) (s : State) → Scene m ts ss es d s → (i : ℕ) (p : Decision) (k : Begun) (z : Bool)
+release_point : (n m : ℕ) (ts : List Turn) (ss : List State) (es : List Line) (d : ℕ → Bool) (s : State) → Scene m ts ss es d s → (i : ℕ) (p : Decision) → Setting m ts ts ss d s (record { event = i; fact = fact.Point p }) es → May (stage_after p.thread es) (fact.Point p) → (k : Begun) (z : Bool)
     → InCall k (turn_at ts p.thread) (d p.thread) → k.mutex ≡ m → p.mutex ≡ m → (call_at s.calls p.thread).made ≡ Nothing → k.operation ≡ Wait → p.operation ≡ Unlock → p.reply ≡ OK
     → s.object.inconsistent ≡ false
     → next (stage_after p.thread es) (fact.Point p) ≡ stage.Calling k (pointed k.operation p.operation p.reply) z
     → (new : Object) → Does (held_by p.thread (objects_after es) n) s.object p.thread p.operation p.reply new → Stood m ts ss (record { event = i; fact = fact.Point p } ∷ es)
-release_point n m ts ss es d s x i p k z call on here is wait op ok sound goes new does =
+release_point n m ts ss es d s x i p y may k z call on here is wait op ok sound goes new does =
     let t = p.thread in
     let e : Line = record { event = i; fact = fact.Point p } in
     let id : HasId ts t = has_id ts t x.long x.nobody (busy_calling (turn_at ts t) k (d t) call) in
@@ -285,32 +299,97 @@ release_point n m ts ss es d s x i p k z call on here is wait op ok sound goes n
     let releases : MayRelease k.operation (call_at s.calls t).made s.object = subst (λ q. MayRelease k.operation q s.object) (sym is) (subst (λ a. MayRelease a Nothing s.object) (sym wait) sound) in
     let cov : Covered ss (changed s t k.operation OK new) = by_call m ts ss es d s x k t call on 0 Unlock OK new follows releases its (frees s.object t new its) in
     let after : after_change k.operation (call_at s.calls t).made OK ≡ Released = ap (λ q. after_change k.operation q OK) is ∙ ap (λ a. after_change a Nothing OK) wait in
-    own_change m ts ss e es s (record { made = after_change k.operation (call_at s.calls t).made OK; seen = false }) new x.stands object id.last
+    own_change m ts ss d e es s (record { made = after_change k.operation (call_at s.calls t).made OK; seen = false }) new y may refl x.stands object id.last
     (subst (λ q. Goes m q (turn_at ts t) (record { made = after_change k.operation (call_at s.calls t).made OK; seen = false })) (sym goes)
     (λ at. subst (λ q. HasCome q (reply_of (turn_at ts t)) (record { made = after_change k.operation (call_at s.calls t).made OK; seen = false })) (sym points) after)) cov
 
+-- a lock that is told that its time limit came, or that its thread holds too many
+timed_tells : (held : ℕ) (o : Object) (t : ℕ) (x : Reply) (n : Object) → Does held o t TimedLock x n → (n ≡ o) × ((x ≡ ETIMEDOUT) ⊎ ((x ≢ ETIMEDOUT) × Does held o t Lock x o))
+timed_tells held o t x n does = by_cases (nat_le 2048 held) refl does where
+  only : (y : Reply) → Permits o t TimedLock y n → (n ≡ o) × (y ≡ ETIMEDOUT)
+  only ETIMEDOUT h = (h, refl)
+  only y h = absurd h
+
+  by_cases : (b : Bool) → nat_le 2048 held ≡ b → MatchBool b ((x ≡ XHELD) × (n ≡ o)) (Permits o t TimedLock x n) → (n ≡ o) × ((x ≡ ETIMEDOUT) ⊎ ((x ≢ ETIMEDOUT) × MatchBool (nat_le 2048 held) ((x ≡ XHELD) × (o ≡ o)) (Permits o t Lock x o)))
+  by_cases true is h = (h.1, inr (λ late. let no : XHELD ≡ ETIMEDOUT = sym h.0 ∙ late in absurd cc, subst (λ b. MatchBool b ((x ≡ XHELD) × (o ≡ o)) (Permits o t Lock x o)) (sym is) (h.0, refl)))
+  by_cases false is h = ((only x h).0, inl (only x h).1)
+
+timed_point : (n m : ℕ) (ts : List Turn) (ss : List State) (es : List Line) (d : ℕ → Bool) (s : State) → Scene m ts ss es d s → (i : ℕ) (p : Decision) → Setting m ts ts ss d s (record { event = i; fact = fact.Point p }) es → IsDue es (fact.Point p) → (k : Begun) (z : Bool)
+    → InCall k (turn_at ts p.thread) (d p.thread) → k.mutex ≡ m → p.mutex ≡ m → (call_at s.calls p.thread).made ≡ Nothing → stage_after p.thread es ≡ stage.Calling k made.Nothing z → k.operation ≡ TimedLock → p.operation ≡ TimedLock
+    → next (stage_after p.thread es) (fact.Point p) ≡ stage.Calling k (pointed k.operation p.operation p.reply) z
+    → (new : Object) → Does (held_by p.thread (objects_after es) n) s.object p.thread p.operation p.reply new → Stood m ts ss (record { event = i; fact = fact.Point p } ∷ es)
+timed_point n m ts ss es d s x i p y due k z call on here is was timed op goes new does =
+    no_change m ts ss d e es s y x.there x.stands (sym object ∙ tells.0 ∙ x.stands.object)
+    (subst (λ q. Goes m q (turn_at ts t) (call_at s.calls t)) (sym goes)
+    (λ at. subst (λ q. HasCome q (reply_of (turn_at ts t)) (call_at s.calls t)) (sym points) (inr (subst IsOpen (sym is) tt, λ reply. ⊎_elim (late reply) (held_as reply) tells.1))))
+  where
+    t : ℕ
+    t = p.thread
+
+    e : Line
+    e = record { event = i; fact = fact.Point p }
+
+    tells : (new ≡ s.object) × ((p.reply ≡ ETIMEDOUT) ⊎ ((p.reply ≢ ETIMEDOUT) × Does (held_by t (objects_after es) n) s.object t Lock p.reply s.object))
+    tells = timed_tells (held_by t (objects_after es) n) s.object t p.reply new (subst (λ a. Does (held_by t (objects_after es) n) s.object t a p.reply new) op does)
+
+    id : HasId ts t
+    id = has_id ts t x.long x.nobody (busy_calling (turn_at ts t) k (d t) call)
+
+    object : new ≡ objects_after (e ∷ es) m
+    object = determined (held_by t (objects_after es) n) s.object t p.operation p.reply new does ∙ ap (λ o. stepped o t p.operation p.reply) x.stands.object ∙ sym (moved_here (objects_after es) p m here)
+
+    points : pointed k.operation p.operation p.reply ≡ made.Decided p.reply
+    points = ap (λ a. pointed a p.operation p.reply) timed ∙ ap (λ b. pointed TimedLock b p.reply) op
+
+    -- it has seen another owner, as there was one
+    late : reply_of (turn_at ts t) ≡ Some p.reply → p.reply ≡ ETIMEDOUT → (call_at s.calls t).seen ≡ true
+    late reply is_late =
+        let waits : Waits m (stage.Calling k made.Nothing z) (turn_at ts t) (call_at s.calls t) (chances_behind t m es) = subst (λ q. Waits m q (turn_at ts t) (call_at s.calls t) (chances_behind t m es)) was (y.waits t) in
+        waits on timed (reply ∙ ap Some is_late) (subst (λ j. (chances_behind t j es).waited ≡ true) here (due refl refl is_late))
+
+    held_as : reply_of (turn_at ts t) ≡ Some p.reply → (p.reply ≢ ETIMEDOUT) × Does (held_by t (objects_after es) n) s.object t Lock p.reply s.object → (call_at s.calls t).seen ≡ true
+    held_as reply h = x.closed.noted s x.there t id.first (sees_there m (turn_at ts t) k (d t) s t p.reply call on reply (
+      record {
+        operation = Lock;
+        next = ap (λ q. next_look k.operation q p.reply) is ∙ ap (λ a. next_look a Nothing p.reply) timed ∙ ap Some (told_lock p.reply h.0);
+        held = held_by t (objects_after es) n;
+        does = h.1;
+      },
+      λ is_late. absurd (h.0 is_late),
+    ))
+
 -- any point of the mutex
-made_point : (n m : ℕ) (ts : List Turn) (ss : List State) (es : List Line) (d : ℕ → Bool) (s : State) → Scene m ts ss es d s → (i : ℕ) (p : Decision) (k : Begun) (its : TheirMade) (z : Bool)
+made_point : (n m : ℕ) (ts : List Turn) (ss : List State) (es : List Line) (d : ℕ → Bool) (s : State) → Scene m ts ss es d s → (i : ℕ) (p : Decision) → Setting m ts ts ss d s (record { event = i; fact = fact.Point p }) es → IsDue es (fact.Point p) → May (stage_after p.thread es) (fact.Point p) → (k : Begun) (its : TheirMade) (z : Bool) → stage_after p.thread es ≡ stage.Calling k its z
     → InCall k (turn_at ts p.thread) (d p.thread) → k.mutex ≡ m → p.mutex ≡ m → HasCome its (reply_of (turn_at ts p.thread)) (call_at s.calls p.thread) → MayPoint k.operation its p.operation p.reply
     → (p.operation ≡ Unlock → k.operation ≡ Wait → s.object.inconsistent ≡ false)
     → next (stage_after p.thread es) (fact.Point p) ≡ stage.Calling k (pointed k.operation p.operation p.reply) z
     → (new : Object) → Does (held_by p.thread (objects_after es) n) s.object p.thread p.operation p.reply new → Stood m ts ss (record { event = i; fact = fact.Point p } ∷ es)
-made_point n m ts ss es d s x i p k (made.Decided y) z call on here come may sound goes new does = absurd may
-made_point n m ts ss es d s x i p k made.Released z call on here come may sound goes new does =
-    plain_point n m ts ss es d s x i p k Released z call on here come (subst (Plain k.operation Released) (sym may) (plain_released k.operation)) goes new does
-made_point n m ts ss es d s x i p k made.Nothing z call on here come may sound goes new does = by_cases (is_wait k.operation) where
+made_point n m ts ss es d s x i p y due own k (made.Decided r) z was call on here come may sound goes new does = absurd may
+made_point n m ts ss es d s x i p y due own k made.Released z was call on here come may sound goes new does =
+    plain_point n m ts ss es d s x i p y own (λ timed. let no : Lock ≡ TimedLock = sym may ∙ timed in absurd cc) k Released z call on here come (subst (λ b. Plain k.operation Released b p.reply) (sym may) (plain_released k.operation p.reply)) goes new does
+made_point n m ts ss es d s x i p y due own k made.Nothing z was call on here come may sound goes new does = by_cases (is_wait k.operation) (is_timed k.operation) where
   by_wait : k.operation ≡ Wait → (p.operation ≡ Wait) ⊎ ((p.operation ≡ Unlock) × (p.reply ≡ OK)) → Stood m ts ss (record { event = i; fact = fact.Point p } ∷ es)
-  by_wait wait (inl own) = wait_point n m ts ss es d s x i p k z call on here come wait own goes new does
-  by_wait wait (inr free) = release_point n m ts ss es d s x i p k z call on here come wait free.0 free.1 (sound free.0 wait) goes new does
+  by_wait wait (inl its) = wait_point n m ts ss es d s x i p y k z call on here come wait its goes new does
+  by_wait wait (inr free) = release_point n m ts ss es d s x i p y own k z call on here come wait free.0 free.1 (sound free.0 wait) goes new does
 
-  by_cases : (k.operation ≡ Wait) ⊎ (k.operation ≢ Wait) → Stood m ts ss (record { event = i; fact = fact.Point p } ∷ es)
-  by_cases (inl wait) = by_wait wait (wait_may p.operation p.reply (subst (λ a. MayPoint a made.Nothing p.operation p.reply) wait may))
-  by_cases (inr other) = plain_point n m ts ss es d s x i p k Nothing z call on here come (subst (Plain k.operation Nothing) (sym (plain_may k.operation p.operation p.reply other may)) (plain_nothing k.operation other)) goes new does
+  by_timed : k.operation ≡ TimedLock → (p.operation ≡ TimedLock) ⊎ (p.operation ≡ Lock) → Stood m ts ss (record { event = i; fact = fact.Point p } ∷ es)
+  by_timed timed (inl its) = timed_point n m ts ss es d s x i p y due k z call on here come was timed its goes new does
+  by_timed timed (inr lock) =
+      let untimed : p.operation ≢ TimedLock = λ is. let no : Lock ≡ TimedLock = sym lock ∙ is in absurd cc in
+      let plain : Plain TimedLock Nothing Lock p.reply = plain_timed p.reply (never_late (held_by p.thread (objects_after es) n) s.object p.thread p.operation p.reply new does untimed) in
+      plain_point n m ts ss es d s x i p y own untimed k Nothing z call on here come (subst (λ a. Plain a Nothing p.operation p.reply) (sym timed) (subst (λ b. Plain TimedLock Nothing b p.reply) (sym lock) plain)) goes new does
 
-pub point_stands : (n m : ℕ) (ts : List Turn) (ss : List State) (es : List Line) (d : ℕ → Bool) (s : State) → Scene m ts ss es d s → (i : ℕ) (p : Decision) → May (stage_after p.thread es) (fact.Point p)
+  by_cases : (k.operation ≡ Wait) ⊎ (k.operation ≢ Wait) → (k.operation ≡ TimedLock) ⊎ (k.operation ≢ TimedLock) → Stood m ts ss (record { event = i; fact = fact.Point p } ∷ es)
+  by_cases (inl wait) t = by_wait wait (wait_may p.operation p.reply (subst (λ a. MayPoint a made.Nothing p.operation p.reply) wait may))
+  by_cases (inr other) (inl timed) = by_timed timed (subst (λ a. MayPoint a made.Nothing p.operation p.reply) timed may)
+  by_cases (inr other) (inr untimed) =
+      let its : p.operation ≡ k.operation = plain_may k.operation p.operation p.reply other untimed may in
+      plain_point n m ts ss es d s x i p y own (λ is. untimed (sym its ∙ is)) k Nothing z call on here come (subst (λ b. Plain k.operation Nothing b p.reply) (sym its) (plain_nothing k.operation p.reply other untimed)) goes new does
+
+pub point_stands : (n m : ℕ) (ts : List Turn) (ss : List State) (es : List Line) (d : ℕ → Bool) (s : State) → Scene m ts ss es d s → (i : ℕ) (p : Decision) → Setting m ts ts ss d s (record { event = i; fact = fact.Point p }) es → IsDue es (fact.Point p) → May (stage_after p.thread es) (fact.Point p)
     → ((k : Begun) (its : TheirMade) (z : Bool) → stage_after p.thread es ≡ stage.Calling k its z → p.operation ≡ Unlock → k.operation ≡ Wait → (objects_after es p.mutex).inconsistent ≡ false)
     → (new : Object) → Does (held_by p.thread (objects_after es) n) (objects_after es p.mutex) p.thread p.operation p.reply new → Stood m ts ss (record { event = i; fact = fact.Point p } ∷ es)
-point_stands n m ts ss es d s x i p may sound new does = by_cases (same_or_not p.mutex m) where
+point_stands n m ts ss es d s x i p y due may sound new does = by_cases (same_or_not p.mutex m) where
   t : ℕ
   t = p.thread
 
@@ -325,8 +404,8 @@ point_stands n m ts ss es d s x i p may sound new does = by_cases (same_or_not p
       let on : c.call.mutex ≡ m = sym c.mutex ∙ here in
       let its : objects_after es p.mutex ≡ s.object = ap (objects_after es) here ∙ sym x.stands.object in
       let come : Goes m (stage.Calling c.call c.made c.asleep) (turn_at ts t) (call_at s.calls t) = subst (λ q. Goes m q (turn_at ts t) (call_at s.calls t)) c.is (x.stands.calls t) in
-      made_point n m ts ss es d s x i p c.call c.made c.asleep (subst (λ q. Turned (turn_at ts t) q (d t)) c.is (x.turned t)) on here (come on) c.may
+      made_point n m ts ss es d s x i p y due may c.call c.made c.asleep c.is (subst (λ q. Turned (turn_at ts t) q (d t)) c.is (x.turned t)) on here (come on) c.may
       (λ op wait. subst (λ (o : Object). o.inconsistent ≡ false) its (sound c.call c.made c.asleep c.is op wait)) goes new (subst (λ o. Does (held_by t (objects_after es) n) o t p.operation p.reply new) its does)
   by_cases (inr there) =
-      no_change m ts ss (record { event = i; fact = fact.Point p }) es s x.there x.stands (moved_there (objects_after es) p m there)
+      no_change m ts ss d (record { event = i; fact = fact.Point p }) es s y x.there x.stands (moved_there (objects_after es) p m there)
       (subst (λ q. Goes m q (turn_at ts t) (call_at s.calls t)) (sym goes) (λ on. absurd (there (c.mutex ∙ on))))

@@ -4,6 +4,7 @@ pub mod Growing
 pub mod Closure
 pub mod Retelling
 pub mod Staging
+pub mod Waiting
 pub mod Standing
 pub mod Hiding
 pub mod Telling

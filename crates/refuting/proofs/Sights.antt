@@ -5,8 +5,10 @@ use Rattle.std.proofs.lemmas.Bool.{cases_lt}
 use Rattle.std.proofs.lemmas.List.{get_or_past}
 use Rattle.std.proofs.lemmas.Bool.Decides.{nat_tests}
 use Rattle.lockword.specs.declared.reply.Reply.{Reply}
+use Rattle.posixmutex.specs.declared.object.Object.{Object}
 use Rattle.posixmutex.specs.declared.point.Operation.{Operation}
 use Rattle.posixmutex.specs.Objects.{Does}
+use Rattle.facts.specs.Chances.{is_anothers}
 use Rattle.refuting.specs.declared.state.Call.{Call}
 use Rattle.refuting.specs.declared.state.State.{State}
 use Rattle.refuting.specs.declared.turn.Turn.{Turn}
@@ -36,12 +38,15 @@ sight_covers s t inside = record { object = refl; long = length-set s.calls t _;
 
 -- who could be told its reply behind it, could be before it
 looks_back : (s r : State) (u : ℕ) (a : Operation) (x : Reply) → Covers r s → MayLook r u a x → MayLook s u a x
-looks_back s r u a x c l = record {
-  operation = l.operation;
-  next = ap (next_look a) (sym ((c.calls u).0)) ∙ l.next;
-  held = l.held;
-  does = subst (λ o. Does l.held o u l.operation x o) c.object l.does;
-}
+looks_back s r u a x c l = (
+  record {
+    operation = l.0.operation;
+    next = ap (λ k. next_look a k x) (sym ((c.calls u).0)) ∙ l.0.next;
+    held = l.0.held;
+    does = subst (λ o. Does l.0.held o u l.0.operation x o) c.object l.0.does;
+  },
+  λ late. ap (λ (o : Object). is_anothers u o.owner) (sym c.object) ∙ l.1 late,
+)
 
 pub sees_back : (m : ℕ) (turn : Turn) (s r : State) (u : ℕ) → Covers r s → Sees m turn r u → Sees m turn s u
 sees_back m (Calling c (Some x)) s r u cov h = (h.0, looks_back s r u c.operation x cov h.1)

@@ -1,31 +1,29 @@
 -- A state that stands for a trace has one behind it that stands for the trace with one more line.
 use Rattle.std.proofs.Common.{◌≡◌, ◌≢◌, ℕ, zero, suc, ◌<◌, ◌≤◌, ◌==◌, ◌⊎◌, inl, inr, Bool, true, false, ◌&&◌, nat_le, List, ◌∷◌, length, refl, sym, ap, subst, ◌∙◌, arith, get_or-set_same, get_or-set_other, length-set, MatchBool}
 use Rattle.std.specs.Prelude.{if◌then◌else◌, Option, Some, None, Contains, slice_set}
-use Rattle.std.proofs.lemmas.Bool.{cases_lt}
 use Rattle.std.proofs.lemmas.Bool.Decides.{nat_tests}
-use Rattle.std.proofs.lemmas.List.{get_or_past}
 use Rattle.lockword.specs.declared.reply.Reply.{Reply}
-use Rattle.lockword.specs.declared.reply.Reply.TheVariants.{OK, EPERM, EBUSY, EINVAL, EDEADLK, EOWNERDEAD, ENOTRECOVERABLE, XRACED, XHELD, XFULL, XSTATE}
+use Rattle.lockword.specs.declared.reply.Reply.TheVariants.{OK, EPERM, EBUSY, EINVAL, EDEADLK, ETIMEDOUT, EOWNERDEAD, ENOTRECOVERABLE, XRACED, XHELD, XFULL, XSTATE}
 use Rattle.posixmutex.specs.declared.object.Object.{Object}
 use Rattle.posixmutex.specs.declared.point.Decision.{Decision}
 use Rattle.posixmutex.specs.declared.point.Operation.{Operation}
-use Rattle.posixmutex.specs.declared.point.Operation.TheVariants.{Lock, TryLock, Unlock, Consistent, Wait, Signal, Broadcast, Death, Reinit}
+use Rattle.posixmutex.specs.declared.point.Operation.TheVariants.{Lock, TryLock, TimedLock, Unlock, Consistent, Wait, Signal, Broadcast, Death, Reinit}
 use Rattle.posixmutex.specs.Objects.{Does, Permits, acquires, stepped}
 use Rattle.facts.specs.declared.fact.Line.{Line}
-use Rattle.facts.specs.Facts.{thread_of}
+use Rattle.facts.specs.Facts.{decides, thread_of}
 use Rattle.verdict.specs.declared.stage.Made.{Made as TheirMade}
 use Rattle.verdict.specs.declared.stage.Made.TheVariants as made
 use Rattle.verdict.specs.declared.stage.Stage.{Stage}
 use Rattle.verdict.specs.declared.stage.Stage.TheVariants as stage
 use Rattle.verdict.specs.Earlier.{moved, objects_after}
-use Rattle.verdict.specs.Stages.{next}
+use Rattle.verdict.specs.Stages.{May, next}
 use Rattle.refuting.specs.declared.state.Call.{Call}
 use Rattle.refuting.specs.declared.state.State.{State}
 use Rattle.refuting.specs.declared.turn.Turn.{Turn}
-use Rattle.refuting.specs.declared.turn.Turn.TheVariants.{Resting}
 use Rattle.refuting.specs.States.{Covered, Covers, HasAll, call_at, first_call}
-use Rattle.refuting.specs.Following.{Goes, HasCome, IsOpen, StandsFor, stage_after}
+use Rattle.refuting.specs.Following.{Goes, HasCome, HaveWaited, IsOpen, StandsFor, stage_after}
 use Rattle.refuting.specs.Turns.{reply_of, turn_at}
+use Rattle.refuting.proofs.Waiting.{Setting, carried, decided_on, own_carried, waits_on}
 
 -- ---- what covers a state stands for what it does
 
@@ -125,6 +123,7 @@ changes_tell o t Lock EDEADLK n h ne = absurd (ne h.1)
 changes_tell o t TryLock ENOTRECOVERABLE n h ne = absurd (ne h.1)
 changes_tell o t TryLock EBUSY n h ne = absurd (ne h.1)
 changes_tell o t TryLock XRACED n h ne = absurd (ne h.2)
+changes_tell o t TimedLock ETIMEDOUT n h ne = absurd (ne h)
 changes_tell o t Unlock EPERM n h ne = absurd (ne h.1)
 changes_tell o t Consistent EINVAL n h ne = absurd (ne h.2)
 changes_tell o t Consistent EPERM n h ne = absurd (ne h.1)
@@ -155,54 +154,56 @@ held_no_more held o t op x n h ne = by_cases (acquires op && nat_le 2048 held) h
 
 -- ---- lines that nobody sees
 
--- a thread that has a turn has one of the ids
-pub record HasId (ts : List Turn) (t : ℕ) : Type 0 where
-  pub first : 1 ≤ t
-  pub last : t < 65
-
-pub has_id : (ts : List Turn) (t : ℕ) → length ts ≡ 65 → turn_at ts 0 ≡ Resting → turn_at ts t ≢ Resting → HasId ts t
-has_id ts zero long nobody busy = absurd (busy nobody)
-has_id ts (suc t) long nobody busy = by_cases (cases_lt (suc t) 65) where
-  by_cases : (suc t < 65) ⊎ (65 ≤ suc t) → HasId ts (suc t)
-  by_cases (inl lt) = record { first = omega arith; last = lt }
-  by_cases (inr ge) = absurd (busy (get_or_past ts (suc t) Resting (omega (arith, long, ge))))
-
 -- some state stands for the trace
 pub record Stood (m : ℕ) (ts : List Turn) (ss : List State) (es : List Line) : Type 0 where
   pub state : State
   pub there : Contains ss state
   pub stands : StandsFor m ts es state
+  pub waits : HaveWaited m ts es state
 
 -- what a thread makes of a state by a change stands for what it makes of the trace
-pub own_change : (m : ℕ) (ts : List Turn) (ss : List State) (e : Line) (es : List Line) (s : State) (c : Call) (o : Object)
+pub own_change : (m : ℕ) (ts : List Turn) (ss : List State) (d : ℕ → Bool) (e : Line) (es : List Line) (s : State) (c : Call) (o : Object) → Setting m ts ts ss d s e es → May (stage_after (thread_of e.fact) es) e.fact → decides e.fact ≡ true
     → StandsFor m ts es s → o ≡ objects_after (e ∷ es) m → thread_of e.fact < 65
     → Goes m (next (stage_after (thread_of e.fact) es) e.fact) (turn_at ts (thread_of e.fact)) c
     → Covered ss (record { object = o; calls = slice_set s.calls (thread_of e.fact) c }) → Stood m ts ss (e ∷ es)
-own_change m ts ss e es s c o h object inside own cov =
-    let t = thread_of e.fact in
-    let lt : t < length s.calls = omega (arith, inside, h.long) in
-    let here : call_at (slice_set s.calls t c) t ≡ c = get_or-set_same s.calls t c first_call lt in
-    record {
-      state = cov.0;
-      there = cov.1;
-      stands = stands_on m ts (e ∷ es) cov.0 (record { object = o; calls = slice_set s.calls t c }) cov.2 (record {
-        object = object;
-        long = length-set s.calls t c ∙ h.long;
-        calls = lift m ts ts s.calls (slice_set s.calls t c) e es h.calls (λ u other. get_or-set_other s.calls t u c first_call other) (λ u other. refl)
-            (subst (Goes m (next (stage_after t es) e.fact) (turn_at ts t)) (sym here) own);
-      });
-    }
+own_change m ts ss d e es s c o x may does h object inside own cov = record {
+  state = cov.0;
+  there = cov.1;
+  stands = stands;
+  waits = waits_on m ts ts ss d s cov.0 e es x cov.1 stands (carried ts ts s cov.0 e es (λ u other. (refl, λ seen. (cov.2.calls u).1 (ap (λ (k : Call). k.seen) (there u other) ∙ seen))) (λ k z after old. absurd (decided_on (stage_after t es) e.fact k z may does after)));
+} where
+  t : ℕ
+  t = thread_of e.fact
+
+  lt : t < length s.calls
+  lt = omega (arith, inside, h.long)
+
+  here : call_at (slice_set s.calls t c) t ≡ c
+  here = get_or-set_same s.calls t c first_call lt
+
+  there : (u : ℕ) → u ≢ t → call_at (slice_set s.calls t c) u ≡ call_at s.calls u
+  there u other = get_or-set_other s.calls t u c first_call other
+
+  stands : StandsFor m ts (e ∷ es) cov.0
+  stands = stands_on m ts (e ∷ es) cov.0 (record { object = o; calls = slice_set s.calls t c }) cov.2 (record {
+    object = object;
+    long = length-set s.calls t c ∙ h.long;
+    calls = lift m ts ts s.calls (slice_set s.calls t c) e es h.calls there (λ u other. refl) (subst (Goes m (next (stage_after t es) e.fact) (turn_at ts t)) (sym here) own);
+  })
 
 -- a line that leaves the mutex and its thread's call as they were
-pub no_change : (m : ℕ) (ts : List Turn) (ss : List State) (e : Line) (es : List Line) (s : State) → Contains ss s
+pub no_change : (m : ℕ) (ts : List Turn) (ss : List State) (d : ℕ → Bool) (e : Line) (es : List Line) (s : State) → Setting m ts ts ss d s e es → Contains ss s
     → StandsFor m ts es s → objects_after (e ∷ es) m ≡ objects_after es m
     → Goes m (next (stage_after (thread_of e.fact) es) e.fact) (turn_at ts (thread_of e.fact)) (call_at s.calls (thread_of e.fact)) → Stood m ts ss (e ∷ es)
-no_change m ts ss e es s has h object own = record {
+no_change m ts ss d e es s x has h object own = record {
   state = s;
   there = has;
+  stands = stands;
+  waits = waits_on m ts ts ss d s s e es x has stands (carried ts ts s s e es (λ u other. (refl, λ seen. seen)) (own_carried ts s e es));
+} where
+  stands : StandsFor m ts (e ∷ es) s
   stands = record {
     object = h.object ∙ sym object;
     long = h.long;
     calls = lift m ts ts s.calls s.calls e es h.calls (λ u other. refl) (λ u other. refl) own;
-  };
-}
+  }

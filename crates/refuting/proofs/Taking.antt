@@ -19,7 +19,7 @@ use Rattle.refuting.specs.declared.refuter.Refuter.{Refuter}
 use Rattle.refuting.specs.declared.turn.Turn.{Turn}
 use Rattle.refuting.specs.declared.turn.Turn.TheVariants.{Resting, Calling, Dying, Reaped}
 use Rattle.refuting.specs.Steps.{IsClosed}
-use Rattle.refuting.specs.Following.{Follows, Retells, StandsFor, Takes, stage_after}
+use Rattle.refuting.specs.Following.{Follows, HaveWaited, Retells, StandsFor, Takes, stage_after}
 use Rattle.refuting.specs.Turns.{Turned, entry_thread, reply_in, turn_after, turn_at}
 use Rattle.refuting.proofs.Staging.{stage_kept, stage_may, turned_doom, turned_told}
 use Rattle.refuting.specs.Counts.{Counted, WithinLimit, count_after, count_at}
@@ -119,7 +119,7 @@ follows_next n h future e x r k after st = record {
   nobody = (known_next n h future e x r k after st).nobody;
   knows = knows_next n h future e x r k after st;
   turned = λ d es c. (stands_next n h future e x r k after st d es c).turned;
-  stands = λ d es c. let s = (stands_next n h future e x r k after st d es c).stood in (s.state, s.there, subst (λ m. StandsFor m k.turns es s.state) (sym st.mutex) s.stands);
+  stands = λ d es c. let s = (stands_next n h future e x r k after st d es c).stood in (s.state, s.there, subst (λ m. StandsFor m k.turns es s.state) (sym st.mutex) s.stands, subst (λ m. HaveWaited m k.turns es s.state) (sym st.mutex) s.waits);
   holds = ap length st.held ∙ length-set r.held (entry_thread e) _ ∙ st.follows.holds;
   counted = λ d es c. tallies n h future e x r k after st d es (e ∷ h) c.shows refl c.fits c.waits c.inside;
   closed = st.closed;

@@ -15,7 +15,7 @@ use Rattle.verdict.specs.declared.stage.Made.{Made as TheirMade}
 use Rattle.verdict.specs.declared.stage.Made.TheVariants as made
 use Rattle.verdict.specs.declared.stage.Stage.{Stage}
 use Rattle.verdict.specs.declared.stage.Stage.TheVariants as stage
-use Rattle.verdict.specs.Earlier.{is_killed, moved, objects_after, told_of}
+use Rattle.verdict.specs.Earlier.{chances_behind, is_killed, moved, objects_after, told_of}
 use Rattle.verdict.specs.Fits.{Fits, OwnsNothing}
 use Rattle.verdict.specs.Judges.{IsMutex}
 use Rattle.verdict.specs.Stages.{May, next}
@@ -35,9 +35,10 @@ use Rattle.refuting.specs.declared.turn.Turn.TheVariants.{Resting, Calling, Dyin
 use Rattle.refuting.specs.States.{Covered, call_at, first_call}
 use Rattle.refuting.specs.Counts.{count_after, count_at}
 use Rattle.refuting.specs.Steps.{IsClosed}
-use Rattle.refuting.specs.Following.{Follows, Goes, HasCome, HasMade, IsOpen, MayReturn, Retells, StandsFor, renewed, stage_after}
+use Rattle.refuting.specs.Following.{Follows, Goes, HasCome, HasMade, HaveWaited, IsOpen, MayReturn, Retells, StandsFor, Waits, renewed, stage_after}
 use Rattle.refuting.specs.Turns.{InCall, Turned, after_doom, call_on, entry_thread, if_on, reply_in, reply_of, turn_after, turn_at}
 use Rattle.refuting.proofs.Staging.{TurnsTo, stage_kept, stage_may, turned_doom, turned_hidden, turned_kill, turned_told}
+use Rattle.refuting.proofs.Waiting.{Setting, carried, seen_on, waits_covered, waits_on, waits_silent}
 use Rattle.refuting.proofs.Standing.{Stood, lift, no_change, same_or_not, stands_on}
 use Rattle.refuting.proofs.Hiding.{Scene, death_stands, move_stands, point_stands, sleep_stands, wake_stands}
 
@@ -87,18 +88,21 @@ turned_on ts us d c e es old same own t = by_cases (thread_of e.fact == t) refl 
 -- ---- states
 
 -- a state with the calls of another, but for one thread's
-told_stands : (m : ℕ) (ts us : List Turn) (rs : List State) (e : Line) (es : List Line) (s q : State) → StandsFor m ts es s → decision_of e.fact ≡ None → q.object ≡ s.object → length q.calls ≡ length s.calls
+told_stands : (m : ℕ) (ts us : List Turn) (rs : List State) (d : ℕ → Bool) (e : Line) (es : List Line) (s q : State) → Setting m ts us rs d s e es → is_hidden e.fact ≡ false → StandsFor m ts es s → decision_of e.fact ≡ None → q.object ≡ s.object → length q.calls ≡ length s.calls
     → ((u : ℕ) → u ≢ thread_of e.fact → call_at q.calls u ≡ call_at s.calls u) → ((u : ℕ) → u ≢ thread_of e.fact → turn_at us u ≡ turn_at ts u)
     → Goes m (next (stage_after (thread_of e.fact) es) e.fact) (turn_at us (thread_of e.fact)) (call_at q.calls (thread_of e.fact)) → Covered rs q → Stood m us rs (e ∷ es)
-told_stands m ts us rs e es s q h silent object long calls turns own cov = record {
+told_stands m ts us rs d e es s q x seen h silent object long calls turns own cov = record {
   state = cov.0;
   there = cov.1;
+  stands = stands;
+  waits = waits_on m ts us rs d s cov.0 e es x cov.1 stands (carried ts us s cov.0 e es (λ u other. (turns u other, λ is. (cov.2.calls u).1 (ap (λ (k : Call). k.seen) (calls u other) ∙ is))) (λ k z after old. absurd (seen_on (stage_after (thread_of e.fact) es) e.fact k z seen old after)));
+} where
+  stands : StandsFor m us (e ∷ es) cov.0
   stands = stands_on m us (e ∷ es) cov.0 q cov.2 (record {
     object = object ∙ h.object ∙ sym (ap (λ o. moved (objects_after es) o m) silent);
     long = long ∙ h.long;
     calls = lift m ts us s.calls q.calls e es h.calls calls turns own;
-  });
-}
+  })
 
 renewed_there : (s : State) (t u : ℕ) → u ≢ t → call_at (renewed s t).calls u ≡ call_at s.calls u
 renewed_there s t u other = get_or-set_other s.calls t u first_call first_call other
@@ -154,66 +158,73 @@ pub record Before (n : ℕ) (h future : List Entry) (f : Fact) (x : Option Reply
   pub turned : Turned (turn_at r.turns (thread_of f)) (stage_after (thread_of f) es) false
   pub may : May (stage_after (thread_of f) es) f
   pub nothing : OwnsNothing n (objects_after es) f
+  pub seen : is_hidden f ≡ false
 
 others_turns : (n : ℕ) (h future : List Entry) (e : Entry) (x : Option Reply) (r k : Refuter) (after : Turn) → Step n h future e x r k after → (u : ℕ) → u ≢ entry_thread e → turn_at k.turns u ≡ turn_at r.turns u
 others_turns n h future e x r k after st u other = turn_there r.turns k.turns (entry_thread e) u after st.turns other
 
 -- the thread has no call any more
-ends : (n : ℕ) (h future : List Entry) (i : ℕ) (f : Fact) (x : Option Reply) (r k : Refuter) (after : Turn) (d : ℕ → Bool) (es : List Line) (s : State) → Before n h future f x r k after d es s
+ends : (n : ℕ) (h future : List Entry) (i : ℕ) (f : Fact) (x : Option Reply) (r k : Refuter) (after : Turn) (d : ℕ → Bool) (es : List Line) (s : State) → Before n h future f x r k after d es s → Setting r.mutex r.turns k.turns k.states.items d s (record { event = i; fact = f }) es
     → decision_of f ≡ None → Goes r.mutex (next (stage_after (thread_of f) es) f) (turn_at k.turns (thread_of f)) (call_at (renewed s (thread_of f)).calls (thread_of f))
     → Covered k.states.items (renewed s (thread_of f)) → Stood r.mutex k.turns k.states.items (record { event = i; fact = f } ∷ es)
-ends n h future i f x r k after d es s b silent own cov =
-    told_stands r.mutex r.turns k.turns k.states.items (record { event = i; fact = f }) es s (renewed s (thread_of f)) b.stands silent refl (length-set s.calls (thread_of f) first_call) (renewed_there s (thread_of f))
+ends n h future i f x r k after d es s b y silent own cov =
+    told_stands r.mutex r.turns k.turns k.states.items d (record { event = i; fact = f }) es s (renewed s (thread_of f)) y b.seen b.stands silent refl (length-set s.calls (thread_of f) first_call) (renewed_there s (thread_of f))
     (others_turns n h future (Told f) x r k after b.step) own cov
 
 -- and stands as it did
-stays : (n : ℕ) (h future : List Entry) (i : ℕ) (f : Fact) (x : Option Reply) (r k : Refuter) (after : Turn) (d : ℕ → Bool) (es : List Line) (s : State) → Before n h future f x r k after d es s
+stays : (n : ℕ) (h future : List Entry) (i : ℕ) (f : Fact) (x : Option Reply) (r k : Refuter) (after : Turn) (d : ℕ → Bool) (es : List Line) (s : State) → Before n h future f x r k after d es s → Setting r.mutex r.turns k.turns k.states.items d s (record { event = i; fact = f }) es
     → decision_of f ≡ None → Goes r.mutex (next (stage_after (thread_of f) es) f) (turn_at k.turns (thread_of f)) (call_at s.calls (thread_of f))
     → Covered k.states.items s → Stood r.mutex k.turns k.states.items (record { event = i; fact = f } ∷ es)
-stays n h future i f x r k after d es s b silent own cov =
-    told_stands r.mutex r.turns k.turns k.states.items (record { event = i; fact = f }) es s s b.stands silent refl refl (λ u other. refl)
+stays n h future i f x r k after d es s b y silent own cov =
+    told_stands r.mutex r.turns k.turns k.states.items d (record { event = i; fact = f }) es s s y b.seen b.stands silent refl refl (λ u other. refl)
     (others_turns n h future (Told f) x r k after b.step) own cov
 
-begins : (n : ℕ) (h future : List Entry) (i t : ℕ) (c : Begun) (x : Option Reply) (r k : Refuter) (after : Turn) (d : ℕ → Bool) (es : List Line) (s : State) → Before n h future (fact.Begin t c) x r k after d es s
+begins : (n : ℕ) (h future : List Entry) (i t : ℕ) (c : Begun) (x : Option Reply) (r k : Refuter) (after : Turn) (d : ℕ → Bool) (es : List Line) (s : State) → Before n h future (fact.Begin t c) x r k after d es s → Setting r.mutex r.turns k.turns k.states.items d s (record { event = i; fact = fact.Begin t c }) es
     → Stood r.mutex k.turns k.states.items (record { event = i; fact = fact.Begin t c } ∷ es)
-begins n h future i t c x r k after d es s b = by_cases (c.mutex == r.mutex) refl (b.step.retells s b.there tt) where
+begins n h future i t c x r k after d es s b st = by_cases (c.mutex == r.mutex) refl (b.step.retells s b.there tt) where
   by_cases : (y : Bool) → (c.mutex == r.mutex) ≡ y → Covered k.states.items (if y then renewed s t else s) → Stood r.mutex k.turns k.states.items (record { event = i; fact = fact.Begin t c } ∷ es)
   by_cases true is cov =
       let inside : t < length s.calls = omega (arith, b.step.last, b.stands.long) in
       let here : call_at (renewed s t).calls t ≡ first_call = get_or-set_same s.calls t first_call first_call inside in
-      ends n h future i (fact.Begin t c) x r k after d es s b refl (λ on. ap (λ (q : Call). q.made) here) cov
+      ends n h future i (fact.Begin t c) x r k after d es s b st refl (λ on. ap (λ (q : Call). q.made) here) cov
   by_cases false is cov =
       let other : c.mutex ≢ r.mutex = grind (arith, nat_tests) in
-      stays n h future i (fact.Begin t c) x r k after d es s b refl (λ on. absurd (other on)) cov
+      stays n h future i (fact.Begin t c) x r k after d es s b st refl (λ on. absurd (other on)) cov
 
-returns : (n : ℕ) (h future : List Entry) (i t : ℕ) (y : Reply) (x : Option Reply) (r k : Refuter) (after : Turn) (d : ℕ → Bool) (es : List Line) (s : State) → Before n h future (fact.Return t y) x r k after d es s
+returns : (n : ℕ) (h future : List Entry) (i t : ℕ) (y : Reply) (x : Option Reply) (r k : Refuter) (after : Turn) (d : ℕ → Bool) (es : List Line) (s : State) → Before n h future (fact.Return t y) x r k after d es s → Setting r.mutex r.turns k.turns k.states.items d s (record { event = i; fact = fact.Return t y }) es
     → Stood r.mutex k.turns k.states.items (record { event = i; fact = fact.Return t y } ∷ es)
-returns n h future i t y x r k after d es s b = by_cases (is_some (call_on r.mutex (turn_at r.turns t))) (b.step.retells s b.there may) where
+returns n h future i t y x r k after d es s b st = by_cases (is_some (call_on r.mutex (turn_at r.turns t))) (b.step.retells s b.there may) where
   may : (c : Begun) → call_on r.mutex (turn_at r.turns t) ≡ Some c → MayReturn (call_at s.calls t) y
   may = allows_return r.mutex (turn_at r.turns t) (stage_after t es) (call_at s.calls t) t y future b.may b.turned (b.step.follows.knows t) (b.stands.calls t)
 
   by_cases : (q : Bool) → Covered k.states.items (if q then renewed s t else s) → Stood r.mutex k.turns k.states.items (record { event = i; fact = fact.Return t y } ∷ es)
-  by_cases true cov = ends n h future i (fact.Return t y) x r k after d es s b refl tt cov
-  by_cases false cov = stays n h future i (fact.Return t y) x r k after d es s b refl tt cov
+  by_cases true cov = ends n h future i (fact.Return t y) x r k after d es s b st refl tt cov
+  by_cases false cov = stays n h future i (fact.Return t y) x r k after d es s b st refl tt cov
 
-reaps : (n : ℕ) (h future : List Entry) (i t : ℕ) (x : Option Reply) (r k : Refuter) (after : Turn) (d : ℕ → Bool) (es : List Line) (s : State) → Before n h future (fact.Reap t) x r k after d es s
+reaps : (n : ℕ) (h future : List Entry) (i t : ℕ) (x : Option Reply) (r k : Refuter) (after : Turn) (d : ℕ → Bool) (es : List Line) (s : State) → Before n h future (fact.Reap t) x r k after d es s → Setting r.mutex r.turns k.turns k.states.items d s (record { event = i; fact = fact.Reap t }) es
     → Stood r.mutex k.turns k.states.items (record { event = i; fact = fact.Reap t } ∷ es)
-reaps n h future i t x r k after d es s b =
-    ends n h future i (fact.Reap t) x r k after d es s b refl tt (b.step.retells s b.there (λ owner. b.nothing r.mutex b.step.inside (ap (λ (o : Object). o.owner) (sym b.stands.object) ∙ owner)))
+reaps n h future i t x r k after d es s b st =
+    ends n h future i (fact.Reap t) x r k after d es s b st refl tt (b.step.retells s b.there (λ owner. b.nothing r.mutex b.step.inside (ap (λ (o : Object). o.owner) (sym b.stands.object) ∙ owner)))
 
-told_on : (n : ℕ) (h future : List Entry) (i : ℕ) (f : Fact) (x : Option Reply) (r k : Refuter) (after : Turn) (d : ℕ → Bool) (es : List Line) (s : State) → is_hidden f ≡ false → Before n h future f x r k after d es s
+told_on : (n : ℕ) (h future : List Entry) (i : ℕ) (f : Fact) (x : Option Reply) (r k : Refuter) (after : Turn) (d : ℕ → Bool) (es : List Line) (s : State) → is_hidden f ≡ false → Before n h future f x r k after d es s → Setting r.mutex r.turns k.turns k.states.items d s (record { event = i; fact = f }) es
     → Stood r.mutex k.turns k.states.items (record { event = i; fact = f } ∷ es)
-told_on n h future i (fact.Begin t c) x r k after d es s seen b = begins n h future i t c x r k after d es s b
-told_on n h future i (fact.Return t y) x r k after d es s seen b = returns n h future i t y x r k after d es s b
-told_on n h future i (fact.Kill t) x r k after d es s seen b = ends n h future i (fact.Kill t) x r k after d es s b refl tt (b.step.retells s b.there tt)
-told_on n h future i (fact.Reap t) x r k after d es s seen b = reaps n h future i t x r k after d es s b
-told_on n h future i (fact.Renew t) x r k after d es s seen b = stays n h future i (fact.Renew t) x r k after d es s b refl tt (b.step.retells s b.there tt)
-told_on n h future i f x r k after d es s seen b = absurd cc
+told_on n h future i (fact.Begin t c) x r k after d es s seen b st = begins n h future i t c x r k after d es s b st
+told_on n h future i (fact.Return t y) x r k after d es s seen b st = returns n h future i t y x r k after d es s b st
+told_on n h future i (fact.Kill t) x r k after d es s seen b st = ends n h future i (fact.Kill t) x r k after d es s b st refl tt (b.step.retells s b.there tt)
+told_on n h future i (fact.Reap t) x r k after d es s seen b st = reaps n h future i t x r k after d es s b st
+told_on n h future i (fact.Renew t) x r k after d es s seen b st = stays n h future i (fact.Renew t) x r k after d es s b st refl tt (b.step.retells s b.there tt)
+told_on n h future i f x r k after d es s seen b st = absurd cc
+
+-- what is known of all threads
+pub record Known (m : ℕ) (ts : List Turn) (ss : List State) : Type 0 where
+  pub long : length ts ≡ 65
+  pub nobody : turn_at ts 0 ≡ Resting
+  pub closed : IsClosed m ts ss
 
 -- a seen line of a trace leaves what stands for it
-seen_line : (n : ℕ) (h future : List Entry) (e : Line) (x : Option Reply) (r k : Refuter) (after : Turn) (d : ℕ → Bool) (es : List Line) → Step n h future (Told e.fact) x r k after → Certifies n d es h
+seen_line : (n : ℕ) (h future : List Entry) (e : Line) (x : Option Reply) (r k : Refuter) (after : Turn) (d : ℕ → Bool) (es : List Line) → Step n h future (Told e.fact) x r k after → Known r.mutex k.turns k.states.items → Certifies n d es h
     → AllFit n (e ∷ es) → is_hidden e.fact ≡ false → d (thread_of e.fact) ≡ false → Standing r.mutex k.turns k.states.items d (e ∷ es)
-seen_line n h future e x r k after d es st cert fit seen free =
+seen_line n h future e x r k after d es st known cert fit seen free =
     let u = thread_of e.fact in
     let old = st.follows.turned d es cert in
     let turned : Turned (turn_at r.turns u) (stage_after u es) false = subst (Turned (turn_at r.turns u) (stage_after u es)) free (old u) in
@@ -222,10 +233,12 @@ seen_line n h future e x r k after d es st cert fit seen free =
     let same : to.after ≡ after = same_after (turn_after (turn_at r.turns u) (Told e.fact) x) to.after after to.is st.turn in
     let here : turn_at k.turns u ≡ after = turn_here r.turns k.turns u after st.turns st.follows.long st.last in
     let s = st.follows.stands d es cert in
+    let after_it = turned_on r.turns k.turns d d e es old (λ t other. (others_turns n h future (Told e.fact) x r k after st t other, refl))
+    (subst (Turned (turn_at k.turns u) (next (stage_after u es) e.fact)) (sym free) (subst (λ z. Turned z (next (stage_after u es) e.fact) false) (same ∙ sym here) to.turned)) in
     record {
-      turned = turned_on r.turns k.turns d d e es old (λ t other. (others_turns n h future (Told e.fact) x r k after st t other, refl))
-          (subst (Turned (turn_at k.turns u) (next (stage_after u es) e.fact)) (sym free) (subst (λ z. Turned z (next (stage_after u es) e.fact) false) (same ∙ sym here) to.turned));
-      stood = told_on n h future e.event e.fact x r k after d es s.0 seen (record { step = st; there = s.1; stands = s.2; turned = turned; may = may; nothing = fit.0.reaped });
+      turned = after_it;
+      stood = told_on n h future e.event e.fact x r k after d es s.0 seen (record { step = st; there = s.1; stands = s.2; turned = turned; may = may; nothing = fit.0.reaped; seen = seen })
+          (record { noted = known.closed.noted; long = known.long; nobody = known.nobody; turned = after_it; waits = s.3 });
     }
 
 -- ---- a doom
@@ -284,6 +297,12 @@ doom_line n h future u x r k after d es st cert free alive = record { turned = t
         subst (λ v. Goes m (stage_after v es) (turn_at k.turns v) (call_at s.calls v)) (sym eq) (doomed_goes m (stage_after u es) (turn_at r.turns u) (turn_at k.turns u) (call_at s.calls u) silent (h.calls u))
     by_cases (inr other) = subst (λ z. Goes m (stage_after t es) z (call_at s.calls t)) (sym (there t other)) (h.calls t)
 
+  waits : (s : State) → HaveWaited m r.turns es s → HaveWaited m k.turns es s
+  waits s h t = by_cases (same_or_not t u) where
+    by_cases : (t ≡ u) ⊎ (t ≢ u) → Waits m (stage_after t es) (turn_at k.turns t) (call_at s.calls t) (chances_behind t m es)
+    by_cases (inl eq) = waits_silent m (stage_after t es) (turn_at k.turns t) (call_at s.calls t) (chances_behind t m es) (ap (λ v. reply_of (turn_at k.turns v)) eq ∙ ap reply_of here ∙ doom_silent (turn_at r.turns u) after st.turn)
+    by_cases (inr other) = subst (λ z. Waits m (stage_after t es) z (call_at s.calls t) (chances_behind t m es)) (sym (there t other)) (h t)
+
   stood : Stood m k.turns k.states.items es
   stood =
       let s = st.follows.stands d es cert in
@@ -292,35 +311,32 @@ doom_line n h future u x r k after d es st cert free alive = record { turned = t
         state = cov.0;
         there = cov.1;
         stands = stands_on m k.turns es cov.0 s.0 cov.2 (record { object = s.2.object; long = s.2.long; calls = goes s.0 s.2 });
+        waits = λ t. waits_covered m (stage_after t es) (turn_at k.turns t) (call_at s.0.calls t) (call_at cov.0.calls t) (chances_behind t m es) (waits s.0 s.3 t) (cov.2.calls t);
       }
 
 -- ---- lines that nobody sees
 
--- what is known of all threads
-pub record Known (m : ℕ) (ts : List Turn) (ss : List State) : Type 0 where
-  pub long : length ts ≡ 65
-  pub nobody : turn_at ts 0 ≡ Resting
-  pub closed : IsClosed m ts ss
-
-hidden_stood : (n m : ℕ) (ts : List Turn) (ss : List State) (es : List Line) (d : ℕ → Bool) (s : State) → Scene m ts ss es d s → (i : ℕ) (f : Fact) → is_hidden f ≡ true → May (stage_after (thread_of f) es) f
+hidden_stood : (n m : ℕ) (ts : List Turn) (ss : List State) (es : List Line) (d : ℕ → Bool) (s : State) → Scene m ts ss es d s → (i : ℕ) (f : Fact) → Setting m ts ts ss d s (record { event = i; fact = f }) es → is_hidden f ≡ true → May (stage_after (thread_of f) es) f
     → Fits n es (record { event = i; fact = f }) → ReleasesWell es f → AllFit n es → Stood m ts ss (record { event = i; fact = f } ∷ es)
-hidden_stood n m ts ss es d s x i (fact.Point p) hid may fit well all =
-    point_stands n m ts ss es d s x i p may
+hidden_stood n m ts ss es d s x i (fact.Point p) y hid may fit well all =
+    point_stands n m ts ss es d s x i p y fit.due may
     (λ k its z is op wait. well k op (subst (λ q. Kept q (told_of p.thread es)) is (stage_kept n es all p.thread)).0 wait) fit.allowed.0 fit.allowed.1
-hidden_stood n m ts ss es d s x i (fact.Death t m') hid may fit well all = death_stands n m ts ss es d s x i t m' may fit.allowed.0 fit.allowed.1
-hidden_stood n m ts ss es d s x i (fact.Sleep t q) hid may fit well all = sleep_stands m ts ss es d s x i t q may
-hidden_stood n m ts ss es d s x i (fact.Wake t) hid may fit well all = wake_stands m ts ss es d s x i t may
-hidden_stood n m ts ss es d s x i (fact.Move t m') hid may fit well all = move_stands m ts ss es d s x i t m' may
-hidden_stood n m ts ss es d s x i f hid may fit well all = absurd cc
+hidden_stood n m ts ss es d s x i (fact.Death t m') y hid may fit well all = death_stands n m ts ss es d s x i t m' y may fit.allowed.0 fit.allowed.1
+hidden_stood n m ts ss es d s x i (fact.Sleep t q) y hid may fit well all = sleep_stands m ts ss es d s x i t q y may
+hidden_stood n m ts ss es d s x i (fact.Wake t) y hid may fit well all = wake_stands m ts ss es d s x i t y may
+hidden_stood n m ts ss es d s x i (fact.Move t m') y hid may fit well all = move_stands m ts ss es d s x i t m' y may
+hidden_stood n m ts ss es d s x i f y hid may fit well all = absurd cc
 
 scene_of : (m : ℕ) (ts : List Turn) (ss : List State) (d : ℕ → Bool) (es : List Line) → Known m ts ss → (st : Standing m ts ss d es) → Scene m ts ss es d st.stood.state
 scene_of m ts ss d es k st = record { long = k.long; nobody = k.nobody; closed = k.closed; turned = st.turned; there = st.stood.there; stands = st.stood.stands }
 
 pub hidden_line : (n m : ℕ) (ts : List Turn) (ss : List State) (d : ℕ → Bool) (e : Line) (es : List Line) → Known m ts ss → Standing m ts ss d es → is_hidden e.fact ≡ true → AllFit n (e ∷ es) → ReleasesWell es e.fact → Standing m ts ss d (e ∷ es)
-hidden_line n m ts ss d e es k st hid fit well = record {
-  turned = turned_on ts ts d d e es st.turned (λ t other. (refl, refl)) (turned_hidden (turn_at ts (thread_of e.fact)) (stage_after (thread_of e.fact) es) e.fact (d (thread_of e.fact)) (st.turned (thread_of e.fact)) (stage_may n e es fit) hid);
-  stood = hidden_stood n m ts ss es d st.stood.state (scene_of m ts ss d es k st) e.event e.fact hid (stage_may n e es fit) fit.0 well fit.1;
-}
+hidden_line n m ts ss d e es k st hid fit well =
+    let turned = turned_on ts ts d d e es st.turned (λ t other. (refl, refl)) (turned_hidden (turn_at ts (thread_of e.fact)) (stage_after (thread_of e.fact) es) e.fact (d (thread_of e.fact)) (st.turned (thread_of e.fact)) (stage_may n e es fit) hid) in
+    record {
+      turned = turned;
+      stood = hidden_stood n m ts ss es d st.stood.state (scene_of m ts ss d es k st) e.event e.fact (record { noted = k.closed.noted; long = k.long; nobody = k.nobody; turned = turned; waits = st.stood.waits }) hid (stage_may n e es fit) fit.0 well fit.1;
+    }
 
 -- the kill of a doomed thread
 pub without_one : (u t : ℕ) (d : ℕ → Bool) → t ≢ u → without u d t ≡ d t
@@ -335,12 +351,14 @@ without_itself u d = by_cases (u == u) refl where
   by_cases true is = refl
   by_cases false is = let other : u ≢ u = grind (arith, nat_tests) in absurd (other refl)
 
-pub killed_line : (m : ℕ) (ts : List Turn) (ss : List State) (d : ℕ → Bool) (i u : ℕ) (es : List Line) → Standing m ts ss d es → d u ≡ true → Standing m ts ss (without u d) (record { event = i; fact = fact.Kill u } ∷ es)
-killed_line m ts ss d i u es st doomed = record {
-  turned = turned_on ts ts d (without u d) (record { event = i; fact = fact.Kill u }) es st.turned (λ t other. (refl, without_one u t d other))
-      (subst (Turned (turn_at ts u) (next (stage_after u es) (fact.Kill u))) (sym (without_itself u d)) (turned_kill (turn_at ts u) (stage_after u es) u (subst (Turned (turn_at ts u) (stage_after u es)) doomed (st.turned u))));
-  stood = no_change m ts ss (record { event = i; fact = fact.Kill u }) es st.stood.state st.stood.there st.stood.stands refl tt;
-}
+pub killed_line : (m : ℕ) (ts : List Turn) (ss : List State) (d : ℕ → Bool) (i u : ℕ) (es : List Line) → Known m ts ss → Standing m ts ss d es → d u ≡ true → Standing m ts ss (without u d) (record { event = i; fact = fact.Kill u } ∷ es)
+killed_line m ts ss d i u es k st doomed =
+    let turned = turned_on ts ts d (without u d) (record { event = i; fact = fact.Kill u }) es st.turned (λ t other. (refl, without_one u t d other))
+    (subst (Turned (turn_at ts u) (next (stage_after u es) (fact.Kill u))) (sym (without_itself u d)) (turned_kill (turn_at ts u) (stage_after u es) u (subst (Turned (turn_at ts u) (stage_after u es)) doomed (st.turned u)))) in
+    record {
+      turned = turned;
+      stood = no_change m ts ss (without u d) (record { event = i; fact = fact.Kill u }) es st.stood.state (record { noted = k.closed.noted; long = k.long; nobody = k.nobody; turned = turned; waits = st.stood.waits }) st.stood.there st.stood.stands refl tt;
+    }
 
 -- ---- every trace
 
@@ -353,7 +371,7 @@ behind n h future e x r k after st known d es g (Tells d' l es' g' seen free sho
     let all : Told l.fact ∷ g' ≡ e ∷ h = is in
     let one : Told l.fact ≡ e = cc in
     let rest : g' ≡ h = cc in
-    seen_line n h future l x r k after d' es' (subst (λ z. Step n h future z x r k after) (sym one) st) (record { fits = fit.1; waits = well.1; inside = inside.1; shows = subst (Shows d' es') rest shows }) fit seen free
+    seen_line n h future l x r k after d' es' (subst (λ z. Step n h future z x r k after) (sym one) st) known (record { fits = fit.1; waits = well.1; inside = inside.1; shows = subst (Shows d' es') rest shows }) fit seen free
 behind n h future e x r k after st known d es g (Dooms d' u es' g' free alive shows) is fit well inside =
     let all : Doom u ∷ g' ≡ e ∷ h = is in
     let one : Doom u ≡ e = cc in
@@ -361,4 +379,4 @@ behind n h future e x r k after st known d es g (Dooms d' u es' g' free alive sh
     doom_line n h future u x r k after d' es' (subst (λ z. Step n h future z x r k after) (sym one) st) (record { fits = fit; waits = well; inside = inside; shows = subst (Shows d' es') rest shows }) free alive
 behind n h future e x r k after st known d es g (Kills d' u l es' g' kill doomed shows) is fit well inside =
     subst (λ f. Standing r.mutex k.turns k.states.items (without u d') (record { event = l.event; fact = f } ∷ es')) (sym kill)
-    (killed_line r.mutex k.turns k.states.items d' l.event u es' (behind n h future e x r k after st known d' es' g' shows is fit.1 well.1 inside.1) doomed)
+    (killed_line r.mutex k.turns k.states.items d' l.event u es' known (behind n h future e x r k after st known d' es' g' shows is fit.1 well.1 inside.1) doomed)

@@ -8,7 +8,7 @@ use Rattle.std.specs.Prelude.{ℕ, ◌≡◌, ◌+◌, ◌-◌, ◌≤◌, ◌�
 use Rattle.lockword.specs.declared.reply.Reply.{Reply}
 use Rattle.lockword.specs.declared.reply.Reply.TheVariants.{OK, EPERM, EOWNERDEAD, XHELD, XSTATE}
 use Rattle.posixmutex.specs.declared.point.Operation.{Operation}
-use Rattle.posixmutex.specs.declared.point.Operation.TheVariants.{Lock, TryLock, Unlock, Wait, Death}
+use Rattle.posixmutex.specs.declared.point.Operation.TheVariants.{Lock, TryLock, TimedLock, Unlock, Wait, Death}
 use Rattle.verdict.specs.declared.stage.Made.{Made}
 use Rattle.verdict.specs.declared.stage.Made.TheVariants.{Nothing, Released, Decided}
 use Rattle.facts.specs.declared.fact.Fact.TheVariants.{Return, Reap}
@@ -25,6 +25,8 @@ won_by Lock OK = 1
 won_by Lock EOWNERDEAD = 1
 won_by TryLock OK = 1
 won_by TryLock EOWNERDEAD = 1
+won_by TimedLock OK = 1
+won_by TimedLock EOWNERDEAD = 1
 won_by a x = 0
 
 abbrev pub lost_by : Operation → Reply → ℕ
@@ -55,6 +57,7 @@ settled a x own = own + won_by a x - lost_by a x
 abbrev pub AtLimit : Operation → Reply → ℕ → Type 0
 AtLimit Lock x own = (x ≡ XHELD) ↔ (2048 ≤ own)
 AtLimit TryLock x own = (x ≡ XHELD) ↔ (2048 ≤ own)
+AtLimit TimedLock x own = (x ≡ XHELD) ↔ (2048 ≤ own)
 AtLimit Wait x own = x ≡ XHELD → 2049 ≤ own
 AtLimit a x own = Unit {0}
 

@@ -2,24 +2,28 @@
 --
 -- *Standing among the states.* A trace that shows the lines so far has left the mutex an object, and of each call on it
 -- some points. A state stands for it where it is that object, and has the points that changed it; of a call whose point
--- changed nothing it has seen that, if the point's reply is what the call returns. Each trace that shows the lines has
--- such a state (`Follows`): so where there is none, no trace shows them. And each thread owns as many mutexes as its
+-- changed nothing it has seen that, if the point's reply is what the call returns; and of a lock that will be told that
+-- its time limit came, it has seen another owner, if there was one since the call began. Each trace that shows the lines
+-- has such a state (`Follows`): so where there is none, no trace shows them. And each thread owns as many mutexes as its
 -- lines say.
 use Rattle.std.specs.Prelude.{ℕ, ◌≡◌, ◌≢◌, ◌+◌, ◌<◌, ◌==◌, ◌⊎◌, Bool, true, Option, Some, List, [], ◌∷◌, length}
 use Rattle.std.specs.Prelude.{Contains, MatchBool, slice_set, if◌then◌else◌}
 use Rattle.std.specs.Option.{is_some}
 use Rattle.lockword.specs.declared.reply.Reply.{Reply}
+use Rattle.lockword.specs.declared.reply.Reply.TheVariants.{ETIMEDOUT}
 use Rattle.lockword.specs.Threads.{most_threads}
+use Rattle.posixmutex.specs.declared.point.Operation.TheVariants.{TimedLock}
 use Rattle.posixmutex.specs.Histories.{held_by}
 use Rattle.facts.specs.declared.fact.Begun.{Begun}
 use Rattle.facts.specs.declared.fact.Fact.TheVariants.{Begin, Kill, Return, Reap}
 use Rattle.facts.specs.declared.fact.Line.{Line}
 use Rattle.facts.specs.Facts.{thread_of}
+use Rattle.facts.specs.Chances.{Chances}
 use Rattle.verdict.specs.declared.stage.Made.{Made as TheirMade}
 use Rattle.verdict.specs.declared.stage.Made.TheVariants as made
 use Rattle.verdict.specs.declared.stage.Stage.{Stage}
 use Rattle.verdict.specs.declared.stage.Stage.TheVariants.{Resting, Calling}
-use Rattle.verdict.specs.Earlier.{objects_after}
+use Rattle.verdict.specs.Earlier.{chances_behind, objects_after}
 use Rattle.verdict.specs.Stages.{next}
 use Rattle.histories.specs.declared.entry.Entry.{Entry}
 use Rattle.histories.specs.declared.entry.Entry.TheVariants.{Told}
@@ -86,11 +90,22 @@ abbrev pub Goes : ℕ → Stage → Turn → Call → Type 0
 Goes m (Calling k made asleep) turn c = k.mutex ≡ m → HasCome made (reply_of turn) c
 Goes m stage turn c = Unit {0}
 
+-- a lock that will be told that its time limit came, and has had no point, has seen another owner, if there was one
+abbrev pub Waits : ℕ → Stage → Turn → Call → Chances → Type 0
+Waits m (Calling k made.Nothing asleep) turn c chances = k.mutex ≡ m → k.operation ≡ TimedLock
+    → reply_of turn ≡ Some ETIMEDOUT → chances.waited ≡ true → c.seen ≡ true
+Waits m stage turn c chances = Unit {0}
+
 -- the state stands for what this trace has made of mutex m
 pub record StandsFor (m : ℕ) (ts : List Turn) (trace : List Line) (s : State) : Type 0 where
   pub object : s.object ≡ objects_after trace m
   pub long : length s.calls ≡ most_threads + 1
   pub calls : (t : ℕ) → Goes m (stage_after t trace) (turn_at ts t) (call_at s.calls t)
+
+-- and its calls have waited for what they will be told
+abbrev pub HaveWaited : ℕ → List Turn → List Line → State → Type 0
+HaveWaited m ts trace s =
+    (t : ℕ) → Waits m (stage_after t trace) (turn_at ts t) (call_at s.calls t) (chances_behind t m trace)
 
 -- behind these lines of a history of n mutexes, which stand newest first, before those later ones
 pub record Follows (n : ℕ) (h future : List Entry) (r : Refuter) : Type 0 where
@@ -100,7 +115,7 @@ pub record Follows (n : ℕ) (h future : List Entry) (r : Refuter) : Type 0 wher
   pub turned : (d : ℕ → Bool) (trace : List Line) → Certifies n d trace h → (t : ℕ)
       → Turned (turn_at r.turns t) (stage_after t trace) (d t)
   pub stands : (d : ℕ → Bool) (trace : List Line) → Certifies n d trace h
-      → (s : State) × Contains r.states.items s × StandsFor r.mutex r.turns trace s
+      → (s : State) × Contains r.states.items s × StandsFor r.mutex r.turns trace s × HaveWaited r.mutex r.turns trace s
   pub holds : length r.held ≡ most_threads + 1
   pub counted : (d : ℕ → Bool) (trace : List Line) → Certifies n d trace h → (t : ℕ)
       → Counted (stage_after t trace) (held_by t (objects_after trace) n) (count_at r.held t)

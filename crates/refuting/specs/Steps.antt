@@ -3,18 +3,20 @@
 -- *A change.* A call's next point may change the mutex, as the object's step allows (`Does`): a wait's first such point
 -- releases it, where it is consistent, and its second takes it again; any other call has one.
 --
--- *A look.* Or the point may change nothing. Then it is no step: the call has seen that it could be told its reply.
+-- *A look.* Or the point may change nothing. Then it is no step: the call has seen that it could be told its reply. That
+-- its time limit came it could be told from when another thread owns the mutex.
 --
 -- *A death.* A dying thread that owns the mutex may lose it.
 use Rattle.std.specs.Prelude.{ℕ, ◌≡◌, ◌≢◌, ◌≤◌, Bool, true, false, Option, Some, None}
 use Rattle.std.specs.Prelude.{List, ◌++◌, Contains, slice_set}
 use Rattle.lockword.specs.declared.reply.Reply.{Reply}
-use Rattle.lockword.specs.declared.reply.Reply.TheVariants.{OK, EOWNERDEAD}
+use Rattle.lockword.specs.declared.reply.Reply.TheVariants.{OK, ETIMEDOUT, EOWNERDEAD}
 use Rattle.posixmutex.specs.declared.object.Object.{Object}
 use Rattle.posixmutex.specs.declared.point.Operation.{Operation}
-use Rattle.posixmutex.specs.declared.point.Operation.TheVariants.{Death, Lock, Unlock, Wait}
+use Rattle.posixmutex.specs.declared.point.Operation.TheVariants.{Death, Lock, TimedLock, Unlock, Wait}
 use Rattle.posixmutex.specs.Objects.{Does}
 use Rattle.facts.specs.declared.fact.Begun.{Begun}
+use Rattle.facts.specs.Chances.{is_anothers}
 use Rattle.refuting.specs.declared.state.Made.{Made}
 use Rattle.refuting.specs.declared.state.Made.TheVariants.{Nothing, Released, Changed}
 use Rattle.refuting.specs.declared.state.State.{State}
@@ -28,15 +30,23 @@ use Rattle.refuting.specs.Turns.{call_on, turn_at}
 -- the operation of a call's next point that changes the mutex
 abbrev pub next_change : Operation → Made → Option Operation
 next_change Wait Nothing = Some Unlock
+next_change TimedLock Nothing = Some Lock
 next_change a Nothing = Some a
 next_change a Released = Some Lock
 next_change a (Changed x) = None
 
--- and of one that changes nothing
-abbrev pub next_look : Operation → Made → Option Operation
-next_look a Nothing = Some a
-next_look a Released = Some Lock
-next_look a (Changed x) = None
+-- the operation of the first point by which a call is told so: a lock with a time limit is told as a lock, unless the
+-- limit came
+abbrev pub told_as : Operation → Reply → Operation
+told_as TimedLock ETIMEDOUT = TimedLock
+told_as TimedLock x = Lock
+told_as a x = a
+
+-- and of one that changes nothing and tells this reply
+abbrev pub next_look : Operation → Made → Reply → Option Operation
+next_look a Nothing x = Some (told_as a x)
+next_look a Released x = Some Lock
+next_look a (Changed y) x = None
 
 -- how far a change brings the call
 abbrev pub after_change : Operation → Made → Reply → Made
@@ -62,12 +72,20 @@ changed s t a x o = record {
   calls = slice_set s.calls t (record { made = after_change a (call_at s.calls t).made x; seen = false });
 }
 
--- thread t's call may be told this reply by a point that changes nothing
-pub record MayLook (s : State) (t : ℕ) (a : Operation) (x : Reply) : Type 0 where
+-- the mutex has this reply for thread t's call, by a point that changes nothing
+pub record HasFor (s : State) (t : ℕ) (a : Operation) (x : Reply) : Type 0 where
   pub operation : Operation
-  pub next : next_look a (call_at s.calls t).made ≡ Some operation
+  pub next : next_look a (call_at s.calls t).made x ≡ Some operation
   pub held : ℕ
   pub does : Does held s.object t operation x s.object
+
+-- a time limit comes only where another thread owns the mutex
+abbrev pub IsDue : State → ℕ → Reply → Type 0
+IsDue s t x = x ≡ ETIMEDOUT → is_anothers t s.object.owner ≡ true
+
+-- thread t's call may be told this reply by a point that changes nothing
+abbrev pub MayLook : State → ℕ → Operation → Reply → Type 0
+MayLook s t a x = HasFor s t a x × IsDue s t x
 
 -- thread t's death may leave o
 abbrev pub MayDie : State → ℕ → Object → Type 0

@@ -14,7 +14,10 @@ fn won_by(operation: Operation, reply: Reply) -> u16
     ensures { result ≡ won_by operation reply }
 {
     match (operation, reply) {
-        (Operation::Lock | Operation::TryLock, Reply::OK | Reply::EOWNERDEAD) => 1,
+        (
+            Operation::Lock | Operation::TryLock | Operation::TimedLock,
+            Reply::OK | Reply::EOWNERDEAD,
+        ) => 1,
         _ => 0,
     }
 }
@@ -36,7 +39,9 @@ fn is_at_limit(operation: Operation, reply: Reply, own: u16) -> bool
     ensures { IsTrue result ↔ AtLimit operation reply own }
 {
     match operation {
-        Operation::Lock | Operation::TryLock => (reply == Reply::XHELD) == (own >= HELD_LIMIT),
+        Operation::Lock | Operation::TryLock | Operation::TimedLock => {
+            (reply == Reply::XHELD) == (own >= HELD_LIMIT)
+        }
         Operation::Wait => reply != Reply::XHELD || own > HELD_LIMIT,
         _ => true,
     }

@@ -3,8 +3,9 @@
 ghost use Rattle.std.specs.Prelude.{◌≡◌, ◌↔◌, ◌+◌, ◌<◌, IsTrue, MatchOption};
 ghost use Rattle.lockword.specs.Threads.{most_threads};
 ghost use Rattle.posixmutex.specs.declared.object.Object.{Object};
-ghost use Rattle.refuting.specs.Steps.{IsNoted, MayChange, MayDie, MayLook, MayRelease, Sees, after_change};
-ghost use Rattle.refuting.specs.Steps.{changed, died, next_change, next_look, over, with_sight};
+ghost use Rattle.facts.specs.Chances.{is_anothers};
+ghost use Rattle.refuting.specs.Steps.{HasFor, IsDue, IsNoted, MayChange, MayDie, MayLook, MayRelease, Sees, after_change};
+ghost use Rattle.refuting.specs.Steps.{changed, died, next_change, next_look, over, told_as, with_sight};
 ghost use Rattle.refuting.specs.States.{Covers};
 ghost use Rattle.refuting.specs.Turns.{turn_at};
 
@@ -21,6 +22,7 @@ fn next_change(call: Operation, made: Made) -> Option<Operation>
     match made {
         Made::Nothing => match call {
             Operation::Wait => Some(Operation::Unlock),
+            Operation::TimedLock => Some(Operation::Lock),
             _ => Some(call),
         },
         Made::Released => Some(Operation::Lock),
@@ -28,12 +30,24 @@ fn next_change(call: Operation, made: Made) -> Option<Operation>
     }
 }
 
-/// The operation of the next point that changes nothing.
-fn next_look(call: Operation, made: Made) -> Option<Operation>
-    ensures { result ≡ next_look call made }
+/// The operation of the first point by which a call is told so: a lock with a time limit is told as a lock, unless the
+/// limit came.
+fn told_as(call: Operation, reply: Reply) -> Operation
+    ensures { result ≡ told_as call reply }
+{
+    match (call, reply) {
+        (Operation::TimedLock, Reply::ETIMEDOUT) => Operation::TimedLock,
+        (Operation::TimedLock, _) => Operation::Lock,
+        _ => call,
+    }
+}
+
+/// The operation of the next point that changes nothing and tells this reply.
+fn next_look(call: Operation, made: Made, reply: Reply) -> Option<Operation>
+    ensures { result ≡ next_look call made reply }
 {
     match made {
-        Made::Nothing => Some(call),
+        Made::Nothing => Some(told_as(call, reply)),
         Made::Released => Some(Operation::Lock),
         Made::Changed(_) => None,
     }
@@ -83,12 +97,29 @@ pub fn acted(state: &State, thread: Tid, call: Operation, reply: Reply) -> Optio
     Some(after)
 }
 
-/// Whether a thread's call could be told this reply now by a point that changes nothing.
-fn looks(state: &State, thread: Tid, call: Operation, reply: Reply) -> bool
-    ensures { IsTrue result ↔ MayLook state.now thread call reply }
+/// Whether another thread is the owner.
+fn is_anothers(thread: Tid, owner: Option<Tid>) -> bool
+    ensures { result ≡ is_anothers thread owner }
+{
+    match owner {
+        None => false,
+        Some(owner) => owner != thread,
+    }
+}
+
+/// Whether another thread owns the mutex, if the reply is that a time limit came.
+fn is_due(state: &State, thread: Tid, reply: Reply) -> bool
+    ensures { IsTrue result ↔ IsDue state.now thread reply }
+{
+    reply != Reply::ETIMEDOUT || is_anothers(thread, state.object.owner)
+}
+
+/// Whether the mutex has this reply for a thread's call now, by a point that changes nothing.
+fn has_for(state: &State, thread: Tid, call: Operation, reply: Reply) -> bool
+    ensures { IsTrue result ↔ HasFor state.now thread call reply }
 {
     let at = usize::from(thread.get());
-    let Some(operation) = next_look(call, state.calls[at].made) else {
+    let Some(operation) = next_look(call, state.calls[at].made, reply) else {
         return false;
     };
     let held = if reply == Reply::XHELD { HELD_LIMIT } else { 0 };
@@ -96,6 +127,13 @@ fn looks(state: &State, thread: Tid, call: Operation, reply: Reply) -> bool
         Some(object) => object == state.object,
         None => false,
     }
+}
+
+/// Whether a thread's call could be told this reply now by a point that changes nothing.
+fn looks(state: &State, thread: Tid, call: Operation, reply: Reply) -> bool
+    ensures { IsTrue result ↔ MayLook state.now thread call reply }
+{
+    is_due(state, thread, reply) && has_for(state, thread, call, reply)
 }
 
 /// The thread that comes after so many.

@@ -15,11 +15,11 @@ use Rattle.memorymap.specs.Layouts.{Layout', cell_place}
 use Rattle.posixmutex.specs.Objects.{acquires, bereaved, fresh, held_limit, stepped, Permits, Run}
 use Rattle.posixmutex.proofs.Objects.{run_same, run_sound, run_split}
 use Rattle.posixmutex.proofs.Steps.{determined}
-use Rattle.mutex.specs.declared.call.Call.TheVariants.{Lock, TryLock, Unlock, Consistent}
+use Rattle.mutex.specs.declared.call.Call.TheVariants.{Lock, TimedLock, TryLock, Unlock, Consistent}
 use Rattle.condvar.specs.declared.op.Op.{Op}
 use Rattle.condvar.specs.declared.op.Op.TheVariants.{OnMutex, OnCondition}
 use Rattle.condvar.specs.declared.call.CondCall.TheVariants.{Wait, Signal, Broadcast}
-use Rattle.condvar.specs.Ops.{condition_of, mutex_of, operation_of}
+use Rattle.condvar.specs.Ops.{acts_as, condition_of, mutex_of}
 use Rattle.facts.specs.Lives.{Act, Beginning}
 use Rattle.ruledwords.specs.declared.pass.Card.{Card}
 use Rattle.ruledwords.specs.declared.pass.Change.{Change}
@@ -147,6 +147,7 @@ took_knows false a d place op r told = (told.saw.threads, told.saw.knows)
 -- what a call leaves known
 replied_knows : (k : Layout') (a : Card) (call : Op) (r : Reply) (b : Card) → Replied k a call r b → Onwards a b
 replied_knows k a (OnMutex (Lock m)) r b told = took_knows (nat_le 2048 (held a)) a b (cell_place k m) operation.Lock r told
+replied_knows k a (OnMutex (TimedLock m)) r b told = took_knows (nat_le 2048 (held a)) a b (cell_place k m) operation.Lock r told
 replied_knows k a (OnMutex (TryLock m)) r b told = took_knows (nat_le 2048 (held a)) a b (cell_place k m) operation.TryLock r told.0
 replied_knows k a (OnMutex (Unlock m)) r b told = (told.saw.threads, told.saw.knows)
 replied_knows k a (OnMutex (Consistent m)) r b told = (told.saw.threads, told.saw.knows)
@@ -341,8 +342,9 @@ module _ (k : Layout') (t : ℕ) (seen' : List (List Point)) (changes' : List (L
 
   -- ---- any call
 
-  replied_alone : (c e : Card) (os : ℕ → Object) (vs : ℕ → ℕ) (call : Op) (r : Reply) → mutex_of k call < k.mutexes → IsByCounter (counter_of vs (condition_of call)) (operation_of call) r → Stands c os → Replied k c call r e → Tails e → (answer_to k t os vs call ≡ Some r) × Stands e (behind k t os call r)
+  replied_alone : (c e : Card) (os : ℕ → Object) (vs : ℕ → ℕ) (call : Op) (r : Reply) → mutex_of k call < k.mutexes → IsByCounter (counter_of vs (condition_of call)) (acts_as call) r → Stands c os → Replied k c call r e → Tails e → (answer_to k t os vs call ≡ Some r) × Stands e (behind k t os call r)
   replied_alone c e os vs (OnMutex (Lock m)) r low by s told tails = takes_one c e os 0 m operation.Lock r low (λ same. cc same) (λ same. absurd (cc same)) by s told tails (λ is. (full_taking t _ (os m).unusable (os m).owner (os m).inconsistent _ _ is, λ o. refl))
+  replied_alone c e os vs (OnMutex (TimedLock m)) r low by s told tails = takes_one c e os 0 m operation.Lock r low (λ same. cc same) (λ same. absurd (cc same)) by s told tails (λ is. (full_taking t _ (os m).unusable (os m).owner (os m).inconsistent _ _ is, λ o. refl))
   replied_alone c e os vs (OnMutex (TryLock m)) r low by s told tails = takes_one c e os 0 m operation.TryLock r low (λ same. cc same) (λ same raced. never_raced c e os (cell_place k m) s tails (told.1 raced).1) by s told.0 tails (λ is. (full_taking t _ (os m).unusable (os m).owner (os m).inconsistent _ _ is, λ o. refl))
   replied_alone c e os vs (OnMutex (Unlock m)) r low by s told tails = one_point c e os 0 m operation.Unlock r low (λ same. absurd (cc same)) (λ same. cc same) (λ same. absurd (cc same)) by s told tails
   replied_alone c e os vs (OnMutex (Consistent m)) r low by s told tails = one_point c e os 0 m operation.Consistent r low (λ same. absurd (cc same)) (λ same. cc same) (λ same. absurd (cc same)) by s told tails
@@ -379,8 +381,9 @@ module _ (k : Layout') (t : ℕ) (seen' : List (List Point)) (changes' : List (L
   -- ---- its death
 
   -- in a lock or a trylock it wasn't refused
-  never_refused : (c dead : Card) (os : ℕ → Object) (call : Op) → Stands c os → DiesIn k c call dead → acquires (operation_of call) ≡ true → nat_le held_limit (held_by t os k.mutexes) ≡ false
+  never_refused : (c dead : Card) (os : ℕ → Object) (call : Op) → Stands c os → DiesIn k c call dead → acquires (acts_as call) ≡ true → nat_le held_limit (held_by t os k.mutexes) ≡ false
   never_refused c dead os (OnMutex (Lock m)) s dies takes = ap (nat_le held_limit) (sym (held_is c os s)) ∙ dies.0
+  never_refused c dead os (OnMutex (TimedLock m)) s dies takes = ap (nat_le held_limit) (sym (held_is c os s)) ∙ dies.0
   never_refused c dead os (OnMutex (TryLock m)) s dies takes = ap (nat_le held_limit) (sym (held_is c os s)) ∙ dies.0
   never_refused c dead os (OnMutex (Unlock m)) s dies takes = absurd (cc takes)
   never_refused c dead os (OnMutex (Consistent m)) s dies takes = absurd (cc takes)
@@ -390,10 +393,10 @@ module _ (k : Layout') (t : ℕ) (seen' : List (List Point)) (changes' : List (L
 
   -- the mutexes as its death leaves them, and who has seen that
   pub record LeftBehind (os os' : ℕ → Object) (call : Op) (d : Card) (n : List Act) : Type 0 where
-    pub few : acquires (operation_of call) ≡ true → nat_le held_limit (held_by t os k.mutexes) ≡ false
+    pub few : acquires (acts_as call) ≡ true → nat_le held_limit (held_by t os k.mutexes) ≡ false
     pub acts : List Act
     pub counts : acts ≡ n
-    pub begun : Beginning (operation_of call) acts
+    pub begun : Beginning (acts_as call) acts
     pub left : Object
     pub decided : Run (os (mutex_of k call)) (points_of t (cell_place k (mutex_of k call)) acts) left
     pub after : os' ≡ (λ m. bereft t (if m == mutex_of k call then left else os m))
@@ -405,7 +408,7 @@ module _ (k : Layout') (t : ℕ) (seen' : List (List Point)) (changes' : List (L
     m : ℕ
     m = mutex_of k call
 
-    died : Died c (cell_place k (mutex_of k call)) (operation_of call) was.dead
+    died : Died c (cell_place k (mutex_of k call)) (acts_as call) was.dead
     died = died_of k c call was.dead was.died
 
     tails' : Tails was.dead

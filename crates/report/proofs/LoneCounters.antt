@@ -10,12 +10,12 @@ use Rattle.lockword.specs.declared.reply.Reply.TheVariants.{OK, EPERM, XFULL, XH
 use Rattle.posixmutex.specs.declared.point.Operation.{Operation}
 use Rattle.posixmutex.specs.declared.point.Operation.TheVariants as operation
 use Rattle.memorymap.specs.Layouts.{Layout', cell_place, counter_place}
-use Rattle.mutex.specs.declared.call.Call.TheVariants.{Lock, TryLock, Unlock, Consistent}
+use Rattle.mutex.specs.declared.call.Call.TheVariants.{Lock, TimedLock, TryLock, Unlock, Consistent}
 use Rattle.condvar.specs.declared.op.Op.{Op}
 use Rattle.condvar.specs.declared.op.Op.TheVariants.{OnMutex, OnCondition}
 use Rattle.condvar.specs.declared.call.CondCall.TheVariants.{Wait, Signal, Broadcast}
 use Rattle.condvar.specs.Laws.{largest_counter, reply_counts}
-use Rattle.condvar.specs.Ops.{condition_of, mutex_of, operation_of}
+use Rattle.condvar.specs.Ops.{acts_as, condition_of, mutex_of}
 use Rattle.facts.specs.Lives.{Act, Beginning, Complete}
 use Rattle.ruledwords.specs.declared.pass.Card.{Card}
 use Rattle.ruledwords.specs.declared.pass.Change.{Change}
@@ -77,18 +77,22 @@ raised_there vs p n q other = ap (λ (b : Bool). if b then vs q + n else vs q) (
 
 -- ---- the points of a call
 
+-- it has one point, of its own operation
+abbrev Once : Operation → Type 0
+Once op = ((p : Act) (x : Reply) → Complete op (p ∷ []) x → p ≡ (op, x)) × ((p q : Act) (x : Reply) → Complete op (p ∷ q ∷ []) x → ⊥)
+
 -- a call that has one point has made it or not
-one_act : (op : Operation) → ((p q : Act) (x : Reply) → Complete op (p ∷ q ∷ []) x → ⊥) → (acts rest : List Act) (x : Reply) → Complete op (acts ++ rest) x → (acts ≡ []) ⊎ ((y : Reply) × (acts ≡ (op, y) ∷ []))
+one_act : (op : Operation) → Once op → (acts rest : List Act) (x : Reply) → Complete op (acts ++ rest) x → (acts ≡ []) ⊎ ((y : Reply) × (acts ≡ (op, y) ∷ []))
 one_act op one [] rest x is = inl refl
-one_act op one (p ∷ []) [] x is = inr (x, ap (λ (a : Act). a ∷ []) is)
-one_act op one (p ∷ []) (q ∷ []) x is = absurd (one p q x is)
+one_act op one (p ∷ []) [] x is = inr (x, ap (λ (a : Act). a ∷ []) (one.0 p x is))
+one_act op one (p ∷ []) (q ∷ []) x is = absurd (one.1 p q x is)
 one_act op one (p ∷ []) (q ∷ r ∷ rest) x is = absurd is
-one_act op one (p ∷ q ∷ []) [] x is = absurd (one p q x is)
+one_act op one (p ∷ q ∷ []) [] x is = absurd (one.1 p q x is)
 one_act op one (p ∷ q ∷ []) (r ∷ rest) x is = absurd is
 one_act op one (p ∷ q ∷ r ∷ acts) rest x is = absurd is
 
 -- on a mutex none counts
-none_counts : (op : Operation) → ((p q : Act) (x : Reply) → Complete op (p ∷ q ∷ []) x → ⊥) → ((x : Reply) → reply_counts op x ≡ 0) → (acts : List Act) → Beginning op acts → count_acts acts ≡ 0
+none_counts : (op : Operation) → Once op → ((x : Reply) → reply_counts op x ≡ 0) → (acts : List Act) → Beginning op acts → count_acts acts ≡ 0
 none_counts op one none acts begun = ⊎_elim
     (λ (nothing : acts ≡ []). ap count_acts nothing)
     (λ (some : (y : Reply) × (acts ≡ (op, y) ∷ [])). ap count_acts some.1 ∙ (let few = none some.0 in let e : reply_counts op some.0 + 0 ≡ 0 = omega arith in e))
@@ -105,7 +109,7 @@ wait_counts (p ∷ q ∷ []) (r ∷ rest) x is = absurd is
 wait_counts (p ∷ q ∷ r ∷ acts) rest x is = absurd is
 
 -- what a counter has to do with none of them
-plain : (op : Operation) (v : ℕ) → ((p q : Act) (x : Reply) → Complete op (p ∷ q ∷ []) x → ⊥) → ((x : Reply) → IsByCounter v op x) → (acts : List Act) → Beginning op acts → AreByCounter v acts
+plain : (op : Operation) (v : ℕ) → Once op → ((x : Reply) → IsByCounter v op x) → (acts : List Act) → Beginning op acts → AreByCounter v acts
 plain op v one any acts begun = ⊎_elim
     (λ (nothing : acts ≡ []). subst (AreByCounter v) (sym nothing) tt)
     (λ (some : (y : Reply) × (acts ≡ (op, y) ∷ [])). subst (AreByCounter v) (sym some.1) (any some.0, tt))
@@ -251,8 +255,9 @@ module _ (k : Layout') (t : ℕ) (changes' : List (List Change)) where
   taking_call false c e vs m n op r mine s ahead low none told = tallies_as e vs (raised vs None n) (λ y. refl) (tallies_still c e vs mine s told.saw.knows ahead (quiet c e m ((op, r) ∷ []) low none told.saw))
 
   pub replied_tallies : (c e : Card) (vs : ℕ → ℕ) (call : Op) (r : Reply) → c.thread ≡ t → mutex_of k call < k.mutexes → ((q : ℕ) → condition_of call ≡ Some q → q < length k.conditions) → Tallies c vs → Replied k c call r e → Onward e
-      → IsByCounter (counter_of vs (condition_of call)) (operation_of call) r × Tallies e (counters_behind vs call r)
+      → IsByCounter (counter_of vs (condition_of call)) (acts_as call) r × Tallies e (counters_behind vs call r)
   replied_tallies c e vs (OnMutex (Lock m)) r mine low inside s told ahead = (tt, taking_call (nat_le 2048 (held c)) c e vs m 0 operation.Lock r mine s ahead low refl told)
+  replied_tallies c e vs (OnMutex (TimedLock m)) r mine low inside s told ahead = (tt, taking_call (nat_le 2048 (held c)) c e vs m 0 operation.Lock r mine s ahead low refl told)
   replied_tallies c e vs (OnMutex (TryLock m)) r mine low inside s told ahead = (tt, taking_call (nat_le 2048 (held c)) c e vs m 0 operation.TryLock r mine s ahead low refl told.0)
   replied_tallies c e vs (OnMutex (Unlock m)) r mine low inside s told ahead = (tt, other_call c e vs None m 0 ((operation.Unlock, r) ∷ []) mine s ahead low refl refl told.saw)
   replied_tallies c e vs (OnMutex (Consistent m)) r mine low inside s told ahead = (tt, other_call c e vs None m 0 ((operation.Consistent, r) ∷ []) mine s ahead low refl refl told.saw)
@@ -281,7 +286,7 @@ module _ (k : Layout') (t : ℕ) (changes' : List (List Change)) where
 
   -- in a signal or a broadcast
   dies_counting : (op : Operation) (q : ℕ) (c dead : Card) (vs : ℕ → ℕ) → c.thread ≡ t → Tallies c vs → Onward dead → mutex_at k q < k.mutexes → q < length k.conditions
-      → ((p r : Act) (x : Reply) → Complete op (p ∷ r ∷ []) x → ⊥) → ((x : Reply) → ((reply_counts op x ≡ 0) × ((v : ℕ) → IsByCounter v op x)) ⊎ ((x ≡ OK) ⊎ (x ≡ XFULL))) → reply_counts op OK ≡ 1 → ((v : ℕ) → v ≢ largest_counter → IsByCounter v op OK)
+      → Once op → ((x : Reply) → ((reply_counts op x ≡ 0) × ((v : ℕ) → IsByCounter v op x)) ⊎ ((x ≡ OK) ⊎ (x ≡ XFULL))) → reply_counts op OK ≡ 1 → ((v : ℕ) → v ≢ largest_counter → IsByCounter v op OK)
       → (LoadedBehind ((op, OK) ∷ []) c (cell_at k q) (counter_place k q) dead → CountedOnce c (cell_at k q) (counter_place k q) dead × (dead.counted ≢ largest_counter)) → (LoadedBehind ((op, XFULL) ∷ []) c (cell_at k q) (counter_place k q) dead → ⊥)
       → (dies : DiesOn k q op c dead) → AreByCounter (vs q) dies.died.acts × Tallies dead (raised vs (Some q) (count_acts dies.died.acts))
   dies_counting op q c dead vs mine s ahead low inside one either ok free loads never dies = ⊎_elim
@@ -322,13 +327,14 @@ module _ (k : Layout') (t : ℕ) (changes' : List (List Change)) where
   broadcast_counts x = inl (refl, λ v. tt)
 
   dead_tallies : (c dead : Card) (vs : ℕ → ℕ) (call : Op) → c.thread ≡ t → mutex_of k call < k.mutexes → ((q : ℕ) → condition_of call ≡ Some q → q < length k.conditions) → Tallies c vs → (dies : DiesIn k c call dead) → Onward dead → DiesCounting c vs call dead dies
-  dead_tallies c dead vs (OnMutex (Lock m)) mine low inside s dies ahead = dies_quietly c dead vs None m operation.Lock mine s ahead low dies.1 (plain operation.Lock 0 (λ p q x e. e) (λ x. tt) dies.1.acts dies.1.beginning) (none_counts operation.Lock (λ p q x e. e) (λ x. refl) dies.1.acts dies.1.beginning)
-  dead_tallies c dead vs (OnMutex (TryLock m)) mine low inside s dies ahead = dies_quietly c dead vs None m operation.TryLock mine s ahead low dies.1 (plain operation.TryLock 0 (λ p q x e. e) (λ x. tt) dies.1.acts dies.1.beginning) (none_counts operation.TryLock (λ p q x e. e) (λ x. refl) dies.1.acts dies.1.beginning)
-  dead_tallies c dead vs (OnMutex (Unlock m)) mine low inside s dies ahead = dies_quietly c dead vs None m operation.Unlock mine s ahead low dies (plain operation.Unlock 0 (λ p q x e. e) (λ x. tt) dies.acts dies.beginning) (none_counts operation.Unlock (λ p q x e. e) (λ x. refl) dies.acts dies.beginning)
-  dead_tallies c dead vs (OnMutex (Consistent m)) mine low inside s dies ahead = dies_quietly c dead vs None m operation.Consistent mine s ahead low dies (plain operation.Consistent 0 (λ p q x e. e) (λ x. tt) dies.acts dies.beginning) (none_counts operation.Consistent (λ p q x e. e) (λ x. refl) dies.acts dies.beginning)
+  dead_tallies c dead vs (OnMutex (Lock m)) mine low inside s dies ahead = dies_quietly c dead vs None m operation.Lock mine s ahead low dies.1 (plain operation.Lock 0 ((λ p x e. e), (λ p q x e. e)) (λ x. tt) dies.1.acts dies.1.beginning) (none_counts operation.Lock ((λ p x e. e), (λ p q x e. e)) (λ x. refl) dies.1.acts dies.1.beginning)
+  dead_tallies c dead vs (OnMutex (TimedLock m)) mine low inside s dies ahead = dies_quietly c dead vs None m operation.Lock mine s ahead low dies.1 (plain operation.Lock 0 ((λ p x e. e), (λ p q x e. e)) (λ x. tt) dies.1.acts dies.1.beginning) (none_counts operation.Lock ((λ p x e. e), (λ p q x e. e)) (λ x. refl) dies.1.acts dies.1.beginning)
+  dead_tallies c dead vs (OnMutex (TryLock m)) mine low inside s dies ahead = dies_quietly c dead vs None m operation.TryLock mine s ahead low dies.1 (plain operation.TryLock 0 ((λ p x e. e), (λ p q x e. e)) (λ x. tt) dies.1.acts dies.1.beginning) (none_counts operation.TryLock ((λ p x e. e), (λ p q x e. e)) (λ x. refl) dies.1.acts dies.1.beginning)
+  dead_tallies c dead vs (OnMutex (Unlock m)) mine low inside s dies ahead = dies_quietly c dead vs None m operation.Unlock mine s ahead low dies (plain operation.Unlock 0 ((λ p x e. e), (λ p q x e. e)) (λ x. tt) dies.acts dies.beginning) (none_counts operation.Unlock ((λ p x e. e), (λ p q x e. e)) (λ x. refl) dies.acts dies.beginning)
+  dead_tallies c dead vs (OnMutex (Consistent m)) mine low inside s dies ahead = dies_quietly c dead vs None m operation.Consistent mine s ahead low dies (plain operation.Consistent 0 ((λ p x e. e), (λ p q x e. e)) (λ x. tt) dies.acts dies.beginning) (none_counts operation.Consistent ((λ p x e. e), (λ p q x e. e)) (λ x. refl) dies.acts dies.beginning)
   dead_tallies c dead vs (OnCondition (Wait q)) mine low inside s dies ahead = dies_quietly c dead vs (Some q) (mutex_at k q) operation.Wait mine s ahead low dies.died (wait_plain (vs q) dies.died.acts dies.died.beginning.0 dies.died.beginning.1 dies.died.beginning.2) (wait_counts dies.died.acts dies.died.beginning.0 dies.died.beginning.1 dies.died.beginning.2)
-  dead_tallies c dead vs (OnCondition (Signal q)) mine low inside s dies ahead = dies_counting operation.Signal q c dead vs mine s ahead low (inside q refl) (λ p r x e. e) signal_counts refl (λ v x. x) (λ x. x) (λ x. x) dies
-  dead_tallies c dead vs (OnCondition (Broadcast q)) mine low inside s dies ahead = dies_counting operation.Broadcast q c dead vs mine s ahead low (inside q refl) (λ p r x e. e) broadcast_counts refl (λ v x. x) (λ x. x) (λ x. x) dies
+  dead_tallies c dead vs (OnCondition (Signal q)) mine low inside s dies ahead = dies_counting operation.Signal q c dead vs mine s ahead low (inside q refl) ((λ p x e. e), (λ p q x e. e)) signal_counts refl (λ v x. x) (λ x. x) (λ x. x) dies
+  dead_tallies c dead vs (OnCondition (Broadcast q)) mine low inside s dies ahead = dies_counting operation.Broadcast q c dead vs mine s ahead low (inside q refl) ((λ p x e. e), (λ p q x e. e)) broadcast_counts refl (λ v x. x) (λ x. x) (λ x. x) dies
 
   -- and the walk over its list counts nothing
   pub lost_tallies : (c d : Card) (vs : ℕ → ℕ) (call : Op) → c.thread ≡ t → mutex_of k call < k.mutexes → ((q : ℕ) → condition_of call ≡ Some q → q < length k.conditions) → Tallies c vs → (was : WasLost k c call d) → Onward d

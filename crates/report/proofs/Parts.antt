@@ -13,7 +13,7 @@ use Rattle.memorymap.specs.Layouts.{Layout', cell_place}
 use Rattle.posixmutex.specs.Objects.{acquires}
 use Rattle.facts.specs.Lives.{Act, Complete}
 use Rattle.condvar.specs.declared.op.Op.{Op}
-use Rattle.condvar.specs.Ops.{mutex_of, operation_of}
+use Rattle.condvar.specs.Ops.{acts_as, mutex_of}
 use Rattle.ruledwords.specs.Deaths.{deaths}
 use Rattle.ruledwords.specs.Seen.{by, held_after, points_of}
 use Rattle.report.specs.Histories.{AreLastWordsBehind, AreParts, ArePointsBehind, AreTold, IsCountOf, TakesPart, some_died}
@@ -41,8 +41,8 @@ told_count k t m [] [] xs told = refl
 told_count k t m [] (r ∷ rs) xs told = absurd told
 told_count k t m (c ∷ cs) [] xs told = absurd told
 told_count k t m (c ∷ cs) (r ∷ rs) xs told = ap suc (⊎_elim
-    (λ (no : ((mutex_of k c ≢ m) ⊎ ((acquires (operation_of c) ≡ true) × (r ≡ XHELD))) × AreTold k t m cs rs xs). told_count k t m cs rs xs no.1)
-    (λ (yes : (mutex_of k c ≡ m) × (acts : List Act) × Complete (operation_of c) acts r × (ys : List Point) × (xs ≡ points_of t (cell_place k m) acts ++ ys) × AreTold k t m cs rs ys). told_count k t m cs rs yes.3 yes.5)
+    (λ (no : ((mutex_of k c ≢ m) ⊎ ((acquires (acts_as c) ≡ true) × (r ≡ XHELD))) × AreTold k t m cs rs xs). told_count k t m cs rs xs no.1)
+    (λ (yes : (mutex_of k c ≡ m) × (acts : List Act) × Complete (acts_as c) acts r × (ys : List Point) × (xs ≡ points_of t (cell_place k m) acts ++ ys) × AreTold k t m cs rs ys). told_count k t m cs rs yes.3 yes.5)
     told)
 
 told_on : (k : Layout') (t m : ℕ) (cs : List Op) (rs : List Reply) (xs : List Point) (cs' : List Op) (rs' : List Reply) (ys : List Point) → AreTold k t m cs rs xs → AreTold k t m cs' rs' ys → AreTold k t m (cs ++ cs') (rs ++ rs') (xs ++ ys)
@@ -50,8 +50,8 @@ told_on k t m [] [] xs cs' rs' ys first later = subst (λ (l : List Point). AreT
 told_on k t m [] (r ∷ rs) xs cs' rs' ys first later = absurd first
 told_on k t m (c ∷ cs) [] xs cs' rs' ys first later = absurd first
 told_on k t m (c ∷ cs) (r ∷ rs) xs cs' rs' ys first later = ⊎_elim
-    (λ (no : ((mutex_of k c ≢ m) ⊎ ((acquires (operation_of c) ≡ true) × (r ≡ XHELD))) × AreTold k t m cs rs xs). inl (no.0, told_on k t m cs rs xs cs' rs' ys no.1 later))
-    (λ (yes : (mutex_of k c ≡ m) × (acts : List Act) × Complete (operation_of c) acts r × (zs : List Point) × (xs ≡ points_of t (cell_place k m) acts ++ zs) × AreTold k t m cs rs zs).
+    (λ (no : ((mutex_of k c ≢ m) ⊎ ((acquires (acts_as c) ≡ true) × (r ≡ XHELD))) × AreTold k t m cs rs xs). inl (no.0, told_on k t m cs rs xs cs' rs' ys no.1 later))
+    (λ (yes : (mutex_of k c ≡ m) × (acts : List Act) × Complete (acts_as c) acts r × (zs : List Point) × (xs ≡ points_of t (cell_place k m) acts ++ zs) × AreTold k t m cs rs zs).
     inr (yes.0, yes.1, yes.2, yes.3 ++ ys, ap (λ (l : List Point). l ++ ys) yes.4 ∙ append_assoc (points_of t (cell_place k m) yes.1) yes.3 ys, told_on k t m cs rs yes.3 cs' rs' ys yes.5 later))
     first
 

@@ -2,10 +2,10 @@
 use Rattle.std.proofs.Common.{◌≡◌, ◌≢◌, ℕ, ◌==◌, Bool, true, false, nat_le, Option, Some, None, refl, sym, ap, ◌∙◌, subst, eq-eqb, ne_eqb}
 use Rattle.std.specs.Prelude.{if◌then◌else◌, ◌||◌, MatchBool}
 use Rattle.lockword.specs.declared.reply.Reply.{Reply}
-use Rattle.lockword.specs.declared.reply.Reply.TheVariants.{OK, EPERM, EBUSY, EINVAL, EDEADLK, EOWNERDEAD, ENOTRECOVERABLE, XRACED, XHELD, XFULL, XSTATE}
+use Rattle.lockword.specs.declared.reply.Reply.TheVariants.{OK, EPERM, EBUSY, EINVAL, EDEADLK, ETIMEDOUT, EOWNERDEAD, ENOTRECOVERABLE, XRACED, XHELD, XFULL, XSTATE}
 use Rattle.posixmutex.specs.declared.object.Object.{Object}
 use Rattle.posixmutex.specs.declared.point.Operation.{Operation}
-use Rattle.posixmutex.specs.declared.point.Operation.TheVariants.{Lock, TryLock, Unlock, Consistent, Wait, Signal, Broadcast, Death, Reinit}
+use Rattle.posixmutex.specs.declared.point.Operation.TheVariants.{Lock, TryLock, TimedLock, Unlock, Consistent, Wait, Signal, Broadcast, Death, Reinit}
 use Rattle.posixmutex.proofs.Steps.{determined}
 use Rattle.posixmutex.specs.Objects.{held_limit, acquires, Does, freed, owned_by, Permits}
 use Rattle.condvar.specs.Laws.{largest_counter}
@@ -73,6 +73,7 @@ permits_answer h t v o n TryLock EOWNERDEAD low sound alive won by p = free_taki
 permits_answer h t v o n TryLock ENOTRECOVERABLE low sound alive won by p = spoiled_taking t _ o.unusable o.owner o.inconsistent (Some EBUSY) (Some EBUSY) (low refl) p.0
 permits_answer h t v o n TryLock EBUSY low sound alive won by p = owned_taking t _ o.unusable o.owner o.inconsistent (Some EBUSY) (Some EBUSY) (Some EBUSY) (low refl) (usable o.unusable o.owner sound p.0) (some_ones t o.owner (Some (taken o.inconsistent)) (Some EBUSY) p.0)
 permits_answer h t v o n TryLock XRACED low sound alive won by p = absurd (won refl refl)
+permits_answer h t v o n TimedLock ETIMEDOUT low sound alive won by p = ap (λ (b : Bool). Some (if b then XHELD else ETIMEDOUT)) (low refl)
 permits_answer h t v o n Unlock OK low sound alive won by p = its_mine t o.owner (Some EPERM) (Some OK) (Some EPERM) p.0
 permits_answer h t v o n Unlock EPERM low sound alive won by p = not_mine t o.owner (Some EPERM) (Some OK) p.0
 permits_answer h t v o n Consistent OK low sound alive won by p = its_mine t o.owner (Some EPERM) _ (Some EPERM) p.0 ∙ ap (λ (b : Bool). Some (if b then OK else EINVAL)) p.1
@@ -102,6 +103,8 @@ step_answer h t v o n Lock r sound alive won by does =
     taking_answer h t v o n Lock r (λ is. full_taking t _ o.unusable o.owner o.inconsistent _ _ is) (λ is p. permits_answer h t v o n Lock r (λ takes. is) sound alive (λ same. won) by p) does
 step_answer h t v o n TryLock r sound alive won by does =
     taking_answer h t v o n TryLock r (λ is. full_taking t _ o.unusable o.owner o.inconsistent _ _ is) (λ is p. permits_answer h t v o n TryLock r (λ takes. is) sound alive (λ same. won) by p) does
+step_answer h t v o n TimedLock r sound alive won by does =
+    taking_answer h t v o n TimedLock r (λ is. ap (λ (b : Bool). Some (if b then XHELD else ETIMEDOUT)) is) (λ is p. permits_answer h t v o n TimedLock r (λ takes. is) sound alive (λ same. won) by p) does
 step_answer h t v o n Unlock r sound alive won by does = permits_answer h t v o n Unlock r (λ takes. absurd (cc takes)) sound alive (λ same. won) by does
 step_answer h t v o n Consistent r sound alive won by does = permits_answer h t v o n Consistent r (λ takes. absurd (cc takes)) sound alive (λ same. won) by does
 step_answer h t v o n Wait r sound alive won by does = permits_answer h t v o n Wait r (λ takes. absurd (cc takes)) sound alive (λ same. won) by does

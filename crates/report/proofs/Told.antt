@@ -14,8 +14,8 @@ use Rattle.facts.specs.Lives.{Act, Beginning, Complete}
 use Rattle.condvar.specs.declared.op.Op.{Op}
 use Rattle.condvar.specs.declared.op.Op.TheVariants.{OnMutex, OnCondition}
 use Rattle.condvar.specs.declared.call.CondCall.TheVariants.{Wait, Signal, Broadcast}
-use Rattle.condvar.specs.Ops.{mutex_of, operation_of}
-use Rattle.mutex.specs.declared.call.Call.TheVariants.{Lock, TryLock, Unlock, Consistent}
+use Rattle.condvar.specs.Ops.{acts_as, mutex_of}
+use Rattle.mutex.specs.declared.call.Call.TheVariants.{Lock, TimedLock, TryLock, Unlock, Consistent}
 use Rattle.ruledwords.specs.declared.pass.Card.{Card}
 use Rattle.ruledwords.specs.declared.pass.Words.{Words}
 use Rattle.ruledwords.specs.Cards.{at}
@@ -57,8 +57,9 @@ either_adds : (b : Bool) (c d : Card) (place p : ℕ) (op : Operation) (r : Repl
 either_adds true c d place p op r P takes complete calls m = held_adds c d place p op r takes m.0 m.1
 either_adds false c d place p op r P takes complete calls m = called_adds c d place p op r ((op, r) ∷ []) complete (calls m)
 
-replied_adds : (k : Layout') (a : Card) (call : Op) (r : Reply) (b : Card) (p : ℕ) → Replied k a call r b → Adds a (cell_place k (mutex_of k call)) p (operation_of call) r b
+replied_adds : (k : Layout') (a : Card) (call : Op) (r : Reply) (b : Card) (p : ℕ) → Replied k a call r b → Adds a (cell_place k (mutex_of k call)) p (acts_as call) r b
 replied_adds k a (OnMutex (Lock m)) r b p t = either_adds (nat_le 2048 (held a)) a b (cell_place k m) p _ r _ refl refl (λ c. c) t
+replied_adds k a (OnMutex (TimedLock m)) r b p t = either_adds (nat_le 2048 (held a)) a b (cell_place k m) p _ r _ refl refl (λ c. c) t
 replied_adds k a (OnMutex (TryLock m)) r b p t = either_adds (nat_le 2048 (held a)) a b (cell_place k m) p _ r _ refl refl (λ c. c) t.0
 replied_adds k a (OnMutex (Unlock m)) r b p t = called_adds a b (cell_place k m) p operation.Unlock r ((operation.Unlock, r) ∷ []) refl t
 replied_adds k a (OnMutex (Consistent m)) r b p t = called_adds a b (cell_place k m) p operation.Consistent r ((operation.Consistent, r) ∷ []) refl t
@@ -73,11 +74,11 @@ replied_adds k a (OnCondition (Wait q)) r b p t = ⊎_elim
 abbrev pub HaveAdded : ℕ → Layout' → ℕ → List Op → List Reply → Card → Card → Type 0
 HaveAdded t k m cs rs c d = (d.thread ≡ t) × ((xs : List Point) × (by t (at d.seen (cell_place k m)) ≡ by t (at c.seen (cell_place k m)) ++ xs) × AreTold k t m cs rs xs)
 
-first_added : (t : ℕ) (k : Layout') (m : ℕ) (call : Op) (cs : List Op) (r : Reply) (rs : List Reply) (c d e : Card) → c.thread ≡ t → Adds c (cell_place k (mutex_of k call)) (cell_place k m) (operation_of call) r d → HaveAdded t k m cs rs d e → HaveAdded t k m (call ∷ cs) (r ∷ rs) c e
+first_added : (t : ℕ) (k : Layout') (m : ℕ) (call : Op) (cs : List Op) (r : Reply) (rs : List Reply) (c d e : Card) → c.thread ≡ t → Adds c (cell_place k (mutex_of k call)) (cell_place k m) (acts_as call) r d → HaveAdded t k m cs rs d e → HaveAdded t k m (call ∷ cs) (r ∷ rs) c e
 first_added t k m call cs r rs c d e mine adds rest =
     let p : ℕ = cell_place k m in
     let there : ℕ = cell_place k (mutex_of k call) in
-    let op : Operation = operation_of call in
+    let op : Operation = acts_as call in
     let xs = rest.1.0 in (
       rest.0,
       ⊎_elim
@@ -103,8 +104,9 @@ added k t m a (c ∷ cs) (r ∷ rs) b mine answered =
 -- ---- a thread that died
 
 -- a call in which a thread dies adds some of its first points, or all, where it is on the mutex
-abbrev pub died_of : (k : Layout') (c : Card) (call : Op) (d : Card) → DiesIn k c call d → Died c (cell_place k (mutex_of k call)) (operation_of call) d
+abbrev pub died_of : (k : Layout') (c : Card) (call : Op) (d : Card) → DiesIn k c call d → Died c (cell_place k (mutex_of k call)) (acts_as call) d
 died_of k c (OnMutex (Lock m)) d dies = dies.1
+died_of k c (OnMutex (TimedLock m)) d dies = dies.1
 died_of k c (OnMutex (TryLock m)) d dies = dies.1
 died_of k c (OnMutex (Unlock m)) d dies = dies
 died_of k c (OnMutex (Consistent m)) d dies = dies
@@ -112,11 +114,11 @@ died_of k c (OnCondition call) d dies = dies.died
 
 record AddsSome (k : Layout') (m : ℕ) (call : Op) (c d : Card) : Type 0 where
   acts : List Act
-  begun : mutex_of k call ≡ m → Beginning (operation_of call) acts
+  begun : mutex_of k call ≡ m → Beginning (acts_as call) acts
   elsewhere : mutex_of k call ≢ m → acts ≡ []
   own : by c.thread (at d.seen (cell_place k m)) ≡ by c.thread (at c.seen (cell_place k m)) ++ points_of c.thread (cell_place k m) acts
 
-some_added : (k : Layout') (m : ℕ) (call : Op) (c d : Card) → Died c (cell_place k (mutex_of k call)) (operation_of call) d → AddsSome k m call c d
+some_added : (k : Layout') (m : ℕ) (call : Op) (c d : Card) → Died c (cell_place k (mutex_of k call)) (acts_as call) d → AddsSome k m call c d
 some_added k m call c d died = dite (ℕ_discrete (mutex_of k call) m)
     (λ (here : mutex_of k call ≡ m). record {
       acts = died.acts;
@@ -139,7 +141,7 @@ by_walk k m dead d low reaped = go (owns_in k dead m) refl where
   go false owns = ap (by dead.thread) (reaped.stays m low owns) ∙ sym (append-nil (by dead.thread (at dead.seen (cell_place k m)))) ∙ ap (λ (b : Bool). by dead.thread (at dead.seen (cell_place k m)) ++ deaths dead.thread (cell_place k m) b) (sym owns)
 
 -- both
-pub lost : (k : Layout') (m : ℕ) (call : Op) (t : ℕ) (c d : Card) → c.thread ≡ t → m < k.mutexes → WasLost k c call d → (acts : List Act) × (mutex_of k call ≡ m → Beginning (operation_of call) acts) × (mutex_of k call ≢ m → acts ≡ []) × (d.thread ≡ t)
+pub lost : (k : Layout') (m : ℕ) (call : Op) (t : ℕ) (c d : Card) → c.thread ≡ t → m < k.mutexes → WasLost k c call d → (acts : List Act) × (mutex_of k call ≡ m → Beginning (acts_as call) acts) × (mutex_of k call ≢ m → acts ≡ []) × (d.thread ≡ t)
     × (by t (at d.seen (cell_place k m)) ≡ (by t (at c.seen (cell_place k m)) ++ points_of t (cell_place k m) acts) ++ deaths t (cell_place k m) (held_after false (by t (at c.seen (cell_place k m)) ++ points_of t (cell_place k m) acts)))
 lost k m call t c d mine low was =
     let died = died_of k c call was.dead was.died in
@@ -178,6 +180,7 @@ either_grew false c d place p r acts m = saw_grew c d place p acts m.saw
 
 replied_grew : (k : Layout') (a : Card) (call : Op) (r : Reply) (b : Card) (p : ℕ) → Replied k a call r b → Grew a p b
 replied_grew k a (OnMutex (Lock m)) r b p t = either_grew (nat_le 2048 (held a)) a b (cell_place k m) p r ((operation.Lock, r) ∷ []) t
+replied_grew k a (OnMutex (TimedLock m)) r b p t = either_grew (nat_le 2048 (held a)) a b (cell_place k m) p r ((operation.Lock, r) ∷ []) t
 replied_grew k a (OnMutex (TryLock m)) r b p t = either_grew (nat_le 2048 (held a)) a b (cell_place k m) p r ((operation.TryLock, r) ∷ []) t.0
 replied_grew k a (OnMutex (Unlock m)) r b p t = saw_grew a b (cell_place k m) p ((operation.Unlock, r) ∷ []) t.saw
 replied_grew k a (OnMutex (Consistent m)) r b p t = saw_grew a b (cell_place k m) p ((operation.Consistent, r) ∷ []) t.saw

@@ -27,7 +27,7 @@ use Rattle.posixmutex.specs.declared.object.Object.{Object}
 use Rattle.posixmutex.specs.Histories.{opening}
 use Rattle.posixmutex.specs.Objects.{acquires, fresh, object_of, Run}
 use Rattle.condvar.specs.declared.op.Op.{Op}
-use Rattle.condvar.specs.Ops.{mutex_of, operation_of}
+use Rattle.condvar.specs.Ops.{acts_as, mutex_of}
 use Rattle.facts.specs.Lives.{Act, Beginning, Complete}
 use Rattle.ruledwords.specs.Cards.{at}
 use Rattle.ruledwords.specs.Counts.{cell_at, counts_in, total_of}
@@ -43,9 +43,9 @@ use Rattle.report.specs.Parts.{Part}
 abbrev pub AreTold : Layout' → ℕ → ℕ → List Op → List Reply → List Point → Type 0
 AreTold k t m [] [] xs = xs ≡ []
 AreTold k t m (c ∷ cs) (r ∷ rs) xs =
-    (((mutex_of k c ≢ m) ⊎ ((acquires (operation_of c) ≡ true) × (r ≡ XHELD))) × AreTold k t m cs rs xs)
+    (((mutex_of k c ≢ m) ⊎ ((acquires (acts_as c) ≡ true) × (r ≡ XHELD))) × AreTold k t m cs rs xs)
     ⊎
-    ((mutex_of k c ≡ m) × (acts : List Act) × Complete (operation_of c) acts r × (ys : List Point)
+    ((mutex_of k c ≡ m) × (acts : List Act) × Complete (acts_as c) acts r × (ys : List Point)
     × (xs ≡ points_of t (cell_place k m) acts ++ ys) × AreTold k t m cs rs ys)
 AreTold k t m [] (r ∷ rs) xs = ⊥
 AreTold k t m (c ∷ cs) [] xs = ⊥
@@ -60,7 +60,7 @@ pub record AreLastWordsBehind (k : Layout') (t m : ℕ) (earlier : List Point) (
   pub answered : List Point
   pub told : AreTold k t m (take (length replies) calls) replies answered
   pub acts : List Act
-  pub begun : mutex_of k call ≡ m → Beginning (operation_of call) acts
+  pub begun : mutex_of k call ≡ m → Beginning (acts_as call) acts
   pub elsewhere : mutex_of k call ≢ m → acts ≡ []
   pub all : xs
       ≡ (answered ++ points_of t (cell_place k m) acts)

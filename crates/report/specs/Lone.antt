@@ -14,18 +14,18 @@
 use Rattle.std.specs.Prelude.{ℕ, ◌≡◌, ◌≢◌, ◌+◌, ◌<◌, ◌==◌, ◌||◌, Bool, true, false, nat_le, Option}
 use Rattle.std.specs.Prelude.{None, Some, List, [], ◌∷◌, length, slice_get, take, if◌then◌else◌}
 use Rattle.lockword.specs.declared.reply.Reply.{Reply}
-use Rattle.lockword.specs.declared.reply.Reply.TheVariants.{OK, EPERM, EBUSY, EINVAL, EDEADLK, EOWNERDEAD}
+use Rattle.lockword.specs.declared.reply.Reply.TheVariants.{OK, EPERM, EBUSY, EINVAL, EDEADLK, ETIMEDOUT, EOWNERDEAD}
 use Rattle.lockword.specs.declared.reply.Reply.TheVariants.{ENOTRECOVERABLE, XRACED, XHELD, XFULL, XSTATE}
 use Rattle.posixmutex.specs.declared.object.Object.{Object}
 use Rattle.posixmutex.specs.declared.point.Operation.{Operation}
-use Rattle.posixmutex.specs.declared.point.Operation.TheVariants.{Lock, TryLock, Unlock, Consistent, Wait}
+use Rattle.posixmutex.specs.declared.point.Operation.TheVariants.{Lock, TryLock, TimedLock, Unlock, Consistent, Wait}
 use Rattle.posixmutex.specs.declared.point.Operation.TheVariants.{Signal, Broadcast, Death, Reinit}
 use Rattle.posixmutex.specs.Histories.{is_thread, held_by}
 use Rattle.memorymap.specs.Layouts.{Layout', cell_place}
 use Rattle.posixmutex.specs.Objects.{acquires, held_limit, bereaved, stepped, Does, Run}
 use Rattle.condvar.specs.declared.op.Op.{Op}
 use Rattle.condvar.specs.Laws.{largest_counter, reply_counts}
-use Rattle.condvar.specs.Ops.{condition_of, mutex_of, operation_of}
+use Rattle.condvar.specs.Ops.{acts_as, condition_of, mutex_of}
 use Rattle.facts.specs.Lives.{Act, Beginning}
 use Rattle.ruledwords.specs.Seen.{count_acts, points_of}
 use Rattle.report.specs.Parts.{Part}
@@ -55,12 +55,13 @@ counting v = if v == largest_counter then XFULL else OK
 -- the answer to thread t, which holds so many mutexes, of a call of this operation on a mutex that is o, and on a
 -- condition variable whose counter is v, if on one. None: it isn't answered, as a lock of a mutex that another thread
 -- owns sleeps for good. A wait that isn't refused sleeps for good too, as nobody signals; if it is answered, it has
--- taken the mutex again that it released. A reinit is no call of theirs. (A trylock never gives up, as nobody else
--- changes the cell)
+-- taken the mutex again that it released. A reinit is no call of theirs, nor is a lock with a time limit; one whose
+-- limit doesn't come is a lock. (A trylock never gives up, as nobody else changes the cell)
 abbrev pub answer : ℕ → ℕ → ℕ → Operation → Object → Option Reply
 answer held t v Lock o = taking t (nat_le held_limit held) o.unusable o.owner o.inconsistent (Some EDEADLK) None
 answer held t v TryLock o =
     taking t (nat_le held_limit held) o.unusable o.owner o.inconsistent (Some EBUSY) (Some EBUSY)
+answer held t v TimedLock o = Some (if nat_le held_limit held then XHELD else ETIMEDOUT)
 answer held t v Unlock o = by_owner t o.owner (Some EPERM) (Some OK) (Some EPERM)
 answer held t v Consistent o =
     by_owner t o.owner (Some EPERM) (Some (if o.inconsistent then OK else EINVAL)) (Some EPERM)
@@ -109,18 +110,18 @@ raised vs (Some p) n q = if q == p then vs q + n else vs q
 
 -- the counters behind a call that was answered r
 abbrev pub counters_behind : (ℕ → ℕ) → Op → Reply → ℕ → ℕ
-counters_behind vs c r = raised vs (condition_of c) (reply_counts (operation_of c) r)
+counters_behind vs c r = raised vs (condition_of c) (reply_counts (acts_as c) r)
 
 -- ---- calls of one thread
 
 -- the mutexes behind a call of thread t that was answered r. A wait that took its mutex again leaves it as it was
 abbrev pub behind : Layout' → ℕ → (ℕ → Object) → Op → Reply → ℕ → Object
-behind k t os c r m = if m == mutex_of k c then stepped (os m) t (operation_of c) r else os m
+behind k t os c r m = if m == mutex_of k c then stepped (os m) t (acts_as c) r else os m
 
 -- what thread t is answered, where mutexes and counters are so
 abbrev pub answer_to : Layout' → ℕ → (ℕ → Object) → (ℕ → ℕ) → Op → Option Reply
 answer_to k t os vs c =
-    answer (held_by t os k.mutexes) t (counter_of vs (condition_of c)) (operation_of c) (os (mutex_of k c))
+    answer (held_by t os k.mutexes) t (counter_of vs (condition_of c)) (acts_as c) (os (mutex_of k c))
 
 -- thread t made these calls, one after the other, and was answered so; where the mutexes were os and the counters vs,
 -- they are os' and vs' behind them
@@ -146,9 +147,9 @@ pub record DiesAmong (k : Layout') (t : ℕ) (os : ℕ → Object) (vs : ℕ →
   pub before : ℕ → Object
   pub counters : ℕ → ℕ
   pub told : AreAnswered k t os vs (take (length replies) calls) replies before counters
-  pub few : acquires (operation_of call) ≡ true → nat_le held_limit (held_by t before k.mutexes) ≡ false
+  pub few : acquires (acts_as call) ≡ true → nat_le held_limit (held_by t before k.mutexes) ≡ false
   pub acts : List Act
-  pub begun : Beginning (operation_of call) acts
+  pub begun : Beginning (acts_as call) acts
   pub left : Object
   pub decided : Run (before (mutex_of k call)) (points_of t (cell_place k (mutex_of k call)) acts) left
   pub after : os' ≡ (λ m. bereft t (if m == mutex_of k call then left else before m))

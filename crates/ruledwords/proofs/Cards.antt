@@ -1,10 +1,11 @@
 -- What cards tell, from step to step.
-use Rattle.std.proofs.Common.{Bool, ◌≡◌, ◌≢◌, ℕ, ◌≤◌, Option, Some, None, List, [], ◌∷◌, ◌++◌, refl, sym, ap, ◌∙◌, subst, arith, append-nil, append_assoc}
+use Rattle.std.proofs.Common.{Bool, ◌≡◌, ◌≢◌, ℕ, ◌≤◌, Option, Some, None, inl, List, [], ◌∷◌, ◌++◌, refl, sym, ap, ◌∙◌, subst, arith, append-nil, append_assoc}
 use mathlib.Core.Logic.{dite}
 use native.Mathlib.Decide.{ℕ_discrete}
 use Rattle.lockword.specs.declared.reply.Reply.{Reply}
 use Rattle.posixmutex.specs.declared.object.Object.{Object}
 use Rattle.posixmutex.specs.declared.point.Operation.{Operation}
+use Rattle.posixmutex.specs.declared.point.Operation.TheVariants as operation
 use Rattle.posixmutex.specs.declared.point.Point.{Point}
 use Rattle.memorymap.specs.Layouts.{Layout', IsLayout, base_of, cell_place}
 use Rattle.mutex.proofs.Addresses.{same_place}
@@ -103,6 +104,7 @@ saw_more c p d op r o e called sees more none = record {
 
 -- a thread that dies in a call has made its point, or not yet
 complete_one : (op : Operation) (x : Reply) → Complete op ((op, x) ∷ []) x
+complete_one operation.TimedLock x = inl refl
 complete_one op x = refl
 
 pub dies : (c : Card) (p : ℕ) (op : Operation) (r : Option Reply) (d : Card) → Called c p (acts op r) d → Died c p op d

@@ -1,5 +1,5 @@
 -- What a call on a condition variable has decided, from access to access.
-use Rattle.std.proofs.Common.{Bool, true, false, ◌≡◌, ◌≢◌, ℕ, ◌+◌, ◌%◌, ◌^◌, ◌<◌, ◌≤◌, ◌==◌, not, Option, Some, None, [], ◌∷◌, refl, sym, ap, ◌∙◌, subst, arith, append-nil, ne_eqb}
+use Rattle.std.proofs.Common.{Bool, true, false, ◌≡◌, ◌≢◌, ℕ, ◌+◌, ◌%◌, ◌^◌, ◌<◌, ◌≤◌, ◌==◌, not, Option, Some, None, inl, [], ◌∷◌, refl, sym, ap, ◌∙◌, subst, arith, append-nil, ne_eqb}
 use Rattle.std.specs.Prelude.{◌||◌, if◌then◌else◌}
 use Rattle.std.proofs.lemmas.Bool.{eqb-false}
 use Rattle.lockword.specs.Cells.{fields_of}
@@ -363,6 +363,7 @@ module _ (k : Layout') (he en ce co t : ℕ) where
 -- ---- a thread that dies in it
 
 one_point : (op : Operation) → Beginning op []
+one_point operation.TimedLock = ((operation.TimedLock, OK) ∷ [], OK, inl refl)
 one_point op = ((op, OK) ∷ [], OK, refl)
 
 pub begins_acts : (k : Layout') (n : ℕ) (op : Operation) (c0 c : Card) (r : CondRow) → CondStands k n op c0 r c → Beginning op (cond_acts r)

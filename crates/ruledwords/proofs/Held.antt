@@ -3,9 +3,9 @@ use Rattle.std.proofs.Common.{Bool, true, false, ◌≡◌, ◌≢◌, ℕ, zero
 use Rattle.std.specs.Prelude.{if◌then◌else◌}
 use Rattle.std.proofs.lemmas.Bool.{eqb-false}
 use Rattle.lockword.specs.declared.reply.Reply.{Reply}
-use Rattle.lockword.specs.declared.reply.Reply.TheVariants.{OK, EPERM, EBUSY, EINVAL, EDEADLK, EOWNERDEAD, ENOTRECOVERABLE, XRACED, XFULL, XSTATE}
+use Rattle.lockword.specs.declared.reply.Reply.TheVariants.{OK, EPERM, EBUSY, EINVAL, EDEADLK, ETIMEDOUT, EOWNERDEAD, ENOTRECOVERABLE, XRACED, XFULL, XSTATE}
 use Rattle.posixmutex.specs.declared.point.Operation.{Operation}
-use Rattle.posixmutex.specs.declared.point.Operation.TheVariants.{Lock, TryLock, Unlock, Consistent, Wait, Signal, Broadcast, Death, Reinit}
+use Rattle.posixmutex.specs.declared.point.Operation.TheVariants.{Lock, TryLock, TimedLock, Unlock, Consistent, Wait, Signal, Broadcast, Death, Reinit}
 use Rattle.posixmutex.specs.declared.point.Point.{Point}
 use Rattle.posixmutex.specs.declared.object.Object.{Object}
 use Rattle.posixmutex.specs.Histories.{is_thread}
@@ -47,6 +47,7 @@ own_point o n t TryLock EOWNERDEAD p = sym (owns_own t n (ap (λ (z : Object). z
 own_point o n t TryLock ENOTRECOVERABLE p = ap (owns t) (sym p.1)
 own_point o n t TryLock EBUSY p = ap (owns t) (sym p.1)
 own_point o n t TryLock XRACED p = ap (owns t) (sym p.2)
+own_point o n t TimedLock ETIMEDOUT p = ap (owns t) (sym p)
 own_point o n t Unlock OK p = sym (owns_none t n (ap (λ (z : Object). z.owner) p.1))
 own_point o n t Unlock EPERM p = ap (owns t) (sym p.1)
 own_point o n t Consistent OK p = ap (λ (z : Object). owns t z) (sym p.2)
@@ -75,6 +76,7 @@ other_point o n t u TryLock EOWNERDEAD apart p = owns_none t o p.1 ∙ sym (owns
 other_point o n t u TryLock ENOTRECOVERABLE apart p = ap (owns t) (sym p.1)
 other_point o n t u TryLock EBUSY apart p = ap (owns t) (sym p.1)
 other_point o n t u TryLock XRACED apart p = ap (owns t) (sym p.2)
+other_point o n t u TimedLock ETIMEDOUT apart p = ap (owns t) (sym p)
 other_point o n t u Unlock OK apart p = owns_other t u o p.0 apart ∙ sym (owns_none t n (ap (λ (z : Object). z.owner) p.1))
 other_point o n t u Unlock EPERM apart p = ap (owns t) (sym p.1)
 other_point o n t u Consistent OK apart p = ap (λ (z : Object). owns t z) (sym p.2)
@@ -144,6 +146,7 @@ counted_point o n t h h' TryLock EOWNERDEAD p e = let c = ap one (owns_none t o 
 counted_point o n t h h' TryLock ENOTRECOVERABLE p e = let c : one (owns t n) ≡ one (owns t o) = ap (λ (z : Object). one (owns t z)) p.1 in omega arith
 counted_point o n t h h' TryLock EBUSY p e = let c : one (owns t n) ≡ one (owns t o) = ap (λ (z : Object). one (owns t z)) p.1 in omega arith
 counted_point o n t h h' TryLock XRACED p e = let c : one (owns t n) ≡ one (owns t o) = ap (λ (z : Object). one (owns t z)) p.2 in omega arith
+counted_point o n t h h' TimedLock ETIMEDOUT p e = let c : one (owns t n) ≡ one (owns t o) = ap (λ (z : Object). one (owns t z)) p in omega arith
 counted_point o n t h h' Unlock OK p e = let c = ap one (owns_own t o p.0) in let d = ap one (owns_none t n (ap (λ (z : Object). z.owner) p.1)) in omega arith
 counted_point o n t h h' Unlock EPERM p e = let c : one (owns t n) ≡ one (owns t o) = ap (λ (z : Object). one (owns t z)) p.1 in omega arith
 counted_point o n t h h' Consistent OK p e = let c : one (owns t n) ≡ one (owns t o) = ap (λ (z : Object). one (owns t z)) p.2 in omega arith

@@ -122,6 +122,7 @@ taken_free o n t op x permits taken = absurd (cc taken)
 fault_never : (o n : Object) (t : ℕ) (op : Operation) → Permits o t op EFAULT n → ⊥
 fault_never o n t operation.Lock permits = permits
 fault_never o n t operation.TryLock permits = permits
+fault_never o n t operation.TimedLock permits = permits
 fault_never o n t operation.Unlock permits = permits
 fault_never o n t operation.Consistent permits = permits
 fault_never o n t operation.Wait permits = permits

@@ -10,7 +10,7 @@ use Rattle.robustlist.specs.Words.{answer_on}
 use Rattle.mutex.specs.declared.call.Call.{Call}
 use Rattle.mutex.specs.declared.phase.Phase.{Phase}
 use Rattle.mutex.specs.declared.phase.Phase.TheVariants as phase
-use Rattle.mutex.specs.Calls.{mutex_of, operation_of}
+use Rattle.mutex.specs.Calls.{acts_as, mutex_of}
 use Rattle.mutex.specs.Laws.{decided}
 use Rattle.mutex.specs.Programs.{first_row}
 use Rattle.mutex.specs.Standings.{Standing, Whole}
@@ -119,7 +119,7 @@ module _ (w : Words) (r : Running) (of : IsRunningOf w r) (own : IsOwnAccess (ru
 
     pub stands_on : (a : Pass Live) (call : Call) → IsUnderWayFrom w a call r → StandsIn w a call (standing_of p') (card b)
     stands_on a call u = subst (λ (z : Standing). StandsIn w a call z (card b)) (sym as_before)
-        (u.1, still_stands (operation_of call) (first_row call) (cell_place k (mutex_of call)) (card a) (standing_of p) c (card b) still (expects_still (standing_of p).row (cell_place k (mutex_of call)) c (card b) (ap (λ (l : List (List Change)). changes_at l (cell_place k (mutex_of call))) (ap (λ (z : Card). z.changes) (is ∙ own_same k c (whole_access p)))) u.2.expects) u.2)
+        (u.1, still_stands (acts_as call) (first_row call) (cell_place k (mutex_of call)) (card a) (standing_of p) c (card b) still (expects_still (standing_of p).row (cell_place k (mutex_of call)) c (card b) (ap (λ (l : List (List Change)). changes_at l (cell_place k (mutex_of call))) (ap (λ (z : Card). z.changes) (is ∙ own_same k c (whole_access p)))) u.2.expects) u.2)
 
     pub decided_on : (m : ℕ) (e : Card) (y : Reply) → IsDecided w m e y r → (decided (row_in p'.phase) ≡ Some y) × IsOnMutex k (standing_of p') m × HasSeenTheSame (cell_place k m) e (card b)
     decided_on m e y was = (ap (λ (z : Standing). decided z.row) as_before ∙ was.1, subst (λ (z : Standing). IsOnMutex k z m) (sym as_before) was.2, seen_on (cell_place k m) e c (card b) was.3 still)
@@ -131,7 +131,7 @@ module _ (w : Words) (r : Running) (of : IsRunningOf w r) (own : IsOwnAccess (ru
       pub ended_on : (a : Pass Live) (call : Call) → IsUnderWayFrom w a call r → HasEnded w a call y (card b)
       ended_on a call u =
           let s = (stands_on a call u).1 in (
-            called (operation_of call) (first_row call) (cell_place k (mutex_of call)) (card a) (standing_of p') (card b) y s (ap (λ (f : Phase). decided (row_in f)) ended),
+            called (acts_as call) (first_row call) (cell_place k (mutex_of call)) (card a) (standing_of p') (card b) y s (ap (λ (f : Phase). decided (row_in f)) ended),
             raced_at call (cell_place k (mutex_of call)) (card a) (standing_of p') (card b) y s (ap row_in ended),
             s.knows,
           )

@@ -74,6 +74,7 @@ still_nonblocking w a p b q s on = (s.0, s.1, s.2, on.1 s.0 s.1 s.3)
 -- each of their accesses is a step
 pub is_step : (w : Words) (x : Pass Live) (call : Call) (r : Running) → IsNonblocking call → IsUnderWay w x call r → IsOneStep (access_in r)
 is_step w x (call.Lock m) r waits u = absurd waits
+is_step w x (call.TimedLock m) r waits u = absurd waits
 is_step w x (call.TryLock m) r waits u = try_step w x m r u
 is_step w x (call.Unlock m) r waits u = absurd waits
 is_step w x (call.Consistent m) r waits u = consistent_step w x m r u
@@ -82,6 +83,7 @@ is_step w x (call.Consistent m) r waits u = consistent_step w x m r u
 pub falls : (w : Words) (x : Pass Live) (call : Call) (r r' : Running) → IsNonblocking call → IsUnderWay w x call r → Turned (layout_of w) (running_call r) (running_pass r) (Goes r')
     → rank_in (running_call r').phase < rank_in (running_call r).phase
 falls w x (call.Lock m) r r' waits u turned = absurd waits
+falls w x (call.TimedLock m) r r' waits u turned = absurd waits
 falls w x (call.TryLock m) r r' waits u turned = turn_falls w r r' operation.TryLock u.0 (λ e. cc) u.2.of (try_step w x m r u) turned
 falls w x (call.Unlock m) r r' waits u turned = absurd waits
 falls w x (call.Consistent m) r r' waits u turned = turn_falls w r r' operation.Consistent u.0 (λ e. cc) u.2.of (consistent_step w x m r u) turned

@@ -10,9 +10,9 @@ use Rattle.memorymap.specs.Layouts.{Layout', cell_place, address_in}
 use Rattle.posixmutex.specs.declared.object.Object.{Object}
 use Rattle.posixmutex.specs.Objects.{acquires, fresh}
 use Rattle.mutex.specs.declared.call.Call.{Call}
-use Rattle.mutex.specs.declared.call.Call.TheVariants.{Lock, TryLock, Unlock, Consistent}
+use Rattle.mutex.specs.declared.call.Call.TheVariants.{Lock, TimedLock, TryLock, Unlock, Consistent}
 use Rattle.mutex.specs.declared.row.Row.TheVariants as row
-use Rattle.mutex.specs.Calls.{mutex_of, operation_of}
+use Rattle.mutex.specs.Calls.{acts_as, mutex_of, operation_of}
 use Rattle.mutex.specs.declared.row.Row.{Row}
 use Rattle.mutex.specs.Laws.{decided, Expects, IsOf}
 use Rattle.mutex.specs.Programs.{access_of, first_row, led, moved}
@@ -37,20 +37,23 @@ use Rattle.ruledwords.proofs.Sections.{stands_answered}
 
 -- ---- a call begins
 
-first_of : (c : Call) → IsOf (operation_of c) (first_row c)
+first_of : (c : Call) → IsOf (acts_as c) (first_row c)
 first_of (Lock m) = refl
+first_of (TimedLock m) = refl
 first_of (TryLock m) = refl
 first_of (Unlock m) = refl
 first_of (Consistent m) = refl
 
 first_undecided : (c : Call) → decided (first_row c) ≡ None
 first_undecided (Lock m) = refl
+first_undecided (TimedLock m) = refl
 first_undecided (TryLock m) = refl
 first_undecided (Unlock m) = refl
 first_undecided (Consistent m) = refl
 
 first_expects : (q : ℕ) (c : Card) (call : Call) → ExpectsKnown (first_row call) q c
 first_expects q c (Lock m) = tt
+first_expects q c (TimedLock m) = tt
 first_expects q c (TryLock m) = tt
 first_expects q c (Unlock m) = tt
 first_expects q c (Consistent m) = tt
@@ -62,18 +65,20 @@ starts k t h c p e = (by_test (acquires (operation_of c) && nat_le 2048 h) (whol
 -- as its mutex sees it, at the first row
 pub starts_so : (k : Layout') (t : ℕ) (c : Call) → standing_of (whole_begins k t c) ≡ record { thread = t; cell = address_in k t (cell_place k (mutex_of c)); row = first_row c }
 starts_so k t (Lock m) = refl
+starts_so k t (TimedLock m) = refl
 starts_so k t (TryLock m) = refl
 starts_so k t (Unlock m) = refl
 starts_so k t (Consistent m) = refl
 
-pub begun : (k : Layout') (c : Card) (call : Call) (p : Whole) → p ≡ whole_begins k c.thread call → Stands (operation_of call) (first_row call) (cell_place k (mutex_of call)) c (standing_of p) c
+pub begun : (k : Layout') (c : Card) (call : Call) (p : Whole) → p ≡ whole_begins k c.thread call → Stands (acts_as call) (first_row call) (cell_place k (mutex_of call)) c (standing_of p) c
 begun k c call p is =
     let at : Standing = record { thread = c.thread; cell = address_in k c.thread (cell_place k (mutex_of call)); row = first_row call } in
-    subst (λ (q : Standing). Stands (operation_of call) (first_row call) (cell_place k (mutex_of call)) c q c) (sym (ap standing_of is ∙ starts_so k c.thread call))
-    (begins (operation_of call) (cell_place k (mutex_of call)) c at (first_of call) (first_undecided call) (first_expects (cell_place k (mutex_of call)) c call))
+    subst (λ (q : Standing). Stands (acts_as call) (first_row call) (cell_place k (mutex_of call)) c q c) (sym (ap standing_of is ∙ starts_so k c.thread call))
+    (begins (acts_as call) (cell_place k (mutex_of call)) c at (first_of call) (first_undecided call) (first_expects (cell_place k (mutex_of call)) c call))
 
 first_knows : (t : ℕ) (c : Call) (o : Object) → Knows (first_row c) × Expects t (first_row c) o
 first_knows t (Lock m) o = (tt, tt)
+first_knows t (TimedLock m) o = (tt, tt)
 first_knows t (TryLock m) o = (tt, tt)
 first_knows t (Unlock m) o = (tt, tt)
 first_knows t (Consistent m) o = (tt, tt)
@@ -86,12 +91,14 @@ begun_ready k c call p is =
 
 first_room : (c : Call) (h : ℕ) → (acquires (operation_of c) && nat_le 2048 h) ≡ false → h ≤ 2048 → h ≤ most (first_row c)
 first_room (Lock m) h free few = grind (arith, nat_tests)
+first_room (TimedLock m) h free few = grind (arith, nat_tests)
 first_room (TryLock m) h free few = grind (arith, nat_tests)
 first_room (Unlock m) h free few = omega arith
 first_room (Consistent m) h free few = omega arith
 
 first_under_way : (c : Call) → IsInProgress (first_phase c)
 first_under_way (Lock m) = tt
+first_under_way (TimedLock m) = tt
 first_under_way (TryLock m) = tt
 first_under_way (Unlock m) = tt
 first_under_way (Consistent m) = tt
@@ -107,8 +114,9 @@ begun_under_way k t h call p e = subst (λ (z : Whole). IsInProgress z.phase) (s
 -- ---- it goes on, or ends
 
 -- a trylock that gives up
-pub raced_at : (call : Call) (q : ℕ) (c : Card) (p : Standing) (d : Card) (x : Reply) → Stands (operation_of call) (first_row call) q c p d → p.row ≡ row.Ended x → IsRaced (operation_of call) x c q d
+pub raced_at : (call : Call) (q : ℕ) (c : Card) (p : Standing) (d : Card) (x : Reply) → Stands (acts_as call) (first_row call) q c p d → p.row ≡ row.Ended x → IsRaced (acts_as call) x c q d
 raced_at (Lock m) q c p d x s is = tt
+raced_at (TimedLock m) q c p d x s is = tt
 raced_at (TryLock m) q c p d XRACED s is = raced_four operation.TryLock q c p d s is
 raced_at (TryLock m) q c p d x s is = tt
 raced_at (Unlock m) q c p d x s is = tt
@@ -116,10 +124,10 @@ raced_at (Consistent m) q c p d x s is = tt
 
 -- where it stands, and what its pass has seen
 abbrev pub StandsIn : Words → Pass Live → Call → Standing → Card → Type 0
-StandsIn w a call z d = IsOnMutex (layout_of w) z (mutex_of call) × Stands (operation_of call) (first_row call) (cell_place (layout_of w) (mutex_of call)) (card a) z d
+StandsIn w a call z d = IsOnMutex (layout_of w) z (mutex_of call) × Stands (acts_as call) (first_row call) (cell_place (layout_of w) (mutex_of call)) (card a) z d
 
 abbrev pub HasEnded : Words → Pass Live → Call → Reply → Card → Type 0
-HasEnded w a call x d = Called (card a) (cell_place (layout_of w) (mutex_of call)) ((operation_of call, x) ∷ []) d × IsRaced (operation_of call) x (card a) (cell_place (layout_of w) (mutex_of call)) d × KnowsMoreAt (card a) (cell_place (layout_of w) (mutex_of call)) d
+HasEnded w a call x d = Called (card a) (cell_place (layout_of w) (mutex_of call)) ((acts_as call, x) ∷ []) d × IsRaced (acts_as call) x (card a) (cell_place (layout_of w) (mutex_of call)) d × KnowsMoreAt (card a) (cell_place (layout_of w) (mutex_of call)) d
 
 module _ (w : Words) (a : Pass Live) (call : Call) (r : Running) (u : IsUnderWay w a call r) where
   abbrev place : ℕ
@@ -137,8 +145,8 @@ module _ (w : Words) (a : Pass Live) (call : Call) (r : Running) (u : IsUnderWay
       (sym (same_mutex (layout_of w) z m (mutex_of call) u.0.0.1.layout (subst (λ (t : ℕ). 1 ≤ t) (sym mine) u.0.0.1.first) (subst (λ (t : ℕ). t ≤ (layout_of w).threads) (sym mine) u.0.0.1.thread) here u.1)) made
 
   stands_made : (m n : ℕ) (d : Card) → IsGoing z.row → IsStep (access_of z) → IsOnMutex (layout_of w) z m → Made z (cell_place (layout_of w) m) (card r.pass) n d
-      → Stands (operation_of call) (first_row call) place (card a) (moved z (led_at z n)) d
-  stands_made m n d going stepping here made = stands_after (operation_of call) (first_row call) place (card a) z (card r.pass) d n going stepping r.ready u.2 (there m n d here made)
+      → Stands (acts_as call) (first_row call) place (card a) (moved z (led_at z n)) d
+  stands_made m n d going stepping here made = stands_after (acts_as call) (first_row call) place (card a) z (card r.pass) d n going stepping r.ready u.2 (there m n d here made)
 
   pub goes_on_made : (m n : ℕ) (y : Standing) (d : Card) → IsGoing z.row → IsStep (access_of z) → IsOnMutex (layout_of w) z m → Made z (cell_place (layout_of w) m) (card r.pass) n d → y ≡ moved z (led_at z n) → StandsIn w a call y d
   goes_on_made m n y d going stepping here made is = subst (λ (y : Standing). StandsIn w a call y d) (sym is) (u.1, stands_made m n d going stepping here made)
@@ -147,20 +155,20 @@ module _ (w : Words) (a : Pass Live) (call : Call) (r : Running) (u : IsUnderWay
   ends_made m n x d going stepping here made is =
       let s = stands_made m n d going stepping here made in
       let end : Standing = moved z (led_at z n) in
-      (called (operation_of call) (first_row call) place (card a) end d x s (ap decided is), raced_at call place (card a) end d x s is, s.knows)
+      (called (acts_as call) (first_row call) place (card a) end d x s (ap decided is), raced_at call place (card a) end d x s is, s.knows)
 
   pub goes_on_answered : (x : Answer) (y : Standing) → IsAnswerOf (access_of z) x → y ≡ moved z (led z x) → StandsIn w a call y (card r.pass)
   goes_on_answered x y fits is =
-      subst (λ (y : Standing). StandsIn w a call y (card r.pass)) (sym is) (u.1, stands_answered (operation_of call) (first_row call) place (card a) z (card r.pass) x fits r.ready u.2)
+      subst (λ (y : Standing). StandsIn w a call y (card r.pass)) (sym is) (u.1, stands_answered (acts_as call) (first_row call) place (card a) z (card r.pass) x fits r.ready u.2)
 
   pub ends_answered : (x : Answer) (y : Reply) → IsAnswerOf (access_of z) x → (led z x).row ≡ row.Ended y → HasEnded w a call y (card r.pass)
   ends_answered x y fits is =
-      let s = stands_answered (operation_of call) (first_row call) place (card a) z (card r.pass) x fits r.ready u.2 in
+      let s = stands_answered (acts_as call) (first_row call) place (card a) z (card r.pass) x fits r.ready u.2 in
       let end : Standing = moved z (led z x) in
-      (called (operation_of call) (first_row call) place (card a) end (card r.pass) y s (ap decided is), raced_at call place (card a) end (card r.pass) y s is, s.knows)
+      (called (acts_as call) (first_row call) place (card a) end (card r.pass) y s (ap decided is), raced_at call place (card a) end (card r.pass) y s is, s.knows)
 
 -- a thread that dies in it
-pub died_in : (w : Words) (a : Pass Live) (call : Call) (r : Running) (d : Card) → IsUnderWay w a call r → d ≡ card r.pass → Died (card a) (cell_place (layout_of w) (mutex_of call)) (operation_of call) d × KnowsMoreAt (card a) (cell_place (layout_of w) (mutex_of call)) d
+pub died_in : (w : Words) (a : Pass Live) (call : Call) (r : Running) (d : Card) → IsUnderWay w a call r → d ≡ card r.pass → Died (card a) (cell_place (layout_of w) (mutex_of call)) (acts_as call) d × KnowsMoreAt (card a) (cell_place (layout_of w) (mutex_of call)) d
 died_in w a call r d u same =
-    subst (λ (z : Card). Died (card a) (cell_place (layout_of w) (mutex_of call)) (operation_of call) z × KnowsMoreAt (card a) (cell_place (layout_of w) (mutex_of call)) z) (sym same)
-    (dies (card a) (cell_place (layout_of w) (mutex_of call)) (operation_of call) (decided (running_program r).row) (card r.pass) u.2.called, u.2.knows)
+    subst (λ (z : Card). Died (card a) (cell_place (layout_of w) (mutex_of call)) (acts_as call) z × KnowsMoreAt (card a) (cell_place (layout_of w) (mutex_of call)) z) (sym same)
+    (dies (card a) (cell_place (layout_of w) (mutex_of call)) (acts_as call) (decided (running_program r).row) (card r.pass) u.2.called, u.2.knows)

@@ -21,7 +21,7 @@ use Rattle.mutex.specs.declared.call.Call.{Call}
 use Rattle.mutex.specs.declared.call.Call.TheVariants as call
 use Rattle.mutex.specs.declared.phase.Phase.{Phase}
 use Rattle.mutex.specs.declared.phase.Phase.TheVariants as phase
-use Rattle.mutex.specs.Calls.{mutex_of, operation_of}
+use Rattle.mutex.specs.Calls.{acts_as, mutex_of}
 use Rattle.mutex.specs.Laws.{decided}
 use Rattle.mutex.specs.Programs.{first_row}
 use Rattle.mutex.specs.Standings.{Standing, Whole}
@@ -125,7 +125,7 @@ running_of w a p of = record { pass = a; program = p; ready = of.ready; room = o
 abbrev pub IsUnderWay : Words → Pass Live → Call → Running → Type 0
 IsUnderWay w a call r =
     IsRunningOf w r × IsOnMutex (layout_of w) (running_program r) (mutex_of call)
-    × Stands (operation_of call) (first_row call) (cell_place (layout_of w) (mutex_of call)) (card a)
+    × Stands (acts_as call) (first_row call) (cell_place (layout_of w) (mutex_of call)) (card a)
     (running_program r) (card (running_pass r))
 
 -- a call begins, or is refused with no access
@@ -187,13 +187,13 @@ IsRaced op x c p d = Unit {0}
 abbrev pub GoesOn : Words → Pass Live → Call → Turn → Type 0
 GoesOn w a call (Goes r) = IsUnderWay w a call r
 GoesOn w a call (Lives b x) = IsLive w b
-    × Called (card a) (cell_place (layout_of w) (mutex_of call)) ((operation_of call, x) ∷ []) (card b)
-    × IsRaced (operation_of call) x (card a) (cell_place (layout_of w) (mutex_of call)) (card b)
+    × Called (card a) (cell_place (layout_of w) (mutex_of call)) ((acts_as call, x) ∷ []) (card b)
+    × IsRaced (acts_as call) x (card a) (cell_place (layout_of w) (mutex_of call)) (card b)
     × KnowsMoreAt (card a) (cell_place (layout_of w) (mutex_of call)) (card b)
 
 -- a thread died in a call that began at the pass a
 abbrev pub HasDied : Words → Pass Live → Call → Pass Dead → Type 0
-HasDied w a call d = IsDying w d × Died (card a) (cell_place (layout_of w) (mutex_of call)) (operation_of call) (card d)
+HasDied w a call d = IsDying w d × Died (card a) (cell_place (layout_of w) (mutex_of call)) (acts_as call) (card d)
     × KnowsMoreAt (card a) (cell_place (layout_of w) (mutex_of call)) (card d)
 
 -- wherever the call began, it goes on

@@ -16,7 +16,7 @@ use Rattle.protocol.specs.declared.event.Event.{Event}
 use Rattle.protocol.specs.declared.event.Event.TheVariants as event
 use Rattle.condvar.specs.Calls.{condition_of}
 use Rattle.protocol.specs.declared.note.Note.{Note}
-use Rattle.protocol.specs.declared.note.Note.TheVariants.{Nothing, Began, Stepped, Killed, Left, Walked, Renewed, Reinited, Recounted, Reslept}
+use Rattle.protocol.specs.declared.note.Note.TheVariants.{Nothing, Began, Stepped, Killed, Left, Expired, Walked, Renewed, Reinited, Recounted, Reslept}
 use Rattle.protocol.specs.Notes.{facts_of, point_facts, sleep_facts, moves_to, return_facts, death_facts, reap_facts}
 use Rattle.protocol.specs.Machine.{State, start, stands_in, begun, happens, run, notes}
 use Rattle.protocol.specs.Headline.{facts_among}
@@ -180,6 +180,7 @@ note_moved t w (Began u c None) once k = (tt, tt)
 note_moved t w (Began u c (Some x)) once k = (tt, (tt, (tt, tt)))
 note_moved t w (Killed u) once k = (tt, tt)
 note_moved t w (Left u) once k = (tt, tt)
+note_moved t w (Expired u m) once k = (tt, (tt, tt))
 note_moved t w (Renewed u) once k = (tt, tt)
 note_moved t w (Reinited u j) once k = (tt, (tt, (tt, tt)))
 note_moved t w (Recounted c) once k = tt
@@ -201,6 +202,7 @@ event_once s e inv queued =
     (λ u first most. by_step s u inv first most (λ a. OnceMoved a.note) (λ rests. tt) (λ v n is awake step noted. noted_once s u v n queued noted))
     (λ u first most alive. tt)
     (λ u first most asleep. tt)
+    (λ u k p first most is asleep may. tt)
     (λ u o p first most is awake trims. tt)
     (λ u first most gone. tt)
     (λ u j may. tt)
@@ -218,6 +220,7 @@ none_moved s e t u m =
     (λ v first most is h. absurd cc)
     (λ v first most alive is h. absurd cc)
     (λ v first most asleep is h. absurd cc)
+    (λ v k p first most at asleep may is h. absurd cc)
     (λ v o p first most at awake trims is h. absurd cc)
     (λ v first most gone is h. absurd cc)
     (λ v j may is h. absurd cc)
@@ -453,6 +456,7 @@ note_few (Began u c None) = record { own_few = omega arith; slept_few = omega ar
 note_few (Began u c (Some x)) = record { own_few = omega arith; slept_few = omega arith }
 note_few (Killed u) = record { own_few = omega arith; slept_few = omega arith }
 note_few (Left u) = record { own_few = omega arith; slept_few = omega arith }
+note_few (Expired u m) = record { own_few = omega arith; slept_few = omega arith }
 note_few (Renewed u) = record { own_few = omega arith; slept_few = omega arith }
 note_few (Reinited u j) = record { own_few = omega arith; slept_few = omega arith }
 note_few (Recounted c) = record { own_few = omega arith; slept_few = omega arith }

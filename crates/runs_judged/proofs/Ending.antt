@@ -14,27 +14,32 @@ use Rattle.facts.specs.declared.fact.Fact.{Fact}
 use Rattle.facts.specs.declared.fact.Fact.TheVariants.{Point, Death, Wake, Reap}
 use Rattle.facts.specs.declared.fact.Line.{Line}
 use Rattle.facts.specs.Facts.{thread_of, decision_of}
+use Rattle.facts.specs.Chances.{TimeLimitsHaveReasons, no_chances}
 use Rattle.facts.specs.Lives.{is_of_call, own, Lives}
 use Rattle.exitwalk.specs.declared.row.Row as walk_row
 use Rattle.exitwalk.specs.declared.row.Row.TheVariants as walk
 use Rattle.exitwalk.specs.Standings as walks
 use Rattle.condvar.specs.declared.op.Op.{Op}
+use Rattle.condvar.specs.declared.op.Op.TheVariants.{OnMutex}
 use Rattle.stepprograms.specs.declared.access.Answer.TheVariants.{Trimmed}
+use Rattle.mutex.specs.declared.call.Call.TheVariants as call
+use Rattle.mutex.specs.Standings.{Whole}
 use Rattle.mutex.specs.Whole.{whole_led}
 use Rattle.condvar.specs.Ops.{mutex_of}
 use Rattle.protocol.specs.declared.event.Event.{Event}
 use Rattle.condvar.specs.Calls.{condition_of}
 use Rattle.protocol.specs.declared.note.Note.{Note}
-use Rattle.protocol.specs.declared.note.Note.TheVariants.{Nothing, Began, Stepped, Killed, Left, Walked, Renewed, Reinited, Recounted, Reslept}
+use Rattle.protocol.specs.declared.note.Note.TheVariants.{Nothing, Began, Stepped, Killed, Left, Expired, Walked, Renewed, Reinited, Recounted, Reslept}
 use Rattle.protocol.specs.declared.thread.Thread.{Thread}
 use Rattle.protocol.specs.declared.thread.Stage.TheVariants.{Reaped}
 use Rattle.protocol.specs.Notes.{facts_of, death_facts, reap_facts, line_of, lines_from}
-use Rattle.protocol.specs.Machine.{State, After, start, begun, killed, departed, renewed, reinited, reslept, walked, has_ended, stage_walked, happens, run, notes, led, decision}
+use Rattle.protocol.specs.Machine.{State, After, start, begun, killed, departed, lapsed, renewed, reinited, reslept, walked, has_ended, stage_walked, happens, run, notes, led, decision}
 use Rattle.protocol.specs.Headline.{points_of, points_among, facts_among, seen}
 use Rattle.protocol.specs.Sleepers.{IsAmong}
 use Rattle.protocol.proofs.Puts.{put-same}
 use Rattle.protocol.proofs.Events.{begins_at, by_event, by_stage}
 use Rattle.protocol.proofs.Lives.{explained}
+use Rattle.protocol.proofs.TimeLimits.{in_time}
 use Rattle.verdict.specs.declared.stage.Stage.TheVariants.{Resting}
 use Rattle.verdict.specs.Earlier.{objects_after}
 use Rattle.verdict.specs.Explained.{with_decision, decisions}
@@ -45,7 +50,7 @@ use Rattle.runs_judged.proofs.Turns.{own_of, FitAlong}
 use Rattle.runs_judged.proofs.Moments.{moment}
 use Rattle.runs_judged.proofs.Facts.{OfStep, Is_point, Is_sleep, Is_wake, Is_move, Is_return, of_step, among_right, among_parts, among_deaths, among_wakes, among_reaps, run_push, notes_push}
 use Rattle.runs_judged.proofs.Placing.{run_placed}
-use Rattle.runs_judged.proofs.Fitting.{onto, onto-append, facts_in, all_fit, in_order, threads_fit, allowed, ends, ReapedOn, reaped_append, none_reaped}
+use Rattle.runs_judged.proofs.Fitting.{onto, onto-append, facts_in, all_fit, in_order, threads_fit, allowed, due, ends, ReapedOn, reaped_append, none_reaped}
 
 -- ---- lines and their facts
 
@@ -160,6 +165,11 @@ module _ (s : State) (t : ℕ) where
   left_rightly u (inl f) = absurd cc
   left_rightly u (inr h) = absurd h
 
+  lapsed_rightly : (u k : ℕ) (p : Whole) → ReapsRightly (lapsed s u (s.threads u).held (OnMutex (call.TimedLock k)) p)
+  lapsed_rightly u k p (inl f) = absurd cc
+  lapsed_rightly u k p (inr (inl f)) = absurd cc
+  lapsed_rightly u k p (inr (inr h)) = absurd h
+
   renewed_rightly : (u : ℕ) → ReapsRightly (renewed s u)
   renewed_rightly u (inl f) = absurd cc
   renewed_rightly u (inr h) = absurd h
@@ -181,6 +191,7 @@ module _ (s : State) (t : ℕ) where
       (λ u first most. by_stage s u ReapsRightly (λ rests h. absurd h) (λ o p is awake h. absurd (step_reaps_none t u _ _ _ _ _ _ h)) (λ c p is awake h. absurd (step_reaps_none t u _ _ _ _ _ _ h)) (λ w is awake. walked_rightly u w))
       (λ u first most alive. killed_rightly u)
       (λ u first most asleep. left_rightly u)
+      (λ u k p first most is asleep may. lapsed_rightly u k p)
       (λ u o p first most is awake trims h. let g = led o p (whole_led p (Trimmed false)) in absurd (step_reaps_none t u (mutex_of s.layout o) (decision u (mutex_of s.layout o) g.operation g.point) None [] [] g.returned h))
       (λ u first most gone. renewed_rightly u)
       (λ u j may. reinited_rightly u j 0)
@@ -198,6 +209,7 @@ note_reaped k i earlier (Began u c None) owns = (tt, tt)
 note_reaped k i earlier (Began u c (Some x)) owns = (tt, (tt, (tt, tt)))
 note_reaped k i earlier (Killed u) owns = (tt, tt)
 note_reaped k i earlier (Left u) owns = (tt, tt)
+note_reaped k i earlier (Expired u m) owns = (tt, (tt, tt))
 note_reaped k i earlier (Renewed u) owns = (tt, tt)
 note_reaped k i earlier (Reinited u j) owns = (tt, (tt, (tt, tt)))
 note_reaped k i earlier (Recounted c) owns = tt
@@ -273,4 +285,5 @@ module _ (l : Layout') (counters : ℕ → ℕ) (is : IsLayout l) where
       (threads_fit (lines_from 1 ns)
       (λ t. subst (FitAlong t []) (sym (lines_tell 1 ns)) (turns.all_fit t (facts_among ns) (run_lives events t) ((moment l counters events is).tells.alternate t) (run_placed l counters is t events))))
       (allowed l.mutexes (seen (run (start l counters) events)) (lines_from 1 ns) (told_legal events))
+      (due (lines_from 1 ns) (λ t m. subst (TimeLimitsHaveReasons t m no_chances) (sym (lines_tell 1 ns)) (in_time l counters events is t m)))
       (reaped_from [] events 1 refl)

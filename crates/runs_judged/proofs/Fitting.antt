@@ -9,14 +9,15 @@ use Rattle.posixmutex.specs.declared.point.Decision.{Decision}
 use Rattle.posixmutex.specs.Objects.{Does, stepped}
 use Rattle.posixmutex.specs.Histories.{Legal, opening, held_by}
 use Rattle.facts.specs.declared.fact.Fact.{Fact}
-use Rattle.facts.specs.declared.fact.Fact.TheVariants.{Reap}
+use Rattle.facts.specs.declared.fact.Fact.TheVariants.{Point, Reap}
 use Rattle.facts.specs.declared.fact.Line.{Line}
 use Rattle.facts.specs.Facts.{thread_of, decision_of}
+use Rattle.facts.specs.Chances.{MayTimeOut, TimeLimitsHaveReasons, no_chances}
 use Rattle.facts.specs.Orders.{Later, Each, Orderly}
 use Rattle.protocol.specs.Notes.{line_of}
 use Rattle.protocol.specs.Sleepers.{IsAmong}
-use Rattle.verdict.specs.Earlier.{told_of, moved, objects_after}
-use Rattle.verdict.specs.Fits.{FitsThread, Allows, OwnsNothing}
+use Rattle.verdict.specs.Earlier.{told_of, moved, objects_after, chances_behind}
+use Rattle.verdict.specs.Fits.{FitsThread, Allows, IsDue, OwnsNothing}
 use Rattle.verdict.specs.Explained.{with_decision, decisions}
 use Rattle.verdict.specs.Verdicts.{AllFit}
 use Rattle.posixmutex.proofs.Steps.{determined}
@@ -53,17 +54,21 @@ abbrev pub AllowedOn : ℕ → List Line → List Line → Type 0
 AllowedOn n earlier [] = Unit {0}
 AllowedOn n earlier (l ∷ ls) = Allows n (objects_after earlier) (decision_of l.fact) × AllowedOn n (l ∷ earlier) ls
 
+abbrev pub DueOn : List Line → List Line → Type 0
+DueOn earlier [] = Unit {0}
+DueOn earlier (l ∷ ls) = IsDue earlier l.fact × DueOn (l ∷ earlier) ls
+
 abbrev pub ReapedOn : ℕ → List Line → List Line → Type 0
 ReapedOn n earlier [] = Unit {0}
 ReapedOn n earlier (l ∷ ls) = OwnsNothing n (objects_after earlier) l.fact × ReapedOn n (l ∷ earlier) ls
 
-all_on : (n : ℕ) (earlier ls : List Line) → AllFit n earlier → InOrderOn earlier ls → ThreadsOn earlier ls → AllowedOn n earlier ls → ReapedOn n earlier ls → AllFit n (onto ls earlier)
-all_on n earlier [] fit order threads allowed reaped = fit
-all_on n earlier (l ∷ ls) fit order threads allowed reaped =
-    all_on n (l ∷ earlier) ls (record { in_order = order.0; of_thread = threads.0; allowed = allowed.0; reaped = reaped.0 }, fit) order.1 threads.1 allowed.1 reaped.1
+all_on : (n : ℕ) (earlier ls : List Line) → AllFit n earlier → InOrderOn earlier ls → ThreadsOn earlier ls → AllowedOn n earlier ls → DueOn earlier ls → ReapedOn n earlier ls → AllFit n (onto ls earlier)
+all_on n earlier [] fit order threads allowed due reaped = fit
+all_on n earlier (l ∷ ls) fit order threads allowed due reaped =
+    all_on n (l ∷ earlier) ls (record { in_order = order.0; of_thread = threads.0; allowed = allowed.0; due = due.0; reaped = reaped.0 }, fit) order.1 threads.1 allowed.1 due.1 reaped.1
 
-pub all_fit : (n : ℕ) (ls : List Line) → InOrderOn [] ls → ThreadsOn [] ls → AllowedOn n [] ls → ReapedOn n [] ls → AllFit n (reverse ls)
-all_fit n ls order threads allowed reaped = subst (AllFit n) (onto_none ls) (all_on n [] ls tt order threads allowed reaped)
+pub all_fit : (n : ℕ) (ls : List Line) → InOrderOn [] ls → ThreadsOn [] ls → AllowedOn n [] ls → DueOn [] ls → ReapedOn n [] ls → AllFit n (reverse ls)
+all_fit n ls order threads allowed due reaped = subst (AllFit n) (onto_none ls) (all_on n [] ls tt order threads allowed due reaped)
 
 -- ---- order
 
@@ -139,6 +144,19 @@ allowed n new ls legal = allowed_from n new [] ls legal
 
 pub ends : (n : ℕ) (new : ℕ → Object) (ls : List Line) → Legal n opening (decisions ls) new → (m : ℕ) → new m ≡ objects_after (onto ls []) m
 ends n new ls legal = ends_from n new [] ls legal
+
+-- ---- time limits
+
+due_from : (earlier ls : List Line) → ((t m : ℕ) → TimeLimitsHaveReasons t m (chances_behind t m earlier) (facts_in ls)) → DueOn earlier ls
+due_from earlier [] so = tt
+due_from earlier (l ∷ ls) so = (here l.fact (λ t m. (so t m).0), due_from (l ∷ earlier) ls (λ t m. (so t m).1))
+  where
+    here : (f : Fact) → ((t m : ℕ) → MayTimeOut t m (chances_behind t m earlier) f) → IsDue earlier f
+    here (Point d) may = may d.thread d.mutex
+    here f may = tt
+
+pub due : (ls : List Line) → ((t m : ℕ) → TimeLimitsHaveReasons t m no_chances (facts_in ls)) → DueOn [] ls
+due ls so = due_from [] ls so
 
 -- ---- who was reaped
 

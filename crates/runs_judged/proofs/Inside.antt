@@ -24,6 +24,7 @@ use Rattle.facts.specs.Orders.{Each}
 use Rattle.condvar.specs.declared.op.Op.{Op}
 use Rattle.condvar.specs.declared.op.Op.TheVariants.{OnMutex, OnCondition}
 use Rattle.stepprograms.specs.declared.access.Answer.TheVariants.{Trimmed}
+use Rattle.mutex.specs.Standings.{Whole}
 use Rattle.mutex.specs.Whole.{whole_led}
 use Rattle.condvar.specs.Ops.{mutex_of}
 use Rattle.protocol.specs.declared.event.Event.{Event}
@@ -32,7 +33,7 @@ use Rattle.protocol.specs.declared.note.Note.{Note}
 use Rattle.protocol.specs.declared.note.Note.TheVariants.{Stepped, Walked}
 use Rattle.protocol.specs.Notes.{facts_of, reinit_of, line_of, lines_from}
 use Rattle.protocol.specs.Ops.{begun_of, queue_place}
-use Rattle.protocol.specs.Machine.{State, After, start, begun, killed, departed, renewed, reinited, reslept, decision, happens, run, notes, led}
+use Rattle.protocol.specs.Machine.{State, After, start, begun, killed, departed, lapsed, renewed, reinited, reslept, decision, happens, run, notes, led}
 use Rattle.protocol.specs.Headline.{facts_among, seen}
 use Rattle.protocol.specs.Sleepers.{IsAmong}
 use Rattle.protocol.specs.Applies.{IsThread, Names}
@@ -79,6 +80,11 @@ module _ (s : State) where
   left_own : (u : ℕ) → OwnThreads (departed s u)
   left_own u f (inl e) active = let never : true ≡ false = ap is_passive e ∙ active in absurd cc
   left_own u f (inr h) active = absurd h
+
+  lapsed_own : (u k : ℕ) (p : Whole) → 1 ≤ u → u ≤ s.layout.threads → OwnThreads (lapsed s u (s.threads u).held (OnMutex (call.TimedLock k)) p)
+  lapsed_own u k p first most f (inl e) active = let never : true ≡ false = ap is_passive e ∙ active in absurd cc
+  lapsed_own u k p first most f (inr (inl e)) active = its_own u f first most (ap thread_of e)
+  lapsed_own u k p first most f (inr (inr h)) active = absurd h
 
   renewed_own : (u : ℕ) → 1 ≤ u → u ≤ s.layout.threads → OwnThreads (renewed s u)
   renewed_own u first most f (inl e) active = its_own u f first most (ap thread_of e)
@@ -127,6 +133,7 @@ module _ (s : State) where
       (λ w is awake. walked_own u _ _ _ first most))
       (λ u first most alive. killed_own u first most)
       (λ u first most asleep. left_own u)
+      (λ u k p first most is asleep may. lapsed_own u k p first most)
       (λ u o p first most is awake trims. let g = led o p (whole_led p (Trimmed false)) in stepped_own u (mutex_of s.layout o) g.operation g.point None [] [] g.returned first most)
       (λ u first most gone. renewed_own u first most)
       (λ u j may. reinited_own u j 0 may.remake.first may.remake.last)
@@ -146,6 +153,7 @@ module _ (s : State) where
 
   names_call : (o : Op) → IsLayout s.layout → Names s.layout o → BeginsInside (begun_of s.layout o)
   names_call (OnMutex (call.Lock m)) is names = (names_mutex s.layout (OnMutex (call.Lock m)) is names, tt)
+  names_call (OnMutex (call.TimedLock m)) is names = (names_mutex s.layout (OnMutex (call.TimedLock m)) is names, tt)
   names_call (OnMutex (call.TryLock m)) is names = (names_mutex s.layout (OnMutex (call.TryLock m)) is names, tt)
   names_call (OnMutex (call.Unlock m)) is names = (names_mutex s.layout (OnMutex (call.Unlock m)) is names, tt)
   names_call (OnMutex (call.Consistent m)) is names = (names_mutex s.layout (OnMutex (call.Consistent m)) is names, tt)
@@ -190,6 +198,11 @@ module _ (s : State) where
   left_inside u t c (inl e) = absurd cc
   left_inside u t c (inr h) = absurd h
 
+  lapsed_inside : (u k : ℕ) (p : Whole) → CallsInside (lapsed s u (s.threads u).held (OnMutex (call.TimedLock k)) p)
+  lapsed_inside u k p t c (inl e) = absurd cc
+  lapsed_inside u k p t c (inr (inl e)) = absurd cc
+  lapsed_inside u k p t c (inr (inr h)) = absurd h
+
   renewed_inside : (u : ℕ) → CallsInside (renewed s u)
   renewed_inside u t c (inl e) = absurd cc
   renewed_inside u t c (inr h) = absurd h
@@ -213,6 +226,7 @@ module _ (s : State) where
       (λ w at awake t c h. absurd (walk_begins_none t u c _ _ _ h)))
       (λ u first most alive. killed_inside u)
       (λ u first most asleep. left_inside u)
+      (λ u k p first most at asleep may. lapsed_inside u k p)
       (λ u o p first most at awake trims t c h. let g = led o p (whole_led p (Trimmed false)) in absurd (step_begins_none t u (mutex_of s.layout o) c (decision u (mutex_of s.layout o) g.operation g.point) None [] [] g.returned h))
       (λ u first most gone. renewed_inside u)
       (λ u j may. reinited_inside u j 0 may.remake.inside)

@@ -1,9 +1,9 @@
 -- What is told of a thread's calls, its deaths and its renewals goes through the stages that a checker keeps of it.
-use Rattle.std.proofs.Common.{◌≡◌, ℕ, false, List, [], ◌∷◌, ◌++◌, refl, sym, ap, ◌∙◌, subst, append_assoc, append-nil}
+use Rattle.std.proofs.Common.{◌≡◌, ⊎_elim, ℕ, false, List, [], ◌∷◌, ◌++◌, refl, sym, ap, ◌∙◌, subst, append_assoc, append-nil}
 use Rattle.lockword.specs.declared.reply.Reply.{Reply}
 use Rattle.lockword.specs.declared.reply.Reply.TheVariants.{OK}
 use Rattle.posixmutex.specs.declared.point.Operation.{Operation}
-use Rattle.posixmutex.specs.declared.point.Operation.TheVariants.{Unlock, Wait}
+use Rattle.posixmutex.specs.declared.point.Operation.TheVariants.{TimedLock, Unlock, Wait}
 use Rattle.facts.specs.declared.fact.Begun.{Begun}
 use Rattle.facts.specs.declared.fact.Fact.{Fact}
 use Rattle.facts.specs.declared.fact.Fact.TheVariants.{Return, Kill, Reap, Renew}
@@ -35,6 +35,9 @@ all_made op ps (Decided y) x of is = ap Decided (one_reply op ps of is)
   where
     one_reply : (a : Operation) (qs : List Act) → Complete a qs y → Complete a qs x → y ≡ x
     one_reply a [] h k = absurd h
+    one_reply TimedLock (r ∷ []) h k =
+        ⊎_elim (λ a. ⊎_elim (λ b. ap (λ (z : Act). z.1) (sym a ∙ b)) (λ b. ap (λ (z : Act). z.1) (sym a ∙ b)) k)
+        (λ a. ⊎_elim (λ b. ap (λ (z : Act). z.1) (sym a ∙ b)) (λ b. ap (λ (z : Act). z.1) (sym a ∙ b)) k) h
     one_reply a (r ∷ []) h k = ap (λ (z : Act). z.1) (sym h ∙ k)
     one_reply Wait (r ∷ s ∷ []) h k = ap (λ (z : Act). z.1) (sym h.1 ∙ k.1)
     one_reply a (r ∷ s ∷ []) h k = absurd h

@@ -8,6 +8,7 @@ use Rattle.posixmutex.specs.declared.point.Decision.{Decision}
 use Rattle.memorymap.specs.Layouts.{Layout', IsLayout}
 use Rattle.facts.specs.declared.fact.Queue.{Queue}
 use Rattle.facts.specs.declared.fact.Queue.TheVariants.{Condition}
+use Rattle.facts.specs.declared.fact.Begun.{Begun}
 use Rattle.facts.specs.declared.fact.Fact.{Fact}
 use Rattle.facts.specs.declared.fact.Fact.TheVariants.{Point, Sleep, Wake, Move, Return, Kill, Renew}
 use Rattle.facts.specs.Facts.{thread_of}
@@ -18,7 +19,7 @@ use Rattle.condvar.specs.Ops.{mutex_of}
 use Rattle.protocol.specs.declared.event.Event.{Event}
 use Rattle.condvar.specs.Calls.{condition_of}
 use Rattle.protocol.specs.declared.note.Note.{Note}
-use Rattle.protocol.specs.declared.note.Note.TheVariants.{Nothing, Began, Stepped, Killed, Left, Walked, Renewed, Reinited, Recounted, Reslept}
+use Rattle.protocol.specs.declared.note.Note.TheVariants.{Nothing, Began, Stepped, Killed, Left, Expired, Walked, Renewed, Reinited, Recounted, Reslept}
 use Rattle.protocol.specs.declared.thread.Stage.TheVariants.{Idle}
 use Rattle.protocol.specs.Notes.{facts_of, point_facts, sleep_facts, moves_to, return_facts, death_facts, reap_facts}
 use Rattle.protocol.specs.Machine.{State, After, start, stands_in, begun, reinited, decision, is_asleep, happens, run, notes, led}
@@ -104,12 +105,16 @@ record Knows (t : ℕ) (o : Told) (w : Option Queue) (fs : List Fact) : Type 0 w
   wakes : IsAmong (Wake t) fs → o ≡ InCall
   moves : (m : ℕ) → IsAmong (Move t m) fs → o ≡ InCall
   returns : (x : Reply) → IsAmong (Return t x) fs → asleep_after t w fs ≡ None
-  points : (d : Decision) → IsAmong (Point d) fs → d.thread ≡ t → w ≡ None
+
+-- a point is told of a thread that was awake, but where its time limit came, as its wake is told before
+abbrev TellsAwake : ℕ → Option Queue → Note → Type 0
+TellsAwake t w (Expired u m) = Unit {0}
+TellsAwake t w n = (d : Decision) → IsAmong (Point d) (facts_of n) → d.thread ≡ t → w ≡ None
 
 module _ (t : ℕ) (o : Told) (w : Option Queue) where
-  step_placed : (u m : ℕ) (p : Option Decision) (z : Option Queue) (us vs : List ℕ) (y : Option Reply) → Knows t o w (facts_of (Stepped u m p z us vs y)) → ArePlaced t o w (facts_of (Stepped u m p z us vs y))
-  step_placed u m p z us vs y k =
-      placed_append t o w P (S ++ (W ++ (M ++ R))) (point_placed t o w p (λ d h. k.points d (among_left (Point d) P (S ++ (W ++ (M ++ R))) h)))
+  step_placed : (u m : ℕ) (p : Option Decision) (z : Option Queue) (us vs : List ℕ) (y : Option Reply) → Knows t o w (facts_of (Stepped u m p z us vs y)) → TellsAwake t w (Stepped u m p z us vs y) → ArePlaced t o w (facts_of (Stepped u m p z us vs y))
+  step_placed u m p z us vs y k awake =
+      placed_append t o w P (S ++ (W ++ (M ++ R))) (point_placed t o w p (λ d h. awake d (among_left (Point d) P (S ++ (W ++ (M ++ R))) h)))
       (from P o w (told_point t o p) (S ++ (W ++ (M ++ R)))
       (placed_append t o wp S (W ++ (M ++ R)) (sleep_placed t u o wp z (λ q h. k.sleeps q (among_right (Sleep t q) P (S ++ (W ++ (M ++ R))) (among_left (Sleep t q) S (W ++ (M ++ R)) h))))
       (from S o wp (told_sleep t u o z) (W ++ (M ++ R))
@@ -166,20 +171,21 @@ module _ (t : ℕ) (o : Told) (w : Option Queue) where
       at_death None k = wakes k
       at_death (Some m) k = (tt, wakes k)
 
-  placed_note : (n : Note) → Knows t o w (facts_of n) → ArePlaced t o w (facts_of n)
-  placed_note Nothing k = tt
-  placed_note (Began u c None) k = (tt, tt)
-  placed_note (Began u c (Some x)) k = (tt, ((λ is. k.points _ (inr (inl refl)) is), ((λ is. k.returns x (inr (inr (inl (ap (λ (v : ℕ). Return v x) is))))), tt)))
-  placed_note (Killed u) k = (tt, tt)
-  placed_note (Left u) k = wakes_placed t o w (u ∷ []) k.wakes
-  placed_note (Renewed u) k = (tt, tt)
-  placed_note (Reinited u j) k = (tt, ((λ is. k.points _ (inr (inl refl)) is), ((λ is. k.returns OK (inr (inr (inl (ap (λ (v : ℕ). Return v OK) is))))), tt)))
-  placed_note (Recounted c) k = tt
-  placed_note (Reslept u c) k =
+  placed_note : (n : Note) → Knows t o w (facts_of n) → TellsAwake t w n → ArePlaced t o w (facts_of n)
+  placed_note Nothing k awake = tt
+  placed_note (Began u c None) k awake = (tt, tt)
+  placed_note (Began u c (Some x)) k awake = (tt, ((λ is. awake _ (inr (inl refl)) is), ((λ is. k.returns x (inr (inr (inl (ap (λ (v : ℕ). Return v x) is))))), tt)))
+  placed_note (Killed u) k awake = (tt, tt)
+  placed_note (Left u) k awake = wakes_placed t o w (u ∷ []) k.wakes
+  placed_note (Expired u m) k awake = ((λ is. k.wakes (inl (ap Wake is))), ((λ is. ap (λ (b : Bool). if b then None else w) (eq-eqb u t is)), tt))
+  placed_note (Renewed u) k awake = (tt, tt)
+  placed_note (Reinited u j) k awake = (tt, ((λ is. awake _ (inr (inl refl)) is), ((λ is. k.returns OK (inr (inr (inl (ap (λ (v : ℕ). Return v OK) is))))), tt)))
+  placed_note (Recounted c) k awake = tt
+  placed_note (Reslept u c) k awake =
       placed_append t o w (Wake u ∷ []) (Sleep u (Condition c) ∷ []) (wakes_placed t o w (u ∷ []) (λ h. k.wakes (among_left (Wake t) (Wake u ∷ []) (Sleep u (Condition c) ∷ []) h)))
       (sleep_placed t u o (asleep_next t w (Wake u)) (Some (Condition c)) (λ q h. k.sleeps q (inr h)))
-  placed_note (Walked u d us b) k = walk_placed u d us b k.wakes
-  placed_note (Stepped u m p z us vs y) k = step_placed u m p z us vs y k
+  placed_note (Walked u d us b) k awake = walk_placed u d us b k.wakes
+  placed_note (Stepped u m p z us vs y) k awake = step_placed u m p z us vs y k awake
 
 -- ---- what the moment says
 
@@ -196,6 +202,9 @@ slept_in_call t o (Killed u) q (inl f) e = absurd cc
 slept_in_call t o (Killed u) q (inr h) e = absurd h
 slept_in_call t o (Left u) q (inl f) e = absurd cc
 slept_in_call t o (Left u) q (inr h) e = absurd h
+slept_in_call t o (Expired u m) q (inl f) e = absurd cc
+slept_in_call t o (Expired u m) q (inr (inl f)) e = absurd cc
+slept_in_call t o (Expired u m) q (inr (inr h)) e = absurd h
 slept_in_call t o (Renewed u) q (inl f) e = absurd cc
 slept_in_call t o (Renewed u) q (inr h) e = absurd h
 slept_in_call t o (Reinited u j) q (inl f) e = absurd cc
@@ -233,6 +242,9 @@ returned_rests t o (Killed u) x (inl f) = absurd cc
 returned_rests t o (Killed u) x (inr h) = absurd h
 returned_rests t o (Left u) x (inl f) = absurd cc
 returned_rests t o (Left u) x (inr h) = absurd h
+returned_rests t o (Expired u m) x (inl f) = absurd cc
+returned_rests t o (Expired u m) x (inr (inl f)) = absurd cc
+returned_rests t o (Expired u m) x (inr (inr h)) = absurd h
 returned_rests t o (Renewed u) x (inl f) = absurd cc
 returned_rests t o (Renewed u) x (inr h) = absurd h
 returned_rests t o (Reinited u j) x (inl f) = absurd cc
@@ -258,10 +270,13 @@ returned_rests t o (Stepped u m p z us vs y) x h = told_stepped t o u m p z us v
     go (Is_wake v f) = absurd cc
     go (Is_move v f) = absurd cc
 
--- a point is told of the thread whose event it is, which is awake
+-- a point is told of the thread whose event it is, which is awake, but where its time limit comes
 module _ (l : Layout') (s : State) (ns : List Note) (m : Moment l s ns) (t : ℕ) where
+  abbrev PointsTold : Note → Type 0
+  PointsTold n = TellsAwake t (told_asleep t ns) n
+
   abbrev PointsAwake : After → Type 0
-  PointsAwake a = (d : Decision) → IsAmong (Point d) (facts_of a.note) → d.thread ≡ t → told_asleep t ns ≡ None
+  PointsAwake a = PointsTold a.note
 
   abbrev awake_now : (u : ℕ) → IsInNoQueue s u → u ≡ t → told_asleep t ns ≡ None
   awake_now u out is = awake_told l s ns m t (subst (IsInNoQueue s) is out)
@@ -273,13 +288,19 @@ module _ (l : Layout') (s : State) (ns : List Note) (m : Moment l s ns) (t : ℕ
       go false e = refl
       go true e = absurd (subst (SleepsAs s.layout key) idle (m.queued.sleeps key u e).2)
 
+  refused_awake : (u : ℕ) (c : Begun) (x : Reply) → IsInNoQueue s u → PointsTold (Began u c (Some x))
+  refused_awake u c x out d (inl f) is = absurd cc
+  refused_awake u c x out d (inr (inl f)) is = awake_now u out (ap thread_of f ∙ is)
+  refused_awake u c x out d (inr (inr (inl f))) is = absurd cc
+  refused_awake u c x out d (inr (inr (inr h))) is = absurd h
+
+  started_awake : (u : ℕ) (c : Begun) → PointsTold (Began u c None)
+  started_awake u c d (inl f) is = absurd cc
+  started_awake u c d (inr h) is = absurd h
+
   begun_awake : (u : ℕ) (o : Op) → (s.threads u).stage ≡ Idle → (b : Bool) → PointsAwake (begun s u o (if b then Err XHELD else Ok (begins_at s.layout u o)))
-  begun_awake u o idle true d (inl f) is = absurd cc
-  begun_awake u o idle true d (inr (inl f)) is = awake_now u (idle_out u idle) (ap thread_of f ∙ is)
-  begun_awake u o idle true d (inr (inr (inl f))) is = absurd cc
-  begun_awake u o idle true d (inr (inr (inr h))) is = absurd h
-  begun_awake u o idle false d (inl f) is = absurd cc
-  begun_awake u o idle false d (inr h) is = absurd h
+  begun_awake u o idle true = refused_awake u _ XHELD (idle_out u idle)
+  begun_awake u o idle false = started_awake u _
 
   reinited_awake : (u j w : ℕ) → (s.threads u).stage ≡ Idle → PointsAwake (reinited s u j w)
   reinited_awake u j w idle d (inl f) is = absurd cc
@@ -314,6 +335,7 @@ module _ (l : Layout') (s : State) (ns : List Note) (m : Moment l s ns) (t : ℕ
       (λ w is awake d h same. never u (of_walk u _ _ _ (Point d) h)))
       (λ u first most alive d h is. died u d h)
       (λ u first most asleep d h is. left u d h)
+      (λ u k p first most is asleep may. tt)
       (λ u o p first most is awake trims. let g = led o p (whole_led p (Trimmed false)) in stepped_awake u (mutex_of s.layout o) g.operation g.point None [] [] g.returned awake)
       (λ u first most gone d h is. anew u d h)
       (λ u j may. reinited_awake u j 0 may.remake.resting)
@@ -359,8 +381,7 @@ module _ (l : Layout') (counters : ℕ → ℕ) (is : IsLayout l) (t : ℕ) wher
     wakes = λ h. let left = woke_there s s' e t (turns.wake.0 h) in queued_in_call l s ns before t left.0 left.1;
     moves = λ m h. let moved = ((turns.move m).0 h).0 in queued_in_call l s ns before t _ moved.3;
     returns = λ x h. sym (asleep_push t ns n) ∙ resting_awake l s' (ns ++ n ∷ []) after t (λ on. let rests = told_push t ns n ∙ returned_rests t (last_told t ns) n x h in let never : AtRest ≡ InCall = sym rests ∙ on in absurd cc);
-    points = points_awake l s ns before t e;
-  }
+  } (points_awake l s ns before t e)
     where
       s : State
       s = run (start l counters) es

@@ -12,7 +12,7 @@ use Rattle.lockword.specs.declared.reply.Reply.TheVariants as reply
 use Rattle.lockword.specs.Replies.{reply_of, reply_word}
 use Rattle.lockword.proofs.Names.{replies_read_back}
 use Rattle.posixmutex.specs.declared.point.Operation.{Operation}
-use Rattle.posixmutex.specs.declared.point.Operation.TheVariants.{Lock, TryLock, Unlock, Consistent, Wait, Signal, Broadcast, Death, Reinit}
+use Rattle.posixmutex.specs.declared.point.Operation.TheVariants.{Lock, TryLock, TimedLock, Unlock, Consistent, Wait, Signal, Broadcast, Death, Reinit}
 use Rattle.posixmutex.specs.Words.{operation_of, operation_word}
 use Rattle.posixmutex.proofs.Words.{operations_read_back}
 use Rattle.lines.specs.Numbers.{is_number, within}
@@ -86,6 +86,7 @@ mutex-call op h is = ap (λ o. o >>= of_mutex) (operation-read op) ∙ kept op i
     kept : (op : Operation) → IsCallOf h op None → of_mutex op ≡ Some op
     kept Lock is = refl
     kept TryLock is = refl
+    kept TimedLock is = refl
     kept Unlock is = refl
     kept Consistent is = refl
     kept Reinit is = refl
@@ -106,6 +107,7 @@ call-word op is = let both = kept op is in (ap (λ o. o >>= of_call) (operation-
     kept : (op : Operation) → IsCalled op → (of_call op ≡ Some op) × IsWord (operation_word op)
     kept Lock is = (refl, refl)
     kept TryLock is = (refl, refl)
+    kept TimedLock is = (refl, refl)
     kept Unlock is = (refl, refl)
     kept Consistent is = (refl, refl)
     kept Wait is = (refl, refl)
@@ -123,6 +125,7 @@ reply-is-word reply.EFAULT = refl
 reply-is-word reply.EBUSY = refl
 reply-is-word reply.EINVAL = refl
 reply-is-word reply.EDEADLK = refl
+reply-is-word reply.ETIMEDOUT = refl
 reply-is-word reply.EOWNERDEAD = refl
 reply-is-word reply.ENOTRECOVERABLE = refl
 reply-is-word reply.XNOMEM = refl
@@ -138,6 +141,7 @@ reply-word x = (replies_read_back.back x, reply-is-word x)
 mutex-word : (op : Operation) (h : Head) → IsCallOf h op None → IsWord (operation_word op)
 mutex-word Lock h is = refl
 mutex-word TryLock h is = refl
+mutex-word TimedLock h is = refl
 mutex-word Unlock h is = refl
 mutex-word Consistent h is = refl
 mutex-word Reinit h is = refl
@@ -152,6 +156,7 @@ condition-word op h k is = absurd is
 operation-short : (op : Operation) → length (operation_word op) ≤ 10
 operation-short Lock = omega arith
 operation-short TryLock = omega arith
+operation-short TimedLock = omega arith
 operation-short Unlock = omega arith
 operation-short Consistent = omega arith
 operation-short Wait = omega arith
@@ -169,6 +174,7 @@ reply-short reply.EFAULT = omega arith
 reply-short reply.EBUSY = omega arith
 reply-short reply.EINVAL = omega arith
 reply-short reply.EDEADLK = omega arith
+reply-short reply.ETIMEDOUT = omega arith
 reply-short reply.EOWNERDEAD = omega arith
 reply-short reply.ENOTRECOVERABLE = omega arith
 reply-short reply.XNOMEM = omega arith

@@ -4,7 +4,7 @@
 -- operations those that calls have. Each is one line, whatever stands behind it, and is read as what it was written of.
 use Rattle.std.specs.Prelude.{ℕ, ◌≡◌, ◌<◌, ◌≤◌, Option, Some, None, List, ◌∷◌, ◌++◌, Ok}
 use Rattle.posixmutex.specs.declared.point.Operation.{Operation}
-use Rattle.posixmutex.specs.declared.point.Operation.TheVariants.{Lock, TryLock, Unlock, Consistent, Wait}
+use Rattle.posixmutex.specs.declared.point.Operation.TheVariants.{Lock, TimedLock, TryLock, Unlock, Consistent, Wait}
 use Rattle.posixmutex.specs.declared.point.Operation.TheVariants.{Signal, Broadcast, Death, Reinit}
 use Rattle.facts.specs.declared.fact.Queue.{Queue}
 use Rattle.facts.specs.declared.fact.Queue.TheVariants.{Mutex, Condition}
@@ -27,6 +27,7 @@ IsThreadOf h t = (1 ≤ t) × (t ≤ h.threads)
 -- a call on a mutex, as a reinit is told too, or on the condition variable with this number
 abbrev pub IsCallOf : Head → Operation → Option ℕ → Type 0
 IsCallOf h Lock None = Unit {0}
+IsCallOf h TimedLock None = Unit {0}
 IsCallOf h TryLock None = Unit {0}
 IsCallOf h Unlock None = Unit {0}
 IsCallOf h Consistent None = Unit {0}

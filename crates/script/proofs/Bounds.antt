@@ -13,12 +13,12 @@ use Rattle.condvar.specs.declared.op.Op.{Op}
 use Rattle.condvar.specs.declared.op.Op.TheVariants.{OnMutex, OnCondition}
 use Rattle.mutex.specs.declared.call.Call.TheVariants as call
 use Rattle.condvar.specs.declared.call.CondCall.TheVariants as on
-use Rattle.script.specs.Forms.{CallForm, lock, trylock, unlock, consistent, wait, signal, broadcast, Form, silent, process, thread, member, mutex, mutexes, cond, begins, steps, kills, kills_all, goes, leaves, declines, renews, reinits, remakes, recounts, spares, resleeps, repeats, calls, locks, phase, dies, form_of, of_mode, has, words_form, or_else, name_form, step_form, die_form, mutexes_form, process_form, member_form, reinit_form, remake_form, locks_form, cond_form, call_form, calling_form, is_silent, is_name, is_stem}
+use Rattle.script.specs.Forms.{CallForm, lock, trylock, timedlock, unlock, consistent, wait, signal, broadcast, Form, silent, process, thread, member, mutex, mutexes, cond, begins, steps, kills, kills_all, goes, leaves, declines, expires, renews, reinits, remakes, recounts, spares, resleeps, repeats, calls, locks, phase, dies, form_of, of_mode, has, words_form, or_else, name_form, step_form, die_form, mutexes_form, process_form, member_form, reinit_form, remake_form, locks_form, cond_form, call_form, calling_form, is_silent, is_name, is_stem}
 use Rattle.lines.specs.Numbers.{is_number, within}
 use Rattle.lines.specs.Lines.{words_of}
 use Rattle.script.specs.Deaths.{death_by, deaths_by, death_of}
 use Rattle.script.specs.Scope.{Scope, Names, IsPossible, IsCondition, IsWithinLimits}
-use Rattle.script.specs.Reading.{refuse, place_of, process_of, is_declared, names_of, condition_names, with_entry, with_condition, with_thread, added, numbered, is_numbered, several, declares, process_declared, thread_declared, condition_declared, thread_of, call_of, first_of, begun, stepped, killed, all_killed, gone, left, declined, renewed, reinited, remade, recounted, wake_spared, slept_again, repeated, made, locked, died, with_action, enter, line_read}
+use Rattle.script.specs.Reading.{refuse, place_of, process_of, is_declared, names_of, condition_names, with_entry, with_condition, with_thread, added, numbered, is_numbered, several, declares, process_declared, thread_declared, condition_declared, thread_of, call_of, first_of, begun, stepped, killed, all_killed, gone, left, declined, expired, renewed, reinited, remade, recounted, wake_spared, slept_again, repeated, made, locked, died, with_action, enter, line_read}
 use Rattle.lines.specs.Faults.{◌>>=◌}
 use Rattle.script.specs.declared.command.Mode.{Mode}
 use Rattle.script.specs.declared.command.Action.{Action}
@@ -79,6 +79,7 @@ threaded s t = chain (place_of t s.threads) (λ i. Ok (i + 1)) (λ i. i < length
 called : (s : Scope) (c : CallForm) → IfOk (call_of s c) (Names (length s.mutexes) (length s.conditions))
 called s (lock m) = chain (place_of m s.mutexes) (λ j. Ok (OnMutex (call.Lock j))) (λ j. j < length s.mutexes) (Names (length s.mutexes) (length s.conditions)) (placed m s.mutexes) (λ j h. h)
 called s (trylock m) = chain (place_of m s.mutexes) (λ j. Ok (OnMutex (call.TryLock j))) (λ j. j < length s.mutexes) (Names (length s.mutexes) (length s.conditions)) (placed m s.mutexes) (λ j h. h)
+called s (timedlock m) = chain (place_of m s.mutexes) (λ j. Ok (OnMutex (call.TimedLock j))) (λ j. j < length s.mutexes) (Names (length s.mutexes) (length s.conditions)) (placed m s.mutexes) (λ j h. h)
 called s (unlock m) = chain (place_of m s.mutexes) (λ j. Ok (OnMutex (call.Unlock j))) (λ j. j < length s.mutexes) (Names (length s.mutexes) (length s.conditions)) (placed m s.mutexes) (λ j h. h)
 called s (consistent m) = chain (place_of m s.mutexes) (λ j. Ok (OnMutex (call.Consistent j))) (λ j. j < length s.mutexes) (Names (length s.mutexes) (length s.conditions)) (placed m s.mutexes) (λ j h. h)
 called s (wait c) = chain (place_of c (condition_names s)) (λ k. Ok (OnCondition (on.Wait k))) (λ k. k < length (condition_names s)) (Names (length s.mutexes) (length s.conditions)) (placed c (condition_names s)) (λ k h. omega (arith, h, length-map_of (λ d. d.0) s.conditions))
@@ -111,6 +112,7 @@ once n t cs (action.Kill u) h alone = spared n t cs _ h refl
 once n t cs (action.KillAll p) h alone = spared n t cs _ h refl
 once n t cs (action.Leave u) h alone = spared n t cs _ h refl
 once n t cs (action.Decline u) h alone = spared n t cs _ h refl
+once n t cs (action.Expire u) h alone = spared n t cs _ h refl
 once n t cs (action.Renew u) h alone = spared n t cs _ h refl
 once n t cs (action.Reinit u m) h alone = spared n t cs _ h refl
 once n t cs (action.Remake u m) h alone = spared n t cs _ h refl
@@ -333,6 +335,7 @@ entered n s (kills_all p) h k = may_ask n s (all_killed s p) h (of_process s p)
 entered n s (goes t) h k = may_ask n s (gone s t) h (of_thread s t (λ i. action.Go i) (λ i low high. ((low, high), tt)))
 entered n s (leaves t) h k = may_ask n s (left s t) h (of_thread s t (λ i. action.Leave i) (λ i low high. ((low, high), tt)))
 entered n s (declines t) h k = may_ask n s (declined s t) h (of_thread s t (λ i. action.Decline i) (λ i low high. ((low, high), tt)))
+entered n s (expires t) h k = may_ask n s (expired s t) h (of_thread s t (λ i. action.Expire i) (λ i low high. ((low, high), tt)))
 entered n s (renews t) h k = may_ask n s (renewed s t) h (of_thread s t (λ i. action.Renew i) (λ i low high. ((low, high), tt)))
 entered n s (reinits t m) h k = may_ask n s (reinited s t m) h (making_anew s t m)
 entered n s (remakes t m) h k = may_ask n s (remade s t m) h (remaking s t m)
@@ -365,7 +368,7 @@ fit_name : (w a : List ℕ) → IfSome (name_form w a) IsFit
 fit_name w a = either (not (is_name a)) None _ tt (either (bytes_eq w _) (Some (thread a)) _ tt (either (bytes_eq w _) (Some (mutex a)) _ tt
     (either (bytes_eq w _) (Some (kills a)) _ tt (either (bytes_eq w _) (Some (kills_all a)) _ tt (either (bytes_eq w _) (Some (goes a)) _ tt
     (either (bytes_eq w _) (Some (leaves a)) _ tt (either (bytes_eq w _) (Some (declines a)) _ tt (either (bytes_eq w _) (Some (renews a)) _ tt
-    (either (bytes_eq w _) (Some (recounts a)) _ tt (either (bytes_eq w _) (Some (spares a)) _ tt (either (bytes_eq w _) (Some (resleeps a)) _ tt (either (bytes_eq w _) (Some (repeats a)) None tt tt))))))))))))
+    (either (bytes_eq w _) (Some (recounts a)) _ tt (either (bytes_eq w _) (Some (spares a)) _ tt (either (bytes_eq w _) (Some (resleeps a)) _ tt (either (bytes_eq w _) (Some (repeats a)) _ tt (either (bytes_eq w _) (Some (expires a)) None tt tt)))))))))))))
 
 fit_step : (w t n : List ℕ) → IfSome (step_form w t n) IsFit
 fit_step w t n = either (bytes_eq w _ && is_name t && is_number n) (Some (steps t (within 1 max_steps (digits_value 10 n)))) None (in_range 1 max_steps (digits_value 10 n)) tt

@@ -7,15 +7,15 @@ use Rattle.condvar.specs.Calls.{condition_of}
 use Rattle.condvar.specs.Whole.{cond_led}
 use Rattle.condvar.specs.declared.op.Op.TheVariants.{OnMutex, OnCondition}
 use Rattle.lockword.specs.declared.reply.Reply.{Reply}
-use Rattle.mutex.specs.Whole.{whole_access, whole_led}
+use Rattle.mutex.specs.Whole.{may_expire, whole_access, whole_led}
 use Rattle.condvar.specs.Ops.{mutex_of}
 use Rattle.condvar.specs.declared.op.Op.{Op}
 use Rattle.protocol.specs.declared.event.Event.{Event}
-use Rattle.protocol.specs.declared.event.Event.TheVariants.{Begin, Step, Kill, Leave, Decline, Renew, Reinit, Remake, Recount, Spare, Resleep, Repeat}
+use Rattle.protocol.specs.declared.event.Event.TheVariants.{Begin, Step, Kill, Leave, Decline, Expire, Renew, Reinit, Remake, Recount, Spare, Resleep, Repeat}
 use Rattle.protocol.specs.declared.thread.Stage.{Stage}
 use Rattle.protocol.specs.declared.thread.Stage.TheVariants.{Idle, Calling, AtCondition, Dying, Reaped}
 use Rattle.memorymap.specs.Layouts.{cell_place}
-use Rattle.protocol.specs.Machine.{State, After, nothing, has_thread, is_alive, is_gone, may_begin, may_reinit, may_remake, waiters_of, first_stage, begun, killed, renewed, reinited, departed, declined, spared, may_recount, recounted, wakes_one, wakes_next, another_answers, sparing, stands_in, reslept, resleeping, is_mark, repeated, repeating, is_asleep, is_trim, sleeps, led, led_at, went, answer_of, stepped, happens, run}
+use Rattle.protocol.specs.Machine.{State, After, nothing, has_thread, is_alive, is_gone, may_begin, may_reinit, may_remake, waiters_of, first_stage, begun, killed, renewed, reinited, departed, declined, expired, is_timed, lapsed, spared, may_recount, recounted, wakes_one, wakes_next, another_answers, sparing, stands_in, reslept, resleeping, is_mark, repeated, repeating, is_asleep, is_trim, sleeps, led, led_at, went, answer_of, stepped, happens, run}
 
 -- whichever of two states comes, both have the layout
 either : (s : State) (b : Bool) (a : After) → a.state.layout ≡ s.layout → (if b then a else nothing s).state.layout ≡ s.layout
@@ -42,6 +42,10 @@ declined_layout : (s : State) (t held : ℕ) (g : Stage) → (declined s t held 
 declined_layout s t held (Calling o p) =
     either s (is_trim (whole_access p) && not (sleeps s t (Calling o p))) (spared s t held (mutex_of s.layout o) (led o p (whole_led p (Trimmed false)))) refl
 declined_layout s t held g = refl
+
+expired_layout : (s : State) (t held : ℕ) (g : Stage) → (expired s t held g).state.layout ≡ s.layout
+expired_layout s t held (Calling o p) = either s (is_timed o && may_expire p.phase && sleeps s t (Calling o p)) (lapsed s t held o p) refl
+expired_layout s t held g = refl
 
 spare_layout : (s : State) (t held : ℕ) (g : Stage) → (sparing s t held g).state.layout ≡ s.layout
 spare_layout s t held (Calling o p) =
@@ -70,6 +74,7 @@ happens_layout s (Step t) = either s (has_thread s t) (stepped s t (s.threads t)
 happens_layout s (Kill t) = either s (has_thread s t && is_alive (s.threads t).stage) (killed s t) refl
 happens_layout s (Leave t) = either s (has_thread s t && is_asleep s t) (departed s t) refl
 happens_layout s (Decline t) = either s (has_thread s t) (declined s t (s.threads t).held (s.threads t).stage) (declined_layout s t (s.threads t).held (s.threads t).stage)
+happens_layout s (Expire t) = either s (has_thread s t) (expired s t (s.threads t).held (s.threads t).stage) (expired_layout s t (s.threads t).held (s.threads t).stage)
 happens_layout s (Renew t) = either s (has_thread s t && is_gone (s.threads t).stage) (renewed s t) refl
 happens_layout s (Reinit t m) = either s (may_reinit s t m) (reinited s t m 0) refl
 happens_layout s (Remake t m) = either s (may_remake s t m) (reinited s t m (waiters_of (s.words (cell_place s.layout m)))) refl

@@ -193,6 +193,7 @@ has_mutexes p n m k (action.Kill t) few h = tt
 has_mutexes p n m k (action.KillAll q) few h = tt
 has_mutexes p n m k (action.Leave t) few h = tt
 has_mutexes p n m k (action.Decline t) few h = tt
+has_mutexes p n m k (action.Expire t) few h = tt
 has_mutexes p n m k (action.Renew t) few h = tt
 has_mutexes p n m k (action.Reinit t j) few h = tt
 has_mutexes p n m k (action.Remake t j) few h = tt

@@ -15,6 +15,7 @@ death_by t (action.KillAll p) = None
 death_by t (action.Go u) = None
 death_by t (action.Leave u) = None
 death_by t (action.Decline u) = None
+death_by t (action.Expire u) = None
 death_by t (action.Renew u) = None
 death_by t (action.Reinit u m) = None
 death_by t (action.Remake u m) = None

@@ -11,7 +11,7 @@ use Rattle.std.specs.Str.{bytes_eq}
 use Rattle.std.specs.Char.{is_ascii_digit}
 use Rattle.std.specs.Str.Parse.{digits_value}
 use Rattle.posixmutex.specs.declared.point.Operation.{Operation}
-use Rattle.posixmutex.specs.declared.point.Operation.TheVariants.{Lock, TryLock, Unlock, Consistent, Wait}
+use Rattle.posixmutex.specs.declared.point.Operation.TheVariants.{Lock, TryLock, TimedLock, Unlock, Consistent, Wait}
 use Rattle.posixmutex.specs.declared.point.Operation.TheVariants.{Signal, Broadcast, Death, Reinit}
 use Rattle.posixmutex.specs.Words.{operation_of}
 use Rattle.script.specs.declared.command.Mode.{Mode}
@@ -35,6 +35,7 @@ is_name (b ∷ bs) = is_letter b && nat_lt (length bs) max_name && list_all is_n
 pub data CallForm : Type 0 where
   lock : List ℕ → CallForm
   trylock : List ℕ → CallForm
+  timedlock : List ℕ → CallForm
   unlock : List ℕ → CallForm
   consistent : List ℕ → CallForm
   wait : List ℕ → CallForm
@@ -57,6 +58,7 @@ pub data Form : Type 0 where
   goes : List ℕ → Form
   leaves : List ℕ → Form
   declines : List ℕ → Form
+  expires : List ℕ → Form
   renews : List ℕ → Form
   reinits : List ℕ → List ℕ → Form
   remakes : List ℕ → List ℕ → Form
@@ -75,7 +77,7 @@ is_silent [] = true
 is_silent (b ∷ bs) = b == 35
 
 -- `thread NAME` and `mutex NAME`, `kill T`, `killall PROCESS`, `go T`, `leave T`, `decline T` and `renew T`;
--- `recount C`, `spare T`, `resleep T` and `repeat T`
+-- `recount C`, `spare T`, `resleep T`, `repeat T` and `expire T`
 abbrev pub name_form : List ℕ → List ℕ → Option Form
 name_form w a = if not (is_name a) then None
     else (if bytes_eq w (codes "thread") then Some (thread a)
@@ -89,7 +91,8 @@ name_form w a = if not (is_name a) then None
     else (if bytes_eq w (codes "recount") then Some (recounts a)
     else (if bytes_eq w (codes "spare") then Some (spares a)
     else (if bytes_eq w (codes "resleep") then Some (resleeps a)
-    else (if bytes_eq w (codes "repeat") then Some (repeats a) else None))))))))))))
+    else (if bytes_eq w (codes "repeat") then Some (repeats a)
+    else (if bytes_eq w (codes "expire") then Some (expires a) else None)))))))))))))
 
 -- `step T N`
 abbrev pub step_form : List ℕ → List ℕ → List ℕ → Option Form
@@ -146,6 +149,7 @@ cond_form w c m n = if bytes_eq w (codes "cond") && is_name c && is_name m && is
 abbrev pub call_on : List ℕ → Operation → Option CallForm
 call_on m Lock = Some (lock m)
 call_on m TryLock = Some (trylock m)
+call_on m TimedLock = Some (timedlock m)
 call_on m Unlock = Some (unlock m)
 call_on m Consistent = Some (consistent m)
 call_on m Wait = Some (wait m)
@@ -154,7 +158,7 @@ call_on m Broadcast = Some (broadcast m)
 call_on m Death = None
 call_on m Reinit = None
 
--- CALL: `lock M`, `trylock M`, `unlock M` and `consistent M`; `wait C`, `signal C` and `broadcast C`
+-- CALL: `lock M`, `trylock M`, `timedlock M`, `unlock M` and `consistent M`; `wait C`, `signal C` and `broadcast C`
 abbrev pub call_form : List ℕ → List ℕ → Option CallForm
 call_form w m = if not (is_name m) then None else option_and_then (call_on m) (operation_of w)
 
@@ -187,7 +191,12 @@ words_form (w ∷ t ∷ c ∷ m ∷ []) =
     or_else (locks_form w t c m) (or_else (cond_form w t c m) (option_and_then (calling_form w t) (call_form c m)))
 words_form _ = None
 
--- whether scripts of real threads have lines of this form: events are the machine's alone
+-- a call that has no time limit
+abbrev pub is_untimed : CallForm → Bool
+is_untimed (timedlock m) = false
+is_untimed c = true
+
+-- whether scripts of real threads have lines of this form: events are the machine's alone, and so are time limits
 abbrev pub threads_have : Form → Bool
 threads_have silent = true
 threads_have (process p b) = true
@@ -203,6 +212,7 @@ threads_have (kills_all p) = false
 threads_have (goes t) = false
 threads_have (leaves t) = false
 threads_have (declines t) = false
+threads_have (expires t) = false
 threads_have (renews t) = false
 threads_have (reinits t m) = false
 threads_have (remakes t m) = false
@@ -210,7 +220,7 @@ threads_have (recounts c) = false
 threads_have (spares t) = false
 threads_have (resleeps t) = false
 threads_have (repeats t) = false
-threads_have (calls t c) = true
+threads_have (calls t c) = is_untimed c
 threads_have (locks t m n) = false
 threads_have phase = true
 threads_have (dies t n) = true

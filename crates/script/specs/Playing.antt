@@ -29,7 +29,7 @@ use Rattle.protocol.specs.declared.event.Event.TheVariants as event
 use Rattle.protocol.specs.declared.note.Note.{Note}
 use Rattle.protocol.specs.Machine.{State, start, happens, run, notes, is_busy, is_dying, is_asleep}
 use Rattle.script.specs.declared.command.Action.{Action}
-use Rattle.script.specs.declared.command.Action.TheVariants.{Begin, Step, Kill, KillAll, Leave, Decline}
+use Rattle.script.specs.declared.command.Action.TheVariants.{Begin, Step, Kill, KillAll, Leave, Decline, Expire}
 use Rattle.script.specs.declared.command.Action.TheVariants.{Renew, Reinit, Remake, Recount, Spare, Resleep, Repeat}
 use Rattle.script.specs.declared.command.Action.TheVariants.{Go, Call, Locks, Phase, Die}
 use Rattle.script.specs.declared.command.Command.{Command}
@@ -100,6 +100,7 @@ events_of s (Kill t) = event.Kill t ∷ []
 events_of s (KillAll p) = killing s.layout p
 events_of s (Leave t) = event.Leave t ∷ []
 events_of s (Decline t) = event.Decline t ∷ []
+events_of s (Expire t) = event.Expire t ∷ []
 events_of s (Renew t) = event.Renew t ∷ []
 events_of s (Reinit t m) = event.Reinit t m ∷ []
 events_of s (Remake t m) = event.Remake t m ∷ []

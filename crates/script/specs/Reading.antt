@@ -13,9 +13,9 @@ use Rattle.mutex.specs.declared.call.Call.TheVariants as call
 use Rattle.condvar.specs.declared.call.CondCall.TheVariants as on
 use Rattle.condvar.specs.declared.op.Op.{Op}
 use Rattle.condvar.specs.declared.op.Op.TheVariants.{OnMutex, OnCondition}
-use Rattle.script.specs.Forms.{CallForm, lock, trylock, unlock, consistent, wait, signal, broadcast, Form, silent}
+use Rattle.script.specs.Forms.{CallForm, lock, trylock, timedlock, unlock, consistent, wait, signal, broadcast, Form, silent}
 use Rattle.script.specs.Forms.{process, thread, member, mutex, mutexes, cond, begins, steps, kills, kills_all}
-use Rattle.script.specs.Forms.{goes, leaves, declines, renews, reinits, remakes, recounts, spares, resleeps, repeats}
+use Rattle.script.specs.Forms.{goes, leaves, declines, expires, renews, reinits, remakes, recounts, spares, resleeps, repeats}
 use Rattle.script.specs.Forms.{calls, locks, phase, dies, form_of}
 use Rattle.lines.specs.Numbers.{is_number}
 use Rattle.lines.specs.Lines.{lines_of, bad_line}
@@ -94,6 +94,7 @@ process_of s p = place_of p (names_of s.processes) >>= λ i. Ok (i + 1)
 abbrev pub call_of : Scope → CallForm → Result Op Fault
 call_of s (lock m) = place_of m s.mutexes >>= λ j. Ok (OnMutex (call.Lock j))
 call_of s (trylock m) = place_of m s.mutexes >>= λ j. Ok (OnMutex (call.TryLock j))
+call_of s (timedlock m) = place_of m s.mutexes >>= λ j. Ok (OnMutex (call.TimedLock j))
 call_of s (unlock m) = place_of m s.mutexes >>= λ j. Ok (OnMutex (call.Unlock j))
 call_of s (consistent m) = place_of m s.mutexes >>= λ j. Ok (OnMutex (call.Consistent j))
 call_of s (wait c) = place_of c (condition_names s) >>= λ k. Ok (OnCondition (on.Wait k))
@@ -164,6 +165,9 @@ left s t = thread_of s t >>= λ i. Ok (action.Leave i)
 abbrev pub declined : Scope → List ℕ → Result Action Fault
 declined s t = thread_of s t >>= λ i. Ok (action.Decline i)
 
+abbrev pub expired : Scope → List ℕ → Result Action Fault
+expired s t = thread_of s t >>= λ i. Ok (action.Expire i)
+
 abbrev pub renewed : Scope → List ℕ → Result Action Fault
 renewed s t = thread_of s t >>= λ i. Ok (action.Renew i)
 
@@ -225,6 +229,7 @@ enter n s (kills_all p) = asked n s (all_killed s p)
 enter n s (goes t) = asked n s (gone s t)
 enter n s (leaves t) = asked n s (left s t)
 enter n s (declines t) = asked n s (declined s t)
+enter n s (expires t) = asked n s (expired s t)
 enter n s (renews t) = asked n s (renewed s t)
 enter n s (reinits t m) = asked n s (reinited s t m)
 enter n s (remakes t m) = asked n s (remade s t m)

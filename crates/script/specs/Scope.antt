@@ -6,7 +6,7 @@ use Rattle.condvar.specs.declared.op.Op.{Op}
 use Rattle.condvar.specs.declared.op.Op.TheVariants.{OnMutex, OnCondition}
 use Rattle.script.specs.declared.command.Mode.{Mode}
 use Rattle.script.specs.declared.command.Action.{Action}
-use Rattle.script.specs.declared.command.Action.TheVariants.{Begin, Step, Kill, KillAll, Leave, Decline}
+use Rattle.script.specs.declared.command.Action.TheVariants.{Begin, Step, Kill, KillAll, Leave, Decline, Expire}
 use Rattle.script.specs.declared.command.Action.TheVariants.{Renew, Reinit, Remake, Recount, Spare, Resleep, Repeat}
 use Rattle.script.specs.declared.command.Action.TheVariants.{Go, Call, Locks, Phase, Die}
 use Rattle.script.specs.declared.command.Command.{Command}
@@ -43,6 +43,7 @@ IsPossible processes threads mutexes conditions (Kill t) = (1 ≤ t) × (t ≤ t
 IsPossible processes threads mutexes conditions (KillAll p) = (1 ≤ p) × (p ≤ processes)
 IsPossible processes threads mutexes conditions (Leave t) = (1 ≤ t) × (t ≤ threads)
 IsPossible processes threads mutexes conditions (Decline t) = (1 ≤ t) × (t ≤ threads)
+IsPossible processes threads mutexes conditions (Expire t) = (1 ≤ t) × (t ≤ threads)
 IsPossible processes threads mutexes conditions (Renew t) = (1 ≤ t) × (t ≤ threads)
 IsPossible processes threads mutexes conditions (Reinit t m) = (1 ≤ t) × (t ≤ threads) × (m < mutexes)
 IsPossible processes threads mutexes conditions (Remake t m) = (1 ≤ t) × (t ≤ threads) × (m < mutexes)

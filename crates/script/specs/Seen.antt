@@ -1,9 +1,9 @@
 -- Values of the code as the definitions see them.
 use Rattle.std.specs.Prelude.{ℕ, List, map, String, string_bytes}
 use Rattle.std.specs.declared.alloc.Global.{Global}
-use Rattle.script.specs.Forms.{CallForm, lock, trylock, unlock, consistent, wait, signal, broadcast, Form}
+use Rattle.script.specs.Forms.{CallForm, lock, trylock, timedlock, unlock, consistent, wait, signal, broadcast, Form}
 use Rattle.script.specs.Forms.{process, thread, member, mutex, mutexes, cond, begins, steps, kills}
-use Rattle.script.specs.Forms.{kills_all, goes, leaves, declines, renews, reinits, remakes, recounts, spares, resleeps, repeats}
+use Rattle.script.specs.Forms.{kills_all, goes, leaves, declines, expires, renews, reinits, remakes, recounts, spares, resleeps, repeats}
 use Rattle.script.specs.Forms.{calls, locks, phase, dies}
 use Rattle.script.specs.Scope.{Scope}
 use Rattle.script.specs.declared.draft.Draft.{Draft}
@@ -16,6 +16,7 @@ use Rattle.script.specs.declared.line.Line.TheVariants as line
 abbrev pub call_seen : NamedCall → CallForm
 call_seen (named.Lock m) = lock m.now
 call_seen (named.TryLock m) = trylock m.now
+call_seen (named.TimedLock m) = timedlock m.now
 call_seen (named.Unlock m) = unlock m.now
 call_seen (named.Consistent m) = consistent m.now
 call_seen (named.Wait c) = wait c.now
@@ -37,6 +38,7 @@ form_seen (line.KillAll p) = kills_all p.now
 form_seen (line.Go a) = goes a.now
 form_seen (line.Leave a) = leaves a.now
 form_seen (line.Decline a) = declines a.now
+form_seen (line.Expire a) = expires a.now
 form_seen (line.Renew a) = renews a.now
 form_seen (line.Reinit a m) = reinits a.now m.now
 form_seen (line.Remake a m) = remakes a.now m.now

@@ -37,6 +37,8 @@ pub enum Action {
     Leave(Tid),
     /// One decline event.
     Decline(Tid),
+    /// One expiry.
+    Expire(Tid),
     /// One renew event.
     Renew(Tid),
     /// One reinit event, of the mutex with this number.

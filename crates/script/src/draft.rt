@@ -5,7 +5,7 @@ ghost use Rattle.script.specs.Forms.{is_silent};
 ghost use Rattle.script.specs.Limits.{max_conditions, max_lines, max_mutexes, max_processes, max_threads};
 ghost use Rattle.script.specs.Outcome.{Gives};
 ghost use Rattle.script.specs.Reading.{all_killed, asked, begun, call_of, condition_declared};
-ghost use Rattle.script.specs.Reading.{condition_names, declares, declined, died, enter, first_of, gone, killed};
+ghost use Rattle.script.specs.Reading.{condition_names, declares, declined, died, enter, expired, first_of, gone, killed};
 ghost use Rattle.script.specs.Reading.{recounted, repeated, slept_again, wake_spared};
 ghost use Rattle.script.specs.Reading.{left, line_read, locked, made, mutex_declared, mutexes_declared};
 ghost use Rattle.script.specs.Reading.{nothing, place_of, process_declared, process_of, reinited, remade, renewed};
@@ -104,6 +104,7 @@ impl Draft {
         Ok(match call {
             NamedCall::Lock(name) => Op::OnMutex(Call::Lock(self.mutex(name)?)),
             NamedCall::TryLock(name) => Op::OnMutex(Call::TryLock(self.mutex(name)?)),
+            NamedCall::TimedLock(name) => Op::OnMutex(Call::TimedLock(self.mutex(name)?)),
             NamedCall::Unlock(name) => Op::OnMutex(Call::Unlock(self.mutex(name)?)),
             NamedCall::Consistent(name) => Op::OnMutex(Call::Consistent(self.mutex(name)?)),
             NamedCall::Wait(name) => Op::OnCondition(CondCall::Wait(self.condition(name)?)),
@@ -294,6 +295,16 @@ impl Draft {
         self.ask(number, Action::Decline(thread))
     }
 
+    fn expire(&mut self, number: usize, thread: &str) -> Result<(), Fault>
+        requires { IsWithinLimits (scope_of self.old) }
+        ensures gives { Gives (λ _. scope_of self.new) result
+            (asked number (scope_of self.old) (expired (scope_of self.old) thread.now)) }
+        ensures mode { self.new.mode ≡ self.old.mode }
+    {
+        let thread = self.thread(thread)?;
+        self.ask(number, Action::Expire(thread))
+    }
+
     fn renew(&mut self, number: usize, thread: &str) -> Result<(), Fault>
         requires { IsWithinLimits (scope_of self.old) }
         ensures gives { Gives (λ _. scope_of self.new) result
@@ -446,6 +457,7 @@ impl Draft {
             Line::KillAll(process) => self.kill_all(number, process),
             Line::Leave(thread) => self.leave(number, thread),
             Line::Decline(thread) => self.decline(number, thread),
+            Line::Expire(thread) => self.expire(number, thread),
             Line::Renew(thread) => self.renew(number, thread),
             Line::Reinit(thread, mutex) => self.reinit(number, thread, mutex),
             Line::Remake(thread, mutex) => self.remake(number, thread, mutex),

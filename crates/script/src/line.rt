@@ -2,7 +2,7 @@
 
 ghost use Rattle.std.specs.Prelude.{◌≡◌, true, false, option_map, option_and_then};
 ghost use Rattle.script.specs.Forms.{call_form, calling_form, cond_form, die_form, form_of, has, is_silent};
-ghost use Rattle.script.specs.Forms.{is_stem, locks_form, member_form, mutexes_form, name_form, or_else};
+ghost use Rattle.script.specs.Forms.{is_stem, is_untimed, locks_form, member_form, mutexes_form, name_form, or_else};
 ghost use Rattle.script.specs.Forms.{phase_form, process_form, reinit_form, remake_form, run_has, step_form, threads_have};
 ghost use Rattle.lines.specs.Numbers.{is_number, within};
 ghost use Rattle.script.specs.Seen.{call_seen, form_seen};
@@ -18,6 +18,7 @@ use posixmutex::Operation;
 pub enum NamedCall<'a> {
     Lock(&'a str),
     TryLock(&'a str),
+    TimedLock(&'a str),
     Unlock(&'a str),
     Consistent(&'a str),
     Wait(&'a str),
@@ -43,6 +44,7 @@ pub enum Line<'a> {
     KillAll(&'a str),
     Leave(&'a str),
     Decline(&'a str),
+    Expire(&'a str),
     Renew(&'a str),
     /// A thread and a mutex.
     Reinit(&'a str, &'a str),
@@ -90,6 +92,7 @@ fn of_a_name<'a>(keyword: &'a str, name: &'a str) -> Option<Line<'a>>
         "spare" => Some(Line::Spare(name)),
         "resleep" => Some(Line::Resleep(name)),
         "repeat" => Some(Line::Repeat(name)),
+        "expire" => Some(Line::Expire(name)),
         _ => None,
     }
 }
@@ -193,6 +196,7 @@ fn named_call<'a>(word: &'a str, name: &'a str) -> Option<NamedCall<'a>>
     match word.parse::<Operation>() {
         Ok(Operation::Lock) => Some(NamedCall::Lock(name)),
         Ok(Operation::TryLock) => Some(NamedCall::TryLock(name)),
+        Ok(Operation::TimedLock) => Some(NamedCall::TimedLock(name)),
         Ok(Operation::Unlock) => Some(NamedCall::Unlock(name)),
         Ok(Operation::Consistent) => Some(NamedCall::Consistent(name)),
         Ok(Operation::Wait) => Some(NamedCall::Wait(name)),
@@ -275,6 +279,18 @@ fn of_four<'a>(
     }
 }
 
+/// Whether the call has no time limit.
+fn is_untimed(call: NamedCall<'_>) -> bool
+    ensures { result ≡ is_untimed (call_seen call.entry) }
+{
+    match call {
+        NamedCall::TimedLock(_) => false,
+        NamedCall::Lock(_) | NamedCall::TryLock(_) => true,
+        NamedCall::Unlock(_) | NamedCall::Consistent(_) => true,
+        NamedCall::Wait(_) | NamedCall::Signal(_) | NamedCall::Broadcast(_) => true,
+    }
+}
+
 /// Whether scripts for real threads have such lines.
 fn is_of_threads(line: &Line<'_>) -> bool
     ensures { result ≡ threads_have (form_seen line.now) }
@@ -282,10 +298,12 @@ fn is_of_threads(line: &Line<'_>) -> bool
     match line {
         Line::Process(..) | Line::Thread(_) | Line::Member(..) => true,
         Line::Mutex(_) | Line::Mutexes(..) | Line::Cond(..) => true,
-        Line::Call(..) | Line::Phase | Line::Die(..) => true,
+        Line::Call(_, call) => is_untimed(*call),
+        Line::Phase | Line::Die(..) => true,
         Line::Begin(..) | Line::Step(..) | Line::Kill(_) => false,
         Line::KillAll(_) | Line::Go(_) | Line::Locks(..) => false,
         Line::Leave(_) | Line::Decline(_) => false,
+        Line::Expire(_) => false,
         Line::Renew(_) => false,
         Line::Reinit(..) | Line::Remake(..) => false,
         Line::Recount(_) | Line::Spare(_) => false,

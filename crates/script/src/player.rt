@@ -142,6 +142,7 @@ fn play_action(machine: &mut Machine, notes: &mut Vec<Note>, action: Action) -> 
         Action::KillAll(process) => play_kills(machine, notes, process),
         Action::Leave(thread) => play_event(machine, notes, Event::Leave(thread)),
         Action::Decline(thread) => play_event(machine, notes, Event::Decline(thread)),
+        Action::Expire(thread) => play_event(machine, notes, Event::Expire(thread)),
         Action::Renew(thread) => play_event(machine, notes, Event::Renew(thread)),
         Action::Reinit(thread, mutex) => {
             play_event(machine, notes, Event::Reinit(thread, mutex))

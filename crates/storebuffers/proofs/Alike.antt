@@ -13,7 +13,7 @@ use Rattle.posixmutex.specs.declared.point.Operation.TheVariants as operation
 use Rattle.memorymap.specs.Layouts.{head_place, head_word, entry_place, cell_place, counter_place, address_in}
 use Rattle.facts.specs.declared.fact.Queue.{Queue}
 use Rattle.facts.specs.declared.fact.Queue.TheVariants.{Mutex, Condition}
-use Rattle.mutex.specs.Whole.{whole_access, whole_led}
+use Rattle.mutex.specs.Whole.{may_expire, whole_access, whole_led}
 use Rattle.condvar.specs.Ops.{mutex_of}
 use Rattle.condvar.specs.Calls.{condition_of}
 use Rattle.condvar.specs.declared.op.Op.{Op}
@@ -22,14 +22,14 @@ use Rattle.condvar.specs.Whole.{cond_access, cond_led}
 use Rattle.exitwalk.specs.Standings as walks
 use Rattle.exitwalk.specs.Walks as exit
 use Rattle.protocol.specs.declared.event.Event.{Event}
-use Rattle.protocol.specs.declared.event.Event.TheVariants.{Begin, Step, Kill, Leave, Decline, Renew, Reinit, Remake, Recount, Spare, Resleep, Repeat}
+use Rattle.protocol.specs.declared.event.Event.TheVariants.{Begin, Step, Kill, Leave, Expire, Decline, Renew, Reinit, Remake, Recount, Spare, Resleep, Repeat}
 use Rattle.protocol.specs.declared.thread.Stage.{Stage}
 use Rattle.protocol.specs.declared.thread.Stage.TheVariants.{Idle, Calling, AtCondition, Dying, Reaped}
 use Rattle.protocol.specs.declared.note.Note.TheVariants.{Stepped, Walked}
 use Rattle.protocol.specs.Machine.{State, After, put, place_met, is_met, words_after, answer_of, joined, moved_by, woken_by, queue_after, happens, nothing, begun, first_stage, went, walked}
 use Rattle.protocol.specs.Machine.{Led, led, led_at, held_after, decision, slept_in, stepped, declined, spared, killed, departed, renewed, reinited, has_thread, is_alive, is_asleep, is_gone, is_trim, sleeps}
 use Rattle.protocol.specs.Machine.{may_begin, may_reinit, may_remake, waiters_of, is_first, is_idle, sleepers, death_at, told_of, has_ended, stage_walked}
-use Rattle.protocol.specs.Machine.{may_recount, recounted, another_answers, answers, wakes_one, wakes_next, sparing, stands_in, reslept, resleeping, is_mark, repeated, repeating}
+use Rattle.protocol.specs.Machine.{expired, is_timed, lapsed, may_recount, recounted, another_answers, answers, wakes_one, wakes_next, sparing, stands_in, reslept, resleeping, is_mark, repeated, repeating}
 use Rattle.protocol.proofs.Puts.{by_put, put-same, put-other}
 use Rattle.protocol.proofs.Kept.{Kept}
 use Rattle.protocol.proofs.Renewals.{renewed_word, renewed_elsewhere}
@@ -241,6 +241,15 @@ module _ (s : State) (v : ℕ → ℕ) where
   declined_alike t held (Dying w) = record { note = refl; rest = refl; does = λ p. refl }
   declined_alike t held Reaped = record { note = refl; rest = refl; does = λ p. refl }
 
+  expired_alike : (t held : ℕ) (g : Stage) → Comes s v (Expire t) (expired (with_words s v) t held g) (expired s t held g)
+  expired_alike t held (Calling o p) =
+      chosen (Expire t) (is_timed o && may_expire p.phase && sleeps s t (Calling o p)) (lapsed (with_words s v) t held o p) (lapsed s t held o p)
+      (λ on. record { note = refl; rest = refl; does = λ p. refl })
+  expired_alike t held Idle = record { note = refl; rest = refl; does = λ p. refl }
+  expired_alike t held (AtCondition c p) = record { note = refl; rest = refl; does = λ p. refl }
+  expired_alike t held (Dying w) = record { note = refl; rest = refl; does = λ p. refl }
+  expired_alike t held Reaped = record { note = refl; rest = refl; does = λ p. refl }
+
   recounted_alike : (k : ℕ) → Comes s v (Recount k) (recounted (with_words s v) k) (recounted s k)
   recounted_alike k = record { note = refl; rest = refl; does = shared_put 0 (counter_place s.layout k) 0 (inr (k, refl)) }
 
@@ -411,6 +420,9 @@ events_alike s v (Kill t) inv views cells pending =
     (λ on. let there = known_thread s t (is_alive (s.threads t).stage) on in killed_alike s v t there.0 there.1 views)
 events_alike s v (Leave t) inv views cells pending =
     chosen s v (Leave t) (has_thread s t && is_asleep s t) (departed (with_words s v) t) (departed s t) (λ on. record { note = refl; rest = refl; does = λ p. refl })
+events_alike s v (Expire t) inv views cells pending =
+    chosen s v (Expire t) (has_thread s t) (expired (with_words s v) t (s.threads t).held (s.threads t).stage) (expired s t (s.threads t).held (s.threads t).stage)
+    (λ on. expired_alike s v t (s.threads t).held (s.threads t).stage)
 events_alike s v (Decline t) inv views cells pending =
     chosen s v (Decline t) (has_thread s t) (declined (with_words s v) t (s.threads t).held (s.threads t).stage) (declined s t (s.threads t).held (s.threads t).stage)
     (λ on. declined_alike s v t (s.threads t).held (s.threads t).stage)

@@ -133,6 +133,7 @@ module _ (l : Layout') (t : ℕ) (s0 : State) (Mine : ℕ → Type 0) (is : IsLa
 
 first_of : (c : Call) → acquires (operation_of c) ≡ true → Announces (first_phase c)
 first_of (call.Lock m) takes = tt
+first_of (call.TimedLock m) takes = tt
 first_of (call.TryLock m) takes = tt
 first_of (call.Unlock m) takes = absurd (cc takes)
 first_of (call.Consistent m) takes = absurd (cc takes)

@@ -203,6 +203,18 @@ rows_of (call.Lock m) t w acquiring pos free usable = record {
   is_no_look = λ e. absurd (cc e);
   took = λ h e cell f. lock_took (fields_of w).died (whole_at t operation.Lock h e cell f);
 }
+rows_of (call.TimedLock m) t w acquiring pos free usable = record {
+  op = operation.Lock;
+  look = row.Lock lock.Load;
+  take = row.Lock (lock.Take (fields_of w));
+  begins = λ l. refl;
+  announced = λ p. refl;
+  looks = λ cell. refl;
+  sees = λ p. ap (λ (g : Led). (from_cell p g).phase) (lock_takes t (fields_of w) pos free usable);
+  takes = λ cell. refl;
+  is_no_look = λ e. absurd (cc e);
+  took = λ h e cell f. lock_took (fields_of w).died (whole_at t operation.Lock h e cell f);
+}
 rows_of (call.TryLock m) t w acquiring pos free usable = record {
   op = operation.TryLock;
   look = row.TryLock try.Load;

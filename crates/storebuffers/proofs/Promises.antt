@@ -8,7 +8,7 @@ use Rattle.posixmutex.specs.Objects.{Does}
 use Rattle.memorymap.specs.Layouts.{Layout', IsLayout}
 use Rattle.facts.specs.declared.fact.Fact.TheVariants.{Return}
 use Rattle.condvar.specs.declared.op.Op.{Op}
-use Rattle.condvar.specs.Ops.{mutex_of, operation_of, condition_of}
+use Rattle.condvar.specs.Ops.{acts_as, mutex_of, condition_of}
 use Rattle.protocol.specs.declared.event.Event.{Event}
 use Rattle.protocol.specs.declared.event.Event.TheVariants.{Begin, Step, Kill}
 use Rattle.protocol.specs.declared.note.Note.{Note}
@@ -90,12 +90,12 @@ module _ (w : ℕ → ℕ) (waits : ℕ → List Store) (s : State) (h : Holds w
         (one.ends most);
     returns = λ x returned.
         let replies = one.returns x (subst (λ (ns : List Note). sleeps.IsAmong (Return t x) (facts_among ns)) at.told returned) in
-        (replies.0, subst (λ (z : (ℕ → Object) × (ℕ → Object)). Does (held_by t z.0 s.layout.mutexes) (z.0 (mutex_of s.layout c)) t (operation_of c) x (z.1 (mutex_of s.layout c))) (λ i. (sym mutexes i, sym (mutexes_behind _ _ s _ at) i)) replies.1);
+        (replies.0, subst (λ (z : (ℕ → Object) × (ℕ → Object)). Does (held_by t z.0 s.layout.mutexes) (z.0 (mutex_of s.layout c)) t (acts_as c) x (z.1 (mutex_of s.layout c))) (λ i. (sym mutexes i, sym (mutexes_behind _ _ s _ at) i)) replies.1);
     sleeps = λ asleep. ⊎_elim
-        (λ kept. inl (subst (λ (f : ℕ → Object). sleeps.IsKeptWaiting (f (mutex_of s.layout c)) t (operation_of c)) (sym mutexes) kept))
+        (λ kept. inl (subst (λ (f : ℕ → Object). sleeps.IsKeptWaiting (f (mutex_of s.layout c)) t (acts_as c)) (sym mutexes) kept))
         (λ waits.
-        let there : sleeps.IsWaiting (seen s (mutex_of s.layout c)) t (operation_of c) (condition_of c) (with_words (run s (Begin t c ∷ replicate n (Step t))) at.words) = record { waits = waits.waits; owns = waits.owns; there = waits.there } in
-        inr (subst (λ (z : (ℕ → Object) × State). sleeps.IsWaiting (z.0 (mutex_of s.layout c)) t (operation_of c) (condition_of c) z.1) (λ i. (sym mutexes i, sym at.memory i)) there))
+        let there : sleeps.IsWaiting (seen s (mutex_of s.layout c)) t (acts_as c) (condition_of c) (with_words (run s (Begin t c ∷ replicate n (Step t))) at.words) = record { waits = waits.waits; owns = waits.owns; there = waits.there } in
+        inr (subst (λ (z : (ℕ → Object) × State). sleeps.IsWaiting (z.0 (mutex_of s.layout c)) t (acts_as c) (condition_of c) z.1) (λ i. (sym mutexes i, sym at.memory i)) there))
         (one.sleeps (sym (ap (λ (z : State). is_asleep z t) at.memory) ∙ asleep));
   }
     where

@@ -8,7 +8,7 @@ use Rattle.posixmutex.specs.Objects.{Does}
 use Rattle.memorymap.specs.Layouts.{Layout', IsLayout, cell_place, counter_place}
 use Rattle.facts.specs.declared.fact.Fact.TheVariants.{Return}
 use Rattle.condvar.specs.declared.op.Op.{Op}
-use Rattle.condvar.specs.Ops.{mutex_of, operation_of, condition_of}
+use Rattle.condvar.specs.Ops.{acts_as, mutex_of, condition_of}
 use Rattle.protocol.specs.declared.event.Event.{Event}
 use Rattle.protocol.specs.declared.event.Event.TheVariants.{Begin, Step, Kill}
 use Rattle.protocol.specs.declared.note.Note.{Note}
@@ -99,10 +99,10 @@ pub record IsUndivided (b : Buffered) (t : ℕ) (c : Op) (n : ℕ) (hs : List Ha
   pub returns : (x : Reply) → IsAmong (Return t x) (facts_among (noted b hs))
       → (x ≢ XRACED)
       × Does (held_by t (seen b.memory) b.memory.layout.mutexes) (seen b.memory (mutex_of b.memory.layout c)) t
-      (operation_of c) x (seen (run_buffered b hs).memory (mutex_of b.memory.layout c))
+      (acts_as c) x (seen (run_buffered b hs).memory (mutex_of b.memory.layout c))
   pub sleeps : is_asleep (run_buffered b hs).memory t ≡ true
-      → IsKeptWaiting (seen b.memory (mutex_of b.memory.layout c)) t (operation_of c)
-      ⊎ IsWaiting (seen b.memory (mutex_of b.memory.layout c)) t (operation_of c) (condition_of c)
+      → IsKeptWaiting (seen b.memory (mutex_of b.memory.layout c)) t (acts_as c)
+      ⊎ IsWaiting (seen b.memory (mutex_of b.memory.layout c)) t (acts_as c) (condition_of c)
       (run_buffered b hs).memory
 
 abbrev pub AreUndivided : Buffered → ℕ → Type 0

@@ -122,6 +122,11 @@ static OF_TWO_THREADS: Commands = Commands {
         ("call a lock m0\ncall b lock m0\nkill b\ngo b\n", 19),
         ("leave a\ndecline a\n", 2),
         ("spare a\nresleep a\nrepeat a\n", 3),
+        ("expire a\nbegin a timedlock m0\nexpire a\ngo a\n", 11),
+        (
+            "call a lock m0\ncall b timedlock m0\nexpire b\nexpire b\ngo b\n",
+            17,
+        ),
         ("kill a\ngo a\nrenew a\nrenew a\ncall a lock m0\n", 15),
         ("reinit a m0\ncall a lock m0\nreinit a m0\n", 11),
         ("remake a m0\nremake b m2\n", 2),

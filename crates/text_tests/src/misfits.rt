@@ -234,7 +234,7 @@ const OF_CALLS: [Reason; 8] = [
 ];
 
 /// By the mutexes, which nobody owns.
-const OF_MUTEXES: [Reason; 7] = [
+const OF_MUTEXES: [Reason; 9] = [
     Reason {
         misfit: Misfit::NotAllowed {
             object: UNTOUCHED,
@@ -278,6 +278,35 @@ const OF_MUTEXES: [Reason; 7] = [
         misfit: Misfit::NotOwner { object: UNTOUCHED },
         text: "the thread doesn't own the mutex: nobody owns it",
         traces: &[("1 kill t1\n2 death t1 m0\nend 2", 3)],
+    },
+    // It has no owner, or is the thread's own; and another thread owned it, but before the call.
+    Reason {
+        misfit: Misfit::TooEarly { began: 1 },
+        text: "no other thread owned the mutex since event 1, in which the call began",
+        traces: &[
+            (
+                "1 begin t1 timedlock m0\n2 point t1 m0 timedlock ETIMEDOUT\nend 2",
+                3,
+            ),
+            (
+                "1 begin t1 timedlock m0\n2 begin t2 lock m1\n3 point t2 m1 lock OK\n4 point t1 m0 timedlock ETIMEDOUT\nend 4",
+                5,
+            ),
+        ],
+    },
+    Reason {
+        misfit: Misfit::TooEarly { began: 7 },
+        text: "no other thread owned the mutex since event 7, in which the call began",
+        traces: &[
+            (
+                "4 begin t1 lock m0\n5 point t1 m0 lock OK\n6 return t1 OK\n7 begin t1 timedlock m0\n8 point t1 m0 timedlock ETIMEDOUT\nend 8",
+                6,
+            ),
+            (
+                "1 begin t2 lock m0\n2 point t2 m0 lock OK\n3 return t2 OK\n4 begin t2 unlock m0\n5 point t2 m0 unlock OK\n6 return t2 OK\n7 begin t1 timedlock m0\n8 point t1 m0 timedlock ETIMEDOUT\nend 8",
+                9,
+            ),
+        ],
     },
     Reason {
         misfit: Misfit::StillOwns { mutex: 0 },

@@ -236,6 +236,56 @@ static REINITS_OF_AN_UNUSABLE: Traces = Traces {
     ],
 };
 
+/// Locks with a time limit.
+static TIME_LIMITS: Traces = Traces {
+    frame: BEHIND_THE_FIRST,
+    answers: &[
+        // The limit doesn't come, and the point is a lock's.
+        (
+            Legal(1),
+            &["1 begin t1 timedlock m0\n2 point t1 m0 lock OK\n3 return t1 OK\nend 3"],
+        ),
+        // It comes while another thread owns the mutex, or behind that one's death.
+        (
+            Legal(2),
+            &[
+                "1 begin t1 lock m0\n2 point t1 m0 lock OK\n3 return t1 OK\n4 begin t2 timedlock m0\n5 sleep t2 m0\n6 wake t2\n6 point t2 m0 timedlock ETIMEDOUT\n7 return t2 ETIMEDOUT\nend 7",
+                "1 begin t1 lock m0\n2 point t1 m0 lock OK\n3 return t1 OK\n4 begin t2 timedlock m0\n5 kill t1\n6 death t1 m0\n7 point t2 m0 timedlock ETIMEDOUT\n8 return t2 ETIMEDOUT\nend 8",
+            ],
+        ),
+        // Another thread owned it when the call began, and has unlocked it; at once, too.
+        (
+            Legal(3),
+            &[
+                "1 begin t1 lock m0\n2 point t1 m0 lock OK\n3 return t1 OK\n4 begin t2 timedlock m0\n5 begin t1 unlock m0\n6 point t1 m0 unlock OK\n7 point t2 m0 timedlock ETIMEDOUT\n8 return t2 ETIMEDOUT\nend 8",
+                "1 begin t1 lock m0\n2 point t1 m0 lock OK\n3 return t1 OK\n4 begin t1 unlock m0\n5 begin t2 timedlock m0\n6 point t1 m0 unlock OK\n7 point t2 m0 timedlock ETIMEDOUT\n8 return t2 ETIMEDOUT\nend 8",
+            ],
+        ),
+        // Another reply, a trylock's point, the point of a call without a limit, and one of a mutex that nobody owned.
+        (
+            Illegal(3),
+            &[
+                "1 begin t1 timedlock m0\n2 point t1 m0 timedlock OK\nend 2",
+                "1 begin t1 timedlock m0\n2 point t1 m0 trylock OK\nend 2",
+                "1 begin t1 lock m0\n2 point t1 m0 timedlock ETIMEDOUT\nend 2",
+                "1 begin t1 timedlock m0\n2 point t1 m0 timedlock ETIMEDOUT\nend 2",
+            ],
+        ),
+        // It returns what its point didn't reply.
+        (
+            Illegal(4),
+            &["1 begin t1 timedlock m0\n2 point t1 m0 lock OK\n3 return t1 ETIMEDOUT\nend 3"],
+        ),
+        // A thread that sleeps has no point.
+        (
+            Illegal(7),
+            &[
+                "1 begin t1 lock m0\n2 point t1 m0 lock OK\n3 return t1 OK\n4 begin t2 timedlock m0\n5 sleep t2 m0\n6 point t2 m0 timedlock ETIMEDOUT\nend 6",
+            ],
+        ),
+    ],
+};
+
 /// Calls on a condition variable.
 static WAITS: Traces = Traces {
     frame: BEHIND_THE_FIRST,
@@ -367,6 +417,7 @@ fn traces_are_judged(rt: HostRuntime) {
         &DEATHS,
         &RENEWALS,
         &REINITS,
+        &TIME_LIMITS,
         &REINITS_OF_AN_UNUSABLE,
         &WAITS,
         &NUMBERS_OF_EVENTS,

@@ -85,7 +85,7 @@ fn reply_in(note: &Note, thread: Tid) -> Option<Reply>
             ..
         } => reply_to(thread, caller, returned),
         Note::Reinited { thread: caller, .. } => reply_to(thread, caller, Some(Reply::OK)),
-        Note::Nothing | Note::Killed { .. } | Note::Left { .. } => None,
+        Note::Nothing | Note::Killed { .. } | Note::Left { .. } | Note::Expired { .. } => None,
         Note::Walked { .. } | Note::Renewed { .. } => None,
         Note::Recounted { .. } | Note::Reslept { .. } => None,
     }

@@ -6,7 +6,7 @@ use Rattle.lockword.specs.declared.reply.Reply.TheVariants.{OK}
 use Rattle.mutex.specs.declared.call.Call.{Call}
 use Rattle.mutex.specs.declared.call.Call.TheVariants as call
 use Rattle.memorymap.specs.Layouts.{Layout', address_in, cell_place}
-use Rattle.mutex.specs.Calls.{mutex_of, operation_of}
+use Rattle.mutex.specs.Calls.{acts_as, mutex_of}
 use Rattle.mutex.specs.Laws.{decided}
 use Rattle.mutex.specs.Programs.{first_row}
 use Rattle.mutex.specs.Standings.{Standing, Whole}
@@ -40,8 +40,8 @@ still_under_way w r r' a call m u =
     let same = ap standing_of m.1 in (
       m.0,
       subst (λ (q : Standing). IsOnMutex (layout_of w) q (mutex_of call)) (sym same) u.1,
-      subst (λ (z : Standing). Stands (operation_of call) (first_row call) (cell_place (layout_of w) (mutex_of call)) (card a) z (card r'.pass)) (sym same)
-          (still_stands (operation_of call) (first_row call) (cell_place (layout_of w) (mutex_of call)) (card a) (running_program r) (card r.pass) (card r'.pass) (seen_noted (cell_place (layout_of w) (mutex_of call)) (card r.pass) (card r'.pass) m.2 (m.4 (mutex_of call) u.1))
+      subst (λ (z : Standing). Stands (acts_as call) (first_row call) (cell_place (layout_of w) (mutex_of call)) (card a) z (card r'.pass)) (sym same)
+          (still_stands (acts_as call) (first_row call) (cell_place (layout_of w) (mutex_of call)) (card a) (running_program r) (card r.pass) (card r'.pass) (seen_noted (cell_place (layout_of w) (mutex_of call)) (card r.pass) (card r'.pass) m.2 (m.4 (mutex_of call) u.1))
           (expects_at_section (running_call r) (running_call r).phase (cell_place (layout_of w) (mutex_of call)) (card r'.pass) m.3) u.2),
     )
 

@@ -13,7 +13,7 @@ use Rattle.lockword.specs.declared.reply.Reply.{Reply}
 use Rattle.lockword.specs.declared.reply.Reply.TheVariants.{XRACED}
 use Rattle.memorymap.specs.Layouts.{Layout', cell_place}
 use Rattle.posixmutex.specs.declared.point.Operation.TheVariants as operation
-use Rattle.mutex.specs.declared.call.Call.TheVariants.{Lock, TryLock, Unlock, Consistent}
+use Rattle.mutex.specs.declared.call.Call.TheVariants.{Lock, TimedLock, TryLock, Unlock, Consistent}
 use Rattle.condvar.specs.declared.op.Op.{Op}
 use Rattle.condvar.specs.declared.op.Op.TheVariants.{OnMutex, OnCondition}
 use Rattle.ruledwords.specs.declared.pass.Card.{Card}
@@ -31,9 +31,11 @@ use Rattle.threadbench.specs.declared.job.WorkerPass.TheVariants.{Lives, Reaped}
 use Rattle.threadbench.specs.Conditions.{CondReplied, CondDies}
 
 -- a call of the thread whose card is c replied so, and left the card d: its point, if it has one, is the last that the
--- thread has seen of the mutex. Of a wait that took its mutex again it is the second of two
+-- thread has seen of the mutex. Of a wait that took its mutex again it is the second of two. No time limit of a lock
+-- comes
 abbrev pub Replied : Layout' → Card → Op → Reply → Card → Type 0
 Replied k c (OnMutex (Lock m)) r d = Takes k m operation.Lock c r d
+Replied k c (OnMutex (TimedLock m)) r d = Takes k m operation.Lock c r d
 Replied k c (OnMutex (TryLock m)) r d =
     Takes k m operation.TryLock c r d × (r ≡ XRACED → (c.misses + 4 ≤ d.misses) × OthersChanged 4 c (cell_place k m) d)
 Replied k c (OnMutex (Unlock m)) r d = Called c (cell_place k m) ((operation.Unlock, r) ∷ []) d
@@ -43,6 +45,7 @@ Replied k c (OnCondition call) r d = CondReplied k c call r d
 -- the thread whose card was c died in the call: it had made all of the call's points, or some of the first
 abbrev pub DiesIn : Layout' → Card → Op → Card → Type 0
 DiesIn k c (OnMutex (Lock m)) d = DiesTaking k m operation.Lock c d
+DiesIn k c (OnMutex (TimedLock m)) d = DiesTaking k m operation.Lock c d
 DiesIn k c (OnMutex (TryLock m)) d = DiesTaking k m operation.TryLock c d
 DiesIn k c (OnMutex (Unlock m)) d = Died c (cell_place k m) operation.Unlock d
 DiesIn k c (OnMutex (Consistent m)) d = Died c (cell_place k m) operation.Consistent d

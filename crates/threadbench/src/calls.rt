@@ -55,6 +55,8 @@ fn answer_on_mutex<R: Wait, F: Fate>(
     match call {
         Call::Unlock(mutex) => unlock(rt, bench, pass, mutex, fate),
         Call::Lock(mutex) => bench.lock(rt, pass, mutex, fate),
+        // No time limit comes to these threads.
+        Call::TimedLock(mutex) => bench.lock(rt, pass, mutex, fate),
         Call::TryLock(mutex) => bench.words().try_lock(pass, mutex, fate),
         Call::Consistent(mutex) => bench.words().consistent(pass, mutex, fate),
     }

@@ -27,6 +27,7 @@ use Rattle.posixmutex.proofs.Steps.{determined}
 use Rattle.verdict.proofs.Owners.{does_owners, not_owner, others_own, owns_itself}
 use Rattle.verdict.proofs.Stages.{Kept}
 use Rattle.verdict.proofs.Lives.{lived, lives, sleeps}
+use Rattle.verdict.proofs.TimeLimits.{time_limits}
 
 -- ---- one history
 
@@ -105,7 +106,7 @@ others_step n t m os d a other = go (m == d.mutex) refl where
   go false is = ap (owns t) (moved_there os d m (grind (arith, nat_tests)))
 
 -- a killed thread is in no call
-no_call : (s : Stage) (fs : List Fact) → Kept s fs → is_killed fs ≡ true → call_in fs ≡ None
+pub no_call : (s : Stage) (fs : List Fact) → Kept s fs → is_killed fs ≡ true → call_in fs ≡ None
 no_call Resting fs k killed = k.0
 no_call (Calling c made z) fs k killed = let e : true ≡ false = sym killed ∙ k.2 in absurd cc
 no_call Dying fs k killed = k.0
@@ -283,6 +284,7 @@ explains n told fit inside = record {
   legal = (objects_after told, legal n told fit inside);
   lives = lives n told fit;
   sleeps = sleeps n told fit;
+  time_limits = λ t m. time_limits n t m told fit;
   deaths_told = λ newer earlier i t all.
       let k : Line = record { event = i; fact = Kill t } in
       let fit_all = subst (AllFit n) all fit in

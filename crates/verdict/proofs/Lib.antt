@@ -7,6 +7,8 @@ pub mod Lines
 pub mod Passing
 pub mod Whole
 pub mod Lives
+pub mod TimeLimits
 pub mod Burials
+pub mod Chances
 pub mod Collecting
 pub mod OneLife

@@ -2,7 +2,7 @@
 use Rattle.std.proofs.Common.{◌≡◌, ◌≢◌, inl, inr, ℕ, ◌≤◌, ◌&&◌, Bool, true, false, nat_le, MatchBool, List, [], ◌∷◌, ◌++◌, Option, None, Some, refl, sym, ap, subst, ◌∙◌, arith}
 use Rattle.std.proofs.lemmas.Bool.Decides.{nat_tests}
 use Rattle.lockword.specs.declared.reply.Reply.{Reply}
-use Rattle.lockword.specs.declared.reply.Reply.TheVariants.{OK, XHELD}
+use Rattle.lockword.specs.declared.reply.Reply.TheVariants.{OK, ETIMEDOUT, XHELD}
 use Rattle.posixmutex.specs.declared.object.Object.{Object}
 use Rattle.posixmutex.specs.declared.point.Operation.TheVariants as operation
 use Rattle.posixmutex.specs.declared.point.Decision.{Decision}
@@ -22,8 +22,8 @@ use Rattle.verdict.specs.declared.stage.Stage.TheVariants.{Resting, Calling, Dyi
 use Rattle.verdict.specs.declared.misfit.Misfit.{Misfit}
 use Rattle.verdict.specs.declared.misfit.Misfit.TheVariants as misfit
 use Rattle.verdict.specs.Earlier.{call_in, points_in, is_reaped}
-use Rattle.verdict.specs.Fits.{Fits, FitsThread, Allows, OwnsNothing}
-use Rattle.verdict.specs.Misfits.{IsAwakeIn, IsDoneBy, IsEnded, IsMisfit, IsOutOfLife, IsOutOfOrder, OwnsSome, Refuses, RefusesStep, Told, needs_kill}
+use Rattle.verdict.specs.Fits.{Fits, FitsThread, Allows, IsDue, OwnsNothing}
+use Rattle.verdict.specs.Misfits.{IsAwakeIn, IsDoneBy, IsEnded, IsMisfit, IsOutOfLife, IsOutOfOrder, IsTooEarly, OwnsSome, Refuses, RefusesStep, Told, needs_kill}
 use Rattle.verdict.specs.Stages.{Forbids, ForbidsPoint, MayPoint}
 use Rattle.verdict.proofs.Stages.{Of, Kept, all_made, may_first, may_point, nobody_calls, same_call, unkilled}
 
@@ -182,10 +182,17 @@ pub owns_breaks : (m : Misfit) (n : ℕ) (os : ℕ → Object) (f : Fact) → Ow
 owns_breaks (misfit.StillOwns k) n os (fact.Reap t) h nothing = nothing k h.0 h.1
 owns_breaks m n os f h nothing = absurd h
 
+-- ---- a time limit
+
+pub early_breaks : (m : Misfit) (earlier : List Line) (f : Fact) → IsTooEarly m earlier f → IsDue earlier f → ⊥
+early_breaks (misfit.TooEarly i) earlier (fact.Point d) h due = unkilled _ (due refl refl h.1) h.2
+early_breaks m earlier f h due = absurd h
+
 -- ---- the line
 
 pub misfit_fails : (m : Misfit) (n : ℕ) (earlier : List Line) (e : Line) → IsMisfit m n earlier e → Fits n earlier e → ⊥
 misfit_fails m n earlier e (inl h) fits = h.1 fits.in_order
 misfit_fails m n earlier e (inr (inl h)) fits = h.2 fits.of_thread
 misfit_fails m n earlier e (inr (inr (inl h))) fits = h.3 fits.allowed
-misfit_fails m n earlier e (inr (inr (inr h))) fits = h.3 fits.reaped
+misfit_fails m n earlier e (inr (inr (inr (inl h)))) fits = h.4 fits.due
+misfit_fails m n earlier e (inr (inr (inr (inr h)))) fits = h.3 fits.reaped

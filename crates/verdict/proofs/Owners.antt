@@ -6,10 +6,10 @@ use Rattle.std.specs.Prelude.{if◌then◌else◌, slice_index}
 use Rattle.std.proofs.lemmas.Bool.Decides.{nat_tests}
 use mathlib.Core.Path.{fun_ext}
 use Rattle.lockword.specs.declared.reply.Reply.{Reply}
-use Rattle.lockword.specs.declared.reply.Reply.TheVariants.{OK, EPERM, EBUSY, EINVAL, EDEADLK, EOWNERDEAD, ENOTRECOVERABLE, XRACED, XHELD, XFULL, XSTATE}
+use Rattle.lockword.specs.declared.reply.Reply.TheVariants.{OK, EPERM, EBUSY, EINVAL, EDEADLK, ETIMEDOUT, EOWNERDEAD, ENOTRECOVERABLE, XRACED, XHELD, XFULL, XSTATE}
 use Rattle.posixmutex.specs.declared.object.Object.{Object}
 use Rattle.posixmutex.specs.declared.point.Operation.{Operation}
-use Rattle.posixmutex.specs.declared.point.Operation.TheVariants.{Lock, TryLock, Unlock, Consistent, Wait, Signal, Broadcast, Death, Reinit}
+use Rattle.posixmutex.specs.declared.point.Operation.TheVariants.{Lock, TryLock, TimedLock, Unlock, Consistent, Wait, Signal, Broadcast, Death, Reinit}
 use Rattle.posixmutex.specs.declared.point.Decision.{Decision}
 use Rattle.posixmutex.specs.Objects.{Permits, Does, acquires, fresh, stepped}
 use Rattle.posixmutex.proofs.Steps.{determined}
@@ -36,6 +36,7 @@ permits_owners o t TryLock EOWNERDEAD n h = inr (inl (h.1, ap (λ (z : Object). 
 permits_owners o t TryLock ENOTRECOVERABLE n h = kept o t n h.1
 permits_owners o t TryLock EBUSY n h = kept o t n h.1
 permits_owners o t TryLock XRACED n h = kept o t n h.2
+permits_owners o t TimedLock ETIMEDOUT n h = kept o t n h
 permits_owners o t Unlock OK n h = inr (inr (h.0, ap (λ (z : Object). z.owner) h.1))
 permits_owners o t Unlock EPERM n h = kept o t n h.1
 permits_owners o t Consistent OK n h = inl (ap (λ (z : Object). z.owner) h.2)

@@ -1,22 +1,27 @@
 -- What a pass keeps says what the lines so far told.
 use Rattle.std.proofs.Common.{◌≡◌, ◌≢◌, inl, inr, ℕ, ◌<◌, ◌≤◌, ◌==◌, ◌+◌, Bool, true, false, List, [], ◌∷◌, length, Option, None, Some, MatchOption, Ok, nat_lt, refl, sym, ap, subst, ◌∙◌, arith, get_or-set_same, get_or-set_other}
-use Rattle.std.specs.Prelude.{◌⊎◌, if◌then◌else◌, slice_set}
+use Rattle.std.specs.Prelude.{◌⊎◌, if◌then◌else◌, slice_index, slice_set}
 use Rattle.std.proofs.lemmas.Bool.Decides.{nat_tests}
 use mathlib.Core.Path.{fun_ext}
+use Rattle.lockword.specs.declared.reply.Reply.TheVariants.{ETIMEDOUT}
+use Rattle.posixmutex.specs.declared.object.Object.{Object}
+use Rattle.posixmutex.specs.declared.point.Decision.{Decision}
+use Rattle.facts.specs.declared.fact.Fact.{Fact}
+use Rattle.facts.specs.declared.fact.Fact.TheVariants.{Point}
 use Rattle.facts.specs.declared.fact.Line.{Line}
 use Rattle.verdict.specs.declared.stage.Stage.{Stage}
 use Rattle.verdict.specs.declared.stage.Stage.TheVariants.{Resting}
 use Rattle.verdict.specs.declared.judge.Judge.{Judge}
 use Rattle.verdict.specs.declared.checking.Pass.{Pass}
 use Rattle.facts.specs.Facts.{thread_of, decision_of, is_point}
-use Rattle.verdict.specs.Earlier.{told_of, objects_after, moved, latest}
+use Rattle.verdict.specs.Earlier.{begun_at, chances_behind, freed_at, told_of, objects_after, moved, latest}
 use Rattle.facts.specs.Orders.{Later, Each}
-use Rattle.verdict.specs.Fits.{Fits, FitsThread, Allows, OwnsNothing}
-use Rattle.verdict.specs.Misfits.{IsMisfit, OwnsSome, Refuses}
+use Rattle.verdict.specs.Fits.{Fits, FitsThread, Allows, IsDue, OwnsNothing}
+use Rattle.verdict.specs.Misfits.{IsMisfit, IsTooEarly, OwnsSome, Refuses}
 use Rattle.verdict.specs.declared.misfit.Misfit.{Misfit}
-use Rattle.verdict.specs.declared.misfit.Misfit.TheVariants.{EndFalls}
+use Rattle.verdict.specs.declared.misfit.Misfit.TheVariants.{EndFalls, TooEarly}
 use Rattle.verdict.specs.declared.misfit.TraceMisfit.{TraceMisfit}
-use Rattle.verdict.specs.Judges.{Accepts, Rejects, Moves, IsMutex, IsNew, object_at, stage_at}
+use Rattle.verdict.specs.Judges.{Accepts, Awaits, Hurries, Rejects, Moves, IsInside, IsMutex, IsNew, IsSound, begun_next, freed_next, may_time_out, object_at, stage_at}
 use Rattle.verdict.specs.Stages.{May, next}
 use Rattle.verdict.specs.Places.{Stands, placed}
 use Rattle.verdict.specs.Verdicts.{AllFit, IsFound, IsReason, point_lines}
@@ -29,7 +34,8 @@ use Rattle.verdict.specs.declared.reading.Read.TheVariants.{Told, End}
 use Rattle.verdict.proofs.Lines.{goes_told, goes_end, ended_empty}
 use Rattle.verdict.proofs.Burials.{explains}
 use Rattle.verdict.proofs.Places.{Recalls, clashes_out, recalls_next, recalls_nowhere, stands_later, stands_before}
-use Rattle.verdict.proofs.Misfits.{forbids_out, life_breaks, misfit_fails, order_breaks, owns_breaks, refuses_breaks}
+use Rattle.verdict.proofs.Chances.{begun_kept, begun_length, freed_kept, freed_length, so_waited}
+use Rattle.verdict.proofs.Misfits.{early_breaks, forbids_out, life_breaks, misfit_fails, order_breaks, owns_breaks, refuses_breaks}
 use Rattle.verdict.proofs.Stages.{Kept, may_fits, next_kept}
 
 -- the judge keeps what these lines told
@@ -39,30 +45,60 @@ pub record Reflects (j : Judge) (told : List Line) : Type 0 where
   pub stands : (e : Line) → 1 ≤ e.event → Stands j.place e → Each (λ a. Later a e) told
   pub recalls : Recalls j.place told
   pub event : j.place.event ≡ latest told
+  pub begun : (t : ℕ) → t < length j.begun.items → slice_index j.begun.items t ≡ begun_at t told
+  pub freed : (m : ℕ) → m < length j.freed.items → slice_index j.freed.items m ≡ freed_at m told
 
-pub accepts_fits : (j : Judge) (told : List Line) (e : Line) → Reflects j told → 1 ≤ e.event → Accepts j e → Fits (length j.objects.items) told e
-accepts_fits j told e r some a = record {
+-- ---- time limits
+
+-- what is kept says whether a call that is out of time has waited
+time_told : (n : ℕ) (j : Judge) (told : List Line) (d : Decision) → Reflects j told → IsSound j → AllFit n told → IsInside (length j.stages.items) (length j.objects.items) (Point d) → May (stage_at j.stages.items d.thread) (Point d) → Allows (length j.objects.items) (object_at j.objects.items) (Some d) → d.reply ≡ ETIMEDOUT
+    → may_time_out j d ≡ (chances_behind d.thread d.mutex told).waited
+time_told n j told d r sound fit inside may allows late =
+    so_waited n (length j.objects.items) (object_at j.objects.items) told (stage_at j.stages.items d.thread) d (slice_index j.begun.items d.thread) (slice_index j.freed.items d.mutex) fit (r.stages d.thread) may allows late r.objects
+    (r.begun d.thread (omega (arith, inside.0, sound.each_begun))) (r.freed d.mutex (omega (arith, inside.1, sound.each_freed)))
+
+awaits_due : (n : ℕ) (j : Judge) (told : List Line) (f : Fact) → Reflects j told → IsSound j → AllFit n told → IsInside (length j.stages.items) (length j.objects.items) f → May (stage_at j.stages.items (thread_of f)) f → Allows (length j.objects.items) (object_at j.objects.items) (decision_of f) → Awaits j f → IsDue told f
+awaits_due n j told (Point d) r sound fit inside may allows awaits = λ by on late. sym (time_told n j told d r sound fit inside may allows late) ∙ awaits late
+awaits_due n j told f r sound fit inside may allows awaits = tt
+
+hurries_early : (n : ℕ) (m : Misfit) (j : Judge) (told : List Line) (f : Fact) → Reflects j told → IsSound j → AllFit n told → IsInside (length j.stages.items) (length j.objects.items) f → May (stage_at j.stages.items (thread_of f)) f → Allows (length j.objects.items) (object_at j.objects.items) (decision_of f) → Hurries m j f → IsTooEarly m told f
+hurries_early n (TooEarly i) j told (Point d) r sound fit inside may allows h = (
+  h.0 ∙ r.begun d.thread (omega (arith, inside.0, sound.each_begun)),
+  h.1,
+  sym (time_told n j told d r sound fit inside may allows h.1) ∙ h.2,
+)
+hurries_early n m j told f r sound fit inside may allows h = absurd h
+
+-- ---- a line
+
+pub accepts_fits : (n : ℕ) (j : Judge) (told : List Line) (e : Line) → Reflects j told → IsSound j → AllFit n told → IsInside (length j.stages.items) (length j.objects.items) e.fact → 1 ≤ e.event → Accepts j e → Fits (length j.objects.items) told e
+accepts_fits n j told e r sound fit inside some a = record {
   in_order = r.stands e some a.stands;
   of_thread = may_fits _ e.fact _ (r.stages (thread_of e.fact)) a.may;
   allowed = subst (λ os. Allows (length j.objects.items) os (decision_of e.fact)) r.objects a.allowed;
+  due = awaits_due n j told e.fact r sound fit inside a.may a.allowed a.awaits;
   reaped = subst (λ os. OwnsNothing (length j.objects.items) os e.fact) r.objects a.reaped;
 }
 
-rejects_change : (m : Misfit) (j : Judge) (told : List Line) (e : Line) → Reflects j told → Each (λ a. Later a e) told → FitsThread (told_of (thread_of e.fact) told) e.fact
-    → Refuses m (length j.objects.items) (object_at j.objects.items) (decision_of e.fact) ⊎ OwnsSome m (length j.objects.items) (object_at j.objects.items) e.fact → IsMisfit m (length j.objects.items) told e
-rejects_change m j told e r order life (inl h) =
+rejects_change : (n : ℕ) (m : Misfit) (j : Judge) (told : List Line) (e : Line) → Reflects j told → IsSound j → AllFit n told → IsInside (length j.stages.items) (length j.objects.items) e.fact → May (stage_at j.stages.items (thread_of e.fact)) e.fact → Each (λ a. Later a e) told → FitsThread (told_of (thread_of e.fact) told) e.fact
+    → Refuses m (length j.objects.items) (object_at j.objects.items) (decision_of e.fact) ⊎ ((Allows (length j.objects.items) (object_at j.objects.items) (decision_of e.fact) × Hurries m j e.fact) ⊎ OwnsSome m (length j.objects.items) (object_at j.objects.items) e.fact) → IsMisfit m (length j.objects.items) told e
+rejects_change n m j told e r sound fit inside may order life (inl h) =
     let out = subst (λ os. Refuses m (length j.objects.items) os (decision_of e.fact)) r.objects h in
     inr (inr (inl (order, life, out, refuses_breaks m (length j.objects.items) (objects_after told) (decision_of e.fact) out)))
-rejects_change m j told e r order life (inr h) =
+rejects_change n m j told e r sound fit inside may order life (inr (inl h)) =
+    let out = hurries_early n m j told e.fact r sound fit inside may h.0 h.1 in
+    let allowed = subst (λ os. Allows (length j.objects.items) os (decision_of e.fact)) r.objects h.0 in
+    inr (inr (inr (inl (order, life, allowed, out, early_breaks m told e.fact out))))
+rejects_change n m j told e r sound fit inside may order life (inr (inr h)) =
     let out = subst (λ os. OwnsSome m (length j.objects.items) os e.fact) r.objects h in
-    inr (inr (inr (order, life, out, owns_breaks m (length j.objects.items) (objects_after told) e.fact out)))
+    inr (inr (inr (inr (order, life, out, owns_breaks m (length j.objects.items) (objects_after told) e.fact out))))
 
-pub rejects_misfit : (m : Misfit) (j : Judge) (told : List Line) (e : Line) → Reflects j told → 1 ≤ e.event → Rejects m j e → IsMisfit m (length j.objects.items) told e
-rejects_misfit m j told e r some (inl h) = let out = clashes_out m j.place told e r.recalls r.event some h in inl (out, order_breaks m told e out)
-rejects_misfit m j told e r some (inr (stands, inl h)) =
+pub rejects_misfit : (n : ℕ) (m : Misfit) (j : Judge) (told : List Line) (e : Line) → Reflects j told → IsSound j → AllFit n told → IsInside (length j.stages.items) (length j.objects.items) e.fact → 1 ≤ e.event → Rejects m j e → IsMisfit m (length j.objects.items) told e
+rejects_misfit n m j told e r sound fit inside some (inl h) = let out = clashes_out m j.place told e r.recalls r.event some h in inl (out, order_breaks m told e out)
+rejects_misfit n m j told e r sound fit inside some (inr (stands, inl h)) =
     let out = forbids_out m (stage_at j.stages.items (thread_of e.fact)) e.fact (told_of (thread_of e.fact) told) (r.stages (thread_of e.fact)) h in
     inr (inl (r.stands e some stands, out, life_breaks m (told_of (thread_of e.fact) told) e.fact out))
-rejects_misfit m j told e r some (inr (stands, inr h)) = rejects_change m j told e r (r.stands e some stands) (may_fits _ e.fact _ (r.stages (thread_of e.fact)) h.0) h.1
+rejects_misfit n m j told e r sound fit inside some (inr (stands, inr h)) = rejects_change n m j told e r sound fit inside h.0 (r.stands e some stands) (may_fits _ e.fact _ (r.stages (thread_of e.fact)) h.0) h.1
 
 -- the stages after a fact
 stages_next : (xs : List Stage) (told : List Line) (e : Line) → thread_of e.fact < length xs → ((t : ℕ) → Kept (stage_at xs t) (told_of t told)) → May (stage_at xs (thread_of e.fact)) e.fact
@@ -87,6 +123,12 @@ reflects_next j k told e r some lt a m = record {
       (stands_later j.place e x a.stands there, r.stands x one (stands_before j.place e x a.stands there));
   recalls = subst (λ p. Recalls p (e ∷ told)) (sym m.place) (recalls_next j.place told e r.recalls);
   event = ap (λ p. p.event) m.place;
+  begun = λ t low.
+      let low' : t < length j.begun.items = omega (arith, low, ap length m.begun, begun_length j.begun.items e.event e.fact) in
+      ap (λ bs. slice_index bs t) m.begun ∙ begun_kept j.begun.items told e r.begun t low';
+  freed = λ k low.
+      let low' : k < length j.freed.items = omega (arith, low, ap length m.freed, freed_length j.freed.items e.event e.fact) in
+      ap (λ fs. slice_index fs k) m.freed ∙ freed_kept j.freed.items told e r.freed k low';
 }
 
 -- what a pass keeps of the lines so far
@@ -108,15 +150,18 @@ missed true n e = absurd cc
 pub judges : (p : Pass) (n : ℕ) (e : Line) (q : Pass) → p.illegal ≡ None → Decides p n e q → Takes p n e q
 judges p n e q none d = subst (λ o. MatchOption o (Decides p n e q) (λ why. q.illegal ≡ Some why)) (sym none) d
 
-pub shows_next : (n : ℕ) (p q : Pass) (told : List Line) (line : ℕ) (e : Line) → Shows n p told → Takes p line e q → length p.judge.objects.items ≡ n → 1 ≤ e.event → thread_of e.fact < length p.judge.stages.items → line ≡ length told + 2 → Shows n q (e ∷ told)
-shows_next n p q told line e shows takes is some lt here = go p.illegal shows takes where
+pub shows_next : (n : ℕ) (p q : Pass) (told : List Line) (line : ℕ) (e : Line) → Shows n p told → Takes p line e q → IsSound p.judge → length p.judge.objects.items ≡ n → 1 ≤ e.event → thread_of e.fact < length p.judge.stages.items → IsMutex n e.fact → line ≡ length told + 2 → Shows n q (e ∷ told)
+shows_next n p q told line e shows takes sound is some lt mutex here = go p.illegal shows takes where
+  inside : IsInside (length p.judge.stages.items) (length p.judge.objects.items) e.fact
+  inside = (lt, subst (λ k. IsMutex k e.fact) (sym is) mutex)
+
   go : (o : Option TraceMisfit) → MatchOption o (AllFit n told × Reflects p.judge told × (p.points ≡ point_lines told)) (λ why. IsReason n told why) → MatchOption o (Decides p line e q) (λ why. q.illegal ≡ Some why) → Shows n q (e ∷ told)
   go None s (inl d) =
-      let fits : Fits n told e = subst (λ k. Fits k told e) is (accepts_fits p.judge told e s.1 some d.0) in
+      let fits : Fits n told e = subst (λ k. Fits k told e) is (accepts_fits n p.judge told e s.1 sound s.0 inside some d.0) in
       subst (λ o. MatchOption o (AllFit n (e ∷ told) × Reflects q.judge (e ∷ told) × (q.points ≡ point_lines (e ∷ told))) (λ why. IsReason n (e ∷ told) why)) (sym d.2)
       ((fits, s.0), reflects_next p.judge q.judge told e s.1 some lt d.0 d.1, d.3 ∙ ap (λ k. if is_point e.fact then 1 + k else k) s.2)
   go None s (inr d) =
-      let reason : IsMisfit d.0 n told e = subst (λ k. IsMisfit d.0 k told e) is (rejects_misfit d.0 p.judge told e s.1 some d.1) in
+      let reason : IsMisfit d.0 n told e = subst (λ k. IsMisfit d.0 k told e) is (rejects_misfit n d.0 p.judge told e s.1 sound s.0 inside some d.1) in
       let found : IsReason n (e ∷ told) (misfit_at line d.0) = record {
         first = record {
           newer = [];
@@ -153,6 +198,8 @@ reflects_new h j new = record {
   stands = λ e some s. tt;
   recalls = subst (λ p. Recalls p []) (sym new.place) recalls_nowhere;
   event = ap (λ p. p.event) new.place;
+  begun = λ t lt. new.begun t;
+  freed = λ m lt. new.freed m;
 }
 
 pub shows_new : (n : ℕ) (p : Pass) → IsFresh p → Shows n p []
@@ -181,14 +228,14 @@ pub record Progress (text rest : List ℕ) (h : Head) (line : ℕ) (p : Pass) : 
 pub begins : (text : List ℕ) (p : Pass) → IsFresh p → Progress text text p.judge.head 2 p
 begins text p fresh = record { told = []; so_far = refl; shows = shows_new p.judge.head.mutexes p fresh; here = refl; inside = tt }
 
-pub takes_line : (text rest first after : List ℕ) (h : Head) (line : ℕ) (p q : Pass) (e : Line) → Progress text rest h line p → lines_of rest ≡ first ∷ lines_of after → Ok (Told e) ≡ line_read h first → Takes p line e q → length p.judge.objects.items ≡ h.mutexes → 1 ≤ e.event → thread_of e.fact < length p.judge.stages.items → IsMutex h.mutexes e.fact
+pub takes_line : (text rest first after : List ℕ) (h : Head) (line : ℕ) (p q : Pass) (e : Line) → Progress text rest h line p → lines_of rest ≡ first ∷ lines_of after → Ok (Told e) ≡ line_read h first → Takes p line e q → IsSound p.judge → length p.judge.objects.items ≡ h.mutexes → 1 ≤ e.event → thread_of e.fact < length p.judge.stages.items → IsMutex h.mutexes e.fact
     → Progress text after h (line + 1) q
-takes_line text rest first after h line p q e g parts read takes is some lt mutex =
+takes_line text rest first after h line p q e g parts read takes sound is some lt mutex =
     let here = g.here in
     record {
       told = e ∷ g.told;
       so_far = goes_told line h g.told e first rest after _ parts (sym read) g.so_far;
-      shows = shows_next h.mutexes p q g.told line e g.shows takes is some lt here;
+      shows = shows_next h.mutexes p q g.told line e g.shows takes sound is some lt mutex here;
       here = omega arith;
       inside = (mutex, g.inside);
     }

@@ -1,9 +1,9 @@
 -- What is kept of a thread says what was told of it.
-use Rattle.std.proofs.Common.{◌≡◌, Bool, true, false, List, [], ◌∷◌, ◌++◌, Option, None, Some, refl, sym, ap, subst, ◌∙◌, append_assoc}
+use Rattle.std.proofs.Common.{◌≡◌, ⊎_elim, inl, inr, Bool, true, false, List, [], ◌∷◌, ◌++◌, Option, None, Some, refl, sym, ap, subst, ◌∙◌, append_assoc}
 use Rattle.lockword.specs.declared.reply.Reply.{Reply}
 use Rattle.lockword.specs.declared.reply.Reply.TheVariants.{OK}
 use Rattle.posixmutex.specs.declared.point.Operation.{Operation}
-use Rattle.posixmutex.specs.declared.point.Operation.TheVariants.{Lock, Unlock, Wait}
+use Rattle.posixmutex.specs.declared.point.Operation.TheVariants.{Lock, TimedLock, Unlock, Wait}
 use Rattle.facts.specs.declared.fact.Begun.{Begun}
 use Rattle.facts.specs.declared.fact.Fact.{Fact}
 use Rattle.facts.specs.declared.fact.Fact.TheVariants.{Begin, Kill, Point, Death, Sleep, Wake, Move, Return, Reap, Renew}
@@ -28,8 +28,12 @@ append_nil : {A : Type 0} (xs : List A) → xs ++ [] ≡ xs
 append_nil [] = refl
 append_nil (x ∷ xs) = ap (λ ys. x ∷ ys) (append_nil xs)
 
+own_complete : (a : Operation) (x : Reply) → Complete a ((a, x) ∷ []) x
+own_complete TimedLock x = inl refl
+own_complete a x = refl
+
 pub beginning : (a : Operation) (ps : List Act) (made : Made) → Of a ps made → Beginning a ps
-beginning a ps Nothing of = subst (Beginning a) (sym of) ((a, OK) ∷ [], OK, refl)
+beginning a ps Nothing of = subst (Beginning a) (sym of) ((a, OK) ∷ [], OK, own_complete a OK)
 beginning a ps Released of = subst (λ c. Beginning c ps) (sym of.0) (subst (Beginning Wait) (sym of.1) ((Lock, OK) ∷ [], OK, (refl, refl)))
 beginning a ps (Decided x) of = ([], x, subst (λ ys. Complete a ys x) (sym (append_nil ps)) of)
 
@@ -39,16 +43,23 @@ onward Wait ps Nothing Unlock x of may = (refl, subst (λ ys. ys ++ (Unlock, x) 
 onward Wait ps Nothing b x of may = absurd cc
 onward Wait ps Released b x of may = subst (λ r. Of Wait (ps ++ (r, x) ∷ []) (pointed Wait r x)) (sym may) (subst (λ ys. Complete Wait (ys ++ (Lock, x) ∷ []) x) (sym of.1) (refl, refl))
 onward Wait ps (Decided y) b x of may = absurd may
+onward TimedLock ps Nothing b x of may =
+    ⊎_elim
+    (λ e. subst (λ r. Complete TimedLock (ps ++ (r, x) ∷ []) x) (sym e) (subst (λ ys. Complete TimedLock (ys ++ (TimedLock, x) ∷ []) x) (sym of) (inl refl)))
+    (λ e. subst (λ r. Complete TimedLock (ps ++ (r, x) ∷ []) x) (sym e) (subst (λ ys. Complete TimedLock (ys ++ (Lock, x) ∷ []) x) (sym of) (inr refl)))
+    may
 onward a ps Nothing b x of may = subst (λ r. Of a (ps ++ (r, x) ∷ []) (pointed a r x)) (sym may) (subst (λ ys. Complete a (ys ++ (a, x) ∷ []) x) (sym of) refl)
 onward a ps Released b x of may = let e : a ≡ Wait = of.0 in absurd cc
 onward a ps (Decided y) b x of may = absurd may
 
 -- the first point of a call
 pub may_first : (a b : Operation) (x : Reply) → Beginning a ((b, x) ∷ []) → MayPoint a Nothing b x
+may_first TimedLock b x ([], y, is) = ⊎_elim (λ e. inl (ap (λ (p : Act). p.0) e)) (λ e. inr (ap (λ (p : Act). p.0) e)) is
 may_first a b x ([], y, is) = same a b x (ap (λ p. p.0) is)
   where
     same : (a b : Operation) (x : Reply) → b ≡ a → MayPoint a Nothing b x
     same Wait b x e = subst (λ c. MayPoint Wait Nothing c x) (sym e) tt
+    same TimedLock b x e = inl e
     same a b x e = e
 may_first Wait b x (p ∷ [], y, is) = subst (λ c. MayPoint Wait Nothing c x) (sym (ap (λ q. q.0) is.0)) (ap (λ q. q.1) is.0)
 may_first a b x (p ∷ [], y, is) = absurd is
@@ -111,6 +122,9 @@ all_made a ps (Decided y) x of is = ap Decided (one_reply a ps y x of is)
   where
     one_reply : (a : Operation) (ps : List Act) (y x : Reply) → Complete a ps y → Complete a ps x → y ≡ x
     one_reply a [] y x p q = absurd p
+    one_reply TimedLock (r ∷ []) y x p q =
+        ⊎_elim (λ a. ⊎_elim (λ b. ap (λ (s : Act). s.1) (sym a ∙ b)) (λ b. ap (λ (s : Act). s.1) (sym a ∙ b)) q)
+        (λ a. ⊎_elim (λ b. ap (λ (s : Act). s.1) (sym a ∙ b)) (λ b. ap (λ (s : Act). s.1) (sym a ∙ b)) q) p
     one_reply a (r ∷ []) y x p q = ap (λ s. s.1) (sym p ∙ q)
     one_reply Wait (r ∷ s ∷ []) y x p q = ap (λ z. z.1) (sym p.1 ∙ q.1)
     one_reply a (r ∷ s ∷ []) y x p q = absurd p

@@ -1,15 +1,20 @@
 -- What the lines before a line tell. They stand newest first.
-use Rattle.std.specs.Prelude.{ℕ, Bool, true, false, ◌==◌, Option, Some, None, List, [], ◌∷◌, ◌++◌, if◌then◌else◌}
+use Rattle.std.specs.Prelude.{ℕ, Bool, true, false, ◌==◌, ◌&&◌, Option, Some, None}
+use Rattle.std.specs.Prelude.{List, [], ◌∷◌, ◌++◌, if◌then◌else◌}
+use Rattle.lockword.specs.declared.reply.Reply.{Reply}
+use Rattle.lockword.specs.declared.reply.Reply.TheVariants.{OK}
 use Rattle.posixmutex.specs.declared.object.Object.{Object}
 use Rattle.posixmutex.specs.declared.point.Decision.{Decision}
-use Rattle.posixmutex.specs.Objects.{stepped}
+use Rattle.posixmutex.specs.declared.point.Operation.{Operation}
+use Rattle.posixmutex.specs.Objects.{releases, stepped}
 use Rattle.posixmutex.specs.Histories.{opening}
 use Rattle.facts.specs.declared.fact.Begun.{Begun}
 use Rattle.facts.specs.declared.fact.Fact.{Fact}
-use Rattle.facts.specs.declared.fact.Fact.TheVariants.{Begin, Kill, Point, Sleep, Wake, Return, Reap, Renew}
+use Rattle.facts.specs.declared.fact.Fact.TheVariants.{Begin, Kill, Point, Death, Sleep, Wake, Return, Reap, Renew}
 use Rattle.facts.specs.declared.fact.Line.{Line}
 use Rattle.facts.specs.Facts.{thread_of, decision_of}
 use Rattle.facts.specs.Lives.{Act}
+use Rattle.facts.specs.Chances.{Chances, begins_call, chances_next, no_chances}
 
 -- ---- one thread
 
@@ -72,3 +77,31 @@ objects_after (e ∷ es) = moved (objects_after es) (decision_of e.fact)
 abbrev pub latest : List Line → ℕ
 latest [] = 0
 latest (e ∷ es) = e.event
+
+-- ---- a thread and a mutex
+
+-- whether another thread owned mutex m at some moment since thread t began its call
+abbrev pub chances_behind : ℕ → ℕ → List Line → Chances
+chances_behind t m [] = no_chances
+chances_behind t m (e ∷ es) = chances_next t m (chances_behind t m es) e.fact
+
+-- the event of thread t's newest begin; 0 where it has begun no call
+abbrev pub begun_at : ℕ → List Line → ℕ
+begun_at t [] = 0
+begun_at t (e ∷ es) = if begins_call t e.fact then e.event else begun_at t es
+
+-- an operation that replies so takes the mutex from its owner
+abbrev pub gives_up : Operation → Reply → Bool
+gives_up op OK = releases op
+gives_up op x = false
+
+-- mutex m lost its owner, which released it or died
+abbrev pub frees : ℕ → Fact → Bool
+frees m (Point d) = (d.mutex == m) && gives_up d.operation d.reply
+frees m (Death t k) = k == m
+frees m f = false
+
+-- the newest event by which it lost one; 0 where it has lost none
+abbrev pub freed_at : ℕ → List Line → ℕ
+freed_at m [] = 0
+freed_at m (e ∷ es) = if frees m e.fact then e.event else freed_at m es

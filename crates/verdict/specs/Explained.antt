@@ -3,11 +3,12 @@
 --
 -- *A legal trace explains itself.* Its lines are in order; its points and deaths are a legal history; each thread's
 -- lines are its lives (`Lives`), each but the last ended by its reaping; a thread falls asleep only awake in a call,
--- and asleep it is only moved, and then woken or killed, as it is nowhere else; and at each kill, what the thread owned
--- then is what its death is told of in this life (`in_this_life`). Calls on condition variables have their points there
--- too. Sources: pthread_mutex_lock(3p), pthread_cond_wait(3p).
+-- and asleep it is only moved, and then woken or killed, as it is nowhere else; a call is out of time only where another
+-- thread owned its mutex at some moment since it began (`TimeLimitsHaveReasons`); and at each kill, what the thread
+-- owned then is what its death is told of in this life (`in_this_life`). Calls on condition variables have their points
+-- there too. Sources: pthread_mutex_lock(3p), pthread_mutex_timedlock(3p), pthread_cond_wait(3p).
 use Rattle.std.specs.Prelude.{ℕ, ◌≡◌, ◌≢◌, ◌+◌, ◌<◌, ◌≤◌, ◌==◌, ◌&&◌, Bool, true, false}
-use Rattle.std.specs.Prelude.{Option, Some, None, List, [], ◌∷◌, ◌++◌, reverse, if◌then◌else◌}
+use Rattle.std.specs.Prelude.{Option, Some, None, List, [], ◌∷◌, ◌++◌, map, reverse, if◌then◌else◌}
 use Rattle.posixmutex.specs.declared.object.Object.{Object}
 use Rattle.posixmutex.specs.declared.point.Decision.{Decision}
 use Rattle.posixmutex.specs.Histories.{Legal, opening}
@@ -16,6 +17,7 @@ use Rattle.facts.specs.declared.fact.Fact.TheVariants.{Begin, Kill, Death, Sleep
 use Rattle.facts.specs.declared.fact.Line.{Line}
 use Rattle.facts.specs.Lives.{own, Lives}
 use Rattle.facts.specs.Facts.{decision_of}
+use Rattle.facts.specs.Chances.{TimeLimitsHaveReasons, no_chances}
 use Rattle.facts.specs.Orders.{Orderly}
 use Rattle.verdict.specs.Earlier.{told_of}
 
@@ -96,6 +98,9 @@ Alternates d (f ∷ fs) = Alternates d fs
 
 -- ---- the trace
 
+abbrev pub facts_of : List Line → List Fact
+facts_of ls = map (λ l. l.fact) ls
+
 -- these lines, the newest first, explain themselves; n is the number of mutexes
 pub record Explains (n : ℕ) (told : List Line) : Type 0 where
   -- the numbers of points and deaths rise, and each is of an event of its own thread
@@ -105,6 +110,8 @@ pub record Explains (n : ℕ) (told : List Line) : Type 0 where
   pub lives : (t : ℕ) → Lives t (own t (reverse told))
   -- nobody sleeps but in a call, until it is woken or killed
   pub sleeps : (t : ℕ) → Alternates Idle (told_of t (reverse told))
+  -- nobody is out of time but where another thread owned the mutex since the call began
+  pub time_limits : (t m : ℕ) → TimeLimitsHaveReasons t m no_chances (facts_of (reverse told))
   -- at each kill, until the thread lives anew
   pub deaths_told : (newer earlier : List Line) (i t : ℕ)
       → told ≡ newer ++ (record { event = i; fact = Kill t }) ∷ earlier →

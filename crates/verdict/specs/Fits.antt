@@ -1,7 +1,8 @@
 -- Which line may stand behind the lines before it.
 --
 -- *Fits.* Which line may stand behind the lines before it: in the order of events (`Later`), as its thread's calls,
--- sleep and death allow, and as the mutex's object allows; who is reaped owns nothing.
+-- sleep and death allow, and as the mutex's object allows; a call is out of time only where another thread owned its
+-- mutex since it began (`MayTimeOut`); who is reaped owns nothing.
 use Rattle.std.specs.Prelude.{ℕ, ◌≡◌, ◌≢◌, ◌<◌, true, false, Option, Some, None, List, [], ◌∷◌, ◌++◌}
 use Rattle.posixmutex.specs.declared.object.Object.{Object}
 use Rattle.posixmutex.specs.declared.point.Decision.{Decision}
@@ -13,9 +14,11 @@ use Rattle.facts.specs.declared.fact.Fact.TheVariants.{Begin, Kill, Point, Death
 use Rattle.facts.specs.declared.fact.Fact.TheVariants.{Wake, Move, Return, Reap, Renew}
 use Rattle.facts.specs.declared.fact.Line.{Line}
 use Rattle.facts.specs.Lives.{Complete, Beginning}
+use Rattle.facts.specs.Chances.{MayTimeOut}
 use Rattle.facts.specs.Facts.{thread_of, decision_of}
 use Rattle.facts.specs.Orders.{Later, Each}
-use Rattle.verdict.specs.Earlier.{told_of, call_in, points_in, is_asleep, is_killed, is_reaped, objects_after}
+use Rattle.verdict.specs.Earlier.{told_of, call_in, points_in, is_asleep, is_killed, is_reaped}
+use Rattle.verdict.specs.Earlier.{objects_after, chances_behind}
 
 -- what may be told of a thread of which the facts so far are told: one clause for each kind of line
 abbrev pub FitsThread : List Fact → Fact → Type 0
@@ -38,6 +41,11 @@ abbrev pub Allows : ℕ → (ℕ → Object) → Option Decision → Type 0
 Allows n os None = Unit {0}
 Allows n os (Some d) = (new : Object) × Does (held_by d.thread os n) (os d.mutex) d.thread d.operation d.reply new
 
+-- a point tells of a time limit only where another thread owned its mutex at some moment since the call began
+abbrev pub IsDue : List Line → Fact → Type 0
+IsDue earlier (Point d) = MayTimeOut d.thread d.mutex (chances_behind d.thread d.mutex earlier) (Point d)
+IsDue earlier f = Unit {0}
+
 -- who is reaped owns nothing
 abbrev pub OwnsNothing : ℕ → (ℕ → Object) → Fact → Type 0
 OwnsNothing n os (Reap t) = (m : ℕ) → m < n → (os m).owner ≢ Some t
@@ -48,4 +56,5 @@ pub record Fits (n : ℕ) (earlier : List Line) (e : Line) : Type 0 where
   pub in_order : Each (λ a. Later a e) earlier
   pub of_thread : FitsThread (told_of (thread_of e.fact) earlier) e.fact
   pub allowed : Allows n (objects_after earlier) (decision_of e.fact)
+  pub due : IsDue earlier e.fact
   pub reaped : OwnsNothing n (objects_after earlier) e.fact

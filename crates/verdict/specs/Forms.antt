@@ -6,7 +6,7 @@ use Rattle.lockword.specs.Replies.{reply_of}
 use Rattle.lines.specs.Numbers.{is_number, within}
 use Rattle.lines.specs.Lines.{words_of}
 use Rattle.posixmutex.specs.declared.point.Operation.{Operation}
-use Rattle.posixmutex.specs.declared.point.Operation.TheVariants.{Lock, TryLock, Unlock, Consistent, Wait}
+use Rattle.posixmutex.specs.declared.point.Operation.TheVariants.{Lock, TryLock, TimedLock, Unlock, Consistent, Wait}
 use Rattle.posixmutex.specs.declared.point.Operation.TheVariants.{Signal, Broadcast, Death, Reinit}
 use Rattle.posixmutex.specs.Words.{operation_of}
 use Rattle.verdict.specs.declared.form.Said.{Said}
@@ -44,6 +44,7 @@ condition_word w = numbered 99 w
 abbrev pub of_mutex : Operation → Option Operation
 of_mutex Lock = Some Lock
 of_mutex TryLock = Some TryLock
+of_mutex TimedLock = Some TimedLock
 of_mutex Unlock = Some Unlock
 of_mutex Consistent = Some Consistent
 of_mutex Reinit = Some Reinit

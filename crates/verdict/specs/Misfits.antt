@@ -2,13 +2,13 @@
 --
 -- *Misfits.* Why a line doesn't fit, one clause for each reason: it isn't in the order of events (`IsOutOfOrder`), it
 -- isn't what comes next in its thread's life (`IsOutOfLife`), the mutex's object doesn't allow it (`Refuses`: a lock or
--- trylock of a thread that holds as many as it may, a death of one that isn't the owner, or else no death), or its
--- thread is reaped and owns a mutex (`OwnsSome`); and that the clause of `Fits` of the same subject is the first that
--- is false of the line: the order of events comes first, then the thread, then the mutex. Sources:
--- pthread_mutex_lock(3p), pthread_cond_wait(3p).
+-- trylock of a thread that holds as many as it may, a death of one that isn't the owner, or else no death), its call is
+-- out of time and nobody else owned the mutex (`IsTooEarly`), or its thread is reaped and owns a mutex (`OwnsSome`); and
+-- that the clause of `Fits` of the same subject is the first that is false of the line: the order of events comes first,
+-- then the thread, then the mutex. Sources: pthread_mutex_lock(3p), pthread_mutex_timedlock(3p), pthread_cond_wait(3p).
 use Rattle.std.specs.Prelude.{ℕ, ◌≡◌, ◌≢◌, ◌<◌, ◌≤◌, ◌⊎◌, Bool, true, false, Option, Some, None, List, [], ◌∷◌}
 use Rattle.lockword.specs.declared.reply.Reply.{Reply}
-use Rattle.lockword.specs.declared.reply.Reply.TheVariants.{OK, XHELD}
+use Rattle.lockword.specs.declared.reply.Reply.TheVariants.{OK, ETIMEDOUT, XHELD}
 use Rattle.posixmutex.specs.declared.object.Object.{Object}
 use Rattle.posixmutex.specs.declared.point.Operation.TheVariants as operation
 use Rattle.posixmutex.specs.declared.point.Decision.{Decision}
@@ -26,9 +26,11 @@ use Rattle.verdict.specs.declared.misfit.Misfit.TheVariants.{EventFalls, Another
 use Rattle.verdict.specs.declared.misfit.Misfit.TheVariants.{EventKilled, InCall, NoCall, Asleep, Awake, Killed}
 use Rattle.verdict.specs.declared.misfit.Misfit.TheVariants.{NotReaped, Reaped, Alive, OtherMutex, OtherOperation}
 use Rattle.verdict.specs.declared.misfit.Misfit.TheVariants.{ReleaseRefused, Released, Decided, Undecided}
-use Rattle.verdict.specs.declared.misfit.Misfit.TheVariants.{OtherReply, NotAllowed, AtLimit, NotOwner, StillOwns}
+use Rattle.verdict.specs.declared.misfit.Misfit.TheVariants.{OtherReply, NotAllowed, AtLimit, NotOwner, TooEarly}
+use Rattle.verdict.specs.declared.misfit.Misfit.TheVariants.{StillOwns}
 use Rattle.verdict.specs.Earlier.{told_of, call_in, points_in, is_asleep, is_killed, is_reaped, objects_after, latest}
-use Rattle.verdict.specs.Fits.{FitsThread, Allows, OwnsNothing}
+use Rattle.verdict.specs.Earlier.{begun_at, chances_behind}
+use Rattle.verdict.specs.Fits.{FitsThread, Allows, IsDue, OwnsNothing}
 
 -- ---- the numbers of events
 
@@ -123,6 +125,12 @@ abbrev pub Refuses : Misfit → ℕ → (ℕ → Object) → Option Decision →
 Refuses m n os None = ⊥
 Refuses m n os (Some d) = RefusesStep m (held_by d.thread os n) (os d.mutex) d
 
+-- the call is out of time, and nobody else owned its mutex since it began, in this event
+abbrev pub IsTooEarly : Misfit → List Line → Fact → Type 0
+IsTooEarly (TooEarly i) earlier (Point d) = (i ≡ begun_at d.thread earlier) × (d.reply ≡ ETIMEDOUT)
+    × ((chances_behind d.thread d.mutex earlier).waited ≡ false)
+IsTooEarly m earlier f = ⊥
+
 -- who is reaped owns a mutex, of which this is the first
 abbrev pub OwnsSome : Misfit → ℕ → (ℕ → Object) → Fact → Type 0
 OwnsSome (StillOwns m) n os (Reap t) = (m < n) × ((os m).owner ≡ Some t) × ((k : ℕ) → k < m → (os k).owner ≢ Some t)
@@ -140,5 +148,7 @@ IsMisfit m n earlier e =
     ⊎ ((Each (λ a. Later a e) earlier × FitsThread (told_of (thread_of e.fact) earlier) e.fact
     × Refuses m n (objects_after earlier) (decision_of e.fact)
     × (Allows n (objects_after earlier) (decision_of e.fact) → ⊥))
+    ⊎ ((Each (λ a. Later a e) earlier × FitsThread (told_of (thread_of e.fact) earlier) e.fact
+    × Allows n (objects_after earlier) (decision_of e.fact) × IsTooEarly m earlier e.fact × (IsDue earlier e.fact → ⊥))
     ⊎ (Each (λ a. Later a e) earlier × FitsThread (told_of (thread_of e.fact) earlier) e.fact
-    × OwnsSome m n (objects_after earlier) e.fact × (OwnsNothing n (objects_after earlier) e.fact → ⊥))))
+    × OwnsSome m n (objects_after earlier) e.fact × (OwnsNothing n (objects_after earlier) e.fact → ⊥)))))

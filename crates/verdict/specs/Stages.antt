@@ -1,9 +1,9 @@
 -- What the checker keeps of a thread.
-use Rattle.std.specs.Prelude.{◌≡◌, ◌≢◌, true, false}
+use Rattle.std.specs.Prelude.{◌≡◌, ◌≢◌, ◌⊎◌, true, false}
 use Rattle.lockword.specs.declared.reply.Reply.{Reply}
 use Rattle.lockword.specs.declared.reply.Reply.TheVariants.{OK}
 use Rattle.posixmutex.specs.declared.point.Operation.{Operation}
-use Rattle.posixmutex.specs.declared.point.Operation.TheVariants.{Lock, Unlock, Wait}
+use Rattle.posixmutex.specs.declared.point.Operation.TheVariants.{Lock, TimedLock, Unlock, Wait}
 use Rattle.facts.specs.declared.fact.Fact.{Fact}
 use Rattle.facts.specs.declared.fact.Fact.TheVariants.{Begin, Kill, Point, Death, Sleep}
 use Rattle.facts.specs.declared.fact.Fact.TheVariants.{Wake, Move, Return, Reap, Renew}
@@ -20,6 +20,7 @@ use Rattle.verdict.specs.Misfits.{acts, begins, needs_kill}
 abbrev pub MayPoint : Operation → Made → Operation → Reply → Type 0
 MayPoint Wait Nothing Wait x = Unit {0}
 MayPoint Wait Nothing Unlock x = x ≡ OK
+MayPoint TimedLock Nothing b x = (b ≡ TimedLock) ⊎ (b ≡ Lock)
 MayPoint a Nothing b x = b ≡ a
 MayPoint a Released b x = b ≡ Lock
 MayPoint a (Decided y) b x = ⊥

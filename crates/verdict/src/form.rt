@@ -67,7 +67,7 @@ fn mutex_operation(word: &str) -> Option<Operation>
 {
     let operation = operation(word)?;
     match operation {
-        Operation::Lock | Operation::TryLock => Some(operation),
+        Operation::Lock | Operation::TryLock | Operation::TimedLock => Some(operation),
         Operation::Unlock | Operation::Consistent => Some(operation),
         Operation::Reinit => Some(operation),
         _ => None,

@@ -1,11 +1,12 @@
 //! What is kept of the lines so far, and whether a line fits them.
-ghost use Rattle.std.specs.Prelude.{◌≡◌, ◌+◌, ◌≤◌, ◌<◌, ◌⊎◌, Some, true, length, IfOk, IfErr, MatchOption};
+ghost use Rattle.std.specs.Prelude.{◌≡◌, ◌+◌, ◌≤◌, ◌<◌, ◌⊎◌, Some, true, length, IfOk, IfErr, MatchOption, MatchResult};
 ghost use Rattle.posixmutex.specs.Objects.{Does, acquires};
 ghost use Rattle.posixmutex.specs.Histories.{is_thread};
-ghost use Rattle.verdict.specs.Earlier.{moved};
-ghost use Rattle.facts.specs.Facts.{decision_of};
+ghost use Rattle.verdict.specs.Earlier.{gives_up, moved};
+ghost use Rattle.facts.specs.Facts.{decision_of, thread_of};
 ghost use Rattle.verdict.specs.Fits.{Allows, OwnsNothing};
-ghost use Rattle.verdict.specs.Judges.{Accepts, AreCounted, IsInside, IsSound, Moves, Rejects, IsNew, object_at, one};
+ghost use Rattle.verdict.specs.Judges.{Accepts, AreCounted, Awaits, Hurries, IsInside, IsMutex, IsSound, Moves, Rejects};
+ghost use Rattle.verdict.specs.Judges.{IsNew, begun_next, freed_next, has_waited, object_at, one};
 ghost use Rattle.verdict.specs.Misfits.{OwnsSome, Refuses, RefusesStep};
 ghost use Rattle.verdict.specs.Reading.{IsHead};
 
@@ -14,7 +15,7 @@ use crate::misfit::Misfit;
 use crate::place::Place;
 use crate::stage::Stage;
 use facts::{Fact, Line};
-use lockword::Tid;
+use lockword::{Reply, Tid};
 use posixmutex::{Decision, HELD_LIMIT, Object, Operation};
 use std::alloc::{AllocError, Global};
 
@@ -29,6 +30,10 @@ pub struct Judge {
     pub held: Vec<u16>,
     /// By the mutexes' numbers.
     pub objects: Vec<Object>,
+    /// The event in which each thread began its newest call, by the threads' ids; 0 where it has begun none.
+    pub begun: Vec<u32>,
+    /// The event by which each mutex lost its last owner, by the mutexes' numbers; 0 where it has lost none.
+    pub freed: Vec<u32>,
 }
 
 /// How many mutexes a thread owns after a step.
@@ -73,7 +78,10 @@ fn first_owned(objects: &[Object], thread: Tid) -> Option<u16>
 fn acquires(operation: Operation) -> bool
     ensures { result ≡ acquires operation }
 {
-    matches!(operation, Operation::Lock | Operation::TryLock)
+    matches!(
+        operation,
+        Operation::Lock | Operation::TryLock | Operation::TimedLock
+    )
 }
 
 /// Why a step is refused that a mutex's object doesn't allow to a thread that owns so many.
@@ -154,6 +162,50 @@ fn change(objects: &mut Vec<Object>, held: &mut Vec<u16>, fact: &Fact) -> Result
     }
 }
 
+/// Whether another thread has owned a mutex since the event in which this one began its call, which has neither taken nor
+/// released it: by its owner, and the event by which it lost its last one.
+fn has_waited(thread: Tid, owner: Option<Tid>, begun: u32, freed: u32) -> bool
+    ensures { result ≡ has_waited thread owner begun freed }
+{
+    match owner {
+        None => begun < freed,
+        Some(owner) => owner != thread,
+    }
+}
+
+/// Whether an operation that replies so takes the mutex from its owner.
+fn gives_up(operation: Operation, reply: Reply) -> bool
+    ensures { result ≡ gives_up operation reply }
+{
+    matches!(operation, Operation::Unlock | Operation::Death) && reply == Reply::OK
+}
+
+/// Keeps the event in which its thread began a call, if the fact tells that.
+fn note_begin(begun: &mut Vec<u32>, event: u32, fact: &Fact)
+    requires { thread_of fact.now < length begun.old.items }
+    ensures { begun.new.items ≡ begun_next begun.old.items event fact.now }
+{
+    if let Fact::Begin(thread, _) = *fact {
+        begun[usize::from(thread.get())] = event;
+    }
+}
+
+/// Keeps the event by which a mutex lost its owner, if the fact tells that.
+fn note_freeing(freed: &mut Vec<u32>, event: u32, fact: &Fact)
+    requires { IsMutex (length freed.old.items) fact.now }
+    ensures { freed.new.items ≡ freed_next freed.old.items event fact.now }
+{
+    match *fact {
+        Fact::Point(point) => {
+            if gives_up(point.operation, point.reply) {
+                freed[usize::from(point.mutex)] = event;
+            }
+        }
+        Fact::Death(_, mutex) => freed[usize::from(mutex)] = event,
+        _ => {}
+    }
+}
+
 impl Judge {
     /// Before the first line behind the head, with room for all that is kept.
     pub fn new(alloc: Global, head: Head) -> Result<Judge, AllocError>
@@ -168,7 +220,31 @@ impl Judge {
             stages: vec![in alloc; Stage::Resting; threads]?,
             held: vec![in alloc; 0; threads]?,
             objects: vec![in alloc; Object::new(); mutexes]?,
+            begun: vec![in alloc; 0; threads]?,
+            freed: vec![in alloc; 0; mutexes]?,
         })
+    }
+
+    /// That a point tells of a time limit only where another thread has owned the mutex since its call began; or that it
+    /// is too early.
+    fn awaits(&self, fact: &Fact) -> Result<(), Misfit>
+        requires sound { IsSound self.now }
+        requires inside { IsInside (length self.now.stages.items) (length self.now.objects.items) fact.now }
+        ensures { MatchResult result (λ _. Awaits self.now fact.now) (λ m. Hurries m self.now fact.now) }
+    {
+        let Fact::Point(point) = *fact else {
+            return Ok(());
+        };
+        if point.reply != Reply::ETIMEDOUT {
+            return Ok(());
+        }
+        let at = usize::from(point.mutex);
+        let began = self.begun[usize::from(point.thread.get())];
+        if has_waited(point.thread, self.objects[at].owner, began, self.freed[at]) {
+            Ok(())
+        } else {
+            Err(Misfit::TooEarly { began })
+        }
     }
 
     /// Takes an entry, if it fits the lines so far.
@@ -186,7 +262,11 @@ impl Judge {
         self.place.stands(entry)?;
         let by = usize::from(entry.fact.thread().get());
         let stage = self.stages[by].after(&entry.fact)?;
+        let awaits = self.awaits(&entry.fact);
         change(&mut self.objects, &mut self.held, &entry.fact)?;
+        awaits?;
+        note_begin(&mut self.begun, entry.event, &entry.fact);
+        note_freeing(&mut self.freed, entry.event, &entry.fact);
         self.stages[by] = stage;
         self.place = self.place.behind(entry);
         Ok(())

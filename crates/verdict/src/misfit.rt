@@ -82,6 +82,9 @@ pub enum Misfit {
     /// A death is told of a mutex, as it is, that the dead thread doesn't own.
     #[error("the thread doesn't own the mutex: {}", State(*.object))]
     NotOwner { object: Object },
+    /// The call is out of time, and since it began, in this event, no other thread has owned the mutex.
+    #[error("no other thread owned the mutex since event {began}, in which the call began")]
+    TooEarly { began: u32 },
     /// The thread is reaped, and this is the first mutex that it still owns.
     #[error("the thread still owns m{mutex}")]
     StillOwns { mutex: u16 },

@@ -47,6 +47,10 @@ fn begun(call: Operation, operation: Operation, reply: Reply) -> Result<Made, Mi
             }
             _ => Err(Misfit::OtherOperation { operation: call }),
         },
+        Operation::TimedLock => match operation {
+            Operation::TimedLock | Operation::Lock => Ok(Made::Decided(reply)),
+            _ => Err(Misfit::OtherOperation { operation: call }),
+        },
         _ => {
             if operation == call {
                 Ok(Made::Decided(reply))

@@ -45,10 +45,43 @@ pub fn has_released(call: Begun, made: Made) -> bool {
 
 /// The call has taken its mutex, and hasn't returned.
 pub fn has_taken(call: Begun, made: Made) -> bool {
-    if call.operation != Operation::Lock && call.operation != Operation::TryLock {
+    match call.operation {
+        Operation::Lock | Operation::TryLock | Operation::TimedLock => {
+            made == Made::Decided(Reply::OK) || made == Made::Decided(Reply::EOWNERDEAD)
+        }
+        _ => false,
+    }
+}
+
+/// The operation of the point by which a call is told so: a lock with a time limit is told as a lock, unless the limit
+/// came.
+pub fn told_as(call: Operation, reply: Reply) -> Operation {
+    if call == Operation::TimedLock && reply != Reply::ETIMEDOUT {
+        return Operation::Lock;
+    }
+    call
+}
+
+/// Whether another thread owns the mutex.
+fn is_anothers(object: &Object, thread: Tid) -> bool {
+    match object.owner {
+        None => false,
+        Some(owner) => owner != thread,
+    }
+}
+
+/// Whether nobody owns the mutex of the thread's call now, and another thread has owned it since the call began: so a
+/// time limit may be told, which the same call begun anew may not be told.
+fn has_missed(state: &State, thread: Tid, mutex: u16) -> bool {
+    if object_at(&state.objects, mutex).owner.is_some() {
         return false;
     }
-    made == Made::Decided(Reply::OK) || made == Made::Decided(Reply::EOWNERDEAD)
+    let begun = state.begun.get(usize::from(thread.get()));
+    let freed = state.freed.get(usize::from(mutex));
+    match (begun, freed) {
+        (Some(begun), Some(freed)) => *begun < *freed,
+        _ => false,
+    }
 }
 
 /// A call of which these points are made can be brought so far anew, with its mutex as it is.
@@ -62,8 +95,12 @@ fn suits_call(object: Object, held: u16, thread: Tid, call: Begun, made: Made) -
     if has_released(call, made) {
         return !is_spoiled(&object);
     }
+    if reply == Reply::ETIMEDOUT && !is_anothers(&object, thread) {
+        return false;
+    }
     // it would be decided so again, and changes nothing
-    object.step(held, thread, call.operation, reply) == Some(object)
+    let operation = told_as(call.operation, reply);
+    object.step(held, thread, operation, reply) == Some(object)
 }
 
 fn suits_thread(state: &State, id: usize) -> bool {
@@ -75,6 +112,12 @@ fn suits_thread(state: &State, id: usize) -> bool {
     };
     match thread_at(id) {
         Some(thread) => {
+            if call.operation == Operation::TimedLock
+                && made == Made::Nothing
+                && has_missed(state, thread, call.mutex)
+            {
+                return false;
+            }
             let object = object_at(&state.objects, call.mutex);
             suits_call(object, state.held[id], thread, call, made)
         }
@@ -101,7 +144,8 @@ pub fn idle(state: &State) -> Option<Tid> {
 }
 
 /// Whether a certificate can be cut where its steps left threads and mutexes so: each call has no point yet, or has
-/// taken or released its mutex, or its reply is one that its mutex has for it still; and some thread has released none.
+/// taken or released its mutex, or its reply is one that its mutex has for it still; some thread has released none; and
+/// no lock with a time limit has waited for a mutex that nobody owns any more.
 pub fn suits(state: &State) -> bool {
     for id in 0..state.phases.len() {
         if !suits_thread(state, id) {

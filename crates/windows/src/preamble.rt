@@ -3,7 +3,9 @@
 //! A thread takes what it owns before it begins the call that it is in; a mutex is spoiled before its owner takes it, and
 //! released by whoever released it before it is spoiled. Such an order there is: that of the certificate itself.
 
-use crate::place::{has_released, has_taken, idle, is_releaser, is_spoiled, mutex_at, thread_at};
+use crate::place::{
+    has_released, has_taken, idle, is_releaser, is_spoiled, mutex_at, thread_at, told_as,
+};
 use certificates::{Made, Phase, State};
 use facts::{Begun, Fact};
 use histories::Entry;
@@ -260,7 +262,8 @@ fn add_taking(lines: &mut Vec<Entry>, thread: Tid, phase: Phase) -> Result<(), A
     match phase {
         Phase::Calling(call, Made::Decided(reply)) if has_taken(call, Made::Decided(reply)) => {
             tell(lines, Fact::Begin(thread, call))?;
-            decide(lines, thread, call.mutex, call.operation, reply)
+            let operation = told_as(call.operation, reply);
+            decide(lines, thread, call.mutex, operation, reply)
         }
         _ => Ok(()),
     }
@@ -278,7 +281,10 @@ fn add_call(
     }
     tell(lines, Fact::Begin(thread, call))?;
     match made {
-        Made::Decided(reply) => decide(lines, thread, call.mutex, call.operation, reply),
+        Made::Decided(reply) => {
+            let operation = told_as(call.operation, reply);
+            decide(lines, thread, call.mutex, operation, reply)
+        }
         Made::Nothing | Made::Released => Ok(()),
     }
 }

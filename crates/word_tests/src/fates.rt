@@ -71,7 +71,9 @@ fn reply_of(words: &Words, pass: Pass<Live>, call: Call, fate: &mut StopsAt) -> 
     let outcome = match call {
         Call::Unlock(_) => return unlock(words, pass, mutex, fate),
         Call::Consistent(_) => words.consistent(pass, mutex, fate),
-        Call::Lock(_) | Call::TryLock(_) => words.try_lock(pass, mutex, fate),
+        Call::Lock(_) | Call::TimedLock(_) | Call::TryLock(_) => {
+            words.try_lock(pass, mutex, fate)
+        }
     };
     match outcome {
         Outcome::Lives(_, reply) => Some(reply),

@@ -115,7 +115,9 @@ pub(crate) fn makes(words: &Words, pass: Pass<Live>, call: Call) -> (Pass<Live>,
     let outcome = match call {
         Call::Unlock(_) => return unlock(words, pass, mutex),
         Call::Consistent(_) => words.consistent(pass, mutex, &mut Never),
-        Call::Lock(_) | Call::TryLock(_) => words.try_lock(pass, mutex, &mut Never),
+        Call::Lock(_) | Call::TimedLock(_) | Call::TryLock(_) => {
+            words.try_lock(pass, mutex, &mut Never)
+        }
     };
     match outcome {
         Outcome::Lives(pass, reply) => (pass, reply),

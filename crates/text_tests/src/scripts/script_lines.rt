@@ -332,12 +332,13 @@ static KILLS: Lines = Lines {
     no_such_name: &["kill b", "go m", "killall p", "killall a"],
 };
 
-/// Sleepers that leave or sleep again, trims that are declined, renewals, mutexes made anew, counters that go back to 0,
-/// wakes that are spared, and accesses of walks that are made once more.
+/// Sleepers that leave or sleep again, time limits that come, trims that are declined, renewals, mutexes made anew,
+/// counters that go back to 0, wakes that are spared, and accesses of walks that are made once more.
 static LEAVES: Lines = Lines {
     frame: THIRD,
     good: &[
         "leave a",
+        "expire a",
         "decline a",
         "renew a",
         "reinit a m",
@@ -351,6 +352,10 @@ static LEAVES: Lines = Lines {
         "leave",
         "leave a 1",
         "leaves a",
+        "expire",
+        "expire a m",
+        "expires a",
+        "expire a\nthread b",
         "Decline a",
         "decline a\nthread b",
         "renew a a",
@@ -374,6 +379,8 @@ static LEAVES: Lines = Lines {
     out_of_range: &[],
     no_such_name: &[
         "leave b",
+        "expire b",
+        "expire m",
         "decline m",
         "renew b",
         "reinit b m",
@@ -511,6 +518,9 @@ static FOR_A_RUN_ALONE: Lines = Lines {
         "go a",
         "locks a m 1",
         "leave a",
+        "expire a",
+        "call a timedlock m",
+        "begin a timedlock m",
         "decline a",
         "renew a",
         "reinit a m",

@@ -12,5 +12,8 @@ returns-clause-moves c =
       phases = m.phases;
       objects = m.objects;
       many = m.many;
+      lines = m.lines;
+      begun = m.begun;
+      freed = m.freed;
       doomed = ap (λ ds. slice_set ds c.from-by.result false) m.doomed ∙ ap (λ k. slice_set c.args.state.now.doomed.items k false) by;
     }

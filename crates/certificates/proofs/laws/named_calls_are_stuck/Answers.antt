@@ -1,4 +1,4 @@
-use Rattle.certificates.proofs.Naming.{named_are_stuck}
+use Rattle.certificates.proofs.Members.{named_are_stuck}
 use Rattle.certificates.proofs.laws.named_calls_are_stuck.Goals as goal
 
 pub returns : goal.returns

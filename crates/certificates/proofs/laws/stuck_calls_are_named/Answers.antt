@@ -1,4 +1,4 @@
-use Rattle.certificates.proofs.Naming.{stuck_are_named}
+use Rattle.certificates.proofs.Members.{stuck_are_named}
 use Rattle.certificates.proofs.laws.stuck_calls_are_named.Goals as goal
 
 pub returns : goal.returns

@@ -26,6 +26,16 @@ returns-in-Leave-clause-note c =
     c.leave.ensures.note c.args.memory.now c.args.threads.now.items (c.requires.sleeps c.in-Leave.thread)
     ∙ ap (λ (e : Event). (happens (state_at c.args.layout.now c.args.memory.now c.args.kernel.now c.args.threads.now.items) e).note) (sym c.in-Leave.is)
 
+pub returns-in-Expire-clause-state : goal.returns-in-Expire-clause-state
+returns-in-Expire-clause-state c =
+    c.expire.ensures.state c.args.memory.now (c.requires.sleeps c.in-Expire.thread)
+    ∙ ap (λ (e : Event). (happens (state_at c.args.layout.now c.args.memory.now c.args.kernel.now c.args.threads.now.items) e).state) (sym c.in-Expire.is)
+
+pub returns-in-Expire-clause-note : goal.returns-in-Expire-clause-note
+returns-in-Expire-clause-note c =
+    c.expire.ensures.note c.args.memory.now (c.requires.sleeps c.in-Expire.thread)
+    ∙ ap (λ (e : Event). (happens (state_at c.args.layout.now c.args.memory.now c.args.kernel.now c.args.threads.now.items) e).note) (sym c.in-Expire.is)
+
 pub returns-in-Decline-clause-state : goal.returns-in-Decline-clause-state
 returns-in-Decline-clause-state c =
     c.decline.ensures.state c.args.memory.now (c.requires.sleeps c.in-Decline.thread)

@@ -15,7 +15,8 @@ pub returns-in-Nothing : goal.returns-in-Nothing
 returns-in-Nothing c = elim c.in-Nothing.is [
   | inl e ↦ ap (λ (m : Note). flat_map (told_to c.args.thread) (facts_of m)) (sym e)
   | inr (inl e) ↦ ap (λ (m : Note). flat_map (told_to c.args.thread) (facts_of m)) (sym e.1)
-  | inr (inr e) ↦ ap (λ (m : Note). flat_map (told_to c.args.thread) (facts_of m)) (sym e.1)
+  | inr (inr (inl e)) ↦ ap (λ (m : Note). flat_map (told_to c.args.thread) (facts_of m)) (sym e.1)
+  | inr (inr (inr e)) ↦ ap (λ (m : Note). flat_map (told_to c.args.thread) (facts_of m)) (sym e.2)
 ]
 
 pub returns-in-Walked : goal.returns-in-Walked

@@ -56,7 +56,7 @@ loop-first-preserved c =
       room = omega (arith, i.room, c.in-Some.ensures.shorter);
       points = omega (arith, i.points, c.take.ensures.points);
       progress = takes_line c.args.text.now c.loop-first.rest.now c.in-Some.first.now c.in-Some.after.now c.args.pass.judge.head c.loop-first.line c.loop-first.pass c.take.new.self e i.progress c.in-Some.ensures.parts
-          (sym (ap Ok c.in-Told.is) ∙ c.in-Ok.ensures.value ∙ ap (λ h. line_read h c.in-Some.first.now) i.head) c.take.ensures.takes i.objects some.0 low (subst (λ h. IsMutex h.mutexes e.fact) i.head some.1.1);
+          (sym (ap Ok c.in-Told.is) ∙ c.in-Ok.ensures.value ∙ ap (λ h. line_read h c.in-Some.first.now) i.head) c.take.ensures.takes i.sound i.objects some.0 low (subst (λ h. IsMutex h.mutexes e.fact) i.head some.1.1);
     }
 
 pub returns : goal.returns

@@ -8,5 +8,5 @@ loop-at-preserved c =
     record {
       sound = c.take.ensures.sound;
       within = omega (arith, c.loop-at-test.true);
-      here = reaches_step c.args.steps.now c.loop-at.at c.index-steps-at.result c.loop-at.state c.take.new.state (omega (arith, c.loop-at-test.true, c.requires.within)) c.index-steps-at.is i.here c.in_ok-take.ensures.takes;
+      here = reaches_step c.args.steps.now c.loop-at.at c.index-steps-at.result c.loop-at.state c.take.new.state (omega (arith, c.loop-at-test.true, c.requires.within)) c.index-steps-at.is i.sound i.here c.in_ok-take.ensures.takes;
     }

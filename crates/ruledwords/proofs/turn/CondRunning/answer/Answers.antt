@@ -1,11 +1,12 @@
 use Rattle.std.proofs.Common.{◌≡◌, ◌≤◌, refl, sym, ap, ◌∙◌, subst}
 use Rattle.mutex.specs.Standings.{Whole}
 use Rattle.mutex.specs.Whole.{retaking, IsUnderWay}
+use Rattle.condvar.specs.declared.phase.CondPhase.{CondPhase}
 use Rattle.condvar.specs.declared.phase.CondPhase.TheVariants.{Locking}
 use Rattle.condvar.specs.Standings.{CondWhole}
 use Rattle.condvar.specs.Whole.{cond_led}
 use Rattle.ruledwords.specs.Calls.{most, row_in, standing_of, Ready}
-use Rattle.ruledwords.specs.Conditions.{condition_at, IsAtCondition}
+use Rattle.ruledwords.specs.Conditions.{cond_row_in, condition_at, most_behind, IsAtCondition}
 use Rattle.ruledwords.specs.Counts.{mutex_at}
 use Rattle.ruledwords.specs.Passes.{card, layout_of}
 use Rattle.ruledwords.proofs.ConditionTurns.{at_condition, goes_answered, goes_under, has_lock, lives_answered, locks_answered, no_lock, returns_ended, section_room}
@@ -24,6 +25,20 @@ invariant_of-result c =
       ready = subst (λ (z : Whole). Ready (standing_of z) (card r.pass)) is (r.mine, tt, λ q o small there run. tt);
       room = subst (λ (z : Whole). r.pass.held ≤ most (row_in z.phase)) is room.0;
       going = subst (λ (z : Whole). IsUnderWay z.phase) is tt;
+    }
+
+pub invariant_of-result-in-None : goal.invariant_of-result-in-None
+invariant_of-result-in-None c =
+    let r = c.args.self in
+    let p : CondWhole = r.program in
+    let led = cond_led p c.args.answer in
+    let going = goes_under led.point led.phase c.resume.result c.in-Goes.point c.in-Goes.is c.resume.ensures.progress in
+    let to = c.resume.ensures.moved in
+    let same : led.phase ≡ c.resume.new.self.phase = ap (λ (z : CondWhole). z.phase) (sym to) in
+    record {
+      mine = ap (λ (z : CondWhole). z.thread) to ∙ r.mine;
+      room = subst (λ (f : CondPhase). r.pass.held ≤ most_behind (cond_row_in f)) same (section_room p.thread p.head p.entry p.cell p.counter p.phase r.there c.args.answer r.pass.held c.requires r.room).0;
+      there = subst IsAtCondition same (at_condition led.phase going.0 (λ l e. no_lock c.resume.new.self.phase (sym c.lock.ensures ∙ c.in-None.is) l (sym same ∙ e)));
     }
 
 pub returns-in-Some-clause-words : goal.returns-in-Some-clause-words

@@ -1,0 +1,337 @@
+/* Locks with a time limit: each answer; limits that are past, come, and are far away, by either clock; what a call that
+ * gives up leaves, and to whom; owners that die just then. Polling is off, so who isn't woken sleeps for good; a limit
+ * that must come is waited for, and one that mustn't is far away. */
+#include "driver.h"
+#include "try.h"
+#include <linux/futex.h>
+#include <sys/syscall.h>
+#include <sys/time.h>
+
+enum { WAS = 77, SECOND_NS = 1000000000, HELD_BY_ONE = 2048 };
+
+static const clockid_t clocks[] = {CLOCK_REALTIME, CLOCK_MONOTONIC};
+static const struct timespec past[] = {{0, 0}, {1, 0}, {-1, 0}, {INT64_MIN, SECOND_NS - 1}},
+                             no_time[] = {{0, -1}, {1, SECOND_NS}, {INT64_MAX, SECOND_NS}, {INT64_MIN, INT64_MIN}},
+                             far_away = {INT64_MAX, SECOND_NS - 1};
+enum { PAST = sizeof past / sizeof *past, NO_TIME = sizeof no_time / sizeof *no_time };
+
+static pz *open_new(unsigned mutexes)
+{
+    pz *p;
+    const char *path = a_file("limits");
+    SAME(pz_open(path, 0600, mutexes, 0, NULL, 0, &p), 0);
+    CHECK(unlink(path) == 0);
+    return p;
+}
+
+/* Nothing is pending, it sleeps nowhere and is no heir; and errno is as it was. */
+static int lock_until(pz *p, unsigned m, clockid_t clock, const struct timespec *until)
+{
+    errno = WAS;
+    int r = clock == CLOCK_REALTIME ? pz_mutex_timedlock(p, m, until) : pz_mutex_clocklock(p, m, clock, until);
+    unsigned t = pz_thread_id(p);
+    CHECK(errno == WAS && atomic_load(&p->words[head_place(t) + 2]) == 0);
+    CHECK(!(atomic_load(sleepers(p, cell_place(m))) & bit_of(t)) && (atomic_load(heir(p, cell_place(m))) & WHO) != t);
+    return r;
+}
+
+static struct timespec from_now(clockid_t clock, long us)
+{
+    struct timespec t;
+    clock_gettime(clock, &t);
+    long ns = t.tv_nsec + us % 1000000 * 1000;
+    return (struct timespec){t.tv_sec + us / 1000000 + ns / SECOND_NS, ns % SECOND_NS};
+}
+static int has_come(clockid_t clock, const struct timespec *t)
+{
+    struct timespec is = from_now(clock, 0);
+    return is.tv_sec > t->tv_sec || (is.tv_sec == t->tv_sec && is.tv_nsec >= t->tv_nsec);
+}
+
+/* A child that owns it, and lives on. */
+static pid_t an_owner(pz *p, unsigned m)
+{
+    _Atomic int *owns = shared(sizeof *owns);
+    pid_t it = a_child();
+    if (!it) {
+        SAME(pz_mutex_lock(p, m), 0);
+        for (atomic_store(owns, 1);;)
+            pause();
+    }
+    while (!atomic_load(owns))
+        rest(50);
+    munmap((void *)owns, sizeof *owns);
+    return it;
+}
+
+/* ---- Each answer, where it needn't wait, or its limit is past. */
+
+static void of_a_free_one(pz *p, clockid_t clock, const struct timespec *until)
+{
+    SAME(lock_until(p, 0, clock, until), 0);
+    SAME(lock_until(p, 0, clock, until), EDEADLK);
+    SAME(pz_mutex_unlock(p, 0), 0);
+}
+
+static void of_anothers(pz *p, clockid_t clock)
+{
+    pid_t owner = an_owner(p, 1);
+    for (int i = 0; i < PAST; i++)
+        SAME(lock_until(p, 1, clock, &past[i]), ETIMEDOUT);
+    for (int i = 0; i < NO_TIME; i++)
+        SAME(lock_until(p, 1, clock, &no_time[i]), EINVAL);
+    SAME(pz_mutex_unlock(p, 1), EPERM);
+    kill_and_wait(owner);
+    SAME(lock_until(p, 1, clock, &past[0]), EOWNERDEAD);
+    SAME(pz_mutex_consistent(p, 1), 0);
+    SAME(pz_mutex_unlock(p, 1), 0);
+    an_owner_is_killed(p, 1);
+    SAME(lock_until(p, 1, clock, &no_time[0]), EOWNERDEAD);
+    SAME(pz_mutex_unlock(p, 1), 0);
+    SAME(lock_until(p, 1, clock, &past[0]), ENOTRECOVERABLE);
+    SAME(pz_mutex_reinit(p, 1), 0);
+}
+
+static void by_another_clock(void)
+{
+    static const clockid_t others[] = {CLOCK_PROCESS_CPUTIME_ID, CLOCK_BOOTTIME, 99, -1};
+    pz *p = open_new(1);
+    for (int i = 0; i < 4; i++)
+        SAME(pz_mutex_clocklock(p, 0, others[i], &far_away), EINVAL);
+    SAME(pz_thread_id(p), 0);
+    pz_close(p);
+}
+
+static void each_answer(void)
+{
+    pz *p = open_new(2);
+    for (int c = 0; c < 2; c++) {
+        for (int i = 0; i < PAST; i++)
+            of_a_free_one(p, clocks[c], &past[i]);
+        for (int i = 0; i < NO_TIME; i++)
+            of_a_free_one(p, clocks[c], &no_time[i]);
+        of_a_free_one(p, clocks[c], &far_away);
+        of_anothers(p, clocks[c]);
+        SAME(pz_mutex_clocklock(p, 2, clocks[c], &far_away), EINVAL);
+    }
+    pz_close(p);
+}
+
+static void the_2049th(void)
+{
+    pz *p = open_new(HELD_BY_ONE + 1);
+    for (unsigned m = 0; m < HELD_BY_ONE; m++)
+        SAME(lock_until(p, m, CLOCK_MONOTONIC, &past[0]), 0);
+    SAME(lock_until(p, HELD_BY_ONE, CLOCK_MONOTONIC, &far_away), EAGAIN);
+    pz_close(p);
+}
+
+/* ---- A limit that comes. */
+
+static _Atomic int handled;
+static void handle(int number)
+{
+    (void)number;
+    atomic_fetch_add(&handled, 1);
+}
+static void be_interrupted(long us)
+{
+    struct itimerval each = {{0, us}, {0, us}};
+    CHECK(!sigaction(SIGALRM, &(struct sigaction){.sa_handler = handle}, NULL) && !setitimer(ITIMER_REAL, &each, NULL));
+}
+
+/* So short that it is the heir, and so long that it sleeps; and with a handler each 5 ms. */
+static void it_comes(void)
+{
+    static const long after_us[] = {50, 2000, 100000};
+    pz *p = open_new(1);
+    pid_t owner = an_owner(p, 0), it = a_child();
+    for (int often = 0; !it && often < 2; often++) {
+        be_interrupted(often ? 5000 : 0);
+        for (int c = 0; c < 2; c++)
+            for (int i = 0; i < 3; i++) {
+                struct timespec until = from_now(clocks[c], after_us[i]);
+                SAME(lock_until(p, 0, clocks[c], &until), ETIMEDOUT);
+                CHECK(has_come(clocks[c], &until));
+            }
+    }
+    if (!it)
+        _exit(atomic_load(&handled) == 0);
+    ends_well(it);
+    kill_and_wait(owner);
+    pz_close(p);
+}
+
+/* Somebody wakes it time and again, and it finds the mutex as it was. */
+static void it_sleeps_again(void)
+{
+    pz *p = open_new(1);
+    for (int c = 0; c < 2; c++) {
+        pid_t owner = an_owner(p, 0), it = a_child();
+        if (!it) {
+            struct timespec until = from_now(clocks[c], 200000);
+            _exit(lock_until(p, 0, clocks[c], &until) != ETIMEDOUT || !has_come(clocks[c], &until));
+        }
+        int status;
+        for (; waitpid(it, &status, WNOHANG) != it; rest(500))
+            syscall(SYS_futex, (uint32_t *)&p->words[cell_place(0)], FUTEX_WAKE, 1, NULL, NULL, 0);
+        CHECK(status == 0);
+        kill_and_wait(owner);
+        SAME(pz_mutex_lock(p, 0), EOWNERDEAD);
+        SAME(pz_mutex_consistent(p, 0), 0);
+        SAME(pz_mutex_unlock(p, 0), 0);
+    }
+    pz_close(p);
+}
+
+/* ---- One that is far away: what it waits for comes before. */
+
+static pid_t one_asleep(pz *p, clockid_t clock, int wanted, int often)
+{
+    pid_t it = a_child();
+    if (!it) {
+        be_interrupted(often ? 5000 : 0);
+        _exit(lock_until(p, 0, clock, &far_away) != wanted);
+    }
+    until_asleep(it);
+    return it;
+}
+
+static void it_has_it(clockid_t clock, int often)
+{
+    pz *p = open_new(1);
+    SAME(pz_mutex_lock(p, 0), 0);
+    pid_t it = one_asleep(p, clock, 0, often);
+    SAME(pz_mutex_unlock(p, 0), 0);
+    ends_well(it);
+    SAME(pz_mutex_lock(p, 0), EOWNERDEAD); /* it ended as its owner */
+    it = one_asleep(p, clock, ENOTRECOVERABLE, often);
+    SAME(pz_mutex_unlock(p, 0), 0);
+    ends_well(it);
+    SAME(pz_mutex_reinit(p, 0), 0);
+    pid_t owner = an_owner(p, 0);
+    it = one_asleep(p, clock, EOWNERDEAD, often);
+    kill_and_wait(owner);
+    ends_well(it);
+    pz_close(p);
+}
+
+/* ---- Who sleeps behind one whose limit comes has it all the same. */
+
+static void one_behind(void)
+{
+    pz *p = open_new(1);
+    SAME(pz_mutex_lock(p, 0), 0);
+    pid_t first = a_child();
+    if (!first) {
+        struct timespec until = from_now(CLOCK_MONOTONIC, 150000);
+        _exit(lock_until(p, 0, CLOCK_MONOTONIC, &until) != ETIMEDOUT);
+    }
+    pid_t second = one_asleep(p, CLOCK_REALTIME, 0, 0);
+    ends_well(first);
+    SAME(pz_mutex_unlock(p, 0), 0);
+    ends_well(second);
+    pz_close(p);
+}
+
+/* ---- An owner dies at the limit. Who kills it is told a time, and does so sooner where the limit came first, and else
+ * later: so both come, whatever the machine does meanwhile. */
+
+struct killer {
+    _Atomic long at_ns; /* 0: not yet */
+    _Atomic pid_t whom;
+};
+static long now_ns(void)
+{
+    struct timespec t = from_now(CLOCK_MONOTONIC, 0);
+    return t.tv_sec * SECOND_NS + t.tv_nsec;
+}
+static pid_t a_killer(struct killer *k)
+{
+    pid_t it = a_child();
+    while (!it) {
+        long at = atomic_load(&k->at_ns);
+        if (!at)
+            rest(100);
+        else if (now_ns() >= at) {
+            kill(atomic_load(&k->whom), SIGKILL);
+            atomic_store(&k->at_ns, 0);
+        }
+    }
+    return it;
+}
+
+/* One sleeps there besides, for as long as it takes: what it is told. */
+static pid_t another(pz *p, _Atomic int *told)
+{
+    atomic_store(told, -1);
+    pid_t it = a_child();
+    if (!it) {
+        int r = pz_mutex_lock(p, 0);
+        if (r == EOWNERDEAD)
+            SAME(pz_mutex_consistent(p, 0), 0);
+        SAME(pz_mutex_unlock(p, 0), 0);
+        atomic_store(told, r);
+        _exit(0);
+    }
+    until_asleep(it);
+    return it;
+}
+
+/* Either is told of the death, and not both. */
+static int dies_at_the_limit(pz *p, struct killer *k, _Atomic int *told, long offset_ns)
+{
+    pid_t owner = an_owner(p, 0), other = another(p, told);
+    long at = now_ns() + 2000000;
+    struct timespec until = {at / SECOND_NS, at % SECOND_NS};
+    atomic_store(&k->whom, owner);
+    atomic_store(&k->at_ns, at + offset_ns);
+    int r = lock_until(p, 0, CLOCK_MONOTONIC, &until);
+    if (r == EOWNERDEAD)
+        SAME(pz_mutex_consistent(p, 0), 0);
+    if (r == EOWNERDEAD || r == 0)
+        SAME(pz_mutex_unlock(p, 0), 0);
+    ends_well(other);
+    CHECK(waitpid(owner, NULL, 0) == owner);
+    CHECK((r == EOWNERDEAD) + (atomic_load(told) == EOWNERDEAD) == 1);
+    CHECK(r == 0 || r == EOWNERDEAD || r == ETIMEDOUT);
+    SAME(pz_mutex_lock(p, 0), 0);
+    SAME(pz_mutex_unlock(p, 0), 0);
+    return r == ETIMEDOUT;
+}
+
+static void an_owner_dies(void)
+{
+    enum { OFTEN = 20 };
+    pz *p = open_new(1);
+    struct killer *k = shared(sizeof *k);
+    _Atomic int *told = shared(sizeof *told);
+    long offset_ns = 0, step = 100000;
+    int times[2] = {0, 0};
+    pid_t killer = a_killer(k);
+    while (times[0] < OFTEN || times[1] < OFTEN) {
+        int came = dies_at_the_limit(p, k, told, offset_ns);
+        times[came]++;
+        offset_ns += came ? -step : step;
+    }
+    kill_and_wait(killer);
+    printf("limits: an owner died %d times before a limit, and %d times behind it\n", times[0], times[1]);
+    pz_close(p);
+}
+
+int main(void)
+{
+    alarm(100);
+    each_answer();
+    by_another_clock();
+    the_2049th();
+    it_comes();
+    it_sleeps_again();
+    for (int often = 0; often < 2; often++) {
+        it_has_it(CLOCK_REALTIME, often);
+        it_has_it(CLOCK_MONOTONIC, often);
+    }
+    one_behind();
+    an_owner_dies();
+    return 0;
+}

@@ -1,0 +1,91 @@
+-- Locks whose time limit comes: a write into the lists is a write into the state.
+use Rattle.std.proofs.Common.{◌≡◌, ℕ, ◌+◌, ◌≤◌, ◌&&◌, Bool, true, false, Some, None, List, length, refl, sym, ap, ◌∙◌, arith, slice_set}
+use Rattle.std.specs.Prelude.{if◌then◌else◌}
+use Rattle.std.proofs.lemmas.Bool.Decides.{nat_tests}
+use mathlib.Core.Path.{fun_ext}
+use Rattle.memorymap.specs.Layouts.{Layout'}
+use Rattle.mutex.specs.declared.call.Call.TheVariants as call
+use Rattle.mutex.specs.Standings.{Whole}
+use Rattle.mutex.specs.Whole.{may_expire, timed_out, expired}
+use Rattle.condvar.specs.declared.op.Op.{Op}
+use Rattle.condvar.specs.declared.op.Op.TheVariants.{OnMutex}
+use Rattle.syscalls.specs.Kernels.{Kernel', Leaves, queue_of}
+use Rattle.protocol.specs.declared.event.Event.TheVariants.{Expire}
+use Rattle.protocol.specs.declared.note.Note.TheVariants.{Expired}
+use Rattle.protocol.specs.declared.thread.Thread.{Thread}
+use Rattle.protocol.specs.declared.thread.Stage.TheVariants.{Calling}
+use Rattle.protocol.specs.Machine as machine
+use Rattle.protocol.specs.Machine.{State, After, has_thread, is_timed, nothing, lapsed, sleeps, put, happens}
+use Rattle.protocol.proofs.Queues.{without_same}
+use Rattle.interleave.specs.Shown.{state_at, thread_at}
+use Rattle.interleave.specs.Steps.{SleepsInItsCall}
+use Rattle.interleave.proofs.Sleeping.{outside, told_asleep}
+use Rattle.interleave.proofs.Views.{threads-set}
+
+-- where the call has no time limit, or doesn't sleep, nothing happens
+pub untimed_rests : (s : State) (t : ℕ) (o : Op) (p : Whole) → (s.threads t).stage ≡ Calling o p → is_timed o ≡ false → happens s (Expire t) ≡ nothing s
+untimed_rests s t o p is untimed = go (has_thread s t)
+  where
+    go : (b : Bool) → (if b then machine.expired s t (s.threads t).held (s.threads t).stage else nothing s) ≡ nothing s
+    go true =
+        ap (machine.expired s t (s.threads t).held) is
+        ∙ ap (λ (b : Bool). if b && may_expire p.phase && sleeps s t (Calling o p) then lapsed s t (s.threads t).held o p else nothing s) untimed
+    go false = refl
+
+pub early_rests : (s : State) (t m : ℕ) (p : Whole) → (s.threads t).stage ≡ Calling (OnMutex (call.TimedLock m)) p → None ≡ expired p → happens s (Expire t) ≡ nothing s
+early_rests s t m p is none = go (has_thread s t)
+  where
+    early : (b : Bool) → None ≡ (if b then Some (timed_out p) else None) → b ≡ false
+    early true e = absurd cc
+    early false e = refl
+
+    go : (b : Bool) → (if b then machine.expired s t (s.threads t).held (s.threads t).stage else nothing s) ≡ nothing s
+    go true =
+        ap (machine.expired s t (s.threads t).held) is
+        ∙ ap (λ (b : Bool). if b && sleeps s t (Calling (OnMutex (call.TimedLock m)) p) then lapsed s t (s.threads t).held (OnMutex (call.TimedLock m)) p else nothing s) (early (may_expire p.phase) none)
+    go false = refl
+
+-- a lock that may be out of time, and whose thread was asked to leave its queue
+module _ (l : Layout') (ws : List ℕ) (kernel after : Kernel') (ts : List Thread) (k t m : ℕ) (p q : Whole) (th : Thread) (first : 1 ≤ t) (known : t ≤ l.threads) (at : k + 1 ≡ t) (len : length ts ≡ l.threads)
+    (e : thread_at ts t ≡ th) (is : th.stage ≡ Calling (OnMutex (call.TimedLock m)) p) (may : Some q ≡ expired p) (in_call : SleepsInItsCall (state_at l ws kernel ts) t) where
+  abbrev was : State
+  was = state_at l ws kernel ts
+
+  abbrev lapses : After
+  lapses = lapsed was t th.held (OnMutex (call.TimedLock m)) p
+
+  so : (b : Bool) → Some q ≡ (if b then Some (timed_out p) else None) → (b ≡ true) × (q ≡ timed_out p)
+  so true x = (refl, cc)
+  so false x = absurd cc
+
+  ran : (b : Bool) → Leaves kernel after t b → happens was (Expire t) ≡ (if b then lapses else nothing was)
+  ran b left =
+      let there : has_thread was t ≡ true = grind (arith, nat_tests) in
+      ap (λ (x : Bool). if x then machine.expired was t (thread_at ts t).held (thread_at ts t).stage else nothing was) there
+      ∙ ap (λ (z : Thread). machine.expired was t z.held z.stage) e
+      ∙ ap (machine.expired was t th.held) is
+      ∙ ap (λ (x : Bool). if x && sleeps was t (Calling (OnMutex (call.TimedLock m)) p) then lapses else nothing was) (so (may_expire p.phase) may).0
+      ∙ ap (λ (x : Bool). if x then lapses else nothing was)
+      (sym (ap (sleeps was t) (ap (λ (z : Thread). z.stage) e ∙ is)) ∙ sym (told_asleep was kernel t (λ key. refl) in_call b left.answer))
+
+  -- whoever stood in no queue stays
+  module _ (left : Leaves kernel after t false) where
+    same : (key : ℕ) → queue_of after key ≡ queue_of kernel key
+    same key = left.queues key ∙ without_same t (queue_of kernel key) (outside t (queue_of kernel key) (left.answer key))
+
+    pub stayed_state : state_at l ws after ts ≡ (happens was (Expire t)).state
+    stayed_state = (λ i. record was { queues = fun_ext same i }) ∙ sym (ap (λ (a : After). a.state) (ran false left))
+
+    pub stayed_note : (nothing was).note ≡ (happens was (Expire t)).note
+    stayed_note = sym (ap (λ (a : After). a.note) (ran false left))
+
+  -- whoever stood in one is out of time
+  module _ (left : Leaves kernel after t true) where
+    pub lapsed_state : state_at l ws after (slice_set ts k (record { stage = Calling (OnMutex (call.TimedLock m)) q; held = th.held })) ≡ (happens was (Expire t)).state
+    lapsed_state =
+        let threads : thread_at (slice_set ts k (record { stage = Calling (OnMutex (call.TimedLock m)) q; held = th.held })) ≡ put (thread_at ts) t (record { stage = Calling (OnMutex (call.TimedLock m)) (timed_out p); held = th.held }) =
+        threads-set ts k t (record { stage = Calling (OnMutex (call.TimedLock m)) q; held = th.held }) at (omega arith) ∙ (λ i. put (thread_at ts) t (record { stage = Calling (OnMutex (call.TimedLock m)) ((so (may_expire p.phase) may).1 i); held = th.held })) in
+        (λ i. record was { queues = fun_ext left.queues i; threads = threads i }) ∙ sym (ap (λ (a : After). a.state) (ran true left))
+
+    pub lapsed_note : Expired t m ≡ (happens was (Expire t)).note
+    lapsed_note = sym (ap (λ (a : After). a.note) (ran true left))

@@ -1,0 +1,250 @@
+-- Where no time limit comes, locks with a limit are as locks without one.
+use Rattle.std.proofs.Common.{◌≡◌, ℕ, zero, suc, ◌==◌, ◌&&◌, Bool, true, false, Some, None, Result, Ok, Err, List, [], ◌∷◌, length, map, refl, sym, ap, ◌∙◌, arith}
+use mathlib.Core.Path.{fun_ext}
+use Rattle.protocol.proofs.Vocabulary.{Operation, address_in, head_place, Begun, CondCall, CondPhase, CondOnward, CondWhole, Layout', Mutex, Condition, Queue, Access, Reply, XHELD, Phase, Onward, Whole, Call, Op, OnMutex, OnCondition, whole_access, whole_led, cond_access, cond_led, Trimmed, Count}
+use Rattle.protocol.proofs.Vocabulary.{mutex_of, begun_of, condition_of, Thread, Stage, Calling, AtCondition, Dying, Event, Note, Began, State, After, begun, departed, killed, walked, renewed, reinited, recounted, repeated, spared, went, nothing, put, waiters_of}
+use Rattle.protocol.proofs.Vocabulary.{cell_place, answer_of, is_alive, is_asleep, sleeps, stage_after, stage_at, stage_walked, led, led_at, happens, stepped, run, notes, held_after, if◌then◌else◌, not, ◌||◌, nat_lt, nat_le, stands_at, stands_in, counter_place, first_stage}
+use Rattle.protocol.proofs.Vocabulary.{another_answers, answers, holds_count, is_mark, none_counts, repeating, resleeping, reslept, sparing, wakes_one}
+use Rattle.exitwalk.specs.Standings as walks
+use Rattle.exitwalk.specs.Walks as exit
+use Rattle.exitwalk.specs.declared.row.Row as walk_row
+use Rattle.exitwalk.specs.declared.row.Row.TheVariants as walk
+use Rattle.stepprograms.specs.Accesses.{is_nobody}
+use Rattle.mutex.specs.Whole.{begins}
+use Rattle.condvar.specs.Ops.{is_in}
+use Rattle.protocol.specs.Machine as machine
+use Rattle.protocol.specs.Machine.{Led, decided_at, declined, death_at, has_thread, is_gone, is_idle, is_in_head, is_trim, is_unusable, places_of, stage_begun, words_after, queues_after, wakes_next, told_of, idle}
+use Rattle.protocol.specs.TimeLimits.{IsNoLimit, NoLimitComes, as_lock, unlimited, unlimited_event, unlimited_note}
+
+-- ---- a state with locks without limits in place of those with one
+
+abbrev unlimited_stage : Stage → Stage
+unlimited_stage (Calling o p) = Calling (unlimited o) p
+unlimited_stage g = g
+
+abbrev unlimited_thread : Thread → Thread
+unlimited_thread z = record { stage = unlimited_stage z.stage; held = z.held }
+
+abbrev pub unlimited_state : State → State
+unlimited_state s = record { layout = s.layout; words = s.words; queues = s.queues; threads = λ t. unlimited_thread (s.threads t) }
+
+abbrev unlimited_after : After → After
+unlimited_after a = record { state = unlimited_state a.state; note = unlimited_note a.note }
+
+-- ---- what a machine asks of a call or a stage is the same
+
+mutex_same : (l : Layout') (o : Op) → mutex_of l (unlimited o) ≡ mutex_of l o
+mutex_same l (OnMutex (Call.TimedLock m)) = refl
+mutex_same l o = refl
+
+inside_same : (l : Layout') (o : Op) → is_in l (unlimited o) ≡ is_in l o
+inside_same l (OnMutex (Call.TimedLock m)) = refl
+inside_same l o = refl
+
+begun_same : (l : Layout') (o : Op) → begun_of l (unlimited o) ≡ record (begun_of l o) { operation = as_lock (begun_of l o).operation }
+begun_same l o = grind (arith)
+
+idle_same : (g : Stage) → is_idle (unlimited_stage g) ≡ is_idle g
+idle_same (Calling o p) = refl
+idle_same g = refl
+
+alive_same : (g : Stage) → is_alive (unlimited_stage g) ≡ is_alive g
+alive_same (Calling o p) = refl
+alive_same g = refl
+
+gone_same : (g : Stage) → is_gone (unlimited_stage g) ≡ is_gone g
+gone_same (Calling o p) = refl
+gone_same g = refl
+
+holds_same : (k : ℕ) (g : Stage) → holds_count k (unlimited_stage g) ≡ holds_count k g
+holds_same k (Calling o p) = refl
+holds_same k g = refl
+
+places_same : (l : Layout') (g : Stage) → places_of l (unlimited_stage g) ≡ places_of l g
+places_same l (Calling (OnMutex (Call.TimedLock m)) p) = refl
+places_same l (Calling (OnMutex c) p) = refl
+places_same l (Calling (OnCondition c) p) = refl
+places_same l g = refl
+
+answers_same : (l : Layout') (words : ℕ → ℕ) (m t : ℕ) (g : Stage) → answers l words m t (unlimited_stage g) ≡ answers l words m t g
+answers_same l words m t (Calling o p) = ap (λ (k : ℕ). (k == m) && machine.answers_at p.phase) (mutex_same l o)
+answers_same l words m t g = refl
+
+sleeps_same : (s : State) (t : ℕ) (g : Stage) → sleeps (unlimited_state s) t (unlimited_stage g) ≡ sleeps s t g
+sleeps_same s t g = ap (stands_at t s.queues) (places_same s.layout g)
+
+none_same : (s : State) (k n : ℕ) → none_counts (unlimited_state s).threads k n ≡ none_counts s.threads k n
+none_same s k zero = refl
+none_same s k (suc n) = λ i. not (holds_same k (s.threads (suc n)).stage i) && none_same s k n i
+
+another_same : (s : State) (t m n : ℕ) → another_answers (unlimited_state s) t m n ≡ another_answers s t m n
+another_same s t m zero = refl
+another_same s t m (suc n) = λ i. (not (suc n == t) && not (sleeps_same s (suc n) (s.threads (suc n)).stage i) && answers_same s.layout s.words m (suc n) (s.threads (suc n)).stage i) || another_same s t m n i
+
+-- ---- and so is where it leads
+
+after_same : (o : Op) (p : Whole) (f : Phase) → unlimited_stage (stage_after o p f) ≡ stage_after (unlimited o) p f
+after_same o p (Phase.Ended x) = refl
+after_same o p f = refl
+
+at_same : (c : CondCall) (p : CondWhole) (f : CondPhase) → unlimited_stage (stage_at c p f) ≡ stage_at c p f
+at_same c p (CondPhase.Ended x) = refl
+at_same c p (CondPhase.Locking w) = refl
+at_same c p f = refl
+
+walked_same : (w : walks.Standing) (r : walk_row.Row) → unlimited_stage (stage_walked w r) ≡ stage_walked w r
+walked_same w walk.Ended = refl
+walked_same w r = refl
+
+abbrev unlimited_led : Led → Led
+unlimited_led g = record { stage = unlimited_stage g.stage; operation = g.operation; point = g.point; returned = g.returned }
+
+led_same : (o : Op) (p : Whole) (x : Onward) → led (unlimited o) p x ≡ unlimited_led (led o p x)
+led_same o p x = λ i. record { stage = sym (after_same o p x.phase) i; operation = (led o p x).operation; point = (led o p x).point; returned = (led o p x).returned }
+
+led_at_same : (c : CondCall) (p : CondWhole) (x : CondOnward) → led_at c p x ≡ unlimited_led (led_at c p x)
+led_at_same c p x = λ i. record { stage = sym (at_same c p x.phase) i; operation = (led_at c p x).operation; point = (led_at c p x).point; returned = (led_at c p x).returned }
+
+-- ---- events
+
+put_same : (s : State) (t : ℕ) (z : Thread) → (unlimited_state (record s { threads = put s.threads t z })).threads ≡ put (unlimited_state s).threads t (unlimited_thread z)
+put_same s t z = fun_ext (λ u. go u (u == t))
+  where
+    go : (u : ℕ) (b : Bool) → unlimited_thread (if b then z else s.threads u) ≡ (if b then unlimited_thread z else unlimited_thread (s.threads u))
+    go u true = refl
+    go u false = refl
+
+-- thread t changes to z
+abbrev changed : State → (ℕ → ℕ) → (ℕ → List ℕ) → ℕ → Thread → Note → After
+changed s w q t z n = record { state = record { layout = s.layout; words = w; queues = q; threads = put s.threads t z }; note = n }
+
+changed_same : (s : State) (w : ℕ → ℕ) (q : ℕ → List ℕ) (t : ℕ) (z y : Thread) (n k : Note) → y ≡ unlimited_thread z → k ≡ unlimited_note n → changed (unlimited_state s) w q t y k ≡ unlimited_after (changed s w q t z n)
+changed_same s w q t z y n k thread note = λ i. record { state = record { layout = s.layout; words = w; queues = q; threads = (ap (put (unlimited_state s).threads t) thread ∙ sym (put_same s t z)) i }; note = note i }
+
+-- what is chosen by the same test
+choose : (x y : Bool) (a b c d : After) → y ≡ x → b ≡ unlimited_after a → d ≡ unlimited_after c → (if y then b else d) ≡ unlimited_after (if x then a else c)
+choose x y a b c d e f g = (λ i. if e i then f i else g i) ∙ go x
+  where
+    go : (z : Bool) → (if z then unlimited_after a else unlimited_after c) ≡ unlimited_after (if z then a else c)
+    go true = refl
+    go false = refl
+
+-- begins
+abbrev unlimited_result : Result Stage Reply → Result Stage Reply
+unlimited_result (Ok g) = Ok (unlimited_stage g)
+unlimited_result (Err x) = Err x
+
+first_same : (l : Layout') (t held : ℕ) (o : Op) → first_stage l t held (unlimited o) ≡ unlimited_result (first_stage l t held o)
+first_same l t held (OnMutex (Call.Lock m)) = go (nat_le 2048 held)
+  where
+    go : (b : Bool) → stage_begun (Call.Lock m) (if b then Err XHELD else Ok (begins l t (Call.Lock m))) ≡ unlimited_result (stage_begun (Call.Lock m) (if b then Err XHELD else Ok (begins l t (Call.Lock m))))
+    go true = refl
+    go false = refl
+first_same l t held (OnMutex (Call.TimedLock m)) = go (nat_le 2048 held)
+  where
+    go : (b : Bool) → stage_begun (Call.Lock m) (if b then Err XHELD else Ok (begins l t (Call.Lock m))) ≡ unlimited_result (stage_begun (Call.TimedLock m) (if b then Err XHELD else Ok (begins l t (Call.TimedLock m))))
+    go true = refl
+    go false = refl
+first_same l t held (OnMutex (Call.TryLock m)) = go (nat_le 2048 held)
+  where
+    go : (b : Bool) → stage_begun (Call.TryLock m) (if b then Err XHELD else Ok (begins l t (Call.TryLock m))) ≡ unlimited_result (stage_begun (Call.TryLock m) (if b then Err XHELD else Ok (begins l t (Call.TryLock m))))
+    go true = refl
+    go false = refl
+first_same l t held (OnMutex (Call.Unlock m)) = refl
+first_same l t held (OnMutex (Call.Consistent m)) = refl
+first_same l t held (OnCondition c) = refl
+
+begun_as : (s : State) (t : ℕ) (o : Op) (r : Result Stage Reply) → begun (unlimited_state s) t (unlimited o) (unlimited_result r) ≡ unlimited_after (begun s t o r)
+begun_as s t o (Ok g) = changed_same s s.words s.queues t (record (s.threads t) { stage = g }) (record { stage = unlimited_stage g; held = (s.threads t).held }) (Began t (begun_of s.layout o) None) (Began t (begun_of s.layout (unlimited o)) None) refl (ap (λ (c : Begun). Began t c None) (begun_same s.layout o))
+begun_as s t o (Err x) = λ i. record { state = unlimited_state s; note = Began t (begun_same s.layout o i) (Some x) }
+
+-- accesses
+went_same : (s : State) (t held m : ℕ) (k : Queue) (a : Access) (g : Led) → went (unlimited_state s) t held m k a (unlimited_led g) ≡ unlimited_after (went s t held m k a g)
+went_same s t held m k a g = changed_same s (words_after s t a) (queues_after s t a) t (record { stage = g.stage; held = held_after held g.operation g.point }) (record { stage = unlimited_stage g.stage; held = held_after held g.operation g.point }) (went s t held m k a g).note (went s t held m k a g).note refl refl
+
+spared_same : (s : State) (t held m : ℕ) (g : Led) → spared (unlimited_state s) t held m (unlimited_led g) ≡ unlimited_after (spared s t held m g)
+spared_same s t held m g = changed_same s s.words s.queues t (record { stage = g.stage; held = held_after held g.operation g.point }) (record { stage = unlimited_stage g.stage; held = held_after held g.operation g.point }) (spared s t held m g).note (spared s t held m g).note refl refl
+
+module _ (s : State) (t held : ℕ) where
+  abbrev s1 : State
+  s1 = unlimited_state s
+
+  steps : (g : Stage) → stepped s1 t held (unlimited_stage g) ≡ unlimited_after (stepped s t held g)
+  steps (Calling o p) =
+      choose (sleeps s t (Calling o p)) _ (nothing s) _ (went s t held (mutex_of s.layout o) (Mutex (mutex_of s.layout o)) (whole_access p) (led o p (whole_led p (answer_of s t (whole_access p))))) _ (sleeps_same s t (Calling o p)) refl
+      ((λ i. went s1 t held (mutex_same s.layout o i) (Mutex (mutex_same s.layout o i)) (whole_access p) (led_same o p (whole_led p (answer_of s t (whole_access p))) i)) ∙ went_same s t held (mutex_of s.layout o) (Mutex (mutex_of s.layout o)) (whole_access p) (led o p (whole_led p (answer_of s t (whole_access p)))))
+  steps (AtCondition c p) =
+      (λ i. went s1 t held (mutex_of s.layout (OnCondition c)) (Condition (condition_of c)) (cond_access p) (led_at_same c p (cond_led p (answer_of s t (cond_access p))) i))
+      ∙ went_same s t held (mutex_of s.layout (OnCondition c)) (Condition (condition_of c)) (cond_access p) (led_at c p (cond_led p (answer_of s t (cond_access p))))
+  steps (Dying w) =
+      changed_same s (words_after s t (exit.access_of w)) (queues_after s t (exit.access_of w)) t (walker (stage_walked w row)) (walker (stage_walked w row)) (walked s t held w).note (walked s t held w).note (ap walker (sym (walked_same w row))) refl
+    where
+      row : walk_row.Row
+      row = exit.row_after w.thread w.head w.row (answer_of s t (exit.access_of w))
+
+      walker : Stage → Thread
+      walker g = record { stage = g; held = held_after held Operation.Death (told_of (death_at s.layout t (exit.point_of w.thread w.row (answer_of s t (exit.access_of w))))) }
+  steps g = refl
+
+  declines : (g : Stage) → declined s1 t held (unlimited_stage g) ≡ unlimited_after (declined s t held g)
+  declines (Calling o p) =
+      choose (is_trim (whole_access p) && not (sleeps s t (Calling o p))) _ (spared s t held (mutex_of s.layout o) (led o p (whole_led p (Trimmed false)))) _ (nothing s) _ (ap (λ (b : Bool). is_trim (whole_access p) && not b) (sleeps_same s t (Calling o p)))
+      ((λ i. spared s1 t held (mutex_same s.layout o i) (led_same o p (whole_led p (Trimmed false)) i)) ∙ spared_same s t held (mutex_of s.layout o) (led o p (whole_led p (Trimmed false)))) refl
+  declines g = refl
+
+  spares : (g : Stage) → sparing s1 t held (unlimited_stage g) ≡ unlimited_after (sparing s t held g)
+  spares (Calling o p) =
+      choose (wakes_one p.phase && another_answers s t (mutex_of s.layout o) s.layout.threads) _ (spared s t held (mutex_of s.layout o) (led o p (whole_led p (Count 1)))) _ (nothing s) _
+      (ap (λ (b : Bool). wakes_one p.phase && b) (ap (λ (k : ℕ). another_answers s1 t k s.layout.threads) (mutex_same s.layout o) ∙ another_same s t (mutex_of s.layout o) s.layout.threads))
+      ((λ i. spared s1 t held (mutex_same s.layout o i) (led_same o p (whole_led p (Count 1)) i)) ∙ spared_same s t held (mutex_of s.layout o) (led o p (whole_led p (Count 1)))) refl
+  spares (AtCondition c p) =
+      choose (wakes_next p.phase && another_answers s t (mutex_of s.layout (OnCondition c)) s.layout.threads) _ (spared s t held (mutex_of s.layout (OnCondition c)) (led_at c p (cond_led p (Count 1)))) _ (nothing s) _
+      (ap (λ (b : Bool). wakes_next p.phase && b) (another_same s t (mutex_of s.layout (OnCondition c)) s.layout.threads))
+      ((λ i. spared s1 t held (mutex_of s.layout (OnCondition c)) (led_at_same c p (cond_led p (Count 1)) i)) ∙ spared_same s t held (mutex_of s.layout (OnCondition c)) (led_at c p (cond_led p (Count 1)))) refl
+  spares g = refl
+
+  resleeps : (g : Stage) → resleeping s1 t (unlimited_stage g) ≡ unlimited_after (resleeping s t g)
+  resleeps (Calling (OnCondition c) p) = choose (stands_in t (s.queues (counter_place s.layout (condition_of c)))) _ (reslept s t (condition_of c)) _ (nothing s) _ refl refl refl
+  resleeps (Calling (OnMutex (Call.TimedLock m)) p) = refl
+  resleeps (Calling (OnMutex c) p) = refl
+  resleeps g = refl
+
+  repeats : (g : Stage) → repeating s1 t (unlimited_stage g) ≡ unlimited_after (repeating s t g)
+  repeats (Dying w) = choose (is_mark w.row) _ (nothing s) _ (repeated s t w) _ refl refl refl
+  repeats (Calling o p) = refl
+  repeats g = refl
+
+pub happens_same : (s : State) (e : Event) → IsNoLimit e → happens (unlimited_state s) (unlimited_event e) ≡ unlimited_after (happens s e)
+happens_same s (Event.Begin t o) none =
+    choose (has_thread s t && is_idle (s.threads t).stage && is_in s.layout o) _ (begun s t o (first_stage s.layout t (s.threads t).held o)) _ (nothing s) _ (λ i. has_thread s t && idle_same (s.threads t).stage i && inside_same s.layout o i)
+    (ap (begun (unlimited_state s) t (unlimited o)) (first_same s.layout t (s.threads t).held o) ∙ begun_as s t o (first_stage s.layout t (s.threads t).held o)) refl
+happens_same s (Event.Step t) none = choose (has_thread s t) _ (stepped s t (s.threads t).held (s.threads t).stage) _ (nothing s) _ refl (steps s t (s.threads t).held (s.threads t).stage) refl
+happens_same s (Event.Kill t) none =
+    choose (has_thread s t && is_alive (s.threads t).stage) _ (killed s t) _ (nothing s) _ (ap (λ (b : Bool). has_thread s t && b) (alive_same (s.threads t).stage))
+    (changed_same s s.words (killed s t).state.queues t (record (s.threads t) { stage = Dying (exit.begun t (address_in s.layout t (head_place t))) }) _ (killed s t).note _ refl refl) refl
+happens_same s (Event.Leave t) none = choose (has_thread s t && is_asleep s t) _ (departed s t) _ (nothing s) _ (ap (λ (b : Bool). has_thread s t && b) (sleeps_same s t (s.threads t).stage)) refl refl
+happens_same s (Event.Expire t) none = absurd none
+happens_same s (Event.Decline t) none = choose (has_thread s t) _ (declined s t (s.threads t).held (s.threads t).stage) _ (nothing s) _ refl (declines s t (s.threads t).held (s.threads t).stage) refl
+happens_same s (Event.Renew t) none =
+    choose (has_thread s t && is_gone (s.threads t).stage) _ (renewed s t) _ (nothing s) _ (ap (λ (b : Bool). has_thread s t && b) (gone_same (s.threads t).stage))
+    (changed_same s (renewed s t).state.words s.queues t idle idle (renewed s t).note _ refl refl) refl
+happens_same s (Event.Reinit t m) none =
+    choose (machine.may_reinit s t m) _ (reinited s t m 0) _ (nothing s) _ (ap (λ (b : Bool). (has_thread s t && b && nat_lt m s.layout.mutexes && is_unusable s m) && is_nobody (machine.sleepers s m)) (idle_same (s.threads t).stage)) refl refl
+happens_same s (Event.Remake t m) none =
+    choose (machine.may_remake s t m) _ (reinited s t m (waiters_of (s.words (cell_place s.layout m)))) _ (nothing s) _ (ap (λ (b : Bool). has_thread s t && b && nat_lt m s.layout.mutexes && is_unusable s m) (idle_same (s.threads t).stage)) refl refl
+happens_same s (Event.Recount k) none =
+    choose (machine.may_recount s k) _ (recounted s k) _ (nothing s) _ (λ i. nat_lt k (length s.layout.conditions) && is_nobody (s.queues (counter_place s.layout k)) && none_same s k s.layout.threads i) refl refl
+happens_same s (Event.Spare t) none = choose (has_thread s t) _ (sparing s t (s.threads t).held (s.threads t).stage) _ (nothing s) _ refl (spares s t (s.threads t).held (s.threads t).stage) refl
+happens_same s (Event.Resleep t) none = choose (has_thread s t) _ (resleeping s t (s.threads t).stage) _ (nothing s) _ refl (resleeps s t (s.threads t).held (s.threads t).stage) refl
+happens_same s (Event.Repeat t) none = choose (has_thread s t) _ (repeating s t (s.threads t).stage) _ (nothing s) _ refl (repeats s t (s.threads t).held (s.threads t).stage) refl
+
+-- ---- runs
+
+pub runs_same : (s : State) (es : List Event) → NoLimitComes es → (run (unlimited_state s) (map unlimited_event es) ≡ unlimited_state (run s es)) × (notes (unlimited_state s) (map unlimited_event es) ≡ map unlimited_note (notes s es))
+runs_same s [] none = (refl, refl)
+runs_same s (e ∷ es) none =
+    let same = happens_same s e none.0 in
+    let rest = runs_same (happens s e).state es none.1 in (
+      (λ i. run (same i).state (map unlimited_event es)) ∙ rest.0,
+      (λ i. (same i).note ∷ notes (same i).state (map unlimited_event es)) ∙ ap (λ (ns : List Note). unlimited_note (happens s e).note ∷ ns) rest.1,
+    )

@@ -1,0 +1,123 @@
+-- Why a lock is out of time (pthread_mutex_timedlock(3p)).
+--
+-- *A reason to be out of time.* A lock is told to be out of time only where another thread owned its mutex at some
+-- moment since its begin was told. Of each thread, each mutex and every list of events: the law
+-- `nobody_times_out_early`.
+--
+-- *Owned meanwhile.* Of facts that tell how a thread began a call, and what was told since: at the moment of the begin,
+-- or behind a later fact, another thread owned the mutex. Not the thread itself, not nobody, and nobody who owned it
+-- only before. So much, and no less, is what `Chances` finds with any list of facts: the law `waited_is_owned`.
+--
+-- *Without limits.* Where no time limit comes, locks with a limit are as locks without one. No lock is told to be out
+-- of time, so that none returns ETIMEDOUT; and if each had begun without its limit, every event would have been noted
+-- as it was, but for the name of the operation in these begins, and each word and each queue would be the same. The law
+-- `without_expiries_as_before`.
+use Rattle.std.specs.Prelude.{ℕ, ◌≡◌, ◌≢◌, ◌==◌, ◌↔◌, true, Some, List, [], ◌∷◌, ◌++◌, map, if◌then◌else◌}
+use Rattle.lockword.specs.declared.reply.Reply.TheVariants.{ETIMEDOUT}
+use Rattle.memorymap.specs.Layouts.{Layout', IsLayout}
+use Rattle.posixmutex.specs.declared.object.Object.{Object}
+use Rattle.posixmutex.specs.declared.point.Decision.{Decision}
+use Rattle.posixmutex.specs.Objects.{fresh, stepped}
+use Rattle.facts.specs.declared.fact.Begun.{Begun}
+use Rattle.facts.specs.declared.fact.Fact.{Fact}
+use Rattle.facts.specs.declared.fact.Fact.TheVariants.{Begin, Point}
+use Rattle.facts.specs.Chances.{TimeLimitsHaveReasons, chances_after, no_chances}
+use Rattle.protocol.specs.declared.event.Event.{Event}
+use Rattle.protocol.specs.declared.event.Event.TheVariants as event
+use Rattle.protocol.specs.declared.event.Event.TheVariants.{Expire}
+use Rattle.protocol.specs.declared.note.Note.{Note}
+use Rattle.protocol.specs.declared.note.Note.TheVariants.{Began}
+use Rattle.condvar.specs.declared.op.Op.{Op}
+use Rattle.condvar.specs.declared.op.Op.TheVariants.{OnMutex}
+use Rattle.mutex.specs.declared.call.Call.TheVariants as call
+use Rattle.posixmutex.specs.declared.point.Operation.{Operation}
+use Rattle.posixmutex.specs.declared.point.Operation.TheVariants as operation
+use Rattle.protocol.specs.Machine.{State, start, run, notes}
+use Rattle.protocol.specs.Headline.{facts_among, points_of}
+use Rattle.protocol.specs.PassedBy.{BeginsNone}
+
+-- whatever happens, with any values of the counters at the beginning
+abbrev pub NobodyTimesOutEarly : Type 0
+NobodyTimesOutEarly = (l : Layout') (counters : ℕ → ℕ) (events : List Event) → IsLayout l → (t m : ℕ)
+    → TimeLimitsHaveReasons t m no_chances (facts_among (notes (start l counters) events))
+
+-- ---- what it is to have waited
+
+-- mutex m, with these points and deaths more
+abbrev pub decided_after : ℕ → Object → List Decision → Object
+decided_after m o [] = o
+decided_after m o (d ∷ ds) = decided_after m (if d.mutex == m then stepped o d.thread d.operation d.reply else o) ds
+
+-- as these facts tell of it, from when it was free
+abbrev pub mutex_told : ℕ → List Fact → Object
+mutex_told m fs = decided_after m fresh (points_of fs)
+
+-- thread t began that call, and these facts were told since; at some moment of these another thread owned mutex m: in
+-- the beginning, where nothing was told yet since the begin, or later
+pub record OwnedMeanwhile (t m : ℕ) (before : List Fact) (call : Begun) (since : List Fact) : Type 0 where
+  pub during : List Fact
+  pub later : List Fact
+  pub moment : since ≡ during ++ later
+  pub owner : ℕ
+  pub another : owner ≢ t
+  pub owns : (mutex_told m (before ++ Begin t call ∷ during)).owner ≡ Some owner
+
+-- whatever is told, as long as that is the thread's last call
+abbrev pub WaitedIsOwned : Type 0
+WaitedIsOwned = (t m : ℕ) (before : List Fact) (call : Begun) (since : List Fact) → BeginsNone t since
+    → ((chances_after t m no_chances (before ++ Begin t call ∷ since)).waited ≡ true)
+    ↔ OwnedMeanwhile t m before call since
+
+-- ---- where no time limit comes
+
+-- it is another event than a time limit that comes
+abbrev pub IsNoLimit : Event → Type 0
+IsNoLimit (Expire t) = ⊥
+IsNoLimit e = Unit {0}
+
+-- so is each of these
+abbrev pub NoLimitComes : List Event → Type 0
+NoLimitComes [] = Unit {0}
+NoLimitComes (e ∷ es) = IsNoLimit e × NoLimitComes es
+
+-- a point isn't told to be out of time
+abbrev pub IsInTime : Fact → Type 0
+IsInTime (Point d) = d.reply ≢ ETIMEDOUT
+IsInTime f = Unit {0}
+
+-- nor is any of these
+abbrev pub AreInTime : List Fact → Type 0
+AreInTime [] = Unit {0}
+AreInTime (f ∷ fs) = IsInTime f × AreInTime fs
+
+-- a lock without its limit, and any other call as it is
+abbrev pub unlimited : Op → Op
+unlimited (OnMutex (call.TimedLock m)) = OnMutex (call.Lock m)
+unlimited o = o
+
+-- an event that begins it without the limit, and any other event as it is
+abbrev pub unlimited_event : Event → Event
+unlimited_event (event.Begin t o) = event.Begin t (unlimited o)
+unlimited_event e = e
+
+-- the note of that
+abbrev pub as_lock : Operation → Operation
+as_lock operation.TimedLock = operation.Lock
+as_lock op = op
+
+abbrev pub unlimited_note : Note → Note
+unlimited_note (Began t c refused) = Began t (record c { operation = as_lock c.operation }) refused
+unlimited_note n = n
+
+-- no lock is out of time; and if each had begun without its limit, then all would have been noted as it was, but for
+-- the names of these begins, each word would be the same, and each queue
+pub record AsWithoutLimits (s : State) (events : List Event) : Type 0 where
+  pub in_time : AreInTime (facts_among (notes s events))
+  pub noted : notes s (map unlimited_event events) ≡ map unlimited_note (notes s events)
+  pub words : (p : ℕ) → (run s (map unlimited_event events)).words p ≡ (run s events).words p
+  pub queues : (key : ℕ) → (run s (map unlimited_event events)).queues key ≡ (run s events).queues key
+
+-- whatever else happens, with any values of the counters at the beginning
+abbrev pub LocksWithoutLimits : Type 0
+LocksWithoutLimits = (l : Layout') (counters : ℕ → ℕ) (events : List Event) → IsLayout l → NoLimitComes events
+    → AsWithoutLimits (start l counters) events
