@@ -2,8 +2,8 @@
 
 use crate::heard::hear;
 use certificates::points_of;
-use completing::{OutOfTurn, Pass, Refusal, has_dooms, weave};
-use judge::{Judgement, judge};
+use completing::{Pass, has_dooms, weave};
+use judge::{Judgement, OutOfTurn, Reason, judge};
 use lockword::Reply;
 use posixmutex::Operation;
 use std::alloc::Global;
@@ -14,7 +14,7 @@ enum Found {
     /// With so many points.
     Legal(usize),
     /// At this line of the text.
-    Illegal(u64, Refusal),
+    Illegal(u64, Reason),
     Undecided(u64),
 }
 
@@ -37,7 +37,7 @@ static CASES: [Case; 21] = [
         text: "history 3 2 1\n1 begin t1 lock m0\n2 return t1 OK\n3 begin t2 lock m0\n4 return t2 OK\nend 4\n",
         found: Found::Illegal(
             5,
-            Refusal::NoOrder {
+            Reason::NoOrder {
                 operation: Operation::Lock,
                 mutex: 0,
                 reply: Reply::OK,
@@ -57,7 +57,7 @@ static CASES: [Case; 21] = [
         text: "history 3 2 1\n1 begin t1 lock m0\n2 return t1 OK\n3 kill t1\n4 reaped t1\n5 begin t2 lock m0\n6 return t2 OK\nend 6\n",
         found: Found::Illegal(
             7,
-            Refusal::NoOrder {
+            Reason::NoOrder {
                 operation: Operation::Lock,
                 mutex: 0,
                 reply: Reply::OK,
@@ -69,7 +69,7 @@ static CASES: [Case; 21] = [
         text: "history 3 1 0\n1 begin t1 lock m0\n2 return t1 OK\n3 doom t1\n4 begin t2 lock m0\n5 return t2 EOWNERDEAD\n6 begin t2 consistent m0\n7 return t2 OK\n8 begin t2 unlock m0\n9 return t2 OK\n10 begin t3 lock m0\n11 return t3 EOWNERDEAD\nend 11\n",
         found: Found::Illegal(
             12,
-            Refusal::NoOrder {
+            Reason::NoOrder {
                 operation: Operation::Lock,
                 mutex: 0,
                 reply: Reply::EOWNERDEAD,
@@ -81,7 +81,7 @@ static CASES: [Case; 21] = [
         text: "history 3 2 1\n1 begin t1 trylock m0\n2 return t1 EBUSY\nend 2\n",
         found: Found::Illegal(
             3,
-            Refusal::NoOrder {
+            Reason::NoOrder {
                 operation: Operation::TryLock,
                 mutex: 0,
                 reply: Reply::EBUSY,
@@ -98,7 +98,7 @@ static CASES: [Case; 21] = [
         text: "history 3 2 1\n1 begin t1 lock m0\n2 return t1 OK\n3 kill t1\n4 begin t2 lock m0\n5 return t2 EOWNERDEAD\n6 begin t2 wait c0 m0\n7 return t2 ENOTRECOVERABLE\nend 7\n",
         found: Found::Illegal(
             8,
-            Refusal::NoOrder {
+            Reason::NoOrder {
                 operation: Operation::Wait,
                 mutex: 0,
                 reply: Reply::ENOTRECOVERABLE,
@@ -111,7 +111,7 @@ static CASES: [Case; 21] = [
         text: "history 3 2 1\n1 begin t1 timedlock m0\n2 return t1 ETIMEDOUT\nend 2\n",
         found: Found::Illegal(
             3,
-            Refusal::NoOrder {
+            Reason::NoOrder {
                 operation: Operation::TimedLock,
                 mutex: 0,
                 reply: Reply::ETIMEDOUT,
@@ -123,7 +123,7 @@ static CASES: [Case; 21] = [
         text: "history 3 2 1\n1 begin t2 lock m0\n2 return t2 OK\n3 begin t2 unlock m0\n4 return t2 OK\n5 begin t1 timedlock m0\n6 return t1 ETIMEDOUT\nend 6\n",
         found: Found::Illegal(
             7,
-            Refusal::NoOrder {
+            Reason::NoOrder {
                 operation: Operation::TimedLock,
                 mutex: 0,
                 reply: Reply::ETIMEDOUT,
@@ -135,7 +135,7 @@ static CASES: [Case; 21] = [
         text: "history 3 2 1\n1 begin t1 timedlock m0\n2 return t1 OK\n3 begin t1 timedlock m0\n4 return t1 ETIMEDOUT\nend 4\n",
         found: Found::Illegal(
             5,
-            Refusal::NoOrder {
+            Reason::NoOrder {
                 operation: Operation::TimedLock,
                 mutex: 0,
                 reply: Reply::ETIMEDOUT,
@@ -162,19 +162,19 @@ static CASES: [Case; 21] = [
     },
     Case {
         text: "history 3 2 1\n1 begin t1 lock m0\n2 begin t1 lock m1\nend 2\n",
-        found: Found::Illegal(3, Refusal::OutOfTurn(OutOfTurn::InCall)),
+        found: Found::Illegal(3, Reason::OutOfTurn(OutOfTurn::InCall)),
     },
     Case {
         text: "history 3 2 1\n1 return t1 OK\nend 1\n",
-        found: Found::Illegal(2, Refusal::OutOfTurn(OutOfTurn::NoCall)),
+        found: Found::Illegal(2, Reason::OutOfTurn(OutOfTurn::NoCall)),
     },
     Case {
         text: "history 3 2 1\n1 doom t1\n2 begin t1 lock m1\nend 2\n",
-        found: Found::Illegal(3, Refusal::OutOfTurn(OutOfTurn::Dead)),
+        found: Found::Illegal(3, Reason::OutOfTurn(OutOfTurn::Dead)),
     },
     Case {
         text: "history 3 2 1\n1 reaped t1\nend 1\n",
-        found: Found::Illegal(2, Refusal::OutOfTurn(OutOfTurn::Alive)),
+        found: Found::Illegal(2, Reason::OutOfTurn(OutOfTurn::Alive)),
     },
 ];
 
@@ -183,8 +183,8 @@ fn judged(alloc: Global, text: &str) -> Option<Found> {
     let history = hear(alloc, text)?;
     match judge(alloc, &history.head, &history.lines).ok()? {
         Judgement::Legal(steps) => Some(Found::Legal(points_of(&steps))),
-        Judgement::Illegal(at, refusal) => {
-            Some(Found::Illegal(history.lines.get(at)?.number, refusal))
+        Judgement::Illegal { at, why, .. } => {
+            Some(Found::Illegal(history.lines.get(at)?.number, why))
         }
         Judgement::Undecided(at) => Some(Found::Undecided(history.lines.get(at)?.number)),
     }

@@ -1,1 +1,5 @@
 pub mod Legal
+pub mod Lines
+pub mod Some
+pub mod Table
+pub mod Truths

@@ -1,13 +1,16 @@
 //! The judgement of a history.
 
-ghost use Rattle.std.specs.Prelude.{◌≡◌, ◌<◌, true, length, IfOk, IfSome};
-ghost use Rattle.certificates.specs.Certificates.{IsCertificate};
+ghost use Rattle.std.specs.List.{slice_get};
+ghost use Rattle.std.specs.Prelude.{◌≡◌, true, IfOk};
 ghost use Rattle.histories.specs.Reading.{IsHead};
 ghost use Rattle.judge.specs.Judgements.{IsJudged, IsLegal, IsNeverLegal};
 
-use certificates::certify;
-use completing::{Pass, Refusal, Stop, has_dooms, weave};
+use crate::certificate::{certificate_of, has_certificate, pass_over};
+use crate::reason::{Reason, reason_of};
+use crate::replies::possible_at;
+use completing::{Pass, Stop};
 use histories::{Entry, Head, HistoryLine};
+use lockword::Reply;
 use refuting::refutes;
 use std::alloc::{AllocError, Global};
 
@@ -17,64 +20,15 @@ pub enum Judgement {
     /// Some trace shows it: these are its steps, a certificate.
     Legal(Vec<Entry>),
     /// The history is legal up to this place of a line, counted from 0; with that line no order of the calls explains
-    /// it.
-    Illegal(usize, Refusal),
+    /// it. With each of these replies in place of the line's own some order does; there may be others.
+    Illegal {
+        at: usize,
+        why: Reason,
+        possible: Vec<Reply>,
+    },
     /// The history is legal up to this place of a line, counted from 0; with that line no certificate was found, and it
     /// wasn't refuted.
     Undecided(usize),
-}
-
-/// A pass over these lines; or the reason why none is.
-fn pass_over(alloc: Global, head: &Head, lines: &[HistoryLine]) -> Result<Pass, Stop> {
-    let mut pass = Pass::new(alloc, head, lines, false)?;
-    for line in lines {
-        pass.take(&line.entry)?;
-    }
-    Ok(pass)
-}
-
-/// The steps woven from a pass, if they are a certificate.
-fn woven(
-    alloc: Global,
-    head: &Head,
-    lines: &[HistoryLine],
-    pass: &mut Pass,
-    late: bool,
-) -> Result<Option<Vec<Entry>>, Stop>
-    requires { IsHead head.now }
-    ensures { IfOk result (λ found. IfSome found (λ steps. IsCertificate head.now.mutexes lines.now steps.items)) }
-{
-    let steps = match weave(alloc, lines, pass, late) {
-        Ok(steps) => steps,
-        Err(Stop::Memory) => return Err(Stop::Memory),
-        Err(_) => return Ok(None),
-    };
-    if certify(alloc, head, lines, &steps)? {
-        Ok(Some(steps))
-    } else {
-        Ok(None)
-    }
-}
-
-/// A certificate of these lines, if one is found.
-fn certificate_of(
-    alloc: Global,
-    head: &Head,
-    lines: &[HistoryLine],
-) -> Result<Option<Vec<Entry>>, Stop>
-    requires { IsHead head.now }
-    ensures { IfOk result (λ found. IfSome found (λ steps. IsCertificate head.now.mutexes lines.now steps.items)) }
-{
-    let mut pass = match pass_over(alloc, head, lines) {
-        Ok(pass) => pass,
-        Err(Stop::Memory) => return Err(Stop::Memory),
-        Err(_) => return Ok(None),
-    };
-    let found = woven(alloc, head, lines, &mut pass, false)?;
-    if found.is_some() || !has_dooms(lines) {
-        return Ok(found);
-    }
-    woven(alloc, head, lines, &mut pass, true)
 }
 
 /// Whether a certificate is found of the lines up to this place.
@@ -85,10 +39,8 @@ fn is_legal(alloc: Global, head: &Head, lines: &[HistoryLine], at: usize) -> Res
     if at > lines.len() {
         return Ok(false);
     }
-    let Some(_steps) = certificate_of(alloc, head, &lines[..at])? else {
-        return Ok(false);
-    };
-    Ok(true)
+    let found = has_certificate(alloc, head, &lines[..at])?;
+    Ok(found)
 }
 
 /// Whether a pass over the lines up to this place is refused.
@@ -172,52 +124,36 @@ fn first_without(alloc: Global, head: &Head, lines: &[HistoryLine]) -> Result<us
     Ok(low)
 }
 
-/// Why the line at this place isn't explained; None where it may be.
-fn refusal_at(
-    alloc: Global,
-    head: &Head,
-    lines: &[HistoryLine],
-    at: usize,
-) -> Result<Option<Refusal>, Stop>
-    ensures { IfOk result (λ found. IfSome found (λ _. at < length lines.now)) }
-{
-    let Some(line) = lines.get(at) else {
-        return Ok(None);
-    };
-    if at >= lines.len() {
-        return Ok(None);
-    }
-    let mut pass = Pass::new(alloc, head, &lines[..at], true)?;
-    for earlier in &lines[..at] {
-        pass.take(&earlier.entry)?;
-    }
-    match pass.take(&line.entry) {
-        Err(Stop::Refused(refusal)) => Ok(Some(refusal)),
-        Err(Stop::Memory) => Err(Stop::Memory),
-        _ => Ok(None),
-    }
-}
-
-/// Whether the lines up to this place and the one there are refuted: by the mutex that the search names, or by the
-/// thread's own lines.
+/// Whether the lines up to this place and the one there are refuted: by the mutex of the call that returns there, or by
+/// the thread's own lines.
 fn is_refuted(
     alloc: Global,
     head: &Head,
     lines: &[HistoryLine],
     at: usize,
-    refusal: &Refusal,
+    why: &Reason,
 ) -> Result<bool, Stop>
     ensures { IfOk result (λ refuted. refuted ≡ true → IsNeverLegal head.now lines.now at) }
 {
     if at >= lines.len() {
         return Ok(false);
     }
-    let mutex = match *refusal {
-        Refusal::NoOrder { mutex, .. } => mutex,
-        Refusal::OutOfTurn(_) => 0,
+    let mutex = match *why {
+        Reason::NoOrder { mutex, .. } => mutex,
+        Reason::OutOfTurn(_) => 0,
     };
     let refuted = refutes(alloc, head, &lines[..at + 1], mutex)?;
     Ok(refuted)
+}
+
+/// The line at this place, counted from 0.
+fn line_at(lines: &[HistoryLine], at: usize) -> Option<HistoryLine>
+    ensures { result ≡ slice_get lines.now at }
+{
+    match lines.get(at) {
+        Some(line) => Some(*line),
+        None => None,
+    }
 }
 
 /// What is said where a certificate reaches up to this place.
@@ -227,25 +163,26 @@ fn judged_at(
     lines: &[HistoryLine],
     at: usize,
 ) -> Result<Judgement, Stop>
-    requires { IsLegal head.now lines.now at }
+    requires head { IsHead head.now }
+    requires legal { IsLegal head.now lines.now at }
     ensures { IfOk result (IsJudged head.now lines.now) }
 {
-    let refusal = match refusal_at(alloc, head, lines, at) {
-        Ok(refusal) => refusal,
-        Err(Stop::Memory) => return Err(Stop::Memory),
-        Err(_) => None,
-    };
     if at >= lines.len() {
         return Err(Stop::Lost);
     }
-    let Some(refusal) = refusal else {
+    let Some(line) = line_at(lines, at) else {
+        return Err(Stop::Lost);
+    };
+    let earlier = &lines[..at];
+    let Some(why) = reason_of(earlier, &line.entry) else {
         return Ok(Judgement::Undecided(at));
     };
-    if is_refuted(alloc, head, lines, at, &refusal)? {
-        Ok(Judgement::Illegal(at, refusal))
-    } else {
-        Ok(Judgement::Undecided(at))
+    let refuted = is_refuted(alloc, head, lines, at, &why)?;
+    if refuted {
+        let possible = possible_at(alloc, head, earlier, &line, &why)?;
+        return Ok(Judgement::Illegal { at, why, possible });
     }
+    Ok(Judgement::Undecided(at))
 }
 
 /// What is said of lines that have no certificate.
@@ -276,7 +213,9 @@ fn judged(alloc: Global, head: &Head, lines: &[HistoryLine]) -> Result<Judgement
 
 /// Judges a history. What it finds legal has the certificate that is handed out: a trace that shows the history, each
 /// line of which was accepted by the rules of the judge of traces. What it finds illegal or can't decide is legal up to
-/// the line that it names; with the illegal line no trace shows the history. That it decides isn't proved.
+/// the line that it names; with the illegal line no trace shows the history. Why is told by that line and its thread's
+/// own lines before it; and with each reply that it names in place of an illegal return's the history is legal up to
+/// there. That it decides isn't proved, nor that it names each such reply.
 pub fn judge(alloc: Global, head: &Head, lines: &[HistoryLine]) -> Result<Judgement, AllocError>
     requires { IsHead head.now }
     ensures { IfOk result (IsJudged head.now lines.now) }

@@ -5,18 +5,30 @@
 //! the lines before that have a certificate, too, and with it they were refuted (`refuting`): no trace shows them. So
 //! what it finds illegal is illegal. Else it answers that a history isn't decided at a line.
 //!
+//! Why a line is illegal is read off its thread's own lines (`specs/Reasons.antt`), not told by the search: it is out of
+//! turn, or a return of the call that is named. A law says that these are so ([`reasons_hold`]). With the reason
+//! come replies that the return could have told, each of which has a certificate ([`points_have_these_replies`] says which
+//! are tried).
+//!
 //! Stands on `certificates`, for what is checked, on `completing`, for the search, on `refuting`, for what is refuted,
-//! and on `histories`, for a history's lines.
+//! on `histories` and `facts`, for a history's lines, and on `posixmutex` and `lockword`, for operations, thread ids and
+//! replies.
 //!
 //! ```text
 //! match judge(rt.alloc(), &head, &lines)? {
 //!     Judgement::Legal(steps) => println!(rt; "legal, in {} steps", steps.len())?,
-//!     Judgement::Illegal(at, why) => println!(rt; "illegal at line {}: {why:?}", lines[at].number)?,
+//!     Judgement::Illegal { at, why, .. } => println!(rt; "illegal at line {}: {why:?}", lines[at].number)?,
 //!     Judgement::Undecided(at) => println!(rt; "undecided at line {}", lines[at].number)?,
 //! }
 //! ```
 #![tactic(auto)]
 
+mod certificate;
 mod judging;
+mod laws;
+mod reason;
+mod replies;
 
 pub use judging::{Judgement, judge};
+pub use laws::{points_have_these_replies, reasons_hold};
+pub use reason::{OutOfTurn, Reason};

@@ -13,10 +13,11 @@ use Rattle.histories.specs.declared.entry.Entry.{Entry}
 use Rattle.histories.specs.declared.entry.HistoryLine.{HistoryLine}
 use Rattle.certificates.specs.declared.waiting.Waiter.{Waiter}
 use Rattle.certificates.specs.Certificates.{is_point_step}
-use Rattle.completing.specs.declared.stop.Refusal.{Refusal}
+use Rattle.lockword.specs.declared.reply.Reply.{Reply}
 use Rattle.judge.specs.declared.judging.Judgement.{Judgement}
 use Rattle.judge.specs.declared.judging.Judgement.TheVariants.{Legal, Illegal, Undecided}
-use Rattle.judge.specs.Judgements.{IsJudged, IsLegalBefore, IsNeverLegal}
+use Rattle.judge.specs.declared.reason.Reason.{Reason}
+use Rattle.judge.specs.Judgements.{IsIllegal, IsJudged, IsLegalBefore}
 use Rattle.judge_report.specs.declared.messages.Failure.{Failure}
 use Rattle.judge_report.specs.declared.messages.Failure.TheVariants.{Usage, CannotRead, CannotWrite, CannotKeep, TooMany, NoPlace, OutOfMemory, Ill}
 use Rattle.judge_report.specs.declared.reading.History.{History}
@@ -29,7 +30,7 @@ use Rattle.judge_report.specs.Kept.{IsFilled, IsUnkept}
 use Rattle.judge_report.specs.Said.{AreNamed, IsSaid, Tells, named, status_of}
 use Rattle.judge_report.specs.Served.{Fails, IsRead, Serves, ServesFront, Unread, failed_by}
 use Rattle.judge_report.specs.Texts.{cuts_text, illegal_text, legal_text, undecided_text, waiters_text}
-use Rattle.judge_report.proofs.Saying.{is_first_illegal, is_legal, is_legal_before}
+use Rattle.judge_report.proofs.Saying.{is_illegal, is_legal, is_legal_before}
 
 -- whatever came of a text and of what was done then, a beginning of it stands, if that kept it
 pub leaves_is_front : {X E : Type 0} (a b c : Option (List ℕ)) (r : Result X E) (text : List ℕ) → Leaves a b r text → Keeps b c → AppendsFront a c text
@@ -52,11 +53,11 @@ tells_legal waiting h j steps points cs ws old new r is judged names count leave
     subst (λ (k : Judgement). Tells waiting (heard_of h) k cs old new r) (sym is)
     (legal_text points ++ (cuts_text cs ++ waiters_text h.lines.items ws), (is_legal h steps.items (subst (IsJudged h.head h.lines.items) is judged), legal_so waiting h steps.items points cs ws count so), leaves)
 
-pub tells_illegal : {E : Type 0} (waiting : Bool) (h : History) (j : Judgement) (at : ℕ) (why : Refusal) (l : HistoryLine) (cs : List Cut) (old new : Option (List ℕ)) (r : Result (Unit {0}) E) → j ≡ Illegal at why → IsJudged h.head h.lines.items j
-    → l ≡ get_or h.lines.items at l → Leaves old new r (illegal_text h.lines.items l why) → Tells waiting (heard_of h) j cs old new r
-tells_illegal waiting h j at why l cs old new r is judged line leaves =
+pub tells_illegal : {E : Type 0} (waiting : Bool) (h : History) (j : Judgement) (at : ℕ) (why : Reason) (possible : Vec Reply Global) (l : HistoryLine) (cs : List Cut) (old new : Option (List ℕ)) (r : Result (Unit {0}) E) → j ≡ Illegal at why possible
+    → IsJudged h.head h.lines.items j → l ≡ get_or h.lines.items at l → Leaves old new r (illegal_text h.lines.items l why possible.items) → Tells waiting (heard_of h) j cs old new r
+tells_illegal waiting h j at why possible l cs old new r is judged line leaves =
     subst (λ (k : Judgement). Tells waiting (heard_of h) k cs old new r) (sym is)
-    (illegal_text h.lines.items l why, (l, is_first_illegal h at l (subst (IsJudged h.head h.lines.items) is judged) line, ap (λ (ls : List HistoryLine). illegal_text ls l why) (sym (reverse-reverse h.lines.items))), leaves)
+    (illegal_text h.lines.items l why possible.items, (l, is_illegal h at l why possible.items (subst (IsJudged h.head h.lines.items) is judged) line, ap (λ (ls : List HistoryLine). illegal_text ls l why possible.items) (sym (reverse-reverse h.lines.items))), leaves)
 
 pub tells_undecided : {E : Type 0} (waiting : Bool) (h : History) (j : Judgement) (at : ℕ) (l : HistoryLine) (cs : List Cut) (old new : Option (List ℕ)) (r : Result (Unit {0}) E) → j ≡ Undecided at → IsJudged h.head h.lines.items j
     → l ≡ get_or h.lines.items at l → Leaves old new r (undecided_text l) → Tells waiting (heard_of h) j cs old new r
@@ -64,8 +65,8 @@ tells_undecided waiting h j at l cs old new r is judged line leaves =
     subst (λ (k : Judgement). Tells waiting (heard_of h) k cs old new r) (sym is)
     (undecided_text l, (l, is_legal_before h at l (subst (IsJudged h.head h.lines.items) is judged) line, refl), leaves)
 
-pub illegal_within : (h : History) (j : Judgement) (at : ℕ) (why : Refusal) → j ≡ Illegal at why → IsJudged h.head h.lines.items j → at < length h.lines.items
-illegal_within h j at why is judged = let found : IsLegalBefore h.head h.lines.items at × IsNeverLegal h.head h.lines.items at = subst (IsJudged h.head h.lines.items) is judged in found.0.0
+pub illegal_within : (h : History) (j : Judgement) (at : ℕ) (why : Reason) (possible : Vec Reply Global) → j ≡ Illegal at why possible → IsJudged h.head h.lines.items j → at < length h.lines.items
+illegal_within h j at why possible is judged = let found : IsIllegal h.head h.lines.items at why possible.items = subst (IsJudged h.head h.lines.items) is judged in found.before.0
 
 pub undecided_within : (h : History) (j : Judgement) (at : ℕ) → j ≡ Undecided at → IsJudged h.head h.lines.items j → at < length h.lines.items
 undecided_within h j at is judged = let before : IsLegalBefore h.head h.lines.items at = subst (IsJudged h.head h.lines.items) is judged in before.0

@@ -1,15 +1,19 @@
 -- What a judgement says of the history that was read.
-use Rattle.std.proofs.Common.{◌≡◌, ℕ, ◌+◌, ◌<◌, List, [], ◌∷◌, ◌++◌, length, reverse, take, drop, get_or, refl, sym, ap, subst, ◌∙◌, append_assoc}
+use Rattle.std.proofs.Common.{◌≡◌, ℕ, ◌+◌, ◌<◌, List, [], ◌∷◌, ◌++◌, length, reverse, take, drop, get_or, refl, sym, ap, ap₂, subst, subst₂, ◌∙◌, append_assoc}
+use Rattle.std.proofs.lemmas.Option.{get_or_from_slice_get}
 use Rattle.std.proofs.lemmas.List.{reverse-append, reverse-reverse, take-append-drop, take_more}
+use Rattle.lockword.specs.declared.reply.Reply.{Reply}
 use Rattle.histories.specs.declared.entry.Entry.{Entry}
 use Rattle.histories.specs.declared.entry.HistoryLine.{HistoryLine}
 use Rattle.histories.specs.Histories.{LegalHistory}
-use Rattle.certificates.specs.Certificates.{IsCertificate, entries}
-use Rattle.judge.specs.Judgements.{IsLegalBefore as IsJudgedBefore, IsNeverLegal}
+use Rattle.certificates.specs.Certificates.{IsCertificate, entries, whose}
+use Rattle.judge.specs.declared.reason.Reason.{Reason}
+use Rattle.judge.specs.Judgements.{ArePossible, IsIllegal as IsJudgedIllegal, IsLegalBefore as IsJudgedBefore, IsNeverLegal}
+use Rattle.judge.specs.Reasons.{reason_of}
 use Rattle.judge.proofs.Legal.{legal}
 use Rattle.judge_report.specs.declared.reading.History.{History}
 use Rattle.judge_report.specs.Heard.{heard_of}
-use Rattle.judge_report.specs.Said.{IsFirstIllegal, IsLegal, IsLegalBefore, told}
+use Rattle.judge_report.specs.Said.{IsFirstIllegal, IsIllegal, IsLegal, IsLegalBefore, told}
 
 told-append : (xs ys : List HistoryLine) → told (xs ++ ys) ≡ told xs ++ told ys
 told-append [] ys = refl
@@ -54,4 +58,15 @@ is_first_illegal h at l judged is =
     record {
       before = is_legal_before h at l judged.0 is;
       never = λ legal. judged.1 (subst (LegalHistory h.head.mutexes) same legal);
+    }
+
+pub is_illegal : (h : History) (at : ℕ) (l : HistoryLine) (why : Reason) (possible : List Reply) → IsJudgedIllegal h.head h.lines.items at why possible → l ≡ get_or h.lines.items at l → IsIllegal (heard_of h) l why possible
+unfolding is_first_illegal is_legal_before
+is_illegal h at l why possible judged is =
+    let ls = h.lines.items in
+    let same : l ≡ judged.line = is ∙ get_or_from_slice_get ls at judged.line l judged.stands in
+    record {
+      first = is_first_illegal h at l (judged.before, judged.never) is;
+      reason = ap₂ (λ (es : List Entry) (x : HistoryLine). reason_of es x.entry) (sym (told-reverse (take at ls))) same ∙ judged.reason;
+      could = subst₂ (λ (xs : List HistoryLine) (x : HistoryLine). ArePossible h.head xs (whose x.entry) why possible) (sym (reverse-reverse (take at ls))) (sym same) judged.could;
     }

@@ -64,7 +64,7 @@ IsKept Makes Fills (Windows out) h steps cuts = AreKept Makes Fills out h steps 
 abbrev pub IsFilled : (List ℕ → Option (List ℕ) → Type 0) → (List ℕ → Option (List ℕ) → Type 0) → Kept → Heard
     → Judgement → List Cut → Type 0
 IsFilled Makes Fills kept k (Legal steps) cuts = IsKept Makes Fills kept k.head steps.items cuts
-IsFilled Makes Fills kept k (Illegal at why) cuts = cuts ≡ []
+IsFilled Makes Fills kept k (Illegal at why possible) cuts = cuts ≡ []
 IsFilled Makes Fills kept k (Undecided at) cuts = cuts ≡ []
 
 -- what it is told as that a certificate isn't cut

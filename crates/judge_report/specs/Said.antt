@@ -3,18 +3,23 @@
 -- *What is said of a history.* `legal N points`: it is a legal history, with a certificate that has N points; behind that
 -- is told which windows it was cut into, where it was, and the calls are named that the certificate leaves waiting and
 -- shouldn't, where they are asked for. `illegal at line L`: those of its lines that stand before line L are a legal
--- history, and with line L they aren't. `undecided at line L`: those before it are a legal history.
+-- history, and with line L they aren't; the reason is that of its thread's lines before it, and with each reply that is
+-- named in place of the line's they are. `undecided at line L`: those before it are a legal history.
 use Rattle.std.specs.Prelude.{ℕ, ◌≡◌, Bool, true, false, List, [], ◌∷◌, ◌++◌, map, reverse, count_by}
-use Rattle.std.specs.Prelude.{Option, Result}
+use Rattle.std.specs.Prelude.{Option, Some, Result}
 use Rattle.streams.specs.Leaves.{Leaves}
+use Rattle.lockword.specs.declared.reply.Reply.{Reply}
 use Rattle.histories.specs.declared.entry.Entry.{Entry}
 use Rattle.histories.specs.declared.entry.HistoryLine.{HistoryLine}
 use Rattle.histories.specs.Histories.{LegalHistory}
 use Rattle.certificates.specs.declared.waiting.Waiter.{Waiter}
-use Rattle.certificates.specs.Certificates.{IsCertificate, is_point_step}
+use Rattle.certificates.specs.Certificates.{IsCertificate, is_point_step, whose}
 use Rattle.certificates.specs.Waiters.{waiters}
 use Rattle.judge.specs.declared.judging.Judgement.{Judgement}
 use Rattle.judge.specs.declared.judging.Judgement.TheVariants.{Legal, Illegal, Undecided}
+use Rattle.judge.specs.declared.reason.Reason.{Reason}
+use Rattle.judge.specs.Judgements.{ArePossible}
+use Rattle.judge.specs.Reasons.{reason_of}
 use Rattle.judge_report.specs.declared.keeping.Cut.{Cut}
 use Rattle.judge_report.specs.Heard.{Heard}
 use Rattle.judge_report.specs.Texts.{cuts_text, illegal_text, legal_text, undecided_text, waiters_text}
@@ -40,6 +45,12 @@ pub record IsFirstIllegal (k : Heard) (line : HistoryLine) : Type 0 where
   pub before : IsLegalBefore k line
   pub never : LegalHistory k.head.mutexes (told (line ∷ before.earlier)) → ⊥
 
+-- for this reason, and these replies its thread could be told
+pub record IsIllegal (k : Heard) (line : HistoryLine) (why : Reason) (possible : List Reply) : Type 0 where
+  pub first : IsFirstIllegal k line
+  pub reason : reason_of (told first.before.earlier) line.entry ≡ Some why
+  pub could : ArePossible k.head (reverse first.before.earlier) (whose line.entry) why possible
+
 -- the calls that are named behind these steps, if they are asked for
 abbrev pub named : Bool → List Entry → List Waiter
 named true steps = waiters (reverse steps)
@@ -51,20 +62,20 @@ abbrev pub IsSaid : Bool → Heard → Judgement → List Cut → List ℕ → T
 IsSaid waiting k (Legal steps) cuts text = IsLegal k steps.items
     × (text ≡ legal_text (count_by is_point_step steps.items)
     ++ (cuts_text cuts ++ waiters_text (reverse k.seen) (named waiting steps.items)))
-IsSaid waiting k (Illegal at why) cuts text =
-    (line : HistoryLine) × IsFirstIllegal k line × (text ≡ illegal_text (reverse k.seen) line why)
+IsSaid waiting k (Illegal at why possible) cuts text = (line : HistoryLine) × IsIllegal k line why possible.items
+    × (text ≡ illegal_text (reverse k.seen) line why possible.items)
 IsSaid waiting k (Undecided at) cuts text = (line : HistoryLine) × IsLegalBefore k line × (text ≡ undecided_text line)
 
 -- these are the calls that are named of a history that is so judged
 abbrev pub AreNamed : Bool → Judgement → List Waiter → Type 0
 AreNamed waiting (Legal steps) ws = ws ≡ named waiting steps.items
-AreNamed waiting (Illegal at why) ws = Unit {0}
+AreNamed waiting (Illegal at why possible) ws = Unit {0}
 AreNamed waiting (Undecided at) ws = Unit {0}
 
 -- the exit status then
 abbrev pub status_of : Judgement → ℕ
 status_of (Legal steps) = 0
-status_of (Illegal at why) = 1
+status_of (Illegal at why possible) = 1
 status_of (Undecided at) = 1
 
 -- what is said of a history was written, or a beginning of it

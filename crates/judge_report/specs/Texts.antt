@@ -1,6 +1,7 @@
 -- The texts of histories' lines, and of what is said of a history.
 use Rattle.std.specs.Prelude.{ℕ, ◌-◌, Bool, true, false, Option, Some, None, List, [], ◌∷◌, ◌++◌, map, codes, decimal}
 use Rattle.std.specs.List.{concat, slice_get}
+use Rattle.lockword.specs.declared.reply.Reply.{Reply}
 use Rattle.lockword.specs.Replies.{reply_word}
 use Rattle.posixmutex.specs.Words.{operation_word}
 use Rattle.facts.specs.Facts.{thread_of}
@@ -9,10 +10,10 @@ use Rattle.histories.specs.declared.entry.Entry.{Entry}
 use Rattle.histories.specs.declared.entry.Entry.TheVariants.{Told, Doom}
 use Rattle.histories.specs.declared.entry.HistoryLine.{HistoryLine}
 use Rattle.certificates.specs.declared.waiting.Waiter.{Waiter}
-use Rattle.completing.specs.declared.stop.OutOfTurn.{OutOfTurn}
-use Rattle.completing.specs.declared.stop.OutOfTurn.TheVariants.{InCall, NoCall, Dead, Reaped, Alive, NotReaped}
-use Rattle.completing.specs.declared.stop.Refusal.{Refusal}
-use Rattle.completing.specs.declared.stop.Refusal.TheVariants as refusal
+use Rattle.judge.specs.declared.reason.OutOfTurn.{OutOfTurn}
+use Rattle.judge.specs.declared.reason.OutOfTurn.TheVariants.{InCall, NoCall, Dead, Reaped, Alive, NotReaped}
+use Rattle.judge.specs.declared.reason.Reason.{Reason}
+use Rattle.judge.specs.declared.reason.Reason.TheVariants as reason
 use Rattle.judge_report.specs.declared.keeping.Cut.{Cut}
 
 -- ---- lines of a history
@@ -96,20 +97,40 @@ begin_note None = []
 begin_note (Some l) = concat (codes "  = see line " ∷ decimal l.number ∷ codes ": the call began\n" ∷ []) ++ quote l
 
 -- what is said of an illegal line, and behind its quotation
-abbrev pub illegal_title : HistoryLine → Refusal → List ℕ
-illegal_title l (refusal.OutOfTurn why) = concat
+abbrev pub illegal_title : HistoryLine → Reason → List ℕ
+illegal_title l (reason.OutOfTurn why) = concat
     (codes "illegal at line " ∷ decimal l.number ∷ codes ": t" ∷ decimal (entry_thread l.entry) ∷ turn_words why ∷ [])
-illegal_title l (refusal.NoOrder op m x begin) = concat
+illegal_title l (reason.NoOrder op m x begin) = concat
     (codes "illegal at line " ∷ decimal l.number ∷ codes ": no order of the calls gives t"
     ∷ decimal (entry_thread l.entry) ∷ codes " " ∷ reply_word x ∷ codes " for its " ∷ operation_word op ∷ codes " of m"
     ∷ decimal m ∷ codes "\n" ∷ [])
 
-abbrev pub illegal_notes : List HistoryLine → Refusal → List ℕ
-illegal_notes ls (refusal.OutOfTurn why) = []
-illegal_notes ls (refusal.NoOrder op m x begin) = begin_note (slice_get ls (begin - 1))
+abbrev pub why_note : List HistoryLine → Reason → List ℕ
+why_note ls (reason.OutOfTurn why) = []
+why_note ls (reason.NoOrder op m x begin) = begin_note (slice_get ls (begin - 1))
 
-abbrev pub illegal_text : List HistoryLine → HistoryLine → Refusal → List ℕ
-illegal_text ls l why = illegal_title l why ++ (quote l ++ illegal_notes ls why)
+-- what the thread could be told there, if anything was found: one reply, or another
+abbrev pub or_text : Reply → List ℕ
+or_text x = concat (codes " or " ∷ reply_word x ∷ [])
+
+abbrev pub ors_text : List Reply → List ℕ
+ors_text xs = concat (map or_text xs)
+
+abbrev pub first_text : ℕ → Reply → List ℕ
+first_text t x = concat (codes "  = t" ∷ decimal t ∷ codes " could be told " ∷ reply_word x ∷ [])
+
+abbrev pub here_text : List ℕ
+here_text = concat (codes " here\n" ∷ [])
+
+abbrev pub possible_note : ℕ → List Reply → List ℕ
+possible_note t [] = []
+possible_note t (x ∷ xs) = first_text t x ++ (ors_text xs ++ here_text)
+
+abbrev pub illegal_notes : List HistoryLine → HistoryLine → Reason → List Reply → List ℕ
+illegal_notes ls l why possible = possible_note (entry_thread l.entry) possible ++ why_note ls why
+
+abbrev pub illegal_text : List HistoryLine → HistoryLine → Reason → List Reply → List ℕ
+illegal_text ls l why possible = illegal_title l why ++ (quote l ++ illegal_notes ls l why possible)
 
 abbrev pub undecided_text : HistoryLine → List ℕ
 undecided_text l = concat (codes "undecided at line " ∷ decimal l.number ∷ codes "\n" ∷ []) ++ quote l

@@ -182,6 +182,6 @@ pub fn keep<M: Maker>(
 {
     match judgement {
         Judgement::Legal(steps) => keep_steps(alloc, maker, keeping, &history.head, steps),
-        Judgement::Illegal(..) | Judgement::Undecided(_) => Ok(Vec::new(alloc)),
+        Judgement::Illegal { .. } | Judgement::Undecided(_) => Ok(Vec::new(alloc)),
     }
 }

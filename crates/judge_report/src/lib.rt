@@ -3,16 +3,17 @@
 //! [`run`] is given the words of the command line, what opens files and what makes them, and the two writers. Where it
 //! writes `legal N points`, its file is a legal history (`LegalHistory`), of just the lines that its text has, and a
 //! certificate with N points was checked, which `--trace` writes, and `--windows` in windows that the judge of traces
-//! finds legal; behind that it names with `--waiting` just the calls that the certificate leaves waiting and shouldn't. Where it writes `illegal at line L`, the lines before L are a legal
-//! history, and with line L they aren't. Where it writes `undecided at line L`, the lines before L are one. A file that
-//! is no history is told by its first fault (`history_read`).
+//! finds legal; behind that it names with `--waiting` just the calls that the certificate leaves waiting and shouldn't.
+//! Where it writes `illegal at line L`, the lines before L are a legal history, and with line L they aren't, for the reason
+//! that it tells; with each reply that it says could be told there they are one. Where it writes `undecided at line L`,
+//! the lines before L are one. A file that is no history is told by its first fault (`history_read`).
 //!
 //! The file is read once, line by line. What its lines tell is kept, 40 bytes a line; so is what the search keeps of
 //! lines that aren't decided, and the certificate.
 //!
-//! Stands on `judge`, `certificates` and `completing`, for the judgement, on `windows`, for cutting, on `histories`, for
-//! lines and faults, on `texts`, for a trace's lines, on `streams`, for reading and writing, on `itoa`, for numbers, and
-//! on `facts`, `lines`, `posixmutex` and `lockword`, for what lines tell.
+//! Stands on `judge` and `certificates`, for the judgement, on `windows`, for cutting, on `histories`, for lines and
+//! faults, on `texts`, for a trace's lines, on `streams`, for reading and writing, on `itoa`, for numbers, and on `facts`,
+//! `lines`, `posixmutex` and `lockword`, for what lines tell.
 //!
 //! ```text
 //! // The words of `rfx-judge storm.history`, the program's name first; `files` opens what they name, `maker` makes it.

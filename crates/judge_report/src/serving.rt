@@ -59,7 +59,7 @@ fn named(alloc: Global, waiting: bool, judgement: &Judgement) -> Result<Vec<Wait
                 Ok(Vec::new(alloc))
             }
         }
-        Judgement::Illegal(..) | Judgement::Undecided(_) => Ok(Vec::new(alloc)),
+        Judgement::Illegal { .. } | Judgement::Undecided(_) => Ok(Vec::new(alloc)),
     }
 }
 
@@ -87,8 +87,8 @@ fn tell<W: Write>(
 {
     match judgement {
         Judgement::Legal(steps) => tell_legal(out, points_of(steps), cuts, &history.lines, waiters),
-        Judgement::Illegal(at, why) => {
-            tell_illegal(out, &history.lines, &line_of(history, *at), why)
+        Judgement::Illegal { at, why, possible } => {
+            tell_illegal(out, &history.lines, &line_of(history, *at), why, possible)
         }
         Judgement::Undecided(at) => tell_undecided(out, &line_of(history, *at)),
     }
@@ -100,7 +100,7 @@ fn status_of(judgement: &Judgement) -> u8
 {
     match judgement {
         Judgement::Legal(_) => 0,
-        Judgement::Illegal(..) | Judgement::Undecided(_) => 1,
+        Judgement::Illegal { .. } | Judgement::Undecided(_) => 1,
     }
 }
 

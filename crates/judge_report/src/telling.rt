@@ -1,9 +1,10 @@
 //! What is told of a history.
 
-ghost use Rattle.std.specs.Prelude.{◌≡◌, ◌-◌, ◌++◌, Some, None};
+ghost use Rattle.std.specs.Prelude.{◌≡◌, ◌-◌, ◌∷◌, ◌++◌, Some, None};
 ghost use Rattle.streams.specs.Leaves.{Leaves};
 ghost use Rattle.std.specs.List.{slice_get};
 ghost use Rattle.judge_report.specs.Texts.{begin_note, entry_thread, illegal_notes, illegal_text, illegal_title};
+ghost use Rattle.judge_report.specs.Texts.{first_text, here_text, or_text, ors_text, possible_note, why_note};
 ghost use Rattle.judge_report.specs.Texts.{legal_text, quote_of, since_line, since_note, since_words, turn_words};
 ghost use Rattle.judge_report.specs.Texts.{cut_text, cuts_text};
 ghost use Rattle.judge_report.specs.Texts.{undecided_text, waiter_lines, waiter_text, waiter_title, waiters_text};
@@ -11,9 +12,9 @@ ghost use Rattle.judge_report.specs.Texts.{undecided_text, waiter_lines, waiter_
 use crate::keeping::Cut;
 use crate::writing::write_quote;
 use certificates::Waiter;
-use completing::{OutOfTurn, Refusal};
 use histories::{Entry, HistoryLine};
-use lockword::Tid;
+use judge::{OutOfTurn, Reason};
+use lockword::{Reply, Tid};
 use std::io::{self, Write};
 use streams::Piece::{Number, Word};
 use streams::put_pieces;
@@ -78,13 +79,13 @@ fn write_begin_at<W: Write>(out: &mut W, line: Option<HistoryLine>) -> io::Resul
 }
 
 /// Why no order of the calls explains the line.
-fn write_title<W: Write>(out: &mut W, line: &HistoryLine, why: &Refusal) -> io::Result<()>
+fn write_title<W: Write>(out: &mut W, line: &HistoryLine, why: &Reason) -> io::Result<()>
     ensures { Leaves (W.contents out.old) (W.contents out.new) result (illegal_title line.now why.now) }
 {
     let at = Number(line.number);
     let thread = Number(thread_of(line).get().into());
     match *why {
-        Refusal::OutOfTurn(why) => put_pieces(
+        Reason::OutOfTurn(why) => put_pieces(
             out,
             &[
                 Word("illegal at line "),
@@ -94,7 +95,7 @@ fn write_title<W: Write>(out: &mut W, line: &HistoryLine, why: &Refusal) -> io::
                 Word(turn_words(why)),
             ],
         ),
-        Refusal::NoOrder {
+        Reason::NoOrder {
             operation,
             mutex,
             reply,
@@ -118,13 +119,94 @@ fn write_title<W: Write>(out: &mut W, line: &HistoryLine, why: &Refusal) -> io::
     }
 }
 
-fn write_notes<W: Write>(out: &mut W, lines: &[HistoryLine], why: &Refusal) -> io::Result<()>
-    ensures { Leaves (W.contents out.old) (W.contents out.new) result (illegal_notes lines.now why.now) }
+/// Where the call began that returns there.
+fn write_why<W: Write>(out: &mut W, lines: &[HistoryLine], why: &Reason) -> io::Result<()>
+    ensures { Leaves (W.contents out.old) (W.contents out.new) result (why_note lines.now why.now) }
 {
     match *why {
-        Refusal::OutOfTurn(_) => Ok(()),
-        Refusal::NoOrder { begin, .. } => write_begin_at(out, line_at(lines, begin as usize)),
+        Reason::OutOfTurn(_) => Ok(()),
+        Reason::NoOrder { begin, .. } => write_begin_at(out, line_at(lines, begin)),
     }
+}
+
+/// The first of what the line's thread could be told there.
+fn write_first<W: Write>(out: &mut W, line: &HistoryLine, reply: Reply) -> io::Result<()>
+    ensures { Leaves (W.contents out.old) (W.contents out.new) result (first_text (entry_thread line.now.entry) reply) }
+{
+    let thread = Number(thread_of(line).get().into());
+    put_pieces(
+        out,
+        &[
+            Word("  = t"),
+            thread,
+            Word(" could be told "),
+            Word(reply.name()),
+        ],
+    )
+}
+
+/// Another of them.
+fn write_or<W: Write>(out: &mut W, reply: &Reply) -> io::Result<()>
+    ensures { Leaves (W.contents out.old) (W.contents out.new) result (or_text reply.now) }
+{
+    put_pieces(out, &[Word(" or "), Word(reply.name())])
+}
+
+/// The others.
+fn write_ors<W: Write>(out: &mut W, replies: &[Reply]) -> io::Result<()>
+    ensures { Leaves (W.contents out.old) (W.contents out.new) result (ors_text replies.now) }
+{
+    for reply in replies {
+        write_or(out, reply)?;
+    }
+    Ok(())
+}
+
+fn write_here<W: Write>(out: &mut W) -> io::Result<()>
+    ensures { Leaves (W.contents out.old) (W.contents out.new) result here_text }
+{
+    put_pieces(out, &[Word(" here\n")])
+}
+
+/// What the line's thread could be told there: this reply, or one of the others.
+fn write_each<W: Write>(
+    out: &mut W,
+    line: &HistoryLine,
+    first: Reply,
+    others: &[Reply],
+) -> io::Result<()>
+    ensures { Leaves (W.contents out.old) (W.contents out.new) result
+        (possible_note (entry_thread line.now.entry) (first ∷ others.now)) }
+{
+    write_first(out, line, first)?;
+    write_ors(out, others)?;
+    write_here(out)
+}
+
+/// What the line's thread could be told there, if anything was found.
+fn write_possible<W: Write>(out: &mut W, line: &HistoryLine, possible: &[Reply]) -> io::Result<()>
+    ensures { Leaves (W.contents out.old) (W.contents out.new) result
+        (possible_note (entry_thread line.now.entry) possible.now) }
+{
+    match possible.split_first() {
+        Some((first, others)) => write_each(out, line, *first, others),
+        None => Ok(()),
+    }
+}
+
+/// What stands behind the line's quotation.
+fn write_notes<W: Write>(
+    out: &mut W,
+    lines: &[HistoryLine],
+    line: &HistoryLine,
+    why: &Reason,
+    possible: &[Reply],
+) -> io::Result<()>
+    ensures { Leaves (W.contents out.old) (W.contents out.new) result
+        (illegal_notes lines.now line.now why.now possible.now) }
+{
+    write_possible(out, line, possible)?;
+    write_why(out, lines, why)
 }
 
 /// The last line before the mutex was left without an owner, if it was.
@@ -330,18 +412,21 @@ pub fn tell_legal<W: Write>(
     write_rest(out, cuts, lines, waiters)
 }
 
-/// Tells that no order of the calls explains the lines up to this one.
+/// Tells that no order of the calls explains the lines up to this one, why, and which replies its thread could have been
+/// told.
 pub fn tell_illegal<W: Write>(
     out: &mut W,
     lines: &[HistoryLine],
     line: &HistoryLine,
-    why: &Refusal,
+    why: &Reason,
+    possible: &[Reply],
 ) -> io::Result<()>
-    ensures { Leaves (W.contents out.old) (W.contents out.new) result (illegal_text lines.now line.now why.now) }
+    ensures { Leaves (W.contents out.old) (W.contents out.new) result
+        (illegal_text lines.now line.now why.now possible.now) }
 {
     write_title(out, line, why)?;
     write_quote(out, line)?;
-    write_notes(out, lines, why)
+    write_notes(out, lines, line, why, possible)
 }
 
 /// Tells that no certificate of the lines up to this one was found.

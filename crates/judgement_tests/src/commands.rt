@@ -22,7 +22,7 @@ end 11
 ";
 
 const TEXT: &str =
-    "illegal at line 12: no order of the calls gives t3 EOWNERDEAD for its lock of m0\n  | 11 return t3 EOWNERDEAD\n  = see line 11: the call began\n  | 10 begin t3 lock m0\n";
+    "illegal at line 12: no order of the calls gives t3 EOWNERDEAD for its lock of m0\n  | 11 return t3 EOWNERDEAD\n  = t3 could be told OK here\n  = see line 11: the call began\n  | 10 begin t3 lock m0\n";
 
 const USAGE: &str = "usage: rfx-judge [--waiting] [--trace OUT | --windows OUT] FILE\n";
 

@@ -11,6 +11,8 @@ mod commands;
 #[cfg(test)]
 mod faults;
 #[cfg(test)]
+mod returns;
+#[cfg(test)]
 mod turns;
 #[cfg(test)]
 mod waiting;

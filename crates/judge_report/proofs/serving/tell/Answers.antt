@@ -1,10 +1,11 @@
-use Rattle.std.proofs.Common.{List, ◌++◌, ap, subst, ◌∙◌}
+use Rattle.std.proofs.Common.{List, ◌++◌, ap, subst, subst₂, ◌∙◌}
 use Rattle.std.specs.Prelude.{count_by}
 use Rattle.certificates.specs.Certificates.{is_point_step}
 use Rattle.streams.specs.Leaves.{Leaves}
+use Rattle.lockword.specs.declared.reply.Reply.{Reply}
 use Rattle.histories.specs.declared.entry.HistoryLine.{HistoryLine}
 use Rattle.judge_report.specs.Texts.{cuts_text, illegal_text, legal_text, waiters_text}
-use Rattle.judge_report.proofs.Ends.{tells_illegal, tells_legal, tells_undecided}
+use Rattle.judge_report.proofs.Ends.{illegal_within, tells_illegal, tells_legal, tells_undecided}
 use Rattle.judge_report.proofs.serving.tell.Goals as goal
 
 pub returns-in-Legal : goal.returns-in-Legal
@@ -13,10 +14,13 @@ returns-in-Legal g c =
     (c.points_of.ensures ∙ ap (count_by is_point_step) c.deref.ensures.value)
     (subst (λ (ls : List HistoryLine). Leaves (g.W.Write.contents c.args.out.now) (g.W.Write.contents c.tell_legal.new.out) c.tell_legal.result (legal_text c.points_of.result ++ (cuts_text c.args.cuts.now ++ waiters_text ls c.args.waiters.now))) c.deref-in-Legal.ensures.value c.tell_legal.ensures)
 
+pub line_of-requires : goal.line_of-requires
+line_of-requires g c = illegal_within c.args.history.now c.args.judgement.now c.in-Illegal.at c.in-Illegal.why c.in-Illegal.possible c.in-Illegal.is c.requires.judged
+
 pub returns-in-Illegal : goal.returns-in-Illegal
 returns-in-Illegal g c =
-    tells_illegal c.args.waiting c.args.history.now c.args.judgement.now c.in-Illegal.at c.in-Illegal.why c.line_of.result c.args.cuts.now _ _ c.tell_illegal.result c.in-Illegal.is c.requires.judged c.line_of.ensures
-    (subst (λ (ls : List HistoryLine). Leaves (g.W.Write.contents c.args.out.now) (g.W.Write.contents c.tell_illegal.new.out) c.tell_illegal.result (illegal_text ls c.line_of.result c.in-Illegal.why)) c.deref-in-Illegal.ensures.value c.tell_illegal.ensures)
+    tells_illegal c.args.waiting c.args.history.now c.args.judgement.now c.in-Illegal.at c.in-Illegal.why c.in-Illegal.possible c.line_of.result c.args.cuts.now _ _ c.tell_illegal.result c.in-Illegal.is c.requires.judged c.line_of.ensures
+    (subst₂ (λ (ls : List HistoryLine) (xs : List Reply). Leaves (g.W.Write.contents c.args.out.now) (g.W.Write.contents c.tell_illegal.new.out) c.tell_illegal.result (illegal_text ls c.line_of.result c.in-Illegal.why xs)) c.deref-in-Illegal.ensures.value c.deref-in-Illegal-2.ensures.value c.tell_illegal.ensures)
 
 pub returns-in-Undecided : goal.returns-in-Undecided
 returns-in-Undecided g c =

@@ -1,9 +1,11 @@
-use Rattle.std.proofs.Common.{Option, subst}
-use Rattle.streams.specs.Leaves.{Leaves}
-use Rattle.histories.specs.declared.entry.HistoryLine.{HistoryLine}
-use Rattle.judge_report.specs.Texts.{begin_note}
+use Rattle.streams.proofs.Writers.{ends_at_first, then_leaves}
+use Rattle.judge_report.specs.Texts.{entry_thread, possible_note, why_note}
 use Rattle.judge_report.proofs.telling.write_notes.Goals as goal
 
-pub returns-in-NoOrder : goal.returns-in-NoOrder
-returns-in-NoOrder g c =
-    rw c.in-NoOrder.is (subst (λ (o : Option HistoryLine). Leaves (g.W.Write.contents c.args.out.now) (g.W.Write.contents c.write_begin_at.new.out) c.write_begin_at.result (begin_note o)) c.line_at.ensures c.write_begin_at.ensures)
+pub returns-in_err-write_possible : goal.returns-in_err-write_possible
+returns-in_err-write_possible g c =
+    ends_at_first _ _ c.from_residual.result (possible_note (entry_thread c.args.line.now.entry) c.args.possible.now) (why_note c.args.lines.now c.args.why.now) c.from_residual.ensures.0 c.in_err-write_possible.ensures
+
+pub returns : goal.returns
+returns g c =
+    then_leaves _ _ _ c.write_why.result (possible_note (entry_thread c.args.line.now.entry) c.args.possible.now) (why_note c.args.lines.now c.args.why.now) c.in_ok-write_possible.ensures c.write_why.ensures

@@ -1,0 +1,15 @@
+//! What holds of the reasons and replies that are told of illegal lines.
+
+ghost use Rattle.judge.specs.Reasons.{ReasonsHold};
+ghost use Rattle.judge.specs.Replies.{PointsHaveTheseReplies};
+
+/// What is told of a line is so: it is out of its thread's turn as the newest line of that says; or it is a return, of
+/// the call that its thread's newest line began, which is the line that is named.
+pub fn reasons_hold()
+    ensures { ReasonsHold }
+{}
+
+/// Each reply that a step of a mutex gives a call is one of its operation's, which are tried at an illegal return.
+pub fn points_have_these_replies()
+    ensures { PointsHaveTheseReplies }
+{}
