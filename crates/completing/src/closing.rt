@@ -14,8 +14,6 @@ pub struct Moment<'a> {
     pub now: u32,
     /// By the threads' ids, who is killed or doomed.
     pub dead: &'a [bool; IDS],
-    /// Every reply is asked for, and not those alone that come.
-    pub all: bool,
 }
 
 fn step_of(state: &State, call: &Pending, now: u32, operation: Operation, reply: Reply) -> Step {
@@ -102,12 +100,12 @@ fn follow_owner(
 }
 
 /// Whether the call may be the next that takes a free mutex.
-fn is_next(state: &State, call: &Pending, outlook: &Outlook, all: bool) -> bool {
+fn is_next(state: &State, call: &Pending, outlook: &Outlook) -> bool {
     match call.fate.end {
         End::Returns(reply) => {
             outlook.next == Some(call.thread) && (reply == Reply::EOWNERDEAD) == state.inconsistent
         }
-        End::Open => all || (outlook.open == Some(call.thread) && outlook.by == NEVER),
+        End::Open => outlook.open == Some(call.thread) && outlook.by == NEVER,
         End::Killed => call.fate.at <= outlook.by,
         End::Doomed => true,
     }
@@ -163,7 +161,7 @@ fn follow_free(
             return Ok(());
         };
         if call.operation != Operation::Reinit {
-            if !is_next(state, &call, outlook, moment.all) {
+            if !is_next(state, &call, outlook) {
                 continue;
             }
             if call.fate.end == End::Doomed && call.fate.gone == NEVER && call.doomed {
@@ -182,7 +180,7 @@ fn follow_free(
 
 /// Adds every state that calls and deaths may lead to at this moment. Where one is left, its way is decided.
 pub fn close(contended: &mut Contended, alloc: Global, moment: &Moment) -> Result<(), Stop> {
-    let outlook = look_ahead(&contended.pending, moment.all);
+    let outlook = look_ahead(&contended.pending);
     forget(&mut contended.states, &outlook);
     let known = contended.states.len();
     for at in 0..usize::MAX {

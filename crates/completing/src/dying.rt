@@ -2,7 +2,7 @@
 
 use crate::lives::Turn;
 use crate::pass::Pass;
-use crate::stop::{OutOfTurn, Stop, out_of_turn, place};
+use crate::stop::{Stop, place};
 use lockword::Tid;
 
 impl Pass {
@@ -53,7 +53,7 @@ impl Pass {
 
     pub(crate) fn die(&mut self, thread: Tid, doomed: bool) -> Result<(), Stop> {
         if self.dead[place(thread)] {
-            return Err(out_of_turn(OutOfTurn::Dead));
+            return Err(Stop::Refused);
         }
         self.dead[place(thread)] = true;
         let calls = self.cut(thread, doomed)?;
@@ -70,10 +70,10 @@ impl Pass {
 
     pub(crate) fn reap(&mut self, thread: Tid) -> Result<(), Stop> {
         if self.turn(thread) == Turn::Reaped {
-            return Err(out_of_turn(OutOfTurn::Reaped));
+            return Err(Stop::Refused);
         }
         if !self.dead[place(thread)] {
-            return Err(out_of_turn(OutOfTurn::Alive));
+            return Err(Stop::Refused);
         }
         self.set_turn(thread, Turn::Reaped);
         for at in 0..usize::MAX {
@@ -104,7 +104,7 @@ impl Pass {
 
     pub(crate) fn renew(&mut self, thread: Tid) -> Result<(), Stop> {
         if self.turn(thread) != Turn::Reaped {
-            return Err(out_of_turn(OutOfTurn::NotReaped));
+            return Err(Stop::Refused);
         }
         self.dead[place(thread)] = false;
         self.set_turn(thread, Turn::Resting);

@@ -1,7 +1,7 @@
 //! Completing histories: a search for the points, deaths and kills that a history doesn't tell.
 //!
 //! A [`Pass`] takes a history's lines one by one. For each mutex it keeps every state that some order of the calls so
-//! far leads to; a line that none of them allows is refused, with the reason. Where one state is left, the way to it is
+//! far leads to; a line that none of them allows is refused. Where one state is left, the way to it is
 //! decided. [`weave`] puts the ways of all mutexes together: the steps of a trace that shows the history, which whoever
 //! wants to be sure has certified (`certificates`). What a pass may look at is what becomes of calls in the lines that
 //! it was made for: so whether the first lines of a history are refused is asked of a pass over these alone.
@@ -16,7 +16,7 @@
 //! and on `lockword`, for thread ids and replies.
 //!
 //! ```text
-//! let mut pass = Pass::new(rt.alloc(), &head, &lines, false)?;
+//! let mut pass = Pass::new(rt.alloc(), &head, &lines)?;
 //! for line in &lines {
 //!     pass.take(&line.entry)?;
 //! }
@@ -40,5 +40,5 @@ mod weaving;
 
 pub use deaths::has_dooms;
 pub use pass::Pass;
-pub use stop::{OutOfTurn, Refusal, Stop};
+pub use stop::Stop;
 pub use weaving::weave;

@@ -6,7 +6,7 @@ use crate::fates::{Fate, fates};
 use crate::lives::{Life, Turn};
 use crate::pending::Pending;
 use crate::replies::{allows, only_looks, told_as};
-use crate::stop::{IDS, OutOfTurn, Refusal, Stop, keep, out_of_turn, place};
+use crate::stop::{IDS, Stop, keep, place};
 use facts::{Begun, Fact};
 use histories::{Entry, Head, HistoryLine};
 use lockword::{Reply, Tid};
@@ -34,12 +34,11 @@ pub struct Pass {
     pub(crate) looks: Vec<Look>,
     fates: Vec<Fate>,
     now: u32,
-    all: bool,
 }
 
 impl Pass {
-    /// Before the first of these lines. Where all replies are asked for, any may come; else those that come there.
-    pub fn new(alloc: Global, head: &Head, lines: &[HistoryLine], all: bool) -> Result<Pass, Stop> {
+    /// Before the first of these lines.
+    pub fn new(alloc: Global, head: &Head, lines: &[HistoryLine]) -> Result<Pass, Stop> {
         let mut mutexes = Vec::new(alloc);
         for _ in 0..head.mutexes {
             push_mutex(&mut mutexes, Contended::new(alloc)?)?;
@@ -56,7 +55,6 @@ impl Pass {
             looks: Vec::new(alloc),
             fates: fates(alloc, lines)?,
             now: 0,
-            all,
         })
     }
 
@@ -86,7 +84,6 @@ impl Pass {
         let moment = Moment {
             now: self.now,
             dead: &self.dead,
-            all: self.all,
         };
         let alloc = self.alloc;
         match self.mutexes.get_mut(usize::from(mutex)) {
@@ -96,11 +93,8 @@ impl Pass {
     }
 
     fn begin(&mut self, thread: Tid, begun: Begun) -> Result<(), Stop> {
-        match self.turn(thread) {
-            Turn::Resting => {}
-            Turn::Calling(_) => return Err(out_of_turn(OutOfTurn::InCall)),
-            Turn::Dying => return Err(out_of_turn(OutOfTurn::Dead)),
-            Turn::Reaped => return Err(out_of_turn(OutOfTurn::Reaped)),
+        if self.turn(thread) != Turn::Resting {
+            return Err(Stop::Refused);
         }
         let (owned, full) = self.owns(thread, begun.mutex);
         let fate = match self.fates.get((self.now as usize).wrapping_sub(1)) {
@@ -148,14 +142,11 @@ impl Pass {
     }
 
     fn return_from(&mut self, thread: Tid, reply: Reply) -> Result<(), Stop> {
-        let mutex = match self.turn(thread) {
-            Turn::Calling(mutex) => mutex,
-            Turn::Resting => return Err(out_of_turn(OutOfTurn::NoCall)),
-            Turn::Dying => return Err(out_of_turn(OutOfTurn::Dead)),
-            Turn::Reaped => return Err(out_of_turn(OutOfTurn::Reaped)),
+        let Turn::Calling(mutex) = self.turn(thread) else {
+            return Err(Stop::Refused);
         };
         if self.dead[place(thread)] {
-            return Err(out_of_turn(OutOfTurn::Dead));
+            return Err(Stop::Refused);
         }
         let Some(contended) = self.mutexes.get_mut(usize::from(mutex)) else {
             return Err(Stop::Lost);
@@ -165,12 +156,7 @@ impl Pass {
         };
         contended.states.retain(|state| allows(&call, reply, state));
         if contended.states.is_empty() {
-            return Err(Stop::Refused(Refusal::NoOrder {
-                operation: call.operation,
-                mutex,
-                reply,
-                begin: call.begin,
-            }));
+            return Err(Stop::Refused);
         }
         contended.end(at, &call);
         contended.merge(self.alloc)?;

@@ -163,8 +163,8 @@ fn looks(outlook: &mut Outlook, call: &Pending) {
     }
 }
 
-/// What is to be looked at; where all replies are asked for, each call may ask for each moment.
-pub fn look_ahead(pending: &[Pending], all: bool) -> Outlook {
+/// What is to be looked at.
+pub fn look_ahead(pending: &[Pending]) -> Outlook {
     let mut outlook = Outlook {
         held: NEVER,
         free: NEVER,
@@ -178,11 +178,6 @@ pub fn look_ahead(pending: &[Pending], all: bool) -> Outlook {
             continue;
         }
         looks(&mut outlook, call);
-        if all {
-            outlook.held = outlook.held.min(call.begin);
-            outlook.free = outlook.free.min(call.begin);
-            outlook.spoiled = outlook.spoiled.min(call.begin);
-        }
     }
     outlook
 }

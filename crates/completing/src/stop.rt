@@ -3,40 +3,8 @@
 ghost use Rattle.std.specs.Prelude.{◌<◌, ◌+◌};
 ghost use Rattle.lockword.specs.Threads.{most_threads};
 
-use lockword::{MOST_THREADS, Reply, Tid};
-use posixmutex::Operation;
+use lockword::{MOST_THREADS, Tid};
 use std::alloc::AllocError;
-
-/// Why a thread's line may not stand where it does, whatever its mutex.
-#[derive(Clone, Copy, Debug, PartialEq, Eq)]
-pub enum OutOfTurn {
-    /// It begins a call, and is in one.
-    InCall,
-    /// It returns, and is in no call.
-    NoCall,
-    /// It was killed, or is doomed, and tells nothing more.
-    Dead,
-    /// It was reaped, and lives again only by its renewal.
-    Reaped,
-    /// It is reaped, and nothing told that it dies.
-    Alive,
-    /// It is renewed, and wasn't reaped.
-    NotReaped,
-}
-
-/// Why no order of the calls explains a line.
-#[derive(Clone, Copy, Debug, PartialEq, Eq)]
-pub enum Refusal {
-    OutOfTurn(OutOfTurn),
-    /// The call may not return so.
-    NoOrder {
-        operation: Operation,
-        mutex: u16,
-        reply: Reply,
-        /// The line of the history at which the call began, counted from 1.
-        begin: u32,
-    },
-}
 
 /// Why a search ends.
 #[derive(Clone, Copy)]
@@ -45,7 +13,8 @@ pub enum Stop {
     Memory,
     /// It doesn't know.
     Lost,
-    Refused(Refusal),
+    /// No order of the calls explains the line, or its thread can't have it there.
+    Refused,
 }
 
 impl From<AllocError> for Stop {
@@ -60,11 +29,6 @@ pub fn keep<T: Copy>(values: &mut Vec<T>, value: T) -> Result<(), Stop> {
         Ok(()) => Ok(()),
         Err(_) => Err(Stop::Memory),
     }
-}
-
-/// That a thread's line may not stand there.
-pub fn out_of_turn(why: OutOfTurn) -> Stop {
-    Stop::Refused(Refusal::OutOfTurn(why))
 }
 
 /// How many places there are where things are kept by threads' ids: 0 is no thread's.

@@ -207,7 +207,7 @@ fn smallest_histories(rt: HostRuntime) {
 /// How many steps are woven of a history; and whether it has dooms.
 fn woven(alloc: Global, text: &str) -> Option<(usize, bool)> {
     let history = hear(alloc, text)?;
-    let mut pass = Pass::new(alloc, &history.head, &history.lines, false).ok()?;
+    let mut pass = Pass::new(alloc, &history.head, &history.lines).ok()?;
     for line in &history.lines {
         pass.take(&line.entry).ok()?;
     }

@@ -12,7 +12,7 @@ use std::alloc::Global;
 
 /// A pass over these lines; or the reason why none is.
 pub fn pass_over(alloc: Global, head: &Head, lines: &[HistoryLine]) -> Result<Pass, Stop> {
-    let mut pass = Pass::new(alloc, head, lines, false)?;
+    let mut pass = Pass::new(alloc, head, lines)?;
     for line in lines {
         pass.take(&line.entry)?;
     }

@@ -89,7 +89,7 @@ fn first_refused(
 
 /// How far a pass over all lines comes.
 fn reach(alloc: Global, head: &Head, lines: &[HistoryLine]) -> Result<usize, Stop> {
-    let mut pass = Pass::new(alloc, head, lines, false)?;
+    let mut pass = Pass::new(alloc, head, lines)?;
     for (at, line) in lines.iter().enumerate() {
         match pass.take(&line.entry) {
             Ok(()) => {}
