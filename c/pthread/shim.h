@@ -34,7 +34,7 @@ struct table {
     pthread_mutex_t lock;
     _Atomic uint32_t banks;
     uint32_t unused[2 * BANKS]; /* by words of ids, which each bank has itself: `path` stays where this format has it */
-    char path[PATHS]; /* of the object */
+    char path[PATHS];           /* of the object */
 };
 _Static_assert(sizeof(struct table) <= PAGE, "a page");
 
@@ -114,13 +114,13 @@ static inline int sh_borrow(pz *p, const struct limit *limit)
     return __builtin_expect(pz_self[p->number].id != 0, 1) ? 0 : sh_borrow_slowly(p, limit);
 }
 int sh_owns_any(void);
-/* At the end of a call. (The companion stays mapped meanwhile: it isn't let go before the thread has given its id back.)
+/* At the end of a call. (The companion stays mapped meanwhile: it isn't let go before the thread has given its id
+ * back.)
  */
 static inline void sh_give(pz *p)
 {
     struct self *self = &pz_self[p->number];
-    if (!self->held && self->id &&
-        (self->id > KEPT || atomic_load_explicit(&p->header->wanted, memory_order_relaxed)))
+    if (!self->held && self->id && (self->id > KEPT || atomic_load_explicit(&p->header->wanted, memory_order_relaxed)))
         pz_give_back(p);
 }
 

@@ -116,7 +116,8 @@ static void give_to_all(void)
 /* Whether it had a mutex. (A trylock waits for no id.) */
 static int had_one(unsigned mutexes, unsigned *random)
 {
-    unsigned m = (unsigned)rand_r(random) % mutexes, n = m + 1 < mutexes ? m + 1 : m, how = (unsigned)rand_r(random) % 4;
+    unsigned m = (unsigned)rand_r(random) % mutexes, n = m + 1 < mutexes ? m + 1 : m,
+             how = (unsigned)rand_r(random) % 4;
     int r = how < 2 ? pz_mutex_lock(p, m) : how == 2 ? pz_mutex_trylock(p, m) : lock_until(m, random);
     if (r == EBUSY || r == ETIMEDOUT || (r == EAGAIN && how == 2 && is_crowd && !pz_thread_id(p)))
         return 0;

@@ -1,6 +1,6 @@
 /* All ids of a file are had, and more threads come: each that owns nothing waits until one is given back, or its owner
- * dies, or its limit comes; and who doesn't wait is told so at once. Processes do what they are told to. Polling is off,
- * so one that isn't told of an id sleeps for good, and makes no system call meanwhile. */
+ * dies, or its limit comes; and who doesn't wait is told so at once. Processes do what they are told to. Polling is
+ * off, so one that isn't told of an id sleeps for good, and makes no system call meanwhile. */
 #include "driver.h"
 #include "times.h"
 #include <pthread.h>
@@ -115,6 +115,7 @@ static void comes_and_waits(int i, enum order what)
 /* A file of its own, and 64 that have its ids, in their order. */
 static void begin(void)
 {
+    alarm(100);
     p = open_new();
     part = shared(ALL * sizeof *part);
     memset(process, 0, sizeof process);
@@ -396,7 +397,6 @@ static void one_closes_beside_its_thread(void)
 
 int main(void)
 {
-    alarm(100);
     for (enum order call = BEGIN; call <= UNTIL_FAR; call++)
         for (int dies = 0; dies < 2; dies++)
             it_waits(call, dies);
