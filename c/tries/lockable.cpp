@@ -62,7 +62,7 @@ static void until_asleep(pid_t it)
     std::snprintf(path, sizeof path, "/proc/%d/stat", static_cast<int>(it));
     for (int quiet = 0; quiet < 20; quiet = state == 'S' ? quiet + 1 : 0) {
         std::FILE *f = std::fopen(path, "r");
-        CHECK(f && std::fscanf(f, "%*d %*[^)]) %c", &state) == 1);
+        CHECK(f && std::fscanf(f, "%*d %*[^)]) %c", &state) == 1 && state != 'Z');
         std::fclose(f);
         usleep(500);
     }
@@ -135,16 +135,17 @@ static void one_that_lives_is_waited_for()
 using namespace std::chrono_literals;
 using std::chrono::steady_clock, std::chrono::system_clock;
 
-/* It goes at half the pace. */
-struct half_clock {
+/* It stands still but for a millisecond at each look. */
+struct looks_clock {
     using duration = std::chrono::milliseconds;
     using rep = duration::rep;
     using period = duration::period;
-    using time_point = std::chrono::time_point<half_clock>;
+    using time_point = std::chrono::time_point<looks_clock>;
     static constexpr bool is_steady = true;
     static time_point now()
     {
-        return time_point(std::chrono::duration_cast<duration>(steady_clock::now().time_since_epoch() / 2));
+        static int looks;
+        return time_point(duration(++looks));
     }
 };
 
@@ -170,13 +171,13 @@ static void a_time_comes()
         CHECK(!other.owns_lock() && !other.try_lock_until(system_clock::now()) && !other.try_lock_for(1us));
         comes_by<steady_clock>(m);
         comes_by<system_clock>(m);
-        comes_by<half_clock>(m);
+        comes_by<looks_clock>(m);
     }));
     CHECK(thrown([&] { m.try_lock_for(1h); }) == EDEADLK);
     lock.unlock();
     CHECK(lock.try_lock_for(-1s));
     lock.unlock();
-    CHECK(lock.try_lock_until(half_clock::time_point::min()));
+    CHECK(lock.try_lock_until(looks_clock::time_point::min()));
 }
 
 /* Of one that is far away, however it is said: an owner dies before. */
@@ -210,7 +211,7 @@ static void before_a_time_a_dead_ones_is_repaired()
     far_away([](auto &m) { return m.try_lock_for(std::chrono::duration<double>(1e300)); });
     far_away([](auto &m) { return m.try_lock_until(steady_clock::time_point::max()); });
     far_away([](auto &m) { return m.try_lock_until(system_clock::time_point::max()); });
-    far_away([](auto &m) { return m.try_lock_until(half_clock::now() + 1000h); });
+    far_away([](auto &m) { return m.try_lock_until(looks_clock::now() + 1000h); });
     pazdrig::file f = a_file();
     pazdrig::mutex m(f, 0, [] { throw std::domain_error("beyond repair"); });
     dies_amid_a_change(f);
