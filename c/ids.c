@@ -1,15 +1,15 @@
 /* Who finds no id sleeps until one is free. Whoever frees one, as it leaves, gives its own back, or has reaped a dead
- * thread, wakes one of those who wait.
+ * thread, wakes one of those who wait. (Whether a thread may wait is for its caller to say: calls.c, pthread/ids.c.)
  *
  * **Nobody sleeps beside an id that is free.** Who waits notes `freed`, sets `wanted`, and then looks at each token.
  * Who frees an id changes its token, and then looks at `wanted`. (That is an exchange by the C library, which no later
  * load overtakes; the words here are sequentially consistent.) So the one finds the id, or the other that it is wanted,
  * and then `freed` changes before the sleep, or wakes from it. At a death the kernel wakes who watches the token.
  *
- * **One wake is made for each id.** `wanted` is cleared before it, so that of two who free ids at once each wakes one
- * or finds that the other does; it is set again where somebody was woken, as others may wait behind that one. Who is
- * woken and has an id wakes the next, as somebody may have been killed before his wake. One that is woken and killed
- * leaves the rest to a look, each PZ_POLL_S. */
+ * **Who was woken and has an id wakes the next.** `wanted` is cleared before a wake, so who frees another id meanwhile
+ * wakes nobody, and who frees one may be killed before its wake. It is set again where somebody was woken, as others
+ * may wait behind that one. Who is woken and killed leaves the rest to the next id that is freed, or to a look, each
+ * PZ_POLL_S. */
 #include "driver.h"
 #include <errno.h>
 #include <linux/futex.h>

@@ -114,9 +114,7 @@ static inline int sh_borrow(pz *p, const struct limit *limit)
     return __builtin_expect(pz_self[p->number].id != 0, 1) ? 0 : sh_borrow_slowly(p, limit);
 }
 int sh_owns_any(void);
-/* At the end of a call. (The companion stays mapped meanwhile: it isn't let go before the thread has given its id
- * back.)
- */
+/* At the end of a call. (The companion stays mapped until the thread has given its id back.) */
 static inline void sh_give(pz *p)
 {
     struct self *self = &pz_self[p->number];

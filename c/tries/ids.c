@@ -160,27 +160,21 @@ static void it_waits(enum order first_call, int dies)
     end();
 }
 
-/* Those who sleep on a mutex of its owner watch its token, and come before: so one of them is told by that. */
-static void one_leaves_beside_sleepers(void)
+/* Those who sleep on a mutex of its owner watch its token, and came before: so they are told by that, and one that
+ * waits for an id by who leaves, or by who reaps. */
+static void beside_sleepers(int dies)
 {
     begin();
     SAME(tell(0, LOCK, 0), 0);
-    for (int i = IDS - 2; i < IDS; i++)
+    for (int i = IDS - (dies ? 3 : 2); i < IDS; i++)
         sleeps_in(i, LOCK, 0);
     comes_and_waits(IDS, BEGIN);
-    SAME(tell(0, UNLOCK, 0), 0);
-    SAME(tell(0, LEAVE, 0), 0);
-    has_an_id(IDS, 1);
-    end();
-}
-static void one_dies_beside_sleepers(void)
-{
-    begin();
-    SAME(tell(0, LOCK, 0), 0);
-    for (int i = IDS - 3; i < IDS; i++)
-        sleeps_in(i, LOCK, 0);
-    comes_and_waits(IDS, BEGIN);
-    is_killed(0);
+    if (dies)
+        is_killed(0);
+    else {
+        SAME(tell(0, UNLOCK, 0), 0);
+        SAME(tell(0, LEAVE, 0), 0);
+    }
     has_an_id(IDS, 1);
     end();
 }
@@ -400,8 +394,8 @@ int main(void)
     for (enum order call = BEGIN; call <= UNTIL_FAR; call++)
         for (int dies = 0; dies < 2; dies++)
             it_waits(call, dies);
-    one_leaves_beside_sleepers();
-    one_dies_beside_sleepers();
+    beside_sleepers(0);
+    beside_sleepers(1);
     a_waiter_keeps_its_id();
     who_does_not_wait();
     who_takes_part_elsewhere(0);

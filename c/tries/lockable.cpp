@@ -68,8 +68,8 @@ static void until_asleep(pid_t it)
     }
 }
 
-/* An owner is killed amid a change: having told waiters, where it is asked to. */
-static void dies_amid_a_change(const pazdrig::file &f, bool broadcasts = false)
+/* An owner amid a change, having told waiters where it is asked to. */
+static pid_t amid_a_change(const pazdrig::file &f, bool broadcasts = false)
 {
     counter &c = f.as<counter>();
     __atomic_store_n(&c.is_locked, 0, __ATOMIC_SEQ_CST);
@@ -84,7 +84,12 @@ static void dies_amid_a_change(const pazdrig::file &f, bool broadcasts = false)
     });
     while (!__atomic_load_n(&c.is_locked, __ATOMIC_SEQ_CST))
         usleep(100);
-    CHECK(kill(it, SIGKILL) == 0 && waitpid(it, nullptr, 0) == it);
+    return it;
+}
+static void is_killed(pid_t it) { CHECK(kill(it, SIGKILL) == 0 && waitpid(it, nullptr, 0) == it); }
+static void dies_amid_a_change(const pazdrig::file &f, bool broadcasts = false)
+{
+    is_killed(amid_a_change(f, broadcasts));
 }
 
 /* The number of what is thrown, or 0. */
@@ -185,23 +190,14 @@ template <class Try> static void far_away(Try has_it)
 {
     pazdrig::file f = a_file();
     counter &c = f.as<counter>();
-    pid_t owner = child([&] {
-        CHECK(pz_mutex_lock(f.get(), 0) == 0);
-        c.count++;
-        __atomic_store_n(&c.is_locked, 1, __ATOMIC_SEQ_CST);
-        for (;;)
-            pause();
-    });
-    while (!__atomic_load_n(&c.is_locked, __ATOMIC_SEQ_CST))
-        usleep(100);
-    pid_t it = child([&] {
-        int repairs = 0;
-        pazdrig::mutex m(f, 0, [&] { c.copy = c.count, repairs++; });
-        CHECK(has_it(m) && m.is_mine() && repairs == 1 && c.copy == 1);
-        m.unlock();
-    });
+    pid_t owner = amid_a_change(f), it = child([&] {
+                                        int repairs = 0;
+                                        pazdrig::mutex m(f, 0, [&] { c.copy = c.count, repairs++; });
+                                        CHECK(has_it(m) && m.is_mine() && repairs == 1 && c.copy == 1);
+                                        m.unlock();
+                                    });
     until_asleep(it);
-    CHECK(kill(owner, SIGKILL) == 0 && waitpid(owner, nullptr, 0) == owner);
+    is_killed(owner);
     ends_well(it);
 }
 

@@ -162,7 +162,7 @@ class File:
         return _library.pz_reap(self._file)
 
     def begin_thread(self):
-        """The calling thread takes part from here. Its first call does this by itself."""
+        """The calling thread takes part from here: it waits while 64 others do. Its first call does this by itself."""
         _check("pz_thread_begin", _library.pz_thread_begin(self._file))
 
     def end_thread(self):
