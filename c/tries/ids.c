@@ -234,6 +234,39 @@ static void who_takes_part_elsewhere(int owns)
     end();
 }
 
+/* Two files, in one order by half of those who come and in the other by the rest: all ids of each are had by those who
+ * want one of the other's. Who is told EAGAIN leaves, and comes again. */
+static _Noreturn void takes_part_in_both(pz *const file[2], int first, _Atomic int had[2])
+{
+    int r;
+    do {
+        SAME(pz_thread_begin(file[first]), 0);
+        for (atomic_fetch_add(&had[first], 1); atomic_load(&had[0]) < IDS || atomic_load(&had[1]) < IDS;)
+            rest(1000);
+        r = pz_mutex_lock(file[!first], 0);
+        CHECK(r == EAGAIN || (r == 0 && pz_mutex_unlock(file[!first], 0) == 0));
+        SAME(pz_thread_end(file[first]), 0);
+    } while (r);
+    _exit(0);
+}
+
+static void two_files_in_two_orders(void)
+{
+    enum { EACH = IDS + 6 };
+    pz *const file[2] = {open_new(), open_new()};
+    pid_t it[2 * EACH];
+    _Atomic int *had = shared(2 * sizeof *had);
+    alarm(100);
+    for (int i = 0; i < 2 * EACH; i++)
+        if (!(it[i] = a_child()))
+            takes_part_in_both(file, i % 2, had);
+    for (int i = 0; i < 2 * EACH; i++)
+        ends_well(it[i]);
+    munmap(had, 2 * sizeof *had);
+    pz_close(file[0]);
+    pz_close(file[1]);
+}
+
 /* ---- A limit. */
 
 static int locks_until(clockid_t clock, const struct timespec *until)
@@ -400,6 +433,7 @@ int main(void)
     who_does_not_wait();
     who_takes_part_elsewhere(0);
     who_takes_part_elsewhere(1);
+    two_files_in_two_orders();
     limits();
     one_is_interrupted();
     a_hundred_wait();

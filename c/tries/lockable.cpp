@@ -190,12 +190,13 @@ template <class Try> static void far_away(Try has_it)
 {
     pazdrig::file f = a_file();
     counter &c = f.as<counter>();
-    pid_t owner = amid_a_change(f), it = child([&] {
-                                        int repairs = 0;
-                                        pazdrig::mutex m(f, 0, [&] { c.copy = c.count, repairs++; });
-                                        CHECK(has_it(m) && m.is_mine() && repairs == 1 && c.copy == 1);
-                                        m.unlock();
-                                    });
+    pid_t owner = amid_a_change(f);
+    pid_t it = child([&] {
+        int repairs = 0;
+        pazdrig::mutex m(f, 0, [&] { c.copy = c.count, repairs++; });
+        CHECK(has_it(m) && m.is_mine() && repairs == 1 && c.copy == 1);
+        m.unlock();
+    });
     until_asleep(it);
     is_killed(owner);
     ends_well(it);
