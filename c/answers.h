@@ -24,7 +24,8 @@ static const struct {
     {"pz_open_fd", EFBIG, "there is no room for all of it, which is taken here: so no later store meets a full disk"},
     {"pz_open_fd", ENOMEM, "no memory, or no room to map it"},
     {"pz_thread_begin", EBUSY, "it takes part already"},
-    {"pz_thread_begin", EAGAIN, "64 threads take part; dead ones count while somebody goes over what they owned"},
+    {"pz_thread_begin", EAGAIN, "64 threads take part (dead ones too, while somebody goes over what they owned), and "
+     "the caller takes part in another file"},
     {"pz_thread_begin", ENOMEM, "pthread_setspecific(3) has no memory; or the process has no pthread_key_create(3) "
      "key left, so then for all its threads and for good"},
     {"pz_thread_end", EPERM, "it doesn't take part"},
@@ -35,7 +36,7 @@ static const struct {
      "before pz_mutex_reinit"},
     {"pz_mutex_lock", EDEADLK, "it owns the mutex already"},
     {"pz_mutex_lock", EAGAIN, "it holds 2,048 mutexes of this file already, even if this is one of them; or it is "
-     "the thread's first call, and 64 threads take part already (pz_thread_begin); nothing was done"},
+     "the thread's first call, no id is free, and it doesn't wait for one (pz_thread_begin); nothing was done"},
     {"pz_mutex_lock", EINVAL, "there is no such mutex or condition variable; nothing was done; or somebody wrote "
      "stray values into the library's words, and the call was stopped there: nobody knows who owns what, so end all "
      "who use the file and delete it"},
@@ -50,7 +51,7 @@ static const struct {
      "again before pz_mutex_reinit"},
     {"pz_mutex_trylock", EBUSY, "a thread that lives owns it, even if that is the caller"},
     {"pz_mutex_trylock", EAGAIN, "it holds 2,048 mutexes of this file already, even if this is one of them; or it is "
-     "the thread's first call, and 64 threads take part already (pz_thread_begin); nothing was done"},
+     "the thread's first call, no id is free, and it doesn't wait for one (pz_thread_begin); nothing was done"},
     {"pz_mutex_trylock", EINVAL, "there is no such mutex or condition variable; nothing was done; or somebody wrote "
      "stray values into the library's words, and the call was stopped there: nobody knows who owns what, so end all "
      "who use the file and delete it"},
@@ -65,13 +66,13 @@ static const struct {
      "again before pz_mutex_reinit"},
     {"pz_mutex_timedlock", EDEADLK, "it owns the mutex already"},
     {"pz_mutex_timedlock", ETIMEDOUT, "the time has come, and another thread owns it, which lives, or died and is "
-     "being cleaned up after"},
+     "being cleaned up after; or it is the thread's first call, and no id was free by then"},
     {"pz_mutex_timedlock", EINVAL, "it would have to wait, and tv_nsec isn't 0 to 999,999,999; or the clock is "
      "neither CLOCK_REALTIME nor CLOCK_MONOTONIC; or there is no such mutex or condition variable; nothing was done; "
      "or somebody wrote stray values into the library's words, and the call was stopped there: nobody knows who owns "
      "what, so end all who use the file and delete it"},
     {"pz_mutex_timedlock", EAGAIN, "it holds 2,048 mutexes of this file already, even if this is one of them; or it "
-     "is the thread's first call, and 64 threads take part already (pz_thread_begin); nothing was done"},
+     "is the thread's first call, no id is free, and it doesn't wait for one (pz_thread_begin); nothing was done"},
     {"pz_mutex_timedlock", ENOMEM, "it is the thread's first call, and there is no room to take part "
      "(pz_thread_begin); nothing was done"},
     {"pz_mutex_timedlock", EFAULT, "somebody wrote stray values into the library's words, and the call was stopped "
@@ -83,26 +84,24 @@ static const struct {
      "again before pz_mutex_reinit"},
     {"pz_mutex_clocklock", EDEADLK, "it owns the mutex already"},
     {"pz_mutex_clocklock", ETIMEDOUT, "the time has come, and another thread owns it, which lives, or died and is "
-     "being cleaned up after"},
+     "being cleaned up after; or it is the thread's first call, and no id was free by then"},
     {"pz_mutex_clocklock", EINVAL, "it would have to wait, and tv_nsec isn't 0 to 999,999,999; or the clock is "
      "neither CLOCK_REALTIME nor CLOCK_MONOTONIC; or there is no such mutex or condition variable; nothing was done; "
      "or somebody wrote stray values into the library's words, and the call was stopped there: nobody knows who owns "
      "what, so end all who use the file and delete it"},
     {"pz_mutex_clocklock", EAGAIN, "it holds 2,048 mutexes of this file already, even if this is one of them; or it "
-     "is the thread's first call, and 64 threads take part already (pz_thread_begin); nothing was done"},
+     "is the thread's first call, no id is free, and it doesn't wait for one (pz_thread_begin); nothing was done"},
     {"pz_mutex_clocklock", ENOMEM, "it is the thread's first call, and there is no room to take part "
      "(pz_thread_begin); nothing was done"},
     {"pz_mutex_clocklock", EFAULT, "somebody wrote stray values into the library's words, and the call was stopped "
      "there: nobody knows who owns what, so end all who use the file and delete it"},
-    {"pz_mutex_unlock", 0, "the mutex is free. If its lock answered EOWNERDEAD and nobody called "
-     "pz_mutex_consistent, it is unusable instead, until pz_mutex_reinit: all who sleep on it are woken, and are "
-     "told ENOTRECOVERABLE if they find it so"},
+    {"pz_mutex_unlock", 0, "the mutex is free; whoever locks it next finds all that its owner stored. If its lock "
+     "answered EOWNERDEAD and nobody called pz_mutex_consistent, it is unusable instead, until pz_mutex_reinit: all "
+     "who sleep on it are woken, and are told ENOTRECOVERABLE if they find it so"},
     {"pz_mutex_unlock", EPERM, "the thread doesn't own it"},
     {"pz_mutex_unlock", EINVAL, "there is no such mutex or condition variable; nothing was done; or somebody wrote "
      "stray values into the library's words, and the call was stopped there: nobody knows who owns what, so end all "
      "who use the file and delete it"},
-    {"pz_mutex_unlock", EAGAIN, "it is the thread's first call, and 64 threads take part already (pz_thread_begin); "
-     "nothing was done"},
     {"pz_mutex_unlock", ENOMEM, "it is the thread's first call, and there is no room to take part (pz_thread_begin); "
      "nothing was done"},
     {"pz_mutex_unlock", EFAULT, "somebody wrote stray values into the library's words, and the call was stopped "
@@ -112,8 +111,6 @@ static const struct {
     {"pz_mutex_consistent", EINVAL, "it owns the mutex, and nothing was to be repaired; or there is no such mutex or "
      "condition variable; nothing was done; or somebody wrote stray values into the library's words, and the call "
      "was stopped there: nobody knows who owns what, so end all who use the file and delete it"},
-    {"pz_mutex_consistent", EAGAIN, "it is the thread's first call, and 64 threads take part already "
-     "(pz_thread_begin); nothing was done"},
     {"pz_mutex_consistent", ENOMEM, "it is the thread's first call, and there is no room to take part "
      "(pz_thread_begin); nothing was done"},
     {"pz_mutex_consistent", EFAULT, "somebody wrote stray values into the library's words, and the call was stopped "
@@ -124,8 +121,8 @@ static const struct {
      "unusable just now, or another thread is cleaning up after one that died asleep on it: try again; or rarely "
      "though nobody sleeps on it: a waiter was killed in the middle of a broadcast, and its id was used again. That "
      "ends once the id's new thread sleeps on this mutex, waits on a condition variable of it, or leaves"},
-    {"pz_mutex_reinit", EAGAIN, "it isn't unusable, and the thread holds 2,048 mutexes of this file; or it is the "
-     "thread's first call, and 64 threads take part already (pz_thread_begin); nothing was done"},
+    {"pz_mutex_reinit", EAGAIN, "it isn't unusable, and the thread holds 2,048 mutexes of this file; or this is its "
+     "first call, and no id is free"},
     {"pz_mutex_reinit", EINVAL, "there is no such mutex or condition variable; nothing was done; or somebody wrote "
      "stray values into the library's words, and the call was stopped there: nobody knows who owns what, so end all "
      "who use the file and delete it"},
@@ -140,8 +137,6 @@ static const struct {
     {"pz_cond_wait", EINVAL, "the mutex is to be declared consistent first: the thread still owns it; or there is no "
      "such mutex or condition variable; nothing was done; or somebody wrote stray values into the library's words, "
      "and the call was stopped there: nobody knows who owns what, so end all who use the file and delete it"},
-    {"pz_cond_wait", EAGAIN, "it is the thread's first call, and 64 threads take part already (pz_thread_begin); "
-     "nothing was done"},
     {"pz_cond_wait", ENOMEM, "it is the thread's first call, and there is no room to take part (pz_thread_begin); "
      "nothing was done"},
     {"pz_cond_wait", EFAULT, "somebody wrote stray values into the library's words, and the call was stopped there: "
@@ -155,8 +150,6 @@ static const struct {
     {"pz_cond_signal", EINVAL, "there is no such mutex or condition variable; nothing was done; or somebody wrote "
      "stray values into the library's words, and the call was stopped there: nobody knows who owns what, so end all "
      "who use the file and delete it"},
-    {"pz_cond_signal", EAGAIN, "it is the thread's first call, and 64 threads take part already (pz_thread_begin); "
-     "nothing was done"},
     {"pz_cond_signal", ENOMEM, "it is the thread's first call, and there is no room to take part (pz_thread_begin); "
      "nothing was done"},
     {"pz_cond_signal", EFAULT, "somebody wrote stray values into the library's words, and the call was stopped "
@@ -170,8 +163,6 @@ static const struct {
     {"pz_cond_broadcast", EINVAL, "there is no such mutex or condition variable; nothing was done; or somebody wrote "
      "stray values into the library's words, and the call was stopped there: nobody knows who owns what, so end all "
      "who use the file and delete it"},
-    {"pz_cond_broadcast", EAGAIN, "it is the thread's first call, and 64 threads take part already "
-     "(pz_thread_begin); nothing was done"},
     {"pz_cond_broadcast", ENOMEM, "it is the thread's first call, and there is no room to take part "
      "(pz_thread_begin); nothing was done"},
     {"pz_cond_broadcast", EFAULT, "somebody wrote stray values into the library's words, and the call was stopped "

@@ -76,14 +76,34 @@ static struct pz_call call_of(unsigned t, uint64_t cell)
 
 /* ---- The calls. */
 
-/* The calling thread's id, taking part if it doesn't yet. 0, and why not. */
-static unsigned self_in(pz *p, int *why)
+/* In any file. */
+static int takes_part(void)
+{
+    unsigned n = 0;
+    while (n < FILES && !pz_self[n].id)
+        n++;
+    return n < FILES;
+}
+
+/* The calling thread takes part, and waits for an id where there is none. Not if it has one of another file: others may
+ * wait for that one, or for a mutex that it owns there, and have all ids here. */
+static int begin_until(pz *p, const struct limit *limit)
+{
+    int r = pz_begin_now(p);
+    return r == EAGAIN && !takes_part() ? pz_wait_for_id(p, pz_begin_now, limit) : r;
+}
+
+/* The calling thread's id, taking part if it doesn't yet. 0, and why not. A trylock waits for nothing; and all but a
+ * lock and a trylock are its owner's, which who takes no part isn't. */
+static unsigned self_in(pz *p, unsigned operation, const struct limit *limit, int *why)
 {
     unsigned t = pz_self[p->number].id;
     if (t)
         return t;
-    *why = pz_thread_begin(p);
-    return pz_self[p->number].id;
+    *why = operation == PZ_OP_LOCK ? begin_until(p, limit) : pz_begin_now(p);
+    if (*why == EAGAIN && operation != PZ_OP_LOCK && operation != PZ_OP_TRYLOCK)
+        *why = EPERM;
+    return *why ? 0 : pz_self[p->number].id;
 }
 
 /* What its reply does to how many it holds. An unusable mutex tells of what its last owner did. */
@@ -106,7 +126,7 @@ int pz_by_steps(pz *p, unsigned m, unsigned operation, struct limit *limit)
     int why = 0;
     if (m >= p->mutexes)
         return EINVAL;
-    unsigned t = self_in(p, &why);
+    unsigned t = self_in(p, operation, limit, &why);
     if (!t)
         return why;
     int takes = operation == PZ_OP_LOCK || operation == PZ_OP_TRYLOCK;
@@ -248,7 +268,7 @@ static int has_sleepers(pz *p, uint64_t cell)
 static int is_freed(pz *p, unsigned m, uint64_t seen)
 {
     int why = 0;
-    unsigned t = PZ_TRACE ? self_in(p, &why) : 0;
+    unsigned t = PZ_TRACE ? self_in(p, PZ_OP_TRYLOCK, NULL, &why) : 0;
     (void)t;
     if (why)
         return 0;
@@ -304,7 +324,7 @@ int pz_cond_by_steps(pz *p, unsigned c, unsigned operation)
     int why = 0;
     if (c >= p->conds)
         return EINVAL;
-    unsigned t = self_in(p, &why);
+    unsigned t = self_in(p, operation, NULL, &why);
     if (!t)
         return why;
     struct pz_call call = cond_call_of(p, t, c);
@@ -361,7 +381,8 @@ static void leave_all(void *unused)
 static int no_key; /* why ends of threads can't be told */
 static void make_key(void) { no_key = pthread_key_create(&at_end, leave_all); }
 
-int pz_thread_begin(pz *p)
+/* EAGAIN: there is no id. */
+int pz_begin_now(pz *p)
 {
     if (pz_self[p->number].id)
         return EBUSY;
@@ -371,6 +392,8 @@ int pz_thread_begin(pz *p)
     int r = no_key ? ENOMEM : pthread_setspecific(at_end, p);
     return r ? r : pz_take_part(p);
 }
+
+int pz_thread_begin(pz *p) { return begin_until(p, NULL); }
 
 int pz_thread_end(pz *p)
 {

@@ -72,7 +72,11 @@ struct header {
     uint32_t mutexes, conds;
     uint64_t data, size;
     char boot[40]; /* the system that the tokens are of */
+    /* ids: somebody waits for one; how often one of those who wait was woken (ids.c). A driver of this format that
+     * doesn't know of them wakes nobody: who waits beside it looks each PZ_POLL_S. */
+    _Atomic uint32_t wanted, freed;
 };
+_Static_assert(sizeof(struct header) <= 128, "what is behind it stays where this format has it");
 
 /* An open file, of one process. */
 struct pz {
@@ -182,7 +186,7 @@ int pz_is_time(const struct timespec *t);
 long pz_left(const struct limit *limit, long most);
 uint32_t pz_sleep(pz *p, unsigned t, uint64_t at, uint32_t expected, struct limit *limit);
 void pz_awake(pz *p, unsigned t, uint64_t cell);
-int pz_sleep_for_id(pz *p, _Atomic uint32_t *given, uint32_t seen, const struct limit *limit);
+int pz_sleep_for_id(pz *p, _Atomic uint32_t *freed, uint32_t seen, const struct limit *limit);
 void pz_watch_me(pz *p);
 
 /* ---- reap.c */
@@ -194,6 +198,14 @@ int pz_take_part(pz *p);
 void pz_leave(pz *p);
 void pz_give_back(pz *p);
 uint32_t *pz_token_word(pz *p, unsigned t);
+
+/* ---- ids.c */
+void pz_ask_for_id(pz *p);
+void pz_tell_of_id(pz *p);
+int pz_wait_for_id(pz *p, int (*begin)(pz *), const struct limit *limit);
+
+/* ---- calls.c */
+int pz_begin_now(pz *p);
 
 /* ---- file.c */
 int pz_boot_id(char id[40]);

@@ -28,17 +28,19 @@ int pz_open_fd(int fd, unsigned mutexes, unsigned conds, const uint16_t *mutex_o
 void pz_close(pz *);
 void *pz_data(pz *);
 
-/* The calling thread takes part from here, till it leaves or dies: at most 64 threads at a time, else EAGAIN. EBUSY: it
- * does already. A thread's first call does this by itself, and its end leaves. */
+/* The calling thread takes part from here, till it leaves or dies. 64 threads do at a time: it waits until one of them
+ * leaves or dies; EAGAIN: not if it takes part in another file. EBUSY: it does already. A thread's first call does this
+ * by itself, and its end leaves. */
 int pz_thread_begin(pz *);
 int pz_thread_end(pz *);         /* 0; EPERM: it doesn't take part */
 unsigned pz_thread_id(pz *);     /* 1 to 64; 0: it doesn't take part */
 
-/* 0, or an errno. Each may also be EINVAL (no such number), EAGAIN or ENOMEM (the thread can't take part), and EFAULT,
- * EINVAL or EBUSY where somebody wrote stray values into the file. EOWNERDEAD: the thread owns the mutex; it repairs
- * what that guards, and calls pz_mutex_consistent. */
-int pz_mutex_lock(pz *, unsigned m);        /* EOWNERDEAD, ENOTRECOVERABLE, EDEADLK, EAGAIN (2,048 held) */
-int pz_mutex_trylock(pz *, unsigned m);     /* EOWNERDEAD, ENOTRECOVERABLE, EBUSY, EAGAIN (2,048 held) */
+/* 0, or an errno. Each may also be EINVAL (no such number), ENOMEM (the thread can't take part), and EFAULT, EINVAL or
+ * EBUSY where somebody wrote stray values into the file. EAGAIN: it holds 2,048, or it is the thread's first call, no id
+ * is free, and it doesn't wait for one. EOWNERDEAD: the thread owns the mutex; it repairs what that guards, and calls
+ * pz_mutex_consistent. */
+int pz_mutex_lock(pz *, unsigned m);        /* EOWNERDEAD, ENOTRECOVERABLE, EDEADLK, EAGAIN */
+int pz_mutex_trylock(pz *, unsigned m);     /* EOWNERDEAD, ENOTRECOVERABLE, EBUSY, EAGAIN */
 /* Up to a time, by CLOCK_REALTIME, or by that or CLOCK_MONOTONIC: as lock, and ETIMEDOUT; EINVAL: another clock, or it
  * would have to wait for what is no time. */
 int pz_mutex_timedlock(pz *, unsigned m, const struct timespec *until);

@@ -1,14 +1,16 @@
-/* pazdrig.h for C++17: a file, a mutex that std::lock_guard, std::scoped_lock and std::unique_lock take, and a
- * condition variable. Whatever isn't answered by 0 is thrown as pazdrig::error.
+/* pazdrig.h for C++17: a file, a mutex that std::lock_guard, std::scoped_lock and std::unique_lock take, also up to a
+ * time, and a condition variable. Whatever isn't answered by 0, by EBUSY of a try_lock(), or by ETIMEDOUT of a lock up
+ * to a time, is thrown as pazdrig::error.
  *
- * A mutex is made with what repairs its data. So nobody comes to data that a dead owner left: a lock(), a try_lock() or
- * a wait() that is told EOWNERDEAD repairs them and declares them consistent before it returns. A repair that throws
- * says that they can't be repaired: the mutex becomes unusable, as by an unlock in C, and the call throws what that
- * threw. */
+ * A mutex is made with what repairs its data. So nobody comes to data that a dead owner left: any lock, and a wait(),
+ * that is told EOWNERDEAD repairs them and declares them consistent before it returns. (A repair takes its time, and
+ * has no limit.) A repair that throws says that they can't be repaired: the mutex becomes unusable, as by an unlock in
+ * C, and the call throws what that threw. */
 #ifndef PAZDRIG_HPP
 #define PAZDRIG_HPP
 #include "pazdrig.h"
 #include <cerrno>
+#include <chrono>
 #include <functional>
 #include <mutex>
 #include <new>
@@ -109,12 +111,29 @@ class mutex
 
     void lock() { locked("pz_mutex_lock", pz_mutex_lock(opened, number)); }
     /* false: a thread that lives has it. */
-    bool try_lock()
+    bool try_lock() { return is_locked("pz_mutex_trylock", pz_mutex_trylock(opened, number), EBUSY); }
+    /* false: the time has come, and another thread has it. */
+    template <class Rep, class Period> bool try_lock_for(const std::chrono::duration<Rep, Period> &time)
     {
-        int answer = pz_mutex_trylock(opened, number);
-        if (answer != EBUSY)
-            locked("pz_mutex_trylock", answer);
-        return answer != EBUSY;
+        return try_lock_until(std::chrono::steady_clock::now() + in_time(time));
+    }
+    template <class Duration>
+    bool try_lock_until(const std::chrono::time_point<std::chrono::steady_clock, Duration> &time)
+    {
+        return is_locked_until(CLOCK_MONOTONIC, in_time(time.time_since_epoch()));
+    }
+    template <class Duration>
+    bool try_lock_until(const std::chrono::time_point<std::chrono::system_clock, Duration> &time)
+    {
+        return is_locked_until(CLOCK_REALTIME, in_time(time.time_since_epoch()));
+    }
+    /* By a clock of the program's own, which may go at another pace: it is looked at again. */
+    template <class Clock, class Duration> bool try_lock_until(const std::chrono::time_point<Clock, Duration> &time)
+    {
+        while (Clock::now() < time)
+            if (try_lock_for(time - Clock::now()))
+                return true;
+        return try_lock_for(std::chrono::seconds(0));
     }
     void unlock() { check("pz_mutex_unlock", pz_mutex_unlock(opened, number)); }
     /* Usable again: whoever calls it has made anew what it guards. */
@@ -124,6 +143,31 @@ class mutex
 
   private:
     friend class condition;
+
+    /* What is past is now, and what is further away than 250 years is that: the sum with a clock's time has room. It is
+     * rounded up, so that no limit comes early. */
+    template <class Rep, class Period>
+    static std::chrono::nanoseconds in_time(const std::chrono::duration<Rep, Period> &time)
+    {
+        using exact = std::chrono::duration<long double, std::nano>;
+        constexpr std::chrono::nanoseconds most = std::chrono::hours(24 * 365 * 250);
+        exact it = time;
+        return !(it < most) ? most : it < exact::zero() ? most.zero() : std::chrono::ceil<std::chrono::nanoseconds>(it);
+    }
+    bool is_locked_until(clockid_t clock, std::chrono::nanoseconds time)
+    {
+        auto seconds = std::chrono::duration_cast<std::chrono::seconds>(time);
+        timespec until = {};
+        until.tv_sec = static_cast<time_t>(seconds.count());
+        until.tv_nsec = static_cast<long>((time - seconds).count());
+        return is_locked("pz_mutex_clocklock", pz_mutex_clocklock(opened, number, clock, &until), ETIMEDOUT);
+    }
+    bool is_locked(const char *call, int answer, int otherwise)
+    {
+        if (answer != otherwise)
+            locked(call, answer);
+        return answer != otherwise;
+    }
     void locked(const char *call, int answer)
     {
         if (answer != EOWNERDEAD)

@@ -112,8 +112,10 @@ static int try_to_reap(pz *p, unsigned t)
     int r = pthread_mutex_trylock(&p->life[t].token);
     if (r == EOWNERDEAD)
         bury(p, t);
-    if (r == EOWNERDEAD || r == 0)
+    if (r == EOWNERDEAD || r == 0) {
         pthread_mutex_unlock(&p->life[t].token);
+        pz_tell_of_id(p); /* who looked for one meanwhile found this one had */
+    }
     return r;
 }
 
@@ -193,6 +195,7 @@ void pz_leave(pz *p)
     pz_walk_on(p, t);
     forget(p, t);
     pthread_mutex_unlock(&p->life[t].token);
+    pz_tell_of_id(p);
     pz_let_go(p);
 }
 
@@ -208,5 +211,6 @@ void pz_give_back(pz *p)
     PZ_TELL(pz_trace_reaped(t));
     pz_trace_unlock();
     pthread_mutex_unlock(&p->life[t].token);
+    pz_tell_of_id(p);
     pz_let_go(p);
 }

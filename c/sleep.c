@@ -282,13 +282,13 @@ void pz_awake(pz *p, unsigned t, uint64_t cell)
 /* The kernel tells who waits for an id of this thread's death. */
 void pz_watch_me(pz *p) { __atomic_fetch_or(pz_token_word(p, pz_self[p->number].id), FUTEX_WAITERS, __ATOMIC_SEQ_CST); }
 
-/* Until `given` differs, a thread that has an id dies, or its limit comes: else for PZ_POLL_S, as one that was woken
+/* Until `freed` differs, a thread that has an id dies, or its limit comes: else for PZ_POLL_S, as one that was woken
  * may be killed. Whether anything has come but a time. */
-int pz_sleep_for_id(pz *p, _Atomic uint32_t *given, uint32_t seen, const struct limit *limit)
+int pz_sleep_for_id(pz *p, _Atomic uint32_t *freed, uint32_t seen, const struct limit *limit)
 {
     static _Thread_local long look_ms = FIRST_LOOK_MS;
     struct watched all = {.n = 1};
-    all.v[0] = (struct futex_waitv){.val = seen, .uaddr = (uintptr_t)given, .flags = FUTEX_32};
+    all.v[0] = (struct futex_waitv){.val = seen, .uaddr = (uintptr_t)freed, .flags = FUTEX_32};
     for (unsigned t = 1; t <= THREADS; t++)
         if (!watch(p, t, &all))
             return 1; /* dead: its id can be had */
@@ -305,7 +305,7 @@ int pz_sleep_for_id(pz *p, _Atomic uint32_t *given, uint32_t seen, const struct 
         return error == 0 || error == EAGAIN;
     until = from_now(limit, look_ms);
     look_ms = look_ms < LAST_LOOK_MS ? 2 * look_ms : look_ms;
-    if (wait_on((uint32_t *)given, seen, clock_of(limit), &until) < 0)
+    if (wait_on((uint32_t *)freed, seen, clock_of(limit), &until) < 0)
         return errno == EAGAIN;
     look_ms = FIRST_LOOK_MS;
     return 1;

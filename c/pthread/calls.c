@@ -87,7 +87,7 @@ static int taken(const struct mutex *x, int r)
     if (r == EOWNERDEAD)
         x->bytes->count = 0;
     else if (r)
-        sh_give(x->c, x->bank, x->p);
+        sh_give(x->p);
     return r;
 }
 
@@ -104,7 +104,7 @@ static int locked_again(struct ours *o, const struct limit *limit)
 
 static int lock(struct mutex *x)
 {
-    int r = sh_borrow(x->c, x->bank, x->p, x->limit);
+    int r = sh_borrow(x->p, x->limit);
     if (r || !(r = pz_take_now(x->p, x->m, PZ_OP_LOCK, x->limit, 0)))
         return r;
     return r == EDEADLK ? locked_again(x->bytes, x->limit) : taken(x, r);
@@ -125,7 +125,7 @@ static int try(struct mutex *x)
     if (r == EAGAIN && is_owned(x))
         return EBUSY;
     if (r == EAGAIN)
-        sh_ask_for_id(x->c, x->bank);
+        pz_ask_for_id(x->p);
     while (!r) {
         r = pz_mutex_trylock(x->p, x->m);
         if (!r)
@@ -155,7 +155,7 @@ static int unlock(struct mutex *x)
     if (!pz_self[x->p->number].id)
         return EPERM;
     int r = unlock_once(x);
-    sh_give(x->c, x->bank, x->p);
+    sh_give(x->p);
     return r;
 }
 
@@ -169,7 +169,7 @@ static int release(struct mutex *x)
         return EINVAL;
     int r = unlock_once(x);
     if (!sh_owns_any())
-        sh_give(x->c, x->bank, x->p);
+        sh_give(x->p);
     return r;
 }
 
@@ -343,7 +343,7 @@ SHOWN int pthread_mutex_unlock(pthread_mutex_t *m)
     if (o->count || !at_hand(o, &x))
         return kept(unlock, o);
     int r = pz_give(x.p, x.m); /* from here on others may unmap its bytes */
-    sh_give(x.c, x.bank, x.p);
+    sh_give(x.p);
     return r;
 }
 

@@ -55,7 +55,7 @@ static int reinit(struct companion *c, unsigned bank, unsigned m)
     if (!p)
         return EAGAIN;
     int r = pz_mutex_reinit(p, m);
-    sh_give(c, bank, p);
+    sh_give(p);
     return r;
 }
 

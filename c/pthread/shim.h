@@ -33,11 +33,8 @@ struct table {
     uint64_t namespace; /* in which `path` is one */
     pthread_mutex_t lock;
     _Atomic uint32_t banks;
-    struct {
-        _Atomic uint32_t wanted,
-            returned; /* ids: somebody waits for one; how often one was given back to whoever waits */
-    } ids[BANKS];
-    char path[PATHS]; /* of the object */
+    uint32_t unused[2 * BANKS]; /* by words of ids, which each bank has itself: `path` stays where this format has it */
+    char path[PATHS];           /* of the object */
 };
 _Static_assert(sizeof(struct table) <= PAGE, "a page");
 
@@ -111,21 +108,18 @@ int sh_give_number(struct companion *c, struct ours *o);
 /* ---- ids.c */
 extern _Atomic unsigned sh_wishes; /* how often threads were asked to give back what they keep */
 int sh_borrow_now(pz *p);
-int sh_borrow_slowly(struct companion *c, unsigned bank, pz *p, const struct limit *limit);
-static inline int sh_borrow(struct companion *c, unsigned bank, pz *p, const struct limit *limit)
+int sh_borrow_slowly(pz *p, const struct limit *limit);
+static inline int sh_borrow(pz *p, const struct limit *limit)
 {
-    return __builtin_expect(pz_self[p->number].id != 0, 1) ? 0 : sh_borrow_slowly(c, bank, p, limit);
+    return __builtin_expect(pz_self[p->number].id != 0, 1) ? 0 : sh_borrow_slowly(p, limit);
 }
 int sh_owns_any(void);
-void sh_ask_for_id(struct companion *c, unsigned bank);
-void sh_give_back(struct companion *c, unsigned bank, pz *p);
-/* At the end of a call. */
-static inline void sh_give(struct companion *c, unsigned bank, pz *p)
+/* At the end of a call. (The companion stays mapped until the thread has given its id back.) */
+static inline void sh_give(pz *p)
 {
     struct self *self = &pz_self[p->number];
-    if (!self->held && self->id &&
-        (self->id > KEPT || atomic_load_explicit(&c->table->ids[bank].wanted, memory_order_relaxed)))
-        sh_give_back(c, bank, p);
+    if (!self->held && self->id && (self->id > KEPT || atomic_load_explicit(&p->header->wanted, memory_order_relaxed)))
+        pz_give_back(p);
 }
 
 /* ---- calls.c, for a wait on a condition variable. */

@@ -1,11 +1,12 @@
 /* Processes that lock, also with a time limit, wait, signal and are killed at random. Of each mutex the data says who
  * is inside and is written twice, so a second owner or a lost write is seen; each process has to get on, so a lost wake
- * is. usage: deaths DEATHS PROCESSES THREADS [storm] */
+ * is. In a crowd more processes come than there are ids, and leave now and then. usage: deaths DEATHS PROCESSES
+ * THREADS [storm | crowd] */
 #include "try.h"
 #include <pthread.h>
 #include <sys/time.h>
 
-enum { MUTEXES = 4, CONDS = 2, MOST = 64, QUIET_S = 60 };
+enum { FEW = 4, MUTEXES = 64, CONDS = 2, MOST = 1000, QUIET_S = 60 };
 
 struct guarded {
     _Atomic int inside;          /* the pid of who is, 0 for nobody */
@@ -22,7 +23,7 @@ struct board {
 
 static pz *p;
 static struct board *b;
-static int threads;
+static int threads, is_crowd;
 
 static void storm(int unused) { (void)unused; }
 
@@ -48,8 +49,10 @@ static void leave(unsigned m)
 {
     struct guarded *g = &b->of[m];
     g->first++;
-    for (volatile int i = 0; i < 50; i++)
+    for (volatile int i = 0; i < 50 && !is_crowd; i++)
         ;
+    if (is_crowd) /* many are killed here, and leave the processors to others */
+        rest(1000);
     g->second++;
     CHECK(atomic_exchange(&g->inside, 0) == (int)getpid());
 }
@@ -86,7 +89,7 @@ static int lock_until(unsigned m, unsigned *random)
 /* Takes an item, and waits for one where there is none; or gives one. */
 static void wait_or_give(unsigned c, unsigned *random)
 {
-    unsigned m = c % MUTEXES;
+    unsigned m = c % FEW;
     enter(m, pz_mutex_lock(p, m));
     if (rand_r(random) % 2) {
         take(c, m);
@@ -98,38 +101,53 @@ static void wait_or_give(unsigned c, unsigned *random)
     SAME(pz_mutex_unlock(p, m), 0);
 }
 
+/* To whoever waits, so that nobody waits for good. */
+static void give_to_all(void)
+{
+    for (unsigned c = 0; c < CONDS; c++) {
+        enter(c, pz_mutex_lock(p, c));
+        atomic_store(&b->items[c], 1);
+        SAME(pz_cond_broadcast(p, c), 0);
+        leave(c);
+        SAME(pz_mutex_unlock(p, c), 0);
+    }
+}
+
+/* Whether it had a mutex. (A trylock waits for no id.) */
+static int had_one(unsigned mutexes, unsigned *random)
+{
+    unsigned m = (unsigned)rand_r(random) % mutexes, n = m + 1 < mutexes ? m + 1 : m,
+             how = (unsigned)rand_r(random) % 4;
+    int r = how < 2 ? pz_mutex_lock(p, m) : how == 2 ? pz_mutex_trylock(p, m) : lock_until(m, random);
+    if (r == EBUSY || r == ETIMEDOUT || (r == EAGAIN && how == 2 && is_crowd && !pz_thread_id(p)))
+        return 0;
+    enter(m, r);
+    if (n != m && rand_r(random) % 3 == 0) {
+        enter(n, pz_mutex_lock(p, n));
+        leave(n);
+        SAME(pz_mutex_unlock(p, n), 0);
+    }
+    leave(m);
+    SAME(pz_mutex_unlock(p, m), 0);
+    return 1;
+}
+
 static void *work(void *of)
 {
     int slot = (int)(intptr_t)of;
     unsigned random = (unsigned)getpid() * 31 + (unsigned)(uintptr_t)pthread_self();
     for (;;) {
-        unsigned m = (unsigned)rand_r(&random) % MUTEXES, n = m + 1 < MUTEXES ? m + 1 : m;
-        if (rand_r(&random) % 4 == 0 && slot != 0)
+        if (!is_crowd && rand_r(&random) % 4 == 0 && slot != 0)
             wait_or_give((unsigned)rand_r(&random) % CONDS, &random);
-        else {
-            unsigned how = (unsigned)rand_r(&random) % 4;
-            int r = how < 2 ? pz_mutex_lock(p, m) : how == 2 ? pz_mutex_trylock(p, m) : lock_until(m, &random);
-            if (r == EBUSY || r == ETIMEDOUT)
-                continue;
-            enter(m, r);
-            if (n != m && rand_r(&random) % 3 == 0) {
-                enter(n, pz_mutex_lock(p, n));
-                leave(n);
-                SAME(pz_mutex_unlock(p, n), 0);
-            }
-            leave(m);
-            SAME(pz_mutex_unlock(p, m), 0);
-        }
+        else if (!had_one(is_crowd ? MUTEXES : FEW, &random))
+            continue;
         atomic_fetch_add(&b->got_on[slot], 1);
         atomic_fetch_add(&b->locks, 1);
-        if (slot == 0) /* gives to whoever waits, so that nobody waits for good */
-            for (unsigned c = 0; c < CONDS; c++) {
-                enter(c, pz_mutex_lock(p, c));
-                atomic_store(&b->items[c], 1);
-                SAME(pz_cond_broadcast(p, c), 0);
-                leave(c);
-                SAME(pz_mutex_unlock(p, c), 0);
-            }
+        if (is_crowd && rand_r(&random) % 8 == 0) {
+            SAME(pz_thread_end(p), 0);
+            rest(rand_r(&random) % 1000);
+        } else if (!is_crowd && slot == 0)
+            give_to_all();
     }
     return NULL;
 }
@@ -169,32 +187,59 @@ static void look(const pid_t *child, int n)
     }
 }
 
+/* Of a crowd every second one takes part. */
+static int who_dies(const pid_t *child, int n, int k)
+{
+    struct pz_info info;
+    unsigned t = (unsigned)rand() % PZ_THREADS + 1;
+    int i = rand() % n, of_id = 0;
+    if (!is_crowd || k % 2 || pz_info(p, &info))
+        return i;
+    while (of_id < n && child[of_id] != info.thread[t].tid)
+        of_id++;
+    return of_id < n ? of_id : i;
+}
+
+/* Each, once more. */
+static void all_get_on(const pid_t *child, int n)
+{
+    static long before[MOST];
+    for (int i = 0; i < n; i++)
+        before[i] = atomic_load(&b->got_on[i]);
+    for (int i = 0; i < n; i++)
+        for (; atomic_load(&b->got_on[i]) == before[i]; rest(1000))
+            look(child, n);
+}
+
 int main(int argc, char **argv)
 {
     int deaths = argc > 1 ? atoi(argv[1]) : 1000, n = argc > 2 ? atoi(argv[2]) : 8;
     threads = argc > 3 ? atoi(argv[3]) : 1;
     pid_t child[MOST];
     const char *path = a_file("deaths");
-    CHECK(n >= 2 && n <= MOST && n * threads <= 64);
+    is_crowd = argc > 4 && !strcmp(argv[4], "crowd");
+    CHECK(n >= 2 && n <= MOST && (is_crowd || n * threads <= 64));
     SAME(pz_open(path, 0600, MUTEXES, CONDS, NULL, sizeof *b, &p), 0);
     b = pz_data(p);
     srand(argc > 5 ? (unsigned)atoi(argv[5]) : 1);
     for (int i = 0; i < n; i++)
         child[i] = begin(i, argc > 4 && !strcmp(argv[4], "storm"));
     for (int k = 0; k < deaths; k++) {
-        int i = rand() % n;
+        int i = who_dies(child, n, k);
         rest(rand() % 1500);
         look(child, n);
         kill_and_wait(child[i]);
         child[i] = begin(i, argc > 4 && !strcmp(argv[4], "storm"));
     }
+    if (is_crowd)
+        all_get_on(child, n);
     for (int i = 0; i < n; i++)
         kill_and_wait(child[i]);
     pz_reap(p);
     printf("deaths: %d, %ld times EOWNERDEAD, %ld repairs, %ld rounds, %ld waits; of limits %ld came, %ld didn't\n",
            deaths, atomic_load(&b->told), atomic_load(&b->repaired), atomic_load(&b->locks), atomic_load(&b->waits),
            atomic_load(&b->came), atomic_load(&b->before));
-    CHECK(atomic_load(&b->told) > 0 && atomic_load(&b->waits) > 0);
+    CHECK(atomic_load(&b->told) > 0 && (is_crowd || atomic_load(&b->waits) > 0));
     CHECK(atomic_load(&b->came) > 0 && atomic_load(&b->before) > 0);
     pz_close(p);
     unlink(path);

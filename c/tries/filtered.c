@@ -1,5 +1,5 @@
-/* Sleepers that look by themselves: on a mutex where a kernel, or a container's filter of system calls, has no
- * futex_waitv, and on a condition variable. */
+/* Sleepers that look by themselves: on a mutex, or for an id, where a kernel, or a container's filter of system calls,
+ * has no futex_waitv; and on a condition variable. */
 #include "try.h"
 #include <linux/filter.h>
 #include <linux/seccomp.h>
@@ -31,7 +31,7 @@ static void be_interrupted(void)
     CHECK(setitimer(ITIMER_REAL, &often, NULL) == 0);
 }
 
-/* Its limit comes; then, with one that doesn't, its owner dies. */
+/* Its limit comes; then, with one that doesn't, its owner dies, or who has an id. */
 static int locks_until(pz *p, _Atomic int *has_come)
 {
     struct timespec until;
@@ -48,6 +48,7 @@ static void without_futex_waitv(int error, int is_interrupted, int is_timed)
     const char *path = a_file("waitv");
     _Atomic int *is_held = shared(2 * sizeof *is_held), *has_come = is_held + 1;
     pz *p;
+    alarm(120);
     SAME(pz_open(path, 0600, 1, 0, NULL, 0, &p), 0);
     pid_t owner = a_child();
     if (!owner) {
@@ -76,6 +77,42 @@ static void without_futex_waitv(int error, int is_interrupted, int is_timed)
     munmap((void *)is_held, 2 * sizeof *is_held);
 }
 
+/* All ids are had, and of those who have them one dies. */
+static void for_an_id(int error)
+{
+    enum { IDS = 64 };
+    const char *path = a_file("ids");
+    _Atomic int *taken = shared(2 * sizeof *taken), *has_come = taken + 1;
+    pid_t has[IDS];
+    pz *p;
+    alarm(120);
+    SAME(pz_open(path, 0600, 1, 0, NULL, 0, &p), 0);
+    for (int i = 0; i < IDS; i++)
+        if (!(has[i] = a_child())) {
+            SAME(pz_thread_begin(p), 0);
+            for (atomic_fetch_add(taken, 1);;)
+                pause();
+        }
+    while (atomic_load(taken) < IDS)
+        rest(100);
+    pid_t it = a_child();
+    if (!it) {
+        lose_futex_waitv(error);
+        _exit(locks_until(p, has_come) != 0);
+    }
+    while (!atomic_load(has_come))
+        rest(1000);
+    until_asleep(it);
+    kill_and_wait(has[5]);
+    ends_well(it);
+    for (int i = 0; i < IDS; i++)
+        if (i != 5)
+            kill_and_wait(has[i]);
+    pz_close(p);
+    unlink(path);
+    munmap((void *)taken, 2 * sizeof *taken);
+}
+
 static pid_t waiter_of(pz *p)
 {
     pid_t waiter = a_child();
@@ -90,6 +127,7 @@ static void one_signal_for_two_waiters(void)
 {
     const char *path = a_file("two");
     pz *p;
+    alarm(120);
     SAME(pz_open(path, 0600, 1, 1, NULL, 0, &p), 0);
     pid_t waiters[] = {waiter_of(p), waiter_of(p)};
     SAME(pz_mutex_lock(p, 0), 0);
@@ -105,13 +143,14 @@ static void one_signal_for_two_waiters(void)
 
 int main(void)
 {
-    alarm(120);
     without_futex_waitv(ENOSYS, 0, 0);
     without_futex_waitv(EPERM, 0, 0);
     without_futex_waitv(ENOMEM, 0, 0);
     without_futex_waitv(ENOSYS, 1, 0);
     without_futex_waitv(ENOSYS, 0, 1);
     without_futex_waitv(ENOSYS, 1, 1);
+    for_an_id(ENOSYS);
+    for_an_id(EPERM);
     one_signal_for_two_waiters();
     puts("filtered: told without futex_waitv; each waiter returns after a signal");
     return 0;

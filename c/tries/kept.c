@@ -41,6 +41,7 @@ static void maybe_die(void)
 }
 
 void pz_let_go(pz *p) { (void)p; }
+void pz_tell_of_id(pz *p) { (void)p; }
 int pz_disinherit(const pz *p, unsigned t, uint64_t cell) { return (void)p, (void)t, (void)cell, 0; }
 
 uint32_t pz_make_of_walk(pz *p, const struct pz_access *x, uint64_t *value)

@@ -2,18 +2,11 @@
  * gives up leaves, and to whom; owners that die just then. Polling is off, so who isn't woken sleeps for good; a limit
  * that must come is waited for, and one that mustn't is far away. */
 #include "driver.h"
-#include "try.h"
+#include "times.h"
 #include <linux/futex.h>
 #include <sys/syscall.h>
-#include <sys/time.h>
 
-enum { WAS = 77, SECOND_NS = 1000000000, HELD_BY_ONE = 2048 };
-
-static const clockid_t clocks[] = {CLOCK_REALTIME, CLOCK_MONOTONIC};
-static const struct timespec past[] = {{0, 0}, {1, 0}, {-1, 0}, {INT64_MIN, SECOND_NS - 1}},
-                             no_time[] = {{0, -1}, {1, SECOND_NS}, {INT64_MAX, SECOND_NS}, {INT64_MIN, INT64_MIN}},
-                             far_away = {INT64_MAX, SECOND_NS - 1};
-enum { PAST = sizeof past / sizeof *past, NO_TIME = sizeof no_time / sizeof *no_time };
+enum { WAS = 77, HELD_BY_ONE = 2048 };
 
 static pz *open_new(unsigned mutexes)
 {
@@ -28,24 +21,11 @@ static pz *open_new(unsigned mutexes)
 static int lock_until(pz *p, unsigned m, clockid_t clock, const struct timespec *until)
 {
     errno = WAS;
-    int r = clock == CLOCK_REALTIME ? pz_mutex_timedlock(p, m, until) : pz_mutex_clocklock(p, m, clock, until);
+    int r = lock_by(p, m, clock, until);
     unsigned t = pz_thread_id(p);
     CHECK(errno == WAS && atomic_load(&p->words[head_place(t) + 2]) == 0);
     CHECK(!(atomic_load(sleepers(p, cell_place(m))) & bit_of(t)) && (atomic_load(heir(p, cell_place(m))) & WHO) != t);
     return r;
-}
-
-static struct timespec from_now(clockid_t clock, long us)
-{
-    struct timespec t;
-    clock_gettime(clock, &t);
-    long ns = t.tv_nsec + us % 1000000 * 1000;
-    return (struct timespec){t.tv_sec + us / 1000000 + ns / SECOND_NS, ns % SECOND_NS};
-}
-static int has_come(clockid_t clock, const struct timespec *t)
-{
-    struct timespec is = from_now(clock, 0);
-    return is.tv_sec > t->tv_sec || (is.tv_sec == t->tv_sec && is.tv_nsec >= t->tv_nsec);
 }
 
 /* A child that owns it, and lives on. */
@@ -127,18 +107,6 @@ static void the_2049th(void)
 }
 
 /* ---- A limit that comes. */
-
-static _Atomic int handled;
-static void handle(int number)
-{
-    (void)number;
-    atomic_fetch_add(&handled, 1);
-}
-static void be_interrupted(long us)
-{
-    struct itimerval each = {{0, us}, {0, us}};
-    CHECK(!sigaction(SIGALRM, &(struct sigaction){.sa_handler = handle}, NULL) && !setitimer(ITIMER_REAL, &each, NULL));
-}
 
 /* So short that it is the heir, and so long that it sleeps; and with a handler each 5 ms. */
 static void it_comes(void)

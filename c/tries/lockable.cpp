@@ -1,6 +1,7 @@
 /* pazdrig.hpp: locks of the standard library over mutexes whose owners are killed, whose data can't be repaired, and
- * which become unusable under a wait. */
+ * which become unusable under a wait; and up to a time. */
 #include "pazdrig.hpp"
+#include <chrono>
 #include <cstdio>
 #include <cstdlib>
 #include <cstring>
@@ -24,8 +25,10 @@ struct counter {
     int is_locked, is_told;
 };
 
+/* Each case has its time: what hangs ends. */
 static pazdrig::file a_file()
 {
+    alarm(120);
     int fd = memfd_create("lockable", MFD_CLOEXEC);
     CHECK(fd >= 0);
     pazdrig::file made(fd, 2, 1, sizeof(counter));
@@ -59,14 +62,14 @@ static void until_asleep(pid_t it)
     std::snprintf(path, sizeof path, "/proc/%d/stat", static_cast<int>(it));
     for (int quiet = 0; quiet < 20; quiet = state == 'S' ? quiet + 1 : 0) {
         std::FILE *f = std::fopen(path, "r");
-        CHECK(f && std::fscanf(f, "%*d %*[^)]) %c", &state) == 1);
+        CHECK(f && std::fscanf(f, "%*d %*[^)]) %c", &state) == 1 && state != 'Z');
         std::fclose(f);
         usleep(500);
     }
 }
 
-/* An owner is killed amid a change: having told waiters, where it is asked to. */
-static void dies_amid_a_change(const pazdrig::file &f, bool broadcasts = false)
+/* An owner amid a change, having told waiters where it is asked to. */
+static pid_t amid_a_change(const pazdrig::file &f, bool broadcasts = false)
 {
     counter &c = f.as<counter>();
     __atomic_store_n(&c.is_locked, 0, __ATOMIC_SEQ_CST);
@@ -81,7 +84,12 @@ static void dies_amid_a_change(const pazdrig::file &f, bool broadcasts = false)
     });
     while (!__atomic_load_n(&c.is_locked, __ATOMIC_SEQ_CST))
         usleep(100);
-    CHECK(kill(it, SIGKILL) == 0 && waitpid(it, nullptr, 0) == it);
+    return it;
+}
+static void is_killed(pid_t it) { CHECK(kill(it, SIGKILL) == 0 && waitpid(it, nullptr, 0) == it); }
+static void dies_amid_a_change(const pazdrig::file &f, bool broadcasts = false)
+{
+    is_killed(amid_a_change(f, broadcasts));
 }
 
 /* The number of what is thrown, or 0. */
@@ -125,6 +133,92 @@ static void one_that_lives_is_waited_for()
     lock.unlock();
     CHECK(!m.is_mine() && m.owner() == 0);
     CHECK(thrown([&] { m.unlock(); }) == EPERM);
+}
+
+/* ---- Up to a time. A limit that must come is waited for, and one that mustn't is far away. */
+
+using namespace std::chrono_literals;
+using std::chrono::steady_clock, std::chrono::system_clock;
+
+/* It stands still but for a millisecond at each look. */
+struct looks_clock {
+    using duration = std::chrono::milliseconds;
+    using rep = duration::rep;
+    using period = duration::period;
+    using time_point = std::chrono::time_point<looks_clock>;
+    static constexpr bool is_steady = true;
+    static time_point now()
+    {
+        static int looks;
+        return time_point(duration(++looks));
+    }
+};
+
+template <class Clock> static void comes_by(pazdrig::mutex &m)
+{
+    auto until = Clock::now() + 20ms;
+    CHECK(!m.try_lock_until(until) && Clock::now() >= until);
+    CHECK(!m.try_lock_until(Clock::now() - 1h) && !m.try_lock_until(typename Clock::time_point()));
+}
+
+static void a_time_comes()
+{
+    pazdrig::file f = a_file();
+    pazdrig::mutex m(f, 0, pazdrig::nothing_to_repair);
+    std::unique_lock<pazdrig::mutex> lock(m);
+    ends_well(child([&] {
+        auto since = steady_clock::now();
+        CHECK(!m.try_lock_for(20ms) && steady_clock::now() - since >= 20ms);
+        CHECK(!m.try_lock_for(-1h) && !m.try_lock_for(0s) && !m.try_lock_for(std::chrono::hours::min()));
+        CHECK(!m.try_lock_for(std::chrono::duration<double>(0.001)) &&
+              !m.try_lock_for(std::chrono::duration<int, std::pico>(7)));
+        std::unique_lock<pazdrig::mutex> other(m, 1ms);
+        CHECK(!other.owns_lock() && !other.try_lock_until(system_clock::now()) && !other.try_lock_for(1us));
+        comes_by<steady_clock>(m);
+        comes_by<system_clock>(m);
+        comes_by<looks_clock>(m);
+    }));
+    CHECK(thrown([&] { m.try_lock_for(1h); }) == EDEADLK);
+    lock.unlock();
+    CHECK(lock.try_lock_for(-1s));
+    lock.unlock();
+    CHECK(lock.try_lock_until(looks_clock::time_point::min()));
+}
+
+/* Of one that is far away, however it is said: an owner dies before. */
+template <class Try> static void far_away(Try has_it)
+{
+    pazdrig::file f = a_file();
+    counter &c = f.as<counter>();
+    pid_t owner = amid_a_change(f);
+    pid_t it = child([&] {
+        int repairs = 0;
+        pazdrig::mutex m(f, 0, [&] { c.copy = c.count, repairs++; });
+        CHECK(has_it(m) && m.is_mine() && repairs == 1 && c.copy == 1);
+        m.unlock();
+    });
+    until_asleep(it);
+    is_killed(owner);
+    ends_well(it);
+}
+
+static void before_a_time_a_dead_ones_is_repaired()
+{
+    far_away([](auto &m) { return m.try_lock_for(std::chrono::hours::max()); });
+    far_away([](auto &m) { return m.try_lock_for(std::chrono::duration<double>(1e300)); });
+    far_away([](auto &m) { return m.try_lock_until(steady_clock::time_point::max()); });
+    far_away([](auto &m) { return m.try_lock_until(system_clock::time_point::max()); });
+    far_away([](auto &m) { return m.try_lock_until(looks_clock::now() + 1000h); });
+    pazdrig::file f = a_file();
+    pazdrig::mutex m(f, 0, [] { throw std::domain_error("beyond repair"); });
+    dies_amid_a_change(f);
+    bool told = false;
+    try {
+        std::unique_lock<pazdrig::mutex> lock(m, 1h);
+    } catch (const std::domain_error &) {
+        told = true;
+    }
+    CHECK(told && thrown([&] { m.try_lock_for(1h); }) == ENOTRECOVERABLE);
 }
 
 static void what_cannot_be_repaired_is_lost()
@@ -227,9 +321,10 @@ static void files()
 
 int main()
 {
-    alarm(120);
     what_a_killed_owner_left_is_repaired();
     one_that_lives_is_waited_for();
+    a_time_comes();
+    before_a_time_a_dead_ones_is_repaired();
     what_cannot_be_repaired_is_lost();
     who_waits_is_told();
     who_waits_repairs();

@@ -662,20 +662,11 @@ static void *owns_one(void *m)
     return NULL;
 }
 
-/* How often those have slept and been woken, by the kernel's count (proc_pid_status(5)). */
-static long sleeps_of(const pid_t *it, int n)
+static long sleeps_of_all(const pid_t *it, int n)
 {
-    long all = 0, one;
-    for (int i = 0; i < n; i++) {
-        char path[64], line[128];
-        snprintf(path, sizeof path, "/proc/%d/status", (int)it[i]);
-        FILE *f = fopen(path, "r");
-        CHECK(f);
-        while (fgets(line, sizeof line, f))
-            if (sscanf(line, "voluntary_ctxt_switches: %ld", &one) == 1)
-                all += one;
-        fclose(f);
-    }
+    long all = 0;
+    for (int i = 0; i < n; i++)
+        all += sleeps_of(it[i]);
     return all;
 }
 
@@ -693,9 +684,9 @@ static void waits_for_ids(pid_t it[WAITERS])
         }
     for (int i = 0; i < WAITERS; i++)
         until_asleep(it[i]);
-    long before = sleeps_of(it, WAITERS);
+    long before = sleeps_of_all(it, WAITERS);
     rest(500000);
-    CHECK(sleeps_of(it, WAITERS) - before < 8 * WAITERS);
+    CHECK(sleeps_of_all(it, WAITERS) - before < 8 * WAITERS);
 }
 
 static void all_end_well(const pid_t *it, int n)

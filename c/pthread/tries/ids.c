@@ -7,7 +7,7 @@
 #include <sys/stat.h>
 #include <sys/syscall.h>
 
-enum { IDS = 64, WAITERS = 4, ALL = IDS + WAITERS, FIRST = 30 }; /* its mutexes are of the second bank */
+enum { IDS = 64, WAITERS = 8, ALL = IDS + WAITERS, FIRST = 30 }; /* its mutexes are of the second bank */
 enum order { STAY, UNLOCK, TRY_A_BUSY_ONE, TAKE_A_DEAD_ONES, SLEEP_FOR_A_DEAD_ONES, LEAVE };
 enum moment { ASKING, ASKED, NO_ID, GIVING, MOMENTS };
 enum at_moment { GO_ON, STOP, DIE };
@@ -200,6 +200,23 @@ static void an_id_comes_before_the_sleep(const char *path, int is_reaped)
     end(path);
 }
 
+/* It gives its id back, and dies before it wakes anybody. */
+static void gives_and_dies(int i)
+{
+    atomic_store(&part[i].at[GIVING], DIE);
+    atomic_store(&part[i].order, UNLOCK);
+    dies(i);
+}
+static void one_is_given_before_the_sleep(const char *path)
+{
+    begin(path, 0);
+    stops_at(IDS, NO_ID);
+    gives_and_dies(0);
+    kill(process[IDS], SIGCONT);
+    until_done(IDS, 1);
+    end(path);
+}
+
 /* It is given back there, and another one has it: that one is asked for another. */
 static void an_id_comes_and_goes_before_the_sleep(const char *path)
 {
@@ -269,9 +286,7 @@ static void a_giver_dies(const char *path)
     stops_at(IDS, ASKED);
     sleeps_for_one(IDS + 1);
     sleeps_for_one(IDS + 2);
-    atomic_store(&part[0].at[GIVING], DIE);
-    atomic_store(&part[0].order, UNLOCK);
-    dies(0);
+    gives_and_dies(0);
     atomic_store(&part[IDS + 1].at[ASKING], DIE);
     kill(process[IDS], SIGCONT);
     until_done(IDS, 1);
@@ -281,59 +296,58 @@ static void a_giver_dies(const char *path)
     end(path);
 }
 
-/* How many of those who sleep on a mutex have it. */
-static int have_it(int from)
+/* The first one gives its id back, and dies before it wakes anybody: nobody who waits for an id knows of this one. (Of
+ * those who sleep on the first mutex one has that then, and the other is told of the token.) */
+static void nobody_knows_of_one(void)
 {
-    int n = 0;
-    for (int i = from; i < IDS; i++)
-        n += is_done(i, 1);
-    return n;
-}
-
-/* The death of the first mutex's owner is told to those who sleep on that, of whom one has it then: so nobody who waits
- * for an id knows of its own. */
-static void an_id_is_free(int asleep)
-{
-    is_killed(0);
-    while (!have_it(IDS - asleep))
-        rest(100);
-    for (int i = IDS - asleep; i < ALL; i++)
-        if (process[i] && !is_done(i, 1))
+    gives_and_dies(0);
+    until_done(IDS - 2, 1);
+    for (int i = IDS - 1; i < ALL; i++)
+        if (process[i])
             until_asleep(process[i]);
-    SAME(have_it(IDS - asleep), 1);
     CHECK(!is_done(IDS, 1) && !is_done(IDS + 1, 1));
 }
 
 /* One that is told of another id wakes the next one, who has that. */
 static void one_more_is_free(const char *path)
 {
-    enum { ASLEEP = 3 };
-    begin(path, ASLEEP);
+    begin(path, 2);
     sleeps_for_one(IDS);
     sleeps_for_one(IDS + 1);
-    an_id_is_free(ASLEEP);
+    nobody_knows_of_one();
     atomic_store(&part[20].order, LEAVE);
     until_done(IDS, 1);
     until_done(IDS + 1, 1);
     end(path);
 }
 
-/* Nobody knows of one id, as above. The death of a thread is told to one who waits for an id, and takes that one;
- * another one sleeps on the dead thread's mutex. */
+/* The death of a thread is told to one who waits for an id, and takes the one of which nobody knew; another one sleeps
+ * on the dead thread's mutex. */
 static void one_who_need_not_know(const char *path)
 {
-    enum { ASLEEP = 3, SLEEPER = 40 };
+    enum { SLEEPER = 40 };
     dead_one = 20;
-    begin(path, ASLEEP);
+    begin(path, 2);
     sleeps_for_one(IDS);
     atomic_store(&part[SLEEPER].order, SLEEP_FOR_A_DEAD_ONES);
     while (atomic_load(&part[SLEEPER].order) != STAY)
         rest(100);
     until_asleep(process[SLEEPER]);
-    an_id_is_free(ASLEEP);
+    nobody_knows_of_one();
     is_killed(dead_one);
     until_done(IDS, 1);
     until_done(SLEEPER, 2);
+    end(path);
+}
+
+/* The death of the first mutex's owner is told to those who sleep on that. Of these one reaps it, and tells of its id.
+ */
+static void a_reaper_wakes(const char *path)
+{
+    begin(path, 3);
+    sleeps_for_one(IDS);
+    is_killed(0);
+    until_done(IDS, 1);
     end(path);
 }
 
@@ -430,6 +444,7 @@ int main(int argc, char **argv)
     snprintf(path, sizeof path, "%s/ids", argv[1]);
     an_id_comes_before_the_sleep(path, 0);
     an_id_comes_before_the_sleep(path, 1);
+    one_is_given_before_the_sleep(path);
     an_id_comes_and_goes_before_the_sleep(path);
     who_is_refused_keeps_none(path);
     a_keeper_is_asked(path);
@@ -438,6 +453,7 @@ int main(int argc, char **argv)
     a_giver_dies(path);
     one_more_is_free(path);
     one_who_need_not_know(path);
+    a_reaper_wakes(path);
     who_had_to_wait_dies(path);
     one_has_a_limit(path);
     its_limit_comes(path, 0, 0);

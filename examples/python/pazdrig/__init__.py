@@ -17,12 +17,15 @@ them consistent before the block begins, so that nobody uses them unrepaired. A 
 repaired: the mutex becomes unusable, as by an unlock in C, and the exception goes on. An exception amid the block unlocks.
 
 The library is the one that PAZDRIG_LIBRARY names, else libpazdrig.so.0 where the system finds it. A thread that waits
-lets other threads run; signals are handled once it has the mutex.
+lets other threads run; signals are handled once it has the mutex, or its time is over.
 """
 
 import ctypes
 import errno
+import math
 import os
+import threading
+import time
 import weakref
 
 __all__ = ["Condition", "Error", "File", "Info", "Mutex", "Thread", "nothing_to_repair", "version"]
@@ -33,6 +36,10 @@ _FREE, _LIVES, _DIED = range(3)
 
 class _Thread(ctypes.Structure):
     _fields_ = [("tid", ctypes.c_int), ("life", ctypes.c_int)]
+
+
+class _Timespec(ctypes.Structure):
+    _fields_ = [("tv_sec", ctypes.c_long), ("tv_nsec", ctypes.c_long)]
 
 
 class _Info(ctypes.Structure):
@@ -61,6 +68,7 @@ def _load():
         getattr(library, f"pz_mutex_{call}").argtypes = [p, number]
     for call in "wait", "signal", "broadcast":
         getattr(library, f"pz_cond_{call}").argtypes = [p, number]
+    library.pz_mutex_clocklock.argtypes = [p, number, ctypes.c_int, ctypes.POINTER(_Timespec)]
     library.pz_close.restype = None
     library.pz_data.restype = p
     library.pz_thread_id.restype = library.pz_mutex_owner.restype = number
@@ -154,7 +162,7 @@ class File:
         return _library.pz_reap(self._file)
 
     def begin_thread(self):
-        """The calling thread takes part from here. Its first call does this by itself."""
+        """The calling thread takes part from here: it waits while 64 others do. Its first call does this by itself."""
         _check("pz_thread_begin", _library.pz_thread_begin(self._file))
 
     def end_thread(self):
@@ -196,11 +204,29 @@ class Mutex:
             raise
         _check("pz_mutex_consistent", _library.pz_mutex_consistent(self.file._file, self.number))
 
-    def acquire(self, blocking=True):
-        """Whether the mutex is the thread's: where it doesn't wait, a thread that lives may have it."""
-        call = "pz_mutex_lock" if blocking else "pz_mutex_trylock"
-        answer = getattr(_library, call)(self.file._file, self.number)
-        if answer == errno.EBUSY and not blocking:
+    def _lock(self, blocking, timeout):
+        """The call of an acquire, its answer, and the one that says that another thread has the mutex."""
+        if not blocking:
+            return "pz_mutex_trylock", _library.pz_mutex_trylock(self.file._file, self.number), errno.EBUSY
+        if timeout == -1:
+            return "pz_mutex_lock", _library.pz_mutex_lock(self.file._file, self.number), None
+        now = time.clock_gettime_ns(time.CLOCK_MONOTONIC)
+        until = _Timespec(*divmod(now + math.ceil(timeout * 1e9), 1_000_000_000))
+        answer = _library.pz_mutex_clocklock(self.file._file, self.number, time.CLOCK_MONOTONIC, ctypes.byref(until))
+        return "pz_mutex_clocklock", answer, errno.ETIMEDOUT
+
+    def acquire(self, blocking=True, timeout=-1):
+        """Whether the mutex is the thread's: where it doesn't wait, or only for so many seconds, another may have it.
+
+        A repair takes its time, and has no limit."""
+        if not blocking and timeout != -1:
+            raise ValueError("an acquire that doesn't wait has no timeout")
+        if timeout != -1 and not timeout >= 0:
+            raise ValueError("a timeout isn't negative")
+        if timeout > threading.TIMEOUT_MAX:
+            raise OverflowError("the timeout is too long")
+        call, answer, otherwise = self._lock(blocking, timeout)
+        if answer == otherwise:
             return False
         self._had(call, answer)
         return True

@@ -80,16 +80,21 @@ class Owners(unittest.TestCase):
     def ends_well(self, pid):
         self.assertEqual(self.ended(pid), 0)
 
-    def kill_amid_a_change(self):
-        def change(tell):
+    def held(self):
+        """A child that has the mutex amid a change."""
+
+        def hold(tell):
             with self.mutex:
                 self.count[0] += 1
                 tell()
                 signal.pause()
 
-        pid, told = self.child(change)
+        pid, told = self.child(hold)
         told()
-        self.kill(pid)
+        return pid
+
+    def kill_amid_a_change(self):
+        self.kill(self.held())
 
     def assertAnswers(self, number, call):
         with self.assertRaises(pazdrig.Error) as it:
@@ -109,13 +114,7 @@ class Owners(unittest.TestCase):
             self.assertEqual(self.repairs, 2)
 
     def test_one_that_lives_is_told(self):
-        def hold(tell):
-            with self.mutex:
-                tell()
-                signal.pause()
-
-        pid, told = self.child(hold)
-        told()
+        pid = self.held()
         self.assertFalse(self.mutex.acquire(blocking=False))
         self.assertEqual([t.tid for t in self.file.info().threads if t.lives and t.id == self.mutex.owner], [pid])
         self.kill(pid)
@@ -126,6 +125,34 @@ class Owners(unittest.TestCase):
             self.assertEqual(self.mutex.owner, self.file.thread_id)
             self.assertIn("owns the mutex already", self.assertAnswers(errno.EDEADLK, self.mutex.acquire))
         self.assertAnswers(errno.EPERM, self.mutex.release)
+
+    def test_a_time_comes(self):
+        owner = self.held()
+        for timeout in 0, 0.02:
+            since = time.monotonic()
+            self.assertFalse(self.mutex.acquire(timeout=timeout))
+            self.assertGreaterEqual(time.monotonic() - since, timeout)
+        for timeout in -2, -0.5, float("nan"):
+            self.assertRaises(ValueError, self.mutex.acquire, timeout=timeout)
+        self.assertRaises(ValueError, self.mutex.acquire, False, 1)
+        self.assertRaises(OverflowError, self.mutex.acquire, timeout=float("inf"))
+        self.kill(owner)
+
+    def test_before_a_time_a_dead_ones_is_repaired(self):
+        owner = self.held()
+
+        def wait(_):
+            self.assertTrue(self.mutex.acquire(timeout=threading.TIMEOUT_MAX))
+            self.assertEqual((self.repairs, *self.count[:2]), (1, 1, 1))
+            self.assertAnswers(errno.EDEADLK, lambda: self.mutex.acquire(timeout=1))
+            self.mutex.release()
+
+        pid, _ = self.child(wait)
+        until_asleep(pid, pid)
+        self.kill(owner)
+        self.ends_well(pid)
+        self.assertTrue(self.mutex.acquire(timeout=0))
+        self.mutex.release()
 
     def test_what_cant_be_repaired_is_lost(self):
         def fail():

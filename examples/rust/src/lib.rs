@@ -45,8 +45,10 @@ use std::os::unix::ffi::OsStrExt;
 use std::path::Path;
 use std::ptr::{self, NonNull};
 use std::thread;
+use std::time::{Duration, SystemTime};
 
 mod ffi;
+use ffi::Timespec;
 
 /// The only mutex of the file.
 const MUTEX: u32 = 0;
@@ -107,6 +109,36 @@ pub struct Guard<'a, T: Plain> {
 #[must_use = "an unrepaired value is lost for good"]
 pub struct Broken<'a, T: Plain>(Guard<'a, T>);
 
+impl Timespec {
+    const ZERO: Self = Timespec {
+        seconds: 0,
+        nanoseconds: 0,
+    };
+
+    fn now(clock: i32) -> io::Result<Self> {
+        let mut now = Self::ZERO;
+        // SAFETY: `now` is there to be written to.
+        match unsafe { ffi::clock_gettime(clock, &mut now) } {
+            0 => Ok(now),
+            _ => Err(io::Error::last_os_error()),
+        }
+    }
+
+    /// So much later; where that is too late for a time, the last one.
+    fn later(self, time: Duration) -> Self {
+        const SECOND: i64 = 1_000_000_000;
+        let nanoseconds = self.nanoseconds + i64::from(time.subsec_nanos());
+        let seconds = i64::try_from(time.as_secs()).unwrap_or(i64::MAX);
+        Timespec {
+            seconds: self
+                .seconds
+                .saturating_add(seconds)
+                .saturating_add(nanoseconds / SECOND),
+            nanoseconds: nanoseconds % SECOND,
+        }
+    }
+}
+
 fn checked(error: i32) -> io::Result<()> {
     match error {
         0 => Ok(()),
@@ -151,6 +183,26 @@ impl<T: Plain> Shared<T> {
     pub fn try_lock(&self) -> io::Result<Locked<'_, T>> {
         // SAFETY: the file is open as long as `self` is there.
         self.locked(unsafe { ffi::pz_mutex_trylock(self.file.as_ptr(), MUTEX) })
+    }
+
+    /// Waits for so long at most, by the clock that nobody sets (ETIMEDOUT, of [`io::ErrorKind::TimedOut`]). One that is
+    /// [`Duration::MAX`] never comes.
+    pub fn try_lock_for(&self, time: Duration) -> io::Result<Locked<'_, T>> {
+        let now = Timespec::now(ffi::CLOCK_MONOTONIC)?;
+        self.lock_by(ffi::CLOCK_MONOTONIC, now.later(time))
+    }
+
+    /// Waits up to that time at most, by the clock that tells it (ETIMEDOUT).
+    pub fn try_lock_until(&self, time: SystemTime) -> io::Result<Locked<'_, T>> {
+        let since_1970 = time.duration_since(SystemTime::UNIX_EPOCH);
+        let until = Timespec::ZERO.later(since_1970.unwrap_or_default());
+        self.lock_by(ffi::CLOCK_REALTIME, until)
+    }
+
+    fn lock_by(&self, clock: i32, until: Timespec) -> io::Result<Locked<'_, T>> {
+        let file = self.file.as_ptr();
+        // SAFETY: the file is open as long as `self` is there, and `until` as long as the call lasts.
+        self.locked(unsafe { ffi::pz_mutex_clocklock(file, MUTEX, clock, &until) })
     }
 
     fn locked(&self, reply: i32) -> io::Result<Locked<'_, T>> {

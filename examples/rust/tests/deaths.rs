@@ -1,10 +1,11 @@
 //! Owners die, by SIGKILL and by a panic, and the next one can't use what they left before it is repaired.
 use pazdrig::{Locked, Shared};
 use std::fs;
-use std::io::{BufRead, BufReader};
+use std::io::{self, BufRead, BufReader, ErrorKind};
 use std::path::PathBuf;
-use std::process::{id, Command, Stdio};
+use std::process::{id, Child, Command, Stdio};
 use std::thread;
+use std::time::{Duration, Instant, SystemTime};
 
 const EDEADLK: i32 = 35;
 const ENOTRECOVERABLE: i32 = 131;
@@ -30,8 +31,8 @@ impl Drop for Scratch {
     }
 }
 
-/// A process that has changed one half of the pair is killed.
-fn kill_amid_a_change(file: &Scratch) {
+/// A process that has changed one half of the pair, and waits.
+fn amid_a_change(file: &Scratch) -> Child {
     let mut child = Command::new(env!("CARGO_BIN_EXE_holder"))
         .arg(&file.0)
         .stdin(Stdio::piped())
@@ -44,8 +45,16 @@ fn kill_amid_a_change(file: &Scratch) {
         .read_line(&mut line)
         .expect("it says what it did");
     assert_eq!(line, "half\n");
+    child
+}
+
+fn killed(mut child: Child) {
     child.kill().expect("it can be killed");
     child.wait().expect("it is a child");
+}
+
+fn kill_amid_a_change(file: &Scratch) {
+    killed(amid_a_change(file));
 }
 
 fn whole(pair: &Shared<Pair>) -> Pair {
@@ -56,14 +65,18 @@ fn whole(pair: &Shared<Pair>) -> Pair {
     }
 }
 
-fn repaired(pair: &Shared<Pair>) -> Pair {
-    match pair.lock() {
+fn repaired_by(locked: io::Result<Locked<'_, Pair>>) -> Pair {
+    match locked {
         Ok(Locked::OwnerDied(broken)) => {
             *broken.repair(|both| both[1] = both[0]).expect("it is ours")
         }
         Ok(Locked::Whole(_)) => panic!("nobody died"),
         Err(error) => panic!("{error}"),
     }
+}
+
+fn repaired(pair: &Shared<Pair>) -> Pair {
+    repaired_by(pair.lock())
 }
 
 fn refused(pair: &Shared<Pair>) -> Option<i32> {
@@ -129,4 +142,54 @@ fn its_owner_cant_lock_it_twice() {
     assert_eq!(refused(&pair), Some(EDEADLK));
     drop(both);
     assert_eq!(whole(&pair), [0, 0]);
+}
+
+fn is_too_late(locked: io::Result<Locked<'_, Pair>>) -> bool {
+    locked.is_err_and(|error| error.kind() == ErrorKind::TimedOut)
+}
+
+#[test]
+fn a_time_comes() {
+    let file = Scratch::new("late");
+    let pair = file.open();
+    let owner = amid_a_change(&file);
+    let (time, since) = (Duration::from_millis(20), Instant::now());
+    assert!(is_too_late(pair.try_lock_for(time)) && since.elapsed() >= time);
+    let until = SystemTime::now() + time;
+    assert!(is_too_late(pair.try_lock_until(until)) && SystemTime::now() >= until);
+    let past = [SystemTime::UNIX_EPOCH, SystemTime::UNIX_EPOCH - time];
+    assert!(past
+        .into_iter()
+        .all(|at| is_too_late(pair.try_lock_until(at))));
+    assert!(is_too_late(pair.try_lock_for(Duration::ZERO)));
+    killed(owner);
+    assert_eq!(repaired_by(pair.try_lock_until(past[0])), [1, 1]);
+}
+
+#[test]
+fn before_a_time_a_dead_ones_is_repaired() {
+    let file = Scratch::new("early");
+    let pair = file.open();
+    for count in 1..=2 {
+        let owner = amid_a_change(&file);
+        let locks = thread::scope(|s| {
+            let locks = s.spawn(|| match count {
+                1 => repaired_by(pair.try_lock_for(Duration::MAX)),
+                _ => repaired_by(
+                    pair.try_lock_until(SystemTime::now() + Duration::from_secs(1 << 40)),
+                ),
+            });
+            killed(owner);
+            locks.join()
+        });
+        assert_eq!(locks.expect("it has the value"), [count, count]);
+    }
+    let both = pair.try_lock_for(Duration::ZERO);
+    assert_eq!(
+        pair.try_lock_for(Duration::MAX)
+            .err()
+            .and_then(|error| error.raw_os_error()),
+        Some(EDEADLK)
+    );
+    drop(both);
 }
