@@ -44,11 +44,20 @@ fn reapings(alloc: Global, lines: &[HistoryLine]) -> Result<Vec<Reaping>, Stop> 
     Ok(reapings)
 }
 
+/// The reapings behind that moment.
+fn behind(reapings: &[Reaping], moment: u32) -> &[Reaping] {
+    let from = reapings.partition_point(|reaping| reaping.at <= moment);
+    if from <= reapings.len() {
+        reapings.split_at(from).1
+    } else {
+        &[]
+    }
+}
+
 /// When the thread is reaped, behind that moment; behind the last line where it isn't.
 fn reaped_behind(reapings: &[Reaping], last: u32, thread: Tid, moment: u32) -> u32 {
-    let from = reapings.partition_point(|reaping| reaping.at <= moment);
-    for (at, reaping) in reapings.iter().enumerate() {
-        if from <= at && reaping.thread == thread {
+    for reaping in behind(reapings, moment) {
+        if reaping.thread == thread {
             return reaping.at;
         }
     }
@@ -117,7 +126,7 @@ struct Doomed {
     dies: u32,
 }
 
-/// The doomed threads' last calls, in the order of their dooms.
+/// The doomed threads' last calls, by threads, and those of one thread in the order of its dooms.
 fn last_calls(alloc: Global, lines: &[HistoryLine]) -> Result<Vec<Doomed>, Stop> {
     let reapings = reapings(alloc, lines)?;
     let last = last_of(lines);
@@ -143,22 +152,27 @@ fn last_calls(alloc: Global, lines: &[HistoryLine]) -> Result<Vec<Doomed>, Stop>
             }
         }
     }
+    doomed.sort_unstable_by_key(|one: &Doomed| (one.thread.get(), one.doom));
     Ok(doomed)
 }
 
-/// What a step says of when its thread may have died.
+/// What a step says of when its thread may have died: in the life in which it made the step, which is the first of its
+/// doomed ones that isn't over by then.
 fn bound(doomed: &mut Vec<Doomed>, step: &Step) {
-    for one in doomed.iter_mut() {
-        if one.thread != step.thread || one.reaped <= step.at {
-            continue;
+    let made = (step.thread.get(), step.at);
+    let life = doomed.partition_point(|one| (one.thread.get(), one.reaped) <= made);
+    let Some(one) = doomed.get_mut(life) else {
+        return;
+    };
+    if one.thread != step.thread {
+        return;
+    }
+    if step.operation == Operation::Death {
+        if one.doom <= step.at {
+            one.dies = one.dies.min(step.at);
         }
-        if step.operation == Operation::Death {
-            if one.doom <= step.at {
-                one.dies = one.dies.min(step.at);
-            }
-        } else if step.begin == one.begin {
-            one.acts = one.acts.max(step.at);
-        }
+    } else if step.begin == one.begin {
+        one.acts = one.acts.max(step.at);
     }
 }
 

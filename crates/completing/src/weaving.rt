@@ -8,22 +8,20 @@ use facts::Fact;
 use histories::{Entry, HistoryLine};
 use std::alloc::Global;
 
-/// The steps behind this line, and those that follow them.
+/// The steps behind this line, and those that follow them. There are few behind one line, so they are looked at one by
+/// one: a search by halves among all that follow takes longer than all else here.
 fn split_at_gap(placed: &[Placed], gap: u32) -> (&[Placed], &[Placed]) {
-    let count = placed.partition_point(|step| step.gap <= gap);
-    if count <= placed.len() {
-        placed.split_at(count)
-    } else {
-        (placed, &[])
+    match placed.iter().position(|step| step.gap > gap) {
+        Some(count) => placed.split_at(count),
+        None => (placed, &[]),
     }
 }
 
+/// The threads that die behind this line, and those that die later.
 fn split_dying(dying: &[Dying], gap: u32) -> (&[Dying], &[Dying]) {
-    let count = dying.partition_point(|one| one.gap <= gap);
-    if count <= dying.len() {
-        dying.split_at(count)
-    } else {
-        (dying, &[])
+    match dying.iter().position(|one| one.gap > gap) {
+        Some(count) => dying.split_at(count),
+        None => (dying, &[]),
     }
 }
 
