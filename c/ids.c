@@ -37,7 +37,7 @@ void pz_tell_of_id(pz *p)
 }
 
 /* One look for an id, and a sleep where there is none. */
-static int look_once(pz *p, int (*begin)(pz *), const struct limit *limit, int *was_woken)
+static int look_once(pz *p, int (*begin)(pz *), const struct limit *limit, int *was_woken, long *look_ms)
 {
     PZ_AT(asking);
     uint32_t seen = atomic_load(&p->header->freed);
@@ -51,7 +51,7 @@ static int look_once(pz *p, int (*begin)(pz *), const struct limit *limit, int *
     }
     if (r == EAGAIN) {
         PZ_AT(no_id);
-        *was_woken |= pz_sleep_for_id(p, &p->header->freed, seen, limit);
+        *was_woken |= pz_sleep_for_id(p, &p->header->freed, seen, limit, look_ms);
     } else if (!r) {
         pz_ask_for_id(p); /* others may wait still, */
         wake_one(p);      /* there may be one for the next of them, */
@@ -65,8 +65,9 @@ static int look_once(pz *p, int (*begin)(pz *), const struct limit *limit, int *
 int pz_wait_for_id(pz *p, int (*begin)(pz *), const struct limit *limit)
 {
     int r, was_woken = 0, saved = errno;
+    long look_ms = FIRST_LOOK_MS;
     atomic_fetch_add(&p->users, 1);
-    while ((r = look_once(p, begin, limit, &was_woken)) == EAGAIN)
+    while ((r = look_once(p, begin, limit, &was_woken, &look_ms)) == EAGAIN)
         continue;
     pz_let_go(p);
     errno = saved;

@@ -12,7 +12,7 @@
 #define SYS_futex_waitv 449
 #endif
 
-enum { ASLEEP = 0, FIRST_LOOK_MS = 20, LAST_LOOK_MS = 500, SECOND_NS = 1000000000 };
+enum { ASLEEP = 0, SECOND_NS = 1000000000 };
 
 struct sleeper {
     pz *p;
@@ -283,10 +283,10 @@ void pz_awake(pz *p, unsigned t, uint64_t cell)
 void pz_watch_me(pz *p) { __atomic_fetch_or(pz_token_word(p, pz_self[p->number].id), FUTEX_WAITERS, __ATOMIC_SEQ_CST); }
 
 /* Until `freed` differs, a thread that has an id dies, or its limit comes: else for PZ_POLL_S, as one that was woken
- * may be killed. Whether anything has come but a time. */
-int pz_sleep_for_id(pz *p, _Atomic uint32_t *freed, uint32_t seen, const struct limit *limit)
+ * may be killed. Whether anything has come but a time. Without futex_waitv it looks by itself, and of one wait each
+ * time later. */
+int pz_sleep_for_id(pz *p, _Atomic uint32_t *freed, uint32_t seen, const struct limit *limit, long *look_ms)
 {
-    static _Thread_local long look_ms = FIRST_LOOK_MS;
     struct watched all = {.n = 1};
     all.v[0] = (struct futex_waitv){.val = seen, .uaddr = (uintptr_t)freed, .flags = FUTEX_32};
     for (unsigned t = 1; t <= THREADS; t++)
@@ -303,10 +303,14 @@ int pz_sleep_for_id(pz *p, _Atomic uint32_t *freed, uint32_t seen, const struct 
             pz_reap_one(p, all.thread[i]);
     if (is_known(error))
         return error == 0 || error == EAGAIN;
-    until = from_now(limit, look_ms);
-    look_ms = look_ms < LAST_LOOK_MS ? 2 * look_ms : look_ms;
-    if (wait_on((uint32_t *)freed, seen, clock_of(limit), &until) < 0)
-        return errno == EAGAIN;
-    look_ms = FIRST_LOOK_MS;
-    return 1;
+    if (error == ENOSYS || error == EPERM)
+        atomic_store(&no_waitv, 1);
+    until = from_now(limit, *look_ms);
+    if (wait_on((uint32_t *)freed, seen, clock_of(limit), &until) == 0) {
+        *look_ms = FIRST_LOOK_MS;
+        return 1;
+    }
+    if (*look_ms < LAST_LOOK_MS)
+        *look_ms *= 2;
+    return errno == EAGAIN;
 }
