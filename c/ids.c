@@ -8,8 +8,9 @@
  *
  * **Who was woken and has an id wakes the next.** `wanted` is cleared before a wake, so who frees another id meanwhile
  * wakes nobody, and who frees one may be killed before its wake. It is set again where somebody was woken, as others
- * may wait behind that one. Who is woken and killed leaves the rest to the next id that is freed, or to a look, each
- * PZ_POLL_S. */
+ * may wait behind that one. Who is killed as it is woken rings the bell (sleep.c), and who hears that wakes one of
+ * those who wait. One that is killed later, before it has an id, leaves the rest to the next id that is freed, or to a
+ * look, each PZ_POLL_S. */
 #include "driver.h"
 #include <errno.h>
 #include <linux/futex.h>

@@ -105,6 +105,8 @@ static void is_asked(long number, va_list all)
 static long played_call(long number, ...)
 {
     va_list all;
+    if (number == SYS_get_robust_list)
+        return errno = ENOSYS, -1;
     CHECK(number == SYS_futex || number == SYS_futex_waitv);
     va_start(all, number);
     is_asked(number, all);

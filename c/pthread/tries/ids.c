@@ -363,10 +363,10 @@ static int stays_asleep(int i)
 }
 
 /* Somebody who has an id dies: of those who wait one has it then, and those who are woken besides die before they look
- * at who has which. One that sleeps on is told once the one who has the id dies. */
+ * at who has which. Of those that sleep on one is told once the one who has the id dies. */
 static void who_had_to_wait_dies(const char *path)
 {
-    int has = 0, asleep = 0;
+    int has = 0, asleep = 0, told = 0;
     begin(path, 0);
     for (int i = IDS; i < ALL; i++)
         sleeps_for_one(i);
@@ -377,14 +377,13 @@ static void who_had_to_wait_dies(const char *path)
         has = is_done(i, 1) ? i : 0;
     for (int i = IDS; i < ALL; i++)
         if (i != has && stays_asleep(i)) {
-            if (asleep)
-                is_killed(asleep);
-            asleep = i;
+            atomic_store(&part[i].at[NO_ID], GO_ON);
+            asleep++;
         }
     CHECK(asleep);
-    atomic_store(&part[asleep].at[NO_ID], GO_ON);
     is_killed(has);
-    until_done(asleep, 1);
+    for (int i = IDS; !told; i = i + 1 < ALL ? i + 1 : IDS, rest(100))
+        told = i != has && is_done(i, 1);
     end(path);
 }
 
