@@ -186,7 +186,8 @@ int pz_is_time(const struct timespec *t);
 long pz_left(const struct limit *limit, long most);
 uint32_t pz_sleep(pz *p, unsigned t, uint64_t at, uint32_t expected, struct limit *limit);
 void pz_awake(pz *p, unsigned t, uint64_t cell);
-int pz_sleep_for_id(pz *p, _Atomic uint32_t *freed, uint32_t seen, const struct limit *limit);
+enum { FIRST_LOOK_MS = 20, LAST_LOOK_MS = 500 }; /* of who looks by itself */
+int pz_sleep_for_id(pz *p, _Atomic uint32_t *freed, uint32_t seen, const struct limit *limit, long *look_ms);
 void pz_watch_me(pz *p);
 
 /* ---- reap.c */

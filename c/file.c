@@ -487,9 +487,15 @@ int pz_open_in(void *memory, int whole, unsigned mutexes, pz **out)
 
 pz *pz_opened(unsigned number) { return opened[number]; }
 
+/* How often a closed file was let go that other threads of the process take part in: by its opener, say; or by one that
+ * waited for its id, which takes part itself since, and had looked at what is closed before. */
+static _Atomic unsigned closings;
+
 /* The last user of this process unmaps it. */
 void pz_let_go(pz *p)
 {
+    if (atomic_load(&p->is_closed) && atomic_load(&p->users) > 1)
+        atomic_fetch_add(&closings, 1);
     if (atomic_fetch_sub(&p->users, 1) != 1)
         return;
     pthread_mutex_lock(&table);
@@ -497,9 +503,6 @@ void pz_let_go(pz *p)
     pthread_mutex_unlock(&table);
     free_one(p, !p->mapped);
 }
-
-/* How often a file was closed that other threads of the process take part in. */
-static _Atomic unsigned closings;
 
 /* The calling thread is in no call, and leaves what is closed, where it owns nothing: else a thread that lives long
  * would keep the place of each file that it ever took part in. */
@@ -523,7 +526,5 @@ void pz_close(pz *p)
     if (pz_self[p->number].id)
         pz_leave(p);
     atomic_store(&p->is_closed, 1);
-    if (atomic_load(&p->users) > 1)
-        atomic_fetch_add(&closings, 1);
     pz_let_go(p);
 }

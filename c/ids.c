@@ -8,8 +8,9 @@
  *
  * **Who was woken and has an id wakes the next.** `wanted` is cleared before a wake, so who frees another id meanwhile
  * wakes nobody, and who frees one may be killed before its wake. It is set again where somebody was woken, as others
- * may wait behind that one. Who is woken and killed leaves the rest to the next id that is freed, or to a look, each
- * PZ_POLL_S. */
+ * may wait behind that one. Who is killed as it is woken rings the bell (sleep.c), and who hears that wakes one of
+ * those who wait. One that is killed later, before it has an id, leaves the rest to the next id that is freed, or to a
+ * look, each PZ_POLL_S. */
 #include "driver.h"
 #include <errno.h>
 #include <linux/futex.h>
@@ -37,7 +38,7 @@ void pz_tell_of_id(pz *p)
 }
 
 /* One look for an id, and a sleep where there is none. */
-static int look_once(pz *p, int (*begin)(pz *), const struct limit *limit, int *was_woken)
+static int look_once(pz *p, int (*begin)(pz *), const struct limit *limit, int *was_woken, long *look_ms)
 {
     PZ_AT(asking);
     uint32_t seen = atomic_load(&p->header->freed);
@@ -51,7 +52,7 @@ static int look_once(pz *p, int (*begin)(pz *), const struct limit *limit, int *
     }
     if (r == EAGAIN) {
         PZ_AT(no_id);
-        *was_woken |= pz_sleep_for_id(p, &p->header->freed, seen, limit);
+        *was_woken |= pz_sleep_for_id(p, &p->header->freed, seen, limit, look_ms);
     } else if (!r) {
         pz_ask_for_id(p); /* others may wait still, */
         wake_one(p);      /* there may be one for the next of them, */
@@ -65,8 +66,9 @@ static int look_once(pz *p, int (*begin)(pz *), const struct limit *limit, int *
 int pz_wait_for_id(pz *p, int (*begin)(pz *), const struct limit *limit)
 {
     int r, was_woken = 0, saved = errno;
+    long look_ms = FIRST_LOOK_MS;
     atomic_fetch_add(&p->users, 1);
-    while ((r = look_once(p, begin, limit, &was_woken)) == EAGAIN)
+    while ((r = look_once(p, begin, limit, &was_woken, &look_ms)) == EAGAIN)
         continue;
     pz_let_go(p);
     errno = saved;

@@ -112,7 +112,7 @@ class mutex
     void lock() { locked("pz_mutex_lock", pz_mutex_lock(opened, number)); }
     /* false: a thread that lives has it. */
     bool try_lock() { return is_locked("pz_mutex_trylock", pz_mutex_trylock(opened, number), EBUSY); }
-    /* false: the time has come, and another thread has it. */
+    /* false: the time has come, and another thread has it, or no id was free. */
     template <class Rep, class Period> bool try_lock_for(const std::chrono::duration<Rep, Period> &time)
     {
         return try_lock_until(std::chrono::steady_clock::now() + in_time(time));

@@ -1,6 +1,12 @@
 /* A sleep on a word: it ends when the thread is woken, when the word differs, when the mutex's owner turns out to be
  * dead, since then nobody but this thread may be there to reap it, and when its time limit comes. (What is waited awake
- * before it: heir.c.) */
+ * before it: heir.c.)
+ *
+ * **The bell.** The kernel tells one thread of a death, and that one may be dying itself: all threads of a process that
+ * is killed are. So while a thread waits for deaths it stands, for the kernel, amid the lock of a robust mutex that is
+ * free: the token of id 0, which nobody ever has. At the thread's end the kernel wakes the next one that watches it, as
+ * it does where one that was woken there dies before it has the lock (list_op_pending of get_robust_list(2); a word
+ * that names no thread stays as it is). All who wait for deaths watch the bell, and who hears it looks at everybody. */
 #include "driver.h"
 #include <errno.h>
 #include <linux/futex.h>
@@ -12,7 +18,7 @@
 #define SYS_futex_waitv 449
 #endif
 
-enum { ASLEEP = 0, FIRST_LOOK_MS = 20, LAST_LOOK_MS = 500, SECOND_NS = 1000000000 };
+enum { ASLEEP = 0, SECOND_NS = 1000000000 };
 
 struct sleeper {
     pz *p;
@@ -47,14 +53,19 @@ void pz_reap_if_dead(pz *p, unsigned self, unsigned t)
         pz_reap_one(p, t);
 }
 
-/* What a sleeper waits for: the word first, then the ends of threads. */
-enum { MOST_WATCHED = 1 + (THREADS > 2 + PZ_WATCH ? THREADS : 2 + PZ_WATCH) };
+/* What a sleeper waits for: the word first, then the ends of threads, and the bell behind them. */
+enum { MOST_WATCHED = 2 + (THREADS > 2 + PZ_WATCH ? THREADS : 2 + PZ_WATCH) };
 _Static_assert(MOST_WATCHED <= FUTEX_WAITV_MAX, "futex_waitv(2) takes no more");
 struct watched {
     struct futex_waitv v[MOST_WATCHED];
-    unsigned thread[MOST_WATCHED];
     unsigned n;
+    uint64_t threads; /* a bit each */
 };
+
+static struct futex_waitv watched(const void *word, uint32_t is)
+{
+    return (struct futex_waitv){.val = is, .uaddr = (uintptr_t)word, .flags = FUTEX_32};
+}
 
 /* Waits for the end of a thread too: FUTEX_WAITERS in its token has the kernel, or its unlock, wake whoever watches. 0:
  * it died. */
@@ -68,8 +79,8 @@ static int watch(pz *p, unsigned t, struct watched *all)
             return 1; /* nobody lives by it: nobody to watch */
     } while (!(seen & FUTEX_WAITERS) &&
              !__atomic_compare_exchange_n(token, &seen, seen | FUTEX_WAITERS, 0, __ATOMIC_SEQ_CST, __ATOMIC_SEQ_CST));
-    all->v[all->n] = (struct futex_waitv){.val = seen | FUTEX_WAITERS, .uaddr = (uintptr_t)token, .flags = FUTEX_32};
-    all->thread[all->n++] = t;
+    all->v[all->n++] = watched(token, seen | FUTEX_WAITERS);
+    all->threads |= bit_of(t);
     return 1;
 }
 
@@ -84,8 +95,9 @@ static unsigned heir_of(const struct sleeper *s)
  * 0: all are watched. */
 static unsigned watch_all(const struct sleeper *s, unsigned owner, struct watched *all)
 {
-    all->v[0] = (struct futex_waitv){.val = s->expected, .uaddr = (uintptr_t)&s->p->words[s->at], .flags = FUTEX_32};
+    all->v[0] = watched(&s->p->words[s->at], s->expected);
     all->n = 1;
+    all->threads = 0;
     if (!watch(s->p, owner, all))
         return owner;
     unsigned next = heir_of(s);
@@ -146,6 +158,51 @@ static long wait_on(uint32_t *word, uint32_t is, clockid_t clock, const struct t
 
 /* ---- One sleep. */
 
+/* At the calling thread's end, from here on; NULL: no more. Its list is the C library's, and stays where it is, in a
+ * forked child too; where the kernel tells of none, others learn of a death by a look. (A handler that forks has the
+ * child ring it: that tells nothing wrong.) */
+static void ring_at_my_end(pz *p)
+{
+    static _Thread_local struct robust_list_head *mine;
+    size_t size;
+    if (!mine && (syscall(SYS_get_robust_list, 0, &mine, &size) || !mine))
+        return;
+    char *entry = p ? (char *)pz_token_word(p, 0) - mine->futex_offset : NULL;
+    __atomic_store_n(&mine->list_op_pending, (struct robust_list *)entry, __ATOMIC_RELEASE);
+}
+
+/* Those that have died. The C library stands in the lock of each one's token meanwhile, and in none behind it: so the
+ * bell is to be rung again. (No try sees that.) */
+static void reap_those(pz *p, uint64_t those)
+{
+    for (; those; those &= those - 1) {
+        unsigned t = (unsigned)__builtin_ctzll(those) + 1;
+        if (pz_has_died(p, t)) {
+            pz_reap_one(p, t);
+            ring_at_my_end(p);
+        }
+    }
+}
+
+/* Until any of them is woken or differs, a time comes, or a handler: 0, or the number of an error. Of several that were
+ * woken Linux names the last one, and the bell is that. Who rang it may have been told of an id, too. */
+static int wait_for_any(pz *p, struct watched *all, const struct limit *limit)
+{
+    const uint32_t *bell = pz_token_word(p, 0);
+    struct timespec until = from_now(limit, PZ_POLL_S * 1000l);
+    all->v[all->n] = watched(bell, __atomic_load_n(bell, __ATOMIC_SEQ_CST)); /* 0, but where somebody wrote strays */
+    ring_at_my_end(p);
+    long r = syscall(SYS_futex_waitv, all->v, all->n + 1, 0, &until, clock_of(limit));
+    int error = r < 0 ? errno : 0, is_bell = r == (long)all->n;
+    if (is_bell)
+        pz_tell_of_id(p);
+    reap_those(p, is_bell ? UINT64_MAX : all->threads); /* a sleeper on its mutex may have been meant */
+    ring_at_my_end(NULL);
+    if (error == ENOSYS || error == EPERM) /* an older kernel, or a filter of calls: so it isn't asked each time */
+        atomic_store(&no_waitv, 1);
+    return error;
+}
+
 /* What a wait's end says: ASLEEP, to wait again. */
 static uint32_t ended(const struct sleeper *s, unsigned owner, int error)
 {
@@ -185,18 +242,9 @@ static uint32_t wait_watching(struct sleeper *s, unsigned owner)
         pz_reap_one(s->p, dead);
         return PZ_WOKEN;
     }
-    struct timespec until = from_now(s->limit, PZ_POLL_S * 1000l);
-    long r = syscall(SYS_futex_waitv, all.v, all.n, 0, &until, clock_of(s->limit));
-    int error = r < 0 ? errno : 0;
-    s->is_woken = r >= 0; /* by a token too: that another woke it by the word meanwhile isn't told */
-    for (unsigned i = 1; i < all.n; i++)
-        if (pz_has_died(s->p, all.thread[i]))
-            pz_reap_one(s->p, all.thread[i]);
-    if (is_known(error))
-        return ended(s, owner, error);
-    if (error == ENOSYS || error == EPERM) /* an older kernel, or a filter of calls: so it isn't asked each time */
-        atomic_store(&no_waitv, 1);
-    return wait_looking(s, owner);
+    int error = wait_for_any(s->p, &all, s->limit);
+    s->is_woken = error == 0; /* by a token too: that another woke it by the word meanwhile isn't told */
+    return is_known(error) ? ended(s, owner, error) : wait_looking(s, owner);
 }
 
 static uint32_t sleep_once(struct sleeper *s)
@@ -283,30 +331,25 @@ void pz_awake(pz *p, unsigned t, uint64_t cell)
 void pz_watch_me(pz *p) { __atomic_fetch_or(pz_token_word(p, pz_self[p->number].id), FUTEX_WAITERS, __ATOMIC_SEQ_CST); }
 
 /* Until `freed` differs, a thread that has an id dies, or its limit comes: else for PZ_POLL_S, as one that was woken
- * may be killed. Whether anything has come but a time. */
-int pz_sleep_for_id(pz *p, _Atomic uint32_t *freed, uint32_t seen, const struct limit *limit)
+ * may be killed. Whether anything has come but a time. Without futex_waitv it looks by itself, and of one wait each
+ * time later. */
+int pz_sleep_for_id(pz *p, _Atomic uint32_t *freed, uint32_t seen, const struct limit *limit, long *look_ms)
 {
-    static _Thread_local long look_ms = FIRST_LOOK_MS;
-    struct watched all = {.n = 1};
-    all.v[0] = (struct futex_waitv){.val = seen, .uaddr = (uintptr_t)freed, .flags = FUTEX_32};
+    struct watched all = {.v = {watched(freed, seen)}, .n = 1};
     for (unsigned t = 1; t <= THREADS; t++)
         if (!watch(p, t, &all))
             return 1; /* dead: its id can be had */
     if (all.n < 1 + THREADS)
         return 1; /* one is free */
-    int error = ENOSYS;
-    struct timespec until = from_now(limit, PZ_POLL_S * 1000l);
-    if (!atomic_load(&no_waitv))
-        error = syscall(SYS_futex_waitv, all.v, all.n, 0, &until, clock_of(limit)) < 0 ? errno : 0;
-    for (unsigned i = 1; i < all.n; i++) /* a sleeper on its mutex may have been meant */
-        if (pz_has_died(p, all.thread[i]))
-            pz_reap_one(p, all.thread[i]);
+    int error = atomic_load(&no_waitv) ? ENOSYS : wait_for_any(p, &all, limit);
     if (is_known(error))
         return error == 0 || error == EAGAIN;
-    until = from_now(limit, look_ms);
-    look_ms = look_ms < LAST_LOOK_MS ? 2 * look_ms : look_ms;
-    if (wait_on((uint32_t *)freed, seen, clock_of(limit), &until) < 0)
-        return errno == EAGAIN;
-    look_ms = FIRST_LOOK_MS;
-    return 1;
+    struct timespec until = from_now(limit, *look_ms);
+    if (wait_on((uint32_t *)freed, seen, clock_of(limit), &until) == 0) {
+        *look_ms = FIRST_LOOK_MS;
+        return 1;
+    }
+    if (*look_ms < LAST_LOOK_MS)
+        *look_ms *= 2;
+    return errno == EAGAIN;
 }

@@ -55,6 +55,8 @@ static int reinit(struct companion *c, unsigned bank, unsigned m)
     if (!p)
         return EAGAIN;
     int r = pz_mutex_reinit(p, m);
+    if (r == EAGAIN)
+        pz_ask_for_id(p); /* so that it may go well the next time */
     sh_give(p);
     return r;
 }

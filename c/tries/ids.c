@@ -372,7 +372,10 @@ static void a_hundred_wait(void)
 static struct {
     _Atomic pid_t thread;
     _Atomic int has, may_end;
+    void *at;
+    pz *other;
 } its;
+static int is_mapped(void *at) { return msync(at, 1, MS_ASYNC) == 0; }
 static void *locks(void *file)
 {
     atomic_store(&its.thread, (pid_t)syscall(SYS_gettid));
@@ -380,16 +383,18 @@ static void *locks(void *file)
     for (atomic_store(&its.has, 1); !atomic_load(&its.may_end);)
         rest(100);
     SAME(pz_mutex_unlock(file, 1), 0);
+    SAME(pz_thread_begin(its.other), 0);
+    CHECK(!is_mapped(its.at));
     return NULL;
 }
 
-static int is_mapped(void *at) { return msync(at, 1, MS_ASYNC) == 0; }
-
-/* The child has no such thread, and is alone with the file. Of its parent the thread has it still. */
+/* The child has no such thread, and is alone with the file. Of its parent the thread has it still, until it takes part
+ * in another file. */
 static void forks_and_closes(_Atomic int *is_closed)
 {
     pthread_t thread;
-    void *at = p->header;
+    void *at = its.at = p->header;
+    its.other = open_new();
     CHECK(!pthread_create(&thread, NULL, locks, p));
     while (!atomic_load(&its.thread))
         rest(100);
@@ -404,6 +409,7 @@ static void forks_and_closes(_Atomic int *is_closed)
         rest(100);
     atomic_store(&its.may_end, 1);
     CHECK(!pthread_join(thread, NULL) && !is_mapped(at));
+    pz_close(its.other);
 }
 
 static void one_closes_beside_its_thread(void)

@@ -2,8 +2,8 @@
  * at most, half as long after each time that it didn't pay, twice as long after each that it did, and now and then
  * PZ_SPIN again; less where many sleep, and not at all where the word's owner is dead. It falls due, and whoever owes
  * it the mutex waits for it, and not too long. Only who was woken takes the place of one that was. How long a waiter
- * sleeps until it looks by itself. And a time limit: it ends pauses and naps, the kernel is asked for it by its own
- * clock, which may be set, and it comes where it is past, or no time. */
+ * sleeps until it looks by itself, and one that waits for an id. And a time limit: it ends pauses and naps, the kernel
+ * is asked for it by its own clock, which may be set, and it comes where it is past, or no time. */
 #include <sched.h>
 #include <time.h>
 #include <unistd.h>
@@ -16,6 +16,7 @@ static long played_call(long number, ...);
 #define syscall           played_call
 #include "../heir.c"
 #include "../sleep.c"
+#include "../ids.c"
 #undef clock_gettime
 #undef sched_getaffinity
 #undef syscall
@@ -30,9 +31,9 @@ _Thread_local struct self pz_self[FILES];
 static word words[80 * LINE];
 static uint64_t cell;
 static int reaps;
+static uint32_t token[1 + THREADS] = {[DEAD] = FUTEX_OWNER_DIED};
 uint32_t *pz_token_word(pz *p, unsigned t)
 {
-    static uint32_t token[1 + THREADS] = {[DEAD] = FUTEX_OWNER_DIED};
     CHECK(p == &file && t <= THREADS);
     return &token[t];
 }
@@ -43,6 +44,7 @@ enum fate pz_reap_one(pz *p, unsigned t)
     return GONE;
 }
 int pz_reap(pz *p) { return (void)p, reaps++, 0; }
+void pz_let_go(pz *p) { CHECK(p == &file); }
 
 /* Each look at it takes STEP; a second begins soon after the first. The other one is ahead of it by an hour. */
 enum { SECOND = 1000000000 };
@@ -72,7 +74,7 @@ static int played_processors(pid_t thread, size_t size, cpu_set_t *set)
  * what happens meanwhile. */
 static struct {
     uint32_t *on;
-    int operation;
+    int operation, is_of_many;
     clockid_t clock;
     long until, ns;
 } asked;
@@ -83,7 +85,8 @@ static void is_asked(long number, va_list all)
 {
     asked.on = va_arg(all, uint32_t *);
     asked.operation = va_arg(all, int);
-    if (number == SYS_futex_waitv)
+    asked.is_of_many = number == SYS_futex_waitv;
+    if (asked.is_of_many)
         asked.operation = FUTEX_WAIT_BITSET;
     if (asked.operation == FUTEX_WAKE)
         return;
@@ -102,6 +105,8 @@ static void is_asked(long number, va_list all)
 static long played_call(long number, ...)
 {
     va_list all;
+    if (number == SYS_get_robust_list)
+        return errno = ENOSYS, -1;
     CHECK(number == SYS_futex || number == SYS_futex_waitv);
     va_start(all, number);
     is_asked(number, all);
@@ -309,6 +314,37 @@ static void a_waiter_looks(void)
     CHECK(slept == LOOKS);
 }
 
+/* One that waits for an id, which all have, without futex_waitv: it asks the kernel for that once, and each wait's
+ * looks come as those do. */
+static int asked_for_many;
+static void looks_for_an_id(void)
+{
+    asked_for_many += asked.is_of_many;
+    refuses = asked.is_of_many ? ENOSYS : asked.operation == FUTEX_WAKE ? 0 : ETIMEDOUT;
+    if (refuses == ETIMEDOUT)
+        CHECK(slept < LOOKS && asked.ns == look_after_ms[slept++] * 1000000);
+}
+static int has_one(pz *p) { return p == &file && slept < LOOKS ? EAGAIN : 0; }
+
+static void who_waits_for_an_id_looks(void)
+{
+    static struct header header;
+    for (unsigned t = 1; t <= THREADS; t++)
+        token[t] = t;
+    for (int wait = 0; wait < 2; wait++) {
+        begin(0, 0);
+        file.header = &header;
+        meanwhile = looks_for_an_id;
+        slept = 0;
+        SAME(pz_wait_for_id(&file, has_one, NULL), 0);
+        CHECK(slept == LOOKS && wakes == 1);
+    }
+    CHECK(asked_for_many == 1);
+    memset(token, 0, sizeof token);
+    token[DEAD] = FUTEX_OWNER_DIED;
+    no_waitv = 0;
+}
+
 /* ---- Until its limit. */
 
 static struct timespec at;
@@ -480,6 +516,7 @@ int main(void)
     one_is_late();
     who_was_woken();
     a_waiter_looks();
+    who_waits_for_an_id_looks();
     a_pause_ends_there();
     naps_end_there();
     for (no_waitv = 0; no_waitv < 2; no_waitv++) {

@@ -8,7 +8,7 @@
 #include <sys/syscall.h>
 
 enum { IDS = 64, WAITERS = 8, ALL = IDS + WAITERS, FIRST = 30 }; /* its mutexes are of the second bank */
-enum order { STAY, UNLOCK, TRY_A_BUSY_ONE, TAKE_A_DEAD_ONES, SLEEP_FOR_A_DEAD_ONES, LEAVE };
+enum order { STAY, UNLOCK, LOCK_AND_UNLOCK, TRY_A_BUSY_ONE, TAKE_A_DEAD_ONES, SLEEP_FOR_A_DEAD_ONES, LEAVE };
 enum moment { ASKING, ASKED, NO_ID, GIVING, MOMENTS };
 enum at_moment { GO_ON, STOP, DIE };
 
@@ -53,6 +53,10 @@ static void do_as_told(struct part *p)
 {
     switch (atomic_exchange(&p->order, STAY)) {
     case UNLOCK:
+        SAME(pthread_mutex_unlock(&m[its]), 0);
+        break;
+    case LOCK_AND_UNLOCK:
+        SAME(pthread_mutex_lock(&m[its]), 0);
         SAME(pthread_mutex_unlock(&m[its]), 0);
         break;
     case TRY_A_BUSY_ONE:
@@ -134,14 +138,18 @@ static void is_killed(int i)
     dies(i);
 }
 
-static void make_all(void)
+static int make(int i)
 {
     pthread_mutexattr_t a;
     pthread_mutexattr_init(&a);
     pthread_mutexattr_setpshared(&a, PTHREAD_PROCESS_SHARED);
     pthread_mutexattr_setrobust(&a, PTHREAD_MUTEX_ROBUST);
+    return pthread_mutex_init(&m[i], &a);
+}
+static void make_all(void)
+{
     for (int i = -FIRST; i < ALL; i++)
-        SAME(pthread_mutex_init(&m[i], &a), 0);
+        SAME(make(i), 0);
 }
 
 /* (Another process makes the mutexes, as it may have an id.) */
@@ -254,6 +262,30 @@ static void a_keeper_is_asked(const char *path)
     end(path);
 }
 
+/* So it is by who makes a dead owner's mutex anew, and comes again. (Another one has the dead one's id.) */
+static void is_made_anew(int i, int answer)
+{
+    pid_t it = a_child();
+    if (!it) {
+        SAME(make(i), answer);
+        _exit(0);
+    }
+    ends_well(it);
+}
+static void a_keeper_is_asked_to_make_one(const char *path)
+{
+    begin(path, 0);
+    dead_one = 20;
+    is_killed(dead_one);
+    comes(IDS);
+    until_done(IDS, 1);
+    tell(0, UNLOCK);
+    is_made_anew(dead_one, EAGAIN);
+    tell(0, LOCK_AND_UNLOCK);
+    is_made_anew(dead_one, 0);
+    end(path);
+}
+
 /* Those who sleep on its mutex are told first that a thread gives its id up. So who sleeps for one is woken besides. */
 static void a_giver_wakes(const char *path)
 {
@@ -363,10 +395,10 @@ static int stays_asleep(int i)
 }
 
 /* Somebody who has an id dies: of those who wait one has it then, and those who are woken besides die before they look
- * at who has which. One that sleeps on is told once the one who has the id dies. */
+ * at who has which. Of those that sleep on one is told once the one who has the id dies. */
 static void who_had_to_wait_dies(const char *path)
 {
-    int has = 0, asleep = 0;
+    int has = 0, asleep = 0, told = 0;
     begin(path, 0);
     for (int i = IDS; i < ALL; i++)
         sleeps_for_one(i);
@@ -377,14 +409,13 @@ static void who_had_to_wait_dies(const char *path)
         has = is_done(i, 1) ? i : 0;
     for (int i = IDS; i < ALL; i++)
         if (i != has && stays_asleep(i)) {
-            if (asleep)
-                is_killed(asleep);
-            asleep = i;
+            atomic_store(&part[i].at[NO_ID], GO_ON);
+            asleep++;
         }
     CHECK(asleep);
-    atomic_store(&part[asleep].at[NO_ID], GO_ON);
     is_killed(has);
-    until_done(asleep, 1);
+    for (int i = IDS; !told; i = i + 1 < ALL ? i + 1 : IDS, rest(100))
+        told = i != has && is_done(i, 1);
     end(path);
 }
 
@@ -448,6 +479,7 @@ int main(int argc, char **argv)
     an_id_comes_and_goes_before_the_sleep(path);
     who_is_refused_keeps_none(path);
     a_keeper_is_asked(path);
+    a_keeper_is_asked_to_make_one(path);
     a_giver_wakes(path);
     who_is_woken_dies(path);
     a_giver_dies(path);

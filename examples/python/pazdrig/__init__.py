@@ -218,7 +218,7 @@ class Mutex:
     def acquire(self, blocking=True, timeout=-1):
         """Whether the mutex is the thread's: where it doesn't wait, or only for so many seconds, another may have it.
 
-        A repair takes its time, and has no limit."""
+        Nor is it where no id was free by then. A repair takes its time, and has no limit."""
         if not blocking and timeout != -1:
             raise ValueError("an acquire that doesn't wait has no timeout")
         if timeout != -1 and not timeout >= 0:
