@@ -15,20 +15,6 @@ fn held(cell: u64, counter: u64) -> [u64; 15] {
     [0, 1, 0, 0, 11, 0, 0, 0, 0, 0, cell, 4, 4, 0, counter]
 }
 
-/// An access changes this word so: what it is answered. Word 0 is none.
-fn change<F: Fn(u64) -> (Answer, u64)>(words: &mut [u64], at: u64, changed: F) -> Answer
-    requires { F.IsAlwaysCallable changed }
-{
-    match words.get_mut(at as usize) {
-        Some(word) if at != 0 => {
-            let (answer, after) = changed(*word);
-            *word = after;
-            answer
-        }
-        _ => Answer::Fault,
-    }
-}
-
 /// The answer where the word is the expected one; else that it differs.
 fn slept(word: u64, expected: u32, answer: Answer) -> Answer {
     if word == u64::from(expected) {
@@ -38,43 +24,60 @@ fn slept(word: u64, expected: u32, answer: Answer) -> Answer {
     }
 }
 
-/// Makes an access. Nobody sleeps; whoever falls asleep is woken at once.
-fn make(words: &mut [u64], access: Access) -> Answer {
+/// What an access is answered that finds this word, and the word that it leaves. Nobody sleeps; whoever falls asleep is
+/// woken at once.
+fn made(access: Access, word: u64) -> (Answer, u64) {
     match access {
-        Access::Load { at } => change(words, at, |word| (Answer::Value(word), word)),
-        Access::Store { at, value } => change(words, at, |_| (Answer::Stored, value)),
-        Access::Exchange { at, expected, new } => change(words, at, |word| {
+        Access::Load { .. } => (Answer::Value(word), word),
+        Access::Store { value, .. } => (Answer::Stored, value),
+        Access::Exchange { expected, new, .. } => {
             if word == expected {
                 (Answer::Exchanged, new)
             } else {
                 (Answer::Changed(word), word)
             }
-        }),
-        Access::FetchXor { at, operand } => {
-            change(words, at, |word| (Answer::Value(word), word ^ operand))
         }
-        Access::FetchOr { at, operand } => {
-            change(words, at, |word| (Answer::Value(word), word | operand))
-        }
-        Access::FetchAdd { at, operand } => {
-            change(
-                words,
-                at,
-                |word| (Answer::Value(word), word.wrapping_add(operand)),
-            )
-        }
-        Access::Wait { at, expected } => {
-            change(
-                words,
-                at,
-                |word| (slept(word, expected, Answer::Woken), word),
-            )
-        }
-        Access::Wake { at, .. } => change(words, at, |word| (Answer::Count(0), word)),
-        Access::CmpRequeue { from, expected, .. } => change(words, from, |word| {
+        Access::FetchXor { operand, .. } => (Answer::Value(word), word ^ operand),
+        Access::FetchOr { operand, .. } => (Answer::Value(word), word | operand),
+        Access::FetchAdd { operand, .. } => (Answer::Value(word), word.wrapping_add(operand)),
+        Access::Wait { expected, .. } => (slept(word, expected, Answer::Woken), word),
+        Access::Wake { .. } => (Answer::Count(0), word),
+        Access::CmpRequeue { expected, .. } => {
             (slept(word, expected, Answer::Counts(0, 0)), word)
-        }),
-        Access::FetchAnd { .. } | Access::Requeue { .. } | Access::Trim { .. } => Answer::Fault,
+        }
+        Access::FetchAnd { .. } | Access::Requeue { .. } | Access::Trim { .. } => {
+            (Answer::Fault, word)
+        }
+    }
+}
+
+/// The place of the word that an access finds.
+fn place_of(access: Access) -> u64 {
+    match access {
+        Access::Load { at }
+        | Access::Store { at, .. }
+        | Access::Exchange { at, .. }
+        | Access::FetchXor { at, .. }
+        | Access::FetchOr { at, .. }
+        | Access::FetchAnd { at, .. }
+        | Access::FetchAdd { at, .. }
+        | Access::Wait { at, .. }
+        | Access::Wake { at, .. }
+        | Access::Trim { at } => at,
+        Access::Requeue { from, .. } | Access::CmpRequeue { from, .. } => from,
+    }
+}
+
+/// Makes an access to one of these words, of which word 0 is none.
+fn make(words: &mut [u64], access: Access) -> Answer {
+    let place = place_of(access);
+    match words.get_mut(place as usize) {
+        Some(word) if place != 0 => {
+            let (answer, after) = made(access, *word);
+            *word = after;
+            answer
+        }
+        _ => Answer::Fault,
     }
 }
 

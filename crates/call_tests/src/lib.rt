@@ -16,6 +16,8 @@ mod condition_words;
 #[cfg(test)]
 mod lists;
 #[cfg(test)]
+mod machine_acts;
+#[cfg(test)]
 mod machine_again;
 #[cfg(test)]
 mod machine_deaths;

@@ -1,14 +1,27 @@
 //! Sleepers that sleep again, counters that go back to 0, wakes that are spared, accesses of walks that are made once
 //! more, mutexes that are made anew late, and time limits that come.
 
-use crate::machine_rows::{LOCK, UNLOCK, first_owner, machine, play, thread};
-use buckets::Batch;
+use crate::machine_acts::Act::{self, Calls, Happens, Is, Refused, Steps};
+use crate::machine_acts::Look::{Owner, Sleep, Stands, Word};
+use crate::machine_acts::Rare::{
+    Dies, Expires, Recounts, Reinits, Remakes, Resleeps, Spares, TimesOut,
+};
+use crate::machine_acts::{ALL, Small, first_wrong};
+use crate::machine_rows::Standing::{Asleep, Awake, Dying, Reaped, Resting};
+use crate::machine_rows::{machine, play, thread};
 use condvar::{CondCall, Op};
 use interleave::Machine;
-use lockword::{OWNER_DIED, Reply, Tid, UNUSABLE, WAITERS};
+use lockword::{OWNER_DIED, Tid, UNUSABLE, WAITERS};
 use mutex::Call;
 use protocol::{Event, Note};
+use std::alloc::Global;
 use std::test::Fail;
+
+const LOCK: Op = Op::OnMutex(Call::Lock(0));
+
+const TIMED_LOCK: Op = Op::OnMutex(Call::TimedLock(0));
+
+const UNLOCK: Op = Op::OnMutex(Call::Unlock(0));
 
 const WAIT: Op = Op::OnCondition(CondCall::Wait(0));
 
@@ -16,193 +29,175 @@ const SIGNAL: Op = Op::OnCondition(CondCall::Signal(0));
 
 const BROADCAST: Op = Op::OnCondition(CondCall::Broadcast(0));
 
-const TIMED_LOCK: Op = Op::OnMutex(Call::TimedLock(0));
-
-/// The thread begins a call, and goes on until it sleeps or has returned.
-fn goes(machine: &mut Machine, thread: Tid, op: Op) {
-    let _ = machine.step(Event::Begin(thread, op));
-    for _ in 0..20 {
-        let _ = machine.step(Event::Step(thread));
-    }
-}
-
-/// Whether those who sleep there have these ids, in their order.
-fn sleep_there(machine: &Machine, place: u64, ids: &[u8]) -> bool {
-    let sleepers = machine.sleepers(place);
-    if sleepers.len() != ids.len() {
-        return false;
-    }
-    for (index, id) in ids.iter().enumerate() {
-        if sleepers.get(index).map(Tid::get) != Some(*id) {
-            return false;
-        }
-    }
-    true
-}
+/// Three threads, with a condition variable, whose counter is at 13.
+const THREE_WAIT: Small = (3, 1, &[0]);
 
 /// Two wait. The first goes to the end, so that a signal wakes the second first; and once both are awake the counter
 /// goes back to 0.
+static WAITS_AGAIN: [Act; 20] = [
+    Calls(1, LOCK, ALL),
+    Calls(1, WAIT, ALL),
+    Calls(2, LOCK, ALL),
+    Calls(2, WAIT, ALL),
+    Is(Sleep(13, &[1, 2])),
+    Refused(Recounts(0)),
+    Refused(Resleeps(3)),
+    Happens(Resleeps(1)),
+    Is(Sleep(13, &[2, 1])),
+    Calls(3, LOCK, ALL),
+    Calls(3, SIGNAL, ALL),
+    Is(Sleep(13, &[1])),
+    Calls(3, SIGNAL, ALL),
+    Is(Sleep(13, &[])),
+    Is(Word(13, 2)),
+    Refused(Resleeps(1)),
+    Refused(Recounts(1)),
+    Happens(Recounts(0)),
+    Is(Word(13, 0)),
+    Is(Owner(Some(3))),
+];
+
 #[test]
 fn a_waiter_sleeps_again_and_the_counter_goes_back(rt: HostRuntime) -> Result<(), Fail> {
-    let mut machine = machine(rt.alloc(), 3, 1, &[0])?;
-    let (one, two, three) = (thread(1)?, thread(2)?, thread(3)?);
-    let counter = 13;
-    goes(&mut machine, one, Op::OnMutex(LOCK));
-    goes(&mut machine, one, WAIT);
-    goes(&mut machine, two, Op::OnMutex(LOCK));
-    goes(&mut machine, two, WAIT);
-    assert!(rt; sleep_there(&machine, counter, &[1, 2]));
-    assert!(rt; machine.step(Event::Recount(0)) == Note::Nothing);
-    assert!(rt; machine.step(Event::Resleep(three)) == Note::Nothing);
-    let again = Note::Reslept {
-        thread: one,
-        condition: 0,
-    };
-    assert!(rt; machine.step(Event::Resleep(one)) == again);
-    assert!(rt; sleep_there(&machine, counter, &[2, 1]));
-    goes(&mut machine, three, Op::OnMutex(LOCK));
-    goes(&mut machine, three, SIGNAL);
-    assert!(rt; sleep_there(&machine, counter, &[1]));
-    goes(&mut machine, three, SIGNAL);
-    assert!(rt; machine.word(counter) == Some(2));
-    assert!(rt; machine.step(Event::Resleep(one)) == Note::Nothing);
-    assert!(rt; machine.step(Event::Recount(1)) == Note::Nothing);
-    assert!(rt; machine.step(Event::Recount(0)) == Note::Recounted { condition: 0 });
-    assert!(rt; machine.word(counter) == Some(0));
+    assert_eq!(rt; first_wrong(rt.alloc(), THREE_WAIT, &[&WAITS_AGAIN])?, None);
     Ok(())
 }
 
-/// Another wait has loaded the counter, and isn't asleep yet: the counter stays what it is.
+/// Another wait has loaded the counter, which is at 10, and isn't asleep yet: the counter stays what it is.
+static IN_HAND: [Act; 7] = [
+    Calls(2, LOCK, ALL),
+    Calls(2, SIGNAL, ALL),
+    Calls(2, UNLOCK, ALL),
+    Calls(1, LOCK, ALL),
+    Calls(1, WAIT, 7),
+    Refused(Recounts(0)),
+    Is(Word(10, 1)),
+];
+
 #[test]
 fn a_counter_in_hand_stays(rt: HostRuntime) -> Result<(), Fail> {
-    let mut machine = machine(rt.alloc(), 2, 1, &[0])?;
-    let (one, two) = (thread(1)?, thread(2)?);
-    let counter = 10;
-    goes(&mut machine, two, Op::OnMutex(LOCK));
-    goes(&mut machine, two, SIGNAL);
-    goes(&mut machine, two, Op::OnMutex(UNLOCK));
-    goes(&mut machine, one, Op::OnMutex(LOCK));
-    let _ = machine.step(Event::Begin(one, WAIT));
-    for _ in 0..7 {
-        let _ = machine.step(Event::Step(one));
-    }
-    assert!(rt; machine.step(Event::Recount(0)) == Note::Nothing);
-    assert!(rt; machine.word(counter) == Some(1));
+    assert_eq!(rt; first_wrong(rt.alloc(), (2, 1, &[0]), &[&IN_HAND])?, None);
     Ok(())
 }
 
-/// Thread 1 has unlocked and is about to wake thread 2. Nobody else would: it has to. Thread 3 begins a lock, and looks
-/// at the word: the wake is spared, and thread 3's unlock wakes thread 2.
+/// Thread 1 has unlocked and is about to wake thread 2.
+const ABOUT_TO_WAKE: [Act; 4] = [
+    Calls(1, LOCK, ALL),
+    Calls(2, LOCK, ALL),
+    Is(Stands(2, Asleep)),
+    Calls(1, UNLOCK, 6),
+];
+
+/// Nobody else would: it has to. Thread 3 begins a lock, and looks at the word: the wake is spared, and thread 3's unlock
+/// wakes thread 2.
+static SPARED: [Act; 10] = [
+    Refused(Spares(1)),
+    Calls(3, LOCK, 1),
+    Refused(Spares(3)),
+    Happens(Spares(1)),
+    Is(Stands(2, Asleep)),
+    Steps(1, 1),
+    Is(Stands(1, Resting)),
+    Steps(3, ALL),
+    Calls(3, UNLOCK, ALL),
+    Is(Stands(2, Awake)),
+];
+
 #[test]
 fn a_wake_is_spared_where_another_answers(rt: HostRuntime) -> Result<(), Fail> {
-    let mut machine = machine(rt.alloc(), 3, 1, &[])?;
-    let (one, two, three) = (thread(1)?, thread(2)?, thread(3)?);
-    goes(&mut machine, one, Op::OnMutex(LOCK));
-    goes(&mut machine, two, Op::OnMutex(LOCK));
-    assert!(rt; machine.asleep(two));
-    play(&mut machine, one, UNLOCK, 6);
-    assert!(rt; machine.step(Event::Spare(one)) == Note::Nothing);
-    play(&mut machine, three, LOCK, 1);
-    let spared = Note::Stepped {
-        thread: one,
-        mutex: 0,
-        point: None,
-        slept: None,
-        woken: Batch::new(),
-        moved: Batch::new(),
-        returned: None,
-    };
-    assert!(rt; machine.step(Event::Spare(three)) == Note::Nothing);
-    assert!(rt; machine.step(Event::Spare(one)) == spared);
-    assert!(rt; machine.asleep(two));
-    let _ = machine.step(Event::Step(one));
-    assert!(rt; !machine.busy(one));
-    for _ in 0..20 {
-        let _ = machine.step(Event::Step(three));
-    }
-    goes(&mut machine, three, Op::OnMutex(UNLOCK));
-    assert!(rt; !machine.asleep(two));
+    assert_eq!(rt;
+        first_wrong(rt.alloc(), (3, 1, &[]), &[&ABOUT_TO_WAKE, &SPARED])?,
+        None
+    );
     Ok(())
 }
 
-/// As above, but thread 3 is killed when it has announced a mutex. Where that is mutex 0 its walk will look at the word,
-/// so the wake is spared, as long as nobody has begun to walk; and the walk wakes thread 2.
+/// The walk wakes thread 2, or thread 1 does.
+const WALKED: [Act; 5] = [
+    Is(Stands(2, Asleep)),
+    Steps(1, 1),
+    Steps(3, ALL),
+    Is(Stands(3, Reaped)),
+    Is(Stands(2, Awake)),
+];
+
+/// Thread 3 is killed when it has announced a mutex. Where that is mutex 0 its walk will look at the word, so the wake is
+/// spared, as long as nobody has begun to walk.
+static KILLED: [&[&[Act]]; 3] = [
+    &[
+        &ABOUT_TO_WAKE,
+        &[Calls(3, LOCK, 1), Happens(Dies(3)), Happens(Spares(1))],
+        &WALKED,
+    ],
+    &[
+        &ABOUT_TO_WAKE,
+        &[
+            Calls(3, LOCK, 1),
+            Happens(Dies(3)),
+            Steps(3, 1),
+            Refused(Spares(1)),
+        ],
+        &WALKED,
+    ],
+    &[
+        &ABOUT_TO_WAKE,
+        &[
+            Calls(3, Op::OnMutex(Call::Lock(1)), 1),
+            Happens(Dies(3)),
+            Refused(Spares(1)),
+        ],
+        &WALKED,
+    ],
+];
+
 #[test]
 fn a_wake_is_spared_where_a_walk_will_answer(rt: HostRuntime) -> Result<(), Fail> {
-    for (mutex, walked, spares) in [(0, 0, true), (0, 1, false), (1, 0, false)] {
-        let mut machine = machine(rt.alloc(), 3, 2, &[])?;
-        let (one, two, three) = (thread(1)?, thread(2)?, thread(3)?);
-        goes(&mut machine, one, Op::OnMutex(LOCK));
-        goes(&mut machine, two, Op::OnMutex(LOCK));
-        play(&mut machine, one, UNLOCK, 6);
-        play(&mut machine, three, Call::Lock(mutex), 1);
-        let _ = machine.step(Event::Kill(three));
-        for _ in 0..walked {
-            let _ = machine.step(Event::Step(three));
-        }
-        assert_eq!(rt; machine.step(Event::Spare(one)) != Note::Nothing, spares);
-        assert!(rt; machine.asleep(two));
-        let _ = machine.step(Event::Step(one));
-        for _ in 0..20 {
-            let _ = machine.step(Event::Step(three));
-        }
-        assert!(rt; machine.reaped(three));
-        assert!(rt; !machine.asleep(two));
+    for parts in &KILLED {
+        assert_eq!(rt; first_wrong(rt.alloc(), (3, 2, &[]), *parts)?, None);
     }
     Ok(())
 }
 
 /// Thread 4 has seen nobody sleep on an unusable mutex, and comes late: others have made it anew, locked it, and made it
 /// unusable again, and thread 3 sleeps there. The mutex is free by thread 4's exchange, and thread 2, which made it
-/// unusable and is killed before its wake, leaves that to its walk.
+/// unusable and is killed before its wake, leaves that to its walk. The cell is at 13.
+static MADE_ANEW: [Act; 21] = [
+    Calls(1, LOCK, ALL),
+    Happens(Dies(1)),
+    Steps(1, 12),
+    Refused(Remakes(4, 0)),
+    Calls(2, LOCK, ALL),
+    Calls(3, LOCK, ALL),
+    Calls(2, UNLOCK, 6),
+    Is(Word(13, UNUSABLE | WAITERS)),
+    Refused(Reinits(4, 0)),
+    Refused(Remakes(2, 0)),
+    Refused(Remakes(1, 0)),
+    Refused(Remakes(4, 1)),
+    Happens(Remakes(4, 0)),
+    Refused(Remakes(4, 0)),
+    Is(Word(13, WAITERS)),
+    Is(Sleep(13, &[3])),
+    Happens(Dies(2)),
+    Steps(2, 12),
+    Is(Stands(2, Reaped)),
+    Steps(3, ALL),
+    Is(Owner(Some(3))),
+];
+
 #[test]
 fn a_mutex_that_is_slept_on_is_made_anew(rt: HostRuntime) -> Result<(), Fail> {
-    let mut machine = machine(rt.alloc(), 4, 1, &[])?;
-    let (one, two, three, four) = (thread(1)?, thread(2)?, thread(3)?, thread(4)?);
-    let cell = 13;
-    goes(&mut machine, one, Op::OnMutex(LOCK));
-    let _ = machine.step(Event::Kill(one));
-    for _ in 0..12 {
-        let _ = machine.step(Event::Step(one));
-    }
-    assert!(rt; machine.step(Event::Remake(four, 0)) == Note::Nothing);
-    goes(&mut machine, two, Op::OnMutex(LOCK));
-    goes(&mut machine, three, Op::OnMutex(LOCK));
-    play(&mut machine, two, UNLOCK, 6);
-    assert!(rt; machine.word(cell) == Some(UNUSABLE | WAITERS));
-    assert!(rt; machine.step(Event::Reinit(four, 0)) == Note::Nothing);
-    assert!(rt; machine.step(Event::Remake(two, 0)) == Note::Nothing);
-    assert!(rt; machine.step(Event::Remake(one, 0)) == Note::Nothing);
-    assert!(rt; machine.step(Event::Remake(four, 1)) == Note::Nothing);
-    let anew = Note::Reinited {
-        thread: four,
-        mutex: 0,
-    };
-    assert!(rt; machine.step(Event::Remake(four, 0)) == anew);
-    assert!(rt; machine.step(Event::Remake(four, 0)) == Note::Nothing);
-    assert!(rt; machine.word(cell) == Some(WAITERS));
-    assert!(rt; sleep_there(&machine, cell, &[3]));
-    let _ = machine.step(Event::Kill(two));
-    for _ in 0..12 {
-        let _ = machine.step(Event::Step(two));
-    }
-    assert!(rt; machine.reaped(two));
-    for _ in 0..20 {
-        let _ = machine.step(Event::Step(three));
-    }
-    assert!(rt; first_owner(&machine) == Some(three));
+    assert_eq!(rt; first_wrong(rt.alloc(), (4, 1, &[]), &[&MADE_ANEW])?, None);
     Ok(())
 }
 
-/// The walk over thread 1's list marks one word, which is made once, and wakes thread 2, by the first of the two.
-#[test]
-fn a_walk_makes_all_but_its_marks_twice(rt: HostRuntime) -> Result<(), Fail> {
-    let mut machine = machine(rt.alloc(), 2, 1, &[])?;
-    let (one, two) = (thread(1)?, thread(2)?);
-    goes(&mut machine, one, Op::OnMutex(LOCK));
-    goes(&mut machine, two, Op::OnMutex(LOCK));
+/// Thread 1 dies owning the mutex on which thread 2 sleeps, and its walk makes each access twice that may be made so. How
+/// many may not, and how often thread 2 was woken.
+fn walked_twice(machine: &mut Machine, one: Tid, two: Tid) -> (u32, u32) {
+    play(machine, one, Call::Lock(0), ALL);
+    play(machine, two, Call::Lock(0), ALL);
     let _ = machine.step(Event::Kill(one));
-    let (mut once, mut woken) = (0u32, 0u32);
+    let (mut once, mut woken) = (0_u32, 0_u32);
     for _ in 0..12 {
         if !machine.dying(one) {
             break;
@@ -216,109 +211,118 @@ fn a_walk_makes_all_but_its_marks_twice(rt: HostRuntime) -> Result<(), Fail> {
         }
         let _ = machine.step(Event::Step(one));
     }
-    assert!(rt; machine.reaped(one));
-    assert_eq!(rt; (once, woken), (1, 1));
-    assert!(rt; !machine.asleep(two));
-    assert!(rt; machine.step(Event::Repeat(one)) == Note::Nothing);
+    (once, woken)
+}
+
+/// Whether one access of the walk isn't made twice, which wakes thread 2 once, and then there is none to repeat.
+fn all_but_one_are_repeated(alloc: Global) -> Result<bool, Fail> {
+    let (one, two) = (thread(1)?, thread(2)?);
+    let mut machine = machine(alloc, 2, 1, &[])?;
+    Ok(
+        walked_twice(&mut machine, one, two) == (1, 1)
+            && machine.reaped(one)
+            && !machine.asleep(two)
+            && machine.step(Event::Repeat(one)) == Note::Nothing,
+    )
+}
+
+/// The walk over thread 1's list marks one word, which is made once, and wakes thread 2, by the first of the two.
+#[test]
+fn a_walk_makes_all_but_its_marks_twice(rt: HostRuntime) -> Result<(), Fail> {
+    assert!(rt; all_but_one_are_repeated(rt.alloc())?);
     Ok(())
 }
 
 /// Thread 2 sleeps on the mutex of thread 1, with its entry pending, until its time limit comes: then it clears the
-/// entry, and its call returns.
+/// entry, and its call returns. The pending entry is at 6, the cell at 7.
+static TIMES_OUT: [Act; 12] = [
+    Calls(1, LOCK, ALL),
+    Calls(2, TIMED_LOCK, ALL),
+    Is(Sleep(7, &[2])),
+    Refused(Expires(1)),
+    Happens(Expires(2)),
+    Is(Stands(2, Awake)),
+    Refused(Expires(2)),
+    Is(Word(6, 8)),
+    Happens(TimesOut(2)),
+    Is(Word(6, 0)),
+    Is(Stands(2, Resting)),
+    Is(Owner(Some(1))),
+];
+
 #[test]
 fn a_lock_ends_at_its_time_limit(rt: HostRuntime) -> Result<(), Fail> {
-    let mut machine = machine(rt.alloc(), 2, 1, &[])?;
-    let (one, two) = (thread(1)?, thread(2)?);
-    let (pending, cell) = (6, 7);
-    goes(&mut machine, one, Op::OnMutex(LOCK));
-    goes(&mut machine, two, TIMED_LOCK);
-    assert!(rt; sleep_there(&machine, cell, &[2]));
-    assert!(rt; machine.step(Event::Expire(one)) == Note::Nothing);
-    let expired = Note::Expired {
-        thread: two,
-        mutex: 0,
-    };
-    assert!(rt; machine.step(Event::Expire(two)) == expired);
-    assert!(rt; sleep_there(&machine, cell, &[]) && machine.busy(two));
-    assert!(rt; machine.step(Event::Expire(two)) == Note::Nothing);
-    assert!(rt; machine.word(pending) == Some(8));
-    let returned = Note::Stepped {
-        thread: two,
-        mutex: 0,
-        point: None,
-        slept: None,
-        woken: Batch::new(),
-        moved: Batch::new(),
-        returned: Some(Reply::ETIMEDOUT),
-    };
-    assert!(rt; machine.step(Event::Step(two)) == returned);
-    assert!(rt; machine.word(pending) == Some(0) && !machine.busy(two));
-    assert!(rt; first_owner(&machine) == Some(one));
+    assert_eq!(rt; first_wrong(rt.alloc(), (2, 1, &[]), &[&TIMES_OUT])?, None);
     Ok(())
 }
 
 /// A lock has no time limit. One that has one, and was woken before that comes, takes the mutex.
+static IS_WOKEN_BEFORE: [Act; 10] = [
+    Calls(1, LOCK, ALL),
+    Calls(2, TIMED_LOCK, ALL),
+    Calls(3, LOCK, ALL),
+    Refused(Expires(3)),
+    Calls(1, UNLOCK, ALL),
+    Is(Stands(2, Awake)),
+    Is(Stands(3, Asleep)),
+    Refused(Expires(2)),
+    Steps(2, ALL),
+    Is(Owner(Some(2))),
+];
+
 #[test]
 fn a_time_limit_ends_only_a_timed_lock_that_sleeps(rt: HostRuntime) -> Result<(), Fail> {
-    let mut machine = machine(rt.alloc(), 3, 1, &[])?;
-    let (one, two, three) = (thread(1)?, thread(2)?, thread(3)?);
-    goes(&mut machine, one, Op::OnMutex(LOCK));
-    goes(&mut machine, two, TIMED_LOCK);
-    goes(&mut machine, three, Op::OnMutex(LOCK));
-    assert!(rt; machine.step(Event::Expire(three)) == Note::Nothing);
-    goes(&mut machine, one, Op::OnMutex(UNLOCK));
-    assert!(rt; !machine.asleep(two) && machine.asleep(three));
-    assert!(rt; machine.step(Event::Expire(two)) == Note::Nothing);
-    for _ in 0..20 {
-        let _ = machine.step(Event::Step(two));
-    }
-    assert!(rt; first_owner(&machine) == Some(two));
+    assert_eq!(rt;
+        first_wrong(rt.alloc(), (3, 1, &[]), &[&IS_WOKEN_BEFORE])?,
+        None
+    );
     Ok(())
 }
 
 /// The walk over its dead owner's list has marked the mutex, and hasn't woken thread 2 yet, whose time limit comes. The
-/// wake finds nobody; thread 2's next lock takes the mutex as a dead owner left it.
+/// wake finds nobody; thread 2's next lock takes the mutex as a dead owner left it. The cell is at 7.
+static BEFORE_THE_WAKE: [Act; 15] = [
+    Calls(1, LOCK, ALL),
+    Calls(2, TIMED_LOCK, ALL),
+    Happens(Dies(1)),
+    Steps(1, 6),
+    Is(Word(7, OWNER_DIED | WAITERS)),
+    Is(Stands(2, Asleep)),
+    Happens(Expires(2)),
+    Is(Stands(1, Dying)),
+    Steps(1, 1),
+    Is(Stands(1, Reaped)),
+    Is(Stands(2, Awake)),
+    Happens(TimesOut(2)),
+    Is(Owner(None)),
+    Calls(2, TIMED_LOCK, ALL),
+    Is(Word(7, OWNER_DIED | WAITERS | 2)),
+];
+
 #[test]
 fn a_time_limit_comes_before_the_wake_of_a_walk(rt: HostRuntime) -> Result<(), Fail> {
-    let mut machine = machine(rt.alloc(), 2, 1, &[])?;
-    let (one, two) = (thread(1)?, thread(2)?);
-    let cell = 7;
-    goes(&mut machine, one, Op::OnMutex(LOCK));
-    goes(&mut machine, two, TIMED_LOCK);
-    let _ = machine.step(Event::Kill(one));
-    for _ in 0..6 {
-        let _ = machine.step(Event::Step(one));
-    }
-    assert!(rt; machine.word(cell) == Some(OWNER_DIED | WAITERS) && machine.asleep(two));
-    let expired = Note::Expired {
-        thread: two,
-        mutex: 0,
-    };
-    assert!(rt; machine.step(Event::Expire(two)) == expired);
-    assert!(rt; machine.dying(one));
-    let _ = machine.step(Event::Step(one));
-    assert!(rt; machine.reaped(one) && machine.busy(two));
-    let _ = machine.step(Event::Step(two));
-    assert!(rt; !machine.busy(two) && first_owner(&machine) == None);
-    goes(&mut machine, two, TIMED_LOCK);
-    assert!(rt; machine.word(cell) == Some(OWNER_DIED | WAITERS | 2));
+    assert_eq!(rt;
+        first_wrong(rt.alloc(), (2, 1, &[]), &[&BEFORE_THE_WAKE])?,
+        None
+    );
     Ok(())
 }
 
 /// A wait has no time limit, be it asleep on its condition variable or, moved there, on its mutex.
+static WAITS: [Act; 9] = [
+    Calls(1, LOCK, ALL),
+    Calls(1, WAIT, ALL),
+    Is(Sleep(10, &[1])),
+    Refused(Expires(1)),
+    Calls(2, LOCK, ALL),
+    Calls(2, BROADCAST, ALL),
+    Is(Sleep(7, &[1])),
+    Refused(Expires(1)),
+    Is(Sleep(7, &[1])),
+];
+
 #[test]
 fn no_time_limit_comes_to_a_wait(rt: HostRuntime) -> Result<(), Fail> {
-    let mut machine = machine(rt.alloc(), 2, 1, &[0])?;
-    let (one, two) = (thread(1)?, thread(2)?);
-    let (cell, counter) = (7, 10);
-    goes(&mut machine, one, Op::OnMutex(LOCK));
-    goes(&mut machine, one, WAIT);
-    assert!(rt; sleep_there(&machine, counter, &[1]));
-    assert!(rt; machine.step(Event::Expire(one)) == Note::Nothing);
-    goes(&mut machine, two, Op::OnMutex(LOCK));
-    goes(&mut machine, two, BROADCAST);
-    assert!(rt; sleep_there(&machine, cell, &[1]));
-    assert!(rt; machine.step(Event::Expire(one)) == Note::Nothing);
-    assert!(rt; sleep_there(&machine, cell, &[1]));
+    assert_eq!(rt; first_wrong(rt.alloc(), (2, 1, &[0]), &[&WAITS])?, None);
     Ok(())
 }

@@ -107,14 +107,14 @@ fn event_of(thread: Tid, does: Does) -> Event {
     }
 }
 
-pub(crate) fn id_of(does: Does) -> u8 {
+fn id_of(does: Does) -> u8 {
     match does {
         Does::Begins(id, _) | Does::Steps(id, _) | Does::Dies(id) | Does::Calls(id, _, _) => id,
     }
 }
 
 /// How many events with a note it is.
-pub(crate) fn times(does: Does) -> u32 {
+fn times(does: Does) -> u32 {
     match does {
         Does::Steps(_, times) => times,
         _ => 1,
@@ -122,7 +122,7 @@ pub(crate) fn times(does: Does) -> u32 {
 }
 
 /// An access that may decide, sleep or return.
-fn stepped(
+pub(crate) fn stepped(
     thread: Tid,
     decided: Option<(Operation, Reply)>,
     slept: Option<Queue>,
@@ -196,7 +196,7 @@ pub(crate) fn standing_of(machine: &Machine, thread: Tid) -> Standing {
 }
 
 /// Makes the event with its note, behind those that have none.
-pub(crate) fn happens(machine: &mut Machine, thread: Tid, does: Does) -> Note {
+fn happens(machine: &mut Machine, thread: Tid, does: Does) -> Note {
     if let Does::Calls(_, call, accesses) = does {
         play(machine, thread, call, accesses.saturating_sub(1));
     }
@@ -254,6 +254,20 @@ pub(crate) fn play(machine: &mut Machine, thread: Tid, call: Call, accesses: u32
 pub(crate) fn first_owner(machine: &Machine) -> Option<Tid> {
     let _mutexes = machine.layout().mutexes();
     machine.owner(0)
+}
+
+/// Whether those who sleep at a place have these ids, in their order.
+pub(crate) fn have_ids(machine: &Machine, place: u64, ids: &[u8]) -> bool {
+    let sleepers = machine.sleepers(place);
+    if sleepers.len() != ids.len() {
+        return false;
+    }
+    for (index, id) in ids.iter().enumerate() {
+        if sleepers.get(index).map(Tid::get) != Some(*id) {
+            return false;
+        }
+    }
+    true
 }
 
 /// Whether these are all of the machine's words, from 1 on.

@@ -1,34 +1,44 @@
 //! Small machines, with their words and notes worked out by hand.
 
-use crate::machine_rows::Does::{Begins, Calls, Dies, Steps};
+use crate::machine_acts::{Act, Look, Rare, first_wrong};
+use crate::machine_rows::Does::{Begins, Steps};
 use crate::machine_rows::Noted::{Any, Began, Decides, Ends, Goes, Nothing, Returns};
 use crate::machine_rows::Standing::{Awake, Resting};
 use crate::machine_rows::{
-    Does, LOCK, Noted, Row, TRY_LOCK, UNLOCK, first_owner, goes_through, gone_through, happens,
-    has_words, id_of, is_noted, machine, play, standing_of, thread, times,
+    LOCK, Noted, Row, TRY_LOCK, UNLOCK, first_owner, goes_through, gone_through, has_words,
+    is_noted, machine, play, standing_of, thread,
 };
 use condvar::Op;
 use interleave::{Machine, Trace};
-use lockword::Reply::{EBUSY, EPERM, OK, XRACED};
+use lockword::Reply::{EBUSY, EPERM, OK};
 use lockword::Tid;
 use mutex::Call;
 use posixmutex::Operation::{TryLock, Unlock};
 use protocol::Event;
+use std::alloc::Global;
 use std::test::Fail;
 
-#[test]
-fn a_new_machine_has_empty_lists_and_free_mutexes(rt: HostRuntime) -> Result<(), Fail> {
-    let one = machine(rt.alloc(), 1, 1, &[])?;
-    assert!(rt; has_words(&one, &[1, u64::MAX, 0, 0, 0, 0]));
-    assert!(rt; one.word(u64::MAX).is_none() && first_owner(&one).is_none());
-    Ok(())
+/// Whether a new machine of so many threads, and one mutex, has just these words, and nobody owns the mutex.
+fn begins_with(
+    alloc: Global,
+    threads: u8,
+    conditions: &[u16],
+    words: &[u64],
+) -> Result<bool, Fail> {
+    let new = machine(alloc, threads, 1, conditions)?;
+    Ok(
+        new.layout().threads() == threads
+            && has_words(&new, words)
+            && new.word(u64::MAX).is_none()
+            && first_owner(&new).is_none(),
+    )
 }
 
 #[test]
-fn a_new_machine_has_each_thread_head(rt: HostRuntime) -> Result<(), Fail> {
-    let two = machine(rt.alloc(), 2, 1, &[0])?;
-    assert!(rt; has_words(&two, &[1, u64::MAX, 0, 4, u64::MAX, 0, 0, 0, 0, 0]));
-    assert!(rt; two.layout().threads() == 2);
+fn a_new_machine_has_empty_lists_and_free_mutexes(rt: HostRuntime) -> Result<(), Fail> {
+    let two = [1, u64::MAX, 0, 4, u64::MAX, 0, 0, 0, 0, 0];
+    assert!(rt; begins_with(rt.alloc(), 1, &[], &[1, u64::MAX, 0, 0, 0, 0])?);
+    assert!(rt; begins_with(rt.alloc(), 2, &[0], &two)?);
     Ok(())
 }
 
@@ -130,41 +140,26 @@ fn writes(
     !machine.busy(thread)
 }
 
-/// The entry is pending from the call's first access on, is put in front of the list once the mutex is taken, and is no
-/// longer pending when the call returns.
-#[test]
-fn a_trylock_links_the_mutex_that_it_took(rt: HostRuntime) -> Result<(), Fail> {
+/// Whether thread 1 takes the mutex of a new machine so, owns it then, and releases it so.
+fn takes_and_releases(alloc: Global) -> Result<bool, Fail> {
     let one = thread(1)?;
-    let mut machine = machine(rt.alloc(), 1, 1, &[])?;
-    assert!(rt;
-        writes(
-            &mut machine,
-            one,
-            TRY_LOCK,
-            &TAKING,
-            [1, u64::MAX, 0, 0, 0, 0]
-        )
-    );
-    assert!(rt; first_owner(&machine) == Some(one));
-    Ok(())
+    let mut machine = machine(alloc, 1, 1, &[])?;
+    let (free, taken) = ([1, u64::MAX, 0, 0, 0, 0], [5, u64::MAX, 0, 1, 1, 1]);
+    Ok(
+        writes(&mut machine, one, TRY_LOCK, &TAKING, free)
+            && first_owner(&machine) == Some(one)
+            && writes(&mut machine, one, UNLOCK, &RELEASING, taken),
+    )
 }
 
-/// An unlock that sees that the mutex is its thread's makes the entry pending, takes it out of the list, and then
-/// releases the mutex.
+/// The entry is pending from the call's first access on, is put in front of the list once the mutex is taken, and is no
+/// longer pending when the call returns. An unlock that sees that the mutex is its thread's makes the entry pending,
+/// takes it out of the list, and then releases the mutex.
 #[test]
-fn an_unlock_unlinks_the_mutex_before_its_release(rt: HostRuntime) -> Result<(), Fail> {
-    let one = thread(1)?;
-    let mut machine = machine(rt.alloc(), 1, 1, &[])?;
-    play(&mut machine, one, TRY_LOCK, 8);
-    assert!(rt;
-        writes(
-            &mut machine,
-            one,
-            UNLOCK,
-            &RELEASING,
-            [5, u64::MAX, 0, 1, 1, 1]
-        )
-    );
+fn a_mutex_is_linked_once_taken_and_unlinked_before_its_release(
+    rt: HostRuntime,
+) -> Result<(), Fail> {
+    assert!(rt; takes_and_releases(rt.alloc())?);
     Ok(())
 }
 
@@ -269,40 +264,43 @@ fn a_thread_is_busy_in_its_call(rt: HostRuntime) -> Result<(), Fail> {
     Ok(())
 }
 
-/// Makes these events, and tells whether the cell of mutex 0 among four threads, which is at 13, has this word then.
-fn cell_becomes(machine: &mut Machine, events: &[Does], word: u64) -> Result<bool, Fail> {
-    for &does in events {
-        for _ in 0..times(does) {
-            let _ = happens(machine, thread(id_of(does))?, does);
-        }
-    }
-    Ok(machine.word(13) == Some(word))
-}
+/// Thread 1 has loaded the free cell, which is at 13. Before each of its exchanges another one is woken, dies, recovers
+/// the mutex, or dies with it.
+static OVERTAKEN: [Act; 26] = [
+    Act::Calls(1, Op::OnMutex(TRY_LOCK), 2),
+    Act::Calls(2, Op::OnMutex(LOCK), 8),
+    Act::Calls(3, Op::OnMutex(LOCK), 4),
+    Act::Calls(2, Op::OnMutex(UNLOCK), 8),
+    Act::Is(Look::Word(13, 0x8000_0000)),
+    Act::Steps(1, 1),
+    Act::Is(Look::Word(13, 0x8000_0000)),
+    Act::Steps(3, 7),
+    Act::Is(Look::Word(13, 0x8000_0003)),
+    Act::Happens(Rare::Dies(3)),
+    Act::Is(Look::Word(13, 0x8000_0003)),
+    Act::Steps(3, 7),
+    Act::Is(Look::Word(13, 0xc000_0000)),
+    Act::Steps(1, 1),
+    Act::Is(Look::Word(13, 0xc000_0000)),
+    Act::Calls(2, Op::OnMutex(LOCK), 8),
+    Act::Calls(2, Op::OnMutex(Call::Consistent(0)), 2),
+    Act::Is(Look::Word(13, 0x8000_0002)),
+    Act::Calls(2, Op::OnMutex(UNLOCK), 9),
+    Act::Is(Look::Word(13, 0)),
+    Act::Steps(1, 1),
+    Act::Calls(4, Op::OnMutex(LOCK), 8),
+    Act::Happens(Rare::Dies(4)),
+    Act::Is(Look::Word(13, 4)),
+    Act::Steps(4, 6),
+    Act::Is(Look::Word(13, 0x4000_0000)),
+];
 
-/// Thread 1 has loaded the free cell. Before each of its exchanges another one is woken, dies, recovers the mutex, or
-/// dies with it.
 #[test]
 fn each_exchange_of_an_overtaken_trylock_finds_another_word(rt: HostRuntime) -> Result<(), Fail> {
-    let mut machine = machine(rt.alloc(), 4, 1, &[])?;
-    let exchange = Steps(1, 1);
-    let begins = [
-        Calls(1, TRY_LOCK, 2),
-        Calls(2, LOCK, 8),
-        Calls(3, LOCK, 4),
-        Calls(2, UNLOCK, 8),
-    ];
-    assert!(rt; cell_becomes(&mut machine, &begins, 0x8000_0000)?);
-    assert!(rt; cell_becomes(&mut machine, &[exchange], 0x8000_0000)?);
-    assert!(rt; cell_becomes(&mut machine, &[Steps(3, 7)], 0x8000_0003)?);
-    assert!(rt; cell_becomes(&mut machine, &[Dies(3)], 0x8000_0003)?);
-    assert!(rt; cell_becomes(&mut machine, &[Steps(3, 7)], 0xc000_0000)?);
-    assert!(rt; cell_becomes(&mut machine, &[exchange], 0xc000_0000)?);
-    let recovers = [Calls(2, LOCK, 8), Calls(2, Call::Consistent(0), 2)];
-    assert!(rt; cell_becomes(&mut machine, &recovers, 0x8000_0002)?);
-    assert!(rt; cell_becomes(&mut machine, &[Calls(2, UNLOCK, 9)], 0)?);
-    assert!(rt; cell_becomes(&mut machine, &[exchange, Calls(4, LOCK, 8), Dies(4)], 4)?);
-    assert!(rt; cell_becomes(&mut machine, &[Steps(4, 6)], 0x4000_0000)?);
-    let raced = machine.step(Event::Step(thread(1)?));
-    assert!(rt; is_noted(thread(1)?, Decides(TryLock, XRACED), &raced));
+    let gives_up = [Act::Happens(Rare::IsRaced(1))];
+    assert_eq!(rt;
+        first_wrong(rt.alloc(), (4, 1, &[]), &[&OVERTAKEN, &gives_up])?,
+        None
+    );
     Ok(())
 }

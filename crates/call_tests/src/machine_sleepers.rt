@@ -5,10 +5,9 @@ use crate::machine_rows::Noted::{Any, Nothing, Sleeps};
 use crate::machine_rows::Standing::{self, Asleep, Awake, Resting};
 use crate::machine_rows::{
     LOCK, ONE_TAKES, Row, TWO_SLEEPS, UNLOCK, alone_after, goes_through, gone_through, has_words,
-    machine, standing_of, thread,
+    have_ids, machine, standing_of, thread,
 };
 use interleave::Machine;
-use lockword::Tid;
 use std::alloc::Global;
 use std::test::Fail;
 
@@ -130,20 +129,6 @@ fn the_machine_of_which_a_copy_runs_stays(rt: HostRuntime) -> Result<(), Fail> {
     let _ = machine.alone(rt.alloc(), thread(2)?, 7)?;
     assert!(rt; machine.word(7) == Some(0x8000_0000));
     Ok(())
-}
-
-/// Whether those that sleep on a place are the threads with these ids, in order.
-fn have_ids(machine: &Machine, place: u64, ids: &[u8]) -> bool {
-    let sleepers = machine.sleepers(place);
-    if sleepers.len() != ids.len() {
-        return false;
-    }
-    for (index, id) in ids.iter().enumerate() {
-        if sleepers.get(index).map(Tid::get) != Some(*id) {
-            return false;
-        }
-    }
-    true
 }
 
 /// Whether nobody sleeps on these places.
