@@ -8,8 +8,7 @@ use facts::Fact;
 use histories::{Entry, HistoryLine};
 use std::alloc::Global;
 
-/// The steps behind this line, and those that follow them. There are few behind one line, so they are looked at one by
-/// one: a search by halves among all that follow takes longer than all else here.
+/// The steps behind this line, and those that follow them. They are looked at one by one: there are few behind a line.
 fn split_at_gap(placed: &[Placed], gap: u32) -> (&[Placed], &[Placed]) {
     match placed.iter().position(|step| step.gap > gap) {
         Some(count) => placed.split_at(count),
