@@ -3,7 +3,7 @@
 #include <pazdrig.h>
 #include <stdio.h>
 #include <unistd.h>
-struct counter { volatile long count, copy; };      /* mutex 0 keeps them equal; volatile: stored in this order */
+struct counter { volatile long count, copy; };      /* mutex 0 keeps them equal; volatile: stored in order */
 
 int main(int argc, char **argv)
 {
