@@ -37,8 +37,12 @@ class KeptInTree:
 
     def __init__(self, crates):
         # (the toolchain's own sum of a crate makes those below it anew each time)
-        files_of = sys.modules["rtlib"].files_of
-        self.own = {it.name: hashlib.sha256(repr([(path, read(path)) for path in files_of(it.folder)]).encode()).hexdigest() for it in crates}
+        self.own = {it.name: self.own_sum(it.folder) for it in crates}
+
+    @staticmethod
+    def own_sum(folder):
+        files = sys.modules["rtlib"].files_of(folder)
+        return hashlib.sha256(repr([(os.path.relpath(it, folder), read(it)) for it in files]).encode()).hexdigest()
 
     @staticmethod
     def note_of(crate):
