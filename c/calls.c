@@ -23,10 +23,30 @@ static uint32_t answer_of(pz *p, unsigned t, const struct pz_access *x, struct l
     return answer;
 }
 
-/* A sleep that its limit ended has no answer: what is left then of the call is another row. */
-static uint32_t step(struct pz_call *call, struct pz_access *x, uint32_t answer, uint64_t value)
+/* A wait's is of its sleep on the counter. Once it is to lock, or a broadcast has moved it, it waits as long as it
+ * takes (pthread_cond_timedwait(3p)). */
+static struct limit *limit_of(const pz *p, const struct pz_access *x, struct limit *limit)
 {
-    return answer == EXPIRED ? pz_expire(call, x) : pz_step(call, x, answer, value);
+    return limit && limit->is_of_wait && !is_counter(p, x->at) ? NULL : limit;
+}
+
+/* A sleep that its limit ended has no answer: what is left then of a lock is another row. A wait goes on as one that
+ * was woken, and is late. */
+static uint32_t step(struct pz_call *call, struct pz_access *x, struct limit *limit, uint32_t answer, uint64_t value)
+{
+    if (answer != EXPIRED)
+        return pz_step(call, x, answer, value);
+    if (!limit->is_of_wait)
+        return pz_expire(call, x);
+    limit->has_come = 1;
+    return pz_step(call, x, PZ_WOKEN, 0);
+}
+
+/* Of a wait that is late ETIMEDOUT takes the place of 0 alone: who is to repair what a dead owner left is told so. */
+static uint16_t reply_of(const struct pz_call *call, const struct limit *limit)
+{
+    uint16_t reply = call->phase.lock.reply;
+    return reply == 0 && limit && limit->has_come ? ETIMEDOUT : reply;
 }
 
 /* Goes on with an answer until the call has returned. Out of line: it is the slow path. errno stays what it was. */
@@ -36,19 +56,26 @@ static __attribute__((noinline)) uint32_t run_on(pz *p, unsigned t, struct pz_ca
     struct pz_access x;
     uint32_t state;
     int saved = errno;
-    while ((state = step(call, &x, answer, value)) == PZ_GOES) {
+    while ((state = step(call, &x, limit, answer, value)) == PZ_GOES) {
         PZ_TELL(pz_trace_step(call, &x, state));
         pz_trace_unlock();
         pz_trace_lock();
         if (x.kind == PZ_WAKE) /* an heir's, of all: it looks at the word no more, so no wake may be left to it */
             pz_disinherit(p, t, call->cell);
-        answer = answer_of(p, t, &x, limit, &value);
+        answer = answer_of(p, t, &x, limit_of(p, &x, limit), &value);
     }
+    call->phase.lock.reply = reply_of(call, limit);
     if (state == PZ_RETURNED)
         PZ_TELL(pz_trace_step(call, &x, state));
     pz_disinherit(p, t, call->cell);
     errno = saved;
     return state == PZ_RETURNED ? call->phase.lock.reply : EINVAL;
+}
+
+/* As a trace has it. */
+static inline unsigned told_as(unsigned operation, const struct limit *limit)
+{
+    return !limit ? operation : limit->is_of_wait ? PZ_OP_TIMEDWAIT : PZ_OP_TIMEDLOCK;
 }
 
 static __attribute__((noinline)) uint32_t run(pz *p, struct pz_call *call, unsigned operation, int c,
@@ -59,7 +86,7 @@ static __attribute__((noinline)) uint32_t run(pz *p, struct pz_call *call, unsig
     unsigned t = call->thread;
     (void)c;
     pz_trace_lock();
-    PZ_TELL(pz_trace_begin(t, limit ? PZ_OP_TIMEDLOCK : operation, mutex_at(call->cell), c));
+    PZ_TELL(pz_trace_begin(t, told_as(operation, limit), mutex_at(call->cell), c));
     uint32_t reply = EINVAL;
     if (pz_begin(call, &x, operation) == PZ_GOES) {
         uint32_t answer = answer_of(p, t, &x, NULL, &value); /* no call begins with a sleep */
@@ -204,11 +231,13 @@ int pz_refused(pz *p, unsigned m, unsigned operation, struct limit *limit, uint6
 
 int pz_mutex_lock(pz *p, unsigned m) { return pz_take(p, m, PZ_OP_LOCK); }
 
+static int is_clock(clockid_t clock) { return clock == CLOCK_REALTIME || clock == CLOCK_MONOTONIC; }
+
 /* A limit that is no time counts as one that has come, where it would wait. */
 int pz_mutex_clocklock(pz *p, unsigned m, clockid_t clock, const struct timespec *until)
 {
     struct limit limit = {.clock = clock, .at = until};
-    if (clock != CLOCK_REALTIME && clock != CLOCK_MONOTONIC)
+    if (!is_clock(clock))
         return EINVAL;
     int r = pz_take_now(p, m, PZ_OP_LOCK, &limit, 0);
     return r == ETIMEDOUT && !pz_is_time(until) ? EINVAL : r;
@@ -319,7 +348,7 @@ uint64_t pz_begin_again(word *counter, uint64_t count)
 }
 
 /* By its steps. A waiter is noted from before its release on, until it is awake. */
-int pz_cond_by_steps(pz *p, unsigned c, unsigned operation)
+int pz_cond_by_steps(pz *p, unsigned c, unsigned operation, struct limit *limit)
 {
     int why = 0;
     if (c >= p->conds)
@@ -338,7 +367,7 @@ int pz_cond_by_steps(pz *p, unsigned c, unsigned operation)
         OR(counter + 3, bit_of(t));
     else if (owned && count - AGAIN <= FULL - AGAIN)
         pz_begin_again(counter, count);
-    uint32_t reply = run(p, &call, operation, (int)c, NULL);
+    uint32_t reply = run(p, &call, operation, (int)c, limit);
     if (owned)
         tell_taken(w);
     if (owned && owner_of(atomic_load(w)) != t)
@@ -361,7 +390,18 @@ int pz_counted(pz *p, unsigned c, unsigned operation, uint64_t count, uint64_t f
     return answer_to(run_on(p, t, &call, NULL, PZ_VALUE, found));
 }
 
-int pz_cond_wait(pz *p, unsigned c) { return pz_cond_by_steps(p, c, PZ_OP_WAIT); }
+int pz_cond_wait(pz *p, unsigned c) { return pz_cond_by_steps(p, c, PZ_OP_WAIT, NULL); }
+
+/* What is no time is refused before the mutex is released. */
+int pz_cond_clockwait(pz *p, unsigned c, clockid_t clock, const struct timespec *until)
+{
+    struct limit limit = {.clock = clock, .at = until, .is_of_wait = 1};
+    return is_clock(clock) && pz_is_time(until) ? pz_cond_by_steps(p, c, PZ_OP_WAIT, &limit) : EINVAL;
+}
+int pz_cond_timedwait(pz *p, unsigned c, const struct timespec *until)
+{
+    return pz_cond_clockwait(p, c, CLOCK_REALTIME, until);
+}
 int pz_cond_signal(pz *p, unsigned c) { return pz_count(p, c, PZ_OP_SIGNAL); }
 int pz_cond_broadcast(pz *p, unsigned c) { return pz_count(p, c, PZ_OP_BROADCAST); }
 

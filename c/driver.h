@@ -110,6 +110,8 @@ struct limit {
     clockid_t clock;
     const struct timespec *at; /* looked at where it would have to wait */
     int is_relied_on;          /* it was woken, or the heir: others may sleep and know of no later owner */
+    int is_of_wait;            /* of its sleep on the counter: the lock that ends a wait has none */
+    int has_come;              /* to such a wait */
 };
 /* What pz_sleep says besides answers: the limit came. */
 enum { EXPIRED = PZ_FAULT + 1 };

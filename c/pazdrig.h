@@ -49,6 +49,10 @@ int pz_mutex_unlock(pz *, unsigned m);      /* EPERM */
 int pz_mutex_consistent(pz *, unsigned m);  /* EPERM, EINVAL: there is nothing to declare */
 int pz_mutex_reinit(pz *, unsigned m);      /* 0: free again, unusable or not; EBUSY: owned or slept on; EAGAIN */
 int pz_cond_wait(pz *, unsigned c);         /* EOWNERDEAD, ENOTRECOVERABLE, EPERM, EINVAL: declare consistent first */
+/* Up to a time, as timedlock and clocklock: as wait, and ETIMEDOUT, as the mutex's owner; EINVAL: another clock, or no
+ * time. */
+int pz_cond_timedwait(pz *, unsigned c, const struct timespec *until);
+int pz_cond_clockwait(pz *, unsigned c, clockid_t clock, const struct timespec *until);
 int pz_cond_signal(pz *, unsigned c);       /* EPERM, EOVERFLOW: it had too many, see docs/C.md */
 int pz_cond_broadcast(pz *, unsigned c);    /* the same */
 

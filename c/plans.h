@@ -17,7 +17,7 @@ int pz_refused(pz *p, unsigned m, unsigned operation, struct limit *limit, uint6
 int pz_lost(pz *p, unsigned m, unsigned operation, struct limit *limit, uint64_t seen, uint64_t found);
 int pz_hand_on(pz *p, unsigned m, uint64_t found);
 int pz_take_behind(pz *p, unsigned m, struct limit *limit);
-int pz_cond_by_steps(pz *p, unsigned c, unsigned operation);
+int pz_cond_by_steps(pz *p, unsigned c, unsigned operation, struct limit *limit);
 int pz_counted(pz *p, unsigned c, unsigned operation, uint64_t count, uint64_t found);
 uint64_t pz_begin_again(word *counter, uint64_t count);
 
@@ -110,7 +110,7 @@ static inline int pz_count(pz *p, unsigned c, unsigned operation)
 {
     uint64_t t = pz_self[p->number].id;
     if (PZ_TRACE || c >= p->conds || !t)
-        return pz_cond_by_steps(p, c, operation);
+        return pz_cond_by_steps(p, c, operation, NULL);
     word *w = &p->words[p->cell_of[c]], *counter = &p->words[counter_place(p, c)];
     uint64_t seen = atomic_load_explicit(w, memory_order_acquire);
     if ((seen & OWNED) != t)

@@ -268,10 +268,15 @@ static int is_reaped(const struct sleeper *s)
 
 /* Whether it is over: it sleeps nowhere, was given no wake by its last sleep, and isn't the heir. So whoever has
  * released the mutex, and left the wake to it, has changed the word by now, and it goes on. A dead owner is reaped
- * first: the mutex may be had. (Where another one does that, it isn't there yet.) */
+ * first: the mutex may be had. (Where another one does that, it isn't there yet.)
+ *
+ * Of a wait: who signals or broadcasts counts before it wakes or moves anybody, and no counter begins again beside a
+ * sleeper's bit. So where it is as it was, nobody has picked this thread, nor moved it to the mutex, and whoever counts
+ * from here on finds it in no queue: the signal is another's. Else it goes on as one that was woken. */
 static uint32_t gives_up(const struct sleeper *s)
 {
-    pz_reap_if_dead(s->p, s->thread, owner_of(s->expected));
+    if (!is_counter(s->p, s->at))
+        pz_reap_if_dead(s->p, s->thread, owner_of(s->expected));
     return unless_changed(s, EXPIRED);
 }
 

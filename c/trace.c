@@ -26,7 +26,7 @@ static const char *const operations[] = {
     [PZ_OP_UNLOCK] = "unlock",       [PZ_OP_CONSISTENT] = "consistent",
     [PZ_OP_WAIT] = "wait",           [PZ_OP_SIGNAL] = "signal",
     [PZ_OP_BROADCAST] = "broadcast", [PZ_OP_DEATH] = "death",
-    [PZ_OP_TIMEDLOCK] = "timedlock",
+    [PZ_OP_TIMEDLOCK] = "timedlock", [PZ_OP_TIMEDWAIT] = "timedwait",
 };
 
 static const char *word_of(unsigned reply)

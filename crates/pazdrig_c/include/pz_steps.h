@@ -49,7 +49,7 @@ enum pz_access_kind {
 
 enum pz_operation {
     PZ_OP_LOCK, PZ_OP_TRYLOCK, PZ_OP_UNLOCK, PZ_OP_CONSISTENT, PZ_OP_WAIT, PZ_OP_SIGNAL, PZ_OP_BROADCAST, PZ_OP_DEATH,
-    PZ_OP_REINIT, PZ_OP_TIMEDLOCK
+    PZ_OP_REINIT, PZ_OP_TIMEDLOCK, PZ_OP_TIMEDWAIT
 };
 
 struct pz_access {
