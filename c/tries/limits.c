@@ -1,6 +1,6 @@
-/* Locks with a time limit: each answer; limits that are past, come, and are far away, by either clock; what a call that
- * gives up leaves, and to whom; owners that die just then. Polling is off, so who isn't woken sleeps for good; a limit
- * that must come is waited for, and one that mustn't is far away. */
+/* Locks and waits with a time limit: each answer; limits that are past, come, and are far away, by either clock; what a
+ * call that gives up leaves, and to whom; owners that die just then. Polling is off, so who isn't woken sleeps for
+ * good; a limit that must come is waited for, and one that mustn't is far away. */
 #include "driver.h"
 #include "times.h"
 #include <linux/futex.h>
@@ -12,7 +12,7 @@ static pz *open_new(unsigned mutexes)
 {
     pz *p;
     const char *path = a_file("limits");
-    SAME(pz_open(path, 0600, mutexes, 0, NULL, 0, &p), 0);
+    SAME(pz_open(path, 0600, mutexes, 1, NULL, 0, &p), 0);
     CHECK(unlink(path) == 0);
     return p;
 }
@@ -287,6 +287,202 @@ static void an_owner_dies(void)
     pz_close(p);
 }
 
+/* ---- Waits. */
+
+/* Nothing is left of a wait, but the mutex where it says so; and errno is as it was. */
+static int wait_until(pz *p, clockid_t clock, const struct timespec *until)
+{
+    errno = WAS;
+    int r = wait_by(p, 0, clock, until);
+    unsigned t = pz_thread_id(p);
+    CHECK(errno == WAS && atomic_load(&p->words[head_place(t) + 2]) == 0);
+    CHECK(!(atomic_load(sleepers(p, cell_place(0))) & bit_of(t)) && (atomic_load(heir(p, cell_place(0))) & WHO) != t);
+    CHECK(!(atomic_load(sleepers(p, counter_place(p, 0))) & bit_of(t)));
+    CHECK((pz_mutex_owner(p, 0) == t) == (r != ENOTRECOVERABLE));
+    return r;
+}
+
+/* Which of the two that it owns it had last. */
+static unsigned last_had(pz *p) { return mutex_at(atomic_load(&p->words[head_place(pz_thread_id(p))]) - 1); }
+
+/* A limit that is past has it released and had again; what is no time doesn't. */
+static void a_wait_answers(pz *p, clockid_t clock)
+{
+    SAME(pz_mutex_lock(p, 0), 0);
+    for (int i = 0; i < PAST; i++) {
+        SAME(pz_mutex_lock(p, 1), 0);
+        SAME(wait_until(p, clock, &past[i]), ETIMEDOUT);
+        SAME((int)last_had(p), 0);
+        SAME(pz_mutex_unlock(p, 1), 0);
+    }
+    SAME(pz_mutex_lock(p, 1), 0);
+    for (int i = 0; i < NO_TIME; i++)
+        SAME(wait_until(p, clock, &no_time[i]), EINVAL);
+    SAME(wait_by(p, 1, clock, &past[0]), EINVAL);
+    SAME((int)last_had(p), 1);
+    SAME(pz_mutex_unlock(p, 1), 0);
+    SAME(pz_mutex_unlock(p, 0), 0);
+    SAME(wait_by(p, 0, clock, &past[0]), EPERM);
+    SAME(wait_by(p, 0, clock, &far_away), EPERM);
+    an_owner_is_killed(p, 0);
+    SAME(pz_mutex_lock(p, 0), EOWNERDEAD);
+    SAME(wait_until(p, clock, &past[0]), EINVAL);
+    SAME(wait_until(p, clock, &far_away), EINVAL);
+    SAME(pz_mutex_consistent(p, 0), 0);
+    SAME(wait_until(p, clock, &past[0]), ETIMEDOUT);
+    SAME(pz_mutex_unlock(p, 0), 0);
+}
+
+static void waits_answer(void)
+{
+    static const clockid_t others[] = {CLOCK_PROCESS_CPUTIME_ID, CLOCK_BOOTTIME, 99, -1};
+    pz *p = open_new(2);
+    for (int i = 0; i < 4; i++)
+        SAME(pz_cond_clockwait(p, 0, others[i], &far_away), EINVAL);
+    SAME(pz_thread_id(p), 0);
+    for (int c = 0; c < 2; c++)
+        a_wait_answers(p, clocks[c]);
+    pz_close(p);
+}
+
+/* With a handler each 5 ms too: it sleeps again. */
+static void a_waits_limit_comes(void)
+{
+    static const long after_us[] = {50, 2000, 100000};
+    pz *p = open_new(1);
+    pid_t it = a_child();
+    if (!it)
+        SAME(pz_mutex_lock(p, 0), 0);
+    for (int often = 0; !it && often < 2; often++) {
+        be_interrupted(often ? 5000 : 0);
+        for (int c = 0; c < 2; c++)
+            for (int i = 0; i < 3; i++) {
+                struct timespec until = from_now(clocks[c], after_us[i]);
+                SAME(wait_until(p, clocks[c], &until), ETIMEDOUT);
+                CHECK(has_come(clocks[c], &until));
+            }
+    }
+    if (!it)
+        _exit(atomic_load(&handled) == 0 || pz_mutex_unlock(p, 0));
+    ends_well(it);
+    pz_close(p);
+}
+
+/* What a child is told, by its end: it has begun a wait once `waits` says so and it has released the mutex. */
+struct waiting {
+    struct timespec until;
+    _Atomic int waits;
+};
+static pid_t a_waiter(pz *p, clockid_t clock, long us, int often, struct waiting *w)
+{
+    atomic_store(&w->waits, 0);
+    pid_t it = a_child();
+    if (!it) {
+        be_interrupted(often ? 5000 : 0);
+        SAME(pz_mutex_lock(p, 0), 0);
+        w->until = us ? from_now(clock, us) : far_away;
+        atomic_store(&w->waits, 1);
+        int r = wait_until(p, clock, &w->until);
+        CHECK(r != ETIMEDOUT || has_come(clock, &w->until));
+        if (r == EOWNERDEAD)
+            SAME(pz_mutex_consistent(p, 0), 0);
+        if (r != ENOTRECOVERABLE)
+            SAME(pz_mutex_unlock(p, 0), 0);
+        _exit(r);
+    }
+    while (!atomic_load(&w->waits))
+        rest(50);
+    return it;
+}
+static int is_told(pid_t it)
+{
+    int status;
+    CHECK(waitpid(it, &status, 0) == it && WIFEXITED(status));
+    return WEXITSTATUS(status);
+}
+
+/* One that is far away: what it waits for comes before. */
+static void what_it_waits_for_comes(clockid_t clock, int often, struct waiting *w)
+{
+    static int (*const calls[])(pz *, unsigned) = {pz_cond_signal, pz_cond_broadcast};
+    pz *p = open_new(1);
+    for (int i = 0; i < 2; i++) {
+        pid_t it = a_waiter(p, clock, 0, often, w);
+        until_asleep(it);
+        SAME(pz_mutex_lock(p, 0), 0);
+        SAME(calls[i](p, 0), 0);
+        SAME(pz_mutex_unlock(p, 0), 0);
+        SAME(is_told(it), 0);
+    }
+    pz_close(p);
+}
+
+/* The mutex is another's until behind the limit: the lock that ends the wait has none, and what it says comes first.
+ * Who was signalled, or moved to the mutex, before the limit isn't late. Where this process had the mutex only behind
+ * it, nothing is said, and it is tried again with a later one. */
+enum how { OWNED_ALL_ALONG, SIGNALLED, MOVED, OWNER_DIES, SPOILED, HOWS };
+static const int answer_of[] = {ETIMEDOUT, 0, 0, EOWNERDEAD, ENOTRECOVERABLE};
+
+static int has_it_for(pz *p, enum how how)
+{
+    if (how == SPOILED)
+        an_owner_is_killed(p, 0);
+    int r = pz_mutex_lock(p, 0);
+    if (how == SIGNALLED)
+        SAME(pz_cond_signal(p, 0), 0);
+    if (how == MOVED)
+        SAME(pz_cond_broadcast(p, 0), 0);
+    return r == (how == SPOILED ? EOWNERDEAD : 0);
+}
+static int is_behind_it(clockid_t clock, enum how how, long us, struct waiting *w)
+{
+    pz *p = open_new(1);
+    pid_t it = a_waiter(p, clock, us, 0, w), owner = how == OWNER_DIES ? an_owner(p, 0) : 0;
+    int in_time = (owner || has_it_for(p, how)) && !has_come(clock, &w->until);
+    while (!has_come(clock, &w->until))
+        rest(500);
+    if (in_time)
+        until_asleep(it); /* on the mutex */
+    if (owner)
+        kill_and_wait(owner);
+    else
+        SAME(pz_mutex_unlock(p, 0), 0);
+    int told = is_told(it);
+    if (in_time)
+        SAME(told, answer_of[how]);
+    pz_close(p);
+    return in_time;
+}
+
+/* Who waits behind one whose limit comes has the next signal. */
+static void the_next_is_signalled(struct waiting *w)
+{
+    pz *p = open_new(1);
+    pid_t first = a_waiter(p, CLOCK_MONOTONIC, 50000, 0, w), second = a_waiter(p, CLOCK_REALTIME, 0, 0, w + 1);
+    SAME(is_told(first), ETIMEDOUT);
+    until_asleep(second);
+    SAME(pz_mutex_lock(p, 0), 0);
+    SAME(pz_cond_signal(p, 0), 0);
+    SAME(pz_mutex_unlock(p, 0), 0);
+    SAME(is_told(second), 0);
+    pz_close(p);
+}
+
+static void waits(void)
+{
+    struct waiting *w = shared(2 * sizeof *w);
+    waits_answer();
+    a_waits_limit_comes();
+    for (int c = 0; c < 2; c++) {
+        for (int often = 0; often < 2; often++)
+            what_it_waits_for_comes(clocks[c], often, w);
+        for (int how = 0; how < HOWS; how++)
+            for (long us = 50000; !is_behind_it(clocks[c], (enum how)how, us, w); us *= 2)
+                ;
+    }
+    the_next_is_signalled(w);
+}
+
 int main(void)
 {
     alarm(100);
@@ -301,5 +497,6 @@ int main(void)
     }
     one_behind();
     an_owner_dies();
+    waits();
     return 0;
 }

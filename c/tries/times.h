@@ -29,6 +29,10 @@ static inline int lock_by(pz *p, unsigned m, clockid_t clock, const struct times
 {
     return clock == CLOCK_REALTIME ? pz_mutex_timedlock(p, m, until) : pz_mutex_clocklock(p, m, clock, until);
 }
+static inline int wait_by(pz *p, unsigned c, clockid_t clock, const struct timespec *until)
+{
+    return clock == CLOCK_REALTIME ? pz_cond_timedwait(p, c, until) : pz_cond_clockwait(p, c, clock, until);
+}
 
 /* Each so many microseconds from here on; 0: no more. */
 static _Atomic int handled;
