@@ -1,7 +1,8 @@
 /* One thread goes to sleep, as a mutex's heir first, while another changes the word and wakes, in orders of their
  * instructions over a kernel that is played: nobody is left asleep, no sleeper's bit is left behind, and nobody waits
  * for one that was woken. So too where the one has a time limit, which comes at any moment of its sleep, and a third
- * sleeps beside it: that one has the wake that the first gave up, and no entry stays pending. */
+ * sleeps beside it: that one has the wake that the first gave up, and no entry stays pending. And where it waits up to
+ * a limit: who was woken or moved isn't late, who is late has the mutex, and the signal is the third's. */
 #define PZ_SPIN 0
 #include "turns.h"
 #include <linux/futex.h>
@@ -27,7 +28,8 @@ enum {
     TID = 77,
     INTERRUPTIONS = 4,
     FEW_INTERRUPTIONS = 3,
-    FAR_AWAY_S = 1000000000
+    FAR_AWAY_S = 1000000000,
+    COUNT = 7
 };
 
 static struct pz file;
@@ -53,8 +55,10 @@ void pz_tell_of_id(pz *p) { (void)p; }
 static long refused(int why) { return errno = why, -1; }
 static int is_awake(void) { return !asleep_on; }
 
-/* Whether it has a time limit, which comes at some moment of its sleep, and whether that has come. */
+/* Whether it has a time limit, which comes at some moment of its sleep there, and whether that has come. */
 static int is_timed, time_is_over;
+static uint64_t timed_at;
+static int has_limit, was_picked; /* whether this sleep has it; whether one that has was woken, or moved */
 static int may_end(void) { return 1; }
 
 /* How many of the next sleeps on that word a signal's handler ends (EINTR); and whether one has just ended so: then the
@@ -80,7 +84,8 @@ static long fall_asleep(uint32_t *on)
     if (on == (uint32_t *)&words[slept_at] && interruptions-- > 0)
         return is_interrupted = 1, refused(EINTR);
     asleep_on = on;
-    wait_until(is_timed ? may_end : is_awake);
+    has_limit = is_timed && on == (uint32_t *)&words[timed_at];
+    wait_until(has_limit ? may_end : is_awake);
     if (!asleep_on)
         return 0;
     asleep_on = NULL;
@@ -95,6 +100,7 @@ static long wake_up(uint32_t *on, unsigned most)
     unsigned n = 0;
     for (int i = 0; i < 2 && n < most; i++)
         if (*queue[i] == on) {
+            was_picked |= queue[i] == &asleep_on && has_limit;
             *queue[i] = NULL;
             n++;
         }
@@ -103,10 +109,15 @@ static long wake_up(uint32_t *on, unsigned most)
 
 static long move(uint32_t *from, uint32_t *to)
 {
-    if (asleep_on != from)
-        return 0;
-    asleep_on = to;
-    return 1;
+    uint32_t **queue[] = {&asleep_on, &other_asleep_on};
+    long n = 0;
+    was_picked |= asleep_on == from && has_limit;
+    for (int i = 0; i < 2; i++)
+        if (*queue[i] == from) {
+            *queue[i] = to;
+            n++;
+        }
+    return n;
 }
 
 static long play_waitv(const struct futex_waitv *v, unsigned n)
@@ -238,7 +249,7 @@ static void begin_words(void)
     words[head] = cell + 1;
     words[head + 1] = UINT64_MAX;
     words[head_place(SLEEPER)] = head_place(SLEEPER);
-    words[counter_place(&file, 0)] = 7;
+    words[counter_place(&file, 0)] = COUNT;
     tokens[OWNER] = TID;
     pz_self[0] = (struct self){.id = OWNER, .held = 1};
 }
@@ -273,7 +284,7 @@ static void on_a_counter(uint64_t cell, uint64_t counter)
     struct pz_access count = {.kind = PZ_ADD, .at = counter, .a = 1},
                      waiters = {.kind = PZ_OR, .at = cell, .a = WAITERS};
     struct pz_access signal = {.kind = PZ_WAKE, .at = counter, .most = 1};
-    struct pz_access move_all = {.kind = PZ_CMP_REQUEUE, .at = counter, .a = 8, .b = cell, .most = 64};
+    struct pz_access move_all = {.kind = PZ_CMP_REQUEUE, .at = counter, .a = COUNT + 1, .b = cell, .most = 64};
     struct pz_access release = {.kind = PZ_XOR, .at = cell, .a = OWNER},
                      wake = {.kind = PZ_WAKE, .at = cell, .most = 1};
     nobody_is_left(counter, (struct pz_access[]){count, signal, release}, 3 * sizeof wake);
@@ -296,7 +307,7 @@ static void on_a_cell(uint64_t cell)
 
 /* ---- With a time limit. */
 
-static long timed_out, had_it;
+static long timed_out, had_it, waits_late, waits_told;
 
 /* A third one sleeps too, if any: it has been woken in the end, as nobody has the mutex. */
 static void one_with_a_limit(void (*wakes)(void), uint64_t its_heir, int is_over, int third)
@@ -330,13 +341,75 @@ static void with_a_limit(void (*wakes)(void))
             }
 }
 
+/* A wait that has just released the mutex, which the other one has taken: what it returns, and whether it was counted
+ * before. It has the mutex then, and gives it back. */
+static int was_counted;
+static void waits_for_a_time(void)
+{
+    static const struct timespec far_away = {FAR_AWAY_S, 0};
+    struct limit limit = {.clock = CLOCK_MONOTONIC, .at = &far_away, .is_of_wait = 1};
+    struct pz_call call = cond_call_of(&file, SLEEPER, 0);
+    call.program = ON_CONDITION;
+    call.phase.kind = WAIT_RELEASE;
+    call.phase.seen = COUNT;
+    was_counted = words[call.counter] != COUNT;
+    answer = run_on(&file, SLEEPER, &call, &limit, PZ_VALUE, SLEEPER);
+    CHECK(owner_of(words[cell_place(0)]) == SLEEPER && !(*sleepers(&file, call.counter) & bit_of(SLEEPER)));
+    pz_awake(&file, SLEEPER, cell_place(0));
+    call = call_of(SLEEPER, cell_place(0));
+    SAME((int)run(&file, &call, PZ_OP_UNLOCK, -1, NULL), 0);
+}
+
+/* A third one waits too, if any: a signal is its own where the first is late. (Where it was moved and woken before the
+ * first, that one sleeps behind it.) */
+static void one_waits_with_a_limit(void (*wakes)(void), int is_over, int third)
+{
+    uint64_t cell = cell_place(0), counter = counter_place(&file, 0), of_third = third ? bit_of(OTHER) : 0;
+    do {
+        begin_words();
+        *sleepers(&file, counter) = bit_of(SLEEPER) | of_third;
+        asleep_on = NULL;
+        other_asleep_on = third ? (uint32_t *)&words[counter] : NULL;
+        was_picked = 0;
+        time_is_over = is_over;
+        if (!take_turns(wakes, waits_for_a_time)) {
+            CHECK(wakes == broadcasts && third && !other_asleep_on && asleep_on == (uint32_t *)&words[cell]);
+            continue;
+        }
+        CHECK(answer == 0 || answer == ETIMEDOUT);
+        CHECK(answer == 0 || (!was_picked && !was_counted));
+        if (other_asleep_on && !was_picked)
+            fail(__FILE__, __LINE__, "the signal is lost");
+        CHECK(!asleep_on && other_asleep_on != (uint32_t *)&words[cell] && owner_of(words[cell]) == 0);
+        CHECK(words[head_place(SLEEPER)] == head_place(SLEEPER) && words[head_place(SLEEPER) + 2] == 0);
+        CHECK(*sleepers(&file, counter) == of_third && !(*sleepers(&file, cell) & ~of_third));
+        CHECK((*heir(&file, cell) & WHO) != SLEEPER && (third || !(*heir(&file, cell) & COMES)));
+        waits_late += answer == ETIMEDOUT;
+        waits_told += answer == 0;
+        orders++;
+    } while (next_order());
+}
+
+static void waits_have_a_limit(void (*wakes)(void))
+{
+    for (int is_over = 0; is_over < 2; is_over++)
+        for (int third = 0; third < 2; third++)
+            for (other_is_first = 0; other_is_first <= third; other_is_first++)
+                one_waits_with_a_limit(wakes, is_over, third);
+}
+
 static void it_has_a_limit(void)
 {
     is_timed = 1;
     most_interruptions = FEW_INTERRUPTIONS;
+    timed_at = cell_place(0);
     with_a_limit(unlocks);
     with_a_limit(unlocks_and_tries);
     CHECK(timed_out > 1000 && had_it > 1000);
+    timed_at = counter_place(&file, 0);
+    waits_have_a_limit(signals);
+    waits_have_a_limit(broadcasts);
+    CHECK(waits_late > 1000 && waits_told > 1000);
     is_timed = time_is_over = 0;
     most_interruptions = INTERRUPTIONS;
 }
@@ -370,7 +443,7 @@ int main(void)
     for (no_waitv = 0; no_waitv < 2; no_waitv++)
         it_has_a_limit();
     printf("sleepers: nobody was left asleep in any of %ld orders of instructions; %ld times a limit came\n", orders,
-           timed_out);
+           timed_out + waits_late);
     CHECK(orders > 20000);
     return 0;
 }
