@@ -3,7 +3,8 @@
  * PZ_SPIN again; less where many sleep, and not at all where the word's owner is dead. It falls due, and whoever owes
  * it the mutex waits for it, and not too long. Only who was woken takes the place of one that was. How long a waiter
  * sleeps until it looks by itself, and one that waits for an id. And a time limit: it ends pauses and naps, the kernel
- * is asked for it by its own clock, which may be set, and it comes where it is past, or no time. */
+ * is asked for it by its own clock, which may be set, and it comes where it is past, or no time. So too of a wait,
+ * unless a signal came first. */
 #include <sched.h>
 #include <time.h>
 #include <unistd.h>
@@ -493,11 +494,97 @@ static void an_heir_gives_up(void)
     CHECK(wakes == 1 && asked.on == (uint32_t *)&words[cell] && !*heir(&file, cell));
 }
 
+/* ---- A wait, until its limit. Its counter's number is none of an owner that is dead. */
+
+static struct limit begin_wait(clockid_t clock, long ns)
+{
+    begin(OTHER | WAITERS, 0);
+    words[counter_place(&file, 0)] = DEAD;
+    *sleepers(&file, counter_place(&file, 0)) = bit_of(5);
+    struct limit limit = until_then(clock, ns);
+    limit.is_of_wait = 1;
+    return limit;
+}
+
+/* Nobody else is forgotten, woken or taken for dead. (Who was woken is the heir.) */
+static void it_waits(struct limit *limit, uint32_t seen, uint32_t wanted)
+{
+    uint64_t counter = counter_place(&file, 0);
+    SAME((int)pz_sleep(&file, SELF, counter, seen, limit), (int)wanted);
+    CHECK(*sleepers(&file, counter) == bit_of(5) && words[cell] == (OTHER | WAITERS));
+    CHECK((*heir(&file, cell) & WHO) == (wanted == PZ_WOKEN ? SELF : 0));
+    CHECK(wakes == 0 && reaps == 0);
+}
+
+/* It looks meanwhile as one without a limit does: the kernel isn't asked more often. */
+static void looks_up_to_it(void)
+{
+    CHECK(asked.on == (uint32_t *)&words[counter_place(&file, 0)] && !asked.is_of_many);
+    CHECK(asked.ns <= look_after_ms[sleeps_asked - 1] * 1000000 && asked.until <= ns_of(&at));
+    refuses = ETIMEDOUT;
+    time_passes();
+}
+static void a_wait_ends_there(clockid_t clock)
+{
+    struct limit limit = begin_wait(clock, SECOND / 4);
+    meanwhile = looks_up_to_it;
+    it_waits(&limit, DEAD, EXPIRED);
+    CHECK(sleeps_asked == 4 && asked.clock == clock && asked.until == ns_of(&at) && time_by(clock) >= ns_of(&at));
+}
+
+/* Its time passes as well: who was woken was, and who finds that there was a signal was, though nobody woke it. */
+static void is_counted(void)
+{
+    words[counter_place(&file, 0)]++;
+    time_passes();
+}
+static void is_counted_and_woken(void)
+{
+    is_counted();
+    refuses = 0;
+}
+static void is_counted_in_vain(void)
+{
+    is_counted();
+    refuses = ETIMEDOUT;
+}
+static void a_wait_ends_before(clockid_t clock)
+{
+    struct limit limit = begin_wait(clock, SECOND / 100);
+    meanwhile = is_counted_and_woken;
+    it_waits(&limit, DEAD, PZ_WOKEN);
+    limit = begin_wait(clock, SECOND / 100);
+    meanwhile = is_counted_in_vain;
+    it_waits(&limit, DEAD, PZ_AGAIN);
+}
+
+/* It has come: nobody asks the kernel, and who comes to a counter that has changed isn't late. */
+static void a_waits_limit_has_come(clockid_t clock)
+{
+    struct limit limit = begin_wait(clock, -1);
+    it_waits(&limit, DEAD, EXPIRED);
+    it_waits(&limit, DEAD - 1, PZ_AGAIN);
+    CHECK(sleeps_asked == 0);
+}
+
+static void a_waits_clock_is_set(void)
+{
+    struct limit limit = begin_wait(CLOCK_REALTIME, SECOND / 100);
+    refuses = ETIMEDOUT;
+    meanwhile = is_set;
+    it_waits(&limit, DEAD, EXPIRED);
+    CHECK(sleeps_asked == 2 && asked.clock == CLOCK_REALTIME);
+    ahead_ns = 3600l * SECOND;
+}
+
 static void with_a_limit(clockid_t clock)
 {
     a_sleep_ends_there(clock);
     a_limit_that_is_far(clock);
     it_has_come(clock);
+    a_wait_ends_there(clock);
+    a_wait_ends_before(clock);
+    a_waits_limit_has_come(clock);
 }
 
 int main(void)
@@ -523,6 +610,7 @@ int main(void)
         with_a_limit(CLOCK_MONOTONIC);
         with_a_limit(CLOCK_REALTIME);
         a_clock_that_is_set();
+        a_waits_clock_is_set();
     }
     its_owner_dies_there();
     it_owes();
