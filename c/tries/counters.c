@@ -1,5 +1,6 @@
 /* A condition variable's counter begins again where nobody waits, whatever it was, and nowhere else: beside a waiter
- * that is asleep, one that has released the mutex and isn't asleep yet, and one that was killed, it counts on. */
+ * that is asleep, one that has released the mutex and isn't asleep yet, and one that was killed, it counts on; behind
+ * one whose time limit came it doesn't. */
 #include "driver.h"
 #include "plans.h"
 #include "try.h"
@@ -122,6 +123,16 @@ static void one_is_killed(void)
     pz_close(file);
 }
 
+static void one_is_late(void)
+{
+    open_at("late", 0);
+    SAME(pz_mutex_lock(file, 0), 0);
+    SAME(pz_cond_clockwait(file, 0, CLOCK_MONOTONIC, &(struct timespec){0}), ETIMEDOUT);
+    SAME(pz_mutex_unlock(file, 0), 0);
+    counts(pz_cond_broadcast, FULL, 0, 1);
+    pz_close(file);
+}
+
 static void one_is_refused(void)
 {
     open_at("refused", 0);
@@ -144,6 +155,7 @@ int main(void)
     one_sleeps();
     one_is_about_to_sleep();
     one_is_killed();
+    one_is_late();
     one_is_refused();
     puts("counters: each began again where nobody waited, and nowhere else");
     return 0;

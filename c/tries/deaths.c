@@ -1,4 +1,4 @@
-/* Processes that lock, also with a time limit, wait, signal and are killed at random. Of each mutex the data says who
+/* Processes that lock and wait, also with a time limit, signal and are killed at random. Of each mutex the data says who
  * is inside and is written twice, so a second owner or a lost write is seen; each process has to get on, so a lost wake
  * is. In a crowd more processes come than there are ids, and leave now and then. usage: deaths DEATHS PROCESSES
  * THREADS [storm | crowd] */
@@ -17,7 +17,7 @@ struct board {
     _Atomic long told, repaired, locks;
     _Atomic long came, before; /* limits: those that came, and those before which it had the mutex */
     _Atomic long got_on[MOST]; /* by process */
-    _Atomic long waits;        /* that came to their end */
+    _Atomic long waits, late;  /* that came to their end; that were out of time */
     _Atomic long items[CONDS]; /* what waits wait for: at most a few */
 };
 
@@ -57,22 +57,9 @@ static void leave(unsigned m)
     CHECK(atomic_exchange(&g->inside, 0) == (int)getpid());
 }
 
-static void take(unsigned c, unsigned m)
+/* That is past, comes soon, or is far away. */
+static struct timespec a_limit(clockid_t clock, unsigned *random)
 {
-    if (atomic_load(&b->items[c]) == 0) {
-        leave(m);
-        int r = pz_cond_wait(p, c);
-        enter(m, r);
-        atomic_fetch_add(&b->waits, 1);
-    }
-    if (atomic_load(&b->items[c]) > 0)
-        atomic_fetch_sub(&b->items[c], 1);
-}
-
-/* With a limit that is past, comes soon, or is far away. */
-static int lock_until(unsigned m, unsigned *random)
-{
-    clockid_t clock = rand_r(random) % 2 ? CLOCK_REALTIME : CLOCK_MONOTONIC;
     struct timespec until;
     clock_gettime(clock, &until);
     unsigned how = (unsigned)rand_r(random) % 4;
@@ -81,6 +68,40 @@ static int lock_until(unsigned m, unsigned *random)
     until.tv_nsec %= 1000000000;
     if (how == 0)
         until.tv_sec -= 1;
+    return until;
+}
+static clockid_t a_clock(unsigned *random) { return rand_r(random) % 2 ? CLOCK_REALTIME : CLOCK_MONOTONIC; }
+
+/* Every second wait has a limit. Who is late owns the mutex as who was woken does. */
+static int wait_once(unsigned c, unsigned *random)
+{
+    if (rand_r(random) % 2)
+        return pz_cond_wait(p, c);
+    clockid_t clock = a_clock(random);
+    struct timespec until = a_limit(clock, random);
+    int r = pz_cond_clockwait(p, c, clock, &until);
+    if (r != ETIMEDOUT)
+        return r;
+    atomic_fetch_add(&b->late, 1);
+    return 0;
+}
+
+static void take(unsigned c, unsigned m, unsigned *random)
+{
+    if (atomic_load(&b->items[c]) == 0) {
+        leave(m);
+        int r = wait_once(c, random);
+        enter(m, r);
+        atomic_fetch_add(&b->waits, 1);
+    }
+    if (atomic_load(&b->items[c]) > 0)
+        atomic_fetch_sub(&b->items[c], 1);
+}
+
+static int lock_until(unsigned m, unsigned *random)
+{
+    clockid_t clock = a_clock(random);
+    struct timespec until = a_limit(clock, random);
     int r = pz_mutex_clocklock(p, m, clock, &until);
     atomic_fetch_add(r == ETIMEDOUT ? &b->came : &b->before, 1);
     return r;
@@ -92,7 +113,7 @@ static void wait_or_give(unsigned c, unsigned *random)
     unsigned m = c % FEW;
     enter(m, pz_mutex_lock(p, m));
     if (rand_r(random) % 2) {
-        take(c, m);
+        take(c, m, random);
     } else {
         atomic_store(&b->items[c], 1);
         SAME(rand_r(random) % 4 ? pz_cond_signal(p, c) : pz_cond_broadcast(p, c), 0);
@@ -236,10 +257,12 @@ int main(int argc, char **argv)
     for (int i = 0; i < n; i++)
         kill_and_wait(child[i]);
     pz_reap(p);
-    printf("deaths: %d, %ld times EOWNERDEAD, %ld repairs, %ld rounds, %ld waits; of limits %ld came, %ld didn't\n",
+    printf("deaths: %d, %ld times EOWNERDEAD, %ld repairs, %ld rounds, %ld waits, %ld of them late; of locks' limits "
+           "%ld came, %ld didn't\n",
            deaths, atomic_load(&b->told), atomic_load(&b->repaired), atomic_load(&b->locks), atomic_load(&b->waits),
-           atomic_load(&b->came), atomic_load(&b->before));
-    CHECK(atomic_load(&b->told) > 0 && (is_crowd || atomic_load(&b->waits) > 0));
+           atomic_load(&b->late), atomic_load(&b->came), atomic_load(&b->before));
+    CHECK(atomic_load(&b->told) > 0);
+    CHECK(is_crowd || (atomic_load(&b->late) > 0 && atomic_load(&b->waits) > atomic_load(&b->late)));
     CHECK(atomic_load(&b->came) > 0 && atomic_load(&b->before) > 0);
     pz_close(p);
     unlink(path);

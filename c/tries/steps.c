@@ -52,7 +52,7 @@ static void give(unsigned m)
 }
 
 /* Three mutexes are on the list at once; one is taken from the middle of it; a fourth is another's, up to a limit; a
- * condition variable's mutex is released by a wait. */
+ * condition variable's mutex is released by a wait, which is out of time, and by one that isn't. */
 static void calls(int waits)
 {
     take(0, 0);
@@ -63,6 +63,9 @@ static void calls(int waits)
     SAME(pz_mutex_clocklock(p, ANOTHERS, CLOCK_MONOTONIC, &(struct timespec){0}), ETIMEDOUT);
     give(2);
     SAME(pz_cond_signal(p, 0), 0);
+    atomic_store(&seen->state[0], UNSURE);
+    SAME(pz_cond_clockwait(p, 0, CLOCK_MONOTONIC, &(struct timespec){0}), ETIMEDOUT);
+    atomic_store(&seen->state[0], HELD_BY_IT);
     if (waits) {
         atomic_store(&seen->state[0], UNSURE);
         pz_cond_wait(p, 0);
@@ -95,6 +98,7 @@ static void look(void)
     }
     pz_reap(p);
     CHECK(!atomic_load(sleepers(p, cell_place(ANOTHERS))) && !atomic_load(heir(p, cell_place(ANOTHERS))));
+    CHECK(!atomic_load(sleepers(p, counter_place(p, 0))));
 }
 
 /* Somebody sleeps on the first mutex, and gets it. */

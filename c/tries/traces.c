@@ -8,6 +8,9 @@
  * millisecond. */
 enum { MUTEXES = 3, CONDS = 1, AT_ONCE = 5, IN_ALL = 200, HASTE = 20, ENOUGH = 80000 };
 
+/* 1: some waits have limits too, as `timedwait`. Not before `rfx check` has that word. */
+enum { TIMED_WAITS = 0 };
+
 static pz *p;
 static _Atomic unsigned *ids; /* by child */
 
@@ -19,15 +22,30 @@ static void settle(unsigned m, int r)
         SAME(r, 0);
 }
 
-/* With a limit that is past, comes soon, or doesn't. */
-static int lock_until(unsigned m, unsigned *random)
+/* That is past, comes soon, or doesn't. */
+static struct timespec a_limit(unsigned *random)
 {
     struct timespec until;
     clock_gettime(CLOCK_MONOTONIC, &until);
     unsigned how = (unsigned)rand_r(random) % 3;
     until.tv_sec += how == 0 ? -1 : how == 1 ? 1000 : until.tv_nsec / 999000000;
     until.tv_nsec = how < 2 ? until.tv_nsec : (until.tv_nsec + 1000000) % 1000000000;
+    return until;
+}
+static int lock_until(unsigned m, unsigned *random)
+{
+    struct timespec until = a_limit(random);
     return pz_mutex_clocklock(p, m, CLOCK_MONOTONIC, &until);
+}
+
+/* Who is late owns the mutex. */
+static int wait_once(unsigned *random)
+{
+    if (!TIMED_WAITS || rand_r(random) % 3 == 0)
+        return pz_cond_wait(p, 0);
+    struct timespec until = a_limit(random);
+    int r = pz_cond_clockwait(p, 0, CLOCK_MONOTONIC, &until);
+    return r == ETIMEDOUT ? 0 : r;
 }
 
 static void work(int slot)
@@ -53,7 +71,7 @@ static void work(int slot)
         if (m == 0 && rand_r(&random) % 2)
             SAME(rand_r(&random) % 2 ? pz_cond_signal(p, 0) : pz_cond_broadcast(p, 0), 0);
         else if (m == 0 && slot && rand_r(&random) % 2)
-            settle(0, pz_cond_wait(p, 0));
+            settle(0, wait_once(&random));
         SAME(pz_mutex_unlock(p, m), 0);
     }
 }
