@@ -1,8 +1,8 @@
 /* pazdrig.h for C++17: a file, a mutex that std::lock_guard, std::scoped_lock and std::unique_lock take, also up to a
- * time, and a condition variable. Whatever isn't answered by 0, by EBUSY of a try_lock(), or by ETIMEDOUT of a lock up
- * to a time, is thrown as pazdrig::error.
+ * time, and a condition variable, which is waited for up to a time too. Whatever isn't answered by 0, by EBUSY of a
+ * try_lock(), or by ETIMEDOUT of a call up to a time, is thrown as pazdrig::error.
  *
- * A mutex is made with what repairs its data. So nobody comes to data that a dead owner left: any lock, and a wait(),
+ * A mutex is made with what repairs its data. So nobody comes to data that a dead owner left: any lock, and any wait,
  * that is told EOWNERDEAD repairs them and declares them consistent before it returns. (A repair takes its time, and
  * has no limit.) A repair that throws says that they can't be repaired: the mutex becomes unusable, as by an unlock in
  * C, and the call throws what that threw. */
@@ -11,6 +11,7 @@
 #include "pazdrig.h"
 #include <cerrno>
 #include <chrono>
+#include <condition_variable>
 #include <functional>
 #include <mutex>
 #include <new>
@@ -154,12 +155,17 @@ class mutex
         exact it = time;
         return !(it < most) ? most : it < exact::zero() ? most.zero() : std::chrono::ceil<std::chrono::nanoseconds>(it);
     }
-    bool is_locked_until(clockid_t clock, std::chrono::nanoseconds time)
+    static timespec timespec_of(std::chrono::nanoseconds time)
     {
         auto seconds = std::chrono::duration_cast<std::chrono::seconds>(time);
-        timespec until = {};
-        until.tv_sec = static_cast<time_t>(seconds.count());
-        until.tv_nsec = static_cast<long>((time - seconds).count());
+        timespec it = {};
+        it.tv_sec = static_cast<time_t>(seconds.count());
+        it.tv_nsec = static_cast<long>((time - seconds).count());
+        return it;
+    }
+    bool is_locked_until(clockid_t clock, std::chrono::nanoseconds time)
+    {
+        timespec until = timespec_of(time);
         return is_locked("pz_mutex_clocklock", pz_mutex_clocklock(opened, number, clock, &until), ETIMEDOUT);
     }
     bool is_locked(const char *call, int answer, int otherwise)
@@ -197,26 +203,81 @@ class condition
     /* It may return without a notify. Where it throws, the lock owns what the thread still does. */
     void wait(std::unique_lock<mutex> &lock)
     {
-        if (lock.mutex() != &of)
-            throw error("pz_cond_wait", EPERM);
-        try {
-            of.locked("pz_cond_wait", pz_cond_wait(of.opened, number));
-        } catch (...) {
-            if (lock.owns_lock() && !of.is_mine())
-                lock.release();
-            throw;
-        }
+        is_told(lock, "pz_cond_wait", [&] { return pz_cond_wait(of.opened, number); });
     }
     template <class Predicate> void wait(std::unique_lock<mutex> &lock, Predicate is_so)
     {
         while (!is_so())
             wait(lock);
     }
+    /* Up to a time; std::cv_status::timeout: that came before a notify. The lock has the mutex then, too, which it
+     * waits for as long as it takes. */
+    template <class Rep, class Period>
+    std::cv_status wait_for(std::unique_lock<mutex> &lock, const std::chrono::duration<Rep, Period> &time)
+    {
+        return wait_until(lock, std::chrono::steady_clock::now() + mutex::in_time(time));
+    }
+    template <class Duration>
+    std::cv_status wait_until(std::unique_lock<mutex> &lock,
+                              const std::chrono::time_point<std::chrono::steady_clock, Duration> &time)
+    {
+        return told_until(lock, CLOCK_MONOTONIC, mutex::in_time(time.time_since_epoch()));
+    }
+    template <class Duration>
+    std::cv_status wait_until(std::unique_lock<mutex> &lock,
+                              const std::chrono::time_point<std::chrono::system_clock, Duration> &time)
+    {
+        return told_until(lock, CLOCK_REALTIME, mutex::in_time(time.time_since_epoch()));
+    }
+    /* By a clock of the program's own: where that is behind, the wait returns without a notify. */
+    template <class Clock, class Duration>
+    std::cv_status wait_until(std::unique_lock<mutex> &lock, const std::chrono::time_point<Clock, Duration> &time)
+    {
+        auto now = Clock::now();
+        auto told = now < time ? wait_for(lock, time - now) : wait_for(lock, std::chrono::seconds(0));
+        return Clock::now() < time ? std::cv_status::no_timeout : told;
+    }
+    /* What is_so() says in the end. */
+    template <class Rep, class Period, class Predicate>
+    bool wait_for(std::unique_lock<mutex> &lock, const std::chrono::duration<Rep, Period> &time, Predicate is_so)
+    {
+        return wait_until(lock, std::chrono::steady_clock::now() + mutex::in_time(time), std::move(is_so));
+    }
+    template <class Clock, class Duration, class Predicate>
+    bool wait_until(std::unique_lock<mutex> &lock, const std::chrono::time_point<Clock, Duration> &time,
+                    Predicate is_so)
+    {
+        while (!is_so())
+            if (wait_until(lock, time) == std::cv_status::timeout)
+                return is_so();
+        return true;
+    }
     /* By the mutex's owner. */
     void notify_one() { check("pz_cond_signal", pz_cond_signal(of.opened, number)); }
     void notify_all() { check("pz_cond_broadcast", pz_cond_broadcast(of.opened, number)); }
 
   private:
+    /* false: the time has come. */
+    template <class Wait> bool is_told(std::unique_lock<mutex> &lock, const char *call, Wait waits)
+    {
+        if (lock.mutex() != &of)
+            throw error(call, EPERM);
+        try {
+            return of.is_locked(call, waits(), ETIMEDOUT);
+        } catch (...) {
+            if (lock.owns_lock() && !of.is_mine())
+                lock.release();
+            throw;
+        }
+    }
+    std::cv_status told_until(std::unique_lock<mutex> &lock, clockid_t clock, std::chrono::nanoseconds time)
+    {
+        timespec until = mutex::timespec_of(time);
+        bool told =
+            is_told(lock, "pz_cond_clockwait", [&] { return pz_cond_clockwait(of.opened, number, clock, &until); });
+        return told ? std::cv_status::no_timeout : std::cv_status::timeout;
+    }
+
     mutex &of;
     unsigned number;
 };

@@ -1,6 +1,6 @@
-/* Processes that lock and wait, also with a time limit, signal and are killed at random. Of each mutex the data says who
- * is inside and is written twice, so a second owner or a lost write is seen; each process has to get on, so a lost wake
- * is. In a crowd more processes come than there are ids, and leave now and then. usage: deaths DEATHS PROCESSES
+/* Processes that lock and wait, also with a time limit, signal and are killed at random. Of each mutex the data says
+ * who is inside and is written twice, so a second owner or a lost write is seen; each process has to get on, so a lost
+ * wake is. In a crowd more processes come than there are ids, and leave now and then. usage: deaths DEATHS PROCESSES
  * THREADS [storm | crowd] */
 #include "try.h"
 #include <pthread.h>

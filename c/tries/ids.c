@@ -211,6 +211,7 @@ static void who_does_not_wait(void)
     SAME(pz_mutex_unlock(p, 0), EPERM);
     SAME(pz_mutex_consistent(p, 0), EPERM);
     SAME(pz_cond_wait(p, 0), EPERM);
+    SAME(pz_cond_timedwait(p, 0, &far_away), EPERM);
     SAME(pz_cond_signal(p, 0), EPERM);
     SAME(pz_cond_broadcast(p, 0), EPERM);
     SAME((int)pz_thread_id(p), 0);

@@ -1,5 +1,5 @@
 /* pazdrig.hpp: locks of the standard library over mutexes whose owners are killed, whose data can't be repaired, and
- * which become unusable under a wait; and up to a time. */
+ * which become unusable under a wait; and locks and waits up to a time. */
 #include "pazdrig.hpp"
 #include <chrono>
 #include <cstdio>
@@ -263,6 +263,66 @@ static void who_waits_is_told()
     CHECK(thrown([&] { came.wait(another); }) == EPERM && another.owns_lock() && lock.owns_lock());
 }
 
+/* A wait up to a time: that comes, and the lock has the mutex. */
+template <class Clock> static void comes_to_a_wait_by(pazdrig::condition &came, std::unique_lock<pazdrig::mutex> &lock)
+{
+    auto until = Clock::now() + 20ms;
+    while (came.wait_until(lock, until) == std::cv_status::no_timeout)
+        CHECK(Clock::now() < until);
+    CHECK(lock.owns_lock() && Clock::now() >= until);
+    CHECK(came.wait_until(lock, Clock::now() - 1h) == std::cv_status::timeout);
+    CHECK(came.wait_until(lock, typename Clock::time_point()) == std::cv_status::timeout);
+    int looks = 0;
+    CHECK(!came.wait_until(lock, Clock::now() + 20ms, [] { return false; }));
+    CHECK(came.wait_until(lock, Clock::time_point::min(), [&] { return looks++ == 1; }) && looks == 2);
+    CHECK(came.wait_until(lock, Clock::time_point::min(), [] { return true; }));
+}
+
+static void a_waits_time_comes()
+{
+    pazdrig::file f = a_file();
+    pazdrig::mutex m(f, 0, pazdrig::nothing_to_repair), other(f, 1, pazdrig::nothing_to_repair);
+    pazdrig::condition came(m, 0);
+    std::unique_lock<pazdrig::mutex> lock(m), another(other);
+    auto since = steady_clock::now();
+    CHECK(came.wait_for(lock, 20ms) == std::cv_status::timeout && steady_clock::now() - since >= 20ms);
+    CHECK(came.wait_for(lock, -1h) == std::cv_status::timeout && m.is_mine());
+    CHECK(!came.wait_for(lock, 1ms, [] { return false; }));
+    comes_to_a_wait_by<steady_clock>(came, lock);
+    comes_to_a_wait_by<system_clock>(came, lock);
+    comes_to_a_wait_by<looks_clock>(came, lock);
+    CHECK(thrown([&] { came.wait_for(another, 1ms); }) == EPERM && another.owns_lock() && m.is_mine());
+}
+
+/* Of one that is far away: it is told before. */
+template <class Wait> static void is_told_before(Wait waits)
+{
+    pazdrig::file f = a_file();
+    counter &c = f.as<counter>();
+    pazdrig::mutex m(f, 0, pazdrig::nothing_to_repair);
+    pazdrig::condition came(m, 0);
+    pid_t waiter = child([&] {
+        std::unique_lock<pazdrig::mutex> lock(m);
+        CHECK(waits(came, lock, [&] { return c.is_told == 1; }) && lock.owns_lock() && m.is_mine());
+    });
+    until_asleep(waiter);
+    {
+        std::lock_guard<pazdrig::mutex> guard(m);
+        c.is_told = 1;
+        came.notify_one();
+    }
+    ends_well(waiter);
+}
+
+static void before_a_time_a_waiter_is_told()
+{
+    is_told_before([](auto &c, auto &l, auto is_so) { return c.wait_for(l, std::chrono::hours::max(), is_so); });
+    is_told_before([](auto &c, auto &l, auto is_so) { return c.wait_until(l, steady_clock::now() + 1000h, is_so); });
+    is_told_before(
+        [](auto &c, auto &l, auto is_so) { return c.wait_until(l, system_clock::time_point::max(), is_so); });
+    is_told_before([](auto &c, auto &l, auto is_so) { return c.wait_until(l, looks_clock::now() + 1000h, is_so); });
+}
+
 /* It is woken by one that dies before it has freed the mutex. */
 static void who_waits_repairs()
 {
@@ -327,6 +387,8 @@ int main()
     before_a_time_a_dead_ones_is_repaired();
     what_cannot_be_repaired_is_lost();
     who_waits_is_told();
+    a_waits_time_comes();
+    before_a_time_a_waiter_is_told();
     who_waits_repairs();
     the_lock_is_lost_in_a_wait();
     files();
