@@ -68,7 +68,8 @@ def _load():
         getattr(library, f"pz_mutex_{call}").argtypes = [p, number]
     for call in "wait", "signal", "broadcast":
         getattr(library, f"pz_cond_{call}").argtypes = [p, number]
-    library.pz_mutex_clocklock.argtypes = [p, number, ctypes.c_int, ctypes.POINTER(_Timespec)]
+    for call in "mutex_clocklock", "cond_clockwait":
+        getattr(library, f"pz_{call}").argtypes = [p, number, ctypes.c_int, ctypes.POINTER(_Timespec)]
     library.pz_close.restype = None
     library.pz_data.restype = p
     library.pz_thread_id.restype = library.pz_mutex_owner.restype = number
@@ -86,6 +87,17 @@ class Error(OSError):
 def _check(call, answer):
     if answer:
         raise Error(answer, f"{call}: {_library.pz_strerror(call.encode(), answer).decode()}")
+
+
+def _by(timeout):
+    """The clock that nobody sets, and the time by it so many seconds from now."""
+    if not timeout >= 0:
+        raise ValueError("a timeout isn't negative")
+    if timeout > threading.TIMEOUT_MAX:
+        raise OverflowError("the timeout is too long")
+    now = time.clock_gettime_ns(time.CLOCK_MONOTONIC)
+    until = _Timespec(*divmod(now + math.ceil(timeout * 1e9), 1_000_000_000))
+    return time.CLOCK_MONOTONIC, ctypes.byref(until)
 
 
 def version():
@@ -210,9 +222,7 @@ class Mutex:
             return "pz_mutex_trylock", _library.pz_mutex_trylock(self.file._file, self.number), errno.EBUSY
         if timeout == -1:
             return "pz_mutex_lock", _library.pz_mutex_lock(self.file._file, self.number), None
-        now = time.clock_gettime_ns(time.CLOCK_MONOTONIC)
-        until = _Timespec(*divmod(now + math.ceil(timeout * 1e9), 1_000_000_000))
-        answer = _library.pz_mutex_clocklock(self.file._file, self.number, time.CLOCK_MONOTONIC, ctypes.byref(until))
+        answer = _library.pz_mutex_clocklock(self.file._file, self.number, *_by(timeout))
         return "pz_mutex_clocklock", answer, errno.ETIMEDOUT
 
     def acquire(self, blocking=True, timeout=-1):
@@ -221,10 +231,6 @@ class Mutex:
         Nor is it where no id was free by then. A repair takes its time, and has no limit."""
         if not blocking and timeout != -1:
             raise ValueError("an acquire that doesn't wait has no timeout")
-        if timeout != -1 and not timeout >= 0:
-            raise ValueError("a timeout isn't negative")
-        if timeout > threading.TIMEOUT_MAX:
-            raise OverflowError("the timeout is too long")
         call, answer, otherwise = self._lock(blocking, timeout)
         if answer == otherwise:
             return False
@@ -267,13 +273,30 @@ class Condition:
     def __init__(self, mutex, number):
         self.mutex, self.number = mutex, number
 
-    def wait(self):
-        """It may return without a notify."""
-        self.mutex._had("pz_cond_wait", _library.pz_cond_wait(self.mutex.file._file, self.number))
+    def wait(self, timeout=None):
+        """Whether it was notified within so many seconds. It may also return without a notify.
 
-    def wait_for(self, is_so):
-        while not is_so():
-            self.wait()
+        The thread has the mutex then, too: it waits for that as long as it takes."""
+        of = self.mutex.file._file, self.number
+        if timeout is None:
+            self.mutex._had("pz_cond_wait", _library.pz_cond_wait(*of))
+            return True
+        answer = _library.pz_cond_clockwait(*of, *_by(max(timeout, 0)))
+        if answer == errno.ETIMEDOUT:
+            return False
+        self.mutex._had("pz_cond_clockwait", answer)
+        return True
+
+    def wait_for(self, is_so, timeout=None):
+        """What is_so() says in the end: where the time has come it may be that it isn't."""
+        until = None if timeout is None else time.monotonic() + timeout
+        so = is_so()
+        while not so:
+            was_told = self.wait(None if until is None else until - time.monotonic())
+            so = is_so()
+            if not was_told:
+                break
+        return so
 
     def notify(self):
         _check("pz_cond_signal", _library.pz_cond_signal(self.mutex.file._file, self.number))

@@ -187,6 +187,36 @@ class Owners(unittest.TestCase):
             came.wait_for(lambda: self.count[2] == 2)
         self.ends_well(pid)
 
+    def test_a_waits_time_comes(self):
+        came = self.mutex.condition(0)
+        with self.mutex:
+            for timeout in -1, 0, 0.02:
+                since = time.monotonic()
+                self.assertFalse(came.wait(timeout))
+                self.assertGreaterEqual(time.monotonic() - since, timeout)
+                self.assertTrue(self.mutex.is_mine)
+                self.assertFalse(came.wait_for(lambda: False, timeout))
+            self.assertEqual(came.wait_for(lambda: 7, 0), 7)
+            looks = iter((0, 8))
+            self.assertEqual(came.wait_for(lambda: next(looks), -1), 8)
+            self.assertRaises(ValueError, came.wait, float("nan"))
+            self.assertRaises(OverflowError, came.wait, float("inf"))
+        self.assertAnswers(errno.EPERM, lambda: came.wait(0))
+
+    def test_before_a_time_who_waits_is_told(self):
+        came = self.mutex.condition(0)
+
+        def wait(_):
+            with self.mutex:
+                self.assertTrue(came.wait_for(lambda: self.count[2] == 1, threading.TIMEOUT_MAX / 2))
+
+        pid, _ = self.child(wait)
+        until_asleep(pid, pid)
+        with self.mutex:
+            self.count[2] = 1
+            came.notify()
+        self.ends_well(pid)
+
     def test_who_waits_repairs_or_is_told_that_it_is_lost(self):
         for is_lost in False, True:
             with self.subTest(is_lost=is_lost):
