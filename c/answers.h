@@ -141,6 +141,36 @@ static const struct {
      "nothing was done"},
     {"pz_cond_wait", EFAULT, "somebody wrote stray values into the library's words, and the call was stopped there: "
      "nobody knows who owns what, so end all who use the file and delete it"},
+    {"pz_cond_timedwait", 0, "the thread owns the mutex again"},
+    {"pz_cond_timedwait", EOWNERDEAD, "so it does, but an owner died meanwhile: repair, as after pz_mutex_lock"},
+    {"pz_cond_timedwait", ENOTRECOVERABLE, "the mutex became unusable meanwhile: the thread doesn't own it"},
+    {"pz_cond_timedwait", ETIMEDOUT, "the time has come, and no signal and no broadcast before; the thread owns the "
+     "mutex again"},
+    {"pz_cond_timedwait", EPERM, "the thread doesn't own the mutex"},
+    {"pz_cond_timedwait", EINVAL, "the mutex is to be declared consistent first: the thread still owns it; or "
+     "tv_nsec isn't 0 to 999,999,999; or the clock is neither CLOCK_REALTIME nor CLOCK_MONOTONIC: the mutex wasn't "
+     "released; or there is no such mutex or condition variable; nothing was done; or somebody wrote stray values "
+     "into the library's words, and the call was stopped there: nobody knows who owns what, so end all who use the "
+     "file and delete it"},
+    {"pz_cond_timedwait", ENOMEM, "it is the thread's first call, and there is no room to take part "
+     "(pz_thread_begin); nothing was done"},
+    {"pz_cond_timedwait", EFAULT, "somebody wrote stray values into the library's words, and the call was stopped "
+     "there: nobody knows who owns what, so end all who use the file and delete it"},
+    {"pz_cond_clockwait", 0, "the thread owns the mutex again"},
+    {"pz_cond_clockwait", EOWNERDEAD, "so it does, but an owner died meanwhile: repair, as after pz_mutex_lock"},
+    {"pz_cond_clockwait", ENOTRECOVERABLE, "the mutex became unusable meanwhile: the thread doesn't own it"},
+    {"pz_cond_clockwait", ETIMEDOUT, "the time has come, and no signal and no broadcast before; the thread owns the "
+     "mutex again"},
+    {"pz_cond_clockwait", EPERM, "the thread doesn't own the mutex"},
+    {"pz_cond_clockwait", EINVAL, "the mutex is to be declared consistent first: the thread still owns it; or "
+     "tv_nsec isn't 0 to 999,999,999; or the clock is neither CLOCK_REALTIME nor CLOCK_MONOTONIC: the mutex wasn't "
+     "released; or there is no such mutex or condition variable; nothing was done; or somebody wrote stray values "
+     "into the library's words, and the call was stopped there: nobody knows who owns what, so end all who use the "
+     "file and delete it"},
+    {"pz_cond_clockwait", ENOMEM, "it is the thread's first call, and there is no room to take part "
+     "(pz_thread_begin); nothing was done"},
+    {"pz_cond_clockwait", EFAULT, "somebody wrote stray values into the library's words, and the call was stopped "
+     "there: nobody knows who owns what, so end all who use the file and delete it"},
     {"pz_cond_signal", 0, "it took effect: a signal wakes one waiter, if there is any; a broadcast has all take the "
      "mutex in turn"},
     {"pz_cond_signal", EPERM, "the thread doesn't own the mutex"},

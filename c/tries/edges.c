@@ -127,6 +127,8 @@ static void what_answers_mean(void)
 {
     CHECK(says("pz_cond_wait", EINVAL, "to be declared consistent first"));
     CHECK(says("pz_cond_wait", EINVAL, "no such mutex or condition variable"));
+    CHECK(says("pz_cond_clockwait", ETIMEDOUT, "owns the mutex again") && says("pz_cond_timedwait", EINVAL, "tv_nsec"));
+    CHECK(!says("pz_cond_wait", EINVAL, "tv_nsec"));
     CHECK(!says("pz_mutex_lock", EINVAL, "consistent first"));
     CHECK(says("pz_mutex_lock", EINVAL, "no such mutex"));
     CHECK(says("pz_mutex_consistent", EINVAL, "nothing was to be repaired"));
