@@ -1,7 +1,7 @@
 /* Calls beside the C library's robust, process-shared, error-checking mutex, in one run and in turn: locks and unlocks
  * alone, also with a time limit, by 2 and by 4 processes; a lock, a signal to nobody and an unlock; refusals; and the
- * time from a SIGKILL until a sleeper has EOWNERDEAD, or of a lock behind one, and from a time limit until its lock has
- * ETIMEDOUT. Prints a row a case: ours, the C library's, the quotient, in ns or
+ * time from a SIGKILL until a sleeper has EOWNERDEAD, or of a lock behind one, and from a time limit until its lock, or
+ * its wait, has ETIMEDOUT. Prints a row a case: ours, the C library's, the quotient, in ns or
  * us, the middle of RUNS; of a pair alone of 20 times as many short ones, so that both meet what else the machine does.
  * (Work inside and outside the mutex, and more processes: load.c.) usage: speed RUNS */
 #include "libc.h"
@@ -172,21 +172,44 @@ static double busy(int unused, int ours)
     return (until - since) * 1e9 / PAIRS;
 }
 
-/* us from a limit, so many ms ahead, to the return of a lock of a mutex that another process owns. */
-static double late(int ms, int ours)
+static struct timespec ahead(int ms)
 {
     struct timespec until;
-    pid_t owner = an_owner(ours);
     clock_gettime(CLOCK_MONOTONIC, &until);
     until.tv_nsec += ms * 1000000l;
     until.tv_sec += until.tv_nsec / 1000000000;
     until.tv_nsec %= 1000000000;
+    return until;
+}
+static double us_behind(const struct timespec *until, double is)
+{
+    return (is - (double)until->tv_sec - (double)until->tv_nsec * 1e-9) * 1e6;
+}
+
+/* us from a limit, so many ms ahead, to the return of a lock of a mutex that another process owns. */
+static double late(int ms, int ours)
+{
+    pid_t owner = an_owner(ours);
+    struct timespec until = ahead(ms);
     SAME(ours ? pz_mutex_clocklock(p, 1, CLOCK_MONOTONIC, &until)
               : pthread_mutex_clocklock(&b->libc, CLOCK_MONOTONIC, &until),
          ETIMEDOUT);
     double is = now();
     end_owner(owner, ours);
-    return (is - (double)until.tv_sec - (double)until.tv_nsec * 1e-9) * 1e6;
+    return us_behind(&until, is);
+}
+
+/* The same to the return of a wait, whose mutex nobody else wants. */
+static double late_wait(int ms, int ours)
+{
+    SAME(ours ? pz_mutex_lock(p, 0) : pthread_mutex_lock(&b->libc), 0);
+    struct timespec until = ahead(ms);
+    SAME(ours ? pz_cond_clockwait(p, 0, CLOCK_MONOTONIC, &until)
+              : pthread_cond_clockwait(&b->told, &b->libc, CLOCK_MONOTONIC, &until),
+         ETIMEDOUT);
+    double is = now();
+    SAME(ours ? pz_mutex_unlock(p, 0) : pthread_mutex_unlock(&b->libc), 0);
+    return us_behind(&until, is);
 }
 
 /* us from the kill of an owner to its sleeper's EOWNERDEAD. */
@@ -252,6 +275,8 @@ int main(int argc, char **argv)
     row("lock, its owner dead already, us", dead_already, 0, runs * 3, 0);
     row("a limit 2 ms ahead to ETIMEDOUT, us", late, 2, runs * 3, 0);
     row("a limit 100 ms ahead to it, us", late, 100, runs * 3, 0);
+    row("a wait's limit 2 ms ahead to it, us", late_wait, 2, runs * 3, 0);
+    row("a wait's 100 ms ahead to it, us", late_wait, 100, runs * 3, 0);
     pz_close(p);
     unlink(path);
     return 0;
