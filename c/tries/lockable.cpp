@@ -268,7 +268,7 @@ template <class Clock> static void comes_to_a_wait_by(pazdrig::condition &came, 
 {
     auto until = Clock::now() + 20ms;
     while (came.wait_until(lock, until) == std::cv_status::no_timeout)
-        CHECK(Clock::now() < until);
+        ;
     CHECK(lock.owns_lock() && Clock::now() >= until);
     CHECK(came.wait_until(lock, Clock::now() - 1h) == std::cv_status::timeout);
     CHECK(came.wait_until(lock, typename Clock::time_point()) == std::cv_status::timeout);
