@@ -406,6 +406,14 @@ static void it_has_a_limit(void)
     with_a_limit(unlocks);
     with_a_limit(unlocks_and_tries);
     CHECK(timed_out > 1000 && had_it > 1000);
+    is_timed = time_is_over = 0;
+    most_interruptions = INTERRUPTIONS;
+}
+
+static void its_wait_has_a_limit(void)
+{
+    is_timed = 1;
+    most_interruptions = FEW_INTERRUPTIONS;
     timed_at = counter_place(&file, 0);
     waits_have_a_limit(signals);
     waits_have_a_limit(broadcasts);
@@ -442,6 +450,8 @@ int main(void)
         on_a_cell(cell_place(0));
     for (no_waitv = 0; no_waitv < 2; no_waitv++)
         it_has_a_limit();
+    no_waitv = 0;
+    its_wait_has_a_limit();
     printf("sleepers: nobody was left asleep in any of %ld orders of instructions; %ld times a limit came\n", orders,
            timed_out + waits_late);
     CHECK(orders > 20000);
