@@ -192,18 +192,31 @@ static pid_t begin(int slot, int stormy)
     _exit(1);
 }
 
+/* Seconds, of which there are 10 ms at most between two looks: where much else runs, this process waits for its turn as
+ * the others do. */
+static double unhurried(void)
+{
+    static double sum, last;
+    double is = now(), more = last > 0 ? is - last : 0;
+    last = is;
+    return sum += more < 0.01 ? more : 0.01;
+}
+
 /* Whether each process got on since it was last looked at; a process that ended by itself failed. */
 static void look(const pid_t *child, int n)
 {
-    static long last[MOST];
-    static double since[MOST];
+    static struct {
+        long got_on;
+        double since;
+    } last[MOST];
+    double time = unhurried();
     for (int i = 0; i < n; i++) {
         CHECK(waitpid(child[i], NULL, WNOHANG) == 0);
         long is = atomic_load(&b->got_on[i]);
-        if (is != last[i] || !since[i]) {
-            last[i] = is;
-            since[i] = now();
-        } else if (now() - since[i] > QUIET_S)
+        if (is != last[i].got_on) {
+            last[i].got_on = is;
+            last[i].since = time;
+        } else if (time - last[i].since > QUIET_S)
             fail(__FILE__, __LINE__, "a process doesn't get on");
     }
 }
