@@ -1,15 +1,17 @@
--- How often a fate said that its thread stops.
-use Rattle.std.proofs.Common.{Bool, true, false, ◌≡◌, ℕ, ◌+◌, ap, arith}
-use Rattle.std.specs.Prelude.{if◌then◌else◌}
+-- Two fates of one thread, which are asked one after the other.
+use Rattle.std.proofs.Common.{ℕ, arith}
+use Rattle.ruledwords.specs.Fates.{Heeds}
 
--- it was asked once more, and said that it doesn't
-pub not_stopped : (n m k : ℕ) (b : Bool) → n ≡ m + if◌then◌else◌ {A = ℕ} b 1 0 → b ≡ false → m ≡ k → n ≡ k
-not_stopped n m k b asked goes so_far = let e : if◌then◌else◌ {A = ℕ} b 1 0 ≡ 0 = ap (λ (b : Bool). if◌then◌else◌ {A = ℕ} b 1 0) goes in omega arith
+-- they let the thread go on, and what they said further on
+pub heeds_on : (f f' f'' n n' n'' k : ℕ) → Heeds f f' n n' 0 → Heeds f' f'' n' n'' k → Heeds f f'' n n'' k
+heeds_on f f' f'' n n' n'' k first more =
+    let a = first.fate in
+    let b = first.note in
+    let once = first.once in
+    let x = more.fate in
+    let y = more.note in
+    let further = more.once in
+    record { fate = omega (arith, a, x); note = omega (arith, b, y); once = omega (arith, once, further) }
 
--- so it told nobody to stop
-pub never_stopped : (n m k : ℕ) (b : Bool) → n ≡ m + if◌then◌else◌ {A = ℕ} b 1 0 → b ≡ false → m ≡ k → n ≡ k + 0
-never_stopped n m k b asked goes so_far = let e = not_stopped n m k b asked goes so_far in omega arith
-
--- it said that it does
-pub stopped : (n m k : ℕ) (b : Bool) → n ≡ m + if◌then◌else◌ {A = ℕ} b 1 0 → b ≡ true → m ≡ k → n ≡ k + 1
-stopped n m k b asked stops so_far = let e : if◌then◌else◌ {A = ℕ} b 1 0 ≡ 1 = ap (λ (b : Bool). if◌then◌else◌ {A = ℕ} b 1 0) stops in omega arith
+pub heeds_nothing : (f n : ℕ) → Heeds f f n n 0
+heeds_nothing f n = record { fate = omega arith; note = omega arith; once = omega arith }

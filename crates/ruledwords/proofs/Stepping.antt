@@ -1,5 +1,5 @@
 -- Accesses of a call, one after the other.
-use Rattle.std.proofs.Common.{◌≡◌, ℕ, ◌+◌, ◌<◌, Result, Ok, Err, sym, ap, ◌∙◌, subst, arith}
+use Rattle.std.proofs.Common.{◌≡◌, ℕ, ◌+◌, ◌<◌, Result, Ok, Err, sym, ap, ◌∙◌, subst}
 use Rattle.posixmutex.specs.declared.point.Operation.TheVariants as operation
 use Rattle.std.specs.Result.{IsErrAnd}
 use Rattle.mutex.specs.Standings.{Whole}
@@ -39,20 +39,6 @@ handed_on w a p b (Err y) e is ends = subst (ComesToEnd w a p b) (sym is) ends
 pub counts_on : {A : Type 0} (r : Result A End) (e : End) (n m : ℕ) → IsErrAnd r (λ y. y ≡ e) → n ≡ m + stops_with e → n ≡ m + stops_within r
 counts_on (Ok q) e n m is counted = absurd is
 counts_on (Err y) e n m is counted = counted ∙ ap (λ (z : End). m + stops_with z) (sym is)
-
--- two fates that let the thread go on, and what they said further on
-pub heeds_on : (f f' f'' n n' n'' k : ℕ) → Heeds f f' n n' 0 → Heeds f' f'' n' n'' k → Heeds f f'' n n'' k
-heeds_on f f' f'' n n' n'' k first more =
-    let a = first.fate in
-    let b = first.note in
-    let once = first.once in
-    let x = more.fate in
-    let y = more.note in
-    let further = more.once in
-    record { fate = omega (arith, a, x); note = omega (arith, b, y); once = omega (arith, once, further) }
-
-pub heeds_nothing : (f n : ℕ) → Heeds f f n n 0
-heeds_nothing f n = record { fate = omega arith; note = omega arith; once = omega arith }
 
 pub heeds_out : {A : Type 0} (r : Result A End) (e : End) (f f' n n' : ℕ) → IsErrAnd r (λ y. y ≡ e) → Heeds f f' n n' (stops_with e) → Heeds f f' n n' (stops_within r)
 heeds_out (Ok q) e f f' n n' is heeded = absurd is

@@ -12,19 +12,6 @@ use Rattle.ruledwords.specs.declared.turn.Turn.{Turn}
 use Rattle.ruledwords.specs.declared.turn.Turn.TheVariants as turn
 use Rattle.threadbench.specs.Calls.{IsHeeded, stretch_of}
 
-pub heeds_on : (f f' f'' n n' n'' k : ℕ) → Heeds f f' n n' 0 → Heeds f' f'' n' n'' k → Heeds f f'' n n'' k
-heeds_on f f' f'' n n' n'' k first more =
-    let a = first.fate in
-    let b = first.note in
-    let once = first.once in
-    let x = more.fate in
-    let y = more.note in
-    let further = more.once in
-    record { fate = omega (arith, a, x); note = omega (arith, b, y); once = omega (arith, once, further) }
-
-pub heeds_nothing : (f n : ℕ) → Heeds f f n n 0
-heeds_nothing f n = record { fate = omega arith; note = omega arith; once = omega arith }
-
 -- the note alone was asked
 pub heeds_note : (f n n' k : ℕ) → n' ≡ n + k → Heeds f f n n' k
 heeds_note f n n' k told = record { fate = omega arith; note = omega (arith, told); once = omega (arith, told) }

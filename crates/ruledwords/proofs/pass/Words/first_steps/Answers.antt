@@ -1,4 +1,5 @@
-use Rattle.ruledwords.proofs.Stepping.{after, comes_further, handed_on, heeds_on, heeds_out}
+use Rattle.ruledwords.proofs.Fates.{heeds_on}
+use Rattle.ruledwords.proofs.Stepping.{after, comes_further, handed_on, heeds_out}
 use Rattle.ruledwords.proofs.pass.Words.first_steps.Goals as goal
 
 pub returns-in_err-step-2-clause-steps : goal.returns-in_err-step-2-clause-steps

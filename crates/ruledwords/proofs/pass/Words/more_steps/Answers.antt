@@ -1,4 +1,5 @@
-use Rattle.ruledwords.proofs.Stepping.{after, comes_further, handed_on, heeds_nothing, heeds_on, heeds_out, stays}
+use Rattle.ruledwords.proofs.Fates.{heeds_nothing, heeds_on}
+use Rattle.ruledwords.proofs.Stepping.{after, comes_further, handed_on, heeds_out, stays}
 use Rattle.ruledwords.proofs.pass.Words.more_steps.Goals as goal
 
 pub loop-init : goal.loop-init

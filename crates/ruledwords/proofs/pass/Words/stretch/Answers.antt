@@ -1,4 +1,4 @@
-use Rattle.ruledwords.proofs.Stepping.{heeds_on}
+use Rattle.ruledwords.proofs.Fates.{heeds_on}
 use Rattle.ruledwords.proofs.Stretching.{stretched_on}
 use Rattle.ruledwords.proofs.pass.Words.stretch.Goals as goal
 

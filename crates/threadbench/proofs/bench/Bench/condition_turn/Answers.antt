@@ -1,6 +1,7 @@
 use Rattle.std.proofs.Common.{ap}
 use Rattle.std.specs.Prelude.{ℕ, Bool, if◌then◌else◌}
-use Rattle.threadbench.proofs.Heeding.{heeds_as, heeds_note, heeds_on}
+use Rattle.ruledwords.proofs.Fates.{heeds_on}
+use Rattle.threadbench.proofs.Heeding.{heeds_as, heeds_note}
 use Rattle.threadbench.proofs.bench.Bench.condition_turn.Goals as goal
 
 pub returns-then-either_stops-clause-comes : goal.returns-then-either_stops-clause-comes

@@ -3,7 +3,7 @@ use Rattle.std.specs.Prelude.{Ok}
 use Rattle.ruledwords.specs.declared.turn.CondTurn.{CondTurn}
 use Rattle.ruledwords.specs.declared.turn.CondTurn.TheVariants.{Goes, Locks}
 use Rattle.threadbench.specs.Conditions.{CondComesTo}
-use Rattle.threadbench.proofs.Heeding.{heeds_on}
+use Rattle.ruledwords.proofs.Fates.{heeds_on}
 use Rattle.threadbench.proofs.Waiting.{came_on, dies_out, locks_out, same_cell}
 use Rattle.threadbench.proofs.bench.Bench.run_condition_on.Goals as goal
 

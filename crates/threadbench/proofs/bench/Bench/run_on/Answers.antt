@@ -1,5 +1,5 @@
 use Rattle.ruledwords.specs.declared.turn.Stretch.TheVariants as stretch
-use Rattle.threadbench.proofs.Heeding.{heeds_nothing, heeds_on}
+use Rattle.ruledwords.proofs.Fates.{heeds_nothing, heeds_on}
 use Rattle.threadbench.proofs.Turning.{ran_dead, ran_out, stays_there, stretched_on}
 use Rattle.threadbench.proofs.bench.Bench.run_on.Goals as goal
 

@@ -4,7 +4,8 @@ use Rattle.ruledwords.specs.declared.pass.Words.{Words}
 use Rattle.ruledwords.specs.declared.turn.Stretch.TheVariants as stretch
 use Rattle.ruledwords.specs.Stretches.{Stretches}
 use Rattle.ruledwords.specs.Turns.{IsTurnOf, Keeps, KeepsDecided}
-use Rattle.threadbench.proofs.Heeding.{heeds_as, heeds_on, heeds_onward}
+use Rattle.ruledwords.proofs.Fates.{heeds_on}
+use Rattle.threadbench.proofs.Heeding.{heeds_as, heeds_onward}
 use Rattle.threadbench.proofs.Turning.{dies_there, onward, stretched_on}
 use Rattle.threadbench.proofs.bench.Bench.turn.Goals as goal
 
