@@ -1,5 +1,5 @@
 -- Sleepers that leave their queue by themselves, and trims that are declined: a write into the lists is a write into the state.
-use Rattle.std.proofs.Common.{◌≡◌, ℕ, ◌+◌, ◌≤◌, Bool, true, false, ◌&&◌, None, List, [], length, refl, sym, ap, ◌∙◌, arith, slice_set}
+use Rattle.std.proofs.Common.{◌≡◌, ℕ, ◌≤◌, Bool, true, false, ◌&&◌, List, refl, sym, ap, ◌∙◌, arith}
 use Rattle.std.specs.Prelude.{if◌then◌else◌, not}
 use Rattle.std.proofs.lemmas.Bool.Decides.{nat_tests}
 use mathlib.Core.Path.{fun_ext}
@@ -12,16 +12,15 @@ use Rattle.condvar.specs.Ops.{mutex_of}
 use Rattle.condvar.specs.declared.op.Op.{Op}
 use Rattle.syscalls.specs.Kernels.{Kernel', Leaves, queue_of}
 use Rattle.protocol.specs.declared.event.Event.TheVariants.{Leave, Decline}
-use Rattle.protocol.specs.declared.note.Note.TheVariants.{Left, Stepped}
+use Rattle.protocol.specs.declared.note.Note.TheVariants.{Left}
 use Rattle.protocol.specs.declared.thread.Thread.{Thread}
 use Rattle.protocol.specs.declared.thread.Stage.{Stage}
 use Rattle.protocol.specs.declared.thread.Stage.TheVariants.{Calling}
-use Rattle.protocol.specs.Machine.{State, After, has_thread, is_asleep, is_trim, nothing, departed, spared, declined, sleeps, Led, led, put, held_after, happens}
+use Rattle.protocol.specs.Machine.{State, After, has_thread, is_asleep, is_trim, nothing, departed, spared, declined, sleeps, led, happens}
 use Rattle.protocol.proofs.Queues.{without_same}
-use Rattle.interleave.specs.Shown.{state_at, thread_at}
+use Rattle.interleave.specs.Shown.{state_at}
 use Rattle.interleave.specs.Steps.{SleepsInItsCall}
 use Rattle.interleave.proofs.Sleeping.{outside, told_asleep}
-use Rattle.interleave.proofs.Views.{threads-set, Made, IsMade}
 
 module _ (l : Layout') (ws : List ℕ) (kernel after : Kernel') (ts : List Thread) (t : ℕ) (first : 1 ≤ t) (known : t ≤ l.threads) (in_call : SleepsInItsCall (state_at l ws kernel ts) t) where
   abbrev s : State
@@ -95,32 +94,15 @@ no_trim_rests s t o p a is next other = go (has_thread s t)
         ∙ ap (λ (b : Bool). if b && not (sleeps s t (Calling o p)) then spared s t (s.threads t).held (mutex_of s.layout o) (led o p (whole_led p (Trimmed false))) else nothing s) trims
     go false = refl
 
--- one that is about to trim goes on as the code made of the answer that it gave
-module _ (l : Layout') (ws : List ℕ) (kernel : Kernel') (ts : List Thread) (k t : ℕ) (o : Op) (p : Whole) (th : Thread) (made : Made) (known : t ≤ l.threads) (at : k + 1 ≡ t) (len : length ts ≡ l.threads)
-    (e : thread_at ts t ≡ th) (is : th.stage ≡ Calling o p) (trims : is_trim (whole_access p) ≡ true) (awake : is_asleep (state_at l ws kernel ts) t ≡ false) (is_made : IsMade t (mutex_of l o) th.held (led o p (whole_led p (Trimmed false))) made) where
-  abbrev was : State
-  was = state_at l ws kernel ts
+-- one that is about to trim goes on as if its trim had cleared nothing
+module _ (s : State) (t : ℕ) (o : Op) (p : Whole) (th : Thread) (there : has_thread s t ≡ true) (e : s.threads t ≡ th) (is : th.stage ≡ Calling o p) (trims : is_trim (whole_access p) ≡ true) (awake : is_asleep s t ≡ false) where
+  abbrev goes : After
+  goes = spared s t th.held (mutex_of s.layout o) (led o p (whole_led p (Trimmed false)))
 
-  abbrev to : Led
-  to = led o p (whole_led p (Trimmed false))
-
-  abbrev spares : After
-  spares = spared was t th.held (mutex_of l o) to
-
-  ran : happens was (Decline t) ≡ spares
-  ran =
-      let there : has_thread was t ≡ true = grind (arith, nat_tests) in
-      ap (λ (b : Bool). if b then declined was t (thread_at ts t).held (thread_at ts t).stage else nothing was) there
-      ∙ ap (λ (z : Thread). declined was t z.held z.stage) e
-      ∙ ap (declined was t th.held) is
-      ∙ ap (λ (b : Bool). if b && not (sleeps was t (Calling o p)) then spares else nothing was) trims
-      ∙ ap (λ (b : Bool). if not b then spares else nothing was) (sym (ap (sleeps was t) (ap (λ (z : Thread). z.stage) e ∙ is)) ∙ awake)
-
-  pub declined_state : state_at l ws kernel (slice_set ts k (record { stage = made.stage; held = made.held })) ≡ (happens was (Decline t)).state
-  declined_state =
-      let threads : thread_at (slice_set ts k (record { stage = made.stage; held = made.held })) ≡ put (thread_at ts) t (record { stage = to.stage; held = held_after th.held to.operation to.point }) =
-      threads-set ts k t (record { stage = made.stage; held = made.held }) at (omega arith) ∙ (λ i. put (thread_at ts) t (record { stage = is_made.stage i; held = is_made.held i })) in
-      (λ i. record was { threads = threads i }) ∙ sym (ap (λ (a : After). a.state) ran)
-
-  pub declined_note : Stepped t (mutex_of l o) made.point None [] [] made.returned ≡ (happens was (Decline t)).note
-  declined_note = (λ i. Stepped t (mutex_of l o) (is_made.point i) None [] [] (is_made.returned i)) ∙ sym (ap (λ (a : After). a.note) ran)
+  pub declined_by : happens s (Decline t) ≡ spared s t th.held (mutex_of s.layout o) (led o p (whole_led p (Trimmed false)))
+  declined_by =
+      ap (λ (b : Bool). if b then declined s t (s.threads t).held (s.threads t).stage else nothing s) there
+      ∙ ap (λ (z : Thread). declined s t z.held z.stage) e
+      ∙ ap (declined s t th.held) is
+      ∙ ap (λ (b : Bool). if b && not (sleeps s t (Calling o p)) then goes else nothing s) trims
+      ∙ ap (λ (b : Bool). if not b then goes else nothing s) (sym (ap (sleeps s t) (ap (λ (z : Thread). z.stage) e ∙ is)) ∙ awake)

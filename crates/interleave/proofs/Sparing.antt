@@ -1,87 +1,122 @@
--- Wakes that are spared: a write into the list of threads is a write into the state.
+-- Wakes that are spared, and calls that go on with an answer to an access that isn't made: a write into the list of threads is a write into the state.
 use Rattle.std.specs.Option.{SomeIff}
-use Rattle.std.proofs.Common.{Option, Some, ◌≡◌, ◌≢◌, ℕ, suc, ◌+◌, ◌<◌, ◌≤◌, ◌==◌, Bool, true, false, ◌&&◌, None, List, [], length, refl, sym, ap, ◌∙◌, subst, arith, slice_set, eqb-true}
+use Rattle.std.proofs.Common.{Option, Some, ◌≡◌, ◌≢◌, ℕ, suc, ◌+◌, ◌<◌, ◌≤◌, ◌==◌, Bool, true, false, ◌&&◌, None, List, [], length, refl, sym, ap, ◌∙◌, subst, arith, slice_index_or, slice_set, eqb-true}
 use Rattle.std.specs.Prelude.{if◌then◌else◌, not, ◌||◌}
 use Rattle.std.proofs.lemmas.Bool.Decides.{nat_tests}
 use Rattle.memorymap.specs.Layouts.{Layout'}
+use Rattle.stepprograms.specs.declared.access.Answer.{Answer}
 use Rattle.stepprograms.specs.declared.access.Answer.TheVariants.{Count}
-use Rattle.mutex.specs.Standings.{Whole}
-use Rattle.mutex.specs.Whole.{whole_led}
-use Rattle.condvar.specs.declared.call.CondCall.{CondCall}
-use Rattle.condvar.specs.Standings.{CondWhole}
-use Rattle.condvar.specs.Whole.{cond_led}
+use Rattle.stepprograms.specs.declared.program.Progress.{Progress}
 use Rattle.condvar.specs.Ops.{mutex_of}
-use Rattle.condvar.specs.declared.op.Op.{Op}
-use Rattle.condvar.specs.declared.op.Op.TheVariants.{OnCondition}
+use Rattle.facts.specs.declared.fact.Queue.{Queue}
 use Rattle.syscalls.specs.Kernels.{Kernel'}
+use Rattle.protocol.specs.declared.event.Event.{Event}
 use Rattle.protocol.specs.declared.event.Event.TheVariants.{Spare}
-use Rattle.protocol.specs.declared.note.Note.TheVariants.{Stepped}
+use Rattle.protocol.specs.declared.note.Note.{Note}
+use Rattle.protocol.specs.declared.note.Note.TheVariants.{Nothing, Stepped}
 use Rattle.protocol.specs.declared.thread.Thread.{Thread}
 use Rattle.protocol.specs.declared.thread.Stage.{Stage}
-use Rattle.protocol.specs.declared.thread.Stage.TheVariants.{Calling, AtCondition}
-use Rattle.protocol.specs.Machine.{State, After, has_thread, nothing, spared, sparing, wakes_one, wakes_next, another_answers, answers, is_asleep, Led, led, led_at, put, held_after, happens}
+use Rattle.protocol.specs.Machine.{State, After, has_thread, nothing, idle, spared, sparing, slept_in, wakes_one, wakes_next, another_answers, answers, is_asleep, Led, put, held_after, happens}
 use Rattle.std.proofs.lemmas.Bool.{eqb-false}
 use Rattle.protocol.proofs.Sparing.{another_again}
+use Rattle.interleave.specs.declared.accesses.Performed.{Performed}
+use Rattle.interleave.specs.declared.calls.InCall.{InCall}
+use Rattle.interleave.specs.declared.calls.InCall.TheVariants as in_call
+use Rattle.interleave.specs.Calls.{led_by, op_of, progress_behind, stage_behind, stage_of}
+use Rattle.interleave.specs.Perform.{decision_with, held_with, point_in, reply_in}
 use Rattle.interleave.specs.Shown.{state_at, thread_at}
-use Rattle.interleave.proofs.Views.{threads-set, Made, IsMade}
+use Rattle.interleave.proofs.Views.{threads-set, thread_at-index, made_by, IsMade}
 
--- where it isn't about to wake one, or no other answers, nothing happens
-pub unlock_rests : (s : State) (t : ℕ) (o : Op) (p : Whole) → (s.threads t).stage ≡ Calling o p → (wakes_one p.phase && another_answers s t (mutex_of s.layout o) s.layout.threads) ≡ false → happens s (Spare t) ≡ nothing s
-unlock_rests s t o p is never = go (has_thread s t)
-  where
-    go : (b : Bool) → (if b then sparing s t (s.threads t).held (s.threads t).stage else nothing s) ≡ nothing s
-    go true = ap (sparing s t (s.threads t).held) is ∙ ap (λ (b : Bool). if b then spared s t (s.threads t).held (mutex_of s.layout o) (led o p (whole_led p (Count 1))) else nothing s) never
-    go false = refl
+-- a call in progress is about to wake one sleeper of its mutex
+abbrev pub wakes_by : InCall → Bool
+wakes_by (in_call.Calling o p) = wakes_one p.phase
+wakes_by (in_call.AtCondition c p) = wakes_next p.phase
 
-pub wait_rests : (s : State) (t : ℕ) (c : CondCall) (p : CondWhole) → (s.threads t).stage ≡ AtCondition c p → (wakes_next p.phase && another_answers s t (mutex_of s.layout (OnCondition c)) s.layout.threads) ≡ false → happens s (Spare t) ≡ nothing s
-wait_rests s t c p is never = go (has_thread s t)
-  where
-    go : (b : Bool) → (if b then sparing s t (s.threads t).held (s.threads t).stage else nothing s) ≡ nothing s
-    go true = ap (sparing s t (s.threads t).held) is ∙ ap (λ (b : Bool). if b then spared s t (s.threads t).held (mutex_of s.layout (OnCondition c)) (led_at c p (cond_led p (Count 1))) else nothing s) never
-    go false = refl
+sparing_by : (s : State) (t held : ℕ) (call : InCall)
+    → sparing s t held (stage_of call) ≡ (if wakes_by call && another_answers s t (mutex_of s.layout (op_of call)) s.layout.threads then spared s t held (mutex_of s.layout (op_of call)) (led_by call (Count 1)) else nothing s)
+sparing_by s t held (in_call.Calling o p) = refl
+sparing_by s t held (in_call.AtCondition c p) = refl
+
+-- a thread in a call
+module _ (s : State) (t : ℕ) (call : InCall) (is : (s.threads t).stage ≡ stage_of call) where
+  abbrev spares : After
+  spares = spared s t (s.threads t).held (mutex_of s.layout (op_of call)) (led_by call (Count 1))
+
+  ran : (b x : Bool) → has_thread s t ≡ b → (wakes_by call && another_answers s t (mutex_of s.layout (op_of call)) s.layout.threads) ≡ x → happens s (Spare t) ≡ (if b then (if x then spares else nothing s) else nothing s)
+  ran b x there told =
+      ap (λ (g : Stage). if has_thread s t then sparing s t (s.threads t).held g else nothing s) is
+      ∙ ap (λ (a : After). if has_thread s t then a else nothing s) (sparing_by s t (s.threads t).held call)
+      ∙ (λ i. if there i then (if told i then spares else nothing s) else nothing s)
+
+  -- where it isn't about to wake one, or no other answers, nothing happens
+  pub rests : (wakes_by call && another_answers s t (mutex_of s.layout (op_of call)) s.layout.threads) ≡ false → (s ≡ (happens s (Spare t)).state) × (Nothing ≡ (happens s (Spare t)).note)
+  rests never = (sym (ap (λ (a : After). a.state) stays), sym (ap (λ (a : After). a.note) stays))
+    where
+      go : (b : Bool) → (if b then nothing s else nothing s) ≡ nothing s
+      go true = refl
+      go false = refl
+
+      stays : happens s (Spare t) ≡ nothing s
+      stays = ran (has_thread s t) false refl never ∙ go (has_thread s t)
+
+-- ---- as the code reads the thread in its list
+
+pub is_there : (s : State) (k t : ℕ) → k + 1 ≡ t → t ≤ s.layout.threads → has_thread s t ≡ true
+is_there s k t at known = grind (arith, nat_tests)
+
+-- its wake is spared
+pub spares_there : (l : Layout') (ts : List Thread) (k t : ℕ) (call : InCall) (th : Thread) → k + 1 ≡ t → t ≤ l.threads → thread_at ts t ≡ th → (thread_at ts t).stage ≡ stage_of call → wakes_by call ≡ true
+    → (ws : List ℕ) (kernel : Kernel') → another_answers (state_at l ws kernel ts) t (mutex_of l (op_of call)) l.threads ≡ true
+    → happens (state_at l ws kernel ts) (Spare t) ≡ spared (state_at l ws kernel ts) t th.held (mutex_of l (op_of call)) (led_by call (Count 1))
+spares_there l ts k t call th at known e is wakes ws kernel another =
+    let s : State = state_at l ws kernel ts in
+    ran s t call is true true (is_there s k t at known) (ap (λ (b : Bool). b && another_answers s t (mutex_of l (op_of call)) l.threads) wakes ∙ another)
+    ∙ ap (λ (z : Thread). spared s t z.held (mutex_of l (op_of call)) (led_by call (Count 1))) e
+
+-- where it stands
+pub stands_there : (ts : List Thread) (k t : ℕ) (th : Thread) (g : Stage) → k + 1 ≡ t → th ≡ slice_index_or ts k idle → th.stage ≡ g → (thread_at ts t).stage ≡ g
+stands_there ts k t th g at read is = ap (λ (z : Thread). z.stage) (thread_at-index ts k t at ∙ sym read) ∙ is
 
 -- a test that fails
 pub fails_first : (a b : Bool) → a ≡ false → (a && b) ≡ false
 fails_first true b e = absurd cc
 fails_first false b e = refl
 
-pub fails_second : (a b : Bool) → a ≡ true → b ≡ false → (a && b) ≡ false
-fails_second true b e f = f
-fails_second false b e f = refl
+pub fails_second : (a b : Bool) → b ≡ false → (a && b) ≡ false
+fails_second true b e = e
+fails_second false b e = refl
 
--- the thread goes on as the code made of the answer that it gave
-module _ (l : Layout') (ws : List ℕ) (kernel : Kernel') (ts : List Thread) (k t m : ℕ) (g : Stage) (to : Led) (th : Thread) (made : Made) (known : t ≤ l.threads) (at : k + 1 ≡ t) (len : length ts ≡ l.threads)
-    (e : thread_at ts t ≡ th) (is : th.stage ≡ g) (goes : sparing (state_at l ws kernel ts) t th.held g ≡ spared (state_at l ws kernel ts) t th.held m to) (is_made : IsMade t m th.held to made) where
+-- a thread in a call goes on with an answer to an access that isn't made: as the code made of it, and as the definition does
+module _ (l : Layout') (ts : List Thread) (k t : ℕ) (call : InCall) (x : Answer) (th : Thread) (at : k + 1 ≡ t) (known : t ≤ l.threads) (len : length ts ≡ l.threads)
+    (done : Performed) (quiet : done ≡ record { answer = x; slept = false; woken = []; moved = [] }) (pr : Progress) (came : pr ≡ progress_behind call done.answer)
+    (g : Stage) (held : ℕ) (staged : g ≡ stage_behind call done.answer) (counted : held ≡ held_with th.held (point_in pr))
+    (m : ℕ) (q : Queue) (note : Note) (of : m ≡ mutex_of l (op_of call)) (noted : note ≡ Stepped t m (decision_with t m (point_in pr)) (slept_in q done.slept) done.woken done.moved (reply_in pr))
+    (e : Event) (ws : List ℕ) (kernel : Kernel') (happened : happens (state_at l ws kernel ts) e ≡ spared (state_at l ws kernel ts) t th.held (mutex_of l (op_of call)) (led_by call x)) where
   abbrev was : State
   was = state_at l ws kernel ts
 
-  ran : happens was (Spare t) ≡ spared was t th.held m to
-  ran =
-      let there : has_thread was t ≡ true = grind (arith, nat_tests) in
-      ap (λ (b : Bool). if b then sparing was t (thread_at ts t).held (thread_at ts t).stage else nothing was) there
-      ∙ ap (λ (z : Thread). sparing was t z.held z.stage) e
-      ∙ ap (sparing was t th.held) is
-      ∙ goes
+  abbrev to : Led
+  to = led_by call x
 
-  pub spared_state : state_at l ws kernel (slice_set ts k (record { stage = made.stage; held = made.held })) ≡ (happens was (Spare t)).state
-  spared_state =
-      let threads : thread_at (slice_set ts k (record { stage = made.stage; held = made.held })) ≡ put (thread_at ts) t (record { stage = to.stage; held = held_after th.held to.operation to.point }) =
-      threads-set ts k t (record { stage = made.stage; held = made.held }) at (omega arith) ∙ (λ i. put (thread_at ts) t (record { stage = is_made.stage i; held = is_made.held i })) in
-      (λ i. record was { threads = threads i }) ∙ sym (ap (λ (a : After). a.state) ran)
+  told : pr ≡ progress_behind call x
+  told = came ∙ (λ i. progress_behind call (quiet i).answer)
 
-  pub spared_note : Stepped t m made.point None [] [] made.returned ≡ (happens was (Spare t)).note
-  spared_note = (λ i. Stepped t m (is_made.point i) None [] [] (is_made.returned i)) ∙ sym (ap (λ (a : After). a.note) ran)
+  is_made : IsMade t (mutex_of l (op_of call)) th.held to (record { stage = stage_behind call x; held = held_with th.held (point_in (progress_behind call x)); point = decision_with t (mutex_of l (op_of call)) (point_in (progress_behind call x)); returned = reply_in (progress_behind call x) })
+  is_made = made_by t (mutex_of l (op_of call)) th.held call x
 
--- by what is asked of it
-pub unlock_goes : (s : State) (t held : ℕ) (o : Op) (p : Whole) → wakes_one p.phase ≡ true → another_answers s t (mutex_of s.layout o) s.layout.threads ≡ true → sparing s t held (Calling o p) ≡ spared s t held (mutex_of s.layout o) (led o p (whole_led p (Count 1)))
-unlock_goes s t held o p wakes another =
-    ap (λ (b : Bool). if b && another_answers s t (mutex_of s.layout o) s.layout.threads then spared s t held (mutex_of s.layout o) (led o p (whole_led p (Count 1))) else nothing s) wakes
-    ∙ ap (λ (b : Bool). if b then spared s t held (mutex_of s.layout o) (led o p (whole_led p (Count 1))) else nothing s) another
-
-pub wait_goes : (s : State) (t held : ℕ) (c : CondCall) (p : CondWhole) → wakes_next p.phase ≡ true → another_answers s t (mutex_of s.layout (OnCondition c)) s.layout.threads ≡ true → sparing s t held (AtCondition c p) ≡ spared s t held (mutex_of s.layout (OnCondition c)) (led_at c p (cond_led p (Count 1)))
-wait_goes s t held c p wakes another =
-    ap (λ (b : Bool). if b && another_answers s t (mutex_of s.layout (OnCondition c)) s.layout.threads then spared s t held (mutex_of s.layout (OnCondition c)) (led_at c p (cond_led p (Count 1))) else nothing s) wakes
-    ∙ ap (λ (b : Bool). if b then spared s t held (mutex_of s.layout (OnCondition c)) (led_at c p (cond_led p (Count 1))) else nothing s) another
+  -- both what it leaves and what is noted of it
+  pub answered_shows : (state_at l ws kernel (slice_set ts k (record { stage = g; held = held })) ≡ (happens was e).state) × (note ≡ (happens was e).note)
+  answered_shows =
+      let stage : g ≡ to.stage = staged ∙ (λ i. stage_behind call (quiet i).answer) ∙ is_made.stage in
+      let few : held ≡ held_after th.held to.operation to.point = counted ∙ (λ i. held_with th.held (point_in (told i))) ∙ is_made.held in
+      let threads : thread_at (slice_set ts k (record { stage = g; held = held })) ≡ put (thread_at ts) t (record { stage = to.stage; held = held_after th.held to.operation to.point }) =
+      threads-set ts k t (record { stage = g; held = held }) at (omega arith) ∙ (λ i. put (thread_at ts) t (record { stage = stage i; held = few i })) in (
+        (λ i. record was { threads = threads i }) ∙ sym (ap (λ (a : After). a.state) happened),
+        noted
+            ∙ (λ i. Stepped t (of i) (decision_with t (of i) (point_in (told i))) (slept_in q (quiet i).slept) (quiet i).woken (quiet i).moved (reply_in (told i)))
+            ∙ (λ i. Stepped t (mutex_of l (op_of call)) (is_made.point i) None [] [] (is_made.returned i))
+            ∙ sym (ap (λ (a : After). a.note) happened),
+      )
 
 -- ---- another that answers
 
