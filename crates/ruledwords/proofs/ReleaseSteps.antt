@@ -1,5 +1,5 @@
 -- Unlocks up to the waking, access by access.
-use Rattle.std.proofs.Common.{◌≡◌, ◌≢◌, ℕ, ◌<◌, Bool, true, false, Option, Some, None, Result, Ok, Err, [], ◌∷◌, is_some, sym, ◌∙◌, subst}
+use Rattle.std.proofs.Common.{◌≡◌, ◌≢◌, ℕ, ◌+◌, ◌<◌, Bool, true, false, Option, Some, None, Result, Ok, Err, [], ◌∷◌, is_some, sym, ◌∙◌, subst, arith}
 use Rattle.std.specs.Result.{IsErrAnd}
 use Rattle.lockword.specs.Cells.{fields_of}
 use Rattle.lockword.specs.declared.reply.Reply.{Reply}
@@ -20,15 +20,16 @@ use Rattle.ruledwords.specs.Calls.{row_in}
 use Rattle.ruledwords.specs.Changes.{ChangedNothing}
 use Rattle.ruledwords.specs.Owing.{ChangesThere, FoundOwn, OwesThere, owing_at}
 use Rattle.ruledwords.specs.Passes.{card, layout_of}
-use Rattle.ruledwords.specs.Releases.{IsReleasing, Refuses, ReleaseEnds, ReleasesAll, ReleasesTo, StaysReleasing}
+use Rattle.ruledwords.specs.Releases.{IsInRelease, IsReleasing, Refuses, ReleaseEnds, ReleasesAll, ReleasesTo, StaysReleasing}
 use Rattle.ruledwords.specs.Seen.{Called, held}
 use Rattle.ruledwords.specs.declared.turn.Turn.TheVariants.{Goes}
-use Rattle.ruledwords.specs.Turns.{running_call, running_of, running_pass, Advances, IsOneStep, IsUnderWay, Turned}
+use Rattle.ruledwords.specs.Turns.{running_call, running_of, running_pass, stops_with, stops_within, Advances, IsOneStep, IsUnderWay, Turned}
 use Rattle.mutex.specs.Whole.{whole_access, whole_started}
 use Rattle.ruledwords.proofs.Beginnings.{unlock_begins}
 use Rattle.ruledwords.proofs.Changes.{nothing_yet}
 use Rattle.ruledwords.proofs.Ranks.{rank_in, turn_falls}
 use Rattle.ruledwords.proofs.Releasing.{steps, told_on, refused_on}
+use Rattle.ruledwords.proofs.Stepping.{counts_on}
 
 pub not_owing : (f g : Phase) (o : Option Wakes) (b : Bool) → b ≡ is_some o → b ≡ false → OwesThere g o → g ≡ f → (v : Wakes) → f ≢ owing_at v
 not_owing f g None b told none owes same v e = owes v (same ∙ e)
@@ -72,7 +73,7 @@ after w a p b q d end.Stopped so_far ends = λ x m is. ends x m (so_far x m is)
 after w a p b q d (end.Replied y) so_far ends = λ x m is. ends x m (so_far x m is)
 
 -- a `?` hands on how the unlock ended
-pub handed_on : (w : Words) (a : Pass Live) (p : Whole) (b : Pass Live) (r : Result Whole End) (e : End) → IsErrAnd r (λ y. y ≡ e) → ReleaseEnds w a p b e → ReleasesTo w a p b r
+handed_on : (w : Words) (a : Pass Live) (p : Whole) (b : Pass Live) (r : Result Whole End) (e : End) → IsErrAnd r (λ y. y ≡ e) → ReleaseEnds w a p b e → ReleasesTo w a p b r
 handed_on w a p b (Ok q) e is ends = absurd is
 handed_on w a p b (Err y) e is ends = subst (ReleaseEnds w a p b) (sym is) ends
 
@@ -83,6 +84,35 @@ all_handed_on w a p b (Err y) e is ends = subst (ReleaseEnds w a p b) (sym is) e
 pub all_after : (w : Words) (a : Pass Live) (p : Whole) (b : Pass Live) (q : Whole) (d : Pass Live) (r : Result (Whole × Wakes) End) → StaysReleasing w a p b q → ReleasesAll w b q d r → ReleasesAll w a p d r
 all_after w a p b q d (Ok s) so_far is = (is.0, λ x m rel. is.1 x m (so_far x m rel), is.2)
 all_after w a p b q d (Err e) so_far is = after w a p b q d e so_far is
+
+-- ---- accesses before each of which the thread's fate lets it go on
+
+infixl 30 ◌⨾◌
+-- from here to there, and from what the fate had said to what it has said then
+pub record Went (w : Words) (a : Pass Live) (p : Whole) (b : Pass Live) (q : Whole) (f f' : ℕ) : Type 0 where
+  pub stays : StaysReleasing w a p b q
+  pub there : IsInRelease w b q
+  pub fate : f' ≡ f + 0
+
+-- one
+pub went : {w : Words} {a : Pass Live} {p : Whole} {b : Pass Live} {q : Whole} {f f' : ℕ} {O : Type 0} → record { steps : StaysReleasing w a p b q; once : IsInRelease w b q × O; fate : f' ≡ f + 0 } → Went w a p b q f f'
+went step = record { stays = step.steps; there = step.once.0; fate = step.fate }
+
+-- and further ones
+pub ◌⨾◌ : {w : Words} {a : Pass Live} {p : Whole} {b : Pass Live} {q : Whole} {d : Pass Live} {r : Whole} {f f' f'' : ℕ} → Went w a p b q f f' → Went w b q d r f' f'' → Went w a p d r f f''
+first ⨾ more =
+    let x = first.fate in
+    let y = more.fate in
+    record { stays = λ x m is. more.stays x m (first.stays x m is); there = more.there; fate = omega (arith, x, y) }
+
+-- behind them the unlock ended, which a `?` hands on
+pub ended : {w : Words} {a : Pass Live} {p : Whole} {b : Pass Live} {q : Whole} {f f' f'' : ℕ} {O : Type 0} (d : Pass Live) (e : End) (r : Result Whole End)
+    → Went w a p b q f f' → record { steps : ReleaseEnds w b q d e; once : O; fate : f'' ≡ f' + stops_with e } → IsErrAnd r (λ y. y ≡ e)
+    → record { steps : ReleasesTo w a p d r; fate : f'' ≡ f + stops_within r }
+ended {w} {a} {p} {b} {q} {f} {f'} {f''} d e r first last is =
+    let x = first.fate in
+    let y = last.fate in
+    record { steps = handed_on w a p d r e is (after w a p b q d e first.stays last.steps); fate = counts_on r e f'' f is (omega (arith, x, y)) }
 
 -- an unlock begins knowing nothing of the cell
 pub releases_begun : (w : Words) (x : Pass Live) (m : ℕ) (r : Running) → whole_started (layout_of w) (card x).thread (held (card x)) (call.Unlock m) ≡ Ok (running_call r) → running_pass r ≡ x → IsUnderWay w x (call.Unlock m) r → IsReleasing w x m (running_pass r) (running_call r)

@@ -16,6 +16,7 @@ use Rattle.ruledwords.specs.Fates.{Heeds}
 use Rattle.ruledwords.specs.Passes.{layout_of}
 use Rattle.ruledwords.specs.Stretches.{ComesOn, ComesToEnd, StepsTo}
 use Rattle.ruledwords.specs.Turns.{access_in, running_call, running_pass, EndsIn, IsCallOf, IsInNonblocking, IsOneStep, IsUnderWay, Turned, IsNonblocking, stops_with, stops_within}
+use Rattle.ruledwords.proofs.Fates.{heeds_nothing, heeds_on}
 use Rattle.ruledwords.proofs.Ranks.{rank_in, turn_falls}
 use Rattle.ruledwords.proofs.StepsOfCalls.{try_step, consistent_step}
 
@@ -32,7 +33,7 @@ after w a p b q d end.Stopped first ends = (ends.0, comes_further w a p b q d en
 after w a p b q d (end.Replied y) first ends = ((λ x call is. ends.0 x call (first.1 x call is)), (λ m c z is. ends.1 m c z (first.2 m c z is)))
 
 -- a `?` hands on how the call ended
-pub handed_on : (w : Words) (a : Pass Live) (p : Whole) (b : Pass Live) (r : Result Whole End) (e : End) → IsErrAnd r (λ y. y ≡ e) → ComesToEnd w a p b e → StepsTo w a p b r
+handed_on : (w : Words) (a : Pass Live) (p : Whole) (b : Pass Live) (r : Result Whole End) (e : End) → IsErrAnd r (λ y. y ≡ e) → ComesToEnd w a p b e → StepsTo w a p b r
 handed_on w a p b (Ok q) e is ends = absurd is
 handed_on w a p b (Err y) e is ends = subst (ComesToEnd w a p b) (sym is) ends
 
@@ -40,9 +41,35 @@ pub counts_on : {A : Type 0} (r : Result A End) (e : End) (n m : ℕ) → IsErrA
 counts_on (Ok q) e n m is counted = absurd is
 counts_on (Err y) e n m is counted = counted ∙ ap (λ (z : End). m + stops_with z) (sym is)
 
-pub heeds_out : {A : Type 0} (r : Result A End) (e : End) (f f' n n' : ℕ) → IsErrAnd r (λ y. y ≡ e) → Heeds f f' n n' (stops_with e) → Heeds f f' n n' (stops_within r)
+heeds_out : {A : Type 0} (r : Result A End) (e : End) (f f' n n' : ℕ) → IsErrAnd r (λ y. y ≡ e) → Heeds f f' n n' (stops_with e) → Heeds f f' n n' (stops_within r)
 heeds_out (Ok q) e f f' n n' is heeded = absurd is
 heeds_out (Err y) e f f' n n' is heeded = subst (λ (z : End). Heeds f f' n n' (stops_with z)) (sym is) heeded
+
+-- ---- accesses before each of which the thread's fates let it go on
+
+infixl 30 ◌⨾◌
+-- from here to there, and from what the fates had said to what they have said then
+pub record Went (w : Words) (a : Pass Live) (p : Whole) (b : Pass Live) (q : Whole) (f f' n n' : ℕ) : Type 0 where
+  pub came : ComesOn w a p b q
+  pub fate : Heeds f f' n n' 0
+
+-- none
+pub went_nowhere : {w : Words} {a : Pass Live} {p : Whole} (f n : ℕ) → IsCallOf w a p → Went w a p a p f f n n
+went_nowhere {w} {a} {p} f n of = record { came = stays w a p of; fate = heeds_nothing f n }
+
+-- one
+pub went : {w : Words} {a : Pass Live} {p : Whole} {b : Pass Live} {q : Whole} {f f' n n' : ℕ} {O : Type 0} → record { steps : ComesOn w a p b q; once : O; fate : Heeds f f' n n' 0 } → Went w a p b q f f' n n'
+went step = record { came = step.steps; fate = step.fate }
+
+-- and further ones
+pub ◌⨾◌ : {w : Words} {a : Pass Live} {p : Whole} {b : Pass Live} {q : Whole} {d : Pass Live} {r : Whole} {f f' f'' n n' n'' : ℕ} → Went w a p b q f f' n n' → Went w b q d r f' f'' n' n'' → Went w a p d r f f'' n n''
+◌⨾◌ {w} {a} {p} {b} {q} {d} {r} first more = record { came = comes_further w a p b q d r first.came more.came; fate = heeds_on _ _ _ _ _ _ _ first.fate more.fate }
+
+-- behind them the call ended, which a `?` hands on
+pub ended : {w : Words} {a : Pass Live} {p : Whole} {b : Pass Live} {q : Whole} {f f' f'' n n' n'' : ℕ} {O : Type 0} (d : Pass Live) (e : End) (r : Result Whole End)
+    → Went w a p b q f f' n n' → record { steps : ComesToEnd w b q d e; once : O; fate : Heeds f' f'' n' n'' (stops_with e) } → IsErrAnd r (λ y. y ≡ e)
+    → record { steps : StepsTo w a p d r; fate : Heeds f f'' n n'' (stops_within r) }
+ended {w} {a} {p} {b} {q} d e r first last is = record { steps = handed_on w a p d r e is (after w a p b q d e first.came last.steps); fate = heeds_out r e _ _ _ _ is (heeds_on _ _ _ _ _ _ _ first.fate last.fate) }
 
 -- ---- calls that wait for nobody
 
