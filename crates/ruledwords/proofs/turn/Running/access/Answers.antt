@@ -8,50 +8,16 @@ invariant_of-result c =
     let on = (c.in-None.ensures of).0 in
     record { ready = on.ready; room = on.room; going = on.going }
 
-pub returns-in-None-clause-words : goal.returns-in-None-clause-words
-returns-in-None-clause-words c =
+pub returns-in-None : goal.returns-in-None
+returns-in-None c =
     let r = c.args.self in
     let of : IsCallOf c.args.words.now r.pass r.program = record { ready = r.ready; room = r.room; going = r.going; words = c.requires.words } in
-    (c.in-None.ensures of).1.0
+    let came = (c.in-None.ensures of).1 in
+    record { words = came.0; turned = came.1; keeps = came.2; decided = came.3 }
 
-pub returns-in-None-clause-turned : goal.returns-in-None-clause-turned
-returns-in-None-clause-turned c =
+pub returns-in-Some : goal.returns-in-Some
+returns-in-Some c =
     let r = c.args.self in
     let of : IsCallOf c.args.words.now r.pass r.program = record { ready = r.ready; room = r.room; going = r.going; words = c.requires.words } in
-    (c.in-None.ensures of).1.1
-
-pub returns-in-None-clause-keeps : goal.returns-in-None-clause-keeps
-returns-in-None-clause-keeps c =
-    let r = c.args.self in
-    let of : IsCallOf c.args.words.now r.pass r.program = record { ready = r.ready; room = r.room; going = r.going; words = c.requires.words } in
-    (c.in-None.ensures of).1.2
-
-pub returns-in-None-clause-decided : goal.returns-in-None-clause-decided
-returns-in-None-clause-decided c =
-    let r = c.args.self in
-    let of : IsCallOf c.args.words.now r.pass r.program = record { ready = r.ready; room = r.room; going = r.going; words = c.requires.words } in
-    (c.in-None.ensures of).1.3
-
-pub returns-in-Some-clause-words : goal.returns-in-Some-clause-words
-returns-in-Some-clause-words c =
-    let r = c.args.self in
-    let of : IsCallOf c.args.words.now r.pass r.program = record { ready = r.ready; room = r.room; going = r.going; words = c.requires.words } in
-    (c.in-Some.ensures of).0
-
-pub returns-in-Some-clause-turned : goal.returns-in-Some-clause-turned
-returns-in-Some-clause-turned c =
-    let r = c.args.self in
-    let of : IsCallOf c.args.words.now r.pass r.program = record { ready = r.ready; room = r.room; going = r.going; words = c.requires.words } in
-    (c.in-Some.ensures of).1
-
-pub returns-in-Some-clause-keeps : goal.returns-in-Some-clause-keeps
-returns-in-Some-clause-keeps c =
-    let r = c.args.self in
-    let of : IsCallOf c.args.words.now r.pass r.program = record { ready = r.ready; room = r.room; going = r.going; words = c.requires.words } in
-    (c.in-Some.ensures of).2
-
-pub returns-in-Some-clause-decided : goal.returns-in-Some-clause-decided
-returns-in-Some-clause-decided c =
-    let r = c.args.self in
-    let of : IsCallOf c.args.words.now r.pass r.program = record { ready = r.ready; room = r.room; going = r.going; words = c.requires.words } in
-    (c.in-Some.ensures of).3
+    let came = c.in-Some.ensures of in
+    record { words = came.0; turned = came.1; keeps = came.2; decided = came.3 }
