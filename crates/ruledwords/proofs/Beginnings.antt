@@ -12,7 +12,7 @@ pub by_test : (b : Bool) (s p : Whole) → (if◌then◌else◌ {A = Result Whol
 by_test true s p e = absurd (cc e)
 by_test false s p e = (refl, sym cc)
 
-refused_test : (b : Bool) (s : Whole) (x : Reply) → (if◌then◌else◌ {A = Result Whole Reply} b (Err XHELD) (Ok s)) ≡ Err x → (b ≡ true) × (x ≡ XHELD)
+pub refused_test : (b : Bool) (s : Whole) (x : Reply) → (if◌then◌else◌ {A = Result Whole Reply} b (Err XHELD) (Ok s)) ≡ Err x → (b ≡ true) × (x ≡ XHELD)
 refused_test true s x e = (refl, sym cc)
 refused_test false s x e = absurd (cc e)
 

@@ -17,7 +17,7 @@ mod Standing
 mod Phases
 mod Making
 mod Accesses
-mod Beginnings
+pub mod Beginnings
 mod Looks
 mod Trims
 mod OwnWords

@@ -32,7 +32,7 @@ use Rattle.ruledwords.specs.Turns.{running_call, running_pass, running_program, 
 use Rattle.ruledwords.proofs.Exchanges.{expects_at_section}
 use Rattle.ruledwords.proofs.Noted.{seen_noted, seen_on, still_stands}
 use Rattle.threadbench.specs.Calls.{Locked, Paid, RanOut, RanOutDecided, Runs, stretch_of}
-use Rattle.threadbench.proofs.Beginnings.{picks_false}
+use Rattle.ruledwords.proofs.Beginnings.{picks_false}
 
 -- a call whose word was looked at is under way as it was
 pub still_under_way : (w : Words) (r r' : Running) (a : Pass Live) (call : Call) → Unmoved w r r' → IsUnderWay w a call r → IsUnderWay w a call r'

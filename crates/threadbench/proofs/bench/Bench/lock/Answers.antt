@@ -7,7 +7,8 @@ use Rattle.ruledwords.specs.declared.pass.Live.{Live}
 use Rattle.ruledwords.specs.Passes.{card, layout_of, IsLive}
 use Rattle.ruledwords.specs.Seen.{held}
 use Rattle.ruledwords.specs.Turns.{IsUnderWay}
-use Rattle.threadbench.proofs.Beginnings.{lock_begins, lock_refused, picks_true}
+use Rattle.ruledwords.proofs.Beginnings.{picks_true}
+use Rattle.threadbench.proofs.Beginnings.{lock_begins, lock_refused}
 use Rattle.threadbench.proofs.Heeding.{is_heeded}
 use Rattle.threadbench.proofs.Turning.{ran_locked}
 use Rattle.threadbench.proofs.bench.Bench.lock.Goals as goal
