@@ -59,11 +59,11 @@ onward TimedWait ps Nothing b x of may = absurd may
 onward TimedWait ps Released b x of may = subst (λ r. Of TimedWait (ps ++ (r, x) ∷ []) (pointed TimedWait r x)) (sym may) (subst (λ ys. Complete TimedWait (ys ++ (Lock, x) ∷ []) x) (sym of.1) (refl, refl, inl refl), last_replied ps Lock x)
 onward TimedWait ps (Decided y) b x of may = absurd may
 onward TimedLock ps Nothing b x of may = (
-    ⊎_elim
-    (λ e. subst (λ r. Complete TimedLock (ps ++ (r, x) ∷ []) x) (sym e) (subst (λ ys. Complete TimedLock (ys ++ (TimedLock, x) ∷ []) x) (sym of) (inl refl)))
-    (λ e. subst (λ r. Complete TimedLock (ps ++ (r, x) ∷ []) x) (sym e) (subst (λ ys. Complete TimedLock (ys ++ (Lock, x) ∷ []) x) (sym of) (inr refl)))
-    may,
-    last_replied ps b x,
+  ⊎_elim
+      (λ e. subst (λ r. Complete TimedLock (ps ++ (r, x) ∷ []) x) (sym e) (subst (λ ys. Complete TimedLock (ys ++ (TimedLock, x) ∷ []) x) (sym of) (inl refl)))
+      (λ e. subst (λ r. Complete TimedLock (ps ++ (r, x) ∷ []) x) (sym e) (subst (λ ys. Complete TimedLock (ys ++ (Lock, x) ∷ []) x) (sym of) (inr refl)))
+      may,
+  last_replied ps b x,
 )
 onward a ps Nothing b x of may = subst (λ r. Of a (ps ++ (r, x) ∷ []) (pointed a r x)) (sym may) (subst (λ ys. Complete a (ys ++ (a, x) ∷ []) x) (sym of) refl, last_replied ps a x)
 onward a ps Released b x of may = absurd (⊎_elim (λ (e : a ≡ Wait). cc e) (λ (e : a ≡ TimedWait). cc e) of.0)
