@@ -31,7 +31,7 @@ impl Pending {
             Operation::Lock | Operation::TryLock | Operation::TimedLock => {
                 !self.owned && !self.full
             }
-            Operation::Wait => self.owned && !self.inconsistent,
+            Operation::Wait | Operation::TimedWait => self.owned && !self.inconsistent,
             _ => false,
         }
     }
