@@ -8,7 +8,7 @@ use text_fixtures::words;
 type Told = (&'static [u8], u8, &'static str);
 
 /// Files without fault, and words that are wrong.
-static WORDS: [Told; 41] = [
+static WORDS: [Told; 43] = [
     // scripts and traces without fault
     (
         b"thread a\nmutex m\ncall a lock m\n",
@@ -54,7 +54,7 @@ static WORDS: [Told; 41] = [
     (
         b"trace 1 1 0\n1 begin t1 lock m0\n2 point t1 m0 lok OK\nend 2\n",
         1,
-        "f: line 3: fault 2: unknown word (a trace)\n  | 2 point t1 m0 lok OK\n  |               ^^^\n  = expected one of `lock` `trylock` `timedlock` `unlock` `consistent` `wait` `signal` `broadcast` `reinit`\n  = did you mean `lock`?\n",
+        "f: line 3: fault 2: unknown word (a trace)\n  | 2 point t1 m0 lok OK\n  |               ^^^\n  = expected one of `lock` `trylock` `timedlock` `unlock` `consistent` `wait` `timedwait` `signal` `broadcast` `reinit`\n  = did you mean `lock`?\n",
     ),
     (
         b"trace 1 1 0\n1 begin t1 lock m0\n2 point t1 m0 lock EPRM\nend 2\n",
@@ -70,7 +70,7 @@ static WORDS: [Told; 41] = [
     (
         b"thread a\nmutex m\ncall a timedlok m\n",
         1,
-        "f: line 3: fault 2: unknown word (a script for `rfx run`)\n  | call a timedlok m\n  |        ^^^^^^^^\n  = expected one of `lock` `trylock` `timedlock` `unlock` `consistent` `wait` `signal` `broadcast`\n  = did you mean `timedlock`?\n",
+        "f: line 3: fault 2: unknown word (a script for `rfx run`)\n  | call a timedlok m\n  |        ^^^^^^^^\n  = expected one of `lock` `trylock` `timedlock` `unlock` `consistent` `wait` `timedwait` `signal` `broadcast`\n  = did you mean `timedlock`?\n",
     ),
     (
         b"thread a\nmutex m\nexpre a\n",
@@ -91,6 +91,16 @@ static WORDS: [Told; 41] = [
         b"thread a\nmutex m\nphase\ncall a timedlock m\n",
         1,
         "f: line 4: fault 2: unknown word (a script for `rfx threads`)\n  | call a timedlock m\n  |        ^^^^^^^^^\n  = expected one of `lock` `trylock` `unlock` `consistent` `wait` `signal` `broadcast`\n  = a script for `rfx run` has such lines\n",
+    ),
+    (
+        b"thread a\nmutex m\ncond c m 0\ncall a lock m\ncall a timedwait c\nexpire a\n",
+        0,
+        "f: a good script for `rfx run`\n",
+    ),
+    (
+        b"thread a\nmutex m\ncond c m 0\nphase\ncall a timedwait c\n",
+        1,
+        "f: line 5: fault 2: unknown word (a script for `rfx threads`)\n  | call a timedwait c\n  |        ^^^^^^^^^\n  = expected one of `lock` `trylock` `unlock` `consistent` `wait` `signal` `broadcast`\n  = a script for `rfx run` has such lines\n",
     ),
     // a word that is missing, and one too many
     (
@@ -423,12 +433,12 @@ static SENSES: [Told; 39] = [
     (
         b"thread a\nmutex m\ncall a reinit m\n",
         1,
-        "f: line 3: fault 2: unknown word (a script for `rfx run`)\n  | call a reinit m\n  |        ^^^^^^\n  = expected one of `lock` `trylock` `timedlock` `unlock` `consistent` `wait` `signal` `broadcast`\n",
+        "f: line 3: fault 2: unknown word (a script for `rfx run`)\n  | call a reinit m\n  |        ^^^^^^\n  = expected one of `lock` `trylock` `timedlock` `unlock` `consistent` `wait` `timedwait` `signal` `broadcast`\n",
     ),
     (
         b"trace 1 1 0\n1 begin t1 rinit m0\nend 1\n",
         1,
-        "f: line 2: fault 2: unknown word (a trace)\n  | 1 begin t1 rinit m0\n  |            ^^^^^\n  = expected one of `lock` `trylock` `timedlock` `unlock` `consistent` `wait` `signal` `broadcast` `reinit`\n  = did you mean `reinit`?\n",
+        "f: line 2: fault 2: unknown word (a trace)\n  | 1 begin t1 rinit m0\n  |            ^^^^^\n  = expected one of `lock` `trylock` `timedlock` `unlock` `consistent` `wait` `timedwait` `signal` `broadcast` `reinit`\n  = did you mean `reinit`?\n",
     ),
     (
         b"trace 1 1 0\n1 begin t1 reinit m0\n1 point t1 m0 reinit OK\n1 return t1 OK\nend 1\n",

@@ -217,6 +217,31 @@ static WHOLE: Runs = Runs {
              29 begin t2 broadcast c0 m0\n32 point t2 m0 broadcast OK\n34 move t1 m0\n34 return t2 OK\nend 35\n",
             "thread a asleep 0 OK\nthread b idle 1 OK\nmutex m 0000000080000002 b a\ncond c 1 -\n",
         ),
+        // One that has one leaves the condition variable's queue when it comes, and locks its mutex.
+        (
+            "thread a\nthread b\nmutex m\ncond c m 0\ncall a lock m\ncall a timedwait c\nexpire a\ngo a\n",
+            "trace 2 1 1\n1 begin t1 lock m0\n4 point t1 m0 lock OK\n9 return t1 OK\n10 begin t1 timedwait c0 m0\n\
+             17 point t1 m0 unlock OK\n18 sleep t1 c0\n19 wake t1\n21 point t1 m0 lock OK\n26 return t1 ETIMEDOUT\nend 26\n",
+            "thread a idle 1 ETIMEDOUT\nthread b idle 0 -\nmutex m 0000000000000001 a -\ncond c 0 -\n",
+        ),
+        // Moved to the mutex it has none any more: nothing happens, and it returns OK.
+        (
+            "thread a\nthread b\nmutex m\ncond c m 0\ncall a lock m\ncall a timedwait c\ncall b lock m\n\
+             call b broadcast c\nexpire a\ncall b unlock m\ngo a\n",
+            "trace 2 1 1\n1 begin t1 lock m0\n4 point t1 m0 lock OK\n9 return t1 OK\n10 begin t1 timedwait c0 m0\n\
+             17 point t1 m0 unlock OK\n18 sleep t1 c0\n19 begin t2 lock m0\n22 point t2 m0 lock OK\n27 return t2 OK\n\
+             28 begin t2 broadcast c0 m0\n31 point t2 m0 broadcast OK\n33 move t1 m0\n33 return t2 OK\n\
+             35 begin t2 unlock m0\n41 point t2 m0 unlock OK\n42 wake t1\n43 return t2 OK\n45 point t1 m0 lock OK\n\
+             50 return t1 OK\nend 50\n",
+            "thread a idle 1 OK\nthread b idle 0 OK\nmutex m 0000000080000001 a -\ncond c 1 -\n",
+        ),
+        // It is killed between its limit and its lock: its walk finds its entry pending, of a mutex that nobody owns.
+        (
+            "thread a\nthread b\nmutex m\ncond c m 0\ncall a lock m\ncall a timedwait c\nexpire a\nkill a\ngo a\n",
+            "trace 2 1 1\n1 begin t1 lock m0\n4 point t1 m0 lock OK\n9 return t1 OK\n10 begin t1 timedwait c0 m0\n\
+             17 point t1 m0 unlock OK\n18 sleep t1 c0\n19 wake t1\n20 kill t1\n25 reaped t1\nend 25\n",
+            "thread a reaped 0 OK\nthread b idle 0 -\nmutex m 0000000000000000 - -\ncond c 0 -\n",
+        ),
         // Who doesn't own the mutex of a condition variable is refused.
         (
             "thread a\nmutexes m 2\ncond p m0 7\ncond q m1 7\ncall a wait q\ncall a signal q\ncall a broadcast p\n",

@@ -158,7 +158,7 @@ const OF_THREADS: [Reason; 8] = [
 ];
 
 /// By the points of the thread's call.
-const OF_CALLS: [Reason; 8] = [
+const OF_CALLS: [Reason; 9] = [
     Reason {
         misfit: Misfit::OtherMutex { mutex: 0 },
         text: "the thread's call is on m0",
@@ -178,6 +178,17 @@ const OF_CALLS: [Reason; 8] = [
         },
         text: "a call of wait has no such point",
         traces: &[("1 begin t1 wait c0 m0\n2 point t1 m0 lock OK\nend 2", 3)],
+    },
+    // With a time limit it is told as a wait.
+    Reason {
+        misfit: Misfit::OtherOperation {
+            operation: Operation::TimedWait,
+        },
+        text: "a call of timedwait has no such point",
+        traces: &[(
+            "1 begin t1 timedwait c0 m0\n2 point t1 m0 timedwait EPERM\nend 2",
+            3,
+        )],
     },
     Reason {
         misfit: Misfit::ReleaseRefused,

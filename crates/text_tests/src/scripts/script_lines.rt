@@ -280,6 +280,8 @@ static CALLS_ON_CONDITIONS: Lines = Lines {
     good: &[
         "begin a wait c",
         "call a wait c",
+        "begin a timedwait c",
+        "call a timedwait c",
         "call a signal c",
         "begin a broadcast c",
     ],
@@ -287,6 +289,7 @@ static CALLS_ON_CONDITIONS: Lines = Lines {
     out_of_range: &[],
     no_such_name: &[
         "call a wait d",
+        "call a timedwait d",
         "begin a signal m",
         "call b broadcast c",
         "call a lock c",
@@ -521,6 +524,8 @@ static FOR_A_RUN_ALONE: Lines = Lines {
         "expire a",
         "call a timedlock m",
         "begin a timedlock m",
+        "cond c m 0\ncall a timedwait c",
+        "cond c m 0\nbegin a timedwait c",
         "decline a",
         "renew a",
         "reinit a m",
