@@ -8,7 +8,7 @@ use text_fixtures::words;
 type Told = (&'static [u8], u8, &'static str);
 
 /// Files without fault, and words that are wrong.
-static WORDS: [Told; 43] = [
+static WORDS: [Told; 44] = [
     // scripts and traces without fault
     (
         b"thread a\nmutex m\ncall a lock m\n",
@@ -101,6 +101,11 @@ static WORDS: [Told; 43] = [
         b"thread a\nmutex m\ncond c m 0\nphase\ncall a timedwait c\n",
         1,
         "f: line 5: fault 2: unknown word (a script for `rfx threads`)\n  | call a timedwait c\n  |        ^^^^^^^^^\n  = expected one of `lock` `trylock` `unlock` `consistent` `wait` `signal` `broadcast`\n  = a script for `rfx run` has such lines\n",
+    ),
+    (
+        b"thread a\nmutex m\ncond c m 0\ncall a timedwait d\n",
+        1,
+        "f: line 4: fault 4: no such name (a script for `rfx run`)\n  | call a timedwait d\n  |                  ^\n  = no line before declares a condition variable of this name\n",
     ),
     // a word that is missing, and one too many
     (
