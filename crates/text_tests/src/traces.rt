@@ -358,11 +358,15 @@ static TIMED_WAITS: Traces = Traces {
         // It is out of time as the owner of its mutex; and a wait with no limit never is.
         (
             Illegal(7),
-            &["1 begin t1 lock m0\n2 point t1 m0 lock OK\n3 return t1 OK\n4 begin t1 timedwait c0 m0\n5 point t1 m0 unlock OK\n6 return t1 ETIMEDOUT\nend 6"],
+            &[
+                "1 begin t1 lock m0\n2 point t1 m0 lock OK\n3 return t1 OK\n4 begin t1 timedwait c0 m0\n5 point t1 m0 unlock OK\n6 return t1 ETIMEDOUT\nend 6",
+            ],
         ),
         (
             Illegal(8),
-            &["1 begin t1 lock m0\n2 point t1 m0 lock OK\n3 return t1 OK\n4 begin t1 wait c0 m0\n5 point t1 m0 unlock OK\n6 point t1 m0 lock OK\n7 return t1 ETIMEDOUT\nend 7"],
+            &[
+                "1 begin t1 lock m0\n2 point t1 m0 lock OK\n3 return t1 OK\n4 begin t1 wait c0 m0\n5 point t1 m0 unlock OK\n6 point t1 m0 lock OK\n7 return t1 ETIMEDOUT\nend 7",
+            ],
         ),
         // A dead owner is told first.
         (
