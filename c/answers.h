@@ -132,7 +132,7 @@ static const struct {
      "there: nobody knows who owns what, so end all who use the file and delete it"},
     {"pz_cond_wait", 0, "the thread owns the mutex again"},
     {"pz_cond_wait", EOWNERDEAD, "so it does, but an owner died meanwhile: repair, as after pz_mutex_lock"},
-    {"pz_cond_wait", ENOTRECOVERABLE, "the mutex became unusable meanwhile: the thread doesn't own it"},
+    {"pz_cond_wait", ENOTRECOVERABLE, "the mutex became unusable, and is so as the thread locks it: it doesn't own it"},
     {"pz_cond_wait", EPERM, "the thread doesn't own the mutex"},
     {"pz_cond_wait", EINVAL, "the mutex is to be declared consistent first: the thread still owns it; or there is no "
      "such mutex or condition variable; nothing was done; or somebody wrote stray values into the library's words, "
@@ -143,9 +143,10 @@ static const struct {
      "nobody knows who owns what, so end all who use the file and delete it"},
     {"pz_cond_timedwait", 0, "the thread owns the mutex again"},
     {"pz_cond_timedwait", EOWNERDEAD, "so it does, but an owner died meanwhile: repair, as after pz_mutex_lock"},
-    {"pz_cond_timedwait", ENOTRECOVERABLE, "the mutex became unusable meanwhile: the thread doesn't own it"},
+    {"pz_cond_timedwait", ENOTRECOVERABLE, "the mutex became unusable, and is so as the thread locks it: it doesn't "
+     "own it"},
     {"pz_cond_timedwait", ETIMEDOUT, "the time has come, and no signal and no broadcast before; the thread owns the "
-     "mutex again"},
+     "mutex again, which is neither a dead owner's nor unusable"},
     {"pz_cond_timedwait", EPERM, "the thread doesn't own the mutex"},
     {"pz_cond_timedwait", EINVAL, "the mutex is to be declared consistent first: the thread still owns it; or "
      "tv_nsec isn't 0 to 999,999,999; or the clock is neither CLOCK_REALTIME nor CLOCK_MONOTONIC: the mutex wasn't "
@@ -158,9 +159,10 @@ static const struct {
      "there: nobody knows who owns what, so end all who use the file and delete it"},
     {"pz_cond_clockwait", 0, "the thread owns the mutex again"},
     {"pz_cond_clockwait", EOWNERDEAD, "so it does, but an owner died meanwhile: repair, as after pz_mutex_lock"},
-    {"pz_cond_clockwait", ENOTRECOVERABLE, "the mutex became unusable meanwhile: the thread doesn't own it"},
+    {"pz_cond_clockwait", ENOTRECOVERABLE, "the mutex became unusable, and is so as the thread locks it: it doesn't "
+     "own it"},
     {"pz_cond_clockwait", ETIMEDOUT, "the time has come, and no signal and no broadcast before; the thread owns the "
-     "mutex again"},
+     "mutex again, which is neither a dead owner's nor unusable"},
     {"pz_cond_clockwait", EPERM, "the thread doesn't own the mutex"},
     {"pz_cond_clockwait", EINVAL, "the mutex is to be declared consistent first: the thread still owns it; or "
      "tv_nsec isn't 0 to 999,999,999; or the clock is neither CLOCK_REALTIME nor CLOCK_MONOTONIC: the mutex wasn't "
