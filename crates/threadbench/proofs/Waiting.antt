@@ -151,7 +151,8 @@ took_again w a e q (outcome.Dead d) low was ran = (
 
 took_again_in : (w : Words) (a e : Pass Live) (cl : CondCall) (end : Outcome) → mutex_at (layout_of w) (condition_of cl) < (layout_of w).mutexes → HasReleased w a cl e → RanOut w e (call.Lock (mutex_at (layout_of w) (condition_of cl))) end → CondAnswered w a cl end
 took_again_in w a e (Wait q) end low was ran = took_again w a e q end low was ran
-took_again_in w a e (TimedWait q y) end low was ran = took_again w a e q end low was ran
+took_again_in w a e (TimedWait q y) end low was ran =
+    took_again w a e q end low (record { of = refl; called = was.called; owns = was.owns; usable = was.usable; loaded = was.loaded }) ran
 took_again_in w a e (Signal q) end low was ran = let bad = was.of in absurd (cc bad)
 took_again_in w a e (Broadcast q) end low was ran = let bad = was.of in absurd (cc bad)
 
