@@ -13,7 +13,10 @@ static int n;
 static pid_t it[MOST];
 static struct {
     _Atomic long done, may; /* transactions: who has had as many as it may rests */
+    _Atomic int rests;
 } * of;
+
+static int rests(int i) { return atomic_load(&of[i].rests); }
 
 static void good(int r, int line)
 {
@@ -83,8 +86,11 @@ static void work(int i, unsigned seed)
     MDB_dbi db = database(env);
     for (;; atomic_fetch_add(&of[i].done, 1)) {
         unsigned what = (unsigned)rand_r(&seed) % 64;
-        while (atomic_load(&of[i].done) >= atomic_load(&of[i].may))
+        while (atomic_load(&of[i].done) >= atomic_load(&of[i].may)) {
+            atomic_store(&of[i].rests, 1);
             usleep(50);
+        }
+        atomic_store(&of[i].rests, 0);
         if (what == 0)
             look_for_dead_readers(env);
         else if (what < 8)
@@ -97,6 +103,7 @@ static void work(int i, unsigned seed)
 static pid_t begin(int i)
 {
     unsigned seed = (unsigned)rand();
+    atomic_store(&of[i].rests, 0);
     pid_t child = a_child();
     if (!child)
         work(i, seed);
@@ -106,7 +113,7 @@ static pid_t begin(int i)
 /* One has had so many, or sleeps on (storm.c). A process that ends by itself has failed. */
 static void until_done(int i, long until)
 {
-    while (atomic_load(&of[i].done) < until && !none_gets_on(it, n)) {
+    while (atomic_load(&of[i].done) < until && !none_gets_on(it, n, rests)) {
         CHECK(waitpid(it[i], NULL, WNOHANG) == 0);
         sched_yield();
     }

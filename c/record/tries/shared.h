@@ -123,12 +123,12 @@ static inline int dies_within(void (*first)(void), void (*again)(void), int inst
     return stands_within(first, again, instructions, nothing);
 }
 
-/* Whether all of them sleep, or have ended, however often that is looked at. */
-static inline int none_gets_on(const pid_t *it, int n)
+/* Whether all of them but those who rest, as they say, sleep or have ended, however often that is looked at. */
+static inline int none_gets_on(const pid_t *it, int n, int (*rests)(int))
 {
     for (int looks = 0; looks < 100; looks++)
         for (int k = 0; k < n; k++)
-            if (!strchr("SZ", state_of(it[k])))
+            if (!rests(k) && !strchr("SZ", state_of(it[k])))
                 return 0;
     return 1;
 }

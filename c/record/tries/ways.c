@@ -220,6 +220,9 @@ static void cannot_watch(void)
     repair();
     for (int i = 0; i < WATCHED; i++)
         until_killed(watched[i]);
+    /* it has been told of their ends, and waits again before ours */
+    while (state_of(getppid()) != 'S')
+        usleep(100);
 }
 
 /* At one address two files, one after the other. */
