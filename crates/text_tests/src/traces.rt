@@ -37,60 +37,6 @@ fn memory_is_wanted_at_line_1(rt: HostRuntime) {
     assert!(rt; answer == Legal(2) || answer == Refused(6, 1));
 }
 
-/// Waits with a time limit.
-static TIMED_WAITS: Traces = Traces {
-    frame: BEHIND_THE_FIRST,
-    answers: &[
-        // In time, out of time, and behind a signal too: no line but its own tells of the limit.
-        (
-            Legal(3),
-            &[
-                "1 begin t1 lock m0\n2 point t1 m0 lock OK\n3 return t1 OK\n4 begin t1 timedwait c0 m0\n5 point t1 m0 unlock OK\n6 sleep t1 c0\n7 wake t1\n8 point t1 m0 lock OK\n9 return t1 OK\nend 9",
-                "1 begin t1 lock m0\n2 point t1 m0 lock OK\n3 return t1 OK\n4 begin t1 timedwait c0 m0\n5 point t1 m0 unlock OK\n6 sleep t1 c0\n7 wake t1\n8 point t1 m0 lock OK\n9 return t1 ETIMEDOUT\nend 9",
-            ],
-        ),
-        // Refused, as a wait is.
-        (
-            Legal(1),
-            &["1 begin t1 timedwait c0 m0\n2 point t1 m0 wait EPERM\n2 return t1 EPERM\nend 2"],
-        ),
-        // It has no point of its own name, and doesn't lock first.
-        (
-            Illegal(3),
-            &[
-                "1 begin t1 timedwait c0 m0\n2 point t1 m0 timedwait EPERM\nend 2",
-                "1 begin t1 timedwait c0 m0\n2 point t1 m0 lock OK\nend 2",
-                "1 begin t1 timedwait c0 m0\n2 point t1 m0 unlock EPERM\nend 2",
-            ],
-        ),
-        // Who is refused isn't out of time.
-        (
-            Illegal(4),
-            &["1 begin t1 timedwait c0 m0\n2 point t1 m0 wait EPERM\n2 return t1 ETIMEDOUT\nend 2"],
-        ),
-        // It is out of time as the owner of its mutex; and a wait with no limit never is.
-        (
-            Illegal(7),
-            &[
-                "1 begin t1 lock m0\n2 point t1 m0 lock OK\n3 return t1 OK\n4 begin t1 timedwait c0 m0\n5 point t1 m0 unlock OK\n6 return t1 ETIMEDOUT\nend 6",
-            ],
-        ),
-        (
-            Illegal(8),
-            &[
-                "1 begin t1 lock m0\n2 point t1 m0 lock OK\n3 return t1 OK\n4 begin t1 wait c0 m0\n5 point t1 m0 unlock OK\n6 point t1 m0 lock OK\n7 return t1 ETIMEDOUT\nend 7",
-            ],
-        ),
-        // A dead owner is told first.
-        (
-            Illegal(12),
-            &[
-                "1 begin t1 lock m0\n2 point t1 m0 lock OK\n3 return t1 OK\n4 begin t1 timedwait c0 m0\n5 point t1 m0 unlock OK\n6 begin t2 lock m0\n7 point t2 m0 lock OK\n8 kill t2\n9 death t2 m0\n10 point t1 m0 lock EOWNERDEAD\n11 return t1 ETIMEDOUT\nend 11",
-            ],
-        ),
-    ],
-};
-
 /// Adds the lock of a mutex by thread 1, in an event of a number above 10,000.
 fn push_lock(text: &mut String, alloc: Global, mutex: u32) -> Result<(), AllocError> {
     let event = 10_000 + u64::from(mutex);
