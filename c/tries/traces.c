@@ -9,7 +9,7 @@
 enum { MUTEXES = 3, CONDS = 1, AT_ONCE = 5, IN_ALL = 200, HASTE = 20, ENOUGH = 80000 };
 
 /* 1: some waits have limits too, as `timedwait`. Not before `rfx check` has that word. */
-enum { TIMED_WAITS = 0 };
+enum { TIMED_WAITS = 1 };
 
 static pz *p;
 static _Atomic unsigned *ids; /* by child */

@@ -2,7 +2,7 @@
 
 use crate::words::REPLIES;
 use Operation::{
-    Broadcast, Consistent, Death, Lock, Reinit, Signal, TimedLock, TryLock, Unlock, Wait,
+    Broadcast, Consistent, Death, Lock, Reinit, Signal, TimedLock, TimedWait, TryLock, Unlock, Wait,
 };
 use State::{Bereaved, Free, Inherited, Mine, Theirs, Unusable};
 use lockword::{Reply, Tid};
@@ -10,13 +10,14 @@ use posixmutex::{HELD_LIMIT, Object, Operation, ParseOperationError, operations_
 use std::test::Fail;
 
 /// Every operation, and its word.
-static OPERATIONS: [(Operation, &str); 10] = [
+static OPERATIONS: [(Operation, &str); 11] = [
     (Lock, "lock"),
     (TryLock, "trylock"),
     (TimedLock, "timedlock"),
     (Unlock, "unlock"),
     (Consistent, "consistent"),
     (Wait, "wait"),
+    (TimedWait, "timedwait"),
     (Signal, "signal"),
     (Broadcast, "broadcast"),
     (Death, "death"),

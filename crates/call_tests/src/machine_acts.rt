@@ -5,6 +5,7 @@ use crate::machine_rows::{
 };
 use buckets::Batch;
 use condvar::Op;
+use facts::Queue;
 use interleave::Machine;
 use lockword::{Reply, Tid};
 use posixmutex::Operation;
@@ -30,8 +31,10 @@ pub(crate) enum Rare {
     Reinits(u8, u16),
     /// The time limit of a lock of mutex 0 comes.
     Expires(u8),
-    /// The thread's lock of mutex 0 returns, since its time limit has come.
-    TimesOut(u8),
+    /// The time limit of a wait on condition variable 0 comes.
+    WaitExpires(u8),
+    /// The thread's call on mutex 0 returns, and its point was before.
+    Returns(u8, Reply),
     /// The thread's trylock of mutex 0 gives up, having met a changed word each time.
     IsRaced(u8),
     /// The thread's walk ends, as it tells its death at mutex 0.
@@ -64,6 +67,8 @@ pub(crate) enum Act {
     Happens(Rare),
     /// It can't happen, and is nothing.
     Refused(Rare),
+    /// The thread can't begin that call: it is nothing.
+    RefusedCall(u8, Op),
     /// That is so then.
     Is(Look),
 }
@@ -77,7 +82,8 @@ fn id_of(rare: Rare) -> u8 {
         | Rare::Remakes(id, _)
         | Rare::Reinits(id, _)
         | Rare::Expires(id)
-        | Rare::TimesOut(id)
+        | Rare::WaitExpires(id)
+        | Rare::Returns(id, _)
         | Rare::IsRaced(id)
         | Rare::IsReaped(id)
         | Rare::Dies(id) => id,
@@ -91,8 +97,8 @@ fn event_of(thread: Tid, rare: Rare) -> Event {
         Rare::Spares(_) => Event::Spare(thread),
         Rare::Remakes(_, mutex) => Event::Remake(thread, mutex),
         Rare::Reinits(_, mutex) => Event::Reinit(thread, mutex),
-        Rare::Expires(_) => Event::Expire(thread),
-        Rare::TimesOut(_) | Rare::IsRaced(_) | Rare::IsReaped(_) => Event::Step(thread),
+        Rare::Expires(_) | Rare::WaitExpires(_) => Event::Expire(thread),
+        Rare::Returns(_, _) | Rare::IsRaced(_) | Rare::IsReaped(_) => Event::Step(thread),
         Rare::Dies(_) => Event::Kill(thread),
     }
 }
@@ -106,8 +112,15 @@ fn note_of(thread: Tid, rare: Rare) -> Note {
         Rare::Recounts(condition) => Note::Recounted { condition },
         Rare::Spares(_) => stepped(thread, None, None, None),
         Rare::Remakes(_, mutex) | Rare::Reinits(_, mutex) => Note::Reinited { thread, mutex },
-        Rare::Expires(_) => Note::Expired { thread, mutex: 0 },
-        Rare::TimesOut(_) => stepped(thread, None, None, Some(Reply::ETIMEDOUT)),
+        Rare::Expires(_) => Note::Expired {
+            thread,
+            queue: Queue::Mutex(0),
+        },
+        Rare::WaitExpires(_) => Note::Expired {
+            thread,
+            queue: Queue::Condition(0),
+        },
+        Rare::Returns(_, reply) => stepped(thread, None, None, Some(reply)),
         Rare::IsRaced(_) => {
             stepped(
                 thread,
@@ -173,6 +186,10 @@ fn goes(machine: &mut Machine, act: Act) -> Result<bool, Fail> {
         }
         Act::Happens(rare) => happens(machine, rare),
         Act::Refused(rare) => is_refused(machine, rare),
+        Act::RefusedCall(id, op) => {
+            let begin = Event::Begin(thread(id)?, op);
+            Ok(machine.step(begin) == Note::Nothing)
+        }
         Act::Is(look) => is_so(machine, look),
     }
 }

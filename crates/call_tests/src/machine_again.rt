@@ -1,17 +1,17 @@
 //! Sleepers that sleep again, counters that go back to 0, wakes that are spared, accesses of walks that are made once
 //! more, mutexes that are made anew late, and time limits that come.
 
-use crate::machine_acts::Act::{self, Calls, Happens, Is, Refused, Steps};
+use crate::machine_acts::Act::{self, Calls, Happens, Is, Refused, RefusedCall, Steps};
 use crate::machine_acts::Look::{Owner, Sleep, Stands, Word};
 use crate::machine_acts::Rare::{
-    Dies, Expires, Recounts, Reinits, Remakes, Resleeps, Spares, TimesOut,
+    Dies, Expires, Recounts, Reinits, Remakes, Resleeps, Returns, Spares, WaitExpires,
 };
 use crate::machine_acts::{ALL, Small, first_wrong};
 use crate::machine_rows::Standing::{Asleep, Awake, Dying, Reaped, Resting};
 use crate::machine_rows::{machine, play, thread};
-use condvar::{CondCall, Op};
+use condvar::{CondCall, Limit, Op};
 use interleave::Machine;
-use lockword::{OWNER_DIED, Tid, UNUSABLE, WAITERS};
+use lockword::{OWNER_DIED, Reply, Tid, UNUSABLE, WAITERS};
 use mutex::Call;
 use protocol::{Event, Note};
 use std::alloc::Global;
@@ -24,6 +24,8 @@ const TIMED_LOCK: Op = Op::OnMutex(Call::TimedLock(0));
 const UNLOCK: Op = Op::OnMutex(Call::Unlock(0));
 
 const WAIT: Op = Op::OnCondition(CondCall::Wait(0));
+
+const TIMED_WAIT: Op = Op::OnCondition(CondCall::TimedWait(0, Limit::Ahead));
 
 const SIGNAL: Op = Op::OnCondition(CondCall::Signal(0));
 
@@ -244,7 +246,7 @@ static TIMES_OUT: [Act; 12] = [
     Is(Stands(2, Awake)),
     Refused(Expires(2)),
     Is(Word(6, 8)),
-    Happens(TimesOut(2)),
+    Happens(Returns(2, Reply::ETIMEDOUT)),
     Is(Word(6, 0)),
     Is(Stands(2, Resting)),
     Is(Owner(Some(1))),
@@ -293,7 +295,7 @@ static BEFORE_THE_WAKE: [Act; 15] = [
     Steps(1, 1),
     Is(Stands(1, Reaped)),
     Is(Stands(2, Awake)),
-    Happens(TimesOut(2)),
+    Happens(Returns(2, Reply::ETIMEDOUT)),
     Is(Owner(None)),
     Calls(2, TIMED_LOCK, ALL),
     Is(Word(7, OWNER_DIED | WAITERS | 2)),
@@ -324,5 +326,89 @@ static WAITS: [Act; 9] = [
 #[test]
 fn no_time_limit_comes_to_a_wait(rt: HostRuntime) -> Result<(), Fail> {
     assert_eq!(rt; first_wrong(rt.alloc(), (2, 1, &[0]), &[&WAITS])?, None);
+    Ok(())
+}
+
+/// Thread 1 waits with a time limit, which comes: it locks its mutex again, in as many accesses as one that was woken, and
+/// returns as its owner. The counter is at 10.
+static LATE_WAIT: [Act; 12] = [
+    Calls(1, LOCK, ALL),
+    Calls(1, TIMED_WAIT, ALL),
+    Is(Sleep(10, &[1])),
+    Is(Owner(None)),
+    Refused(WaitExpires(2)),
+    Happens(WaitExpires(1)),
+    Is(Stands(1, Awake)),
+    Refused(WaitExpires(1)),
+    Steps(1, 6),
+    Happens(Returns(1, Reply::ETIMEDOUT)),
+    Is(Stands(1, Resting)),
+    Is(Owner(Some(1))),
+];
+
+#[test]
+fn a_wait_ends_at_its_time_limit(rt: HostRuntime) -> Result<(), Fail> {
+    assert_eq!(rt; first_wrong(rt.alloc(), (2, 1, &[0]), &[&LATE_WAIT])?, None);
+    Ok(())
+}
+
+/// Moved to its mutex by a broadcast, a wait has no time limit any more: it returns OK. The cell is at 7.
+static MOVED_WAIT: [Act; 10] = [
+    Calls(1, LOCK, ALL),
+    Calls(1, TIMED_WAIT, ALL),
+    Calls(2, LOCK, ALL),
+    Calls(2, BROADCAST, ALL),
+    Is(Sleep(7, &[1])),
+    Refused(WaitExpires(1)),
+    Calls(2, UNLOCK, ALL),
+    Steps(1, 6),
+    Happens(Returns(1, Reply::OK)),
+    Is(Owner(Some(1))),
+];
+
+#[test]
+fn a_wait_that_was_moved_is_in_time(rt: HostRuntime) -> Result<(), Fail> {
+    assert_eq!(rt; first_wrong(rt.alloc(), (2, 1, &[0]), &[&MOVED_WAIT])?, None);
+    Ok(())
+}
+
+/// Out of time, thread 1 finds its mutex taken, and sleeps on it with no limit. The owner dies: that is what it is told.
+static LATE_BEHIND_A_DEATH: [Act; 14] = [
+    Calls(1, LOCK, ALL),
+    Calls(1, TIMED_WAIT, ALL),
+    Calls(2, LOCK, ALL),
+    Happens(WaitExpires(1)),
+    Steps(1, 3),
+    Is(Sleep(7, &[1])),
+    Refused(WaitExpires(1)),
+    Happens(Dies(2)),
+    Steps(2, ALL),
+    Is(Stands(2, Reaped)),
+    Is(Stands(1, Awake)),
+    Steps(1, 6),
+    Happens(Returns(1, Reply::EOWNERDEAD)),
+    Is(Owner(Some(1))),
+];
+
+#[test]
+fn a_late_wait_hears_of_a_dead_owner(rt: HostRuntime) -> Result<(), Fail> {
+    assert_eq!(rt;
+        first_wrong(rt.alloc(), (2, 1, &[0]), &[&LATE_BEHIND_A_DEATH])?,
+        None
+    );
+    Ok(())
+}
+
+const LATE: Op = Op::OnCondition(CondCall::TimedWait(0, Limit::Past));
+
+/// A wait begins while its time limit is to come.
+static OUT_OF_TIME: [Act; 2] = [
+    RefusedCall(1, LATE),
+    Is(Stands(1, Resting)),
+];
+
+#[test]
+fn no_wait_begins_out_of_time(rt: HostRuntime) -> Result<(), Fail> {
+    assert_eq!(rt; first_wrong(rt.alloc(), (1, 1, &[0]), &[&OUT_OF_TIME])?, None);
     Ok(())
 }

@@ -4,6 +4,7 @@ use Rattle.std.specs.Prelude.{if◌then◌else◌, slice_index, slice_set}
 use Rattle.std.proofs.lemmas.Bool.Decides.{nat_tests}
 use mathlib.Core.Path.{fun_ext}
 use Rattle.posixmutex.specs.declared.object.Object.{Object}
+use Rattle.facts.specs.Lives.{IsWait}
 use Rattle.facts.specs.declared.fact.Begun.{Begun}
 use Rattle.facts.specs.declared.fact.Fact.{Fact}
 use Rattle.facts.specs.declared.fact.Fact.TheVariants.{Point}
@@ -84,7 +85,7 @@ accepts_fits n s es f sound r fit a = record {
 releases : (p : Phase) (os : List Object) (told : List Line) (f : Fact) → Kept (stage_of p) (told_of (thread_of f) told) → May (stage_of p) f → Releases p os f → object_at os ≡ objects_after told → ReleasesWell told f
 releases (Calling c m) os told (Point d) kept may rel same = λ k unlock call wait.
     let is : k ≡ c = same_call _ c k kept.0 call in
-    subst (λ (g : ℕ → Object). (g d.mutex).inconsistent ≡ false) same (rel unlock (ap (λ (b : Begun). b.operation) (sym is) ∙ wait))
+    subst (λ (g : ℕ → Object). (g d.mutex).inconsistent ≡ false) same (rel unlock (subst (λ (b : Begun). IsWait b.operation) is wait))
 releases Resting os told (Point d) kept may rel same = absurd may
 releases Dying os told (Point d) kept may rel same = absurd may
 releases Reaped os told (Point d) kept may rel same = absurd may

@@ -3,7 +3,8 @@ use Rattle.std.specs.Prelude.{ℕ, ◌≡◌, ◌+◌, ◌<◌, Bool, true, fals
 use Rattle.lockword.specs.declared.reply.Reply.TheVariants.{ETIMEDOUT}
 use Rattle.posixmutex.specs.declared.object.Object.{Object}
 use Rattle.posixmutex.specs.declared.point.Decision.{Decision}
-use Rattle.posixmutex.specs.declared.point.Operation.TheVariants.{Unlock, Wait}
+use Rattle.posixmutex.specs.declared.point.Operation.TheVariants.{Unlock}
+use Rattle.facts.specs.Lives.{IsWait}
 use Rattle.posixmutex.specs.Objects.{fresh}
 use Rattle.facts.specs.declared.fact.Fact.{Fact}
 use Rattle.facts.specs.declared.fact.Fact.TheVariants.{Point}
@@ -35,7 +36,7 @@ pub record IsSound (s : State) : Type 0 where
 -- a wait releases a consistent mutex
 abbrev pub Releases : Phase → List Object → Fact → Type 0
 Releases (Calling c m) os (Point d) =
-    d.operation ≡ Unlock → c.operation ≡ Wait → (object_at os d.mutex).inconsistent ≡ false
+    d.operation ≡ Unlock → IsWait c.operation → (object_at os d.mutex).inconsistent ≡ false
 Releases p os f = Unit {0}
 
 -- whether another thread has owned the point's mutex since its call began

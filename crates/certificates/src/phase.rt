@@ -1,8 +1,9 @@
 //! How far a thread of a certificate has come.
 
-ghost use Rattle.std.specs.Prelude.{◌≡◌, IfSome};
+ghost use Rattle.std.specs.Prelude.{◌≡◌, IfSome, MatchBool, true};
+ghost use Rattle.facts.specs.Lives.{IsWait};
 ghost use Rattle.certificates.specs.Phases.{made_of, stage_of};
-ghost use Rattle.verdict.specs.Stages.{May, MayPoint, next, pointed};
+ghost use Rattle.verdict.specs.Stages.{May, MayPoint, MayReturnNow, next, pointed};
 
 use facts::{Begun, Fact};
 use lockword::Reply;
@@ -14,7 +15,7 @@ pub enum Made {
     Nothing,
     /// A wait has released its mutex.
     Released,
-    /// All of them: the call returns this reply.
+    /// All of them: the last one replied so, and the call returns that; a wait that is out of time `ETIMEDOUT` for `OK`.
     Decided(Reply),
 }
 
@@ -29,15 +30,35 @@ pub enum Phase {
     Reaped,
 }
 
+/// Whether the call is a wait, with a time limit or without.
+pub(crate) fn is_wait(call: Operation) -> bool
+    ensures { MatchBool result (IsWait call) (¬ IsWait call) }
+{
+    call == Operation::Wait || call == Operation::TimedWait
+}
+
+/// Whether a call of which these points are made may return the reply: that of the last one; a wait that is out of time
+/// `ETIMEDOUT` for `OK`.
+fn may_return(call: Operation, made: Made, reply: Reply) -> bool
+    ensures { result ≡ true → MayReturnNow call (made_of made) reply }
+{
+    let is_late = call == Operation::TimedWait && reply == Reply::ETIMEDOUT;
+    made == Made::Decided(reply) || (is_late && made == Made::Decided(Reply::OK))
+}
+
 /// How far its first point brings a call.
 fn begun(call: Operation, operation: Operation, reply: Reply) -> Option<Made>
     ensures { IfSome result (λ after. MayPoint call (made_of Made.Nothing) operation reply
         × (made_of after ≡ pointed call operation reply)) }
 {
-    if operation == call || (call == Operation::TimedLock && operation == Operation::Lock) {
+    let waits = is_wait(call);
+    let is_refused = waits && operation == Operation::Wait;
+    let is_own = !waits && operation == call;
+    let is_locked = call == Operation::TimedLock && operation == Operation::Lock;
+    if is_refused || is_own || is_locked {
         return Some(Made::Decided(reply));
     }
-    if call == Operation::Wait && operation == Operation::Unlock && reply == Reply::OK {
+    if waits && operation == Operation::Unlock && reply == Reply::OK {
         return Some(Made::Released);
     }
     None
@@ -72,7 +93,7 @@ fn called(call: Begun, made: Made, fact: &Fact) -> Option<Phase>
             let made = made_by(call.operation, made, point.operation, point.reply)?;
             Some(Phase::Calling(call, made))
         }
-        Fact::Return(_, reply) if made == Made::Decided(reply) => Some(Phase::Resting),
+        Fact::Return(_, reply) if may_return(call.operation, made, reply) => Some(Phase::Resting),
         _ => None,
     }
 }

@@ -10,7 +10,7 @@ ghost use Rattle.verdict.specs.Earlier.{gives_up, moved};
 ghost use Rattle.verdict.specs.Fits.{Allows, OwnsNothing};
 ghost use Rattle.verdict.specs.Judges.{AreCounted, IsMutex, begun_next, freed_next, has_waited, object_at, one};
 
-use crate::phase::Phase;
+use crate::phase::{Phase, is_wait};
 use facts::Fact;
 use histories::Head;
 use lockword::{Reply, Tid};
@@ -139,7 +139,7 @@ fn releases_well(phase: &Phase, objects: &[Object], fact: &Fact) -> bool
     match *phase {
         Phase::Calling(call, _) => match *fact {
             Fact::Point(point) => {
-                if point.operation == Operation::Unlock && call.operation == Operation::Wait {
+                if point.operation == Operation::Unlock && is_wait(call.operation) {
                     is_consistent(objects, point.mutex)
                 } else {
                     true

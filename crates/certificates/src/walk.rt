@@ -181,6 +181,7 @@ fn stepped(object: Object, decision: &Decision) -> Object
         Operation::Reinit => reinited(object, thread, reply),
         Operation::TimedLock => object,
         Operation::Wait => object,
+        Operation::TimedWait => object,
         Operation::Signal => object,
         Operation::Broadcast => object,
     }

@@ -42,7 +42,7 @@ fn owners_step(state: &State, call: &Pending, now: u32) -> Option<Onward> {
             let step = step_of(state, call, now, Operation::Unlock, Reply::OK);
             Some(Onward { state: after, step })
         }
-        Operation::Wait if !state.retaken && !state.inconsistent => {
+        Operation::Wait | Operation::TimedWait if !state.retaken && !state.inconsistent => {
             after.owner = None;
             let step = step_of(state, call, now, Operation::Unlock, Reply::OK);
             Some(Onward { state: after, step })
@@ -133,9 +133,9 @@ fn takers_step(state: &State, call: &Pending, now: u32) -> Option<Onward> {
     }
     after.owner = Some(call.thread);
     after.free = now;
-    after.retaken = call.operation == Operation::Wait;
+    after.retaken = matches!(call.operation, Operation::Wait | Operation::TimedWait);
     let operation = match call.operation {
-        Operation::Wait | Operation::TimedLock => Operation::Lock,
+        Operation::Wait | Operation::TimedWait | Operation::TimedLock => Operation::Lock,
         operation => operation,
     };
     let reply = if state.inconsistent {

@@ -63,7 +63,8 @@ impl Life {
                 Operation::Lock | Operation::TryLock | Operation::TimedLock,
                 Reply::OK | Reply::EOWNERDEAD,
             ) => keep(&mut self.owned, mutex),
-            (Operation::Unlock, Reply::OK) | (Operation::Wait, Reply::ENOTRECOVERABLE) => {
+            (Operation::Unlock, Reply::OK)
+            | (Operation::Wait | Operation::TimedWait, Reply::ENOTRECOVERABLE) => {
                 self.owned.retain(|owned| *owned != mutex);
                 Ok(())
             }

@@ -31,7 +31,7 @@ impl Pending {
             Operation::Lock | Operation::TryLock | Operation::TimedLock => {
                 !self.owned && !self.full
             }
-            Operation::Wait => self.owned && !self.inconsistent,
+            Operation::Wait | Operation::TimedWait => self.owned && !self.inconsistent,
             _ => false,
         }
     }
@@ -145,14 +145,24 @@ pub struct Outlook {
     pub open: Option<Tid>,
 }
 
-fn looks(outlook: &mut Outlook, call: &Pending) {
+/// Whether the call, which may take the mutex, will be told that it did: so is a wait that is out of time.
+fn will_take(call: &Pending) -> bool {
     match call.fate.end {
-        End::Returns(Reply::OK) | End::Returns(Reply::EOWNERDEAD) => {
-            if call.fate.at < outlook.by {
-                outlook.by = call.fate.at;
-                outlook.next = Some(call.thread);
-            }
+        End::Returns(Reply::OK) | End::Returns(Reply::EOWNERDEAD) => true,
+        End::Returns(Reply::ETIMEDOUT) => call.operation == Operation::TimedWait,
+        _ => false,
+    }
+}
+
+fn looks(outlook: &mut Outlook, call: &Pending) {
+    if will_take(call) {
+        if call.fate.at < outlook.by {
+            outlook.by = call.fate.at;
+            outlook.next = Some(call.thread);
         }
+        return;
+    }
+    match call.fate.end {
         End::Returns(Reply::EBUSY | Reply::ETIMEDOUT) => {
             outlook.held = outlook.held.min(call.begin);
         }

@@ -46,6 +46,10 @@ fn waited(call: &Pending, reply: Reply, state: &State) -> bool {
     let owns = state.owner == Some(call.thread);
     match reply {
         Reply::OK => owns && state.retaken && !state.inconsistent,
+        Reply::ETIMEDOUT => {
+            let timed = call.operation == Operation::TimedWait;
+            timed && owns && state.retaken && !state.inconsistent
+        }
         Reply::EOWNERDEAD => owns && state.retaken && state.inconsistent,
         Reply::ENOTRECOVERABLE => !owns && (state.unusable || state.spoiled >= call.begin),
         _ => false,
@@ -63,7 +67,7 @@ fn owned(call: &Pending, reply: Reply, state: &State) -> bool {
                 reply == Reply::EINVAL
             }
         }
-        Operation::Wait => waited(call, reply, state),
+        Operation::Wait | Operation::TimedWait => waited(call, reply, state),
         _ => reply == Reply::OK || reply == Reply::XFULL,
     }
 }
@@ -87,11 +91,14 @@ pub fn allows(call: &Pending, reply: Reply, state: &State) -> bool {
 }
 
 /// The operation of the point by which a call is told so: a lock with a time limit is told as a lock, unless the limit
-/// came; a wait that lost its mutex, as the lock that it ends with.
+/// came; a wait that lost its mutex, as the lock that it ends with, and one with a time limit else as a wait.
 pub fn told_as(operation: Operation, reply: Reply) -> Operation {
     match operation {
         Operation::TimedLock if reply != Reply::ETIMEDOUT => Operation::Lock,
-        Operation::Wait if reply == Reply::ENOTRECOVERABLE => Operation::Lock,
+        Operation::Wait | Operation::TimedWait if reply == Reply::ENOTRECOVERABLE => {
+            Operation::Lock
+        }
+        Operation::TimedWait => Operation::Wait,
         _ => operation,
     }
 }
@@ -101,6 +108,9 @@ pub fn only_looks(operation: Operation, reply: Reply) -> bool {
     match operation {
         Operation::Lock | Operation::TryLock | Operation::TimedLock | Operation::Wait => {
             reply != Reply::OK && reply != Reply::EOWNERDEAD
+        }
+        Operation::TimedWait => {
+            !matches!(reply, Reply::OK | Reply::EOWNERDEAD | Reply::ETIMEDOUT)
         }
         Operation::Unlock | Operation::Consistent | Operation::Reinit => reply != Reply::OK,
         _ => true,

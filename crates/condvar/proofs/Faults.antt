@@ -209,6 +209,7 @@ run_stands (a ∷ answers) p s = run_stands answers (cond_moved p (cond_led p a)
 
 begins_stands : (l : Layout') (t : ℕ) (c : CondCall) → Stands (begins l t c).phase
 begins_stands l t (call.Wait c) = tt
+begins_stands l t (call.TimedWait c x) = tt
 begins_stands l t (call.Signal c) = tt
 begins_stands l t (call.Broadcast c) = tt
 

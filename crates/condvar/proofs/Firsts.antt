@@ -175,6 +175,9 @@ begun : (l : Layout') (t : ℕ) (c : CondCall) (w : ℕ) → 1 ≤ t → Goes (f
 begun l t (call.Wait c) w pos =
     let r = Wait wait.LoadCell in
     (decided (fields_of w) t _ (resume_of t r (Value w)).decided (λ e is. permitted.at t r (Value w) e pos is), wait_on (fields_of w) t (begins l t (call.Wait c)) ((fields_of w).owner == t) (fields_of w).died (permitted.goes_on t r (Value w) pos))
+begun l t (call.TimedWait c x) w pos =
+    let r = Wait wait.LoadCell in
+    (decided (fields_of w) t _ (resume_of t r (Value w)).decided (λ e is. permitted.at t r (Value w) e pos is), wait_on (fields_of w) t (begins l t (call.TimedWait c x)) ((fields_of w).owner == t) (fields_of w).died (permitted.goes_on t r (Value w) pos))
 begun l t (call.Signal c) w pos =
     let r = Signal signal.LoadCell in
     (decided (fields_of w) t _ (resume_of t r (Value w)).decided (λ e is. permitted.at t r (Value w) e pos is), signal_on (fields_of w) t (begins l t (call.Signal c)) ((fields_of w).owner == t) (permitted.goes_on t r (Value w) pos))
@@ -194,6 +197,8 @@ IsNoWord a = Unit {0}
 stops : (l : Layout') (t : ℕ) (c : CondCall) (a : Answer) → IsNoWord a → Stops l t c a
 stops l t (call.Wait c) (Value w) n = absurd n
 stops l t (call.Wait c) a n = record { phase = refl; point = refl }
+stops l t (call.TimedWait c x) (Value w) n = absurd n
+stops l t (call.TimedWait c x) a n = record { phase = refl; point = refl }
 stops l t (call.Signal c) (Value w) n = absurd n
 stops l t (call.Signal c) a n = record { phase = refl; point = refl }
 stops l t (call.Broadcast c) (Value w) n = absurd n

@@ -5,3 +5,4 @@ mod Firsts
 mod Wholes
 pub mod WholeWakes
 mod Faults
+mod Expiries

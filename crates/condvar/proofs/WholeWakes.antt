@@ -95,6 +95,7 @@ none_follows p (Ended x) a at n quiet elsewhere = λ e. cc e
 
 begins_awake : (l : Layout') (t : ℕ) (c : CondCall) (at n : ℕ) → cond_access (begins l t c) ≢ access.Wake at n
 begins_awake l t (call.Wait c) at n e = cc e
+begins_awake l t (call.TimedWait c x) at n e = cc e
 begins_awake l t (call.Signal c) at n e = cc e
 begins_awake l t (call.Broadcast c) at n e = cc e
 

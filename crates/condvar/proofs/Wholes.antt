@@ -41,7 +41,7 @@ use Rattle.condvar.specs.declared.row.CondRow.TheVariants as cond
 use Rattle.condvar.specs.declared.phase.CondPhase.{CondPhase}
 use Rattle.condvar.specs.declared.phase.CondPhase.TheVariants.{AtWords, Announcing, Unlinking, Locking, Ended}
 use Rattle.condvar.specs.declared.phase.CondOnward.{CondOnward}
-use Rattle.condvar.specs.Calls.{operation_of}
+use Rattle.condvar.specs.Calls.{acts_as}
 use Rattle.condvar.specs.Rows.{goes, decides, ends, full, IsGoing}
 use Rattle.condvar.specs.Standings.{CondWhole}
 use Rattle.condvar.specs.Programs.{mutex_of, resume_of}
@@ -53,7 +53,7 @@ use Rattle.condvar.specs.WholeLaws.{cond_reached, points_after, point, IsDecided
 -- ---- the lock that ends a wait
 
 -- it stands at rows of a lock, or is through with the cell
-abbrev IsLockPhase : Phase → Type 0
+abbrev pub IsLockPhase : Phase → Type 0
 IsLockPhase (phase.AtCell (row.Lock r)) = rows.Knows (row.Lock r)
 IsLockPhase (phase.Linking l x) = Unit {0}
 IsLockPhase (phase.Clearing x) = Unit {0}
@@ -61,7 +61,7 @@ IsLockPhase (phase.Ended x) = Unit {0}
 IsLockPhase f = ⊥
 
 -- the reply that it has been given
-abbrev lock_decided : Phase → Option Reply
+abbrev pub lock_decided : Phase → Option Reply
 lock_decided (phase.AtCell r) = decided r
 lock_decided (phase.Linking l x) = Some x
 lock_decided (phase.Clearing x) = Some x
@@ -69,7 +69,7 @@ lock_decided (phase.Ended x) = Some x
 lock_decided f = None
 
 -- the lock of a call p, in a phase
-abbrev lock_of : CondWhole → Phase → Whole
+abbrev pub lock_of : CondWhole → Phase → Whole
 lock_of p f = record { thread = p.thread; operation = operation.Lock; head = p.head; entry = p.entry; cell = p.cell; phase = f }
 
 -- a row of a lock, or its end
@@ -191,11 +191,11 @@ whole_lock p (phase.Unlinking u d) pos h = absurd h
 -- ---- the points so far
 
 -- a lock's point, once that is made
-abbrev lock_points : CondWhole → Option Reply → List Point
+abbrev pub lock_points : CondWhole → Option Reply → List Point
 lock_points p None = []
 lock_points p (Some x) = point p.thread p.cell operation.Lock x ∷ []
 
-abbrev row_points : CondWhole → CondRow → List Point
+abbrev pub row_points : CondWhole → CondRow → List Point
 row_points p (Wait (wait.Wake s)) = point p.thread p.cell operation.Unlock OK ∷ []
 row_points p (Wait (wait.Sleep s)) = point p.thread p.cell operation.Unlock OK ∷ []
 row_points p (Signal signal.Wake) = point p.thread p.cell operation.Signal OK ∷ []
@@ -204,7 +204,7 @@ row_points p (Broadcast (broadcast.Move s)) = point p.thread p.cell operation.Br
 row_points p r = []
 
 -- a call of an operation, in a phase, has had these points
-abbrev Had : Operation → CondWhole → CondPhase → List Point → Type 0
+abbrev pub Had : Operation → CondWhole → CondPhase → List Point → Type 0
 Had op p (AtWords r) ps = IsGoing r × (row_operation r ≡ op) × (ps ≡ row_points p r)
 Had op p (Announcing s) ps = (operation.Wait ≡ op) × (ps ≡ [])
 Had op p (Unlinking u s) ps = (operation.Wait ≡ op) × (ps ≡ [])
@@ -369,34 +369,35 @@ all_had op (a ∷ answers) p ps pos h =
     all_had op answers (cond_moved p o) (ps ++ points o.point) pos (forth op p o o.phase (ps ++ points o.point) (had op p p.phase a ps pos h))
 
 -- what a call keeps
-record Keeps (p q : CondWhole) : Type 0 where
-  thread : q.thread ≡ p.thread
-  head : q.head ≡ p.head
-  entry : q.entry ≡ p.entry
-  cell : q.cell ≡ p.cell
+pub record Keeps (p q : CondWhole) : Type 0 where
+  pub thread : q.thread ≡ p.thread
+  pub head : q.head ≡ p.head
+  pub entry : q.entry ≡ p.entry
+  pub cell : q.cell ≡ p.cell
 
-kept : (answers : List Answer) (p : CondWhole) → Keeps p (cond_reached p answers)
+pub kept : (answers : List Answer) (p : CondWhole) → Keeps p (cond_reached p answers)
 kept [] p = record { thread = refl; head = refl; entry = refl; cell = refl }
 kept (a ∷ answers) p = let k = kept answers (cond_moved p (cond_led p a)) in record { thread = k.thread; head = k.head; entry = k.entry; cell = k.cell }
 
 -- at its begin it has had none
-none_had : (l : Layout') (t : ℕ) (c : CondCall) → Had (operation_of c) (begins l t c) (begins l t c).phase []
+none_had : (l : Layout') (t : ℕ) (c : CondCall) → Had (acts_as c) (begins l t c) (begins l t c).phase []
 none_had l t (call.Wait c) = (tt, refl, refl)
+none_had l t (call.TimedWait c x) = (tt, refl, refl)
 none_had l t (call.Signal c) = (tt, refl, refl)
 none_had l t (call.Broadcast c) = (tt, refl, refl)
 
-reached_had : (l : Layout') (t : ℕ) (c : CondCall) (answers : List Answer) (f : CondPhase) → 1 ≤ t → (cond_reached (begins l t c) answers).phase ≡ f
-    → Had (operation_of c) (cond_reached (begins l t c) answers) f (points_after (begins l t c) [] answers)
+pub reached_had : (l : Layout') (t : ℕ) (c : CondCall) (answers : List Answer) (f : CondPhase) → 1 ≤ t → (cond_reached (begins l t c) answers).phase ≡ f
+    → Had (acts_as c) (cond_reached (begins l t c) answers) f (points_after (begins l t c) [] answers)
 reached_had l t c answers f pos is =
-    subst (λ (g : CondPhase). Had (operation_of c) (cond_reached (begins l t c) answers) g (points_after (begins l t c) [] answers)) is (all_had (operation_of c) answers (begins l t c) [] pos (none_had l t c))
+    subst (λ (g : CondPhase). Had (acts_as c) (cond_reached (begins l t c) answers) g (points_after (begins l t c) [] answers)) is (all_had (acts_as c) answers (begins l t c) [] pos (none_had l t c))
 
 has_points : (l : Layout') (t : ℕ) (c : CondCall) (answers : List Answer) (x : Reply) → 1 ≤ t → (cond_reached (begins l t c) answers).phase ≡ Ended x → x ≢ EFAULT
-    → IsDecidedBy t (address_in l t (cell_place l (mutex_of l c))) (operation_of c) x (points_after (begins l t c) [] answers)
+    → IsDecidedBy t (address_in l t (cell_place l (mutex_of l c))) (acts_as c) x (points_after (begins l t c) [] answers)
 has_points l t c answers x pos is other =
     let k = kept answers (begins l t c) in
     let h = reached_had l t c answers (Ended x) pos is other in
-    subst (λ (cell : ℕ). IsDecidedBy t cell (operation_of c) x (points_after (begins l t c) [] answers)) k.cell
-    (subst (λ (u : ℕ). IsDecidedBy u (cond_reached (begins l t c) answers).cell (operation_of c) x (points_after (begins l t c) [] answers)) k.thread h)
+    subst (λ (cell : ℕ). IsDecidedBy t cell (acts_as c) x (points_after (begins l t c) [] answers)) k.cell
+    (subst (λ (u : ℕ). IsDecidedBy u (cond_reached (begins l t c) answers).cell (acts_as c) x (points_after (begins l t c) [] answers)) k.thread h)
 
 locks_again : (l : Layout') (t : ℕ) (c : CondCall) (answers : List Answer) (w : Whole) → 1 ≤ t → (cond_reached (begins l t c) answers).phase ≡ Locking w → IsLockOf l t c w
 locks_again l t c answers w pos is =

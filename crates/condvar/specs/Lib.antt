@@ -12,3 +12,4 @@ pub mod Laws
 pub mod Wakes
 pub mod WholeLaws
 pub mod Faults
+pub mod Expiries

@@ -3,7 +3,8 @@
 -- *Calls.* On a mutex or on a condition variable; one of these is about the mutex that the layout gives its condition
 -- variable. A wait stands in a call on its condition variable until it is awake, and then in the lock that ends it
 -- (`Stage`; `protocol/src/thread.rt`).
-use Rattle.std.specs.Prelude.{ℕ, Bool, Option, Some, None, nat_lt, length}
+use Rattle.std.specs.Prelude.{ℕ, Bool, ◌&&◌, Option, Some, None, nat_lt, length}
+use Rattle.lockword.specs.declared.reply.Reply.{Reply}
 use Rattle.posixmutex.specs.declared.point.Operation.{Operation}
 use Rattle.memorymap.specs.Layouts.{Layout'}
 use Rattle.mutex.specs.Calls as mutex
@@ -16,10 +17,11 @@ abbrev pub operation_of : Op → Operation
 operation_of (OnMutex c) = mutex.operation_of c
 operation_of (OnCondition c) = condition.operation_of c
 
--- what its accesses do to its mutex: a lock with a time limit is a lock while that hasn't come
+-- what its accesses do to its mutex: a lock with a time limit is a lock while that hasn't come, and a wait with one is a
+-- wait
 abbrev pub acts_as : Op → Operation
 acts_as (OnMutex c) = mutex.acts_as c
-acts_as (OnCondition c) = condition.operation_of c
+acts_as (OnCondition c) = condition.acts_as c
 
 -- the mutex that a call is about: on a condition variable, the one that the layout gives this
 abbrev pub mutex_of : Layout' → Op → ℕ
@@ -34,3 +36,13 @@ condition_of (OnCondition c) = Some (condition.condition_of c)
 abbrev pub is_in : Layout' → Op → Bool
 is_in l (OnMutex c) = nat_lt (mutex.mutex_of c) l.mutexes
 is_in l (OnCondition c) = nat_lt (condition.condition_of c) (length l.conditions)
+
+-- a thread may call so: what it names is the layout's, and its time limit, if it has one, is still to come
+abbrev pub may_call : Layout' → Op → Bool
+may_call l (OnMutex c) = is_in l (OnMutex c)
+may_call l (OnCondition c) = is_in l (OnCondition c) && condition.is_ahead c
+
+-- what it returns, where its accesses came to that reply: a wait that is out of time returns ETIMEDOUT in place of OK
+abbrev pub reply_of : Op → Reply → Reply
+reply_of (OnMutex c) x = x
+reply_of (OnCondition c) x = condition.reply_of c x

@@ -22,6 +22,7 @@ use Rattle.condvar.specs.Broadcast.{broadcast_access, broadcast_resume}
 
 abbrev pub first_row : CondCall → CondRow
 first_row (call.Wait c) = Wait wait.LoadCell
+first_row (call.TimedWait c x) = Wait wait.LoadCell
 first_row (call.Signal c) = Signal signal.LoadCell
 first_row (call.Broadcast c) = Broadcast broadcast.LoadCell
 

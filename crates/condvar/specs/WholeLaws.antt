@@ -24,7 +24,7 @@ use Rattle.condvar.specs.declared.call.CondCall.{CondCall}
 use Rattle.condvar.specs.declared.row.CondRow.{CondRow}
 use Rattle.condvar.specs.declared.phase.CondPhase.{CondPhase}
 use Rattle.condvar.specs.declared.phase.CondPhase.TheVariants.{AtWords, Locking, Ended}
-use Rattle.condvar.specs.Calls.{operation_of}
+use Rattle.condvar.specs.Calls.{acts_as}
 use Rattle.condvar.specs.Rows.{IsGoing}
 use Rattle.condvar.specs.Programs.{mutex_of}
 use Rattle.condvar.specs.Standings.{CondWhole}
@@ -115,7 +115,7 @@ pub record WholeCallsAreRight : Type 0 where
   -- one that returned, and not for a fault, has exactly its points, each at its mutex's cell
   pub points : (l : Layout') (t : ℕ) (c : CondCall) (answers : List Answer) (x : Reply) → 1 ≤ t
       → (cond_reached (begins l t c) answers).phase ≡ Ended x → x ≢ EFAULT
-      → IsDecidedBy t (address_in l t (cell_place l (mutex_of l c))) (operation_of c) x
+      → IsDecidedBy t (address_in l t (cell_place l (mutex_of l c))) (acts_as c) x
       (points_after (begins l t c) [] answers)
   -- each point but that of a lock has a reply that the object permits for the cell that the call's first load met
   pub permitted : (l : Layout') (t : ℕ) (c : CondCall) (answers : List Answer) → 1 ≤ t

@@ -2,6 +2,7 @@
 ghost use Rattle.condvar.specs.Laws.{CallsAreRight, AccessesAreThere, MovesAreRight, NeedsAreOwned, PointsArePermitted};
 ghost use Rattle.condvar.specs.Wakes.{WakesAreRight};
 ghost use Rattle.condvar.specs.Faults.{FaultsAreTold};
+ghost use Rattle.condvar.specs.Expiries.{TimedWaitsAreRight};
 ghost use Rattle.condvar.specs.WholeLaws.{WholeCallsAreRight, WholeCallsWake};
 
 /// Whatever words an access of a call meets, it is a step of the mutex as POSIX sees it; the counter goes up by one
@@ -60,4 +61,11 @@ pub fn whole_calls_are_right()
 /// Whatever a whole call is answered, it returns `EFAULT` exactly after an answer that its access doesn't have.
 pub fn faults_are_told()
     ensures { FaultsAreTold }
+{}
+
+/// A wait with a time limit is a wait, access by access. Where it sleeps it has unlocked its mutex and had no other
+/// point, so that its limit comes behind that; and it goes on as one that is woken, by locking its mutex. What it returns
+/// is a wait's reply, but `ETIMEDOUT` for `OK` where it is out of time.
+pub fn timed_waits_are_right()
+    ensures { TimedWaitsAreRight }
 {}

@@ -9,7 +9,8 @@
 //! moves sleepers only to a cell that its thread owns (`moves_are_right`), and what a call needs of the words stays
 //! while its thread owns the mutex (`needs_are_owned`). A wait's release and a signal wake one sleeper, a broadcast
 //! none (`wakes_are_right`, `whole_calls_wake`). A whole call that returned, and not for a fault, had exactly its
-//! points (`whole_calls_are_right`, `faults_are_told`). An [`Op`] is what a thread may call, on a mutex or on a
+//! points (`whole_calls_are_right`, `faults_are_told`). A wait with a time limit is a wait that may return `ETIMEDOUT`, as
+//! the owner of its mutex (`timed_waits_are_right`). An [`Op`] is what a thread may call, on a mutex or on a
 //! condition variable.
 //!
 //! Stands on `mutex`, for the lock that a wait ends with, on `robustlist`, for the entry's way out of the list, on
@@ -43,11 +44,12 @@ mod signal;
 mod wait;
 
 pub use broadcast::BroadcastRow;
-pub use call::CondCall;
+pub use call::{CondCall, Limit};
 pub use coding::CodedCondPhase;
 pub use laws::{
     accesses_are_there, calls_are_right, faults_are_told, moves_are_right, needs_are_owned,
-    points_are_permitted, wakes_are_right, whole_calls_are_right, whole_calls_wake,
+    points_are_permitted, timed_waits_are_right, wakes_are_right, whole_calls_are_right,
+    whole_calls_wake,
 };
 pub use op::Op;
 pub use phase::{CondOnward, CondPhase};

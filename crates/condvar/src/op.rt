@@ -1,8 +1,9 @@
 //! Calls of both kinds.
 ghost use Rattle.std.specs.Prelude.{◌≡◌, true};
-ghost use Rattle.condvar.specs.Ops.{condition_of, is_in, mutex_of, operation_of};
+ghost use Rattle.condvar.specs.Ops.{condition_of, is_in, may_call, mutex_of, operation_of, reply_of};
 
-use crate::call::CondCall;
+use crate::call::{CondCall, Limit};
+use lockword::Reply;
 use memorymap::Layout;
 use mutex::Call;
 use posixmutex::Operation;
@@ -25,6 +26,14 @@ impl Op {
         }
     }
 
+    /// Whether a thread may call so: it names what is the layout's, and its time limit, if it has one, is still to come.
+    pub fn may_begin(self, layout: &Layout) -> bool
+        ensures { result ≡ may_call layout.now self }
+    {
+        let is_late = matches!(self, Op::OnCondition(CondCall::TimedWait(_, Limit::Past)));
+        self.is_in(layout) && !is_late
+    }
+
     /// What it is called among the operations on its mutex.
     pub fn operation(self) -> Operation
         ensures { result ≡ operation_of self }
@@ -43,6 +52,16 @@ impl Op {
         match self {
             Op::OnMutex(call) => call.mutex(),
             Op::OnCondition(call) => layout.mutex_of_condition(call.condition()),
+        }
+    }
+
+    /// What the call returns whose accesses came to that reply: one that is out of time returns `ETIMEDOUT` for `OK`.
+    pub fn reply(self, reply: Reply) -> Reply
+        ensures { result ≡ reply_of self reply }
+    {
+        match self {
+            Op::OnMutex(_) => reply,
+            Op::OnCondition(call) => call.reply(reply),
         }
     }
 

@@ -38,7 +38,7 @@ impl CondRow {
         ensures going { IsGoing result }
     {
         match call {
-            CondCall::Wait(_) => CondRow::Wait(WaitRow::LoadCell),
+            CondCall::Wait(_) | CondCall::TimedWait(_, _) => CondRow::Wait(WaitRow::LoadCell),
             CondCall::Signal(_) => CondRow::Signal(SignalRow::LoadCell),
             CondCall::Broadcast(_) => CondRow::Broadcast(BroadcastRow::LoadCell),
         }

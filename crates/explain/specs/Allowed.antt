@@ -13,7 +13,7 @@ use Rattle.lockword.specs.declared.reply.Reply.TheVariants.{ENOTRECOVERABLE, XRA
 use Rattle.lockword.specs.Replies.{all_replies, reply_word}
 use Rattle.posixmutex.specs.declared.object.Object.{Object}
 use Rattle.posixmutex.specs.declared.point.Operation.{Operation}
-use Rattle.posixmutex.specs.declared.point.Operation.TheVariants.{Lock, TryLock, TimedLock, Unlock, Consistent, Wait}
+use Rattle.posixmutex.specs.declared.point.Operation.TheVariants.{Lock, TryLock, TimedLock, Unlock, Consistent, Wait, TimedWait}
 use Rattle.posixmutex.specs.declared.point.Operation.TheVariants.{Signal, Broadcast, Death, Reinit}
 use Rattle.posixmutex.specs.Histories.{is_thread}
 use Rattle.posixmutex.specs.Objects.{Permits}
@@ -72,11 +72,12 @@ AllowedArePermitted o t s = (op : Operation) (r : Reply) → (allows s op r ≡ 
 
 -- ---- as it is told
 
--- where it has no reply: a lock of a mutex that another thread owns sleeps, and a wait of the owner of a consistent
--- mutex unlocks it
+-- where it has no reply: a lock of a mutex that another thread owns sleeps, a wait of the owner of a consistent mutex
+-- unlocks it, and what a wait with a time limit does is told as a wait's
 abbrev pub unanswered : Operation → List ℕ
 unanswered Lock = codes " sleeps"
 unanswered Wait = codes " isn't refused"
+unanswered TimedWait = codes " has no point of its own"
 unanswered op = codes " has no reply"
 
 -- what stands before an allowed reply: it is the first, or another one stands before it
@@ -100,6 +101,7 @@ allowed_words s op told (r ∷ rs) = reply_words s op told r ++ allowed_words s 
 -- more, and a lock whose limit doesn't come is told as a lock without one
 abbrev pub behind_replies : Operation → List ℕ
 behind_replies TimedLock = codes " where another thread owned the mutex since the call began, and else its point is a `lock`\n"
+behind_replies TimedWait = codes ": its first is a `wait` or an `unlock`\n"
 behind_replies op = codes " here\n"
 
 abbrev pub allowed_text : Standing → Operation → List ℕ

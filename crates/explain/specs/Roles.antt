@@ -17,9 +17,10 @@ use Rattle.explain.specs.Stray.{word_of}
 -- what a call names: its thread, and the condition variable or the mutex that it is made on
 abbrev pub uses_of_call : List ℕ → List (Things × ℕ)
 uses_of_call w = if bytes_eq w (codes "wait") then (Threads, 1) ∷ (Conditions, 3) ∷ []
+    else (if bytes_eq w (codes "timedwait") then (Threads, 1) ∷ (Conditions, 3) ∷ []
     else (if bytes_eq w (codes "signal") then (Threads, 1) ∷ (Conditions, 3) ∷ []
     else (if bytes_eq w (codes "broadcast") then (Threads, 1) ∷ (Conditions, 3) ∷ []
-    else (Threads, 1) ∷ (Mutexes, 3) ∷ []))
+    else (Threads, 1) ∷ (Mutexes, 3) ∷ [])))
 
 -- the words of a line with this first word, and this third one, that name what is declared before, in the order in
 -- which they are looked up

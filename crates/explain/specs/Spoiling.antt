@@ -5,7 +5,7 @@ use Rattle.std.specs.Prelude.{slice_index_or, Option, Some, None}
 use Rattle.lockword.specs.declared.reply.Reply.{Reply}
 use Rattle.lockword.specs.declared.reply.Reply.TheVariants.{OK}
 use Rattle.posixmutex.specs.declared.point.Operation.{Operation}
-use Rattle.posixmutex.specs.declared.point.Operation.TheVariants.{Death, Unlock, Wait}
+use Rattle.posixmutex.specs.declared.point.Operation.TheVariants.{Death, Unlock, Wait, TimedWait}
 use Rattle.posixmutex.specs.declared.point.Decision.{Decision}
 use Rattle.facts.specs.declared.fact.Begun.{Begun}
 use Rattle.facts.specs.declared.fact.Line.{Line}
@@ -18,6 +18,7 @@ use Rattle.explain.specs.Origins.{newest_line, step_at}
 
 abbrev pub is_wait : Operation → Bool
 is_wait Wait = true
+is_wait TimedWait = true
 is_wait op = false
 
 -- the call that a thread is in is a wait

@@ -146,6 +146,7 @@ fn allows(standing: Standing, operation: Operation, reply: Reply) -> bool
         Operation::Unlock => allows_unlock(standing, reply),
         Operation::Consistent => allows_consistent(standing, reply),
         Operation::Wait => allows_wait(standing, reply),
+        Operation::TimedWait => false,
         Operation::Signal | Operation::Broadcast => allows_signal(standing, reply),
         Operation::Death => reply == Reply::OK && standing.owns,
         Operation::Reinit => reply == Reply::OK && standing.free && standing.unusable,
@@ -166,12 +167,13 @@ fn unanswered(operation: Operation) -> &'static str
     match operation {
         Operation::Lock => " sleeps",
         Operation::Wait => " isn't refused",
+        Operation::TimedWait => " has no point of its own",
         _ => " has no reply",
     }
 }
 
 /// What stands behind the replies: a time limit may come only behind another's ownership, which this mutex needn't show
-/// any more, and a lock whose limit doesn't come is told as a lock without one.
+/// any more, and a lock whose limit doesn't come is told as a lock without one; a wait with a limit is told as a wait.
 fn behind_replies(operation: Operation) -> &'static str
     ensures { result.now ≡ behind_replies operation }
 {
@@ -179,6 +181,7 @@ fn behind_replies(operation: Operation) -> &'static str
         Operation::TimedLock => {
             " where another thread owned the mutex since the call began, and else its point is a `lock`\n"
         }
+        Operation::TimedWait => ": its first is a `wait` or an `unlock`\n",
         _ => " here\n",
     }
 }

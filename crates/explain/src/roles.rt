@@ -15,7 +15,9 @@ fn uses_of_call(call: &str) -> &'static [(Things, usize)]
     ensures { result.now ≡ uses_of_call call.now }
 {
     match call {
-        "wait" | "signal" | "broadcast" => &[(Things::Threads, 1), (Things::Conditions, 3)],
+        "wait" | "timedwait" | "signal" | "broadcast" => {
+            &[(Things::Threads, 1), (Things::Conditions, 3)]
+        }
         _ => &[(Things::Threads, 1), (Things::Mutexes, 3)],
     }
 }

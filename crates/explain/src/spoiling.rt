@@ -46,7 +46,7 @@ fn waits_behind(waits: bool, fact: &Fact) -> bool
     ensures { (told : List Fact) → waits ≡ is_waiting (call_in told) → result ≡ is_waiting (call_in (fact.now ∷ told)) }
 {
     match *fact {
-        Fact::Begin(_, call) => call.operation == Operation::Wait,
+        Fact::Begin(_, call) => { matches!(call.operation, Operation::Wait | Operation::TimedWait) }
         Fact::Return(..) | Fact::Kill(_) => false,
         _ => waits,
     }

@@ -1,17 +1,18 @@
 -- What a trace tells of one thread (pthread_mutex_lock, pthread_cond_wait).
 --
 -- *The points of a call.* One of the call's own operation, with the reply that it returns; of a wait that isn't refused
--- an unlock with OK and then a lock, with the reply that it returns. A call that hasn't returned has a beginning of its
--- points. Sources: pthread_mutex_lock(3p), pthread_cond_wait(3p).
+-- an unlock with OK and then a lock, with the reply that it returns. A wait with a time limit has the points of a wait,
+-- that returns the same, or OK where it returns ETIMEDOUT: of that the points tell no other reason than its unlock. A
+-- call that hasn't returned has a beginning of its points. Sources: pthread_mutex_lock(3p), pthread_cond_wait(3p), pthread_cond_timedwait(3p).
 --
 -- *A life.* What is told of one thread's calls and death: calls that returned, each with exactly its points, of its own
 -- mutex; perhaps one that hasn't returned, with a beginning of its points; perhaps a kill, which ends that call, then
 -- deaths, and perhaps a reaping; no other point or death.
 use Rattle.std.specs.Prelude.{ℕ, ◌≡◌, ◌⊎◌, ◌==◌, ◌&&◌, Bool, true, false, List, [], ◌∷◌, ◌++◌, map, if◌then◌else◌}
 use Rattle.lockword.specs.declared.reply.Reply.{Reply}
-use Rattle.lockword.specs.declared.reply.Reply.TheVariants.{OK}
+use Rattle.lockword.specs.declared.reply.Reply.TheVariants.{OK, ETIMEDOUT}
 use Rattle.posixmutex.specs.declared.point.Operation.{Operation}
-use Rattle.posixmutex.specs.declared.point.Operation.TheVariants.{Lock, TimedLock, Unlock, Wait}
+use Rattle.posixmutex.specs.declared.point.Operation.TheVariants.{Lock, TimedLock, Unlock, Wait, TimedWait}
 use Rattle.facts.specs.declared.fact.Begun.{Begun}
 use Rattle.facts.specs.declared.fact.Fact.{Fact}
 use Rattle.facts.specs.declared.fact.Fact.TheVariants.{Begin, Point, Death, Sleep, Wake}
@@ -25,15 +26,27 @@ use Rattle.facts.specs.Facts.{thread_of}
 abbrev pub Act : Type 0
 Act = Operation × Reply
 
+-- a wait, with a time limit or without
+abbrev pub IsWait : Operation → Type 0
+IsWait op = (op ≡ Wait) ⊎ (op ≡ TimedWait)
+
+-- what a call of this operation may return, whose last point replied y: that; and a wait that is out of time ETIMEDOUT in
+-- place of OK
+abbrev pub MayReturn : Operation → Reply → Reply → Type 0
+MayReturn TimedWait y x = (x ≡ y) ⊎ ((y ≡ OK) × (x ≡ ETIMEDOUT))
+MayReturn op y x = x ≡ y
+
 -- these are all the points of a call of this operation that returns that reply: one of its own operation; of a lock
--- with a time limit that isn't refused, and isn't out of time, a lock; and of a wait that isn't refused a release and
--- then a lock
+-- with a time limit that isn't refused, and isn't out of time, a lock; of a wait that isn't refused a release and then a
+-- lock; and of a wait with a time limit those of a wait, that returns the same, or OK where it returns ETIMEDOUT
 abbrev pub Complete : Operation → List Act → Reply → Type 0
 Complete op [] x = ⊥
 Complete TimedLock (p ∷ []) x = (p ≡ (TimedLock, x)) ⊎ (p ≡ (Lock, x))
+Complete TimedWait (p ∷ []) x = (p.0 ≡ Wait) × MayReturn TimedWait p.1 x
 Complete op (p ∷ []) x = p ≡ (op, x)
 Complete op (p ∷ q ∷ r ∷ ps) x = ⊥
 Complete Wait (p ∷ q ∷ []) x = (p ≡ (Unlock, OK)) × (q ≡ (Lock, x))
+Complete TimedWait (p ∷ q ∷ []) x = (p ≡ (Unlock, OK)) × (q.0 ≡ Lock) × MayReturn TimedWait q.1 x
 Complete op (p ∷ q ∷ []) x = ⊥
 
 -- the first points of such a call, or all of them

@@ -108,19 +108,25 @@ passed {A} keep w x o vs dropped apart behind = go _ refl
 abbrev behind_timed : List (List ℕ)
 behind_timed = map operation_word (op.Unlock ∷ op.Consistent ∷ op.Wait ∷ op.Signal ∷ op.Broadcast ∷ [])
 
+-- and behind waits with one
+abbrev behind_waits : List (List ℕ)
+behind_waits = map operation_word (op.Signal ∷ op.Broadcast ∷ [])
+
 call_is : (k : Mode) (w : List ℕ) → is_made k w ≡ is_among w (call_words k)
 unfolding operation_of
 call_is Run w = kept (made Run) w op.Lock _ _ refl (kept (made Run) w op.TryLock _ _ refl
     (kept (made Run) w op.TimedLock _ _ refl (kept (made Run) w op.Unlock _ _ refl
     (kept (made Run) w op.Consistent _ _ refl (kept (made Run) w op.Wait _ _ refl
+    (kept (made Run) w op.TimedWait _ _ refl
     (kept (made Run) w op.Signal _ _ refl (kept (made Run) w op.Broadcast _ _ refl
-    (passed (made Run) w op.Death _ [] refl refl (passed (made Run) w op.Reinit _ [] refl refl refl)))))))))
+    (passed (made Run) w op.Death _ [] refl refl (passed (made Run) w op.Reinit _ [] refl refl refl))))))))))
 call_is Threads w = kept (made Threads) w op.Lock _ _ refl (kept (made Threads) w op.TryLock _ _ refl
     (passed (made Threads) w op.TimedLock _ behind_timed refl refl
     (kept (made Threads) w op.Unlock _ _ refl (kept (made Threads) w op.Consistent _ _ refl
-    (kept (made Threads) w op.Wait _ _ refl (kept (made Threads) w op.Signal _ _ refl
+    (kept (made Threads) w op.Wait _ _ refl (passed (made Threads) w op.TimedWait _ behind_waits refl refl
+    (kept (made Threads) w op.Signal _ _ refl
     (kept (made Threads) w op.Broadcast _ _ refl (passed (made Threads) w op.Death _ [] refl refl
-    (passed (made Threads) w op.Reinit _ [] refl refl refl)))))))))
+    (passed (made Threads) w op.Reinit _ [] refl refl refl))))))))))
 
 -- where just those operations are kept that calls have
 told_is : {A : Type 0} (keep : Op → Option A) → ((x : Op) → is_some (keep x) ≡ is_some (of_call x))
@@ -129,9 +135,10 @@ unfolding operation_of
 told_is keep h w = kept keep w op.Lock _ _ (h op.Lock) (kept keep w op.TryLock _ _ (h op.TryLock)
     (kept keep w op.TimedLock _ _ (h op.TimedLock)
     (kept keep w op.Unlock _ _ (h op.Unlock) (kept keep w op.Consistent _ _ (h op.Consistent)
-    (kept keep w op.Wait _ _ (h op.Wait) (kept keep w op.Signal _ _ (h op.Signal)
+    (kept keep w op.Wait _ _ (h op.Wait) (kept keep w op.TimedWait _ _ (h op.TimedWait)
+    (kept keep w op.Signal _ _ (h op.Signal)
     (kept keep w op.Broadcast _ _ (h op.Broadcast) (passed keep w op.Death _ (codes "reinit" ∷ []) (h op.Death) refl
-    (kept keep w op.Reinit _ _ (h op.Reinit) refl)))))))))
+    (kept keep w op.Reinit _ _ (h op.Reinit) refl))))))))))
 
 every_call_is_made_on_something : (x : Op) → is_some (made_on x) ≡ is_some (of_call x)
 every_call_is_made_on_something op.Lock = refl
@@ -140,6 +147,7 @@ every_call_is_made_on_something op.TimedLock = refl
 every_call_is_made_on_something op.Unlock = refl
 every_call_is_made_on_something op.Consistent = refl
 every_call_is_made_on_something op.Wait = refl
+every_call_is_made_on_something op.TimedWait = refl
 every_call_is_made_on_something op.Signal = refl
 every_call_is_made_on_something op.Broadcast = refl
 every_call_is_made_on_something op.Death = refl

@@ -11,7 +11,7 @@ use Rattle.posixmutex.specs.Words.{operation_of}
 use Rattle.script.specs.declared.command.Mode.{Mode}
 use Rattle.script.specs.declared.command.Mode.TheVariants.{Run, Threads}
 use Rattle.script.specs.Limits.{max_steps, max_access, max_mutexes, max_base, max_counter}
-use Rattle.script.specs.Forms.{CallForm, lock, trylock, timedlock, unlock, consistent, wait, signal, broadcast, Form, process, thread, member, mutex, mutexes, cond, begins, steps, kills, kills_all, goes, renews, reinits, remakes, leaves, expires, declines, recounts, spares, resleeps, repeats, calls, locks, phase, dies, is_name, is_stem, is_untimed, has, of_mode, or_else, call_on, call_form, calling_form, words_form}
+use Rattle.script.specs.Forms.{CallForm, lock, trylock, timedlock, unlock, consistent, wait, timedwait, signal, broadcast, Form, process, thread, member, mutex, mutexes, cond, begins, steps, kills, kills_all, goes, renews, reinits, remakes, leaves, expires, declines, recounts, spares, resleeps, repeats, calls, locks, phase, dies, is_name, is_stem, is_untimed, has, of_mode, or_else, call_on, call_form, calling_form, words_form}
 use Rattle.grammar.specs.declared.next.Next.{Next}
 use Rattle.grammar.specs.declared.next.Next.TheVariants.{End, Keyword, Name, NewThread, ProcessOrEnd, NameNumber, NameNameNumber, NameName, StemNumber, Number, NameCall, Call}
 use Rattle.grammar.specs.Nexts.{fitting, is_made, keyword, made, timed}
@@ -120,7 +120,8 @@ call_line F ws = None
 
 -- scripts of the mode make it, if they make calls there
 abbrev takes : Mode → CallForm → Bool
-takes k (timedlock m) = is_some (timed k)
+takes k (timedlock m) = is_some (timed k op.TimedLock)
+takes k (timedwait c) = is_some (timed k op.TimedWait)
 takes k x = true
 
 regrouped : (on c b : Bool) → ((on && c) && b) ≡ (on && (b && (c && true)))
@@ -135,10 +136,11 @@ called k F on t m h bt false o = never on ∙ ap (λ (b : Bool). on && b) (sym (
 called k F on t m h bt true None = never on ∙ ap (λ (b : Bool). on && b) (sym (both bt false refl))
 called k F on t m h bt true (Some op.Lock) = decided k (F t (lock m)) (on && true) bt (h (lock m)) ∙ regrouped on true bt
 called k F on t m h bt true (Some op.TryLock) = decided k (F t (trylock m)) (on && true) bt (h (trylock m)) ∙ regrouped on true bt
-called k F on t m h bt true (Some op.TimedLock) = decided k (F t (timedlock m)) (on && is_some (timed k)) bt (h (timedlock m)) ∙ regrouped on (is_some (timed k)) bt
+called k F on t m h bt true (Some op.TimedLock) = decided k (F t (timedlock m)) (on && is_some (timed k op.TimedLock)) bt (h (timedlock m)) ∙ regrouped on (is_some (timed k op.TimedLock)) bt
 called k F on t m h bt true (Some op.Unlock) = decided k (F t (unlock m)) (on && true) bt (h (unlock m)) ∙ regrouped on true bt
 called k F on t m h bt true (Some op.Consistent) = decided k (F t (consistent m)) (on && true) bt (h (consistent m)) ∙ regrouped on true bt
 called k F on t m h bt true (Some op.Wait) = decided k (F t (wait m)) (on && true) bt (h (wait m)) ∙ regrouped on true bt
+called k F on t m h bt true (Some op.TimedWait) = decided k (F t (timedwait m)) (on && is_some (timed k op.TimedWait)) bt (h (timedwait m)) ∙ regrouped on (is_some (timed k op.TimedWait)) bt
 called k F on t m h bt true (Some op.Signal) = decided k (F t (signal m)) (on && true) bt (h (signal m)) ∙ regrouped on true bt
 called k F on t m h bt true (Some op.Broadcast) = decided k (F t (broadcast m)) (on && true) bt (h (broadcast m)) ∙ regrouped on true bt
 called k F on t m h bt true (Some op.Death) = never on ∙ ap (λ (b : Bool). on && b) (sym (both bt false refl))
@@ -158,6 +160,7 @@ all_taken : (x : CallForm) → true ≡ takes Run x
 all_taken (lock m) = refl
 all_taken (trylock m) = refl
 all_taken (timedlock m) = refl
+all_taken (timedwait c) = refl
 all_taken (unlock m) = refl
 all_taken (consistent m) = refl
 all_taken (wait m) = refl
@@ -168,6 +171,7 @@ untimed_taken : (x : CallForm) → is_untimed x ≡ takes Threads x
 untimed_taken (lock m) = refl
 untimed_taken (trylock m) = refl
 untimed_taken (timedlock m) = refl
+untimed_taken (timedwait c) = refl
 untimed_taken (unlock m) = refl
 untimed_taken (consistent m) = refl
 untimed_taken (wait m) = refl

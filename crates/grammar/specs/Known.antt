@@ -1,7 +1,7 @@
 -- The words that may stand at a place.
 use Rattle.std.specs.Prelude.{ℕ, List, [], ◌∷◌, map, codes}
 use Rattle.posixmutex.specs.declared.point.Operation.TheVariants.{Lock, TryLock, TimedLock, Unlock, Consistent}
-use Rattle.posixmutex.specs.declared.point.Operation.TheVariants.{Wait, Signal, Broadcast, Reinit}
+use Rattle.posixmutex.specs.declared.point.Operation.TheVariants.{Wait, TimedWait, Signal, Broadcast, Reinit}
 use Rattle.posixmutex.specs.Words.{operation_word}
 use Rattle.lockword.specs.Replies.{all_replies, reply_word}
 use Rattle.script.specs.declared.command.Mode.{Mode}
@@ -12,13 +12,14 @@ use Rattle.grammar.specs.declared.next.Next.TheVariants.{Keyword, Call, Head, Ev
 -- the words of the calls that scripts make: those with a time limit are for the machine
 abbrev pub call_words : Mode → List (List ℕ)
 call_words Run =
-    map operation_word (Lock ∷ TryLock ∷ TimedLock ∷ Unlock ∷ Consistent ∷ Wait ∷ Signal ∷ Broadcast ∷ [])
+    map operation_word (Lock ∷ TryLock ∷ TimedLock ∷ Unlock ∷ Consistent ∷ Wait ∷ TimedWait ∷ Signal ∷ Broadcast ∷ [])
 call_words Threads = map operation_word (Lock ∷ TryLock ∷ Unlock ∷ Consistent ∷ Wait ∷ Signal ∷ Broadcast ∷ [])
 
 -- and of those that traces tell
 abbrev pub told_words : List (List ℕ)
 told_words =
-    map operation_word (Lock ∷ TryLock ∷ TimedLock ∷ Unlock ∷ Consistent ∷ Wait ∷ Signal ∷ Broadcast ∷ Reinit ∷ [])
+    map operation_word
+    (Lock ∷ TryLock ∷ TimedLock ∷ Unlock ∷ Consistent ∷ Wait ∷ TimedWait ∷ Signal ∷ Broadcast ∷ Reinit ∷ [])
 
 abbrev pub reply_words : List (List ℕ)
 reply_words = map reply_word all_replies

@@ -43,12 +43,13 @@ abbrev pub is_reply : List ℕ → Bool
 is_reply w = is_some (reply_of w)
 
 -- those that scripts of a mode make: time limits are the machine's
-abbrev pub timed : Mode → Option Op
-timed mode.Run = Some op.TimedLock
-timed mode.Threads = None
+abbrev pub timed : Mode → Op → Option Op
+timed mode.Run o = Some o
+timed mode.Threads o = None
 
 abbrev pub made : Mode → Op → Option Op
-made k op.TimedLock = timed k
+made k op.TimedLock = timed k op.TimedLock
+made k op.TimedWait = timed k op.TimedWait
 made k o = scripted o
 
 abbrev pub is_made : Mode → List ℕ → Bool
@@ -130,6 +131,7 @@ made_on op.Unlock = Some Mutex
 made_on op.Consistent = Some Mutex
 made_on op.Reinit = Some Mutex
 made_on op.Wait = Some ConditionMutex
+made_on op.TimedWait = Some ConditionMutex
 made_on op.Signal = Some ConditionMutex
 made_on op.Broadcast = Some ConditionMutex
 made_on op.Death = None

@@ -17,6 +17,7 @@ fn told_words() -> &'static [&'static str]
         "unlock",
         "consistent",
         "wait",
+        "timedwait",
         "signal",
         "broadcast",
         "reinit",
@@ -28,7 +29,7 @@ fn call_words(mode: Mode) -> &'static [&'static str]
     ensures { map (λ w. w.now) result.now ≡ call_words mode }
 {
     match mode {
-        Mode::Run => &told_words()[..8],
+        Mode::Run => &told_words()[..9],
         Mode::Threads => &[
             "lock",
             "trylock",

@@ -141,7 +141,7 @@ fn is_made(mode: Mode, word: &str) -> bool
 {
     match word.parse::<Operation>() {
         Ok(Operation::Death) | Ok(Operation::Reinit) | Err(_) => false,
-        Ok(Operation::TimedLock) => match mode {
+        Ok(Operation::TimedLock) | Ok(Operation::TimedWait) => match mode {
             Mode::Run => true,
             Mode::Threads => false,
         },
@@ -243,6 +243,7 @@ fn operation(word: &str) -> Option<Next>
         Ok(Operation::Consistent) => Some(Next::Mutex),
         Ok(Operation::Reinit) => Some(Next::Mutex),
         Ok(Operation::Wait) => Some(Next::ConditionMutex),
+        Ok(Operation::TimedWait) => Some(Next::ConditionMutex),
         Ok(Operation::Signal) => Some(Next::ConditionMutex),
         Ok(Operation::Broadcast) => Some(Next::ConditionMutex),
         Ok(Operation::Death) | Err(_) => None,

@@ -7,7 +7,8 @@
 --
 -- The trace's numbers are its own: nothing is said of how many events it has.
 use Rattle.std.specs.Prelude.{ℕ, ◌≡◌, ◌==◌, Bool, true, false, Some, List, [], ◌∷◌, ◌++◌, if◌then◌else◌}
-use Rattle.posixmutex.specs.declared.point.Operation.TheVariants.{Unlock, Wait}
+use Rattle.posixmutex.specs.declared.point.Operation.TheVariants.{Unlock}
+use Rattle.facts.specs.Lives.{IsWait}
 use Rattle.facts.specs.declared.fact.Begun.{Begun}
 use Rattle.facts.specs.declared.fact.Fact.{Fact}
 use Rattle.facts.specs.declared.fact.Fact.TheVariants.{Point, Death, Sleep, Wake, Move, Kill}
@@ -62,7 +63,7 @@ pub data Shows : (ℕ → Bool) → List Line → List Entry → Type 0 where
 -- a wait releases a consistent mutex: of an inconsistent one it is refused
 abbrev pub ReleasesWell : List Line → Fact → Type 0
 ReleasesWell earlier (Point d) = (k : Begun) → d.operation ≡ Unlock → call_in (told_of d.thread earlier) ≡ Some k
-    → k.operation ≡ Wait → (objects_after earlier d.mutex).inconsistent ≡ false
+    → IsWait k.operation → (objects_after earlier d.mutex).inconsistent ≡ false
 ReleasesWell earlier f = Unit {0}
 
 abbrev pub AllReleaseWell : List Line → Type 0

@@ -75,7 +75,8 @@ fn condition_operation(word: &str) -> Option<Operation>
 {
     let operation = operation(word)?;
     match operation {
-        Operation::Wait | Operation::Signal | Operation::Broadcast => Some(operation),
+        Operation::Wait | Operation::TimedWait => Some(operation),
+        Operation::Signal | Operation::Broadcast => Some(operation),
         _ => None,
     }
 }

@@ -17,7 +17,7 @@ struct Case {
     points: Option<usize>,
 }
 
-static CASES: [Case; 11] = [
+static CASES: [Case; 13] = [
     Case {
         name: "a lock with its point",
         history: "history 1 1 0\n1 begin t1 lock m0\n2 return t1 OK\nend 2\n",
@@ -78,6 +78,20 @@ static CASES: [Case; 11] = [
         name: "a time limit of a mutex that nobody owned since",
         history: "history 2 1 0\n1 begin t1 lock m0\n2 return t1 OK\n3 begin t1 unlock m0\n4 begin t2 timedlock m0\n5 return t2 ETIMEDOUT\nend 5\n",
         trace: "trace 2 1 0\n1 begin t1 lock m0\n2 point t1 m0 lock OK\n3 return t1 OK\n4 begin t1 unlock m0\n5 point t1 m0 unlock OK\n6 begin t2 timedlock m0\n7 point t2 m0 timedlock ETIMEDOUT\n8 return t2 ETIMEDOUT\nend 8\n",
+        dooms: &[],
+        points: None,
+    },
+    Case {
+        name: "a wait that is out of time has locked its mutex",
+        history: "history 1 1 1\n1 begin t1 lock m0\n2 return t1 OK\n3 begin t1 timedwait c0 m0\n4 return t1 ETIMEDOUT\nend 4\n",
+        trace: "trace 1 1 1\n1 begin t1 lock m0\n2 point t1 m0 lock OK\n3 return t1 OK\n4 begin t1 timedwait c0 m0\n5 point t1 m0 unlock OK\n6 point t1 m0 lock OK\n7 return t1 ETIMEDOUT\nend 7\n",
+        dooms: &[],
+        points: Some(3),
+    },
+    Case {
+        name: "a wait that is out of time hasn't locked its mutex",
+        history: "history 1 1 1\n1 begin t1 lock m0\n2 return t1 OK\n3 begin t1 timedwait c0 m0\n4 return t1 ETIMEDOUT\nend 4\n",
+        trace: "trace 1 1 1\n1 begin t1 lock m0\n2 point t1 m0 lock OK\n3 return t1 OK\n4 begin t1 timedwait c0 m0\n5 point t1 m0 unlock OK\n6 return t1 ETIMEDOUT\nend 6\n",
         dooms: &[],
         points: None,
     },

@@ -24,7 +24,7 @@ struct Case {
     found: Found,
 }
 
-static CASES: [Case; 21] = [
+static CASES: [Case; 28] = [
     Case {
         text: "history 3 2 1\nend 0\n",
         found: Found::Legal(0),
@@ -92,6 +92,69 @@ static CASES: [Case; 21] = [
     Case {
         text: "history 3 2 1\n1 begin t1 lock m0\n2 return t1 OK\n3 begin t1 wait c0 m0\n4 begin t2 lock m0\n5 return t2 OK\n6 begin t2 unlock m0\n7 return t2 OK\n8 return t1 OK\nend 8\n",
         found: Found::Legal(5),
+    },
+    // a time limit comes: it has locked its mutex again, that another thread had meanwhile, or nobody
+    Case {
+        text: "history 3 2 1\n1 begin t1 lock m0\n2 return t1 OK\n3 begin t1 timedwait c0 m0\n4 begin t2 lock m0\n5 return t2 OK\n6 begin t2 unlock m0\n7 return t2 OK\n8 return t1 ETIMEDOUT\nend 8\n",
+        found: Found::Legal(5),
+    },
+    Case {
+        text: "history 3 2 1\n1 begin t1 lock m0\n2 return t1 OK\n3 begin t1 timedwait c0 m0\n4 return t1 ETIMEDOUT\nend 4\n",
+        found: Found::Legal(3),
+    },
+    // so another thread that got it before hasn't it any more
+    Case {
+        text: "history 3 2 1\n1 begin t1 lock m0\n2 return t1 OK\n3 begin t1 timedwait c0 m0\n4 begin t2 lock m0\n5 return t2 OK\n6 return t1 ETIMEDOUT\nend 6\n",
+        found: Found::Illegal(
+            7,
+            Reason::NoOrder {
+                operation: Operation::TimedWait,
+                mutex: 0,
+                reply: Reply::ETIMEDOUT,
+                begin: 3,
+            },
+        ),
+    },
+    // a wait without a limit is never out of time, nor one that is refused; a dead owner is told first
+    Case {
+        text: "history 3 2 1\n1 begin t1 lock m0\n2 return t1 OK\n3 begin t1 wait c0 m0\n4 return t1 ETIMEDOUT\nend 4\n",
+        found: Found::Illegal(
+            5,
+            Reason::NoOrder {
+                operation: Operation::Wait,
+                mutex: 0,
+                reply: Reply::ETIMEDOUT,
+                begin: 3,
+            },
+        ),
+    },
+    Case {
+        text: "history 3 2 1\n1 begin t1 timedwait c0 m0\n2 return t1 ETIMEDOUT\nend 2\n",
+        found: Found::Illegal(
+            3,
+            Reason::NoOrder {
+                operation: Operation::TimedWait,
+                mutex: 0,
+                reply: Reply::ETIMEDOUT,
+                begin: 1,
+            },
+        ),
+    },
+    Case {
+        text: "history 3 2 1\n1 begin t1 timedwait c0 m0\n2 return t1 EPERM\nend 2\n",
+        found: Found::Legal(1),
+    },
+    Case {
+        text: "history 3 2 1\n1 begin t1 lock m0\n2 return t1 OK\n3 begin t1 timedwait c0 m0\n4 begin t2 lock m0\n5 return t2 OK\n6 kill t2\n7 return t1 ETIMEDOUT\nend 7\n",
+        found: Found::Illegal(
+            8,
+            Reason::NoOrder {
+                operation: Operation::TimedWait,
+                mutex: 0,
+                reply: Reply::ETIMEDOUT,
+                begin: 3,
+            },
+        ),
     },
     // a wait is refused where the mutex is inconsistent
     Case {

@@ -32,7 +32,7 @@ use Rattle.protocol.specs.declared.thread.Thread.{Thread}
 use Rattle.protocol.specs.declared.thread.Stage.{Stage}
 use Rattle.protocol.specs.declared.thread.Stage.TheVariants.{Idle, Calling, AtCondition, Dying, Reaped}
 use Rattle.protocol.specs.declared.note.Note.{Note}
-use Rattle.protocol.specs.Machine.{State, After, put, idle, start, is_valid, has_thread, may_begin, may_reinit, may_remake, waiters_of, first_stage, begun, nothing, is_alive, is_gone, killed, renewed, reinited, departed, declined, expired, is_timed, lapsed, spared, is_asleep, is_trim, sleeps, led, went, stepped, answer_of, happens, run, notes}
+use Rattle.protocol.specs.Machine.{State, After, put, idle, start, is_valid, has_thread, may_begin, may_reinit, may_remake, waiters_of, first_stage, begun, nothing, is_alive, is_gone, killed, renewed, reinited, departed, declined, expired, is_timed, lapsed, overslept, waits_on, spared, is_asleep, is_trim, sleeps, led, went, stepped, answer_of, happens, run, notes}
 use Rattle.protocol.specs.Machine.{Led, led_at, another_answers, is_mark, may_recount, recounted, repeated, repeating, resleeping, reslept, sparing, stands_in, wakes_next, wakes_one}
 use Rattle.stepprograms.specs.declared.access.Answer.TheVariants.{Count}
 use Rattle.condvar.specs.Calls.{condition_of}
@@ -166,8 +166,13 @@ stays s (Expire t) = go (has_thread s t) (s.threads t).stage
     lapses o p true h = absurd cc
     lapses o p false h = refl
 
+    oversleeps : (k : ℕ) (p : Whole) (a : Bool) → is_nothing (if a then overslept s t (s.threads t).held k p else nothing s).note ≡ true → (if a then overslept s t (s.threads t).held k p else nothing s).state ≡ s
+    oversleeps k p true h = absurd cc
+    oversleeps k p false h = refl
+
     go : (b : Bool) (g : Stage) → is_nothing (if b then expired s t (s.threads t).held g else nothing s).note ≡ true → (if b then expired s t (s.threads t).held g else nothing s).state ≡ s
-    go true (Calling o p) h = lapses o p (is_timed o && may_expire p.phase && sleeps s t (Calling o p)) h
+    go true (Calling (OnMutex c) p) h = lapses (OnMutex c) p (is_timed (OnMutex c) && may_expire p.phase && sleeps s t (Calling (OnMutex c) p)) h
+    go true (Calling (OnCondition c) p) h = oversleeps (condition_of c) p (is_timed (OnCondition c) && waits_on s t (condition_of c)) h
     go true g h = refl
     go false g h = refl
 stays s (Decline t) = go (has_thread s t) (s.threads t).stage

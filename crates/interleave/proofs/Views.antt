@@ -37,7 +37,7 @@ use Rattle.protocol.specs.declared.thread.Thread.{Thread}
 use Rattle.protocol.specs.declared.thread.Stage.{Stage}
 use Rattle.protocol.specs.declared.thread.Stage.TheVariants.{Calling}
 use Rattle.protocol.specs.declared.note.Note.TheVariants.{Stepped}
-use Rattle.condvar.specs.Ops.{mutex_of, is_in}
+use Rattle.condvar.specs.Ops.{mutex_of, may_call}
 use Rattle.protocol.specs.Machine.{State, After, Led, put, idle, is_valid, place_met, is_met, joined, queue_after, woken_by, moved_by, answer_of, words_after, queues_after, falls_asleep, woken, moved, slept_in, has_thread, is_idle, places_of, stands_in, may_begin, first_stage, begun, nothing, went, stepped, stage_after, returned, led, stage_at, returned_at, led_at, decided_at, reply_at, held_after, decision, happens}
 use Rattle.protocol.proofs.Puts.{by_put}
 use Rattle.protocol.proofs.Steps.{unmoved}
@@ -47,7 +47,7 @@ use Rattle.interleave.specs.declared.calls.InCall.{InCall}
 use Rattle.interleave.specs.declared.calls.InCall.TheVariants as in_call
 use Rattle.interleave.specs.Calls.{access_of, led_by, op_of, progress_behind, queue_in, stage_behind, stage_of}
 use Rattle.interleave.specs.Shown.{thread_at, state_at}
-use Rattle.interleave.specs.Perform.{Performs, list_words, list_met, list_joined, point_in, held_with, decision_with, reply_in, stage_in, stage_at_in}
+use Rattle.interleave.specs.Perform.{Performs, list_words, list_met, list_joined, point_in, held_with, decision_with, reply_in, replying, stage_in, stage_at_in}
 
 -- a word that is set in the list is put in the state
 pub words-set : (ws : List ℕ) (k v : ℕ) → k < length ws → (λ p. slice_index (slice_set ws k v) p) ≡ put (λ p. slice_index ws p) k v
@@ -76,7 +76,7 @@ threads-set ts k t x e lt = fun_ext (thread_at-set ts k t x e lt)
 -- ---- a call begins
 
 -- a begin of a thread in no call
-pub begin_ran : (l : Layout') (ws : List ℕ) (kernel : Kernel') (ts : List Thread) (t : ℕ) (o : Op) (r : Result Stage Reply) (th : Thread) → 1 ≤ t → t ≤ l.threads → is_in l o ≡ true
+pub begin_ran : (l : Layout') (ws : List ℕ) (kernel : Kernel') (ts : List Thread) (t : ℕ) (o : Op) (r : Result Stage Reply) (th : Thread) → 1 ≤ t → t ≤ l.threads → may_call l o ≡ true
     → thread_at ts t ≡ th → is_idle th.stage ≡ true → first_stage l t th.held o ≡ r → happens (state_at l ws kernel ts) (Begin t o) ≡ begun (state_at l ws kernel ts) t o r
 begin_ran l ws kernel ts t o r th pos known inside e rests starts =
     let s : State = state_at l ws kernel ts in
@@ -86,7 +86,7 @@ begin_ran l ws kernel ts t o r th pos known inside e rests starts =
     ∙ ap (begun s t o) (ap (λ (z : Thread). first_stage l t z.held o) e ∙ starts)
 
 -- the state after one that isn't refused
-pub begin_state : (l : Layout') (ws : List ℕ) (kernel : Kernel') (ts : List Thread) (k t : ℕ) (o : Op) (g : Stage) (th : Thread) → 1 ≤ t → t ≤ l.threads → k + 1 ≡ t → length ts ≡ l.threads → is_in l o ≡ true
+pub begin_state : (l : Layout') (ws : List ℕ) (kernel : Kernel') (ts : List Thread) (k t : ℕ) (o : Op) (g : Stage) (th : Thread) → 1 ≤ t → t ≤ l.threads → k + 1 ≡ t → length ts ≡ l.threads → may_call l o ≡ true
     → thread_at ts t ≡ th → is_idle th.stage ≡ true → first_stage l t th.held o ≡ Ok g
     → state_at l ws kernel (slice_set ts k (record { stage = g; held = th.held })) ≡ (happens (state_at l ws kernel ts) (Begin t o)).state
 begin_state l ws kernel ts k t o g th pos known at len inside e rests starts =
@@ -178,7 +178,7 @@ decision-with t m op (Some p) = refl
 
 -- of a mutex's program
 module _ (o : Op) (p : Whole) where
-  stage-of : (pt : Option Point) (f : Phase) → stage_in o (record p { phase = f }) (progress_in pt f) ≡ stage_after o p f
+  stage-of : (pt : Option Point) (f : Phase) → stage_in o (record p { phase = f }) (replying o (progress_in pt f)) ≡ stage_after o p f
   stage-of pt (Announcing r) = refl
   stage-of pt (AtCell r) = refl
   stage-of pt (Linking l x) = refl
@@ -186,7 +186,7 @@ module _ (o : Op) (p : Whole) where
   stage-of pt (Clearing x) = refl
   stage-of pt (Ended x) = refl
 
-  returned-of : (pt : Option Point) (f : Phase) → reply_in (progress_in pt f) ≡ returned f
+  returned-of : (pt : Option Point) (f : Phase) → reply_in (replying o (progress_in pt f)) ≡ returned o f
   returned-of pt (Announcing r) = refl
   returned-of pt (AtCell r) = refl
   returned-of pt (Linking l x) = refl
@@ -194,7 +194,7 @@ module _ (o : Op) (p : Whole) where
   returned-of pt (Clearing x) = refl
   returned-of pt (Ended x) = refl
 
-  point-of : (pt : Option Point) (f : Phase) → point_in (progress_in pt f) ≡ pt
+  point-of : (pt : Option Point) (f : Phase) → point_in (replying o (progress_in pt f)) ≡ pt
   point-of pt (Announcing r) = refl
   point-of pt (AtCell r) = refl
   point-of pt (Linking l x) = refl
@@ -249,7 +249,7 @@ pub record IsMade (t m before : ℕ) (g : Led) (made : Made) : Type 0 where
   pub point : made.point ≡ decision t m g.operation g.point
   pub returned : made.returned ≡ g.returned
 
-pub made_called : (t m held : ℕ) (o : Op) (p p' : Whole) (g : Onward) (pr : Progress) → p' ≡ whole_moved p g → pr ≡ whole_progress p g
+pub made_called : (t m held : ℕ) (o : Op) (p p' : Whole) (g : Onward) (pr : Progress) → p' ≡ whole_moved p g → pr ≡ replying o (whole_progress p g)
     → IsMade t m held (led o p g) (record { stage = stage_in o p' pr; held = held_with held (point_in pr); point = decision_with t m (point_in pr); returned = reply_in pr })
 made_called t m held o p p' g pr moves says =
     let point : point_in pr ≡ whole_point p g.point = ap point_in says ∙ point-of o p (whole_point p g.point) g.phase in
@@ -266,8 +266,8 @@ made_at t m held c p p' g pr moves says =
     let point : point_in pr ≡ g.point = ap point_in says ∙ point-at c p g.point g.phase in
     record {
       stage = (λ i. stage_at_in c (moves i) (says i)) ∙ stage-at c p g.point g.phase;
-      held = ap (held_with held) point ∙ held-with (conditions.operation_of c) held g.point;
-      point = ap (decision_with t m) point ∙ decision-with t m (conditions.operation_of c) g.point;
+      held = ap (held_with held) point ∙ held-with (conditions.acts_as c) held g.point;
+      point = ap (decision_with t m) point ∙ decision-with t m (conditions.acts_as c) g.point;
       returned = ap reply_in says ∙ returned-at c p g.point g.phase;
     }
 
@@ -325,7 +325,7 @@ goes_called s t held o p g is awake =
 -- what the code makes of an answer is what the definition makes of it
 pub made_by : (t m held : ℕ) (k : InCall) (x : Answer)
     → IsMade t m held (led_by k x) (record { stage = stage_behind k x; held = held_with held (point_in (progress_behind k x)); point = decision_with t m (point_in (progress_behind k x)); returned = reply_in (progress_behind k x) })
-made_by t m held (in_call.Calling o p) x = made_called t m held o p (whole_moved p (whole_led p x)) (whole_led p x) (whole_progress p (whole_led p x)) refl refl
+made_by t m held (in_call.Calling o p) x = made_called t m held o p (whole_moved p (whole_led p x)) (whole_led p x) (replying o (whole_progress p (whole_led p x))) refl refl
 made_by t m held (in_call.AtCondition c p) x = made_at t m held c p (condition.cond_moved p (condition.cond_led p x)) (condition.cond_led p x) (condition.cond_progress (condition.cond_led p x)) refl refl
 
 -- a thread that stands in no queue makes its next access

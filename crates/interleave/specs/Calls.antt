@@ -13,7 +13,7 @@ use Rattle.facts.specs.declared.fact.Queue.TheVariants.{Mutex, Condition}
 use Rattle.protocol.specs.declared.thread.Stage.{Stage}
 use Rattle.protocol.specs.declared.thread.Stage.TheVariants as stage
 use Rattle.protocol.specs.Machine.{Led, led, led_at}
-use Rattle.interleave.specs.Perform.{stage_in, stage_at_in}
+use Rattle.interleave.specs.Perform.{replying, stage_in, stage_at_in}
 use Rattle.interleave.specs.declared.calls.InCall.{InCall}
 use Rattle.interleave.specs.declared.calls.InCall.TheVariants.{Calling, AtCondition}
 
@@ -47,12 +47,13 @@ abbrev pub led_by : InCall → Answer → Led
 led_by (Calling o p) x = led o p (whole_led p x)
 led_by (AtCondition c p) x = led_at c p (condition.cond_led p x)
 
--- and as its program tells it
+-- and as its program and its call tell it
 abbrev pub progress_behind : InCall → Answer → Progress
-progress_behind (Calling o p) x = whole_progress p (whole_led p x)
+progress_behind (Calling o p) x = replying o (whole_progress p (whole_led p x))
 progress_behind (AtCondition c p) x = condition.cond_progress (condition.cond_led p x)
 
 abbrev pub stage_behind : InCall → Answer → Stage
-stage_behind (Calling o p) x = stage_in o (whole_moved p (whole_led p x)) (whole_progress p (whole_led p x))
+stage_behind (Calling o p) x =
+    stage_in o (whole_moved p (whole_led p x)) (replying o (whole_progress p (whole_led p x)))
 stage_behind (AtCondition c p) x =
     stage_at_in c (condition.cond_moved p (condition.cond_led p x)) (condition.cond_progress (condition.cond_led p x))

@@ -17,6 +17,7 @@ use Rattle.posixmutex.specs.declared.point.Decision.{Decision}
 use Rattle.condvar.specs.declared.call.CondCall.{CondCall}
 use Rattle.condvar.specs.Standings.{CondWhole}
 use Rattle.condvar.specs.Whole.{lock_of}
+use Rattle.condvar.specs.Ops.{reply_of}
 use Rattle.condvar.specs.declared.op.Op.{Op}
 use Rattle.condvar.specs.declared.op.Op.TheVariants.{OnCondition}
 use Rattle.mutex.specs.Standings.{Whole}
@@ -119,6 +120,11 @@ held_with held (Some p) = held_after held p.operation (Some p.reply)
 abbrev pub decision_with : ℕ → ℕ → Option Point → Option Decision
 decision_with t m None = None
 decision_with t m (Some p) = decision t m p.operation (Some p.reply)
+
+-- where a call's program returns, it is the call that says with what, since that knows whether it is out of time
+abbrev pub replying : Op → Progress → Progress
+replying o (Goes point) = Goes point
+replying o (Returns x point) = Returns (reply_of o x) point
 
 abbrev pub reply_in : Progress → Option Reply
 reply_in (Goes point) = None

@@ -2,7 +2,7 @@
 ghost use Rattle.std.specs.Prelude.{◌≡◌};
 ghost use Rattle.interleave.specs.Calls.{access_of, op_of, progress_behind, queue_in, stage_behind, IsGoing};
 
-use crate::threads::{stage_after, stage_at};
+use crate::threads::{replied, stage_after, stage_at};
 use condvar::{CondCall, CondProgram, Op};
 use facts::Queue;
 use mutex::Program;
@@ -59,7 +59,7 @@ impl InCall {
         match *self {
             InCall::Calling(op, program) => {
                 let mut program = program;
-                let progress = program.resume(answer);
+                let progress = replied(op, program.resume(answer));
                 (stage_after(op, &program, &progress), progress)
             }
             InCall::AtCondition(call, program) => {

@@ -8,7 +8,7 @@ ghost use Rattle.interleave.specs.Steps.{MayStep, SleepsInItsCall};
 ghost use Rattle.std.specs.Prelude.{ℕ};
 
 use crate::accesses::quiet;
-use crate::threads::{held_after, point, stage_after, stepped};
+use crate::threads::{held_after, point, replied, stage_after, stepped};
 use facts::Queue;
 use lockword::Tid;
 use memorymap::Layout;
@@ -70,7 +70,8 @@ pub(crate) fn decline(
         return Note::Nothing;
     };
     let done = quiet(Answer::Trimmed(false));
-    let progress = program.resume(done.answer);
+    let told = program.resume(done.answer);
+    let progress = replied(op, told);
     threads[index] = Thread {
         stage: stage_after(op, &program, &progress),
         held: held_after(held, point(&progress)),

@@ -20,7 +20,7 @@ use stepprograms::StepProgram;
 use syscalls::{Kernel, Memory, PlainMemory};
 
 /// Whether the thread is one of those who sleep there.
-fn stands_in(thread: Tid, sleepers: &Batch) -> bool
+pub(crate) fn stands_in(thread: Tid, sleepers: &Batch) -> bool
     ensures { result ≡ stands_in thread sleepers.now }
 {
     for place in 0..sleepers.len() {

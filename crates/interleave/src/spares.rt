@@ -16,7 +16,7 @@ ghost use Rattle.interleave.specs.Steps.{IsOnItsWay, MayStep, SleepsInItsCall};
 
 use crate::accesses::{quiet, word_at};
 use crate::ops::mutex_of;
-use crate::threads::{held_after, point, stage_after, stage_at, stepped};
+use crate::threads::{held_after, point, replied, stage_after, stage_at, stepped};
 use condvar::{CondCall, CondPhase, CondProgram, CondRow, Op, WaitRow};
 use exitwalk::{Row as WalkRow, Walk};
 use facts::Queue;
@@ -212,7 +212,8 @@ fn spare_unlock(
 {
     let mut program = program;
     let done = quiet(Answer::Count(1));
-    let progress = program.resume(done.answer);
+    let told = program.resume(done.answer);
+    let progress = replied(op, told);
     let index = thread.as_index();
     let held = threads[index].held;
     threads[index] = Thread {

@@ -7,7 +7,7 @@ ghost use Rattle.protocol.specs.declared.note.Note.TheVariants.{Stepped};
 ghost use Rattle.condvar.specs.Ops.{is_in};
 ghost use Rattle.syscalls.specs.Kernels.{IsAwake, Kernel', head_of};
 ghost use Rattle.interleave.specs.Calls.{op_of, stage_of, IsGoing};
-ghost use Rattle.interleave.specs.Perform.{decision_with, held_with, point_in, reply_in, stage_at_in, stage_in};
+ghost use Rattle.interleave.specs.Perform.{decision_with, held_with, point_in, replying, reply_in, stage_at_in, stage_in};
 ghost use Rattle.interleave.specs.Shown.{state_at, thread_at};
 ghost use Rattle.interleave.specs.Steps.{MayStep, SleepsInItsCall};
 
@@ -38,6 +38,20 @@ pub(crate) fn point(progress: &Progress) -> Option<Point>
 {
     match *progress {
         Progress::Goes { point } | Progress::Returns { point, .. } => point,
+    }
+}
+
+/// How far an access of its program brought a call: where it returns, it is the call that says with what, since that
+/// knows whether it is out of time.
+pub(crate) fn replied(op: Op, progress: Progress) -> Progress
+    ensures { result ≡ replying op progress }
+{
+    match progress {
+        Progress::Goes { .. } => progress,
+        Progress::Returns { reply, point } => Progress::Returns {
+            reply: op.reply(reply),
+            point,
+        },
     }
 }
 
@@ -186,7 +200,7 @@ fn begin(layout: &Layout, threads: &mut Vec<Thread>, thread: Tid, op: Op) -> Not
         → result ≡ (happens (state_at layout.now ws k threads.old.items) (Begin thread op)).note }
     ensures threads { length threads.new.items ≡ length threads.old.items }
 {
-    if layout.threads() < thread.get() || !op.is_in(layout) {
+    if layout.threads() < thread.get() || !op.may_begin(layout) {
         return Note::Nothing;
     }
     let index = thread.as_index();

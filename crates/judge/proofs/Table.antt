@@ -1,12 +1,13 @@
 -- No step of an object gives a call a reply that isn't its operation's.
-use Rattle.std.proofs.Common.{◌≡◌, ◌≢◌, ℕ, ◌&&◌, Bool, true, false, nat_le, MatchBool, Some, List, refl, sym, subst, arith}
-use Rattle.std.specs.Prelude.{Contains}
+use Rattle.std.proofs.Common.{◌≡◌, ◌≢◌, ◌⊎◌, inl, inr, ℕ, zero, suc, ◌<◌, ◌&&◌, Bool, true, false, nat_le, MatchBool, Some, List, refl, sym, subst, arith}
+use Rattle.std.specs.Prelude.{Contains, slice_index_or}
 use Rattle.lockword.specs.declared.reply.Reply.{Reply}
 use Rattle.lockword.specs.declared.reply.Reply.TheVariants.{OK, EPERM, EBUSY, EINVAL, EDEADLK, ETIMEDOUT, EOWNERDEAD, ENOTRECOVERABLE, XRACED, XHELD, XFULL, XSTATE}
 use Rattle.posixmutex.specs.declared.object.Object.{Object}
 use Rattle.posixmutex.specs.declared.point.Operation.{Operation}
-use Rattle.posixmutex.specs.declared.point.Operation.TheVariants.{Lock, TryLock, TimedLock, Unlock, Consistent, Wait, Signal, Broadcast, Death, Reinit}
+use Rattle.posixmutex.specs.declared.point.Operation.TheVariants.{Lock, TryLock, TimedLock, Unlock, Consistent, Wait, TimedWait, Signal, Broadcast, Death, Reinit}
 use Rattle.posixmutex.specs.Objects.{Does, Permits, acquires}
+use Rattle.facts.specs.Lives.{MayReturn}
 use Rattle.judge.specs.Replies.{PointsHaveTheseReplies, replies_of}
 
 permitted : (o : Object) (t : ℕ) (op : Operation) (x : Reply) (n : Object) → op ≢ Death → Permits o t op x n → Contains (replies_of op) x
@@ -73,5 +74,18 @@ waits o t EOWNERDEAD n other p = (2, omega arith, refl)
 waits o t ENOTRECOVERABLE n other p = (3, omega arith, refl)
 waits o t x n other p = absurd p
 
+-- those of a wait are among those of one with a time limit
+among : (k : ℕ) (y : Reply) → k < 5 → slice_index_or (replies_of Wait) k y ≡ y → Contains (replies_of TimedWait) y
+among zero y low is = subst (Contains (replies_of TimedWait)) is (0, omega arith, refl)
+among (suc zero) y low is = subst (Contains (replies_of TimedWait)) is (1, omega arith, refl)
+among (suc (suc zero)) y low is = subst (Contains (replies_of TimedWait)) is (3, omega arith, refl)
+among (suc (suc (suc zero))) y low is = subst (Contains (replies_of TimedWait)) is (4, omega arith, refl)
+among (suc (suc (suc (suc zero)))) y low is = subst (Contains (replies_of TimedWait)) is (5, omega arith, refl)
+among (suc (suc (suc (suc (suc k))))) y low is = absurd (omega (arith, low))
+
+limits : (y x : Reply) → Contains (replies_of Wait) y → MayReturn TimedWait y x → Contains (replies_of TimedWait) x
+limits y x has (inl is) = subst (Contains (replies_of TimedWait)) (sym is) (among has.0 y has.1 has.2)
+limits y x has (inr late) = subst (Contains (replies_of TimedWait)) (sym late.1) (2, omega arith, refl)
+
 pub replies_are_these : PointsHaveTheseReplies
-replies_are_these = record { own = own; timed = timed; waits = waits }
+replies_are_these = record { own = own; timed = timed; waits = waits; limits = limits }

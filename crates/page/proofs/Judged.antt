@@ -1,5 +1,5 @@
 -- A page's states are the judge's.
-use Rattle.std.proofs.Common.{◌≡◌, inl, inr, ℕ, ◌+◌, ◌-◌, ◌<◌, ◌≤◌, ◌⊎◌, Bool, true, false, cond, Option, Some, None, List, [], ◌∷◌, length, refl, sym, ap, subst, ◌∙◌, arith, get_or-set_same, get_or-set_other}
+use Rattle.std.proofs.Common.{◌≡◌, ⊎_elim, inl, inr, ℕ, ◌+◌, ◌-◌, ◌<◌, ◌≤◌, ◌⊎◌, Bool, true, false, cond, Option, Some, None, List, [], ◌∷◌, length, refl, sym, ap, subst, ◌∙◌, arith, get_or-set_same, get_or-set_other}
 use Rattle.std.specs.Prelude.{◌==◌, slice_set, if◌then◌else◌}
 use Rattle.std.specs.Option.{is_some}
 use Rattle.std.specs.List.{count_by}
@@ -10,7 +10,7 @@ use mathlib.Core.Path.{fun_ext}
 use Rattle.lockword.specs.declared.reply.Reply.{Reply}
 use Rattle.posixmutex.specs.declared.object.Object.{Object}
 use Rattle.posixmutex.specs.declared.point.Operation.{Operation}
-use Rattle.posixmutex.specs.declared.point.Operation.TheVariants.{TimedLock, Unlock, Wait}
+use Rattle.posixmutex.specs.declared.point.Operation.TheVariants.{TimedLock, Unlock, Wait, TimedWait}
 use Rattle.posixmutex.specs.Objects.{fresh}
 use Rattle.facts.specs.declared.fact.Queue.{Queue}
 use Rattle.facts.specs.declared.fact.Queue.TheVariants.{Mutex}
@@ -46,14 +46,19 @@ nowhere (Some b) e = absurd cc
 
 point_next : (a : Operation) (made : Made) (b : Operation) (x : Reply) (p : Option Act) → IsPointOf a made p → MayPoint a made b x → IsPointOf a (pointed a b x) (Some (b, x))
 point_next Wait Nothing Wait x p h m = inl refl
-point_next Wait Nothing Unlock x p h m = (refl, ap (λ (y : Reply). Some (Unlock, y)) m)
+point_next Wait Nothing Unlock x p h m = (inl refl, ap (λ (y : Reply). Some (Unlock, y)) m)
 point_next Wait Nothing b x p h m = absurd cc
-point_next Wait Released b x p h m = subst (λ (r : Operation). IsPointOf Wait (pointed Wait r x) (Some (r, x))) (sym m) (inr (inl refl, refl))
+point_next Wait Released b x p h m = subst (λ (r : Operation). IsPointOf Wait (pointed Wait r x) (Some (r, x))) (sym m) (inr (inl (inl (inl refl), refl)))
 point_next Wait (Decided y) b x p h m = absurd m
+point_next TimedWait Nothing Wait x p h m = inr (inr (refl, refl))
+point_next TimedWait Nothing Unlock x p h m = (inr refl, ap (λ (y : Reply). Some (Unlock, y)) m)
+point_next TimedWait Nothing b x p h m = absurd m
+point_next TimedWait Released b x p h m = subst (λ (r : Operation). IsPointOf TimedWait (pointed TimedWait r x) (Some (r, x))) (sym m) (inr (inl (inl (inr refl), refl)))
+point_next TimedWait (Decided y) b x p h m = absurd m
 point_next TimedLock Nothing b x p h (inl m) = inl (ap (λ (o : Operation). Some (o, x)) m)
-point_next TimedLock Nothing b x p h (inr m) = subst (λ (r : Operation). IsPointOf TimedLock (pointed TimedLock r x) (Some (r, x))) (sym m) (inr (inr refl, refl))
+point_next TimedLock Nothing b x p h (inr m) = subst (λ (r : Operation). IsPointOf TimedLock (pointed TimedLock r x) (Some (r, x))) (sym m) (inr (inl (inr refl, refl)))
 point_next a Nothing b x p h m = inl (ap (λ (o : Operation). Some (o, x)) m)
-point_next a Released b x p h m = let e : a ≡ Wait = h.0 in absurd cc
+point_next a Released b x p h m = ⊎_elim (λ (e : a ≡ Wait). absurd cc) (λ (e : a ≡ TimedWait). absurd cc) h.0
 point_next a (Decided y) b x p h m = absurd m
 
 -- what a fact makes of a status goes with what it makes of the stage

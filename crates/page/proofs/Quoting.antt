@@ -109,6 +109,7 @@ operation_fine operation.TimedLock = refl
 operation_fine operation.Unlock = refl
 operation_fine operation.Consistent = refl
 operation_fine operation.Wait = refl
+operation_fine operation.TimedWait = refl
 operation_fine operation.Signal = refl
 operation_fine operation.Broadcast = refl
 operation_fine operation.Death = refl

@@ -13,7 +13,8 @@ use Rattle.std.specs.Option.{is_some}
 use Rattle.std.specs.List.{count_by}
 use Rattle.lockword.specs.declared.reply.Reply.TheVariants.{OK}
 use Rattle.posixmutex.specs.declared.point.Operation.{Operation}
-use Rattle.posixmutex.specs.declared.point.Operation.TheVariants.{Lock, TimedLock, Unlock, Wait}
+use Rattle.posixmutex.specs.declared.point.Operation.TheVariants.{Lock, TimedLock, Unlock, Wait, TimedWait}
+use Rattle.facts.specs.Lives.{IsWait}
 use Rattle.posixmutex.specs.Objects.{fresh}
 use Rattle.facts.specs.declared.fact.Queue.{Queue}
 use Rattle.facts.specs.declared.fact.Queue.TheVariants.{Mutex}
@@ -62,11 +63,13 @@ HasTaken h (e ∷ es) j = (i : Judge) × HasTaken h es i × IsOf h e × Accepts 
 -- ---- a status and a stage
 
 -- the newest point of a call of this operation of which these are made: none; the release of a wait; or the one that
--- decided the call's reply: of its own operation, or a lock, that of a wait or of a lock before its time limit
+-- decided the call's reply: of its own operation, or a lock, that of a wait or of a lock before its time limit, or a
+-- wait, as which one with a time limit is refused
 abbrev pub IsPointOf : Operation → Made → Option Act → Type 0
 IsPointOf a Nothing p = p ≡ None
-IsPointOf a Released p = (a ≡ Wait) × (p ≡ Some (Unlock, OK))
-IsPointOf a (Decided x) p = (p ≡ Some (a, x)) ⊎ (((a ≡ Wait) ⊎ (a ≡ TimedLock)) × (p ≡ Some (Lock, x)))
+IsPointOf a Released p = IsWait a × (p ≡ Some (Unlock, OK))
+IsPointOf a (Decided x) p = (p ≡ Some (a, x)) ⊎ ((IsWait a ⊎ (a ≡ TimedLock)) × (p ≡ Some (Lock, x)))
+    ⊎ ((a ≡ TimedWait) × (p ≡ Some (Wait, x)))
 
 -- a status in no call has no point and no bed
 pub record IsIdle (s : Status) : Type 0 where

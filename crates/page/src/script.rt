@@ -74,7 +74,7 @@ function does([, killed, reaped, called_, point, bed]) {
   if (reaped) return "reaped";
   if (killed) return "dying";
   if (!called_) return "idle";
-  const answered = !point ? "" : point[0] === "unlock" && called_[0] === "wait" ? ", which has released it" : ", answered " + point[1];
+  const answered = !point ? "" : point[0] === "unlock" && called_[0].endsWith("wait") ? ", which has released it" : ", answered " + point[1];
   return (bed ? "asleep on " + queue(bed) + ", in " : "in ") + call(called_) + answered;
 }
 

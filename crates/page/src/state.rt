@@ -60,7 +60,7 @@ fn stepped(object: Object, decision: &Decision) -> Object
             Reply::OK => Object::new(),
             _ => object,
         },
-        Operation::TimedLock | Operation::Wait => object,
+        Operation::TimedLock | Operation::Wait | Operation::TimedWait => object,
         Operation::Signal | Operation::Broadcast => object,
     }
 }

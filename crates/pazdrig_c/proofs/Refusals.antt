@@ -41,6 +41,7 @@ refuses operation.Broadcast k r w s x is refusal = go (is_own k.thread w) refl (
 refuses operation.Death k r w s x is refusal = search rules
 refuses operation.Reinit k r w s x is refusal = search rules
 refuses operation.TimedLock k r w s x is refusal = search rules
+refuses operation.TimedWait k r w s x is refusal = search rules
 
 else_goes_on : (op : Operation) (k : PzCall) (r : Running) (w s : ℕ) → begun (operation_number op) k ≡ Some r → refused op k.thread (fields_of w) s ≡ None → wakes_all op (fields_of w) ≡ false → GoesOnUndecided (progresses r (up_to_look op (is_own k.thread w) w s))
 else_goes_on operation.Lock k r w s is none one = search rules
@@ -53,6 +54,7 @@ else_goes_on operation.Broadcast k r w s is none one = search rules
 else_goes_on operation.Death k r w s is none one = search rules
 else_goes_on operation.Reinit k r w s is none one = search rules
 else_goes_on operation.TimedLock k r w s is none one = search rules
+else_goes_on operation.TimedWait k r w s is none one = search rules
 
 loads : (op : Operation) (k : PzCall) (own : Bool) → k.cell ≢ pending_place k.head → LoadAlike (refusal_plan op own k.head k.entry k.cell k.counter)
 loads operation.Lock k own apart words = λ i. sym (elsewhere k.cell (pending_place k.head) k.entry (words k.cell) apart) i ∷ []

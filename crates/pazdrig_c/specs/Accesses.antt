@@ -50,6 +50,7 @@ operation_number operation.Broadcast = 6
 operation_number operation.Death = 7
 operation_number operation.Reinit = 8
 operation_number operation.TimedLock = 9
+operation_number operation.TimedWait = 10
 
 abbrev pub plain : ℕ → ℕ → ℕ → ℕ → ℕ → ℕ → PzAccess
 plain kind at a b most wakes =

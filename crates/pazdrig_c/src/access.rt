@@ -107,6 +107,7 @@ fn numbered(operation: Operation) -> u8
         Operation::Death => 7,
         Operation::Reinit => 8,
         Operation::TimedLock => 9,
+        Operation::TimedWait => 10,
     }
 }
 

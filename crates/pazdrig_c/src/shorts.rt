@@ -184,6 +184,7 @@ fn numbered(operation: u32) -> Option<Operation>
         7 => Some(Operation::Death),
         8 => Some(Operation::Reinit),
         9 => Some(Operation::TimedLock),
+        10 => Some(Operation::TimedWait),
         _ => None,
     }
 }
@@ -200,7 +201,7 @@ fn refused(operation: Operation, thread: Tid, cell: Cell, count: u64) -> Option<
         Operation::TryLock if cell.unusable() => Some(Reply::ENOTRECOVERABLE),
         Operation::TryLock if cell.owner() != 0 => Some(Reply::EBUSY),
         Operation::Lock | Operation::TryLock | Operation::TimedLock => None,
-        Operation::Death | Operation::Reinit => None,
+        Operation::TimedWait | Operation::Death | Operation::Reinit => None,
         _ if !own => Some(Reply::EPERM),
         Operation::Consistent if !cell.owner_died() => Some(Reply::EINVAL),
         Operation::Wait if cell.owner_died() => Some(Reply::XSTATE),

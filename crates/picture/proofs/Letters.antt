@@ -79,6 +79,7 @@ operation_letters op.TimedLock = record { single = refl; few = omega arith }
 operation_letters op.Unlock = record { single = refl; few = omega arith }
 operation_letters op.Consistent = record { single = refl; few = omega arith }
 operation_letters op.Wait = record { single = refl; few = omega arith }
+operation_letters op.TimedWait = record { single = refl; few = omega arith }
 operation_letters op.Signal = record { single = refl; few = omega arith }
 operation_letters op.Broadcast = record { single = refl; few = omega arith }
 operation_letters op.Death = record { single = refl; few = omega arith }

@@ -2,7 +2,7 @@
 use Rattle.std.proofs.Common.{◌≡◌, ℕ, Some, List, refl}
 use Rattle.lockword.proofs.Names.{named}
 use Rattle.posixmutex.specs.declared.point.Operation.{Operation}
-use Rattle.posixmutex.specs.declared.point.Operation.TheVariants.{Lock, TryLock, TimedLock, Unlock, Consistent, Wait, Signal, Broadcast, Death, Reinit}
+use Rattle.posixmutex.specs.declared.point.Operation.TheVariants.{Lock, TryLock, TimedLock, Unlock, Consistent, Wait, TimedWait, Signal, Broadcast, Death, Reinit}
 use Rattle.posixmutex.specs.Words.{OperationsAreReadBack, all_operations, operation_of, operation_word}
 
 back : (op : Operation) → operation_of (operation_word op) ≡ Some op
@@ -13,6 +13,7 @@ back TimedLock = refl
 back Unlock = refl
 back Consistent = refl
 back Wait = refl
+back TimedWait = refl
 back Signal = refl
 back Broadcast = refl
 back Death = refl

@@ -20,7 +20,7 @@ use Rattle.lockword.specs.declared.reply.Reply.TheVariants.{OK, EPERM, EBUSY, EI
 use Rattle.lockword.specs.declared.reply.Reply.TheVariants.{EOWNERDEAD, ENOTRECOVERABLE, XRACED, XHELD, XFULL, XSTATE}
 use Rattle.posixmutex.specs.declared.point.Operation.{Operation}
 use Rattle.posixmutex.specs.declared.point.Operation.TheVariants.{Lock, TryLock, TimedLock, Unlock, Consistent}
-use Rattle.posixmutex.specs.declared.point.Operation.TheVariants.{Wait, Signal, Broadcast, Death, Reinit}
+use Rattle.posixmutex.specs.declared.point.Operation.TheVariants.{Wait, TimedWait, Signal, Broadcast, Death, Reinit}
 use Rattle.posixmutex.specs.declared.point.Point.{Point}
 use Rattle.posixmutex.specs.declared.object.Object.{Object}
 
@@ -42,7 +42,8 @@ bereaved o = record { owner = None; inconsistent = true; unusable = o.unusable }
 
 -- from the old object, thread t's operation may reply so and leave the new one: one clause for each operation and
 -- reply. A call with a time limit is a lock, or out of time, which changes nothing: that another thread owned the mutex
--- at some moment of the call is a matter of a trace's lines, since that moment may be past
+-- at some moment of the call is a matter of a trace's lines, since that moment may be past. A wait with a time limit has
+-- no point of its own: it is a wait
 abbrev pub Permits : Object → ℕ → Operation → Reply → Object → Type 0
 Permits o t Lock OK n = (o.unusable ≡ false) × (o.owner ≡ None) × (o.inconsistent ≡ false) × (n ≡ owned_by o t)
 Permits o t Lock EOWNERDEAD n = (o.unusable ≡ false) × (o.owner ≡ None) × (o.inconsistent ≡ true) × (n ≡ owned_by o t)
@@ -152,7 +153,8 @@ ChangesHaveReasons = (held : ℕ) (o : Object) (t : ℕ) (op : Operation) (r : R
 -- ---- why replies come
 
 -- a reply to thread t, which holds so many mutexes, of an operation on o: the state in which alone it comes. A wait
--- releases its mutex as an unlock and takes it as a lock, so by itself it only refuses; EPERM is for calls of an owner
+-- releases its mutex as an unlock and takes it as a lock, so by itself it only refuses, with a time limit as without; EPERM
+-- is for calls of an owner
 abbrev pub HasReason : ℕ → Object → ℕ → Operation → Reply → Type 0
 HasReason held o t Lock OK = (o.owner ≡ None) × (o.inconsistent ≡ false) × (o.unusable ≡ false)
 HasReason held o t TryLock OK = (o.owner ≡ None) × (o.inconsistent ≡ false) × (o.unusable ≡ false)
@@ -160,6 +162,7 @@ HasReason held o t Consistent OK = (o.owner ≡ Some t) × (o.inconsistent ≡ t
 HasReason held o t Reinit OK = (o.owner ≡ None) × (o.unusable ≡ true)
 HasReason held o t TimedLock OK = ⊥
 HasReason held o t Wait OK = ⊥
+HasReason held o t TimedWait OK = ⊥
 HasReason held o t op OK = o.owner ≡ Some t
 HasReason held o t op EOWNERDEAD =
     (takes op ≡ true) × (o.owner ≡ None) × (o.inconsistent ≡ true) × (o.unusable ≡ false)
@@ -170,6 +173,7 @@ HasReason held o t op EBUSY = (op ≡ TryLock) × (o.owner ≢ None)
 HasReason held o t Lock EPERM = ⊥
 HasReason held o t TryLock EPERM = ⊥
 HasReason held o t TimedLock EPERM = ⊥
+HasReason held o t TimedWait EPERM = ⊥
 HasReason held o t Death EPERM = ⊥
 HasReason held o t Reinit EPERM = ⊥
 HasReason held o t op EPERM = o.owner ≢ Some t
@@ -195,11 +199,13 @@ abbrev pub ReasonsSuffice : Type 0
 ReasonsSuffice = (held : ℕ) (o : Object) (t : ℕ) (op : Operation) (r : Reply) → HasReason held o t op r
     → ((acquires op && nat_le held_limit held) ≡ true → r ≡ XHELD) → (n : Object) × Does held o t op r n
 
--- what isn't answered: a lock of a mutex that another thread owns, a wait that releases its mutex (as an unlock), a
--- death of who isn't the owner, and a reinit of a mutex that isn't unusable
+-- what isn't answered: a lock of a mutex that another thread owns, a wait that releases its mutex (as an unlock), one
+-- that has a time limit (what it does, and what it is refused, is told as a wait's), a death of who isn't the owner, and
+-- a reinit of a mutex that isn't unusable
 abbrev pub IsUnanswered : Object → ℕ → Operation → Type 0
 IsUnanswered o t Lock = (u : ℕ) × (o.owner ≡ Some u) × (t ≢ u)
 IsUnanswered o t Wait = (o.owner ≡ Some t) × (o.inconsistent ≡ false)
+IsUnanswered o t TimedWait = Unit {0}
 IsUnanswered o t Death = o.owner ≢ Some t
 IsUnanswered o t Reinit = o.unusable ≡ false
 IsUnanswered o t op = ⊥

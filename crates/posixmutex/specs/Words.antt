@@ -6,7 +6,7 @@ use Rattle.std.specs.Prelude.{ℕ, ◌≡◌, List, [], ◌∷◌, Option, Some,
 use Rattle.std.specs.Str.{bytes_eq}
 use Rattle.posixmutex.specs.declared.point.Operation.{Operation}
 use Rattle.posixmutex.specs.declared.point.Operation.TheVariants.{Lock, TryLock, TimedLock, Unlock, Consistent}
-use Rattle.posixmutex.specs.declared.point.Operation.TheVariants.{Wait, Signal, Broadcast, Death, Reinit}
+use Rattle.posixmutex.specs.declared.point.Operation.TheVariants.{Wait, TimedWait, Signal, Broadcast, Death, Reinit}
 
 abbrev pub operation_word : Operation → List ℕ
 operation_word Lock = codes "lock"
@@ -15,6 +15,7 @@ operation_word TimedLock = codes "timedlock"
 operation_word Unlock = codes "unlock"
 operation_word Consistent = codes "consistent"
 operation_word Wait = codes "wait"
+operation_word TimedWait = codes "timedwait"
 operation_word Signal = codes "signal"
 operation_word Broadcast = codes "broadcast"
 operation_word Death = codes "death"
@@ -23,7 +24,7 @@ operation_word Reinit = codes "reinit"
 -- every operation
 abbrev pub all_operations : List Operation
 all_operations =
-    Lock ∷ TryLock ∷ TimedLock ∷ Unlock ∷ Consistent ∷ Wait ∷ Signal ∷ Broadcast ∷ Death ∷ Reinit ∷ []
+    Lock ∷ TryLock ∷ TimedLock ∷ Unlock ∷ Consistent ∷ Wait ∷ TimedWait ∷ Signal ∷ Broadcast ∷ Death ∷ Reinit ∷ []
 
 -- the operation that has this word
 unfoldable pub operation_of : List ℕ → Option Operation

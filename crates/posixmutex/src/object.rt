@@ -59,6 +59,7 @@ impl Object {
             Operation::Unlock => self.unlocked(thread, reply),
             Operation::Consistent => self.declared(thread, reply),
             Operation::Wait => self.waited(thread, reply),
+            Operation::TimedWait => None,
             Operation::Signal => self.signalled(thread, reply),
             Operation::Broadcast => self.signalled(thread, reply),
             Operation::Death => self.died(thread, reply),

@@ -19,6 +19,9 @@ pub enum Operation {
     Unlock,
     Consistent,
     Wait,
+    /// A wait that has a time limit (pthread_cond_timedwait(3p)). It has no point of its own: what it does to its mutex, or
+    /// is refused, is a wait's.
+    TimedWait,
     Signal,
     Broadcast,
     /// The owner's death: no call has this operation.
@@ -40,6 +43,7 @@ impl Operation {
             Operation::Unlock => "unlock",
             Operation::Consistent => "consistent",
             Operation::Wait => "wait",
+            Operation::TimedWait => "timedwait",
             Operation::Signal => "signal",
             Operation::Broadcast => "broadcast",
             Operation::Death => "death",
@@ -54,7 +58,7 @@ impl Operation {
 pub struct ParseOperationError;
 
 /// Every operation.
-fn operations() -> array::IntoIter<Operation, 10>
+fn operations() -> array::IntoIter<Operation, 11>
     ensures { array_into_iter_items result ≡ all_operations }
 {
     [
@@ -64,6 +68,7 @@ fn operations() -> array::IntoIter<Operation, 10>
         Operation::Unlock,
         Operation::Consistent,
         Operation::Wait,
+        Operation::TimedWait,
         Operation::Signal,
         Operation::Broadcast,
         Operation::Death,

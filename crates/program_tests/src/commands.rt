@@ -1,32 +1,18 @@
-//! The program from the words of its command line on: files that are there or not, words that aren't text, and what is
-//! told.
+//! `rfx` from the words of its command line on: what it opens, words that aren't text, refused memory.
 
 use crate::served::is_printed_or_wants_memory;
-use report::{CANNOT_READ, OUT_OF_MEMORY, Opener, USAGE, run};
+use report::{OUT_OF_MEMORY, USAGE, run};
 use std::alloc::AllocError;
-use std::fs;
 use std::io::{self, ErrorKind};
 use std::sync::Wait;
 use std::thread::Threads;
 use text_fixtures::{Answered, Fixed, Folder, words};
 
-/// The files of the system.
-#[derive(Drop)]
-struct System<'a>(&'a HostRuntime);
-
-impl Opener for System<'_> {
-    type Input = fs::File;
-
-    fn open(&self, file: &str) -> io::Result<fs::File> {
-        fs::open(self.0, file)
-    }
-}
-
 /// What the program answers these words, or the error of having them, among these files.
-fn answered<F: Opener>(
+fn answered(
     rt: &(impl AllocGlobal + Threads + Wait + Sync),
     words: io::Result<Vec<String>>,
-    files: &F,
+    files: &Folder<'_>,
 ) -> Answered {
     let mut printed = Vec::new(rt.alloc());
     let mut told = Vec::new(rt.alloc());
@@ -39,72 +25,14 @@ const SCRIPT: &str = "thread a\nmutex m\ncall a unlock m\n";
 const TRACE: &str = "trace 1 1 0\n1 begin t1 unlock m0\n2 point t1 m0 unlock EPERM\n\
     2 return t1 EPERM\nend 2\n";
 
-const ILLEGAL: &str = "trace 1 1 0\n1 return t1 OK\nend 1\n";
-
-/// Files, command lines, the status, and what is printed.
-static PRINTED: [(&str, &[&str], u8, &str); 5] = [
-    (SCRIPT, &["rfx", "run", "f"], 0, TRACE),
-    (
-        SCRIPT,
-        &["rfx", "run", "--table", "f"],
-        0,
-        "thread a idle 0 EPERM\nmutex m 0000000000000000 - -\n",
-    ),
-    (
-        SCRIPT,
-        &["rfx", "threads", "f"],
-        0,
-        "replies a EPERM\nmutex m 0000000000000000 - -\n",
-    ),
-    (TRACE, &["rfx", "check", "f"], 0, "legal 1 points\n"),
-    (ILLEGAL, &["rfx", "check", "f"], 1, "illegal at line 2\n"),
-];
-
-/// Files, command lines, and what is told.
-static TOLD: [(&str, &[&str], &str); 3] = [
-    (
-        ILLEGAL,
-        &["rfx", "run", "f"],
-        "rfx: line 1: fault 2: unknown word\n",
-    ),
-    (
-        SCRIPT,
-        &["rfx", "run", "no file"],
-        "rfx: cannot read no file\n",
-    ),
-    // A name without a letter, in a message that is written all the same.
-    (SCRIPT, &["rfx", "run", ""], "rfx: cannot read \n"),
-];
-
-/// Other command lines: no file is opened.
-static OTHERS: [&[&str]; 3] = [&["rfx", "run"], &["rfx", "--help"], &[]];
-
+/// One file is opened where one is named, and none by another command line.
 #[test]
-fn command_lines_are_served(rt: HostRuntime) {
-    for (file, line, status, printed) in &PRINTED {
-        let files = Folder::new(file.as_bytes());
-        let answered = answered(&rt, words(rt.alloc(), *line), &files);
-        assert!(rt;
-            answered.is(*status, *printed, "") && files.opened.get() == 1,
-            "of {line:?}"
-        );
-    }
-    for (file, line, told) in &TOLD {
-        let files = Folder::new(file.as_bytes());
-        let answered = answered(&rt, words(rt.alloc(), *line), &files);
-        assert!(rt;
-            answered.is(1, "", *told) && files.opened.get() == 1,
-            "of {line:?}"
-        );
-    }
-    for line in &OTHERS {
-        let files = Folder::new(SCRIPT.as_bytes());
-        let answered = answered(&rt, words(rt.alloc(), *line), &files);
-        assert!(rt;
-            answered.is(2, "", USAGE) && files.opened.get() == 0,
-            "of {line:?}"
-        );
-    }
+fn a_file_is_opened_where_one_is_named(rt: HostRuntime) {
+    let files = Folder::new(SCRIPT.as_bytes());
+    let usage = answered(&rt, words(rt.alloc(), &["rfx", "run"]), &files);
+    assert!(rt; usage.is(2, "", USAGE) && files.opened.get() == 0);
+    let run = answered(&rt, words(rt.alloc(), &["rfx", "run", "f"]), &files);
+    assert!(rt; run.is(0, TRACE, "") && files.opened.get() == 1);
 }
 
 #[test]
@@ -122,23 +50,6 @@ fn refused_words_and_files_are_told(rt: HostRuntime) {
     assert!(rt; answered(&rt, line, &files).is(1, "", OUT_OF_MEMORY));
     let none = Err(io::Error::from(AllocError));
     assert!(rt; answered(&rt, none, &files).is(1, "", OUT_OF_MEMORY));
-}
-
-/// A file of the system that is there and is empty, one that isn't there, and a folder.
-#[test]
-fn files_are_opened(rt: HostRuntime) {
-    let files = System(&rt);
-    let empty = answered(&rt, words(rt.alloc(), &["rfx", "run", "/dev/null"]), &files);
-    assert!(rt; empty.is(1, "", "rfx: line 1: fault 3: number out of range\n"));
-    let none = answered(
-        &rt,
-        words(rt.alloc(), &["rfx", "check", "/dev/null/x"]),
-        &files,
-    );
-    assert!(rt; none.is(1, "", "rfx: cannot read /dev/null/x\n"));
-    let folder = answered(&rt, words(rt.alloc(), &["rfx", "threads", "/"]), &files);
-    assert!(rt; folder.is(1, "", "rfx: cannot read /\n"));
-    assert!(rt; CANNOT_READ == "rfx: cannot read ");
 }
 
 /// Passes too where any one allocation fails: nothing is printed then, and want of memory is told.

@@ -1,24 +1,20 @@
-//! Tests of what is written of scripts and traces, and of the program, by public calls alone.
+//! Tests of the four programs where memory, readers or writers fail, and of what is written of traces and replies, by
+//! public calls alone. What the programs answer to files stands in cases/, and is compared by checks/answers.
 //!
 //! They stand above the crates that they test, since a crate with tests of its own is proved a second time for them,
-//! and that takes longer than its proof. A test of many cases goes over a table, and tells the first case that is
-//! answered otherwise.
+//! and that takes longer than its proof.
 #![tactic(auto)]
 
 #[cfg(test)]
 mod commands;
 #[cfg(test)]
-mod conditions;
+mod drawn;
 #[cfg(test)]
-mod forms;
+mod explained;
 #[cfg(test)]
-mod large;
+mod judged;
 #[cfg(test)]
 mod program;
-#[cfg(test)]
-mod rows;
-#[cfg(test)]
-mod runs;
 #[cfg(test)]
 mod served;
 #[cfg(test)]

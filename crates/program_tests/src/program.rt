@@ -1,6 +1,5 @@
-//! The program: command lines, readers, writers, and what is written of a script.
+//! `rfx`: forms of its command lines, slow readers and writers, those that fail, and refused memory.
 
-use crate::forms::{MANY, MANY_TEXT, PHASES, PHASES_TEXT, SKIPPED, SKIPPED_TEXT};
 use crate::served::{is_served_or_wants_memory, is_told_of_room, served};
 use memorymap::NoMem;
 use report::{CANNOT_READ, CANNOT_WRITE, Form, OUT_OF_MEMORY, USAGE, form_of_words, serve};
@@ -20,33 +19,6 @@ static FORMS: [(&[&str], Form<'static>); 7] = [
     (&[], Form::Usage),
 ];
 
-/// Command lines without one.
-static WITHOUT_FORM: [&[&str]; 23] = [
-    &["rfx", "run", "-f"],
-    &["rfx", "run", "-"],
-    &["rfx", "run", "--", "f"],
-    &["rfx"],
-    &["rfx", "run"],
-    &["rfx", "run", "a", "b"],
-    &["rfx", "run", "f", "--table"],
-    &["rfx", "--table", "run", "f"],
-    &["rfx", "run", "--table"],
-    &["rfx", "run", "--table", "-x"],
-    &["rfx", "threads", "--table", "f"],
-    &["rfx", "threads", "-f"],
-    &["rfx", "threads"],
-    &["rfx", "threads", "a", "b"],
-    &["rfx", "check", "-f"],
-    &["rfx", "check"],
-    &["rfx", "check", "a", "b"],
-    &["rfx", "check", "--table", "f"],
-    &["rfx", "--help"],
-    &["rfx", "--version"],
-    &["rfx", "run", "--help"],
-    &["rfx", "help"],
-    &["rfx", "help", "run"],
-];
-
 /// The place of the first command line of the table whose form is another.
 fn first_other_form(alloc: Global) -> Result<Option<usize>, NoMem> {
     for (place, (words, want)) in FORMS.iter().enumerate() {
@@ -57,20 +29,9 @@ fn first_other_form(alloc: Global) -> Result<Option<usize>, NoMem> {
     Ok(None)
 }
 
-/// The place of the first command line of the table that has a form.
-fn first_with_form(alloc: Global) -> Result<Option<usize>, NoMem> {
-    for (place, words) in WITHOUT_FORM.iter().enumerate() {
-        if form_of_words(alloc, *words)? != Form::Usage {
-            return Ok(Some(place));
-        }
-    }
-    Ok(None)
-}
-
 #[test]
 fn forms_are_told(rt: HostRuntime) -> Result<(), NoMem> {
     assert_eq!(rt; first_other_form(rt.alloc())?, None);
-    assert_eq!(rt; first_with_form(rt.alloc())?, None);
     Ok(())
 }
 
@@ -106,35 +67,6 @@ fn a_script_is_run(rt: HostRuntime) {
     assert!(rt; run_slowly(&rt, ROW.as_bytes(), false).is(0, ROW_TEXT, ""));
     let idle = b"# nothing runs\nmutex m\nthread a\n";
     assert!(rt; run_slowly(&rt, idle, false).is(0, "trace 1 1 0\nend 0\n", ""));
-}
-
-/// Scripts that are refused, and what is told of them.
-static REFUSED: [(&[u8], &str); 5] = [
-    (
-        b"thread a\nmutex m\nx\n",
-        "rfx: line 3: fault 2: unknown word\n",
-    ),
-    (b"thread a\n", "rfx: line 2: fault 3: number out of range\n"),
-    (
-        b"thread a\nmutex m\nstep b 1\n",
-        "rfx: line 3: fault 4: no such name\n",
-    ),
-    (
-        b"thread a\nmutex m\nstep a 100000\nstep a 1\n",
-        "rfx: line 4: fault 5: too long\n",
-    ),
-    (b"x\n\xff\n", "rfx: line 2: fault 1: not UTF-8\n"),
-];
-
-/// Bytes are told before their words.
-#[test]
-fn a_fault_is_told(rt: HostRuntime) {
-    for (script, told) in &REFUSED {
-        assert!(rt;
-            run_slowly(&rt, *script, false).is(1, "", *told),
-            "not {told}"
-        );
-    }
 }
 
 #[test]
@@ -179,6 +111,29 @@ fn the_longest_script_is_run(rt: HostRuntime) -> Result<(), AllocError> {
 
 /// One thread is refused.
 const REFUSED_CALL: &str = "thread a\nmutex m\ncall a unlock m\n";
+
+/// A thread holds the mutex, another finds it owned; it is released, and the other takes it.
+const PHASES: &str = "thread a\nthread b\nmutex m\ncall a trylock m\nphase\n\
+    call b trylock m\nphase\ncall a unlock m\nphase\ncall b trylock m\n";
+
+const PHASES_TEXT: &str = "replies a OK OK\nreplies b EBUSY OK\nmutex m 0000000000000002 b -\n";
+
+/// Each of five threads owns a mutex, the last two find others owned, and the third lets go of its own.
+const MANY: &str = "thread a\nthread b\nthread c\nthread d\nthread e\nmutexes m 5\n\
+    call e lock m4\ncall d lock m3\ncall c lock m2\ncall b lock m1\ncall a lock m0\nphase\n\
+    call d trylock m0\ncall e trylock m1\ncall c unlock m2\n";
+
+const MANY_TEXT: &str = "replies a OK\nreplies b OK\nreplies c OK OK\n\
+    replies d OK EBUSY\nreplies e OK EBUSY\nmutex m0 0000000000000001 a -\n\
+    mutex m1 0000000000000002 b -\nmutex m2 0000000000000000 - -\n\
+    mutex m3 0000000000000004 d -\nmutex m4 0000000000000005 e -\n";
+
+/// A thread that dies makes none of its later calls. The mutex that it held goes to the next one as a dead owner's.
+const SKIPPED: &str = "thread a\nthread b\nmutex m\ndie a 12\ncall a lock m\nphase\n\
+    call a unlock m\ncall a lock m\nphase\ncall a lock m\ncall b lock m\n";
+
+const SKIPPED_TEXT: &str =
+    "replies a OK dead\nreplies b EOWNERDEAD\nmutex m 0000000040000002 b -\n";
 
 /// A file for each form, and what is printed of it.
 static PRINTED: [(Form<'static>, &str, &str); 4] = [

@@ -1,70 +1,9 @@
-//! What the program tells of traces.
+//! `rfx check` of traces that are long or can't be read, and refused memory.
 
-use crate::served::{check, is_printed_or_wants_memory, run, served};
+use crate::served::{is_printed_or_wants_memory, served};
 use report::{Form, OUT_OF_MEMORY, serve};
 use std::io::{Chain, Read, Repeat, Take, repeat};
 use text_fixtures::{Fixed, slow_reader};
-
-/// The trace of a lock and its unlock.
-const UNLOCKED: &str = "trace 1 1 0\n1 begin t1 lock m0\n4 point t1 m0 lock OK\n9 return t1 OK\n\
-    10 begin t1 unlock m0\n16 point t1 m0 unlock OK\n17 return t1 OK\nend 17\n";
-
-/// Traces that are judged, the status that is answered, and what is printed.
-static JUDGED: [(&str, u8, &str); 4] = [
-    (UNLOCKED, 0, "legal 2 points\n"),
-    ("trace 1 1 0\nend 0\n", 0, "legal 0 points\n"),
-    (
-        "trace 1 1 0\n1 return t1 OK\nend 1\n",
-        1,
-        "illegal at line 2\n",
-    ),
-    ("trace 1 1 0\n5 kill t1\nend 4\n", 1, "illegal at line 3\n"),
-];
-
-#[test]
-fn a_trace_is_judged(rt: HostRuntime) {
-    for (trace, status, printed) in &JUDGED {
-        assert!(rt; check(&rt, *trace).is(*status, *printed, ""), "of {trace}");
-    }
-}
-
-#[test]
-fn a_point_that_the_mutex_does_not_permit_is_found(rt: HostRuntime) {
-    let trace = "trace 1 1 0\n1 begin t1 lock m0\n4 point t1 m0 lock OK\n9 return t1 OK\n\
-        10 begin t1 unlock m0\n16 point t1 m0 unlock EPERM\n17 return t1 OK\nend 17\n";
-    assert!(rt; check(&rt, trace).is(1, "illegal at line 6\n", ""));
-}
-
-#[test]
-fn a_trace_without_its_end_is_told(rt: HostRuntime) {
-    let cut = UNLOCKED.strip_suffix("end 17\n").unwrap_or("");
-    assert!(rt; check(&rt, cut).is(1, "", "rfx: line 8: fault 5: cut\n"));
-}
-
-/// Scripts whose traces are found legal.
-static RUN: [(&str, &str); 2] = [
-    (
-        "thread x\nthread a\nthread b\nmutex m\ncall x lock m\ncall b lock m\nkill x\n\
-         go x\ngo b\nkill b\ngo b\ncall a lock m\ncall a unlock m\n",
-        "legal 4 points\n",
-    ),
-    // With a mutex that is made anew.
-    (
-        "thread a\nthread b\nmutex m\ncall a lock m\nkill a\ngo a\ncall b lock m\nreinit b m\n\
-         call b unlock m\nreinit a m\nreinit b m\nreinit b m\ncall b lock m\n",
-        "legal 5 points\n",
-    ),
-];
-
-#[test]
-fn the_trace_of_a_run_is_legal(rt: HostRuntime) {
-    for (script, verdict) in &RUN {
-        let run = run(&rt, *script);
-        assert!(rt; run.status == 0 && run.told.is_empty(), "of {script}");
-        let judged = served(&rt, &Form::Check("f"), &mut run.printed.as_slice());
-        assert!(rt; judged.is(0, *verdict, ""), "of {script}");
-    }
-}
 
 /// The first line of a trace.
 const HEAD: &[u8] = b"trace 1 1 0\n";

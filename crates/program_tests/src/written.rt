@@ -3,7 +3,7 @@
 ghost use Rattle.std.specs.Prelude.{◌≤◌};
 
 use buckets::Batch;
-use facts::Begun;
+use facts::{Begun, Queue};
 use interleave::Trace;
 use lockword::{Reply, Tid};
 use mutex::Call;
@@ -78,7 +78,11 @@ fn sample(alloc: Global) -> Result<Trace, AllocError> {
         began(4, Call::TimedLock(8), None),
         Note::Expired {
             thread: tid(4),
-            mutex: 8,
+            queue: Queue::Mutex(8),
+        },
+        Note::Expired {
+            thread: tid(5),
+            queue: Queue::Condition(9),
         },
     ];
     Ok(Trace {
@@ -103,7 +107,8 @@ const TEXT: &str = "trace 64 4096 10\n\
     10 begin t4 timedlock m8\n\
     11 wake t4\n\
     11 point t4 m8 timedlock ETIMEDOUT\n\
-    end 11\n";
+    12 wake t5\n\
+    end 12\n";
 
 #[test]
 fn each_kind_of_note_has_its_lines(rt: HostRuntime) -> Result<(), AllocError> {

@@ -5,12 +5,16 @@ use Rattle.protocol.proofs.Vocabulary.{Whole, Op, OnMutex, OnCondition, Stage, I
 use Rattle.protocol.proofs.Vocabulary.{led_at, WaitRow, SignalRow, BroadcastRow}
 use Rattle.mutex.specs.Calls as mutex
 use Rattle.mutex.specs.declared.call.Call.{Call}
-use Rattle.lockword.specs.declared.reply.Reply.TheVariants.{ETIMEDOUT}
+use Rattle.lockword.specs.declared.reply.Reply.TheVariants.{XHELD, ETIMEDOUT}
+use Rattle.posixmutex.specs.Objects.{acquires}
+use Rattle.std.specs.Prelude.{Bool, true, ◌&&◌}
+use Rattle.condvar.specs.declared.call.Limit.{Limit}
+use Rattle.condvar.specs.declared.call.Limit.TheVariants.{Ahead, Past}
 use Rattle.mutex.specs.declared.phase.Phase.TheVariants.{Ended}
 use Rattle.condvar.specs.Calls as condition
 use Rattle.facts.specs.declared.fact.Fact.TheVariants.{Begin, Renew}
 use Rattle.facts.specs.Lives.{Act, Complete, Beginning, made, Mourned, Lives, EndsReaped}
-use Rattle.condvar.specs.Ops.{operation_of}
+use Rattle.condvar.specs.Ops.{operation_of, reply_of}
 use Rattle.protocol.specs.Machine.{Led}
 use Rattle.protocol.proofs.Phases.{decided_at}
 use Rattle.protocol.proofs.Arrivals.{ended_or_not}
@@ -27,12 +31,17 @@ abbrev pub told_as : Call → Reply → Operation
 told_as (Call.TimedLock m) ETIMEDOUT = Operation.TimedLock
 told_as c x = mutex.acts_as c
 
+-- of a wait in the lock that ends it
+abbrev pub acts_again : Option Reply → List Act
+acts_again None = released
+acts_again (Some x) = (Operation.Unlock, OK) ∷ (Operation.Lock, x) ∷ []
+
 -- of a call on a mutex, or of a wait in the lock that ends it, undecided or decided
 abbrev pub acts_by : Op → Option Reply → List Act
 acts_by (OnMutex c) None = []
 acts_by (OnMutex c) (Some x) = (told_as c x, x) ∷ []
-acts_by (OnCondition (CondCall.Wait k)) None = released
-acts_by (OnCondition (CondCall.Wait k)) (Some x) = (Operation.Unlock, OK) ∷ (Operation.Lock, x) ∷ []
+acts_by (OnCondition (CondCall.Wait k)) d = acts_again d
+acts_by (OnCondition (CondCall.TimedWait k x)) d = acts_again d
 acts_by (OnCondition c) d = []
 
 -- of a call on a condition variable at a row, before that
@@ -40,6 +49,9 @@ abbrev pub acts_row : CondCall → CondRow → List Act
 acts_row (CondCall.Wait k) (CondRow.Wait (WaitRow.Wake seen)) = released
 acts_row (CondCall.Wait k) (CondRow.Wait (WaitRow.Sleep seen)) = released
 acts_row (CondCall.Wait k) CondRow.Awake = released
+acts_row (CondCall.TimedWait k x) (CondRow.Wait (WaitRow.Wake seen)) = released
+acts_row (CondCall.TimedWait k x) (CondRow.Wait (WaitRow.Sleep seen)) = released
+acts_row (CondCall.TimedWait k x) CondRow.Awake = released
 acts_row (CondCall.Signal k) (CondRow.Signal SignalRow.Wake) = (Operation.Signal, OK) ∷ []
 acts_row (CondCall.Broadcast k) (CondRow.Broadcast (BroadcastRow.SetWaiters seen)) = (Operation.Broadcast, OK) ∷ []
 acts_row (CondCall.Broadcast k) (CondRow.Broadcast (BroadcastRow.Move seen)) = (Operation.Broadcast, OK) ∷ []
@@ -50,15 +62,27 @@ acts_in c (CondPhase.AtWords r) = acts_row c r
 acts_in c f = []
 
 -- they are the first of such a call's points
-pub own_point : (op : Operation) (x : Reply) → Complete op ((op, x) ∷ []) x
-own_point Operation.TimedLock x = inl refl
-own_point op x = refl
+own_point : (op : Operation) (x : Reply) → op ≢ Operation.TimedWait → Complete op ((op, x) ∷ []) x
+own_point Operation.TimedLock x other = inl refl
+own_point Operation.TimedWait x other = absurd (other refl)
+own_point op x other = refl
+
+-- a call that is refused at its begin is one that may take a mutex
+pub refused_point : (op : Operation) (b : Bool) → (acquires op && b) ≡ true → Complete op ((op, XHELD) ∷ []) XHELD
+refused_point op b e = own_point op XHELD (λ (is : op ≡ Operation.TimedWait). never (sym (ap (λ (z : Operation). acquires z && b) is) ∙ e))
+  where
+    never : (acquires Operation.TimedWait && b) ≡ true → ⊥
+    never h = cc h
 
 begins_with : (op : Operation) (x : Reply) → Beginning op []
-begins_with op x = ((op, x) ∷ [], x, own_point op x)
+begins_with Operation.TimedWait x = ((Operation.Wait, x) ∷ [], x, (refl, inl refl))
+begins_with op x = ((op, x) ∷ [], x, own_point op x (λ (is : op ≡ Operation.TimedWait). cc is))
 
-one_point : (op : Operation) (x : Reply) → Beginning op ((op, x) ∷ [])
-one_point op x = ([], x, own_point op x)
+signal_point : (x : Reply) → Beginning Operation.Signal ((Operation.Signal, x) ∷ [])
+signal_point x = ([], x, refl)
+
+broadcast_point : (x : Reply) → Beginning Operation.Broadcast ((Operation.Broadcast, x) ∷ [])
+broadcast_point x = ([], x, refl)
 
 timed_point : (m : ℕ) (x : Reply) → Complete Operation.TimedLock ((told_as (Call.TimedLock m) x, x) ∷ []) x
 timed_point m ETIMEDOUT = inl refl
@@ -76,6 +100,8 @@ acts_begin (OnMutex c) None = begins_with (mutex.operation_of c) OK
 acts_begin (OnMutex c) (Some x) = ([], x, call_point c x)
 acts_begin (OnCondition (CondCall.Wait k)) None = ((Operation.Lock, OK) ∷ [], OK, (refl, refl))
 acts_begin (OnCondition (CondCall.Wait k)) (Some x) = ([], x, (refl, refl))
+acts_begin (OnCondition (CondCall.TimedWait k l)) None = ((Operation.Lock, OK) ∷ [], OK, (refl, refl, inl refl))
+acts_begin (OnCondition (CondCall.TimedWait k l)) (Some x) = ([], x, (refl, refl, inl refl))
 acts_begin (OnCondition (CondCall.Signal k)) d = begins_with Operation.Signal OK
 acts_begin (OnCondition (CondCall.Broadcast k)) d = begins_with Operation.Broadcast OK
 
@@ -83,9 +109,12 @@ row_begins : (c : CondCall) (r : CondRow) → Beginning (condition.operation_of 
 row_begins (CondCall.Wait k) (CondRow.Wait (WaitRow.Wake seen)) = ((Operation.Lock, OK) ∷ [], OK, (refl, refl))
 row_begins (CondCall.Wait k) (CondRow.Wait (WaitRow.Sleep seen)) = ((Operation.Lock, OK) ∷ [], OK, (refl, refl))
 row_begins (CondCall.Wait k) CondRow.Awake = ((Operation.Lock, OK) ∷ [], OK, (refl, refl))
-row_begins (CondCall.Signal k) (CondRow.Signal SignalRow.Wake) = one_point Operation.Signal OK
-row_begins (CondCall.Broadcast k) (CondRow.Broadcast (BroadcastRow.SetWaiters seen)) = one_point Operation.Broadcast OK
-row_begins (CondCall.Broadcast k) (CondRow.Broadcast (BroadcastRow.Move seen)) = one_point Operation.Broadcast OK
+row_begins (CondCall.TimedWait k l) (CondRow.Wait (WaitRow.Wake seen)) = ((Operation.Lock, OK) ∷ [], OK, (refl, refl, inl refl))
+row_begins (CondCall.TimedWait k l) (CondRow.Wait (WaitRow.Sleep seen)) = ((Operation.Lock, OK) ∷ [], OK, (refl, refl, inl refl))
+row_begins (CondCall.TimedWait k l) CondRow.Awake = ((Operation.Lock, OK) ∷ [], OK, (refl, refl, inl refl))
+row_begins (CondCall.Signal k) (CondRow.Signal SignalRow.Wake) = signal_point OK
+row_begins (CondCall.Broadcast k) (CondRow.Broadcast (BroadcastRow.SetWaiters seen)) = broadcast_point OK
+row_begins (CondCall.Broadcast k) (CondRow.Broadcast (BroadcastRow.Move seen)) = broadcast_point OK
 row_begins c r = begins_with (condition.operation_of c) OK
 
 pub acts_in_begin : (c : CondCall) (f : CondPhase) → Beginning (condition.operation_of c) (acts_in c f)
@@ -102,9 +131,16 @@ acts_of op (Some x) = (op, x) ∷ []
 joined_acts : (l : Layout') (o : Op) (op : Operation) (d x y : Option Reply) → IsFor l o op → Joins d x y → x ≢ Some ETIMEDOUT → acts_by o y ≡ acts_by o d ++ acts_of op x
 joined_acts l o op d x y is joins timely = grind (arith)
 
-completed : (l : Layout') (o : Op) (op : Operation) (x : Reply) → IsFor l o op → Complete (operation_of o) (acts_by o (Some x)) x
+-- a wait that is out of time, too
+late_point : (k : ℕ) (x : Reply) → Complete Operation.TimedWait ((Operation.Unlock, OK) ∷ (Operation.Lock, x) ∷ []) (condition.reply_of (CondCall.TimedWait k Past) x)
+late_point k OK = (refl, refl, inr (refl, refl))
+late_point k x = (refl, refl, inl refl)
+
+completed : (l : Layout') (o : Op) (op : Operation) (x : Reply) → IsFor l o op → Complete (operation_of o) (acts_by o (Some x)) (reply_of o x)
 completed l (OnMutex c) op x is = call_point c x
 completed l (OnCondition (CondCall.Wait k)) op x is = (refl, refl)
+completed l (OnCondition (CondCall.TimedWait k Ahead)) op x is = (refl, refl, inl refl)
+completed l (OnCondition (CondCall.TimedWait k Past)) op x is = late_point k x
 completed l (OnCondition (CondCall.Signal k)) op x is = absurd (cc is.1)
 completed l (OnCondition (CondCall.Broadcast k)) op x is = absurd (cc is.1)
 
@@ -147,25 +183,26 @@ call_follows l t o p g is joins timely = record { on = λ none fs later. on none
     adds : acts_by o (decided_at g.phase) ≡ acts_by o (decided_at p.phase) ++ acts_of p.operation g.point
     adds = joined_acts l o p.operation (decided_at p.phase) g.point (decided_at g.phase) is joins timely
 
-    on : returned g.phase ≡ None → (fs : List Fact) → Goes l t (stage_after o p g.phase) fs → Doing t (begun_of l o) (acts_by o (decided_at p.phase) ++ acts_of p.operation g.point) fs
+    on : returned o g.phase ≡ None → (fs : List Fact) → Goes l t (stage_after o p g.phase) fs → Doing t (begun_of l o) (acts_by o (decided_at p.phase) ++ acts_of p.operation g.point) fs
     on none fs later =
-        ⊎_elim (λ ended. absurd (cc (sym none ∙ ap returned ended.1)))
+        ⊎_elim (λ ended. absurd (cc (sym none ∙ ap (returned o) ended.1)))
         (λ further. subst (λ (ps : List Act). Doing t (begun_of l o) ps fs) adds (subst (λ (z : Stage). Goes l t z fs) (further o p) later))
         (ended_or_not g.phase)
 
-    back : (x : Reply) → ((y : Reply) × (g.phase ≡ Ended y)) ⊎ ((a : Op) (q : Whole) → stage_after a q g.phase ≡ Calling a (record q { phase = g.phase })) → returned g.phase ≡ Some x → Complete (operation_of o) (acts_by o (decided_at p.phase) ++ acts_of p.operation g.point) x
+    back : (x : Reply) → ((y : Reply) × (g.phase ≡ Ended y)) ⊎ ((a : Op) (q : Whole) → stage_after a q g.phase ≡ Calling a (record q { phase = g.phase })) → returned o g.phase ≡ Some x → Complete (operation_of o) (acts_by o (decided_at p.phase) ++ acts_of p.operation g.point) x
     back x (inl (y, ended)) e =
-        let same : x ≡ y = replied x y (sym e ∙ ap returned ended) in
-        subst (λ (ps : List Act). Complete (operation_of o) ps x) (sym (ap (λ (f : Phase). acts_by o (decided_at f)) ended ∙ ap (λ (z : Reply). acts_by o (Some z)) (sym same)) ∙ adds) (completed l o p.operation x is)
+        let same : reply_of o y ≡ x = replied (reply_of o y) x (sym (ap (returned o) ended) ∙ e) in
+        subst (λ (ps : List Act). Complete (operation_of o) ps x) (sym (ap (λ (f : Phase). acts_by o (decided_at f)) ended) ∙ adds)
+        (subst (λ (z : Reply). Complete (operation_of o) (acts_by o (Some y)) z) same (completed l o p.operation y is))
       where
         replied : (a b : Reply) → Some a ≡ Some b → a ≡ b
         replied a b eq = cc
     back x (inr further) e = absurd (never g.phase further e)
       where
-        never : (f : Phase) → ((a : Op) (q : Whole) → stage_after a q f ≡ Calling a (record q { phase = f })) → returned f ≡ Some x → ⊥
+        never : (f : Phase) → ((a : Op) (q : Whole) → stage_after a q f ≡ Calling a (record q { phase = f })) → returned o f ≡ Some x → ⊥
         never (Ended z) more h = cc (more o p)
         never f more h = cc h
 
 -- of a call on a condition variable, before that
-pub cond_follows : (l : Layout') (t held : ℕ) (c : CondCall) (p : CondWhole) (z : Fields) (w : ℕ) (q : List ℕ) → AtPhase t held (condition.operation_of c) p p.phase z → Follows l t (OnCondition c) (acts_in c p.phase) (led_at c p (cond_led p (answer_among (cond_access p) w q)))
+pub cond_follows : (l : Layout') (t held : ℕ) (c : CondCall) (p : CondWhole) (z : Fields) (w : ℕ) (q : List ℕ) → AtPhase t held (condition.acts_as c) p p.phase z → Follows l t (OnCondition c) (acts_in c p.phase) (led_at c p (cond_led p (answer_among (cond_access p) w q)))
 cond_follows l t held c p z w q stands = grind (arith)

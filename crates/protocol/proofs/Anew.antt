@@ -1,6 +1,7 @@
 -- What a renewal does, and runs without renewals.
 use Rattle.std.proofs.Common.{◌≡◌, ◌≢◌, ◌⊎◌, ℕ, ◌+◌, ◌<◌, ◌≤◌, ◌==◌, ◌&&◌, Bool, true, false, Option, None, Some, Ok, Err, List, [], ◌∷◌, ◌++◌, map, append-nil, refl, sym, ap, ◌∙◌, subst, arith}
 use Rattle.protocol.proofs.Vocabulary.{Expired}
+use Rattle.protocol.proofs.Vocabulary.{Condition, Mutex}
 use Rattle.protocol.proofs.Vocabulary.{Object, Fact, Event, Reply, Queue, XHELD, Decision, Layout', head_place, Op, Note, Nothing, Began, Stepped, Killed, Left, Walked, Renewed, Reinited, Stage, Reaped, facts_of, State, After, start, begun}
 use Rattle.protocol.proofs.Vocabulary.{first_word, happens, nothing, renewed, run, notes, killed, facts_among, if◌then◌else◌, nat_tests, line_of, lines_from}
 use Rattle.memorymap.specs.Layouts.{head_word}
@@ -85,7 +86,8 @@ note_none t (Began u b (Some x)) one = tt
 note_none t (Stepped u m d z ws ms y) one = stepped_none t u m d z ws ms y
 note_none t (Killed u) one = tt
 note_none t (Left u) one = tt
-note_none t (Expired u m) one = tt
+note_none t (Expired u (Mutex m)) one = tt
+note_none t (Expired u (Condition k)) one = tt
 note_none t (Walked u d ws y) one = walked_none t u d ws y
 note_none t (Renewed u) one = absurd one
 note_none t (Reinited u m) one = tt
@@ -96,7 +98,7 @@ noted_so : (s : State) (e : Event) → IsNoRenewing e → IsOfOne (happens s e).
 noted_so s e =
     by_event s (λ (x : Event) (a : After). IsNoRenewing x → IsOfOne a.note) (λ x none. tt) (λ u o pos known inside idle b full none. begins_so u o b)
     (λ u pos known none. by_stage s u (λ (a : After). IsOfOne a.note) (λ rests. tt) (λ o p is awake. tt) (λ c p is awake. tt) (λ w is awake. tt))
-    (λ u pos known alive none. tt) (λ u pos known asleep none. tt) (λ u m p pos known is asleep may none. tt) (λ u o p pos known is awake trims none. tt) (λ u pos known gone none. absurd none) (λ u m may none. tt) (λ u m may none. tt)
+    (λ u pos known alive none. tt) (λ u pos known asleep none. tt) (λ u m p pos known is asleep may none. tt) (λ u k x p pos known is there none. tt) (λ u o p pos known is awake trims none. tt) (λ u pos known gone none. absurd none) (λ u m may none. tt) (λ u m may none. tt)
     (λ k may none. tt) (λ u m g sp none. tt) (λ u c p pos known is there none. tt) (λ u w pos known is reads none. tt) e
   where
     begins_so : (u : ℕ) (o : Op) (b : Bool) → IsOfOne (begun s u o (if b then Err XHELD else Ok (begins_at s.layout u o))).note

@@ -1,6 +1,7 @@
 -- Which events apply.
 use Rattle.std.proofs.Common.{◌≡◌, ◌≢◌, ℕ, ◌≤◌, ◌==◌, Bool, true, false, ◌&&◌, Option, None, Ok, Err, List, [], ◌∷◌, ◌++◌, refl, sym, ap, ◌∙◌, subst, arith, eq-eqb}
 use Rattle.protocol.proofs.Vocabulary.{Left, Renewed, Reinited, Trimmed, spared, departed, renewed, reinited, waiters_of, MayRemake, Whole, cell_place}
+use Rattle.protocol.proofs.Vocabulary.{Past, Limit}
 use Rattle.protocol.specs.Machine.{is_gone, may_reinit, may_remake}
 use Rattle.protocol.proofs.Departures.{asleep_where}
 use Rattle.mutex.specs.Whole.{may_expire, timed_out}
@@ -43,6 +44,13 @@ use Rattle.protocol.proofs.Recounting.{recount_rests}
 use Rattle.protocol.proofs.Sparing.{unwoken, spare_goes, spare_rests}
 use Rattle.protocol.proofs.Repeating.{resleep_goes, resleep_rests, repeat_goes, repeat_rests}
 use Rattle.protocol.proofs.Vocabulary.{CondCall, CondWhole, AtCondition}
+use Rattle.protocol.specs.Machine.{is_idle}
+use Rattle.protocol.proofs.Oversleeping.{oversleep_goes}
+use Rattle.std.proofs.Common.{Result, Some, inl, inr}
+use Rattle.protocol.proofs.Events.{at_rest}
+use Rattle.condvar.specs.Ops.{is_in, may_call, operation_of}
+use Rattle.protocol.proofs.Events.{first_is, names_so, may_so, may_again}
+use Rattle.protocol.proofs.Vocabulary.{first_stage, acquires, nat_le, may_begin, Names, Expired}
 
 -- ---- what the trace told of a thread is where it stands
 
@@ -144,6 +152,9 @@ on_a_walk_agrees s u t w a v is =
 calls_on : (w : Told) (o : Op) (p q : Whole) → Agrees w (Calling o p) → Agrees w (Calling o q)
 calls_on w o p q a = grind (arith)
 
+calls_over : (w : Told) (o c : Op) (p q : Whole) → Agrees w (Calling o p) → Agrees w (Calling c q)
+calls_over w o c p q a = grind (arith)
+
 next_agrees : (s : State) (e : Event) (t : ℕ) (w : Told) → Agrees w (s.threads t).stage → Agrees (told_after t w (facts_of (happens s e).note)) ((happens s e).state.threads t).stage
 next_agrees s e t w a =
     by_event s (λ (x : Event) (z : After). Agrees (told_after t w (facts_of z.note)) (z.state.threads t).stage)
@@ -159,6 +170,7 @@ next_agrees s e t w a =
     (λ u pos known alive. moved s u t w Dead _ a tt)
     (λ u pos known asleep. a)
     (λ u m p pos known is asleep may. unmoved s u t w Gone (record { stage = Calling (OnMutex (Call.TimedLock m)) (timed_out p); held = (s.threads u).held }) a (λ same. calls_on w (OnMutex (Call.TimedLock m)) p (timed_out p) (subst (Agrees w) (ap (λ (y : ℕ). (s.threads y).stage) same ∙ is) a)))
+    (λ u k x p pos known is there. unmoved s u t w Gone (record { stage = Calling (OnCondition (CondCall.TimedWait k Past)) p; held = (s.threads u).held }) a (λ same. calls_over w (OnCondition (CondCall.TimedWait k x)) (OnCondition (CondCall.TimedWait k Past)) p p (subst (Agrees w) (ap (λ (y : ℕ). (s.threads y).stage) same ∙ is) a)))
     (λ u o p pos known is awake trims. spared_agrees s u t (s.threads u).held (mutex_of s.layout o) (led o p (whole_led p (Trimmed false))) w (ap is_calling is) (call_ends o p (whole_led p (Trimmed false))) a)
     (λ u pos known gone. moved s u t w AtRest _ a tt)
     (λ u m may. refused_agrees s u t w may.remake.resting a)
@@ -183,16 +195,51 @@ both true true e f = refl
 both true false e f = f
 both false b e f = e
 
+rest_idles : (g : Stage) → Agrees AtRest g → is_idle g ≡ true
+rest_idles Idle h = refl
+rest_idles g h = absurd h
+
+idle_rests : (w : Told) → Agrees w Idle → w ≡ AtRest
+idle_rests AtRest h = refl
+idle_rests w h = absurd h
+
+names_again : (l : Layout') (o : Op) → Names l o → is_in l o ≡ true
+names_again l (OnMutex c) h = grind (arith, nat_tests)
+names_again l (OnCondition c) h = grind (arith, nat_tests)
+
 module _ (s : State) (ns : List Note) (inv : Kept s) (queued : Queued s) (agrees : (t : ℕ) → Agrees (last_told t ns) (s.threads t).stage) (calls : (t : ℕ) → IsTold s.layout (s.threads t).stage (call_told t ns)) where
   known : (t : ℕ) → IsThread s.layout t → has_thread s t ≡ true
   known t range = let first : 1 ≤ t = range.0 in let most : t ≤ s.layout.threads = range.1 in grind (arith, nat_tests)
 
   -- ---- begins
   begins_so : (t : ℕ) (o : Op) → Applies s.layout s ns (Event.Begin t o) → (happens s (Event.Begin t o)).note ≡ Began t (begun_of s.layout o) (refusal s.layout s t o)
-  begins_so t o on = grind (arith)
+  begins_so t o on =
+      let there : has_thread s t ≡ true = known t on.0 in
+      let resting : is_idle (s.threads t).stage ≡ true = rest_idles (s.threads t).stage (subst (λ (w : Told). Agrees w (s.threads t).stage) on.3 (agrees t)) in
+      let calls_so : may_call s.layout o ≡ true = may_again s.layout o (names_again s.layout o on.1) on.2 in
+      let may : may_begin s t o ≡ true = grind (arith) in
+      ap (λ (b : Bool). (if b then begun s t o (first_stage s.layout t (s.threads t).held o) else nothing s).note) may
+      ∙ ap (λ (r : Result Stage Reply). (begun s t o r).note) (first_is s.layout t (s.threads t).held o)
+      ∙ refuses (acquires (operation_of o)) (nat_le 2048 (s.threads t).held)
+      ∙ ap (λ (h : ℕ). Began t (begun_of s.layout o) (if acquires (operation_of o) && nat_le 2048 h then Some XHELD else None)) (inv.held t on.0.0 on.0.1)
+    where
+      refuses : (a b : Bool) → (begun s t o (if a && b then Err XHELD else Ok (begins_at s.layout t o))).note ≡ Began t (begun_of s.layout o) (if a && b then Some XHELD else None)
+      refuses true true = refl
+      refuses true false = refl
+      refuses false b = refl
 
   begins_else : (t : ℕ) (o : Op) → ¬ Applies s.layout s ns (Event.Begin t o) → happens s (Event.Begin t o) ≡ nothing s
-  begins_else t o never = grind (arith)
+  begins_else t o never = go (may_begin s t o) refl
+    where
+      go : (b : Bool) → may_begin s t o ≡ b → (if b then begun s t o (first_stage s.layout t (s.threads t).held o) else nothing s) ≡ nothing s
+      go false e = refl
+      go true e =
+          let first : 1 ≤ t = grind (arith, nat_tests) in
+          let last : t ≤ s.layout.threads = grind (arith, nat_tests) in
+          let idle : (s.threads t).stage ≡ Idle = at_rest (s.threads t).stage (grind (arith, nat_tests)) in
+          let may : may_call s.layout o ≡ true = grind (arith, nat_tests) in
+          let so = may_so s.layout o may in
+          absurd (never ((first, last), names_so s.layout o so.0, so.1, idle_rests (last_told t ns) (subst (Agrees (last_told t ns)) idle (agrees t))))
 
   -- ---- steps
   works : (w : Told) (g : Stage) → HasAccess w → Agrees w g → IsWorking g
@@ -247,13 +294,33 @@ module _ (s : State) (ns : List Note) (inv : Kept s) (queued : Queued s) (agrees
           absurd (never ((first, last), asleep_where s t asleep))
 
   -- ---- time limits
+  same_lock : (m j : ℕ) (p q : Whole) → Calling (OnMutex (Call.TimedLock m)) p ≡ Calling (OnMutex (Call.TimedLock j)) q → m ≡ j
+  same_lock m j p q e = cc e
+
+  same_timed : (k j : ℕ) (x y : Limit) (p q : Whole) → Calling (OnCondition (CondCall.TimedWait k x)) p ≡ Calling (OnCondition (CondCall.TimedWait j y)) q → k ≡ j
+  same_timed k j x y p q e = cc e
+
+  lock_or_wait : (m k : ℕ) (p q : Whole) (x : Limit) → Calling (OnMutex (Call.TimedLock m)) p ≡ Calling (OnCondition (CondCall.TimedWait k x)) q → ⊥
+  lock_or_wait m k p q x e = cc e
+
   expires_so : (t : ℕ) → Applies s.layout s ns (Event.Expire t) → IsNotedAs s.layout s (Event.Expire t) (happens s (Event.Expire t)).note
-  expires_so t ((first, last), there, (m, (p, is))) = (m, (p, is), let asleep = asleep_there s t there.0 queued there.1 in ap (λ (z : After). z.note) (lapse_goes s t m p first last is asleep (ap may_expire (loads_next s t (OnMutex (Call.TimedLock m)) p queued is asleep))))
+  expires_so t ((first, last), inl (there, (m, (p, is)))) =
+      let asleep = asleep_there s t there.0 queued there.1 in
+      let noted = ap (λ (z : After). z.note) (lapse_goes s t m p first last is asleep (ap may_expire (loads_next s t (OnMutex (Call.TimedLock m)) p queued is asleep))) in (
+        (λ j other. noted ∙ ap (λ (n : ℕ). Expired t (Mutex n)) (same_lock m j p other.0 (sym is ∙ other.1))),
+        (λ k other. absurd (lock_or_wait m k p other.1 other.0 (sym is ∙ other.2))),
+      )
+  expires_so t ((first, last), inr (k, there, (x, p, is))) =
+      let noted = ap (λ (z : After). z.note) (oversleep_goes s t k x p first last is there) in (
+        (λ m other. absurd (lock_or_wait m k other.0 p x (sym other.1 ∙ is))),
+        (λ j other. noted ∙ ap (λ (n : ℕ). Expired t (Condition n)) (same_timed k j x other.0 p other.1 (sym is ∙ other.2))),
+      )
 
   expires_else : (t : ℕ) → ¬ Applies s.layout s ns (Event.Expire t) → happens s (Event.Expire t) ≡ nothing s
   expires_else t never =
       by_event s (λ (x : Event) (a : After). x ≡ Event.Expire t → a ≡ nothing s) (λ x same. refl) (λ u o pos known named idle b full same. absurd cc) (λ u pos known same. absurd cc) (λ u pos known alive same. absurd cc) (λ u pos known asleep same. absurd cc)
-      (λ u m p pos known is asleep may same. absurd (subst (λ (v : ℕ). ¬ Applies s.layout s ns (Event.Expire v)) (sym (expires_is u t same)) never ((pos, known), asleep_where s u asleep, (m, (p, is)))))
+      (λ u m p pos known is asleep may same. absurd (subst (λ (v : ℕ). ¬ Applies s.layout s ns (Event.Expire v)) (sym (expires_is u t same)) never ((pos, known), inl (asleep_where s u asleep, (m, (p, is))))))
+      (λ u k x p pos known is there same. absurd (subst (λ (v : ℕ). ¬ Applies s.layout s ns (Event.Expire v)) (sym (expires_is u t same)) never ((pos, known), inr (k, there, (x, p, is)))))
       (λ u o p pos known is awake trims same. absurd cc) (λ u pos known gone same. absurd cc) (λ u m may same. absurd cc) (λ u m may same. absurd cc)
       (λ k may same. absurd cc) (λ u m g sp same. absurd cc) (λ u c p pos known is there same. absurd cc) (λ u w pos known is reads same. absurd cc)
       (Event.Expire t) refl

@@ -36,6 +36,7 @@ use Rattle.protocol.proofs.Changing.{theirs}
 use Rattle.protocol.proofs.Vocabulary.{Count, Led}
 use Rattle.protocol.proofs.Events.{HowSpared, Of_unlock, Of_wait, Sparing}
 use Rattle.protocol.proofs.Vocabulary.{fields_of, cell_place}
+use Rattle.condvar.specs.Ops.{reply_of}
 
 -- ---- how many accesses are left
 
@@ -91,14 +92,14 @@ cond_falls t held op p f a w stands never = absurd stands
 -- with so many accesses left at most
 abbrev Within : ℕ → Stage → Type 0
 Within n (Calling o p) = NeverWaits (operation_of o) × (of_phase p.phase ≤ n)
-Within n (AtCondition c p) = NeverWaits (conditions.operation_of c) × (left_at_phase p.phase ≤ n)
+Within n (AtCondition c p) = NeverWaits (conditions.acts_as c) × (left_at_phase p.phase ≤ n)
 Within n g = ⊥
 
 -- or it is in no call
 abbrev Quiet : Stage → Type 0
 Quiet Idle = Unit {0}
 Quiet (Calling o p) = NeverWaits (operation_of o)
-Quiet (AtCondition c p) = NeverWaits (conditions.operation_of c)
+Quiet (AtCondition c p) = NeverWaits (conditions.acts_as c)
 Quiet g = ⊥
 
 is_quiet : (n : ℕ) (g : Stage) → Within n g → Quiet g
@@ -131,7 +132,7 @@ never_wait op never = grind (arith)
 -- a call on a mutex goes on in this phase, or returns
 abbrev GoesOnIn : ℕ → ℕ → Op → Whole → State → After → Phase → Type 0
 GoesOnIn n t o p s a f =
-    (m held : ℕ) (d : Option Decision) (k : Option Queue) (ws ms : List ℕ) → of_phase f ≤ n → a.state.threads ≡ put s.threads t (record { stage = stage_after o p f; held = held }) → a.note ≡ Stepped t m d k ws ms (returned f) → GoesOn n t a
+    (m held : ℕ) (d : Option Decision) (k : Option Queue) (ws ms : List ℕ) → of_phase f ≤ n → a.state.threads ≡ put s.threads t (record { stage = stage_after o p f; held = held }) → a.note ≡ Stepped t m d k ws ms (returned o f) → GoesOn n t a
 
 called_on : (n t : ℕ) (o : Op) (p : Whole) (s : State) (a : After) → NeverWaits (operation_of o) → (f : Phase) → GoesOnIn n t o p s a f
 called_on n t o p s a never f = go f
@@ -145,10 +146,10 @@ called_on n t o p s a never f = go f
     go (Linking l x) = on (Linking l x) refl
     go (Unlinking u e) = on (Unlinking u e) refl
     go (Clearing x) = on (Clearing x) refl
-    go (Ended x) = λ m held d k ws ms less same noted. inl (x, λ rest. subst (λ (y : Note). IsAmong (Return t x) (facts_of y ++ rest)) (sym noted) (told_return t m x d k ws ms (Some x) rest refl))
+    go (Ended x) = λ m held d k ws ms less same noted. inl (reply_of o x, λ rest. subst (λ (y : Note). IsAmong (Return t (reply_of o x)) (facts_of y ++ rest)) (sym noted) (told_return t m (reply_of o x) d k ws ms (Some (reply_of o x)) rest refl))
 
 -- and so does one on a condition variable
-conditions_on : (n t : ℕ) (c : CondCall) (p : CondWhole) (s : State) (a : After) (most : ℕ) → NeverWaits (conditions.operation_of c) → most ≤ suc n → (g : CondPhase) → FallsTo most g
+conditions_on : (n t : ℕ) (c : CondCall) (p : CondWhole) (s : State) (a : After) (most : ℕ) → NeverWaits (conditions.acts_as c) → most ≤ suc n → (g : CondPhase) → FallsTo most g
     → (m held : ℕ) (d : Option Decision) (k : Option Queue) (ws ms : List ℕ) → a.state.threads ≡ put s.threads t (record { stage = stage_at c p g; held = held }) → a.note ≡ Stepped t m d k ws ms (returned_at g) → GoesOn n t a
 conditions_on n t c p s a most never few (CondPhase.Ended x) falls m held d k ws ms same noted = inl (x, λ rest. subst (λ (y : Note). IsAmong (Return t x) (facts_of y ++ rest)) (sym noted) (told_return t m x d k ws ms (Some x) rest refl))
 conditions_on n t c p s a most never few (CondPhase.AtWords r) falls m held d k ws ms same noted =
@@ -184,7 +185,7 @@ module _ (s : State) (inv : Kept s) (queued : Queued s) where
           let fits = fits_in s t o p inv pos known is in
           let less = phase_falls t (s.threads t).held p p.phase Fault (seen s (mutex_of s.layout o)) fits.0.stands (never_locks s.layout o p.operation fits.1 never) in
           absurd (omega (arith, few, less))
-      go (AtCondition c p) is (never, few) = absurd (left_none p.phase (conditions.operation_of c) p t (s.threads t).held _ (fits_at s t c p inv pos known is).stands (never_wait _ never) few)
+      go (AtCondition c p) is (never, few) = absurd (left_none p.phase (conditions.acts_as c) p t (s.threads t).held _ (fits_at s t c p inv pos known is).stands (never_wait _ never) few)
       go Idle is within = within
       go (Stage.Dying w) is within = within
       go Stage.Reaped is within = within
@@ -203,7 +204,7 @@ module _ (s : State) (inv : Kept s) (queued : Queued s) where
       called_on n t o p s (went s t (s.threads t).held (mutex_of s.layout o) (Mutex (mutex_of s.layout o)) (whole_access p) (led o p (whole_led p (answer_of s t (whole_access p))))) there.0 _ _ _ _ _ _ _ (omega (arith, less, few)) refl refl)
       (λ c p is awake.
       let there = subst (Within (suc n)) is within in
-      conditions_on n t c p s (went s t (s.threads t).held (mutex_of s.layout (OnCondition c)) (Condition (condition_of c)) (cond_access p) (led_at c p (cond_led p (answer_of s t (cond_access p))))) (left_at_phase p.phase) there.0 there.1 _ (cond_falls t (s.threads t).held (conditions.operation_of c) p p.phase (answer_of s t (cond_access p)) _ (fits_at s t c p inv pos known is).stands (never_wait _ there.0)) _ _ _ _ _ _ refl refl)
+      conditions_on n t c p s (went s t (s.threads t).held (mutex_of s.layout (OnCondition c)) (Condition (condition_of c)) (cond_access p) (led_at c p (cond_led p (answer_of s t (cond_access p))))) (left_at_phase p.phase) there.0 there.1 _ (cond_falls t (s.threads t).held (conditions.acts_as c) p p.phase (answer_of s t (cond_access p)) _ (fits_at s t c p inv pos known is).stands (never_wait _ there.0)) _ _ _ _ _ _ refl refl)
       (λ w is awake. absurd (subst (Within (suc n)) is within)))
     where
       works : (g : Stage) → Within (suc n) g → IsWorking g
@@ -228,6 +229,7 @@ module _ (s : State) (inv : Kept s) (queued : Queued s) where
       (λ t pos known alive is. absurd cc)
       (λ t pos known asleep is n within. inr within)
       (λ t m p pos known is asleep may other n within. absurd (subst (Within n) is within).0)
+      (λ t k x p pos known is there other n within. absurd (subst (Within n) is within).0)
       (λ t o p pos known is awake trims other n within.
       let there = subst (Within n) is within in
       let fits = fits_in s t o p inv pos known is in
@@ -253,8 +255,8 @@ module _ (s : State) (inv : Kept s) (queued : Queued s) where
           (called_on n t o p s (spared s t (s.threads t).held m (led o p (whole_led p (Count 1)))) there.0 (whole_led p (Count 1)).phase m _ _ None [] [] (omega (arith, less, few)) refl refl)
       spares_on t m g sp n within (Of_wait c p x is mutex at leads) =
           let there = subst (Within n) is within in
-          let stands = subst (λ (f : CondPhase). AtPhase t (s.threads t).held (conditions.operation_of c) p f (fields_of (s.words (cell_place s.layout (mutex_of s.layout (OnCondition c)))))) at (fits_at s t c p inv sp.first sp.last is).stands in
-          absurd (never_wait (conditions.operation_of c) there.0 (sym stands.of))
+          let stands = subst (λ (f : CondPhase). AtPhase t (s.threads t).held (conditions.acts_as c) p f (fields_of (s.words (cell_place s.layout (mutex_of s.layout (OnCondition c)))))) at (fits_at s t c p inv sp.first sp.last is).stands in
+          absurd (never_wait (conditions.acts_as c) there.0 (sym stands.of))
 
 -- ---- any event
 
@@ -337,7 +339,7 @@ in_time (e ∷ es) s t inv queued pos known spared within =
 quiet_after : (o : Op) (p : Whole) (f : Phase) → NeverWaits (operation_of o) → Quiet (stage_after o p f)
 quiet_after o p f never = grind (arith)
 
-quiet_at : (c : CondCall) (p : CondWhole) (f : CondPhase) → NeverWaits (conditions.operation_of c) → Quiet (stage_at c p f)
+quiet_at : (c : CondCall) (p : CondWhole) (f : CondPhase) → NeverWaits (conditions.acts_as c) → Quiet (stage_at c p f)
 quiet_at c p f never = grind (arith)
 
 abbrev is_kill : Event → Bool
@@ -368,6 +370,7 @@ module _ (s : State) where
       (λ t pos known alive is. absurd cc)
       (λ t pos known asleep is none quiet. quiet)
       (λ t m p pos known at asleep may is none quiet. absurd (subst Quiet at quiet))
+      (λ t k x p pos known at there is none quiet. absurd (subst Quiet at quiet))
       (λ t o p pos known at awake trims is none quiet. put_quiet t _ (quiet_after o p _ (subst Quiet at quiet)))
       (λ t pos known gone is none quiet. absurd (subst Quiet gone quiet))
       (λ t m may is none quiet. absurd (none.0 refl))

@@ -3,7 +3,8 @@ use Rattle.std.proofs.Common.{◌≡◌, ⊎_elim, ℕ, ◌≤◌, ◌&&◌, Boo
 use Rattle.protocol.proofs.Vocabulary.{CondCall, CondWhole, condition_of, cond_access, Queue, Mutex, Condition, Fact, Begun, Object, Operation, Layout', XHELD, Phase, Whole, whole_access}
 use Rattle.protocol.proofs.Vocabulary.{Op, OnCondition, mutex_of, begun_of, Event, Stage, Calling, AtCondition, State, After, place_met, is_met, sleeps_at, slept_in, facts_of, begun, happens, falls_asleep, seen, if◌then◌else◌}
 use Rattle.facts.specs.declared.fact.Fact.TheVariants.{Sleep, Wake}
-use Rattle.condvar.specs.Calls.{operation_of}
+use Rattle.condvar.specs.Calls.{acts_as, operation_of}
+use Rattle.facts.specs.Lives.{IsWait}
 use Rattle.condvar.specs.Laws.{row_operation}
 use Rattle.protocol.specs.Sleepers.{IsAmong}
 use Rattle.protocol.specs.Wakings.{MaySleepIn}
@@ -20,6 +21,7 @@ use Rattle.protocol.proofs.Sparing.{spare_is}
 use Rattle.std.proofs.Common.{None}
 use Rattle.protocol.proofs.Vocabulary.{woken}
 use Rattle.exitwalk.specs.Walks as exit
+use Rattle.std.proofs.Common.{inl, inr}
 
 -- ---- facts that tell no sleep
 
@@ -46,8 +48,15 @@ second false b e = absurd cc
 lock_may : (l : Layout') (o : Op) (op : Operation) → op ≡ Operation.Lock → IsFor l o op → MaySleepIn (Mutex (mutex_of l o)) (Some (begun_of l o))
 lock_may l o op is for_one = grind (arith)
 
-wait_may : (l : Layout') (c : CondCall) → operation_of c ≡ Operation.Wait → MaySleepIn (Condition (condition_of c)) (Some (begun_of l (OnCondition c)))
-wait_may l c is = (refl, is)
+-- a wait, with a time limit or without
+wait_is : (c : CondCall) → acts_as c ≡ Operation.Wait → IsWait (operation_of c)
+wait_is (CondCall.Wait k) is = inl refl
+wait_is (CondCall.TimedWait k x) is = inr refl
+wait_is (CondCall.Signal k) is = absurd (cc is)
+wait_is (CondCall.Broadcast k) is = absurd (cc is)
+
+wait_may : (l : Layout') (c : CondCall) → acts_as c ≡ Operation.Wait → MaySleepIn (Condition (condition_of c)) (Some (begun_of l (OnCondition c)))
+wait_may l c is = (refl, wait_is c is)
 
 module _ (s : State) (inv : Kept s) (calls : ℕ → Option Begun) (left : ℕ → Option Object) (learnt : (t : ℕ) → Learnt s.layout (s.threads t).stage (calls t) (left t)) where
   abbrev Tells : After → Type 0
@@ -65,7 +74,7 @@ module _ (s : State) (inv : Kept s) (calls : ℕ → Option Begun) (left : ℕ �
       lock_may s.layout o p.operation (sym stands.of) fits.1
 
   abbrev Waits : ℕ → CondCall → CondWhole → Type 0
-  Waits u c p = sleeps_at (cond_access p) (s.words (place_met s.layout u (cond_access p))) ≡ true → operation_of c ≡ Operation.Wait
+  Waits u c p = sleeps_at (cond_access p) (s.words (place_met s.layout u (cond_access p))) ≡ true → acts_as c ≡ Operation.Wait
 
   at_condition : (u : ℕ) (c : CondCall) (p : CondWhole) → 1 ≤ u → u ≤ s.layout.threads → (s.threads u).stage ≡ AtCondition c p → Waits u c p
   at_condition u c p pos known is =
@@ -98,6 +107,7 @@ module _ (s : State) (inv : Kept s) (calls : ℕ → Option Begun) (left : ℕ �
       (λ u pos known alive t q h. absurd (one_else _ t q (λ e. cc e) h))
       (λ u pos known asleep t q h. absurd (one_else _ t q (λ e. cc e) h))
       (λ u m p pos known is asleep may t q h. absurd (two_else _ _ t q (λ e. cc e) (λ e. cc e) h))
+      (λ u k x p pos known is there t q h. absurd (one_else _ t q (λ e. cc e) h))
       (λ u o p pos known is awake trims. subst Tells (sym (spared_is s u o p is trims inv pos known)) (λ t q h. absurd h))
       (λ u pos known gone t q h. absurd (one_else _ t q (λ e. cc e) h))
       (λ u m may t q h. absurd (three_else _ _ _ t q (λ e. cc e) (λ e. cc e) (λ e. cc e) h))

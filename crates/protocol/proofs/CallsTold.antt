@@ -1,6 +1,7 @@
 -- A thread that is in a call is in the one whose begin was told last.
 use Rattle.std.proofs.Common.{◌≡◌, ◌≢◌, ⊎_elim, ℕ, ◌==◌, Bool, true, false, Option, Some, None, Ok, Err, List, [], ◌∷◌, refl, sym, ap, ◌∙◌, subst, arith, eq-eqb}
 use Rattle.protocol.proofs.Vocabulary.{Begun, CondCall, CondPhase, CondWhole, cond_access, cond_led, Layout', Mutex, Condition, XHELD, Trimmed, Count, Phase, Whole, whole_access, whole_led, Call, Op, OnMutex, OnCondition}
+use Rattle.protocol.proofs.Vocabulary.{Limit, Past}
 use Rattle.protocol.proofs.Vocabulary.{condition_of, mutex_of, begun_of, Thread, Stage, Idle, Calling, AtCondition, Event, State, After, answer_of, begun, spared, went, walked, repeated, woken, put}
 use Rattle.protocol.proofs.Vocabulary.{stage_after, stage_at, stage_walked, led, led_at, happens, stepped, run, notes, facts_of, facts_among, last_begun, if◌then◌else◌}
 use Rattle.mutex.specs.Whole.{timed_out}
@@ -59,6 +60,9 @@ module _ (s : State) (u t : ℕ) (b : Option Begun) (h : IsTold s.layout (s.thre
   out_of_time : (m : ℕ) (p : Whole) (held : ℕ) → (s.threads u).stage ≡ Calling (OnMutex (Call.TimedLock m)) p → At (put s.threads u (record { stage = Calling (OnMutex (Call.TimedLock m)) (timed_out p); held = held }) t).stage b
   out_of_time m p held is = stays (record { stage = Calling (OnMutex (Call.TimedLock m)) (timed_out p); held = held }) (λ was. subst (λ (g : Stage). At g b) is was)
 
+  late : (k : ℕ) (x : Limit) (p : Whole) (held : ℕ) → (s.threads u).stage ≡ Calling (OnCondition (CondCall.TimedWait k x)) p → At (put s.threads u (record { stage = Calling (OnCondition (CondCall.TimedWait k Past)) p; held = held }) t).stage b
+  late k x p held is = stays (record { stage = Calling (OnCondition (CondCall.TimedWait k Past)) p; held = held }) (λ was. subst (λ (g : Stage). At g b) is was)
+
   spared_so : (m held : ℕ) (g : Led) → HowSpared s u m g → At (put s.threads u (record { stage = g.stage; held = held }) t).stage b
   spared_so m held g (Of_unlock o p is mutex at leads) = subst (λ (z : Led). At (put s.threads u (record { stage = z.stage; held = held }) t).stage b) (sym leads) (in_call o p (whole_led p (Count 1)).phase held is)
   spared_so m held g (Of_wait c p seen is mutex at leads) = subst (λ (z : Led). At (put s.threads u (record { stage = z.stage; held = held }) t).stage b) (sym leads) (at_condition c p (cond_led p (Count 1)).phase held is)
@@ -106,6 +110,7 @@ told_on s e t b h =
     (λ u pos known alive. stays s u t b h _ (λ was. tt))
     (λ u pos known asleep. h)
     (λ u m p pos known is asleep may. out_of_time s u t b h m p _ is)
+    (λ u k x p pos known is there. late s u t b h k x p _ is)
     (λ u o p pos known is awake trims. still s u t b h (spared s u (s.threads u).held (mutex_of s.layout o) (led o p (whole_led p (Trimmed false)))) (begins_stepped u (mutex_of s.layout o) _ None [] [] (led o p (whole_led p (Trimmed false))).returned) (in_call s u t b h o p (whole_led p (Trimmed false)).phase _ is))
     (λ u pos known gone. stays s u t b h _ (λ was. tt))
     (λ u m may. returns s u t b h _ may.remake.resting)

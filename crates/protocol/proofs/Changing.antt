@@ -8,7 +8,7 @@ use Rattle.exitwalk.specs.declared.row.Row as walk_row
 use Rattle.exitwalk.specs.declared.row.Row.TheVariants as walk
 use Rattle.exitwalk.specs.Walks as exit
 use Rattle.condvar.specs.declared.row.CondRow.TheVariants.{Wait}
-use Rattle.condvar.specs.Calls.{operation_of}
+use Rattle.condvar.specs.Calls.{acts_as, operation_of}
 use Rattle.condvar.specs.Laws.{row_operation, is_at_counter}
 use Rattle.condvar.specs.Programs.{row_access}
 use Rattle.protocol.specs.declared.event.Event.TheVariants.{Begin, Step, Kill}
@@ -54,6 +54,7 @@ theirs s e t =
     (λ u pos known alive apart. put-other s.threads u _ t (λ e. apart (sym e)))
     (λ u pos known asleep apart. refl)
     (λ u m p pos known is asleep may apart. put-other s.threads u _ t (λ e. apart (sym e)))
+    (λ u k x p pos known is there apart. put-other s.threads u _ t (λ e. apart (sym e)))
     (λ u o p pos known is awake trims apart. put-other s.threads u _ t (λ e. apart (sym e)))
     (λ u pos known gone apart. put-other s.threads u _ t (λ e. apart (sym e)))
     (λ u m may apart. refl)
@@ -151,6 +152,13 @@ still_queue s t a key stays apart = ap (λ (qs : ℕ → List ℕ). qs key) (joi
 two_queues : (s : State) (t from e n to k key : ℕ) → key ≢ place_in s.layout t from → key ≢ place_in s.layout t to → queues_then s t (Access.CmpRequeue from e n to k) key ≡ s.queues key
 two_queues s t from e n to k key off other = put-other (put s.queues (place_in s.layout t from) _) (place_in s.layout t to) _ key other ∙ put-other s.queues (place_in s.layout t from) _ key off
 
+-- and is told so
+told_counting : (c : CondCall) → (acts_as c ≡ Operation.Signal) ⊎ (acts_as c ≡ Operation.Broadcast) → (operation_of c ≡ Operation.Signal) ⊎ (operation_of c ≡ Operation.Broadcast)
+told_counting (CondCall.Wait k) counts = counts
+told_counting (CondCall.TimedWait k x) counts = absurd (⊎_elim (λ (e : Operation.Wait ≡ Operation.Signal). cc e) (λ (e : Operation.Wait ≡ Operation.Broadcast). cc e) counts)
+told_counting (CondCall.Signal k) counts = counts
+told_counting (CondCall.Broadcast k) counts = counts
+
 module _ (s : State) (t : ℕ) (w : Told) (b : Option Begun) (o : Option Object) (inv : Kept s) (pos : 1 ≤ t) (known : t ≤ s.layout.threads) (agrees : Agrees w (s.threads t).stage) (learnt : Learnt s.layout (s.threads t).stage b o) where
   abbrev Steps : After → Type 0
   Steps a = OnlySteps s a.state t w b
@@ -201,7 +209,7 @@ module _ (s : State) (t : ℕ) (w : Told) (b : Option Begun) (o : Option Object)
           ⊎_elim
           (λ same. inl (put-same s.words _ _ ∙ same _ _))
           (λ counts. inr (inr (inr (counts, condition_of c, refl, at_either s t c r inv pos known fits ∙ ap (λ (x : Bool). if x then its_counter s c else cell_place s.layout (its_mutex s c)) e))))
-          (row_counts t _ _ r (operation_of c) fits.stands.of e)
+          (⊎_elim (λ still. inl still) (λ counts. inr (told_counting c counts)) (row_counts t _ _ r (acts_as c) fits.stands.of e))
 
   abbrev Stirs : CondCall → CondWhole → Type 0
   Stirs c p = (key : ℕ) → ((after s t (cond_step s t c p)).queues key ≡ s.queues key) ⊎ MayStir s InCall (Some (begun_of s.layout (OnCondition c))) key

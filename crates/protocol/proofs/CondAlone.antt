@@ -5,7 +5,7 @@ use Rattle.protocol.proofs.Vocabulary.{cond_access, after_words, Object, Operati
 use Rattle.protocol.proofs.Vocabulary.{Reply, OK, XRACED, or_waiting, AtCondition, State, is_calling, stands_in, is_asleep, place_met, stage_at, reply_at, returned_at}
 use Rattle.protocol.proofs.Vocabulary.{seen, eqb-false, WaitRow, SignalRow, BroadcastRow, names, IsWaiting}
 use Rattle.condvar.specs.declared.row.CondRow.TheVariants.{Wait, Ended}
-use Rattle.condvar.specs.Calls.{operation_of}
+use Rattle.condvar.specs.Calls.{acts_as}
 use Rattle.condvar.specs.Rows.{IsGoing}
 use Rattle.condvar.specs.Laws.{row_operation}
 use Rattle.condvar.specs.Programs.{row_access, resume_of}
@@ -76,7 +76,7 @@ module _ (t held : ℕ) (o : Object) where
   module _ (c : CondCall) where
     -- of a state
     abbrev pub KnowsIn : State → CondPhase → Type 0
-    KnowsIn s f = Knows (operation_of c) (s.words (its_counter s c)) (seen s (its_mutex s c)) f
+    KnowsIn s f = Knows (acts_as c) (s.words (its_counter s c)) (seen s (its_mutex s c)) f
 
     -- before its release it has decided nothing
     undecided : (op : Operation) (k x : ℕ) (now : Object) (f : CondPhase) → IsBefore x f → Knows op k now f → (x ≡ k % 2 ^ 32) × (now ≡ o)
@@ -111,19 +111,19 @@ module _ (t held : ℕ) (o : Object) where
           where
             still : (x ≡ (cond_after s t c q).words (its_counter s c) % 2 ^ 32) × (seen (cond_after s t c q) (its_mutex s c) ≡ o)
             still =
-                let was = undecided (operation_of c) _ x _ q.phase near.before knows in
+                let was = undecided (acts_as c) _ x _ q.phase near.before knows in
                 let pointless = ap reply_at near.pointless in (
                   was.0 ∙ ap (λ (n : ℕ). n % 2 ^ 32) (sym (own_counter s t (cond_step s t c q) inv pos known near.step.inside near.plain near.mine pointless (condition_of c))),
                   own_seen s t (cond_step s t c q) inv pos known near.step.inside near.plain near.mine pointless (its_mutex s c) ∙ was.1,
                 )
 
     -- it sleeps only where it is a wait by the owner of a consistent mutex
-    sleeps_known : (s : State) (p : CondWhole) → Kept s → 1 ≤ t → t ≤ s.layout.threads → (s.threads t).stage ≡ AtCondition c p → sleeps_at (cond_access p) (s.words (place_met s.layout t (cond_access p))) ≡ true → KnowsIn s p.phase → (operation_of c ≡ Operation.Wait) × IsIts
+    sleeps_known : (s : State) (p : CondWhole) → Kept s → 1 ≤ t → t ≤ s.layout.threads → (s.threads t).stage ≡ AtCondition c p → sleeps_at (cond_access p) (s.words (place_met s.layout t (cond_access p))) ≡ true → KnowsIn s p.phase → (acts_as c ≡ Operation.Wait) × IsIts
     sleeps_known s p inv pos known is on knows = grind (arith)
 
     -- where it sleeps
     abbrev pub Waits : State → Type 0
-    Waits z = IsWaiting o t (operation_of c) (Some (condition_of c)) z
+    Waits z = IsWaiting o t (acts_as c) (Some (condition_of c)) z
 
     now_waits : (s : State) (p : CondWhole) → Kept s → Queued s → 1 ≤ t → t ≤ s.layout.threads → (s.threads t).stage ≡ AtCondition c p → is_asleep s t ≡ false → sleeps_at (cond_access p) (s.words (place_met s.layout t (cond_access p))) ≡ true → KnowsIn s p.phase → Waits (cond_after s t c p)
     now_waits s p inv queued pos known is awake on knows =
@@ -141,10 +141,10 @@ module _ (t held : ℕ) (o : Object) where
 
     -- a call that is awake, whatever steps it has made
     pub comes_at : (n : ℕ) (s : State) (p : CondWhole) → Kept s → Queued s → 1 ≤ t → t ≤ s.layout.threads → (s.threads t).stage ≡ AtCondition c p → is_asleep s t ≡ false → KnowsIn s p.phase
-        → ComesBack t held (its_mutex s c) (operation_of c) o Waits s n
-    comes_at zero s p inv queued pos known is awake knows = at_first t held (its_mutex s c) (operation_of c) o Waits s (cond_step s t c p) (cond_stepping s t c p inv pos known is) is awake
+        → ComesBack t held (its_mutex s c) (acts_as c) o Waits s n
+    comes_at zero s p inv queued pos known is awake knows = at_first t held (its_mutex s c) (acts_as c) o Waits s (cond_step s t c p) (cond_stepping s t c p inv pos known is) is awake
     comes_at (suc n) s p inv queued pos known is awake knows =
-        takes_step t held (its_mutex s c) (operation_of c) o Waits s (cond_step s t c p) step queued pos known is awake (its_mutex s c) _ _ _ _ (returned_at (cond_onto s t p).phase) (cond_goes s t c p inv pos known is) (cond_ends c p (cond_onto s t p)) n
+        takes_step t held (its_mutex s c) (acts_as c) o Waits s (cond_step s t c p) step queued pos known is awake (its_mutex s c) _ _ _ _ (returned_at (cond_onto s t p).phase) (cond_goes s t c p inv pos known is) (cond_ends c p (cond_onto s t p)) n
         (λ on. now_waits s p inv queued pos known is awake on knows)
         (λ x quiet e. returns x (cond_onto s t p).phase e (keeps_on s p inv pos known is quiet knows))
         (λ quiet calling. on quiet calling (comes_at n))
@@ -152,8 +152,8 @@ module _ (t held : ℕ) (o : Object) where
         step : Stepping s t (cond_step s t c p)
         step = cond_stepping s t c p inv pos known is
 
-        returns : (x : Reply) (f : CondPhase) → returned_at f ≡ Some x → KnowsIn (cond_after s t c p) f → (x ≢ XRACED) × Does held o t (operation_of c) x (seen (cond_after s t c p) (its_mutex s c))
-        returns x (CondPhase.Ended y) e h = subst (λ (z : Reply). (z ≢ XRACED) × Does held o t (operation_of c) z (seen (cond_after s t c p) (its_mutex s c))) (replied e) h
+        returns : (x : Reply) (f : CondPhase) → returned_at f ≡ Some x → KnowsIn (cond_after s t c p) f → (x ≢ XRACED) × Does held o t (acts_as c) x (seen (cond_after s t c p) (its_mutex s c))
+        returns x (CondPhase.Ended y) e h = subst (λ (z : Reply). (z ≢ XRACED) × Does held o t (acts_as c) z (seen (cond_after s t c p) (its_mutex s c))) (replied e) h
           where
             replied : Some y ≡ Some x → y ≡ x
             replied same = cc
@@ -163,8 +163,8 @@ module _ (t held : ℕ) (o : Object) where
         returns x (CondPhase.Locking w) e h = absurd (cc e)
 
         on : sleeps_at (cond_access p) (s.words (place_met s.layout t (cond_access p))) ≡ false → is_calling (stage_at c p (cond_onto s t p).phase) ≡ true
-            → ((z : State) (q : CondWhole) → Kept z → Queued z → 1 ≤ t → t ≤ z.layout.threads → (z.threads t).stage ≡ AtCondition c q → is_asleep z t ≡ false → KnowsIn z q.phase → ComesBack t held (its_mutex z c) (operation_of c) o Waits z n)
-            → ComesBack t held (its_mutex s c) (operation_of c) o Waits (cond_after s t c p) n
+            → ((z : State) (q : CondWhole) → Kept z → Queued z → 1 ≤ t → t ≤ z.layout.threads → (z.threads t).stage ≡ AtCondition c q → is_asleep z t ≡ false → KnowsIn z q.phase → ComesBack t held (its_mutex z c) (acts_as c) o Waits z n)
+            → ComesBack t held (its_mutex s c) (acts_as c) o Waits (cond_after s t c p) n
         on quiet calling further = go (cond_onto s t p).phase refl calling (keeps_on s p inv pos known is quiet knows)
           where
             there : (f : CondPhase) → (cond_onto s t p).phase ≡ f → ((cond_after s t c p).threads t).stage ≡ stage_at c p f
@@ -176,7 +176,7 @@ module _ (t held : ℕ) (o : Object) where
             queued_then : Queued (cond_after s t c p)
             queued_then = went_queued s t (cond_step s t c p) step pos known is queued awake
 
-            go : (f : CondPhase) → (cond_onto s t p).phase ≡ f → is_calling (stage_at c p f) ≡ true → KnowsIn (cond_after s t c p) f → ComesBack t held (its_mutex s c) (operation_of c) o Waits (cond_after s t c p) n
+            go : (f : CondPhase) → (cond_onto s t p).phase ≡ f → is_calling (stage_at c p f) ≡ true → KnowsIn (cond_after s t c p) f → ComesBack t held (its_mutex s c) (acts_as c) o Waits (cond_after s t c p) n
             go (CondPhase.AtWords r) is_f calling h = further (cond_after s t c p) (record p { phase = CondPhase.AtWords r }) step.kept queued_then pos known (there (CondPhase.AtWords r) is_f) out h
             go (CondPhase.Announcing x) is_f calling h = further (cond_after s t c p) (record p { phase = CondPhase.Announcing x }) step.kept queued_then pos known (there (CondPhase.Announcing x) is_f) out h
             go (CondPhase.Unlinking u x) is_f calling h = further (cond_after s t c p) (record p { phase = CondPhase.Unlinking u x }) step.kept queued_then pos known (there (CondPhase.Unlinking u x) is_f) out h

@@ -6,7 +6,7 @@ use Rattle.protocol.proofs.Vocabulary.{counter_place, acquires, object_of, owner
 use Rattle.protocol.proofs.Vocabulary.{is_valid, is_met, stage_at, reply_at, held_after, seen, IsUnowned, Agree, if◌then◌else◌, WaitRow, BroadcastRow, there, decided_at}
 use Rattle.protocol.proofs.Vocabulary.{place_in, place_met}
 use Rattle.condvar.specs.declared.row.CondRow.TheVariants.{Wait}
-use Rattle.condvar.specs.Calls.{operation_of}
+use Rattle.condvar.specs.Calls.{acts_as}
 use Rattle.condvar.specs.Laws.{IsOf, row_operation, is_at_counter}
 use Rattle.condvar.specs.Programs.{row_access, resume_of, point_of}
 use Rattle.condvar.specs.Whole.{begins}
@@ -65,10 +65,10 @@ module _ (s' : State) (t held : ℕ) (c : CondCall) where
     left_at_row q = grind (arith)
 
     module _ (inside : m < l.mutexes) (known : condition_of c < length l.conditions) where
-      pub fit_at : (g : CondPhase) → AtPhase t held (operation_of c) from g (fields_of (s'.words (cell_place l m))) → FitsAt s' t held c (record from { phase = g })
+      pub fit_at : (g : CondPhase) → AtPhase t held (acts_as c) from g (fields_of (s'.words (cell_place l m))) → FitsAt s' t held c (record from { phase = g })
       fit_at g stands = grind (arith)
 
-      sits_at : (q : CondRow) → IsOf (operation_of c) q → Needs t q (fields_of (s'.words (cell_place l m))) → Room held q → Sits s' t held (stage_at c from (after_words from q))
+      sits_at : (q : CondRow) → IsOf (acts_as c) q → Needs t q (fields_of (s'.words (cell_place l m))) → Room held q → Sits s' t held (stage_at c from (after_words from q))
       sits_at q same needs room = grind (arith)
 
 -- ---- the access of a row
@@ -123,7 +123,7 @@ module _ (s : State) (t : ℕ) (c : CondCall) (r : CondRow) (inv : Kept s) (pos 
   abbrev w' : ℕ
   w' = cell_after t cell_there counter_there r w
 
-  abbrev stands : AtWordsRow t held (operation_of c) r (fields_of w)
+  abbrev stands : AtWordsRow t held (acts_as c) r (fields_of w)
   stands = fits.stands
 
   apart : counter ≢ cell

@@ -7,7 +7,7 @@ use Rattle.protocol.proofs.Vocabulary.{place_met, stage_after, stage_at, led, le
 use Rattle.protocol.proofs.Vocabulary.{WaitRow, SignalRow, BroadcastRow, first_word, ArePresets}
 use Rattle.exitwalk.specs.Standings as walks
 use Rattle.condvar.specs.declared.row.CondRow.TheVariants.{Wait}
-use Rattle.condvar.specs.Calls.{operation_of}
+use Rattle.condvar.specs.Calls.{acts_as}
 use Rattle.condvar.specs.Rows.{IsGoing}
 use Rattle.condvar.specs.Laws.{is_at_counter, row_operation}
 use Rattle.condvar.specs.Programs.{row_access, resume_of}
@@ -39,6 +39,8 @@ use Rattle.protocol.proofs.Events.{HowSpared, Of_unlock, Of_wait, Sparing, recou
 use Rattle.protocol.proofs.Recounting.{recounted_counter, recounted_other, without_count}
 use Rattle.protocol.proofs.Sparing.{spare_is, spared_state, next_of}
 use Rattle.protocol.proofs.Cases.{by_same}
+use Rattle.protocol.proofs.Vocabulary.{Idle, Reaped, Fields, Operation}
+use Rattle.protocol.proofs.Kept.{Sits, AtPhase}
 
 -- ---- one access of a call on a condition variable
 
@@ -54,7 +56,7 @@ module _ (s : State) (t : ℕ) (c : CondCall) where
 
   -- by its row; or it comes nearer to its release
   pub data CondMove (p : CondWhole) : Type 0 where
-    By_row : (r : CondRow) → p ≡ cond_of s.layout t c (CondPhase.AtWords r) → IsGoing r → row_operation r ≡ operation_of c → Needs t r (fields_of w) → then_words p (its_counter s c) ≡ counter_after t (cell_at s t c) (counter_at s t c) r n
+    By_row : (r : CondRow) → p ≡ cond_of s.layout t c (CondPhase.AtWords r) → IsGoing r → row_operation r ≡ acts_as c → Needs t r (fields_of w) → then_words p (its_counter s c) ≡ counter_after t (cell_at s t c) (counter_at s t c) r n
         → cond_onto s t p ≡ from_words p (resume_of t r (answer_at (row_access t (cell_at s t c) (counter_at s t c) r) (met_word r w n))) → CondMove p
     Before_release : (seen : ℕ) → IsBefore seen p.phase → IsBefore seen (cond_onto s t p).phase → (cond_onto s t p).point ≡ None → then_words p (its_counter s c) ≡ n → CondMove p
 
@@ -137,12 +139,37 @@ pub record Passes (s : State) (t : ℕ) (s' : State) : Type 0 where
   pub knows : 1 ≤ t → t ≤ s.layout.threads → KnowsIn s.layout s'.words (s'.threads t).stage
   pub theirs : (u : ℕ) → u ≢ t → (s'.threads u).stage ≡ (s.threads u).stage
 
+still_at : (t u held n n' : ℕ) (op : Operation) (p : CondWhole) (f : CondPhase) (z : Fields) → AtPhase u held op p f z → u ≢ t → (n' ≡ n) ⊎ ((n' ≡ n + 1) × (n < full) × (z.owner ≡ t)) → KnowsAt n f → KnowsAt n' f
+still_at t u held n n' op p f z stands apart rises knows = grind (arith)
+
 module _ (s : State) (t : ℕ) (s' : State) (inv : Kept s) (counted : Counted s) (g : Passes s t s') where
   pub never_falls : (k : ℕ) → s.words (counter_place s.layout k) ≤ s'.words (counter_place s.layout k)
   never_falls k = grind (arith)
 
+  most_then : (k : ℕ) → k < length s.layout.conditions → s'.words (counter_place s.layout k) ≤ full
+  most_then k low = ⊎_elim
+      (λ same. subst (λ (n : ℕ). n ≤ full) (sym same) (counted.most k low))
+      (λ up. let counts = up.0 in let room = up.1 in omega arith)
+      (g.rises k)
+
+  -- what another knows of a counter it knows of it behind the event: that rose only where its mutex is thread t's
+  still_in : (u h : ℕ) → u ≢ t → (z : Stage) → Sits s u h z → KnowsIn s.layout s.words z → KnowsIn s.layout s'.words z
+  still_in u h apart Idle sits knows = tt
+  still_in u h apart (Calling o p) sits knows = tt
+  still_in u h apart (AtCondition c p) sits knows = still_at t u h _ _ (acts_as c) p p.phase _ sits.stands apart (g.rises (condition_of c)) knows
+  still_in u h apart (Dying w) sits knows = tt
+  still_in u h apart Reaped sits knows = tt
+
+  knows_then : (u : ℕ) → 1 ≤ u → u ≤ s.layout.threads → KnowsIn s.layout s'.words (s'.threads u).stage
+  knows_then u first last = by_same u t
+      (λ is. subst (λ (v : ℕ). KnowsIn s.layout s'.words (s'.threads v).stage) (sym is) (g.knows (subst (λ (v : ℕ). 1 ≤ v) is first) (subst (λ (v : ℕ). v ≤ s.layout.threads) is last)))
+      (λ apart. subst (KnowsIn s.layout s'.words) (sym (g.theirs u apart)) (still_in u (s.threads u).held apart (s.threads u).stage (inv.sits u first last) (counted.knows u first last)))
+
   pub counted_then : Counted s'
-  counted_then = grind (arith)
+  counted_then = record {
+    most = subst (λ (l : Layout'). (k : ℕ) → k < length l.conditions → s'.words (counter_place l k) ≤ full) (sym g.layout) most_then;
+    knows = subst (λ (l : Layout'). (u : ℕ) → 1 ≤ u → u ≤ l.threads → KnowsIn l s'.words (s'.threads u).stage) (sym g.layout) knows_then;
+  }
 
 -- ---- each event
 
@@ -294,6 +321,12 @@ passes s e inv counted =
       knows = λ first last. subst (λ (z : Thread). KnowsIn s.layout s.words z.stage) (sym (put-same s.threads t _)) tt;
       theirs = λ u other. ap (λ (z : Thread). z.stage) (put-other s.threads t _ u other);
     })
+    (λ t k x p pos known is there other. record {
+      layout = refl;
+      rises = λ j. inl refl;
+      knows = λ first last. subst (λ (z : Thread). KnowsIn s.layout s.words z.stage) (sym (put-same s.threads t _)) tt;
+      theirs = λ u other. ap (λ (z : Thread). z.stage) (put-other s.threads t _ u other);
+    })
     (λ t o p pos known is awake trims other. subst (λ (a : After). Passes s t a.state) (sym (spared_is s t o p is trims inv pos known)) (declines t o p is trims))
     (λ t pos known gone other. record {
       layout = refl;
@@ -343,6 +376,7 @@ passes s e inv counted =
     first_knows : (t : ℕ) (o : Op) → KnowsIn s.layout s.words (begins_at s.layout t o)
     first_knows t (OnMutex c) = tt
     first_knows t (OnCondition (CondCall.Wait k)) = tt
+    first_knows t (OnCondition (CondCall.TimedWait k x)) = tt
     first_knows t (OnCondition (CondCall.Signal k)) = tt
     first_knows t (OnCondition (CondCall.Broadcast k)) = tt
 

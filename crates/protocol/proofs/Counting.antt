@@ -7,7 +7,7 @@ use Rattle.lockword.specs.declared.reply.Reply.TheVariants.{ETIMEDOUT}
 use Rattle.posixmutex.specs.declared.point.Point.{Point}
 use Rattle.exitwalk.specs.Standings as walks
 use Rattle.condvar.specs.declared.row.Decided.{Decided}
-use Rattle.condvar.specs.Calls.{operation_of}
+use Rattle.condvar.specs.Calls.{acts_as}
 use Rattle.condvar.specs.Rows.{IsGoing}
 use Rattle.condvar.specs.Programs.{row_access, resume_of, point_of}
 use Rattle.protocol.specs.Counting.{one_on, one_of, signals_in, CountersCountUp}
@@ -190,20 +190,20 @@ module _ (s : State) (k : ℕ) (calls : ℕ → Option Begun) (inv : Kept s) (co
       call_is : calls u ≡ Some (begun_of s.layout (OnCondition c))
       call_is = subst (λ (g : Stage). IsTold s.layout g (calls u)) is (told u)
 
-      abbreviated : (x : Option Point) → signals_in k calls (facts_of (cond_note s u c p)) ≡ of_decision k calls (decision u (its_mutex s c) (decided_at (operation_of c) (cond_onto s u p).point) (reply_at (cond_onto s u p).point))
+      abbreviated : (x : Option Point) → signals_in k calls (facts_of (cond_note s u c p)) ≡ of_decision k calls (decision u (its_mutex s c) (decided_at (acts_as c) (cond_onto s u p).point) (reply_at (cond_onto s u p).point))
       abbreviated x = stepped_noted k calls u (its_mutex s c) _ _ _ _ _ (cond_note s u c p) refl
 
-      of_point : (x : Option Point) → (cond_onto s u p).point ≡ x → signals_in k calls (facts_of (cond_note s u c p)) ≡ of_decision k calls (decision u (its_mutex s c) (decided_at (operation_of c) x) (reply_at x))
-      of_point x e = abbreviated x ∙ ap (λ (y : Option Point). of_decision k calls (decision u (its_mutex s c) (decided_at (operation_of c) y) (reply_at y))) e
+      of_point : (x : Option Point) → (cond_onto s u p).point ≡ x → signals_in k calls (facts_of (cond_note s u c p)) ≡ of_decision k calls (decision u (its_mutex s c) (decided_at (acts_as c) x) (reply_at x))
+      of_point x e = abbreviated x ∙ ap (λ (y : Option Point). of_decision k calls (decision u (its_mutex s c) (decided_at (acts_as c) y) (reply_at y))) e
 
       there : condition_of c ≢ k → CountsUp (record { state = cond_after s u c p; note = cond_note s u c p })
       there apart = stays _ (cond_note s u c p) (moved.others k (λ e. apart (sym e))) (of_point (cond_onto s u p).point refl ∙ none (cond_onto s u p).point)
         where
-          none : (x : Option Point) → of_decision k calls (decision u (its_mutex s c) (decided_at (operation_of c) x) (reply_at x)) ≡ 0
+          none : (x : Option Point) → of_decision k calls (decision u (its_mutex s c) (decided_at (acts_as c) x) (reply_at x)) ≡ 0
           none None = refl
           none (Some y) = ap (λ (b : Option Begun). one_of k b y.operation y.reply) call_is ∙ counts_there k (condition_of c) (begun_of s.layout (OnCondition c)) y.operation y.reply refl apart
 
-      by_decided : (x : Option Decided) → condition_of c ≡ k → of_decision k calls (decision u (its_mutex s c) (decided_at (operation_of c) (point_of p.thread p.cell x)) (reply_at (point_of p.thread p.cell x))) ≡ counts_by x
+      by_decided : (x : Option Decided) → condition_of c ≡ k → of_decision k calls (decision u (its_mutex s c) (decided_at (acts_as c) (point_of p.thread p.cell x)) (reply_at (point_of p.thread p.cell x))) ≡ counts_by x
       by_decided None same = refl
       by_decided (Some d) same = ap (λ (b : Option Begun). one_of k b d.operation d.reply) call_is ∙ counts_here k (begun_of s.layout (OnCondition c)) d.operation d.reply (ap Some same)
 
@@ -252,6 +252,7 @@ module _ (s : State) (k : ℕ) (calls : ℕ → Option Begun) (inv : Kept s) (co
       (λ u pos known alive other. omega arith)
       (λ u pos known asleep other. omega arith)
       (λ u m p pos known is asleep may other. let none = expired_none k (calls u) in omega (arith, none))
+      (λ u j x p pos known is there other. omega arith)
       (λ u o p pos known is awake trims other. subst CountsUp (sym (spared_is s u o p is trims inv pos known)) (omega arith))
       (λ u pos known gone other. let same = renewed_counter s u pos known k in omega (arith, same))
       (λ u m may other. let same = reinited_counter s u m 0 refl may.remake k in let none = reinit_none k (if u == u then Some (reinit_of m) else calls u) in omega (arith, same, none))

@@ -134,7 +134,7 @@ module _ (t m : ℕ) where
         (walk_lost u w.row (walk_step s u inv pos known w.row there.0.going (knows_at s.layout u w there.0) there.2)))
 
     event_lost : (e : Event) → Lost s (happens s e)
-    event_lost e = by_event s (λ (x : Event) (a : After). Lost s a) (λ x. omega arith) (λ u o pos known inside idle b full. begun_lost u o b) step_lost (λ u pos known alive. omega arith) (λ u pos known asleep. omega arith) (λ u k p pos known is asleep may. omega arith)
+    event_lost e = by_event s (λ (x : Event) (a : After). Lost s a) (λ x. omega arith) (λ u o pos known inside idle b full. begun_lost u o b) step_lost (λ u pos known alive. omega arith) (λ u pos known asleep. omega arith) (λ u k p pos known is asleep may. omega arith) (λ u k x p pos known is there. omega arith)
         (λ u o p pos known is awake trims. subst (Lost s) (sym (spared_is s u o p is trims inv pos known)) (omega arith))
         (λ u pos known gone. let kept : one t (seen (renewed s u).state m) ≡ one t (seen s m) = ap (one t) (renewed_seen s u pos known m) in omega arith)
         (λ u k may. let kept = reinit_counts u k 0 refl may.remake in omega arith)
@@ -163,6 +163,7 @@ module _ (t m : ℕ) where
         by_event s (λ (x : Event) (a : After). IsNotRenewed t (facts_of a.note) → is_alive (a.state.threads t).stage ≡ false) (λ x none. dead) (λ u o pos known inside idle b full none. begun_dead u o idle b) (λ u pos known none. stepped_dead u)
         (λ u pos known alive none. by_put (λ (z : Thread). is_alive z.stage ≡ false) s.threads u _ t (λ e. refl) (λ apart. dead)) (λ u pos known asleep none. dead)
         (λ u k p pos known is asleep may none. ap (λ (z : Thread). is_alive z.stage) (put-other s.threads u _ t (λ e. apart_from u (Calling (OnMutex (Call.TimedLock k)) p) is refl (sym e))) ∙ dead)
+        (λ u k x p pos known is there none. ap (λ (z : Thread). is_alive z.stage) (put-other s.threads u _ t (λ e. apart_from u (Calling (OnCondition (CondCall.TimedWait k x)) p) is refl (sym e))) ∙ dead)
         (λ u o p pos known is awake trims none. ap (λ (z : Thread). is_alive z.stage) (put-other s.threads u _ t (λ e. apart_from u (Calling o p) is refl (sym e))) ∙ dead)
         (λ u pos known gone none. ap (λ (z : Thread). is_alive z.stage) (renewed_other s u pos known t (λ e. none.0 (sym e))) ∙ dead)
         (λ u k may none. dead) (λ u k may none. dead) (λ k may none. dead)

@@ -48,7 +48,7 @@ module _ (s : State) (t : ℕ) (o : Op) (p : Whole) (is : (s.threads t).stage �
 
     -- where it leads, by the call's operation
     abbrev led_as : Operation → Led
-    led_as op = record { stage = stage_after o p (leaving p op OK); operation = op; point = None; returned = returned (leaving p op OK) }
+    led_as op = record { stage = stage_after o p (leaving p op OK); operation = op; point = None; returned = returned o (leaving p op OK) }
 
     led_is : led o p (whole_led p (Trimmed false)) ≡ led_as Operation.Unlock
     led_is = ap (λ (f : Phase). led o p (phase_led p f (Trimmed false))) trims ∙ ap led_as unlocks
@@ -148,6 +148,7 @@ pub decline_rests : (s : State) (t : ℕ) → (1 ≤ t → t ≤ s.layout.thread
 decline_rests s t never =
     by_event s (λ (x : Event) (a : After). x ≡ Decline t → a ≡ nothing s) (λ x same. refl) (λ u o pos known named idle b full same. absurd cc) (λ u pos known same. absurd cc) (λ u pos known alive same. absurd cc) (λ u pos known asleep same. absurd cc)
     (λ u m p pos known is asleep may same. absurd cc)
+    (λ u k x p pos known is there same. absurd cc)
     (λ u o p pos known is awake trims same.
     absurd (subst (λ (v : ℕ). 1 ≤ v → v ≤ s.layout.threads → IsAboutToTrim s v → ⊥) (sym (thread_is u t same)) never pos known (o, p, p.cell, is, ap (phase_access p) trims)))
     (λ u pos known gone same. absurd cc)

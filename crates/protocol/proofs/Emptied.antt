@@ -10,7 +10,7 @@ use Rattle.protocol.specs.PassedBy.{call_told}
 use Rattle.protocol.proofs.Vocabulary.{stepped, happens, run, if◌then◌else◌, not, Operation, BroadcastRow, NobodyIsPassedBy}
 use Rattle.buckets.specs.Queues.{without}
 use Rattle.condvar.specs.declared.row.CondRow.TheVariants.{Ended}
-use Rattle.condvar.specs.Calls.{operation_of}
+use Rattle.condvar.specs.Calls.{acts_as, operation_of}
 use Rattle.condvar.specs.Rows.{IsGoing}
 use Rattle.condvar.specs.Laws.{row_operation}
 use Rattle.condvar.specs.Programs.{row_access, resume_of}
@@ -156,13 +156,26 @@ module _ (s : State) (t : ℕ) (c : CondCall) (p : CondWhole) (inv : Kept s) (qu
   abbrev pub Moved_all : CondWhole → Type 0
   Moved_all y = (facts_of (cond_note s t c y) ≡ map (moves_to (its_mutex s c)) (s.queues (its_counter s c)) ++ Return t OK ∷ []) × ((cond_after s t c y).queues (its_counter s c) ≡ [])
 
+  -- as which it was told
+  broadcasts : (d : CondCall) → operation_of d ≡ Operation.Broadcast → acts_as d ≡ Operation.Broadcast
+  broadcasts (CondCall.Broadcast j) e = refl
+  broadcasts (CondCall.Wait j) e = absurd (cc e)
+  broadcasts (CondCall.TimedWait j x) e = absurd (cc e)
+  broadcasts (CondCall.Signal j) e = absurd (cc e)
+
+  signals : (d : CondCall) → operation_of d ≡ Operation.Signal → acts_as d ≡ Operation.Signal
+  signals (CondCall.Signal j) e = refl
+  signals (CondCall.Wait j) e = absurd (cc e)
+  signals (CondCall.TimedWait j x) e = absurd (cc e)
+  signals (CondCall.Broadcast j) e = absurd (cc e)
+
   pub then_empty : operation_of c ≡ Operation.Broadcast → returned_at (cond_onto s t p).phase ≡ Some OK → Moved_all p
   then_empty of_broadcast back = go (cond_moves s t c inv pos known p is).move
     where
       go : CondMove s t c p → Moved_all p
       go (Before_release seen before later none same) = absurd (never_returns seen (cond_onto s t p).phase later back)
       go (By_row r from going of needs counts leads) =
-          let row = only_move t (cell_at s t c) (counter_at s t c) (s.words (its_cell s c)) (s.words (its_counter s c)) r going (of ∙ of_broadcast) (ok_row p _ (sym (ap (λ (g : CondOnward). returned_at g.phase) leads) ∙ back)) in
+          let row = only_move t (cell_at s t c) (counter_at s t c) (s.words (its_cell s c)) (s.words (its_counter s c)) r going (of ∙ broadcasts c of_broadcast) (ok_row p _ (sym (ap (λ (g : CondOnward). returned_at g.phase) leads) ∙ back)) in
           let shape : p ≡ cond_of s.layout t c (CondPhase.AtWords (Broadcast (BroadcastRow.Move row.0))) = from ∙ ap (λ (y : CondRow). cond_of s.layout t c (CondPhase.AtWords y)) row.1 in
           let at = subst (λ (y : CondWhole). KnowsAt (s.words (its_counter s c)) y.phase) shape knows in
           subst Moved_all (sym shape) (told_moved row.0 at, emptied row.0 at)
@@ -176,7 +189,7 @@ module _ (s : State) (t : ℕ) (c : CondCall) (p : CondWhole) (inv : Kept s) (qu
       go : CondMove s t c p → Woke_first p
       go (Before_release seen before later none same) = absurd (never_returns seen (cond_onto s t p).phase later back)
       go (By_row r from going of needs counts leads) =
-          let row = only_wake t (cell_at s t c) (counter_at s t c) (s.words (its_cell s c)) (s.words (its_counter s c)) r going (of ∙ of_signal) (ok_row p _ (sym (ap (λ (g : CondOnward). returned_at g.phase) leads) ∙ back)) in
+          let row = only_wake t (cell_at s t c) (counter_at s t c) (s.words (its_cell s c)) (s.words (its_counter s c)) r going (of ∙ signals c of_signal) (ok_row p _ (sym (ap (λ (g : CondOnward). returned_at g.phase) leads) ∙ back)) in
           let shape : p ≡ cond_of s.layout t c (CondPhase.AtWords (Signal SignalRow.Wake)) = from ∙ ap (λ (y : CondRow). cond_of s.layout t c (CondPhase.AtWords y)) row in
           subst Woke_first (sym shape) told_woken
 
@@ -225,7 +238,7 @@ module _ (s : State) (t k : ℕ) (b : Begun) (op : Operation) (inv : Kept s) (to
       by_event s (λ (e : Event) (a : After). e ≡ Step t → Ends a) (λ e same among. absurd among)
       (λ u o pos known inside idle full is same. absurd cc)
       (λ u pos known same. subst (λ (v : ℕ). 1 ≤ v → v ≤ s.layout.threads → Ends (stepped s v (s.threads v).held (s.threads v).stage)) (step_same u t (sym same)) step_ends pos known)
-      (λ u pos known alive same. absurd cc) (λ u pos known asleep same. absurd cc) (λ u m p pos known is asleep may same. absurd cc) (λ u o p pos known is awake trims same. absurd cc) (λ u pos known gone same. absurd cc) (λ u m may same. absurd cc) (λ u m may same. absurd cc)
+      (λ u pos known alive same. absurd cc) (λ u pos known asleep same. absurd cc) (λ u m p pos known is asleep may same. absurd cc) (λ u k x p pos known is there same. absurd cc) (λ u o p pos known is awake trims same. absurd cc) (λ u pos known gone same. absurd cc) (λ u m may same. absurd cc) (λ u m may same. absurd cc)
       (λ j may same. absurd cc) (λ u m g sp same. absurd cc) (λ u d p pos known is there same. absurd cc) (λ u w pos known is reads same. absurd cc) (Step t) refl
     where
       step_same : (u v : ℕ) → Step v ≡ Step u → v ≡ u

@@ -7,7 +7,7 @@ abbrev pub EndsOrGoes : Stage → Option Reply → Type 0
 EndsOrGoes g y = ((is_calling g ≡ true) × (y ≡ None)) ⊎ ((g ≡ Idle) × (x : Reply) × (y ≡ Some x))
 
 -- of a call on a mutex, or the lock that ends a wait
-phase_ends : (o : Op) (p : Whole) (f : Phase) → EndsOrGoes (stage_after o p f) (returned f)
+phase_ends : (o : Op) (p : Whole) (f : Phase) → EndsOrGoes (stage_after o p f) (returned o f)
 phase_ends o p f = grind (arith)
 
 pub call_ends : (o : Op) (p : Whole) (g : Onward) → EndsOrGoes (led o p g).stage (led o p g).returned

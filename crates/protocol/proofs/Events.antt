@@ -16,7 +16,11 @@ use Rattle.protocol.proofs.Stepping.{wakes_next}
 use Rattle.protocol.proofs.Endings.{EndsOrGoes, call_ends, cond_ends}
 use Rattle.stepprograms.specs.Accesses.{is_nobody}
 use Rattle.protocol.proofs.Steps.{seen-inside}
-use Rattle.condvar.specs.Ops.{acts_as, operation_of, is_in}
+use Rattle.condvar.specs.Ops.{acts_as, operation_of, is_in, may_call}
+use Rattle.condvar.specs.Calls.{is_ahead}
+use Rattle.condvar.specs.declared.call.Limit.{Limit}
+use Rattle.protocol.specs.Applies.{BeginsAhead}
+use Rattle.protocol.specs.Machine.{overslept, waits_on}
 use Rattle.protocol.specs.Machine.{has_thread, is_gone, is_idle, is_trim, is_unusable, may_reinit, may_remake, declined, expired}
 
 -- whoever may begin is idle
@@ -37,6 +41,20 @@ is_known s t pos known = grind (arith, nat_tests)
 pub names_so : (l : Layout') (o : Op) → is_in l o ≡ true → Names l o
 names_so l (OnMutex c) e = grind (arith, nat_tests)
 names_so l (OnCondition c) e = grind (arith, nat_tests)
+
+-- and a wait with a time limit begins while that is still to come
+pub may_so : (l : Layout') (o : Op) → may_call l o ≡ true → (is_in l o ≡ true) × BeginsAhead o
+may_so l (OnMutex c) e = (e, tt)
+may_so l (OnCondition c) e = both (is_in l (OnCondition c)) (is_ahead c) e
+  where
+    both : (a b : Bool) → (a && b) ≡ true → (a ≡ true) × (b ≡ true)
+    both true true e = (refl, refl)
+    both true false e = absurd cc
+    both false b e = absurd cc
+
+pub may_again : (l : Layout') (o : Op) → is_in l o ≡ true → BeginsAhead o → may_call l o ≡ true
+may_again l (OnMutex c) inside ahead = inside
+may_again l (OnCondition c) inside ahead = λ i. inside i && ahead i
 
 -- so is its mutex
 pub names_mutex : (l : Layout') (o : Op) → IsLayout l → Names l o → mutex_of l o < l.mutexes
@@ -59,7 +77,10 @@ acquires_same (OnMutex (Call.TimedLock m)) = refl
 acquires_same (OnMutex (Call.TryLock m)) = refl
 acquires_same (OnMutex (Call.Unlock m)) = refl
 acquires_same (OnMutex (Call.Consistent m)) = refl
-acquires_same (OnCondition c) = refl
+acquires_same (OnCondition (CondCall.Wait k)) = refl
+acquires_same (OnCondition (CondCall.TimedWait k x)) = refl
+acquires_same (OnCondition (CondCall.Signal k)) = refl
+acquires_same (OnCondition (CondCall.Broadcast k)) = refl
 
 -- ---- trims
 
@@ -177,7 +198,7 @@ waits_at f e = absurd cc
 -- ---- events
 
 -- what holds where nothing happens, of a begin that isn't refused and of one that is, of a step, of a death, of a
--- sleeper's leave, of a trim that is declined, of a renewal, of a reinit and of a remake, of a recount, of a wake that is spared, of
+-- sleeper's leave, of a time limit of a lock and of one of a wait, of a trim that is declined, of a renewal, of a reinit and of a remake, of a recount, of a wake that is spared, of
 -- a sleeper that goes to the end of its queue, and of a walk's access that is made once more, holds of each event
 pub by_event : (s : State) (P : Event → After → Type 0) → ((e : Event) → P e (nothing s))
     → ((t : ℕ) (o : Op) → 1 ≤ t → t ≤ s.layout.threads → Names s.layout o → (s.threads t).stage ≡ Idle → (b : Bool) → (acquires (operation_of o) && nat_le 2048 (s.threads t).held) ≡ b → P (Begin t o) (begun s t o (if b then Err XHELD else Ok (begins_at s.layout t o))))
@@ -186,6 +207,8 @@ pub by_event : (s : State) (P : Event → After → Type 0) → ((e : Event) →
     → ((t : ℕ) → 1 ≤ t → t ≤ s.layout.threads → is_asleep s t ≡ true → P (Leave t) (departed s t))
     → ((t m : ℕ) (p : Whole) → 1 ≤ t → t ≤ s.layout.threads → (s.threads t).stage ≡ Calling (OnMutex (Call.TimedLock m)) p → is_asleep s t ≡ true → may_expire p.phase ≡ true
     → P (Expire t) (lapsed s t (s.threads t).held (OnMutex (Call.TimedLock m)) p))
+    → ((t k : ℕ) (x : Limit) (p : Whole) → 1 ≤ t → t ≤ s.layout.threads → (s.threads t).stage ≡ Calling (OnCondition (CondCall.TimedWait k x)) p → waits_on s t k ≡ true
+    → P (Expire t) (overslept s t (s.threads t).held k p))
     → ((t : ℕ) (o : Op) (p : Whole) → 1 ≤ t → t ≤ s.layout.threads → (s.threads t).stage ≡ Calling o p → is_asleep s t ≡ false → IsTrimming p
     → P (Decline t) (spared s t (s.threads t).held (mutex_of s.layout o) (led o p (whole_led p (Trimmed false)))))
     → ((t : ℕ) → 1 ≤ t → t ≤ s.layout.threads → (s.threads t).stage ≡ Reaped → P (Renew t) (renewed s t))
@@ -196,20 +219,21 @@ pub by_event : (s : State) (P : Event → After → Type 0) → ((e : Event) →
     → ((t : ℕ) (c : CondCall) (p : Whole) → 1 ≤ t → t ≤ s.layout.threads → (s.threads t).stage ≡ Calling (OnCondition c) p → stands_in t (s.queues (counter_place s.layout (condition_of c))) ≡ true → P (Resleep t) (reslept s t (condition_of c)))
     → ((t : ℕ) (w : walks.Standing) → 1 ≤ t → t ≤ s.layout.threads → (s.threads t).stage ≡ Dying w → is_mark w.row ≡ false → P (Repeat t) (repeated s t w))
     → (e : Event) → P e (happens s e)
-by_event s P none begins_so steps_so kills_so leaves_so expires_so declines_so renews_so reinits_so remakes_so recounts_so spares_so resleeps_so repeats_so (Begin t o) = go (may_begin s t o) refl
+by_event s P none begins_so steps_so kills_so leaves_so expires_so oversleeps_so declines_so renews_so reinits_so remakes_so recounts_so spares_so resleeps_so repeats_so (Begin t o) = go (may_begin s t o) refl
   where
     go : (b : Bool) → may_begin s t o ≡ b → P (Begin t o) (if b then begun s t o (first_stage s.layout t (s.threads t).held o) else nothing s)
     go true e =
         let pos : 1 ≤ t = grind (arith, nat_tests) in
         let known : t ≤ s.layout.threads = grind (arith, nat_tests) in
-        let inside : is_in s.layout o ≡ true = grind (arith, nat_tests) in
+        let may : may_call s.layout o ≡ true = grind (arith, nat_tests) in
+        let inside : is_in s.layout o ≡ true = (may_so s.layout o may).0 in
         subst (λ (r : Result Stage Reply). P (Begin t o) (begun s t o r)) (sym (first_is s.layout t (s.threads t).held o))
         (begins_so t o pos known (names_so s.layout o inside) (at_rest (s.threads t).stage (grind (arith, nat_tests))) (acquires (operation_of o) && nat_le 2048 (s.threads t).held) refl)
     go false e = none (Begin t o)
-by_event s P none begins_so steps_so kills_so leaves_so expires_so declines_so renews_so reinits_so remakes_so recounts_so spares_so resleeps_so repeats_so (Step t) = grind (arith)
-by_event s P none begins_so steps_so kills_so leaves_so expires_so declines_so renews_so reinits_so remakes_so recounts_so spares_so resleeps_so repeats_so (Kill t) = grind (arith)
-by_event s P none begins_so steps_so kills_so leaves_so expires_so declines_so renews_so reinits_so remakes_so recounts_so spares_so resleeps_so repeats_so (Leave t) = grind (arith)
-by_event s P none begins_so steps_so kills_so leaves_so expires_so declines_so renews_so reinits_so remakes_so recounts_so spares_so resleeps_so repeats_so (Expire t) = go (has_thread s t) refl
+by_event s P none begins_so steps_so kills_so leaves_so expires_so oversleeps_so declines_so renews_so reinits_so remakes_so recounts_so spares_so resleeps_so repeats_so (Step t) = grind (arith)
+by_event s P none begins_so steps_so kills_so leaves_so expires_so oversleeps_so declines_so renews_so reinits_so remakes_so recounts_so spares_so resleeps_so repeats_so (Kill t) = grind (arith)
+by_event s P none begins_so steps_so kills_so leaves_so expires_so oversleeps_so declines_so renews_so reinits_so remakes_so recounts_so spares_so resleeps_so repeats_so (Leave t) = grind (arith)
+by_event s P none begins_so steps_so kills_so leaves_so expires_so oversleeps_so declines_so renews_so reinits_so remakes_so recounts_so spares_so resleeps_so repeats_so (Expire t) = go (has_thread s t) refl
   where
     lapses : (m : ℕ) (p : Whole) → has_thread s t ≡ true → (s.threads t).stage ≡ Calling (OnMutex (Call.TimedLock m)) p → (a : Bool) → may_expire p.phase ≡ a → (b : Bool) → sleeps s t (Calling (OnMutex (Call.TimedLock m)) p) ≡ b
         → P (Expire t) (if a && b then lapsed s t (s.threads t).held (OnMutex (Call.TimedLock m)) p else nothing s)
@@ -220,14 +244,20 @@ by_event s P none begins_so steps_so kills_so leaves_so expires_so declines_so r
     lapses m p there is true may false awake = none (Expire t)
     lapses m p there is false may b e = none (Expire t)
 
+    oversleeps : (k : ℕ) (x : Limit) (p : Whole) → has_thread s t ≡ true → (s.threads t).stage ≡ Calling (OnCondition (CondCall.TimedWait k x)) p → (a : Bool) → waits_on s t k ≡ a
+        → P (Expire t) (if a then overslept s t (s.threads t).held k p else nothing s)
+    oversleeps k x p there is true waits = oversleeps_so t k x p (grind (arith, nat_tests)) (grind (arith, nat_tests)) is waits
+    oversleeps k x p there is false e = none (Expire t)
+
     at : has_thread s t ≡ true → (g : Stage) → (s.threads t).stage ≡ g → P (Expire t) (expired s t (s.threads t).held g)
+    at there (Calling (OnCondition (CondCall.TimedWait k x)) p) is = oversleeps k x p there is (waits_on s t k) refl
     at there (Calling (OnMutex (Call.TimedLock m)) p) is = lapses m p there is (may_expire p.phase) refl (sleeps s t (Calling (OnMutex (Call.TimedLock m)) p)) refl
     at there g is = none (Expire t)
 
     go : (b : Bool) → has_thread s t ≡ b → P (Expire t) (if b then expired s t (s.threads t).held (s.threads t).stage else nothing s)
     go true there = at there (s.threads t).stage refl
     go false e = none (Expire t)
-by_event s P none begins_so steps_so kills_so leaves_so expires_so declines_so renews_so reinits_so remakes_so recounts_so spares_so resleeps_so repeats_so (Decline t) = go (has_thread s t) refl
+by_event s P none begins_so steps_so kills_so leaves_so expires_so oversleeps_so declines_so renews_so reinits_so remakes_so recounts_so spares_so resleeps_so repeats_so (Decline t) = go (has_thread s t) refl
   where
     trims : (o : Op) (p : Whole) → has_thread s t ≡ true → (s.threads t).stage ≡ Calling o p → (a : Bool) → is_trim (whole_access p) ≡ a → (b : Bool) → sleeps s t (Calling o p) ≡ b
         → P (Decline t) (if a && not b then spared s t (s.threads t).held (mutex_of s.layout o) (led o p (whole_led p (Trimmed false))) else nothing s)
@@ -245,7 +275,7 @@ by_event s P none begins_so steps_so kills_so leaves_so expires_so declines_so r
     go : (b : Bool) → has_thread s t ≡ b → P (Decline t) (if b then declined s t (s.threads t).held (s.threads t).stage else nothing s)
     go true there = at there (s.threads t).stage refl
     go false e = none (Decline t)
-by_event s P none begins_so steps_so kills_so leaves_so expires_so declines_so renews_so reinits_so remakes_so recounts_so spares_so resleeps_so repeats_so (Renew t) = go (has_thread s t && is_gone (s.threads t).stage) refl
+by_event s P none begins_so steps_so kills_so leaves_so expires_so oversleeps_so declines_so renews_so reinits_so remakes_so recounts_so spares_so resleeps_so repeats_so (Renew t) = go (has_thread s t && is_gone (s.threads t).stage) refl
   where
     go : (b : Bool) → (has_thread s t && is_gone (s.threads t).stage) ≡ b → P (Renew t) (if b then renewed s t else nothing s)
     go true e =
@@ -253,22 +283,22 @@ by_event s P none begins_so steps_so kills_so leaves_so expires_so declines_so r
         let known : t ≤ s.layout.threads = grind (arith, nat_tests) in
         renews_so t pos known (reaped_is (s.threads t).stage (grind (arith, nat_tests)))
     go false e = none (Renew t)
-by_event s P none begins_so steps_so kills_so leaves_so expires_so declines_so renews_so reinits_so remakes_so recounts_so spares_so resleeps_so repeats_so (Reinit t m) = go (may_reinit s t m) refl
+by_event s P none begins_so steps_so kills_so leaves_so expires_so oversleeps_so declines_so renews_so reinits_so remakes_so recounts_so spares_so resleeps_so repeats_so (Reinit t m) = go (may_reinit s t m) refl
   where
     go : (b : Bool) → may_reinit s t m ≡ b → P (Reinit t m) (if b then reinited s t m 0 else nothing s)
     go true e = reinits_so t m (reinit_so s t m e)
     go false e = none (Reinit t m)
-by_event s P none begins_so steps_so kills_so leaves_so expires_so declines_so renews_so reinits_so remakes_so recounts_so spares_so resleeps_so repeats_so (Remake t m) = go (may_remake s t m) refl
+by_event s P none begins_so steps_so kills_so leaves_so expires_so oversleeps_so declines_so renews_so reinits_so remakes_so recounts_so spares_so resleeps_so repeats_so (Remake t m) = go (may_remake s t m) refl
   where
     go : (b : Bool) → may_remake s t m ≡ b → P (Remake t m) (if b then reinited s t m (waiters_of (s.words (cell_place s.layout m))) else nothing s)
     go true e = remakes_so t m (remake_so s t m e)
     go false e = none (Remake t m)
-by_event s P none begins_so steps_so kills_so leaves_so expires_so declines_so renews_so reinits_so remakes_so recounts_so spares_so resleeps_so repeats_so (Recount k) = go (may_recount s k) refl
+by_event s P none begins_so steps_so kills_so leaves_so expires_so oversleeps_so declines_so renews_so reinits_so remakes_so recounts_so spares_so resleeps_so repeats_so (Recount k) = go (may_recount s k) refl
   where
     go : (b : Bool) → may_recount s k ≡ b → P (Recount k) (if b then recounted s k else nothing s)
     go true e = recounts_so k (recount_so s k e)
     go false e = none (Recount k)
-by_event s P none begins_so steps_so kills_so leaves_so expires_so declines_so renews_so reinits_so remakes_so recounts_so spares_so resleeps_so repeats_so (Spare t) = go (has_thread s t) refl
+by_event s P none begins_so steps_so kills_so leaves_so expires_so oversleeps_so declines_so renews_so reinits_so remakes_so recounts_so spares_so resleeps_so repeats_so (Spare t) = go (has_thread s t) refl
   where
     calls : (o : Op) (p : Whole) → has_thread s t ≡ true → (s.threads t).stage ≡ Calling o p → (a : Bool) → wakes_one p.phase ≡ a → (b : Bool) → another_answers s t (mutex_of s.layout o) s.layout.threads ≡ b
         → P (Spare t) (if a && b then spared s t (s.threads t).held (mutex_of s.layout o) (led o p (whole_led p (Count 1))) else nothing s)
@@ -293,7 +323,7 @@ by_event s P none begins_so steps_so kills_so leaves_so expires_so declines_so r
     go : (b : Bool) → has_thread s t ≡ b → P (Spare t) (if b then sparing s t (s.threads t).held (s.threads t).stage else nothing s)
     go true there = at there (s.threads t).stage refl
     go false e = none (Spare t)
-by_event s P none begins_so steps_so kills_so leaves_so expires_so declines_so renews_so reinits_so remakes_so recounts_so spares_so resleeps_so repeats_so (Resleep t) = go (has_thread s t) refl
+by_event s P none begins_so steps_so kills_so leaves_so expires_so oversleeps_so declines_so renews_so reinits_so remakes_so recounts_so spares_so resleeps_so repeats_so (Resleep t) = go (has_thread s t) refl
   where
     sleeps_on : (c : CondCall) (p : Whole) → has_thread s t ≡ true → (s.threads t).stage ≡ Calling (OnCondition c) p → (a : Bool) → stands_in t (s.queues (counter_place s.layout (condition_of c))) ≡ a
         → P (Resleep t) (if a then reslept s t (condition_of c) else nothing s)
@@ -307,7 +337,7 @@ by_event s P none begins_so steps_so kills_so leaves_so expires_so declines_so r
     go : (b : Bool) → has_thread s t ≡ b → P (Resleep t) (if b then resleeping s t (s.threads t).stage else nothing s)
     go true there = at there (s.threads t).stage refl
     go false e = none (Resleep t)
-by_event s P none begins_so steps_so kills_so leaves_so expires_so declines_so renews_so reinits_so remakes_so recounts_so spares_so resleeps_so repeats_so (Repeat t) = go (has_thread s t) refl
+by_event s P none begins_so steps_so kills_so leaves_so expires_so oversleeps_so declines_so renews_so reinits_so remakes_so recounts_so spares_so resleeps_so repeats_so (Repeat t) = go (has_thread s t) refl
   where
     reads : (w : walks.Standing) → has_thread s t ≡ true → (s.threads t).stage ≡ Dying w → (a : Bool) → is_mark w.row ≡ a → P (Repeat t) (if a then nothing s else repeated s t w)
     reads w there is true marks = none (Repeat t)

@@ -10,7 +10,7 @@ use Rattle.exitwalk.specs.Steps.{waiting_word}
 use Rattle.robustlist.proofs.Links as links
 use Rattle.robustlist.proofs.Unlinks.{right}
 use Rattle.mutex.specs.declared.phase.Phase.TheVariants.{Announcing, Unlinking, Ended}
-use Rattle.condvar.specs.Calls.{operation_of}
+use Rattle.condvar.specs.Calls.{acts_as}
 use Rattle.posixmutex.proofs.Objects.{others_keep}
 use Rattle.protocol.proofs.Puts.{by_put}
 use Rattle.protocol.proofs.Objects.{one, mine, others, owners}
@@ -125,7 +125,7 @@ module _ (s : State) (t m : ℕ) (a : Access) (th : Thread) (op : Operation) (po
     entry = f.entry;
     cell = f.cell;
     counter = f.counter;
-    stands = at_phase_carries u held (operation_of d) q q.phase _ _ (cell_stays u first most apart (mutex_of s.layout (OnCondition d)) f.inside) f.stands;
+    stands = at_phase_carries u held (acts_as d) q q.phase _ _ (cell_stays u first most apart (mutex_of s.layout (OnCondition d)) f.inside) f.stands;
   }
 
   theirs : (u : ℕ) → 1 ≤ u → u ≤ s.layout.threads → t ≢ u → (held : ℕ) (g : Stage) → Sits s u held g → Sits s' u held g

@@ -484,6 +484,7 @@ event_tells s e w inv queued said =
     (λ u pos known alive. ((λ q inside. ap (without u) (said q inside)), (tt, tt)))
     (λ u pos known asleep. ((λ q inside. ap (without u) (said q inside)), leaves_so u (asleep_where s u asleep)))
     (λ u m p pos known is asleep may. ((λ q inside. ap (without u) (said q inside)), expires_so u m p is (fits_in s u (OnMutex (Call.TimedLock m)) p inv pos known is).0.inside (asleep_where s u asleep)))
+    (λ u k x p pos known is there. let inside = (fits_in s u (OnCondition (CondCall.TimedWait k x)) p inv pos known is).1.2 in ((λ q within. ap (without u) (said q within)), (inside, ap (stands_in u) (sym (said (Condition k) inside)) ∙ there)))
     (λ u o p pos known is awake trims. subst (Tells s w) (sym (spared_is s u o p is trims inv pos known)) (said, tt))
     (λ u pos known gone. (said, (tt, tt)))
     (λ u m may. (said, (tt, (tt, (tt, tt)))))
@@ -591,7 +592,7 @@ IsNoLeaving e = Unit {0}
 no_leave : (s : State) (e : Event) → IsNoLeaving e → IsNoLeave (happens s e).note
 no_leave s e =
     by_event s (λ (x : Event) (a : After). IsNoLeaving x → IsNoLeave a.note) (λ x none. tt) (λ u o pos known inside idle b full none. begins_so u o b)
-    (λ u pos known none. by_stage s u (λ (a : After). IsNoLeave a.note) (λ rests. tt) (λ o p is awake. tt) (λ c p is awake. tt) (λ v is awake. tt)) (λ u pos known alive none. tt) (λ u pos known asleep none. absurd none) (λ u m p pos known is asleep may none. absurd none)
+    (λ u pos known none. by_stage s u (λ (a : After). IsNoLeave a.note) (λ rests. tt) (λ o p is awake. tt) (λ c p is awake. tt) (λ v is awake. tt)) (λ u pos known alive none. tt) (λ u pos known asleep none. absurd none) (λ u m p pos known is asleep may none. absurd none) (λ u k x p pos known is there none. absurd none)
     (λ u o p pos known is awake trims none. tt) (λ u pos known gone none. tt) (λ u m may none. tt) (λ u m may none. tt)
     (λ k may none. tt) (λ u m g sp none. tt) (λ u c p pos known is there none. absurd none) (λ u w pos known is reads none. tt) e
   where

@@ -67,7 +67,7 @@ pub record Fits (s : State) (t held m : ℕ) (p : Whole) : Type 0 where
 -- it does what the call is to do; in a wait it is the lock that ends it
 abbrev pub IsFor : Layout' → Op → Operation → Type 0
 IsFor l (OnMutex c) op = op ≡ calls.acts_as c
-IsFor l (OnCondition c) op = (op ≡ Lock) × (conditions.operation_of c ≡ Wait) × (conditions.condition_of c < length l.conditions)
+IsFor l (OnCondition c) op = (op ≡ Lock) × (conditions.acts_as c ≡ Wait) × (conditions.condition_of c < length l.conditions)
 
 abbrev pub Serves : Layout' → Op → Whole → Type 0
 Serves l o p = IsFor l o p.operation
@@ -117,7 +117,7 @@ pub record FitsAt (s : State) (t held : ℕ) (c : CondCall) (p : CondWhole) : Ty
   pub entry : p.entry ≡ entry_in s.layout t (mutex_of s.layout (OnCondition c))
   pub cell : p.cell ≡ cell_in s.layout t (mutex_of s.layout (OnCondition c))
   pub counter : p.counter ≡ counter_in s.layout t (conditions.condition_of c)
-  pub stands : AtPhase t held (conditions.operation_of c) p p.phase (fields_of (s.words (cell_place s.layout (mutex_of s.layout (OnCondition c)))))
+  pub stands : AtPhase t held (conditions.acts_as c) p p.phase (fields_of (s.words (cell_place s.layout (mutex_of s.layout (OnCondition c)))))
 
 -- ---- stages
 

@@ -1,6 +1,7 @@
 -- How a call that is about to wake somebody has left its mutex.
 use Rattle.std.proofs.Common.{⊎_elim, ◌≡◌, ◌≢◌, ◌⊎◌, ℕ, ◌≤◌, ◌==◌, Bool, true, false, Option, Some, None, Ok, Err, List, [], ◌∷◌, refl, sym, ap, ◌∙◌, subst, arith, eq-eqb, eqb-true}
 use Rattle.protocol.proofs.Vocabulary.{departed, renewed, reinited, reinit_of}
+use Rattle.protocol.proofs.Vocabulary.{Limit, overslept}
 use Rattle.protocol.proofs.Renewals.{renewed_thread, renewed_other}
 use Rattle.protocol.proofs.Vocabulary.{Access, Answer, answer_among, answer_at, word_among, Fact, Decision, Begun, Queue, Mutex, Condition, Layout', cell_place, place_in, place_met, fields_of, object_of, Object, Operation}
 use Rattle.protocol.proofs.Vocabulary.{Reply, OK, XHELD, Phase, AtCell, Whole, whole_access, whole_led, CondCall, CondRow, CondLed, CondPhase, CondOnward, CondWhole, cond_access, cond_led, condition_of, after_words, from_words, met_word, WaitRow}
@@ -17,7 +18,7 @@ use Rattle.mutex.specs.Whole.{phase_access}
 use Rattle.mutex.specs.WholeLaws.{IsAt, IsAtCell, WakesNext}
 use Rattle.mutex.proofs.WholeWakes as whole
 use Rattle.condvar.specs.Whole as condition
-use Rattle.condvar.specs.Calls.{operation_of}
+use Rattle.condvar.specs.Calls.{acts_as}
 use Rattle.condvar.specs.Rows.{IsGoing}
 use Rattle.condvar.specs.Laws as cond_laws
 use Rattle.condvar.specs.Programs as cond_rows
@@ -99,7 +100,7 @@ AsksFor Operation.Wait cell counter o at n = (at ≡ cell) × (x : Object) × (o
 AsksFor op cell counter o at n = ⊥
 
 abbrev pub AsksAt : CondCall → CondWhole → Option Object → Type 0
-AsksAt c p o = (at n : ℕ) → cond_access p ≡ Access.Wake at n → AsksFor (operation_of c) p.cell p.counter o at n
+AsksAt c p o = (at n : ℕ) → cond_access p ≡ Access.Wake at n → AsksFor (acts_as c) p.cell p.counter o at n
 
 -- a thread there was told to have begun this call, and its last point left the mutex so
 abbrev pub Learnt : Layout' → Stage → Option Begun → Option Object → Type 0
@@ -222,11 +223,11 @@ module _ (s : State) (t : ℕ) (c : CondCall) (p : CondWhole) (inv : Kept s) (po
   fits_here = fits_at s t c p inv pos known is
 
   abbrev left_then : Option Object → Option Object
-  left_then o = point_next t then_state o (decision t its (decided_at (operation_of c) onto_it.point) (reply_at onto_it.point))
+  left_then o = point_next t then_state o (decision t its (decided_at (acts_as c) onto_it.point) (reply_at onto_it.point))
 
   -- where a row leads
   row_learns : (b : Option Begun) (x : Option Object) (q : CondRow) → b ≡ Some (begun_of s.layout (OnCondition c))
-      → ((at n : ℕ) → cond_rows.row_access p.thread p.cell p.counter q ≡ Access.Wake at n → AsksFor (operation_of c) p.cell p.counter x at n) → Learnt s.layout (stage_at c p (after_words p q)) b x
+      → ((at n : ℕ) → cond_rows.row_access p.thread p.cell p.counter q ≡ Access.Wake at n → AsksFor (acts_as c) p.cell p.counter x at n) → Learnt s.layout (stage_at c p (after_words p q)) b x
   row_learns b x (CondRow.Wait (WaitRow.Release seen)) told asks = (told, λ at n e. absurd (cc e))
   row_learns b x (CondRow.Wait WaitRow.LoadCell) told asks = (told, asks)
   row_learns b x (CondRow.Wait WaitRow.LoadCounter) told asks = (told, asks)
@@ -245,20 +246,20 @@ module _ (s : State) (t : ℕ) (c : CondCall) (p : CondWhole) (inv : Kept s) (po
       → (left_then o ≡ Some (seen then_state its)) × (1 ≡ mutex.to_wake (seen then_state its))
   released r leads (d, is_d, unlocks, ok) k row_is needs o =
       let point : reply_at onto_it.point ≡ Some OK = ap (λ (z : CondOnward). reply_at z.point) leads ∙ ap (λ (x : Option Decided). reply_at (cond_rows.point_of p.thread p.cell x)) is_d ∙ ap Some ok in
-      let op : decided_at (operation_of c) onto_it.point ≡ Operation.Unlock = ap (λ (z : CondOnward). decided_at (operation_of c) z.point) leads ∙ ap (λ (x : Option Decided). decided_at (operation_of c) (cond_rows.point_of p.thread p.cell x)) is_d ∙ unlocks in
+      let op : decided_at (acts_as c) onto_it.point ≡ Operation.Unlock = ap (λ (z : CondOnward). decided_at (acts_as c) z.point) leads ∙ ap (λ (x : Option Decided). decided_at (acts_as c) (cond_rows.point_of p.thread p.cell x)) is_d ∙ unlocks in
       let permits : Permits (seen s its) t Operation.Unlock OK (seen then_state its) =
       subst (λ (x : Option Reply). Tells t (seen s its) Operation.Unlock x (seen then_state its)) point (subst (λ (z : Operation). Tells t (seen s its) z (reply_at onto_it.point) (seen then_state its)) op (cond_stepping s t c p inv pos known is).tells) in
       let needs_so = subst (λ (z : CondRow). Needs t z (fields_of (s.words (its_cell s c)))) row_is needs in
       let consistent : (seen s its).inconsistent ≡ false = ap (λ (z : Object). z.inconsistent) (seen-inside s its fits_here.inside) ∙ needs_so.1 in
-      (pointed t its then_state o (decided_at (operation_of c) onto_it.point) (reply_at onto_it.point) OK point, one_to_wake t (seen s its) (seen then_state its) (inv.sound its) permits.0 permits.1 consistent)
+      (pointed t its then_state o (decided_at (acts_as c) onto_it.point) (reply_at onto_it.point) OK point, one_to_wake t (seen s its) (seen then_state its) (inv.sound its) permits.0 permits.1 consistent)
 
   -- whatever a row decides is a point of the mutex
   pointed_by : (r : CondRow) → onto_it ≡ from_words p (row_led r) → (d : Decided) → (row_led r).decided ≡ Some d → (o : Option Object) → left_then o ≡ Some (seen then_state its)
   pointed_by r leads d is_d o =
-      pointed t its then_state o (decided_at (operation_of c) onto_it.point) (reply_at onto_it.point) d.reply (ap (λ (z : CondOnward). reply_at z.point) leads ∙ ap (λ (x : Option Decided). reply_at (cond_rows.point_of p.thread p.cell x)) is_d)
+      pointed t its then_state o (decided_at (acts_as c) onto_it.point) (reply_at onto_it.point) d.reply (ap (λ (z : CondOnward). reply_at z.point) leads ∙ ap (λ (x : Option Decided). reply_at (cond_rows.point_of p.thread p.cell x)) is_d)
 
-  asks_behind : (r : CondRow) → IsGoing r → cond_laws.row_operation r ≡ operation_of c → Needs t r (fields_of (s.words (its_cell s c))) → onto_it ≡ from_words p (row_led r) → (o : Option Object)
-      → (at n : ℕ) → cond_rows.row_access p.thread p.cell p.counter (row_led r).row ≡ Access.Wake at n → AsksFor (operation_of c) p.cell p.counter (left_then o) at n
+  asks_behind : (r : CondRow) → IsGoing r → cond_laws.row_operation r ≡ acts_as c → Needs t r (fields_of (s.words (its_cell s c))) → onto_it ≡ from_words p (row_led r) → (o : Option Object)
+      → (at n : ℕ) → cond_rows.row_access p.thread p.cell p.counter (row_led r).row ≡ Access.Wake at n → AsksFor (acts_as c) p.cell p.counter (left_then o) at n
   asks_behind r going of needs leads o at n wakes =
       let there : cond_rows.row_access t (cell_at s t c) (counter_at s t c) (row_led r).row ≡ Access.Wake at n = (λ i. cond_rows.row_access (sym fits_here.mine i) (sym fits_here.cell i) (sym fits_here.counter i) (row_led r).row) ∙ wakes in
       let so = (cond_woken.woken_right t (cell_at s t c) (counter_at s t c) at n r _ going).0 there in
@@ -430,6 +431,15 @@ expire_teaches s u m p is = record {
     learns : (b : Option Begun) (o o' : Option Object) → Learnt s.layout (Calling (OnMutex (Call.TimedLock m)) p) b o → Learnt s.layout (Calling (OnMutex (Call.TimedLock m)) (timed_out p)) b o'
     learns b o o' h = (h.0, tt, λ at n e. absurd cc)
 
+-- a wait's tells nothing of its mutex
+oversleep_teaches : (s : State) (u k : ℕ) (x : Limit) (p : Whole) → (s.threads u).stage ≡ Calling (OnCondition (CondCall.TimedWait k x)) p → Teaches s u (overslept s u (s.threads u).held k p)
+oversleep_teaches s u k x p is = record {
+  layout = refl;
+  own = λ b o h. subst (λ (z : Thread). Learnt s.layout z.stage b o) (sym (put-same s.threads u _)) (subst (λ (g : Stage). Learnt s.layout g b o) is h);
+  theirs = λ t apart. ap (λ (z : Thread). z.stage) (put-other s.threads u _ t (λ e. apart (sym e)));
+  others = λ t b o apart. (refl, refl);
+}
+
 -- a call that begins
 first_learns : (l : Layout') (t : ℕ) (c : Op) (o : Option Object) → Learnt l (begins_at l t c) (Some (begun_of l c)) o
 first_learns l t (OnMutex (Call.Lock m)) o = (refl, tt, λ k n e. absurd (whole.whole_wakes.first l t (Call.Lock m) k n e))
@@ -472,6 +482,7 @@ teaches s e inv =
     (λ t pos known alive. kill_teaches s t)
     (λ t pos known asleep. leave_teaches s t)
     (λ t m p pos known is asleep may. expire_teaches s t m p is)
+    (λ t k x p pos known is there. oversleep_teaches s t k x p is)
     (λ t o p pos known is awake trims. subst (Teaches s t) (sym (spared_is s t o p is trims inv pos known)) (decline_teaches s t o p is trims))
     (λ t pos known gone. renew_teaches s t pos known)
     (λ t m may. reinit_teaches s t m 0 may.remake.resting)

@@ -37,6 +37,7 @@ pub mod Recounting
 pub mod Sparing
 pub mod Repeating
 pub mod Expiring
+pub mod Oversleeping
 pub mod Renewals
 pub mod Reinits
 pub mod Lists
@@ -77,4 +78,5 @@ mod Counting
 mod Releases
 mod WalksOn
 pub mod LoneExpiries
+mod Lateness
 pub mod TimeLimits

@@ -1,6 +1,7 @@
 -- In which order the facts of an event, and those of one event after the other, are told.
 use Rattle.std.proofs.Common.{◌≡◌, ℕ, ◌+◌, ◌≤◌, Bool, true, false, Option, Some, None, List, [], ◌∷◌, ◌++◌, map, refl, sym, ◌∙◌, arith}
 use Rattle.protocol.proofs.Vocabulary.{Expired}
+use Rattle.protocol.proofs.Vocabulary.{Condition, Mutex}
 use Rattle.protocol.proofs.Vocabulary.{Left, Renewed, Reinited}
 use Rattle.protocol.proofs.Vocabulary.{Fact, Queue, Operation, Reply, Stepped, Event, facts_of, sleep_facts, moves_to, return_facts, death_facts, reap_facts, decision, caller}
 use Rattle.protocol.proofs.Vocabulary.{line_of, caller_of, lines_from, Note, Nothing, Began, Killed, Walked}
@@ -207,7 +208,8 @@ told_inside (Killed t) = (tt, tt)
 told_inside (Left t) = (tt, tt)
 told_inside (Recounted k) = tt
 told_inside (Reslept t k) = ((refl, refl, (λ e. refl), (refl, refl), tt), (tt, tt))
-told_inside (Expired t m) = ((refl, refl, (λ e. refl), (refl, refl), tt), (tt, tt))
+told_inside (Expired t (Mutex m)) = ((refl, refl, (λ e. refl), (refl, refl), tt), (tt, tt))
+told_inside (Expired t (Condition k)) = (tt, tt)
 told_inside (Renewed t) = (tt, tt)
 told_inside (Reinited t m) = ((refl, refl, (λ e. absurd cc), (refl, refl), (refl, refl, (λ e. absurd cc), (refl, refl), tt)), ((refl, refl, (λ e. absurd cc), (refl, refl), tt), (tt, tt)))
 told_inside (Walked u None ws y) = (woken_ordered u ws y).1

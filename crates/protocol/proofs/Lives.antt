@@ -1,5 +1,5 @@
 -- What each event adds to its thread's life, and that its lines are in order.
-use Rattle.std.proofs.Common.{◌≡◌, ◌≢◌, inl, inr, append-nil, append_assoc, ℕ, ◌+◌, ◌≤◌, ◌==◌, Bool, true, false, Option, Some, None, Ok, Err, List, [], ◌∷◌, ◌++◌, map, refl, sym, ap, ◌∙◌, subst, arith}
+use Rattle.std.proofs.Common.{◌≡◌, ◌≢◌, inl, inr, append-nil, append_assoc, ℕ, ◌+◌, ◌≤◌, ◌==◌, ◌&&◌, Bool, true, false, Option, Some, None, Ok, Err, List, [], ◌∷◌, ◌++◌, map, refl, sym, ap, ◌∙◌, subst, arith}
 use Rattle.protocol.proofs.Vocabulary.{departed, renewed, reinited, reinit_of, OK, Left, Phase, Renewed, Reinited}
 use Rattle.protocol.proofs.Vocabulary.{CondCall, condition_of, CondWhole, cond_access, cond_led, Begun, Queue, Mutex, Condition, Fact, Return, Operation, Access, Answer, Layout'}
 use Rattle.protocol.proofs.Vocabulary.{Reply, XHELD, Whole, whole_access, whole_led, Op, OnCondition, mutex_of, begun_of, Event, Thread, Stage, Idle, Calling, AtCondition, Dying}
@@ -20,7 +20,12 @@ use Rattle.lockword.specs.declared.reply.Reply.TheVariants.{ETIMEDOUT}
 use Rattle.mutex.specs.Whole.{timed_out}
 use Rattle.protocol.proofs.Vocabulary.{Call, Expired, Object, OnMutex, lapsed}
 use Rattle.protocol.proofs.Steps.{Tells}
-use Rattle.protocol.proofs.Acts.{own_point}
+use Rattle.protocol.proofs.Acts.{refused_point}
+use Rattle.posixmutex.specs.Objects.{acquires}
+use Rattle.condvar.specs.Ops.{operation_of}
+use Rattle.condvar.specs.declared.call.Limit.{Limit}
+use Rattle.condvar.specs.declared.call.Limit.TheVariants.{Past}
+use Rattle.protocol.specs.Machine.{overslept}
 use Rattle.protocol.proofs.Kept.{IsFor}
 use Rattle.protocol.proofs.Expiring.{expires_at}
 use Rattle.protocol.proofs.Declines.{declined_state, quiet, spared_is}
@@ -42,6 +47,7 @@ use Rattle.exitwalk.specs.Walks as exit
 use Rattle.protocol.proofs.Events.{HowSpared, Of_unlock, Of_wait, Sparing}
 use Rattle.protocol.proofs.Sparing.{spare_is, spared_state, next_of, unwoken}
 use Rattle.protocol.proofs.Vocabulary.{CondRow, WaitRow}
+use Rattle.std.specs.Prelude.{nat_le}
 
 -- ---- what may come next in a thread's life
 
@@ -124,7 +130,8 @@ calls_of (Stepped t m point slept woken moved returned) = point_facts point ++ r
 calls_of (Walked t death woken reaped) = death_facts t death ++ reap_facts t reaped
 calls_of (Left t) = []
 calls_of (Reslept t k) = []
-calls_of (Expired t m) = point_by t m Operation.TimedLock ETIMEDOUT ∷ []
+calls_of (Expired t (Mutex m)) = point_by t m Operation.TimedLock ETIMEDOUT ∷ []
+calls_of (Expired t (Condition k)) = []
 calls_of n = facts_of n
 
 -- who sleeps, who is woken and who is moved is told of no call
@@ -145,7 +152,8 @@ own-calls t i (Killed u) ls = refl
 own-calls t i (Left u) ls = refl
 own-calls t i (Recounted k) ls = refl
 own-calls t i (Reslept u k) ls = refl
-own-calls t i (Expired u m) ls = refl
+own-calls t i (Expired u (Mutex m)) ls = refl
+own-calls t i (Expired u (Condition k)) ls = refl
 own-calls t i (Renewed u) ls = refl
 own-calls t i (Reinited u m) ls = refl
 own-calls t i (Walked u None ws y) ls = reaped_own t i u ws y ls
@@ -232,8 +240,8 @@ module _ (s : State) (u : ℕ) (o : Op) (idle : (s.threads u).stage ≡ Idle) wh
   b = begun_of s.layout o
 
   -- a call begins, or is refused
-  begins_call : (full : Bool) → Adds s u (begun s u o (if full then Err XHELD else Ok (begins_at s.layout u o)))
-  begins_call true = record {
+  begins_call : (full : Bool) → (acquires (operation_of o) && nat_le 2048 (s.threads u).held) ≡ full → Adds s u (begun s u o (if full then Err XHELD else Ok (begins_at s.layout u o)))
+  begins_call true refuses = record {
     fine = ((λ e. refl), (λ e. absurd cc), ((λ e. refl), (λ e. (refl, tt)), ((λ e. refl), (λ e. tt), tt)));
     alone = (refl, (refl, (refl, tt)));
     says = at_once b XHELD;
@@ -243,10 +251,10 @@ module _ (s : State) (u : ℕ) (o : Op) (idle : (s.threads u).stage ≡ Idle) wh
         let third = own-mine u i (Return u XHELD) ls refl refl in
         subst (λ g. Goes s.layout u g (own u (line_of i (Begin u b) ∷ (line_of i (point_by u b.mutex b.operation XHELD) ∷ (line_of i (Return u XHELD) ∷ ls))))) (sym idle)
         (subst (Lives u) (sym (first ∙ ap (λ fs. Begin u b ∷ fs) (second ∙ ap (λ fs. point_by u b.mutex b.operation XHELD ∷ fs) third)))
-        (returns_on u b ((b.operation, XHELD) ∷ []) XHELD (own u ls) (own_point b.operation XHELD) (subst (λ g. Goes s.layout u g (own u ls)) idle later)));
+        (returns_on u b ((b.operation, XHELD) ∷ []) XHELD (own u ls) (refused_point b.operation (nat_le 2048 (s.threads u).held) refuses) (subst (λ g. Goes s.layout u g (own u ls)) idle later)));
     others = λ t apart. refl;
   }
-  begins_call false = record {
+  begins_call false room = record {
     fine = ((λ e. refl), (λ e. tt), tt);
     alone = tt;
     says = begins_one b;
@@ -260,7 +268,7 @@ module _ (s : State) (u : ℕ) (o : Op) (idle : (s.threads u).stage ≡ Idle) wh
 pub timed_is : (l : Layout') (o : Op) (op : Operation) → IsFor l o op → op ≢ Operation.TimedLock
 timed_is l o op is = grind (arith)
 
-timely : (old new : Object) (t : ℕ) (op : Operation) (x : Option Reply) → op ≢ Operation.TimedLock → Tells t old op x new → x ≢ Some ETIMEDOUT
+pub timely : (old new : Object) (t : ℕ) (op : Operation) (x : Option Reply) → op ≢ Operation.TimedLock → Tells t old op x new → x ≢ Some ETIMEDOUT
 timely old new t op x other tells = grind (arith)
 
 -- a call makes its access
@@ -333,6 +341,18 @@ expires_so s u m p is none = record {
   others = λ t apart. ap (λ (z : Thread). z.stage) (put-other s.threads u _ t (λ same. apart (sym same)));
 }
 
+-- so does that of a wait: it is told of no call
+oversleeps_so : (s : State) (u k : ℕ) (x : Limit) (p : Whole) → (s.threads u).stage ≡ Calling (OnCondition (CondCall.TimedWait k x)) p → Adds s u (overslept s u (s.threads u).held k p)
+oversleeps_so s u k x p is = record {
+  fine = ((λ e. refl), (λ e. tt), tt);
+  alone = tt;
+  says = nothing_new;
+  mine = λ i ls later.
+      let now : Goes s.layout u (Calling (OnCondition (CondCall.TimedWait k Past)) p) (own u ls) = subst (λ (z : Thread). Goes s.layout u z.stage (own u ls)) (put-same s.threads u _) later in
+      subst (λ (g : Stage). Goes s.layout u g (own u ls)) (sym is) now;
+  others = λ t apart. ap (λ (z : Thread). z.stage) (put-other s.threads u _ t (λ same. apart (sym same)));
+}
+
 -- a trim is declined: the call has had its point
 declines_so : (s : State) (u : ℕ) (o : Op) (p : Whole) (is : (s.threads u).stage ≡ Calling o p) (trims : IsTrimming p) → Adds s u (record { state = declined_state s u o p is trims; note = quiet s u o p is trims })
 declines_so s u o p is trims = record {
@@ -358,6 +378,7 @@ spares_so s u m g sp = record {
     -- a wait that is about to sleep has made the points that it had made before its wake
     waits : (c : CondCall) (p : CondWhole) (x : ℕ) (fs : List Fact) → Goes s.layout u (AtCondition c (record p { phase = CondPhase.AtWords (CondRow.Wait (WaitRow.Sleep x)) })) fs → Goes s.layout u (AtCondition c (record p { phase = CondPhase.AtWords (CondRow.Wait (WaitRow.Wake x)) })) fs
     waits (CondCall.Wait k) p x fs later = later
+    waits (CondCall.TimedWait k l) p x fs later = later
     waits (CondCall.Signal k) p x fs later = later
     waits (CondCall.Broadcast k) p x fs later = later
 
@@ -443,11 +464,12 @@ adds : (s : State) (e : Event) → Kept s → Adds s (caller e) (happens s e)
 adds s e inv =
     by_event s (λ (x : Event) (a : After). Adds s (caller x) a)
     (λ x. idles s (caller x))
-    (λ u o pos known inside idle full e. begins_call s u o idle full)
+    (λ u o pos known inside idle full e. begins_call s u o idle full e)
     (λ u pos known. by_stage s u (Adds s u) (λ rests. idles s u) (λ o p is awake. goes s u inv pos known o p is) (λ c p is awake. goes_at s u inv pos known c p is) (λ w is awake. walks_on s u inv pos known w is))
     (λ u pos known alive. dies_so s u alive)
     (λ u pos known asleep. leaves_so s u)
     (λ u m p pos known is asleep may. expires_so s u m p is (expires_at p.phase may).2)
+    (λ u k x p pos known is there. oversleeps_so s u k x p is)
     (λ u o p pos known is awake trims. subst (Adds s u) (sym (spared_is s u o p is trims inv pos known)) (declines_so s u o p is trims))
     (λ u pos known gone. renews_so s u pos known gone)
     (λ u m may. reinits_so s u m 0 may.remake.resting)

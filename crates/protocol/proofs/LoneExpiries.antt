@@ -7,7 +7,7 @@ use Rattle.posixmutex.specs.declared.point.Operation.TheVariants.{TimedLock}
 use Rattle.facts.specs.declared.fact.Fact.TheVariants.{Point, Return, Wake}
 use Rattle.mutex.specs.Whole.{may_expire}
 use Rattle.mutex.proofs.Addresses.{head_word_again}
-use Rattle.protocol.specs.Expiries.{OnlyExpires, OnlyReturns, ReturnsNext, ExpiresSo, ExpiriesAreLone}
+use Rattle.protocol.specs.Expiries.{OnlyExpires, OnlyReturns, ReturnsNext, LockExpiresSo, WaitExpiresSo, ExpiresSo, ExpiriesAreLone}
 use Rattle.protocol.proofs.Puts.{put-same, put-other}
 use Rattle.protocol.proofs.Cases.{by_same}
 use Rattle.protocol.proofs.Kept.{Kept}
@@ -19,9 +19,23 @@ use Rattle.protocol.proofs.Queues.{without_gone}
 use Rattle.protocol.proofs.Queued.{Queued, asleep_there}
 use Rattle.protocol.proofs.Departures.{asleep_where}
 use Rattle.protocol.proofs.Events.{is_known}
+use Rattle.protocol.proofs.Oversleeping.{oversleep_goes}
+use Rattle.protocol.proofs.Vocabulary.{CondCall, OnCondition, Past}
 use Rattle.protocol.proofs.Expiring.{expires_at, lapse_goes, lapse_kept, lapse_queued, loads_next}
 use Rattle.protocol.proofs.QueueRuns.{run_queued}
 use Rattle.protocol.proofs.Runs.{run_kept, run_layout, start_kept}
+use Rattle.condvar.specs.declared.call.Limit.TheVariants.{Ahead}
+use Rattle.condvar.specs.Ops.{reply_of}
+use Rattle.lockword.specs.declared.reply.Reply.{Reply}
+
+-- whoever is out of time in a lock returns so, whatever the call
+out_of_time : (o : Op) → reply_of o ETIMEDOUT ≡ ETIMEDOUT
+out_of_time (OnMutex c) = refl
+out_of_time (OnCondition (CondCall.Wait k)) = refl
+out_of_time (OnCondition (CondCall.TimedWait k Past)) = refl
+out_of_time (OnCondition (CondCall.TimedWait k Ahead)) = refl
+out_of_time (OnCondition (CondCall.Signal k)) = refl
+out_of_time (OnCondition (CondCall.Broadcast k)) = refl
 
 -- a call that is about to clear its pending entry
 module _ (s : State) (t : ℕ) (o : Op) (p : Whole) (inv : Kept s) (queued : Queued s) (pos : 1 ≤ t) (known : t ≤ s.layout.threads) (is : (s.threads t).stage ≡ Calling o (record p { phase = Clearing ETIMEDOUT })) where
@@ -70,7 +84,7 @@ module _ (s : State) (t : ℕ) (o : Op) (p : Whole) (inv : Kept s) (queued : Que
           held = ap (λ (z : Thread). z.held) (put-same s.threads t _) ∙ unmoved p.operation (s.threads t).held;
           others = λ u apart. put-other s.threads t _ u apart;
         },
-        refl,
+        ap (λ (y : Reply). Return t y ∷ []) (out_of_time o),
       )
 
 -- an expiry
@@ -81,8 +95,8 @@ module _ (s : State) (t : ℕ) (inv : Kept s) (queued : Queued s) (pos : 1 ≤ t
       returns_next (lapsed s t (s.threads t).held (OnMutex (Call.TimedLock m)) p).state t (OnMutex (Call.TimedLock m)) p (lapse_kept s t (OnMutex (Call.TimedLock m)) p is e.0 e.1 inv pos known)
       (lapse_queued s t (OnMutex (Call.TimedLock m)) p is e.0 e.1 queued asleep) pos known (ap (λ (z : Thread). z.stage) (put-same s.threads t _))
 
-  expires_so : ExpiresSo s t
-  expires_so m there (p, is) =
+  lock_expires : LockExpiresSo s t
+  lock_expires m there (p, is) =
       let asleep = asleep_there s t there.0 queued there.1 in
       let may : may_expire p.phase ≡ true = ap may_expire (loads_next s t (OnMutex (Call.TimedLock m)) p queued is asleep) in
       subst (λ (a : After). OnlyExpires s a.state t × (facts_of a.note ≡ Wake t ∷ Point (record { thread = t; mutex = m; operation = TimedLock; reply = ETIMEDOUT }) ∷ []) × ReturnsNext a.state t)
@@ -98,6 +112,25 @@ module _ (s : State) (t : ℕ) (inv : Kept s) (queued : Queued s) (pos : 1 ≤ t
         refl,
         behind m p is asleep may,
       )
+
+  wait_expires : WaitExpiresSo s t
+  wait_expires k x p there is =
+      subst (λ (a : After). OnlyExpires s a.state t × (facts_of a.note ≡ Wake t ∷ []) × ((a.state.threads t).stage ≡ Calling (OnCondition (CondCall.TimedWait k Past)) p))
+      (sym (oversleep_goes s t k x p pos known is there)) (
+        record {
+          words = λ y. refl;
+          mutexes = λ m. refl;
+          held = ap (λ (z : Thread). z.held) (put-same s.threads t _);
+          others = λ u apart. put-other s.threads t _ u apart;
+          queues = λ key. refl;
+          gone = λ key. without_gone t (s.queues key);
+        },
+        refl,
+        ap (λ (z : Thread). z.stage) (put-same s.threads t _),
+      )
+
+  expires_so : ExpiresSo s t
+  expires_so = (lock_expires, wait_expires)
 
 pub lone_expiries : ExpiriesAreLone
 lone_expiries l counters events is t pos known =

@@ -1,6 +1,7 @@
 -- No wait is passed by.
 use Rattle.std.proofs.Common.{◌≡◌, ◌≢◌, ⊎_elim, ℕ, ◌+◌, ◌<◌, ◌≤◌, Bool, true, false, Option, Some, None, Ok, Err, List, [], ◌∷◌, ◌++◌, refl, sym, ap, ◌∙◌, subst, arith}
 use Rattle.protocol.proofs.Vocabulary.{departed, renewed, reinited, Clearing}
+use Rattle.protocol.proofs.Vocabulary.{Limit, overslept}
 use Rattle.protocol.proofs.Renewals.{renewed_thread}
 use Rattle.protocol.proofs.Vocabulary.{CondCall, CondRow, CondLed, CondPhase, condition_of, full, met_word, counter_after, CondWhole, cond_access, cond_led, after_words}
 use Rattle.protocol.proofs.Vocabulary.{from_words, CondOnward, Begun, Mutex, Condition, Fact, Operation, Decision, answer_at, sleeps_at, Layout', counter_place, Reply}
@@ -10,7 +11,7 @@ use Rattle.protocol.proofs.Vocabulary.{led, led_at, went, begun, killed, walked,
 use Rattle.posixmutex.specs.declared.point.Point.{Point}
 use Rattle.condvar.specs.declared.row.CondRow.TheVariants.{Wait}
 use Rattle.condvar.specs.declared.row.Decided.{Decided}
-use Rattle.condvar.specs.Calls.{operation_of}
+use Rattle.condvar.specs.Calls.{acts_as}
 use Rattle.condvar.specs.Rows.{IsGoing}
 use Rattle.condvar.specs.Programs.{row_access, resume_of, point_of}
 use Rattle.exitwalk.specs.Standings as walks
@@ -211,7 +212,7 @@ module _ (s : State) (u : ℕ) (c : CondCall) (p : CondWhole) (inv : Kept s) (co
   noted_point d h = point_noted d u (its_mutex s c) _ _ _ _ _ h
 
   -- what was decided, where that is told
-  told_so : (x : Option Point) (d : Decision) → decision u (its_mutex s c) (decided_at (operation_of c) x) (reply_at x) ≡ Some d → (y : Point) × (x ≡ Some y) × (u ≡ d.thread) × (y.operation ≡ d.operation) × (y.reply ≡ d.reply)
+  told_so : (x : Option Point) (d : Decision) → decision u (its_mutex s c) (decided_at (acts_as c) x) (reply_at x) ≡ Some d → (y : Point) × (x ≡ Some y) × (u ≡ d.thread) × (y.operation ≡ d.operation) × (y.reply ≡ d.reply)
   told_so None d e = absurd cc
   told_so (Some y) d e = let same = decided_is u (its_mutex s c) y.operation y.reply d e in (y, refl, same.0, same.1, same.2)
 
@@ -302,6 +303,9 @@ decline_makes s u o p is trims = record {
 
 expire_makes : (s : State) (u m : ℕ) (p : Whole) → 1 ≤ u → u ≤ s.layout.threads → (s.threads u).stage ≡ Calling (OnMutex (Call.TimedLock m)) p → Makes s u (lapsed s u (s.threads u).held (OnMutex (Call.TimedLock m)) p)
 expire_makes s u m p pos known is = grind (arith)
+
+oversleep_makes : (s : State) (u k : ℕ) (x : Limit) (p : Whole) → 1 ≤ u → u ≤ s.layout.threads → (s.threads u).stage ≡ Calling (OnCondition (CondCall.TimedWait k x)) p → Makes s u (overslept s u (s.threads u).held k p)
+oversleep_makes s u k x p pos known is = grind (arith)
 
 renew_makes : (s : State) (u : ℕ) → 1 ≤ u → u ≤ s.layout.threads → Makes s u (renewed s u)
 renew_makes s u pos known = record {
@@ -409,6 +413,7 @@ makes s e inv counted =
     (λ t pos known alive. kill_makes s t)
     (λ t pos known asleep. leave_makes s t)
     (λ t m p pos known is asleep may. expire_makes s t m p pos known is)
+    (λ t k x p pos known is there. oversleep_makes s t k x p pos known is)
     (λ t o p pos known is awake trims. subst (Makes s t) (sym (spared_is s t o p is trims inv pos known)) (decline_makes s t o p is trims))
     (λ t pos known gone. renew_makes s t pos known)
     (λ t m may. reinit_makes s t m 0 may.remake.first may.remake.last may.remake.resting)

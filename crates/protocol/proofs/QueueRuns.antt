@@ -17,6 +17,7 @@ use Rattle.protocol.proofs.Vocabulary.{cell_place}
 use Rattle.protocol.proofs.Reinits.{waiters_say_nothing, reinit_queued, nobody_kept, sleepers_kept}
 use Rattle.protocol.proofs.Vocabulary.{Call, OnMutex}
 use Rattle.protocol.proofs.Expiring.{expires_at, lapse_queued}
+use Rattle.protocol.proofs.Oversleeping.{overslept_queued}
 use Rattle.protocol.proofs.Declines.{spared_is, decline_queued}
 use Rattle.protocol.proofs.Runs.{sound, start_kept}
 use Rattle.protocol.proofs.Cases.{at_or_else}
@@ -96,6 +97,7 @@ queued_on s e inv queued =
     (λ t pos known alive. kill_queued s t inv queued pos known alive)
     (λ t pos known asleep. leave_queued s t queued)
     (λ t m p pos known is asleep may. let e = expires_at p.phase may in lapse_queued s t (OnMutex (Call.TimedLock m)) p is e.0 e.1 queued asleep)
+    (λ t k x p pos known is there. overslept_queued s t k x p is queued there)
     (λ t o p pos known is awake trims. subst (λ (a : After). Queued a.state) (sym (spared_is s t o p is trims inv pos known)) (decline_queued s t o p is trims queued))
     (λ t pos known gone. renew_queued s t pos known queued gone)
     (λ t m may. reinit_queued s t m 0 refl may.remake inv (nobody_kept s t m may) queued)

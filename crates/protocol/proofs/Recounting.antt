@@ -3,7 +3,7 @@ use Rattle.std.proofs.Common.{◌≡◌, ◌≢◌, ℕ, ◌+◌, ◌<◌, ◌�
 use Rattle.protocol.proofs.Vocabulary.{CondCall, CondPhase, CondWhole, Object, Agree, head_place, cell_place, counter_place, place_in, fields_of, Phase, AtCell, Linking, Clearing, Whole, Sound, OnCondition, condition_of, mutex_of}
 use Rattle.protocol.proofs.Vocabulary.{Stage, Idle, Calling, AtCondition, Dying, Reaped, State, seen, recounted, MayRecount, holds_count, has_count, OnlyWaits}
 use Rattle.mutex.specs.declared.phase.Phase.TheVariants.{Announcing, Unlinking, Ended}
-use Rattle.condvar.specs.Calls.{operation_of}
+use Rattle.condvar.specs.Calls.{acts_as}
 use Rattle.robustlist.proofs.Links as links
 use Rattle.robustlist.proofs.Unlinks.{right}
 use Rattle.protocol.proofs.Puts.{put-same, put-other}
@@ -50,7 +50,7 @@ module _ (s : State) (ws : ℕ → ℕ) (inv : Kept s) (cells : (m : ℕ) → m 
     entry = f.entry;
     cell = f.cell;
     counter = f.counter;
-    stands = subst (λ (x : ℕ). AtPhase u held (operation_of d) q q.phase (fields_of x)) (sym (cells (mutex_of s.layout (OnCondition d)) f.inside)) f.stands;
+    stands = subst (λ (x : ℕ). AtPhase u held (acts_as d) q q.phase (fields_of x)) (sym (cells (mutex_of s.layout (OnCondition d)) f.inside)) f.stands;
   }
 
   sits_on : (u held : ℕ) (g : Stage) → Sits s u held g → Sits s1 u held g

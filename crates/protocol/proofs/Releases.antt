@@ -5,7 +5,7 @@ use Rattle.protocol.proofs.Vocabulary.{OK, XHELD, Reply, Op, OnCondition, mutex_
 use Rattle.posixmutex.specs.declared.point.Point.{Point}
 use Rattle.condvar.specs.declared.row.CondRow.TheVariants.{Wait}
 use Rattle.condvar.specs.declared.row.Decided.{Decided}
-use Rattle.condvar.specs.Calls.{operation_of}
+use Rattle.condvar.specs.Calls.{acts_as}
 use Rattle.condvar.specs.Programs.{row_access, resume_of, point_of}
 use Rattle.condvar.specs.Ops as ops
 use Rattle.protocol.specs.Sleepers.{IsAmong}
@@ -85,7 +85,7 @@ module _ (s : State) (inv : Kept s) (calls : ℕ → Option Begun) (left : ℕ �
   at_condition u c p pos known is t m b h told waits = go (cond_moves s u c inv pos known p is).move
     where
       told_point : OfPoint u (its_mutex s c) (cond_onto s u p).point t m
-      told_point = of_point u (its_mutex s c) (operation_of c) (cond_onto s u p).point t m (point_noted (unlock_of t m) u (its_mutex s c) _ _ _ _ _ h)
+      told_point = of_point u (its_mutex s c) (acts_as c) (cond_onto s u p).point t m (point_noted (unlock_of t m) u (its_mutex s c) _ _ _ _ _ h)
 
       same : begun_of s.layout (OnCondition c) ≡ b
       same = call_is u t b (begun_of s.layout (OnCondition c)) told_point.thread (subst (λ (g : Stage). Learnt s.layout g (calls u) (left u)) is (learnt u)).0 told
@@ -126,6 +126,7 @@ module _ (s : State) (inv : Kept s) (calls : ℕ → Option Begun) (left : ℕ �
       (λ u pos known alive t m b h told waits. absurd (⊎_elim (λ e. cc e) (λ none. none) h))
       (λ u pos known asleep t m b h told waits. absurd (⊎_elim (λ e. cc e) (λ none. none) h))
       (λ u k p pos known is asleep may t m b h told waits. absurd (⊎_elim (λ e. cc e) (λ more. ⊎_elim (λ e. cc (same_decision _ (unlock_of t m) e).1) (λ none. none) more) h))
+      (λ u k x p pos known is there t m b h told waits. absurd (⊎_elim (λ e. cc e) (λ none. none) h))
       (λ u o p pos known is awake trims. subst Releases (sym (spared_is s u o p is trims inv pos known)) (λ t m b h told waits. absurd h))
       (λ u pos known gone t m b h told waits. absurd (⊎_elim (λ e. cc e) (λ none. none) h))
       (λ u k may t m b h told waits. absurd (⊎_elim (λ e. cc e) (λ more. ⊎_elim (λ e. cc (same_decision _ (unlock_of t m) e).1) (λ last. ⊎_elim (λ e. cc e) (λ none. none) last) more) h))

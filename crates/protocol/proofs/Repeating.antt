@@ -138,6 +138,7 @@ pub resleep_rests : (s : State) (t : ℕ) → Kept s → ((k : ℕ) → k < leng
 resleep_rests s t inv never =
     by_event s (λ (x : Event) (a : After). x ≡ Resleep t → a ≡ nothing s) (λ x same. refl) (λ u o pos known named idle b full same. absurd cc) (λ u pos known same. absurd cc) (λ u pos known alive same. absurd cc) (λ u pos known asleep same. absurd cc)
     (λ u m p pos known is asleep may same. absurd cc)
+    (λ u k x p pos known is there same. absurd cc)
     (λ u o p pos known is awake trims same. absurd cc) (λ u pos known gone same. absurd cc) (λ u m may same. absurd cc) (λ u m may same. absurd cc) (λ k may same. absurd cc) (λ u m g sp same. absurd cc)
     (λ u c p pos known is there same. absurd (never (condition_of c) (fits_in s u (OnCondition c) p inv pos known is).1.2 (subst (λ (v : ℕ). stands_in v (s.queues (counter_place s.layout (condition_of c))) ≡ true) (thread_is u t same) there)))
     (λ u w pos known is reads same. absurd cc)
@@ -156,6 +157,7 @@ pub repeat_rests : (s : State) (t : ℕ) → (1 ≤ t → t ≤ s.layout.threads
 repeat_rests s t never =
     by_event s (λ (x : Event) (a : After). x ≡ Repeat t → a ≡ nothing s) (λ x same. refl) (λ u o pos known named idle b full same. absurd cc) (λ u pos known same. absurd cc) (λ u pos known alive same. absurd cc) (λ u pos known asleep same. absurd cc)
     (λ u m p pos known is asleep may same. absurd cc)
+    (λ u k x p pos known is there same. absurd cc)
     (λ u o p pos known is awake trims same. absurd cc) (λ u pos known gone same. absurd cc) (λ u m may same. absurd cc) (λ u m may same. absurd cc) (λ k may same. absurd cc) (λ u m g sp same. absurd cc) (λ u c p pos known is there same. absurd cc)
     (λ u w pos known is reads same. absurd (subst (λ (v : ℕ). 1 ≤ v → v ≤ s.layout.threads → IsAboutToRead s v → ⊥) (sym (thread_is u t same)) never pos known (w, is, reads)))
     (Repeat t) refl

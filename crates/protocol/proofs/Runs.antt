@@ -2,6 +2,7 @@
 use Rattle.std.proofs.Common.{◌≡◌, ◌≢◌, ℕ, zero, suc, ◌+◌, ◌<◌, ◌≤◌, Bool, true, false, ◌&&◌, Option, Some, None, Ok, Err, List, [], ◌∷◌, ◌++◌, refl, sym, ap, ◌∙◌, subst, arith}
 use Rattle.std.proofs.Common.{eq-eqb, ◌%◌, ◌==◌}
 use Rattle.protocol.proofs.Vocabulary.{LoadFirst, Object, Operation, Decision, Layout', IsLayout, head_place, Does, Permits, acquires, fresh, held_by, Reply, XHELD, Op, mutex_of}
+use Rattle.protocol.proofs.Vocabulary.{Limit, overslept, CondCall, OnCondition}
 use Rattle.protocol.proofs.Vocabulary.{Names, Event, Thread, Stage, Idle, Dying, Note, facts_of, State, After, put, start, nothing, is_alive, killed, begun, happens, run, notes}
 use Rattle.protocol.proofs.Vocabulary.{seen, if◌then◌else◌, nat_le, MatchBool, nat_tests, first_word, points_of, points_among, HistoryIsLegal, address_in}
 use Rattle.protocol.proofs.Vocabulary.{Calling, AtCondition, Reaped, departed, renewed, reinited, MayRemake, Whole, cell_place}
@@ -30,6 +31,7 @@ use Rattle.lockword.specs.declared.reply.Reply.TheVariants.{ETIMEDOUT}
 use Rattle.mutex.specs.declared.row.Row.TheVariants.{Lock}
 use Rattle.protocol.proofs.Vocabulary.{AtCell, Call, LockRow, OnMutex, lapsed}
 use Rattle.protocol.proofs.Expiring.{expires_at, lapse_kept}
+use Rattle.protocol.proofs.Oversleeping.{overslept_kept}
 use Rattle.protocol.proofs.Declines.{declined_state, quiet, spared_is, decline_kept}
 use Rattle.buckets.specs.Queues.{without}
 use Rattle.protocol.proofs.Vocabulary.{Led, condition_of, recounted, reslept, repeated, woken}
@@ -201,6 +203,10 @@ lapse_sound s t m p inv pos known is r at =
       told = (fits.0.inside, does _ t _ _ Operation.TimedLock ETIMEDOUT (λ takes. subst (λ (h : ℕ). h < 2048) (inv.held t pos known) room) refl, (λ k apart. refl), refl);
     }
 
+-- and a wait that is out of time
+oversleep_sound : (s : State) (t k : ℕ) (x : Limit) (p : Whole) → Kept s → 1 ≤ t → t ≤ s.layout.threads → (s.threads t).stage ≡ Calling (OnCondition (CondCall.TimedWait k x)) p → Sound' s (overslept s t (s.threads t).held k p)
+oversleep_sound s t k x p inv pos known is = record { kept = overslept_kept s t k x p is inv pos known; same = refl; told = λ j. refl }
+
 -- and a trim that is declined
 decline_sound : (s : State) (t : ℕ) (o : Op) (p : Whole) (is : (s.threads t).stage ≡ Calling o p) (trims : IsTrimming p) → Kept s → 1 ≤ t → t ≤ s.layout.threads
     → Sound' s (record { state = declined_state s t o p is trims; note = quiet s t o p is trims })
@@ -243,6 +249,7 @@ sound s e inv =
     (λ t pos known alive. kill_sound s t inv pos known alive)
     (λ t pos known asleep. leave_sound s t inv)
     (λ t m p pos known is asleep may. let e = expires_at p.phase may in lapse_sound s t m p inv pos known is e.0 e.1)
+    (λ t k x p pos known is there. oversleep_sound s t k x p inv pos known is)
     (λ t o p pos known is awake trims. subst (Sound' s) (sym (spared_is s t o p is trims inv pos known)) (decline_sound s t o p is trims inv pos known))
     (λ t pos known gone. renew_sound s t inv pos known gone)
     (λ t m may. reinit_sound s t m 0 refl inv may.remake)

@@ -17,7 +17,7 @@ use Rattle.protocol.proofs.Events.{at_rest, names_mutex}
 use Rattle.protocol.proofs.QueueRuns.{run_queued}
 use Rattle.protocol.proofs.Queued.{Queued}
 use Rattle.protocol.proofs.Counters.{Counted, one_more, start_counted, run_counted}
-use Rattle.condvar.specs.Calls.{operation_of}
+use Rattle.condvar.specs.Calls.{acts_as}
 use Rattle.condvar.specs.Programs.{first_row, row_access}
 use Rattle.condvar.specs.Whole.{onward}
 use Rattle.protocol.proofs.Puts.{by_put, put-same, put-other}
@@ -97,7 +97,7 @@ module _ (s : State) (t : ℕ) (c : CondCall) (pos : 1 ≤ t) (known : t ≤ s.l
 
   abbrev noted : (ℕ → ℕ) → (ℕ → List ℕ) → CondRow → ℕ → CondOnward → Note
   noted words queues r x g =
-      Stepped t m (decision t m (decided_at (operation_of c) g.point) (reply_at g.point)) (slept_in (Condition (condition_of c)) (sleeps_at (access_at r) (words x))) (woken_by (access_at r) (words x) (queues x)) (moved_by (access_at r) (words x) (queues x)) (returned_at g.phase)
+      Stepped t m (decision t m (decided_at (acts_as c) g.point) (reply_at g.point)) (slept_in (Condition (condition_of c)) (sleeps_at (access_at r) (words x))) (woken_by (access_at r) (words x) (queues x)) (moved_by (access_at r) (words x) (queues x)) (returned_at g.phase)
 
   abbrev note_at : (ℕ → ℕ) → (ℕ → List ℕ) → CondRow → CondOnward → Note
   note_at words queues r g = noted words queues r (met_at r) g
@@ -114,7 +114,7 @@ module _ (s : State) (t : ℕ) (c : CondCall) (pos : 1 ≤ t) (known : t ≤ s.l
 
   -- one access, at a row
   row_goes : (words words' : ℕ → ℕ) (queues queues' : ℕ → List ℕ) (r : CondRow) (g : CondOnward) → Kept (at_row words queues r)
-      → led_by words queues r (met_at r) ≡ g → words_by words queues r (met_at r) ≡ words' → queues_by words queues r (met_at r) ≡ queues' → held_after held (decided_at (operation_of c) g.point) (reply_at g.point) ≡ held
+      → led_by words queues r (met_at r) ≡ g → words_by words queues r (met_at r) ≡ words' → queues_by words queues r (met_at r) ≡ queues' → held_after held (decided_at (acts_as c) g.point) (reply_at g.point) ≡ held
       → happens (at_row words queues r) (Step t) ≡ record { state = at_stage words' queues' (stage_at c (whole r) g.phase); note = note_at words queues r g }
   row_goes words words' queues queues' r g kept leads words_are queues_are same =
       cond_goes z t c (whole r) kept pos known in_call
@@ -132,10 +132,10 @@ module _ (s : State) (t : ℕ) (c : CondCall) (pos : 1 ≤ t) (known : t ≤ s.l
       in_call = stage_is words queues (AtCondition c (whole r))
 
       threads_by : CondOnward → ℕ → Thread
-      threads_by o = put z.threads t (record { stage = stage_at c (whole r) o.phase; held = held_after (z.threads t).held (decided_at (operation_of c) o.point) (reply_at o.point) })
+      threads_by o = put z.threads t (record { stage = stage_at c (whole r) o.phase; held = held_after (z.threads t).held (decided_at (acts_as c) o.point) (reply_at o.point) })
 
-      held_is : held_after (z.threads t).held (decided_at (operation_of c) g.point) (reply_at g.point) ≡ held
-      held_is = ap (λ (y : Thread). held_after y.held (decided_at (operation_of c) g.point) (reply_at g.point)) (put-same s.threads t (record { stage = AtCondition c (whole r); held = held })) ∙ same
+      held_is : held_after (z.threads t).held (decided_at (acts_as c) g.point) (reply_at g.point) ≡ held
+      held_is = ap (λ (y : Thread). held_after y.held (decided_at (acts_as c) g.point) (reply_at g.point)) (put-same s.threads t (record { stage = AtCondition c (whole r); held = held })) ∙ same
 
       threads_are : threads_by (led_by words queues r (met_at r)) ≡ put s.threads t (record { stage = stage_at c (whole r) g.phase; held = held })
       threads_are =
@@ -144,7 +144,7 @@ module _ (s : State) (t : ℕ) (c : CondCall) (pos : 1 ≤ t) (known : t ≤ s.l
 
   -- and then the others, where what holds of every state holds still
   row_then : (words words' : ℕ → ℕ) (queues queues' : ℕ → List ℕ) (r : CondRow) (g : CondOnward) (es : List Event) (y : State) (fs : List Fact)
-      → led_by words queues r (met_at r) ≡ g → words_by words queues r (met_at r) ≡ words' → queues_by words queues r (met_at r) ≡ queues' → held_after held (decided_at (operation_of c) g.point) (reply_at g.point) ≡ held
+      → led_by words queues r (met_at r) ≡ g → words_by words queues r (met_at r) ≡ words' → queues_by words queues r (met_at r) ≡ queues' → held_after held (decided_at (acts_as c) g.point) (reply_at g.point) ≡ held
       → (Kept (at_stage words' queues' (stage_at c (whole r) g.phase)) → Comes_to (at_stage words' queues' (stage_at c (whole r) g.phase)) es y fs) → Kept (at_row words queues r)
       → Comes_to (at_row words queues r) (Step t ∷ es) y (facts_of (note_at words queues r g) ++ fs)
   row_then words words' queues queues' r g es y fs leads words_are queues_are same further kept =

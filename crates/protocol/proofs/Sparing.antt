@@ -7,7 +7,7 @@ use mathlib.Core.Path.{fun_ext}
 use Rattle.mutex.specs.Whole.{phase_led}
 use Rattle.mutex.specs.declared.row.Row.TheVariants.{Unlock}
 use Rattle.condvar.specs.Whole as condition
-use Rattle.condvar.specs.Calls.{operation_of}
+use Rattle.condvar.specs.Calls.{acts_as}
 use Rattle.protocol.specs.Machine.{returned}
 use Rattle.protocol.specs.declared.event.Event.TheVariants.{Spare}
 use Rattle.protocol.proofs.Puts.{by_put, put-other}
@@ -130,7 +130,7 @@ module _ (s : State) (t : ℕ) (o : Op) (p : Whole) (is : (s.threads t).stage �
   unlocks = sym (fits_in s t o whole inv pos known stands).0.stands.of
 
   abbrev led_as : Operation → Led
-  led_as op = record { stage = stage_after o p (leaving p op OK); operation = op; point = None; returned = returned (leaving p op OK) }
+  led_as op = record { stage = stage_after o p (leaving p op OK); operation = op; point = None; returned = returned o (leaving p op OK) }
 
   unlock_led : led o p (whole_led p (Count 1)) ≡ led_as Operation.Unlock
   unlock_led = ap (λ (f : Phase). led o p (phase_led p f (Count 1))) at ∙ ap led_as unlocks
@@ -175,7 +175,7 @@ module _ (s : State) (t : ℕ) (c : CondCall) (p : CondWhole) (seen : ℕ) (is :
   stands_at = is ∙ ap (AtCondition c) same_at
 
   abbrev led_on : Led
-  led_on = record { stage = AtCondition c sleeping; operation = operation_of c; point = None; returned = None }
+  led_on = record { stage = AtCondition c sleeping; operation = acts_as c; point = None; returned = None }
 
   wait_led : led_at c p (cond_led p (Count 1)) ≡ led_on
   wait_led = ap (λ (f : CondPhase). led_at c p (condition.phase_led p f (Count 1))) at
@@ -184,7 +184,7 @@ module _ (s : State) (t : ℕ) (c : CondCall) (p : CondWhole) (seen : ℕ) (is :
   waiting_on held = record s { threads = put s.threads t (record { stage = AtCondition c sleeping; held = held }) }
 
   wait_is : (m : ℕ) → spared s t (s.threads t).held m (led_at c p (cond_led p (Count 1))) ≡ record { state = waiting_on (s.threads t).held; note = unwoken t m }
-  wait_is m = ap (spared s t (s.threads t).held m) wait_led ∙ (λ i. record { state = waiting_on (unmoved (operation_of c) (s.threads t).held i); note = unwoken t m })
+  wait_is m = ap (spared s t (s.threads t).held m) wait_led ∙ (λ i. record { state = waiting_on (unmoved (acts_as c) (s.threads t).held i); note = unwoken t m })
 
   abbrev s3 : State
   s3 = record s { queues = slept_on t }
@@ -203,8 +203,8 @@ module _ (s : State) (t : ℕ) (c : CondCall) (p : CondWhole) (seen : ℕ) (is :
 
   wait_kept : Kept s → 1 ≤ t → t ≤ s.layout.threads → Kept (waiting_on (s.threads t).held)
   wait_kept inv pos known =
-      let first : With_at (held_after (s.threads t).held (operation_of c) None) (put s.words place_at (s.words place_at)) = (cond_stepping s3 t c whole_at (queues_kept s (slept_on t) inv) pos known stands_at).kept in
-      let second : With_at (s.threads t).held (put s.words place_at (s.words place_at)) = subst (λ (h : ℕ). With_at h (put s.words place_at (s.words place_at))) (unmoved (operation_of c) (s.threads t).held) first in
+      let first : With_at (held_after (s.threads t).held (acts_as c) None) (put s.words place_at (s.words place_at)) = (cond_stepping s3 t c whole_at (queues_kept s (slept_on t) inv) pos known stands_at).kept in
+      let second : With_at (s.threads t).held (put s.words place_at (s.words place_at)) = subst (λ (h : ℕ). With_at h (put s.words place_at (s.words place_at))) (unmoved (acts_as c) (s.threads t).held) first in
       let third : With_at (s.threads t).held s.words = subst (With_at (s.threads t).held) words_stay_at second in
       queues_kept (record s { queues = s4.queues; threads = put s.threads t (record { stage = AtCondition c sleeping; held = (s.threads t).held }) }) s.queues third
 
@@ -321,6 +321,7 @@ pub spare_rests : (s : State) (t : ℕ) → Queued s → (1 ≤ t → t ≤ s.la
 spare_rests s t queued never =
     by_event s (λ (x : Event) (a : After). x ≡ Spare t → a ≡ nothing s) (λ x same. refl) (λ u o pos known named idle b full same. absurd cc) (λ u pos known same. absurd cc) (λ u pos known alive same. absurd cc) (λ u pos known asleep same. absurd cc)
     (λ u m p pos known is asleep may same. absurd cc)
+    (λ u k x p pos known is there same. absurd cc)
     (λ u o p pos known is awake trims same. absurd cc) (λ u pos known gone same. absurd cc) (λ u m may same. absurd cc) (λ u m may same. absurd cc) (λ k may same. absurd cc)
     (λ u m g sp same. absurd (subst (λ (v : ℕ). 1 ≤ v → v ≤ s.layout.threads → MaySpare s v → ⊥) (sym (thread_is u t same)) never sp.first sp.last (spare_so s u m g queued sp)))
     (λ u c p pos known is there same. absurd cc) (λ u w pos known is reads same. absurd cc)

@@ -1,6 +1,7 @@
 -- Why a lock is out of time.
 use Rattle.std.proofs.Common.{◌≡◌, ◌≢◌, ◌⊎◌, ⊎_elim, inl, inr, ℕ, zero, suc, ◌≤◌, ◌==◌, ◌&&◌, Bool, true, false, Option, Some, None, Ok, Err, List, [], ◌∷◌, ◌++◌, refl, sym, ap, ◌∙◌, subst, arith, eq-eqb, eqb-true}
 use Rattle.protocol.proofs.Vocabulary.{Answer, Exchanged, Changed, Object, Operation, Decision, Layout', Fields, fields_of, owner_of, word_of, answer_among, cell_place, place_in, place_met}
+use Rattle.protocol.proofs.Vocabulary.{Limit, Past, overslept}
 use Rattle.protocol.proofs.Vocabulary.{Reply, XHELD, Call, LockRow, UnlockRow, Phase, AtCell, Whole, whole_access, whole_led, after_cell, Op, OnMutex, OnCondition, mutex_of, condition_of, CondCall, CondPhase, CondRow, CondWhole, WaitRow, SignalRow, BroadcastRow, cond_access, cond_led}
 use Rattle.protocol.proofs.Vocabulary.{Event, Fact, Note, Walked, Stage, Idle, Calling, AtCondition, State, After, start, happens, notes, facts_of, facts_among, points_of, begun, departed, killed, lapsed, renewed, reinited, recounted, reslept, stepped, went, Thread, counter_place, seen, put, stands_in, stage_after, stage_at, led, led_at, is_asleep}
 use Rattle.protocol.proofs.Vocabulary.{if◌then◌else◌, waiters_of, answer_of, walked, decision, moved_by, sleeps_at, slept_in, woken_by, not, ◌||◌, eqb-false, BeginsNone, Begun, Mutex, Condition}
@@ -232,7 +233,7 @@ cond_untimed t held op p (CondPhase.Announcing x) a w other stands = grind (arit
 cond_untimed t held op p (CondPhase.Unlinking u x) a w other stands = other
 cond_untimed t held op p f a w other stands = absurd stands
 
-its_own : (c : CondCall) → conditions.operation_of c ≢ Operation.TimedLock
+its_own : (c : CondCall) → conditions.acts_as c ≢ Operation.TimedLock
 its_own c = grind (arith)
 
 -- ---- a lock that is about to sleep
@@ -378,7 +379,7 @@ module _ (s : State) (inv : Kept s) where
       (sym (went-is s u (mutex_of s.layout (OnCondition d)) (Condition (condition_of d)) (AtCondition d p) (cond_access p) (λ a. led_at d p (cond_led p a)) (cond_stepping s u d p inv pos known is).valid))
       (subst Untimed (sym (told_call u (mutex_of s.layout (OnCondition d)) (cond_step s u d p).operation (cond_step s u d p).point _ _ _ _))
       (told_untimed _ _ u (mutex_of s.layout (OnCondition d)) (cond_step s u d p).operation (cond_step s u d p).point
-      (cond_untimed u (s.threads u).held (conditions.operation_of d) p p.phase _ _ (its_own d) (fits_at s u d p inv pos known is).stands)
+      (cond_untimed u (s.threads u).held (conditions.acts_as d) p p.phase _ _ (its_own d) (fits_at s u d p inv pos known is).stands)
       (cond_stepping s u d p inv pos known is).tells)))
       (λ v is awake.
       let answer = answer_of s u (exit.access_of v) in
@@ -393,6 +394,7 @@ module _ (s : State) (inv : Kept s) where
       (λ u pos known alive none. tt)
       (λ u pos known asleep none. tt)
       (λ u k p pos known is asleep may none. absurd none)
+      (λ u k x p pos known is there none. absurd none)
       (λ u o p pos known is awake trims none. subst UntimedIn (sym (spared_is s u o p is trims inv pos known)) tt)
       (λ u pos known gone none. tt)
       (λ u k may none. ((λ e. cc e), tt))
@@ -532,6 +534,18 @@ module _ (s : State) (t m : ℕ) (inv : Kept s) (queued : Queued s) where
       behind : State
       behind = (lapsed s u (s.threads u).held (OnMutex (Call.TimedLock k)) p).state
 
+  -- nor is a wait a lock
+  oversleeps : (u k : ℕ) (x : Limit) (p : Whole) → (s.threads u).stage ≡ Calling (OnCondition (CondCall.TimedWait k x)) p → Comes (overslept s u (s.threads u).held k p)
+  oversleeps u k x p is h =
+      by_same u t
+      (λ same.
+      let here = subst (λ (z : Thread). IsWaiting behind t m z.stage) (put_here s.threads u t _ same) h in
+      absurd (cc (timed_only behind t m (OnCondition (CondCall.TimedWait k Past)) p here).0))
+      (λ apart. (tt, inl (waits_where s behind t m _ (without_where u) (subst (λ (z : Thread). IsWaiting behind t m z.stage) (put_there s.threads u t _ apart) h))))
+    where
+      behind : State
+      behind = (overslept s u (s.threads u).held k p).state
+
   -- whoever is awake stands in no queue
   awake_out : (u : ℕ) → u ≡ t → is_asleep s u ≡ false → IsInAQueue s t → ⊥
   awake_out u same awake (key, there) = let asleep = asleep_there s t key queued there in cc (asleep, sym (ap (is_asleep s) same) ∙ awake)
@@ -589,6 +603,7 @@ module _ (s : State) (t m : ℕ) (inv : Kept s) (queued : Queued s) where
       (λ u pos known alive. kills u)
       (λ u pos known asleep h. (tt, inl (waits_where s (departed s u).state t m (s.threads t).stage (without_where u) h)))
       (λ u k p pos known is asleep may. expires u k p)
+      (λ u k x p pos known is there. oversleeps u k x p is)
       (λ u o p pos known is awake trims. subst Comes (sym (spared_is s u o p is trims inv pos known)) (declines u o p is trims awake))
       (λ u pos known gone. renews u)
       (λ u k may. reinits u k 0 may.remake.resting)
@@ -621,6 +636,7 @@ module _ (s : State) (t m : ℕ) (inv : Kept s) (queued : Queued s) where
       (λ u pos known alive c w. (tt, tt))
       (λ u pos known asleep c w. (tt, tt))
       (λ u k p pos known is asleep may. expired_reasons u k p is asleep)
+      (λ u k x p pos known is there c w. (tt, tt))
       (λ u o p pos known is awake trims. subst Reasons (sym (spared_is s u o p is trims inv pos known)) (λ c w. tt))
       (λ u pos known gone c w. (tt, tt))
       (λ u k may c w. untimed_reasons t m c (facts_of (reinited s u k 0).note) ((λ e. cc e), tt))

@@ -113,14 +113,14 @@ module _ (t held : ℕ) (c : Call) (o : Object) (room : acquires (calls.acts_as 
         }
 
     -- what it returned is what it was decided
-    replied : (x : Reply) (f : Phase) → returned f ≡ Some x → falls ≡ false → SteadyAt t f (z.words (cell_place s.layout m)) → Decided (decided_at f) (seen z m) → (x ≢ XRACED) × Does held o t op x (seen z m)
+    replied : (x : Reply) (f : Phase) → returned (OnMutex c) f ≡ Some x → falls ≡ false → SteadyAt t f (z.words (cell_place s.layout m)) → Decided (decided_at f) (seen z m) → (x ≢ XRACED) × Does held o t op x (seen z m)
     replied x f e quiet calm done = grind (arith)
 
     -- it falls asleep, returns, or goes on
     one_step : (n : ℕ) → ((y : State) (q : Whole) → Kept y → Queued y → 1 ≤ t → t ≤ y.layout.threads → (y.threads t).stage ≡ Calling (OnMutex c) q → is_asleep y t ≡ false → SteadyAt t q.phase (y.words (cell_place y.layout m)) → Decided (decided_at q.phase) (seen y m) → ComesBack t held m op o KeptOut y n)
         → ComesBack t held m op o KeptOut s (suc n)
     one_step n further =
-        takes_step t held m op o KeptOut s (call_step s t (OnMutex c) p) step queued pos known is awake m _ _ _ _ (returned to.phase) (call_goes s t (OnMutex c) p inv pos known is awake) (call_ends (OnMutex c) p to) n
+        takes_step t held m op o KeptOut s (call_step s t (OnMutex c) p) step queued pos known is awake m _ _ _ _ (returned (OnMutex c) to.phase) (call_goes s t (OnMutex c) p inv pos known is awake) (call_ends (OnMutex c) p to) n
         slept
         (λ x quiet e. replied x to.phase e quiet (steady_then quiet) changed_to)
         (λ quiet calling.
@@ -159,6 +159,9 @@ first_comes o held n s t (OnMutex c) room same inv queued pos known is awake =
     (record { returns = back.0.returns; sleeps = λ e. inl (back.0.sleeps e) }, back.1)
 first_comes o held n s t (OnCondition (CondCall.Wait k)) room same inv queued pos known is awake =
     let back = comes_at t held o (CondCall.Wait k) n s (condition.begins s.layout t (CondCall.Wait k)) inv queued pos known is awake same in
+    (record { returns = back.0.returns; sleeps = λ e. inr (back.0.sleeps e) }, back.1)
+first_comes o held n s t (OnCondition (CondCall.TimedWait k l)) room same inv queued pos known is awake =
+    let back = comes_at t held o (CondCall.TimedWait k l) n s (condition.begins s.layout t (CondCall.TimedWait k l)) inv queued pos known is awake same in
     (record { returns = back.0.returns; sleeps = λ e. inr (back.0.sleeps e) }, back.1)
 first_comes o held n s t (OnCondition (CondCall.Signal k)) room same inv queued pos known is awake =
     let back = comes_at t held o (CondCall.Signal k) n s (condition.begins s.layout t (CondCall.Signal k)) inv queued pos known is awake same in

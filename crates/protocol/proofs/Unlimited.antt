@@ -1,25 +1,31 @@
--- Where no time limit comes, locks with a limit are as locks without one.
+-- Where no time limit comes, locks and waits with a limit are as those without one.
 use Rattle.std.proofs.Common.{◌≡◌, ℕ, zero, suc, ◌==◌, ◌&&◌, Bool, true, false, Some, None, Result, Ok, Err, List, [], ◌∷◌, length, map, refl, sym, ap, ◌∙◌, arith}
 use mathlib.Core.Path.{fun_ext}
 use Rattle.protocol.proofs.Vocabulary.{Operation, address_in, head_place, Begun, CondCall, CondPhase, CondOnward, CondWhole, Layout', Mutex, Condition, Queue, Access, Reply, XHELD, Phase, Onward, Whole, Call, Op, OnMutex, OnCondition, whole_access, whole_led, cond_access, cond_led, Trimmed, Count}
 use Rattle.protocol.proofs.Vocabulary.{mutex_of, begun_of, condition_of, Thread, Stage, Calling, AtCondition, Dying, Event, Note, Began, State, After, begun, departed, killed, walked, renewed, reinited, recounted, repeated, spared, went, nothing, put, waiters_of}
 use Rattle.protocol.proofs.Vocabulary.{cell_place, answer_of, is_alive, is_asleep, sleeps, stage_after, stage_at, stage_walked, led, led_at, happens, stepped, run, notes, held_after, if◌then◌else◌, not, ◌||◌, nat_lt, nat_le, stands_at, stands_in, counter_place, first_stage}
-use Rattle.protocol.proofs.Vocabulary.{another_answers, answers, holds_count, is_mark, none_counts, repeating, resleeping, reslept, sparing, wakes_one}
+use Rattle.protocol.proofs.Vocabulary.{another_answers, answers, has_count, holds_count, is_mark, none_counts, repeating, resleeping, reslept, sparing, wakes_one}
 use Rattle.exitwalk.specs.Standings as walks
 use Rattle.exitwalk.specs.Walks as exit
 use Rattle.exitwalk.specs.declared.row.Row as walk_row
 use Rattle.exitwalk.specs.declared.row.Row.TheVariants as walk
 use Rattle.stepprograms.specs.Accesses.{is_nobody}
 use Rattle.mutex.specs.Whole.{begins}
-use Rattle.condvar.specs.Ops.{is_in}
+use Rattle.condvar.specs.Ops.{may_call, reply_of}
+use Rattle.condvar.specs.Calls as condition
+use Rattle.condvar.specs.declared.call.Limit.TheVariants.{Ahead, Past}
+use Rattle.std.specs.Prelude.{Option, slice_index}
 use Rattle.protocol.specs.Machine as machine
 use Rattle.protocol.specs.Machine.{Led, decided_at, declined, death_at, has_thread, is_gone, is_idle, is_in_head, is_trim, is_unusable, places_of, stage_begun, words_after, queues_after, wakes_next, told_of, idle}
-use Rattle.protocol.specs.TimeLimits.{IsNoLimit, NoLimitComes, as_lock, unlimited, unlimited_event, unlimited_note}
+use Rattle.protocol.specs.TimeLimits.{IsNoLimit, NoLimitComes, untimed, unlimited, unlimited_event, unlimited_note, unlimited_lock, unlimited_wait}
+use Rattle.protocol.proofs.Events.{may_so}
+use Rattle.protocol.specs.Applies.{BeginsAhead}
 
 -- ---- a state with locks without limits in place of those with one
 
 abbrev unlimited_stage : Stage → Stage
 unlimited_stage (Calling o p) = Calling (unlimited o) p
+unlimited_stage (AtCondition c p) = AtCondition (unlimited_wait c) p
 unlimited_stage g = g
 
 abbrev unlimited_thread : Thread → Thread
@@ -33,41 +39,85 @@ unlimited_after a = record { state = unlimited_state a.state; note = unlimited_n
 
 -- ---- what a machine asks of a call or a stage is the same
 
+condition_same : (c : CondCall) → condition_of (unlimited_wait c) ≡ condition_of c
+condition_same (CondCall.TimedWait k Ahead) = refl
+condition_same (CondCall.TimedWait k Past) = refl
+condition_same (CondCall.Wait k) = refl
+condition_same (CondCall.Signal k) = refl
+condition_same (CondCall.Broadcast k) = refl
+
+acts_same : (c : CondCall) → condition.acts_as (unlimited_wait c) ≡ condition.acts_as c
+acts_same (CondCall.TimedWait k Ahead) = refl
+acts_same (CondCall.TimedWait k Past) = refl
+acts_same (CondCall.Wait k) = refl
+acts_same (CondCall.Signal k) = refl
+acts_same (CondCall.Broadcast k) = refl
+
 mutex_same : (l : Layout') (o : Op) → mutex_of l (unlimited o) ≡ mutex_of l o
 mutex_same l (OnMutex (Call.TimedLock m)) = refl
-mutex_same l o = refl
+mutex_same l (OnMutex (Call.Lock m)) = refl
+mutex_same l (OnMutex (Call.TryLock m)) = refl
+mutex_same l (OnMutex (Call.Unlock m)) = refl
+mutex_same l (OnMutex (Call.Consistent m)) = refl
+mutex_same l (OnCondition c) = ap (slice_index l.conditions) (condition_same c)
 
-inside_same : (l : Layout') (o : Op) → is_in l (unlimited o) ≡ is_in l o
+inside_same : (l : Layout') (o : Op) → may_call l (unlimited o) ≡ may_call l o
 inside_same l (OnMutex (Call.TimedLock m)) = refl
-inside_same l o = refl
+inside_same l (OnMutex (Call.Lock m)) = refl
+inside_same l (OnMutex (Call.TryLock m)) = refl
+inside_same l (OnMutex (Call.Unlock m)) = refl
+inside_same l (OnMutex (Call.Consistent m)) = refl
+inside_same l (OnCondition (CondCall.TimedWait k Ahead)) = refl
+inside_same l (OnCondition (CondCall.TimedWait k Past)) = refl
+inside_same l (OnCondition (CondCall.Wait k)) = refl
+inside_same l (OnCondition (CondCall.Signal k)) = refl
+inside_same l (OnCondition (CondCall.Broadcast k)) = refl
 
-begun_same : (l : Layout') (o : Op) → begun_of l (unlimited o) ≡ record (begun_of l o) { operation = as_lock (begun_of l o).operation }
-begun_same l o = grind (arith)
+begun_same : (l : Layout') (o : Op) → BeginsAhead o → begun_of l (unlimited o) ≡ record (begun_of l o) { operation = untimed (begun_of l o).operation }
+begun_same l (OnMutex (Call.TimedLock m)) ahead = refl
+begun_same l (OnMutex (Call.Lock m)) ahead = refl
+begun_same l (OnMutex (Call.TryLock m)) ahead = refl
+begun_same l (OnMutex (Call.Unlock m)) ahead = refl
+begun_same l (OnMutex (Call.Consistent m)) ahead = refl
+begun_same l (OnCondition (CondCall.TimedWait k Ahead)) ahead = refl
+begun_same l (OnCondition (CondCall.TimedWait k Past)) ahead = absurd (cc ahead)
+begun_same l (OnCondition (CondCall.Wait k)) ahead = refl
+begun_same l (OnCondition (CondCall.Signal k)) ahead = refl
+begun_same l (OnCondition (CondCall.Broadcast k)) ahead = refl
 
 idle_same : (g : Stage) → is_idle (unlimited_stage g) ≡ is_idle g
 idle_same (Calling o p) = refl
+idle_same (AtCondition c p) = refl
 idle_same g = refl
 
 alive_same : (g : Stage) → is_alive (unlimited_stage g) ≡ is_alive g
 alive_same (Calling o p) = refl
+alive_same (AtCondition c p) = refl
 alive_same g = refl
 
 gone_same : (g : Stage) → is_gone (unlimited_stage g) ≡ is_gone g
 gone_same (Calling o p) = refl
+gone_same (AtCondition c p) = refl
 gone_same g = refl
 
 holds_same : (k : ℕ) (g : Stage) → holds_count k (unlimited_stage g) ≡ holds_count k g
 holds_same k (Calling o p) = refl
+holds_same k (AtCondition c p) = ap (λ (j : ℕ). (j == k) && has_count p.phase) (condition_same c)
 holds_same k g = refl
 
 places_same : (l : Layout') (g : Stage) → places_of l (unlimited_stage g) ≡ places_of l g
 places_same l (Calling (OnMutex (Call.TimedLock m)) p) = refl
-places_same l (Calling (OnMutex c) p) = refl
-places_same l (Calling (OnCondition c) p) = refl
+places_same l (Calling (OnMutex (Call.Lock m)) p) = refl
+places_same l (Calling (OnMutex (Call.TryLock m)) p) = refl
+places_same l (Calling (OnMutex (Call.Unlock m)) p) = refl
+places_same l (Calling (OnMutex (Call.Consistent m)) p) = refl
+places_same l (Calling (OnCondition c) p) = λ i. cell_place l (mutex_same l (OnCondition c) i) ∷ counter_place l (condition_same c i) ∷ []
+places_same l (AtCondition c p) = refl
 places_same l g = refl
 
 answers_same : (l : Layout') (words : ℕ → ℕ) (m t : ℕ) (g : Stage) → answers l words m t (unlimited_stage g) ≡ answers l words m t g
 answers_same l words m t (Calling o p) = ap (λ (k : ℕ). (k == m) && machine.answers_at p.phase) (mutex_same l o)
+answers_same l words m t (AtCondition c p) = ap (λ (k : ℕ). (k == m) && wakes_next p.phase) (mutex_same l (OnCondition c))
 answers_same l words m t g = refl
 
 sleeps_same : (s : State) (t : ℕ) (g : Stage) → sleeps (unlimited_state s) t (unlimited_stage g) ≡ sleeps s t g
@@ -87,7 +137,7 @@ after_same : (o : Op) (p : Whole) (f : Phase) → unlimited_stage (stage_after o
 after_same o p (Phase.Ended x) = refl
 after_same o p f = refl
 
-at_same : (c : CondCall) (p : CondWhole) (f : CondPhase) → unlimited_stage (stage_at c p f) ≡ stage_at c p f
+at_same : (c : CondCall) (p : CondWhole) (f : CondPhase) → unlimited_stage (stage_at c p f) ≡ stage_at (unlimited_wait c) p f
 at_same c p (CondPhase.Ended x) = refl
 at_same c p (CondPhase.Locking w) = refl
 at_same c p f = refl
@@ -99,11 +149,26 @@ walked_same w r = refl
 abbrev unlimited_led : Led → Led
 unlimited_led g = record { stage = unlimited_stage g.stage; operation = g.operation; point = g.point; returned = g.returned }
 
-led_same : (o : Op) (p : Whole) (x : Onward) → led (unlimited o) p x ≡ unlimited_led (led o p x)
-led_same o p x = λ i. record { stage = sym (after_same o p x.phase) i; operation = (led o p x).operation; point = (led o p x).point; returned = (led o p x).returned }
+wait_replies : (c : CondCall) (x : Reply) → condition.reply_of (unlimited_wait c) x ≡ condition.reply_of c x
+wait_replies (CondCall.TimedWait k Ahead) x = refl
+wait_replies (CondCall.TimedWait k Past) x = refl
+wait_replies (CondCall.Wait k) x = refl
+wait_replies (CondCall.Signal k) x = refl
+wait_replies (CondCall.Broadcast k) x = refl
 
-led_at_same : (c : CondCall) (p : CondWhole) (x : CondOnward) → led_at c p x ≡ unlimited_led (led_at c p x)
-led_at_same c p x = λ i. record { stage = sym (at_same c p x.phase) i; operation = (led_at c p x).operation; point = (led_at c p x).point; returned = (led_at c p x).returned }
+reply_same : (o : Op) (x : Reply) → reply_of (unlimited o) x ≡ reply_of o x
+reply_same (OnMutex c) x = refl
+reply_same (OnCondition c) x = wait_replies c x
+
+returned_same : (o : Op) (f : Phase) → machine.returned (unlimited o) f ≡ machine.returned o f
+returned_same o (Phase.Ended x) = ap Some (reply_same o x)
+returned_same o f = refl
+
+led_same : (o : Op) (p : Whole) (x : Onward) → led (unlimited o) p x ≡ unlimited_led (led o p x)
+led_same o p x = λ i. record { stage = sym (after_same o p x.phase) i; operation = (led o p x).operation; point = (led o p x).point; returned = returned_same o x.phase i }
+
+led_at_same : (c : CondCall) (p : CondWhole) (x : CondOnward) → led_at (unlimited_wait c) p x ≡ unlimited_led (led_at c p x)
+led_at_same c p x = λ i. record { stage = sym (at_same c p x.phase) i; operation = decided_at (acts_same c i) x.point; point = (led_at c p x).point; returned = (led_at c p x).returned }
 
 -- ---- events
 
@@ -129,6 +194,19 @@ choose x y a b c d e f g = (λ i. if e i then f i else g i) ∙ go x
     go true = refl
     go false = refl
 
+-- the same, where what it is chosen by says more
+choose_so : (x y : Bool) (a b c d : After) → y ≡ x → (x ≡ true → b ≡ unlimited_after a) → d ≡ unlimited_after c → (if y then b else d) ≡ unlimited_after (if x then a else c)
+choose_so x y a b c d e f g = ap (λ (z : Bool). if z then b else d) e ∙ go x f
+  where
+    go : (z : Bool) → (z ≡ true → b ≡ unlimited_after a) → (if z then b else d) ≡ unlimited_after (if z then a else c)
+    go true f = f refl
+    go false f = g
+
+third : (a b c : Bool) → (a && b && c) ≡ true → c ≡ true
+third true true c e = e
+third true false c e = absurd (cc e)
+third false b c e = absurd (cc e)
+
 -- begins
 abbrev unlimited_result : Result Stage Reply → Result Stage Reply
 unlimited_result (Ok g) = Ok (unlimited_stage g)
@@ -152,11 +230,15 @@ first_same l t held (OnMutex (Call.TryLock m)) = go (nat_le 2048 held)
     go false = refl
 first_same l t held (OnMutex (Call.Unlock m)) = refl
 first_same l t held (OnMutex (Call.Consistent m)) = refl
-first_same l t held (OnCondition c) = refl
+first_same l t held (OnCondition (CondCall.TimedWait k Ahead)) = refl
+first_same l t held (OnCondition (CondCall.TimedWait k Past)) = refl
+first_same l t held (OnCondition (CondCall.Wait k)) = refl
+first_same l t held (OnCondition (CondCall.Signal k)) = refl
+first_same l t held (OnCondition (CondCall.Broadcast k)) = refl
 
-begun_as : (s : State) (t : ℕ) (o : Op) (r : Result Stage Reply) → begun (unlimited_state s) t (unlimited o) (unlimited_result r) ≡ unlimited_after (begun s t o r)
-begun_as s t o (Ok g) = changed_same s s.words s.queues t (record (s.threads t) { stage = g }) (record { stage = unlimited_stage g; held = (s.threads t).held }) (Began t (begun_of s.layout o) None) (Began t (begun_of s.layout (unlimited o)) None) refl (ap (λ (c : Begun). Began t c None) (begun_same s.layout o))
-begun_as s t o (Err x) = λ i. record { state = unlimited_state s; note = Began t (begun_same s.layout o i) (Some x) }
+begun_as : (s : State) (t : ℕ) (o : Op) (r : Result Stage Reply) → BeginsAhead o → begun (unlimited_state s) t (unlimited o) (unlimited_result r) ≡ unlimited_after (begun s t o r)
+begun_as s t o (Ok g) ahead = changed_same s s.words s.queues t (record (s.threads t) { stage = g }) (record { stage = unlimited_stage g; held = (s.threads t).held }) (Began t (begun_of s.layout o) None) (Began t (begun_of s.layout (unlimited o)) None) refl (ap (λ (c : Begun). Began t c None) (begun_same s.layout o ahead))
+begun_as s t o (Err x) ahead = λ i. record { state = unlimited_state s; note = Began t (begun_same s.layout o ahead i) (Some x) }
 
 -- accesses
 went_same : (s : State) (t held m : ℕ) (k : Queue) (a : Access) (g : Led) → went (unlimited_state s) t held m k a (unlimited_led g) ≡ unlimited_after (went s t held m k a g)
@@ -174,7 +256,7 @@ module _ (s : State) (t held : ℕ) where
       choose (sleeps s t (Calling o p)) _ (nothing s) _ (went s t held (mutex_of s.layout o) (Mutex (mutex_of s.layout o)) (whole_access p) (led o p (whole_led p (answer_of s t (whole_access p))))) _ (sleeps_same s t (Calling o p)) refl
       ((λ i. went s1 t held (mutex_same s.layout o i) (Mutex (mutex_same s.layout o i)) (whole_access p) (led_same o p (whole_led p (answer_of s t (whole_access p))) i)) ∙ went_same s t held (mutex_of s.layout o) (Mutex (mutex_of s.layout o)) (whole_access p) (led o p (whole_led p (answer_of s t (whole_access p)))))
   steps (AtCondition c p) =
-      (λ i. went s1 t held (mutex_of s.layout (OnCondition c)) (Condition (condition_of c)) (cond_access p) (led_at_same c p (cond_led p (answer_of s t (cond_access p))) i))
+      (λ i. went s1 t held (mutex_same s.layout (OnCondition c) i) (Condition (condition_same c i)) (cond_access p) (led_at_same c p (cond_led p (answer_of s t (cond_access p))) i))
       ∙ went_same s t held (mutex_of s.layout (OnCondition c)) (Condition (condition_of c)) (cond_access p) (led_at c p (cond_led p (answer_of s t (cond_access p))))
   steps (Dying w) =
       changed_same s (words_after s t (exit.access_of w)) (queues_after s t (exit.access_of w)) t (walker (stage_walked w row)) (walker (stage_walked w row)) (walked s t held w).note (walked s t held w).note (ap walker (sym (walked_same w row))) refl
@@ -190,6 +272,7 @@ module _ (s : State) (t held : ℕ) where
   declines (Calling o p) =
       choose (is_trim (whole_access p) && not (sleeps s t (Calling o p))) _ (spared s t held (mutex_of s.layout o) (led o p (whole_led p (Trimmed false)))) _ (nothing s) _ (ap (λ (b : Bool). is_trim (whole_access p) && not b) (sleeps_same s t (Calling o p)))
       ((λ i. spared s1 t held (mutex_same s.layout o i) (led_same o p (whole_led p (Trimmed false)) i)) ∙ spared_same s t held (mutex_of s.layout o) (led o p (whole_led p (Trimmed false)))) refl
+  declines (AtCondition c p) = refl
   declines g = refl
 
   spares : (g : Stage) → sparing s1 t held (unlimited_stage g) ≡ unlimited_after (sparing s t held g)
@@ -199,25 +282,26 @@ module _ (s : State) (t held : ℕ) where
       ((λ i. spared s1 t held (mutex_same s.layout o i) (led_same o p (whole_led p (Count 1)) i)) ∙ spared_same s t held (mutex_of s.layout o) (led o p (whole_led p (Count 1)))) refl
   spares (AtCondition c p) =
       choose (wakes_next p.phase && another_answers s t (mutex_of s.layout (OnCondition c)) s.layout.threads) _ (spared s t held (mutex_of s.layout (OnCondition c)) (led_at c p (cond_led p (Count 1)))) _ (nothing s) _
-      (ap (λ (b : Bool). wakes_next p.phase && b) (another_same s t (mutex_of s.layout (OnCondition c)) s.layout.threads))
-      ((λ i. spared s1 t held (mutex_of s.layout (OnCondition c)) (led_at_same c p (cond_led p (Count 1)) i)) ∙ spared_same s t held (mutex_of s.layout (OnCondition c)) (led_at c p (cond_led p (Count 1)))) refl
+      (ap (λ (b : Bool). wakes_next p.phase && b) (ap (λ (k : ℕ). another_answers s1 t k s.layout.threads) (mutex_same s.layout (OnCondition c)) ∙ another_same s t (mutex_of s.layout (OnCondition c)) s.layout.threads))
+      ((λ i. spared s1 t held (mutex_same s.layout (OnCondition c) i) (led_at_same c p (cond_led p (Count 1)) i)) ∙ spared_same s t held (mutex_of s.layout (OnCondition c)) (led_at c p (cond_led p (Count 1)))) refl
   spares g = refl
 
   resleeps : (g : Stage) → resleeping s1 t (unlimited_stage g) ≡ unlimited_after (resleeping s t g)
-  resleeps (Calling (OnCondition c) p) = choose (stands_in t (s.queues (counter_place s.layout (condition_of c)))) _ (reslept s t (condition_of c)) _ (nothing s) _ refl refl refl
-  resleeps (Calling (OnMutex (Call.TimedLock m)) p) = refl
+  resleeps (Calling (OnCondition c) p) = choose (stands_in t (s.queues (counter_place s.layout (condition_of c)))) _ (reslept s t (condition_of c)) _ (nothing s) _ (ap (λ (k : ℕ). stands_in t (s.queues (counter_place s.layout k))) (condition_same c)) (ap (reslept s1 t) (condition_same c)) refl
   resleeps (Calling (OnMutex c) p) = refl
+  resleeps (AtCondition c p) = refl
   resleeps g = refl
 
   repeats : (g : Stage) → repeating s1 t (unlimited_stage g) ≡ unlimited_after (repeating s t g)
   repeats (Dying w) = choose (is_mark w.row) _ (nothing s) _ (repeated s t w) _ refl refl refl
   repeats (Calling o p) = refl
+  repeats (AtCondition c p) = refl
   repeats g = refl
 
 pub happens_same : (s : State) (e : Event) → IsNoLimit e → happens (unlimited_state s) (unlimited_event e) ≡ unlimited_after (happens s e)
 happens_same s (Event.Begin t o) none =
-    choose (has_thread s t && is_idle (s.threads t).stage && is_in s.layout o) _ (begun s t o (first_stage s.layout t (s.threads t).held o)) _ (nothing s) _ (λ i. has_thread s t && idle_same (s.threads t).stage i && inside_same s.layout o i)
-    (ap (begun (unlimited_state s) t (unlimited o)) (first_same s.layout t (s.threads t).held o) ∙ begun_as s t o (first_stage s.layout t (s.threads t).held o)) refl
+    choose_so (has_thread s t && is_idle (s.threads t).stage && may_call s.layout o) _ (begun s t o (first_stage s.layout t (s.threads t).held o)) _ (nothing s) _ (λ i. has_thread s t && idle_same (s.threads t).stage i && inside_same s.layout o i)
+    (λ may. ap (begun (unlimited_state s) t (unlimited o)) (first_same s.layout t (s.threads t).held o) ∙ begun_as s t o (first_stage s.layout t (s.threads t).held o) (may_so s.layout o (third (has_thread s t) (is_idle (s.threads t).stage) (may_call s.layout o) may)).1) refl
 happens_same s (Event.Step t) none = choose (has_thread s t) _ (stepped s t (s.threads t).held (s.threads t).stage) _ (nothing s) _ refl (steps s t (s.threads t).held (s.threads t).stage) refl
 happens_same s (Event.Kill t) none =
     choose (has_thread s t && is_alive (s.threads t).stage) _ (killed s t) _ (nothing s) _ (ap (λ (b : Bool). has_thread s t && b) (alive_same (s.threads t).stage))

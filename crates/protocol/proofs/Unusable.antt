@@ -96,7 +96,7 @@ calls_reinit_none c = grind (arith)
 called_no_reinit : (l : Layout') (o : Op) (op : Operation) → IsFor l o op → op ≢ Operation.Reinit
 called_no_reinit l o op is = grind (arith)
 
-cond_no_reinit : (t held : ℕ) (c : CondCall) (p : CondWhole) (z : Fields) (w : ℕ) (q : List ℕ) → AtPhase t held (condition.operation_of c) p p.phase z → decided_at (condition.operation_of c) (cond_led p (answer_among (cond_access p) w q)).point ≢ Operation.Reinit
+cond_no_reinit : (t held : ℕ) (c : CondCall) (p : CondWhole) (z : Fields) (w : ℕ) (q : List ℕ) → AtPhase t held (condition.acts_as c) p p.phase z → decided_at (condition.acts_as c) (cond_led p (answer_among (cond_access p) w q)).point ≢ Operation.Reinit
 cond_no_reinit t held c p z w q stands = grind (arith)
 
 -- whatever else is decided leaves it unusable
@@ -149,6 +149,7 @@ module _ (s : State) (m : ℕ) (inv : Kept s) (lost : (seen s m).unusable ≡ tr
       (λ t pos known alive other. lost)
       (λ t pos known asleep other. lost)
       (λ t k p pos known is asleep may other. lost)
+      (λ t k x p pos known is there other. lost)
       (λ t o p pos known is awake trims other. subst Stays (sym (spared_is s t o p is trims inv pos known)) lost)
       (λ t pos known gone other. ap (λ (o : Object). o.unusable) (renewed_seen s t pos known m) ∙ lost)
       (λ t k may other. ap (λ (o : Object). o.unusable) (reinited_far s t k 0 refl may.remake m (λ e. other (sym e))) ∙ lost)
@@ -192,6 +193,7 @@ module _ (s : State) (m : ℕ) (inv : Kept s) (lost : (seen s m).unusable ≡ tr
         (λ t pos known alive u there. (without_stands t u (sleepers s m) there).0)
         (λ t pos known asleep u there. (without_stands t u (sleepers s m) there).0)
         (λ t k p pos known is asleep may u there. (without_stands t u (sleepers s m) there).0)
+        (λ t k x p pos known is stands u there. (without_stands t u (sleepers s m) there).0)
         (λ t o p pos known is awake trims u there. there)
         (λ t pos known gone u there. there)
         (λ t k may u there. there)

@@ -50,6 +50,8 @@ pub use Rattle.condvar.specs.Standings.{CondWhole}
 pub use Rattle.condvar.specs.Whole.{after_words, cond_access, cond_led, from_words}
 pub use Rattle.condvar.specs.declared.broadcast.BroadcastRow.{BroadcastRow}
 pub use Rattle.condvar.specs.declared.call.CondCall.{CondCall}
+pub use Rattle.condvar.specs.declared.call.Limit.{Limit}
+pub use Rattle.condvar.specs.declared.call.Limit.TheVariants.{Ahead, Past}
 pub use Rattle.condvar.specs.declared.phase.CondOnward.{CondOnward}
 pub use Rattle.condvar.specs.declared.phase.CondPhase.{CondPhase}
 pub use Rattle.condvar.specs.declared.row.CondLed.{CondLed}
@@ -76,6 +78,7 @@ pub use Rattle.protocol.specs.Machine.{is_calling, is_met, is_valid, joined, kil
 pub use Rattle.protocol.specs.Machine.{returned, returned_at, run, sleepers, sleeps, slept_in, stage_after, stage_at, stage_walked, stands_in, start, stepped, told_of, walked}
 pub use Rattle.protocol.specs.Machine.{death_at, decided_at, departed, lapsed, mutex_at, reinited, renewed, spared, waiters_of, stands_at, went, woken, woken_by}
 pub use Rattle.protocol.specs.Machine.{another_answers, answers, counts_on, has_count, holds_count, is_mark, may_recount, none_counts, recounted, repeated, repeating, resleeping, reslept, sparing, wakes_one}
+pub use Rattle.protocol.specs.Machine.{overslept, waits_on}
 pub use Rattle.protocol.specs.Recounts.{MayRecount}
 pub use Rattle.protocol.specs.Spares.{AnotherAnswers, In_unlock, In_wait, MaySpare, WakesOneOf}
 pub use Rattle.protocol.specs.Reinits.{MayReinit, MayRemake}

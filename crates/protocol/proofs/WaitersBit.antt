@@ -44,6 +44,7 @@ stay_on s e inv =
     (λ t pos known alive m below on. inl on)
     (λ t pos known asleep m below on. inl on)
     (λ t k p pos known is asleep may m below on. inl on)
+    (λ t k x p pos known is there m below on. inl on)
     (λ t o p pos known is awake trims m below on. inl on)
     (λ t pos known gone m below on. inl (ap (λ (w : ℕ). (fields_of w).waiters) (renewed_cell s t pos known m) ∙ on))
     (λ t k may m below on. reinit_stays t k 0 refl may.remake (λ on. inr (may.unslept, unowned s t k 0 refl may.remake inv)) m on)

@@ -1,6 +1,7 @@
 -- Who falls asleep and who is woken, as the trace tells it.
 use Rattle.std.proofs.Common.{◌≡◌, ◌≢◌, ◌⊎◌, ⊎_elim, inl, inr, ℕ, ◌<◌, ◌≤◌, length, ◌==◌, Bool, true, false, Option, Some, None, Ok, Err, List, [], ◌∷◌, ◌++◌, map, refl, sym, ap, ◌∙◌, subst, arith, eq-eqb, eqb-true, append-nil}
 use Rattle.protocol.proofs.Vocabulary.{Queue, Mutex, Condition, Fact, Decision, Layout', cell_place, counter_place, sleeps_at, Reply, XHELD, OnCondition, Op, Event, Note, Stepped}
+use Rattle.protocol.proofs.Vocabulary.{overslept, waits_on}
 use Rattle.protocol.proofs.Vocabulary.{Walked, facts_of, sleep_facts, moves_to, return_facts, reap_facts, State, After, start, woken_by, moved_by, stands_in, is_asleep, begun}
 use Rattle.protocol.proofs.Vocabulary.{nothing, decision, slept_in, killed, happens, run, notes, facts_among, if◌then◌else◌, slice_index, CondCall, queue_place}
 use Rattle.protocol.proofs.Vocabulary.{place_in, place_met}
@@ -262,6 +263,14 @@ expire_turn s u t m p asleep =
     Is_woken stood.0 (ap (λ (v : ℕ). Wake v ∷ []) same) stood.1 (λ key. ap (λ (v : ℕ). stands_in v (without u (s.queues key))) (sym same) ∙ without_gone u (s.queues key)) (λ e. cc))
     (λ apart. Stays refl (λ key. stands_without t u (s.queues key) (grind (arith))))
 
+oversleep_turn : (s : State) (u t k : ℕ) (p : Whole) → waits_on s u k ≡ true → TurnOf s t (Event.Expire u) (overslept s u (s.threads u).held k p)
+oversleep_turn s u t k p there =
+    by_equal (Turn s (λ key. without u (s.queues key)) t (Event.Expire u)) u t (Wake u ∷ []) []
+    (λ same.
+    let stood : IsInAQueue s t = subst (λ (v : ℕ). IsInAQueue s v) same (counter_place s.layout k, there) in
+    Is_woken stood.0 (ap (λ (v : ℕ). Wake v ∷ []) same) stood.1 (λ key. ap (λ (v : ℕ). stands_in v (without u (s.queues key))) (sym same) ∙ without_gone u (s.queues key)) (λ e. cc))
+    (λ apart. Stays refl (λ key. stands_without t u (s.queues key) (grind (arith))))
+
 turn : (s : State) (e : Event) → Kept s → Queued s → (t : ℕ) → TurnOf s t e (happens s e)
 turn s e inv queued t =
     by_event s (λ (x : Event) (z : After). TurnOf s t x z)
@@ -271,6 +280,7 @@ turn s e inv queued t =
     (λ u pos known alive. kill_turn s u t)
     (λ u pos known asleep. leave_turn s u t asleep)
     (λ u m p pos known is asleep may. expire_turn s u t m p asleep)
+    (λ u k x p pos known is there. oversleep_turn s u t k p there)
     (λ u o p pos known is awake trims. subst (TurnOf s t (Event.Decline u)) (sym (spared_is s u o p is trims inv pos known)) (Stays refl (λ key. refl)))
     (λ u pos known gone. Stays refl (λ key. refl))
     (λ u m may. Stays refl (λ key. refl))

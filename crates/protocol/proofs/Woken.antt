@@ -10,7 +10,7 @@ use Rattle.protocol.proofs.Vocabulary.{AtRest, Gone, last_told, is_met, answer_o
 use Rattle.mutex.specs.Wakes as mutex
 use Rattle.mutex.specs.Whole.{phase_access}
 use Rattle.condvar.specs.Whole as condition
-use Rattle.condvar.specs.Calls.{operation_of}
+use Rattle.condvar.specs.Calls.{acts_as, operation_of}
 use Rattle.condvar.specs.Ops as ops
 use Rattle.exitwalk.specs.Standings as walks
 use Rattle.exitwalk.specs.declared.row.Row as walk_row
@@ -180,13 +180,26 @@ module _ (s : State) (t : ℕ) (c : Op) (p : Whole) (inv : Kept s) (queued : Que
 moves_or_not : (t held : ℕ) (op : Operation) (p : CondWhole) (f : CondPhase) (w : Fields) → AtPhase t held op p f w → IsNoMove (condition.phase_access p f) ⊎ ((seen : ℕ) × (f ≡ CondPhase.AtWords (CondRow.Broadcast (BroadcastRow.Move seen))) × (op ≡ Operation.Broadcast))
 moves_or_not t held op p f w stands = grind (arith)
 
-of_signal : (s : State) (c : CondCall) (o : Option Object) (x : Object) → o ≡ Some x → operation_of c ≡ Operation.Signal → whom_it_wakes s o (operation_of c) (its_mutex s c) (Some (condition_of c)) ≡ take 1 (s.queues (its_counter s c))
+-- a wait with a time limit wakes whom a wait does
+told_wakes : (s : State) (c : CondCall) (o : Option Object) → whom_it_wakes s o (operation_of c) (its_mutex s c) (Some (condition_of c)) ≡ whom_it_wakes s o (acts_as c) (its_mutex s c) (Some (condition_of c))
+told_wakes s (CondCall.Wait k) o = refl
+told_wakes s (CondCall.TimedWait k x) o = refl
+told_wakes s (CondCall.Signal k) o = refl
+told_wakes s (CondCall.Broadcast k) o = refl
+
+told_moves : (s : State) (c : CondCall) → whom_it_moves s (operation_of c) (Some (condition_of c)) ≡ whom_it_moves s (acts_as c) (Some (condition_of c))
+told_moves s (CondCall.Wait k) = refl
+told_moves s (CondCall.TimedWait k x) = refl
+told_moves s (CondCall.Signal k) = refl
+told_moves s (CondCall.Broadcast k) = refl
+
+of_signal : (s : State) (c : CondCall) (o : Option Object) (x : Object) → o ≡ Some x → acts_as c ≡ Operation.Signal → whom_it_wakes s o (acts_as c) (its_mutex s c) (Some (condition_of c)) ≡ take 1 (s.queues (its_counter s c))
 of_signal s c o x left is = ap (λ (op : Operation). whom_it_wakes s o op (its_mutex s c) (Some (condition_of c))) is ∙ ap (λ (y : Option Object). the_first y (s.queues (its_counter s c))) left
 
-of_wait : (s : State) (c : CondCall) (o : Option Object) → operation_of c ≡ Operation.Wait → whom_it_wakes s o (operation_of c) (its_mutex s c) (Some (condition_of c)) ≡ to_tell o (sleepers s (its_mutex s c))
+of_wait : (s : State) (c : CondCall) (o : Option Object) → acts_as c ≡ Operation.Wait → whom_it_wakes s o (acts_as c) (its_mutex s c) (Some (condition_of c)) ≡ to_tell o (sleepers s (its_mutex s c))
 of_wait s c o is = ap (λ (op : Operation). whom_it_wakes s o op (its_mutex s c) (Some (condition_of c))) is
 
-of_broadcast : (s : State) (c : CondCall) → operation_of c ≡ Operation.Broadcast → whom_it_moves s (operation_of c) (Some (condition_of c)) ≡ s.queues (its_counter s c)
+of_broadcast : (s : State) (c : CondCall) → acts_as c ≡ Operation.Broadcast → whom_it_moves s (acts_as c) (Some (condition_of c)) ≡ s.queues (its_counter s c)
 of_broadcast s c is = ap (λ (op : Operation). whom_it_moves s op (Some (condition_of c))) is
 
 module _ (s : State) (t : ℕ) (c : CondCall) (p : CondWhole) (inv : Kept s) (queued : Queued s) (pos : 1 ≤ t) (known : t ≤ s.layout.threads) (is : (s.threads t).stage ≡ AtCondition c p) (o : Option Object) (asks : AsksAt c p o) where
@@ -203,7 +216,7 @@ module _ (s : State) (t : ℕ) (c : CondCall) (p : CondWhole) (inv : Kept s) (qu
   moved_here = moved_by (cond_access p) (s.words place) (s.queues place)
 
   abbrev they : List ℕ
-  they = whom_it_wakes s o (operation_of c) (its_mutex s c) (Some (condition_of c))
+  they = whom_it_wakes s o (acts_as c) (its_mutex s c) (Some (condition_of c))
 
   cell_is : place_in s.layout t p.cell ≡ its_cell s c
   cell_is = ap (place_in s.layout t) fits_here.cell ∙ cell_again s.layout t inv.layout pos known (its_mutex s c) fits_here.inside
@@ -212,7 +225,7 @@ module _ (s : State) (t : ℕ) (c : CondCall) (p : CondWhole) (inv : Kept s) (qu
   counter_is = ap (place_in s.layout t) fits_here.counter ∙ counter_again s.layout t inv.layout pos known (condition_of c) fits_here.there
 
   -- where it is a wake
-  wakes_so : (at n : ℕ) → cond_access p ≡ Access.Wake at n → (op : Operation) → operation_of c ≡ op → AsksFor op p.cell p.counter o at n → woken_here ≡ they
+  wakes_so : (at n : ℕ) → cond_access p ≡ Access.Wake at n → (op : Operation) → acts_as c ≡ op → AsksFor op p.cell p.counter o at n → woken_here ≡ they
   wakes_so at n shape Operation.Signal of (is_at, one, x, left) =
       ap (λ (a : Access). woken_by a (s.words (place_met s.layout t a)) (s.queues (place_met s.layout t a))) shape
       ∙ (λ i. take (one i) (s.queues (place_in s.layout t (is_at i)))) ∙ ap (λ (x : ℕ). take 1 (s.queues x)) counter_is ∙ sym (of_signal s c o x left of)
@@ -224,35 +237,35 @@ module _ (s : State) (t : ℕ) (c : CondCall) (p : CondWhole) (inv : Kept s) (qu
   wakes_so at n shape op of h = absurd h
 
   abbrev Whom : Type 0
-  Whom = ((woken_here ≡ []) ⊎ (woken_here ≡ they)) × ((moved_here ≡ []) ⊎ (moved_here ≡ whom_it_moves s (operation_of c) (Some (condition_of c))))
+  Whom = ((woken_here ≡ []) ⊎ (woken_here ≡ they)) × ((moved_here ≡ []) ⊎ (moved_here ≡ whom_it_moves s (acts_as c) (Some (condition_of c))))
 
   still : IsNoMove (cond_access p) → Whom
   still none = (
-    ⊎_elim inl (λ e. let shape = is_one (cond_access p) e in inr (wakes_so shape.0 shape.1 shape.2 (operation_of c) refl (asks shape.0 shape.1 shape.2))) (wakes_or_none (cond_access p) (s.words place) (s.queues place) none),
+    ⊎_elim inl (λ e. let shape = is_one (cond_access p) e in inr (wakes_so shape.0 shape.1 shape.2 (acts_as c) refl (asks shape.0 shape.1 shape.2))) (wakes_or_none (cond_access p) (s.words place) (s.queues place) none),
     inl (moves_none (cond_access p) (s.words place) (s.queues place) none),
   )
 
   abbrev Moves_so : Access → Type 0
   Moves_so a =
       ((woken_by a (s.words (place_met s.layout t a)) (s.queues (place_met s.layout t a)) ≡ []) ⊎ (woken_by a (s.words (place_met s.layout t a)) (s.queues (place_met s.layout t a)) ≡ they))
-      × ((moved_by a (s.words (place_met s.layout t a)) (s.queues (place_met s.layout t a)) ≡ []) ⊎ (moved_by a (s.words (place_met s.layout t a)) (s.queues (place_met s.layout t a)) ≡ whom_it_moves s (operation_of c) (Some (condition_of c))))
+      × ((moved_by a (s.words (place_met s.layout t a)) (s.queues (place_met s.layout t a)) ≡ []) ⊎ (moved_by a (s.words (place_met s.layout t a)) (s.queues (place_met s.layout t a)) ≡ whom_it_moves s (acts_as c) (Some (condition_of c))))
 
   -- where it moves all
-  moves_so : (seen : ℕ) → p.phase ≡ CondPhase.AtWords (CondRow.Broadcast (BroadcastRow.Move seen)) → operation_of c ≡ Operation.Broadcast → Whom
+  moves_so : (seen : ℕ) → p.phase ≡ CondPhase.AtWords (CondRow.Broadcast (BroadcastRow.Move seen)) → acts_as c ≡ Operation.Broadcast → Whom
   moves_so seen at of = subst Moves_so (sym (ap (condition.phase_access p) at)) (go (s.queues (place_in s.layout t p.counter)) (short s (place_in s.layout t p.counter) inv queued) (ap s.queues counter_is) (s.words (place_in s.layout t p.counter) % 2 ^ 32 == (seen + 1) % 2 ^ 32))
     where
       go : (q : List ℕ) → length q ≤ 64 → q ≡ s.queues (its_counter s c) → (b : Bool)
-          → (((if b then take 0 q else []) ≡ []) ⊎ ((if b then take 0 q else []) ≡ they)) × (((if b then take 64 (drop 0 q) else []) ≡ []) ⊎ ((if b then take 64 (drop 0 q) else []) ≡ whom_it_moves s (operation_of c) (Some (condition_of c))))
+          → (((if b then take 0 q else []) ≡ []) ⊎ ((if b then take 0 q else []) ≡ they)) × (((if b then take 64 (drop 0 q) else []) ≡ []) ⊎ ((if b then take 64 (drop 0 q) else []) ≡ whom_it_moves s (acts_as c) (Some (condition_of c))))
       go q few there true = (inl refl, inr (take_all 64 q few ∙ there ∙ sym (of_broadcast s c of)))
       go q few there false = (inl refl, inl refl)
 
   whom_here : Whom
-  whom_here = ⊎_elim still (λ moves. moves_so moves.0 moves.1 moves.2) (moves_or_not t (s.threads t).held (operation_of c) p p.phase _ fits_here.stands)
+  whom_here = ⊎_elim still (λ moves. moves_so moves.0 moves.1 moves.2) (moves_or_not t (s.threads t).held (acts_as c) p p.phase _ fits_here.stands)
 
   cond_whom : WakesWhom s InCall (Some (begun_of s.layout (OnCondition c))) o (facts_of (cond_note s t c p))
   cond_whom =
-      stepped_whom s t (begun_of s.layout (OnCondition c)) o (decision t (its_mutex s c) (decided_at (operation_of c) (cond_onto s t p).point) (reply_at (cond_onto s t p).point)) (slept_in (Condition (condition_of c)) (sleeps_at (cond_access p) (s.words place))) woken_here moved_here
-      (led_at c p (cond_onto s t p)).returned whom_here.0 whom_here.1
+      stepped_whom s t (begun_of s.layout (OnCondition c)) o (decision t (its_mutex s c) (decided_at (acts_as c) (cond_onto s t p).point) (reply_at (cond_onto s t p).point)) (slept_in (Condition (condition_of c)) (sleeps_at (cond_access p) (s.words place))) woken_here moved_here
+      (led_at c p (cond_onto s t p)).returned (⊎_elim inl (λ e. inr (e ∙ sym (told_wakes s c o))) whom_here.0) (⊎_elim inl (λ e. inr (e ∙ sym (told_moves s c))) whom_here.1)
 
 -- ---- of a walk
 
@@ -377,6 +390,7 @@ module _ (s : State) (inv : Kept s) (queued : Queued s) (told : ℕ → Told) (b
       (λ t pos known alive. (refl, refl))
       (λ t pos known asleep. (inr refl, refl))
       (λ t m p pos known is asleep may. (inr refl, refl))
+      (λ t k x p pos known is there. (inr refl, refl))
       (λ t c p pos known is awake trims. subst (WhomAt (Event.Decline t)) (sym (spared_is s t c p is trims inv pos known)) (refl, refl))
       (λ t pos known gone. (refl, refl))
       (λ t m may. (refl, refl))

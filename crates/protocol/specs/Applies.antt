@@ -3,11 +3,13 @@
 -- *Which events apply.* By what the trace has told of its thread: a begin where that lives, is in no call, and the
 -- mutex or condition variable is one of the layout; a step where it is in a call, or killed and not reaped, and sleeps
 -- nowhere; a kill where it lives; a leave where it stands in a queue; an expiry where it does so in a call that was told
--- as a lock with a time limit (`IsTold`); a decline where its next access is a trim (`IsAboutToTrim`); a renewal where it was reaped, and hasn't been renewed since; a reinit where it lives and is in no
--- call, and the mutex, one of the layout, is unusable and nobody sleeps on it, and a remake whoever sleeps on it; a
--- recount, a spare (`IsSparedAccessOf`), a resleep and a repeat (`IsAboutToRead`) where they happen. Such an event is
--- noted as what it is, every other as nothing, and that changes nothing: the law `events_apply`.
-use Rattle.std.specs.Prelude.{ℕ, length, ◌≡◌, ◌<◌, ◌≤◌, ◌==◌, ◌&&◌, nat_le, true}
+-- as a lock with a time limit, or in its condition variable's queue in one that was told as a wait with a time limit
+-- (`IsTold`); a decline where its next access is a trim (`IsAboutToTrim`); a renewal where it was reaped, and hasn't been
+-- renewed since; a reinit where it lives and is in no call, and the mutex, one of the layout, is unusable and nobody
+-- sleeps on it, and a remake whoever sleeps on it; a recount, a spare (`IsSparedAccessOf`), a resleep and a repeat
+-- (`IsAboutToRead`) where they happen. Such an event is noted as what it is, every other as nothing, and that changes
+-- nothing: the law `events_apply`.
+use Rattle.std.specs.Prelude.{ℕ, length, ◌≡◌, ◌⊎◌, ◌<◌, ◌≤◌, ◌==◌, ◌&&◌, nat_le, true}
 use Rattle.std.specs.Prelude.{false, Option, Some, None, List, [], ◌∷◌, if◌then◌else◌}
 use Rattle.lockword.specs.declared.reply.Reply.{Reply}
 use Rattle.lockword.specs.declared.reply.Reply.TheVariants.{XHELD}
@@ -17,6 +19,8 @@ use Rattle.posixmutex.specs.Objects.{held_limit, acquires}
 use Rattle.mutex.specs.Calls as mutex
 use Rattle.mutex.specs.declared.call.Call.TheVariants as call
 use Rattle.condvar.specs.Calls as condition
+use Rattle.condvar.specs.declared.call.CondCall.TheVariants as cond_call
+use Rattle.condvar.specs.declared.call.Limit.{Limit}
 use Rattle.condvar.specs.Ops.{operation_of, mutex_of}
 use Rattle.protocol.specs.Ops.{begun_of}
 use Rattle.protocol.specs.PassedBy.{call_told}
@@ -28,7 +32,7 @@ use Rattle.protocol.specs.declared.note.Note.{Note}
 use Rattle.protocol.specs.declared.note.Note.TheVariants.{Nothing, Began, Stepped, Killed}
 use Rattle.protocol.specs.declared.note.Note.TheVariants.{Walked, Left, Expired, Renewed, Reinited, Recounted, Reslept}
 use Rattle.facts.specs.declared.fact.Begun.{Begun}
-use Rattle.facts.specs.declared.fact.Queue.TheVariants.{Condition}
+use Rattle.facts.specs.declared.fact.Queue.TheVariants.{Mutex, Condition}
 use Rattle.facts.specs.declared.fact.Fact.{Fact}
 use Rattle.facts.specs.declared.fact.Fact.TheVariants.{Begin, Return, Kill, Reap, Renew}
 use Rattle.stepprograms.specs.declared.access.Access.TheVariants.{Trim}
@@ -111,6 +115,11 @@ abbrev pub Names : Layout' → Op → Type 0
 Names l (OnMutex c) = mutex.mutex_of c < l.mutexes
 Names l (OnCondition c) = condition.condition_of c < length l.conditions
 
+-- a wait with a time limit begins while that is still to come
+abbrev pub BeginsAhead : Op → Type 0
+BeginsAhead (OnMutex c) = Unit {0}
+BeginsAhead (OnCondition c) = condition.is_ahead c ≡ true
+
 abbrev pub IsInAQueue : State → ℕ → Type 0
 IsInAQueue s t = (key : ℕ) × (stands_in t (s.queues key) ≡ true)
 
@@ -122,23 +131,34 @@ IsAboutToTrim s t = (o : Op) × (p : Whole) × (at : ℕ) × ((s.threads t).stag
 abbrev pub IsInTimedLock : State → ℕ → ℕ → Type 0
 IsInTimedLock s t m = (p : Whole) × ((s.threads t).stage ≡ Calling (OnMutex (call.TimedLock m)) p)
 
+-- thread t is in a wait on condition variable k that has a time limit, and has unlocked its mutex
+abbrev pub IsInTimedWait : State → ℕ → ℕ → Type 0
+IsInTimedWait s t k = (x : Limit) × (p : Whole) × ((s.threads t).stage ≡ Calling (OnCondition (cond_call.TimedWait k x)) p)
+
+-- its time limit may come: it sleeps in such a lock, or in such a wait on the condition variable
+abbrev pub SleepsInTimedLock : State → ℕ → Type 0
+SleepsInTimedLock s t = IsInAQueue s t × ((m : ℕ) × IsInTimedLock s t m)
+
+abbrev pub SleepsInTimedWait : State → ℕ → Type 0
+SleepsInTimedWait s t = (k : ℕ) × StandsIn s t (Condition k) × IsInTimedWait s t k
+
 -- the next access of thread t's walk is a load or a wake
 abbrev pub IsAboutToRead : State → ℕ → Type 0
 IsAboutToRead s t = (w : Standing) × ((s.threads t).stage ≡ Dying w) × (is_mark w.row ≡ false)
 
 -- a begin applies where its thread lives, is in no call, and what it calls is in the layout; a step where its thread is
 -- in a call, or was killed and not reaped, and sleeps on nothing; a kill where its thread lives; a leave where it
--- sleeps; an expiry where it sleeps in a lock with a time limit; a decline where it is about to trim; a renewal where
+-- sleeps; an expiry where it sleeps in a lock with a time limit, or on a condition variable in a wait with one; a decline where it is about to trim; a renewal where
 -- its thread was reaped; a reinit where its thread lives and is in no call, and its mutex, one of the layout, is
 -- unusable and nobody sleeps on it; a remake likewise, whoever sleeps on it; a recount where nobody may miss a signal
 -- by it; a spare where its thread is about to wake one of a mutex, for which another answers; a resleep where its
 -- thread sleeps on a condition variable; a repeat where its thread's walk is about to load or to wake
 abbrev pub Applies : Layout' → State → List Note → Event → Type 0
-Applies l s ns (event.Begin t o) = IsThread l t × Names l o × (last_told t ns ≡ AtRest)
+Applies l s ns (event.Begin t o) = IsThread l t × Names l o × BeginsAhead o × (last_told t ns ≡ AtRest)
 Applies l s ns (event.Step t) = IsThread l t × HasAccess (last_told t ns) × IsInNoQueue s t
 Applies l s ns (event.Kill t) = IsThread l t × IsLiving (last_told t ns)
 Applies l s ns (event.Leave t) = IsThread l t × IsInAQueue s t
-Applies l s ns (event.Expire t) = IsThread l t × IsInAQueue s t × ((m : ℕ) × IsInTimedLock s t m)
+Applies l s ns (event.Expire t) = IsThread l t × (SleepsInTimedLock s t ⊎ SleepsInTimedWait s t)
 Applies l s ns (event.Decline t) = IsThread l t × IsAboutToTrim s t
 Applies l s ns (event.Renew t) = IsThread l t × (last_told t ns ≡ Gone)
 Applies l s ns (event.Reinit t m) =
@@ -179,7 +199,8 @@ IsNotedAs l s (event.Begin t o) n = n ≡ Began t (begun_of l o) (refusal l s t 
 IsNotedAs l s (event.Step t) n = IsAccessOf t n
 IsNotedAs l s (event.Kill t) n = n ≡ Killed t
 IsNotedAs l s (event.Leave t) n = n ≡ Left t
-IsNotedAs l s (event.Expire t) n = (m : ℕ) × IsInTimedLock s t m × (n ≡ Expired t m)
+IsNotedAs l s (event.Expire t) n = ((m : ℕ) → IsInTimedLock s t m → n ≡ Expired t (Mutex m))
+    × ((k : ℕ) → IsInTimedWait s t k → n ≡ Expired t (Condition k))
 IsNotedAs l s (event.Decline t) n = IsQuietAccessOf l s t n
 IsNotedAs l s (event.Renew t) n = n ≡ Renewed t
 IsNotedAs l s (event.Reinit t m) n = n ≡ Reinited t m

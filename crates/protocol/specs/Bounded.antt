@@ -25,6 +25,7 @@ abbrev pub NeverWaits : Operation → Type 0
 NeverWaits operation.Lock = ⊥
 NeverWaits operation.TimedLock = ⊥
 NeverWaits operation.Wait = ⊥
+NeverWaits operation.TimedWait = ⊥
 NeverWaits op = Unit {0}
 
 -- so many accesses such a call makes at most, by its tables: a trylock stores its entry as the pending one, loads the

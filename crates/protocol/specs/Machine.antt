@@ -6,7 +6,7 @@
 --
 -- *Step.* A begin begins a call of an idle thread; a step makes the next access of a thread that is in a call and
 -- doesn't sleep, or of a dying thread's walk; a kill takes a thread out of its queue and ends its call; a leave takes a
--- sleeper out of its queue, and so does an expiry of one whose lock has a time limit; a decline is the step of a thread
+-- sleeper out of its queue, and so does an expiry of one whose lock or wait has a time limit; a decline is the step of a thread
 -- whose next access is a trim, answered that this cleared nothing; a renewal lets a reaped thread live anew; a reinit
 -- makes an unusable mutex anew. A recount puts a counter back to 0, a spare leaves a wake out for which another thread
 -- answers, a resleep takes a sleeper to the end of its queue, and a repeat makes an access of a walk that is made once
@@ -19,9 +19,12 @@
 --
 -- *An expiry.* The time limit of a lock comes while its thread sleeps on the mutex: the thread leaves the queue, woken by
 -- nobody, and its call is decided with ETIMEDOUT, which changes no mutex; no word changes, and no other thread. What is
--- left of the call is one access, which clears its pending entry, and behind which it returns. The law
--- `expiries_are_lone`. The law `nobody_times_out_early` says that another thread owned the mutex meanwhile. Source:
--- pthread_mutex_timedlock(3p).
+-- left of the call is one access, which clears its pending entry, and behind which it returns. Or that of a wait comes
+-- while its thread sleeps on the condition variable: the thread leaves the queue, woken by nobody, and goes on as if it
+-- had been woken, so that it locks its mutex again; but where that lock replies OK it returns ETIMEDOUT. A wait that a
+-- broadcast has moved to its mutex, or that locks this again, is past that: the second lock has no limit. The law
+-- `expiries_are_lone`. The law `nobody_times_out_early` says that another thread owned the mutex of a lock meanwhile.
+-- Sources: pthread_mutex_timedlock(3p), pthread_cond_timedwait(3p).
 --
 -- *A renewal.* A thread that was reaped lives anew, with the same id: the three words of its head are as at first, an
 -- empty list that nothing is pending beside, and it is in no call and owns nothing; nothing else changes, and that it
@@ -69,6 +72,8 @@ use Rattle.mutex.specs.Alone.{answers_for}
 use Rattle.mutex.specs.declared.row.Row.TheVariants.{Unlock}
 use Rattle.mutex.specs.declared.unlock.UnlockRow.TheVariants.{Wake}
 use Rattle.condvar.specs.declared.call.CondCall.{CondCall}
+use Rattle.condvar.specs.declared.call.CondCall.TheVariants as cond_call
+use Rattle.condvar.specs.declared.call.Limit.TheVariants.{Past}
 use Rattle.condvar.specs.declared.phase.CondPhase.{CondPhase}
 use Rattle.condvar.specs.declared.phase.CondPhase.TheVariants as cond
 use Rattle.condvar.specs.declared.phase.CondOnward.{CondOnward}
@@ -86,7 +91,7 @@ use Rattle.exitwalk.specs.declared.row.Row.TheVariants as walk
 use Rattle.exitwalk.specs.Standings as walks
 use Rattle.exitwalk.specs.Walks as exit
 use Rattle.posixmutex.specs.declared.point.Point.{Point}
-use Rattle.condvar.specs.Ops.{mutex_of, is_in}
+use Rattle.condvar.specs.Ops.{mutex_of, may_call, reply_of}
 use Rattle.protocol.specs.Ops.{begun_of}
 use Rattle.condvar.specs.declared.op.Op.{Op}
 use Rattle.condvar.specs.declared.op.Op.TheVariants.{OnMutex, OnCondition}
@@ -281,7 +286,7 @@ abbrev pub is_asleep : State → ℕ → Bool
 is_asleep s t = sleeps s t (s.threads t).stage
 
 abbrev pub may_begin : State → ℕ → Op → Bool
-may_begin s t o = has_thread s t && is_idle (s.threads t).stage && is_in s.layout o
+may_begin s t o = has_thread s t && is_idle (s.threads t).stage && may_call s.layout o
 
 -- a thread that may not take another mutex stays where it is, and its call is refused
 abbrev pub stage_begun : Call → Result Whole Reply → Result Stage Reply
@@ -313,13 +318,14 @@ abbrev pub stage_after : Op → Whole → Phase → Stage
 stage_after o p (Ended x) = Idle
 stage_after o p f = Calling o (record p { phase = f })
 
-abbrev pub returned : Phase → Option Reply
-returned (Ended x) = Some x
-returned f = None
+-- a wait that is out of time returns ETIMEDOUT for OK
+abbrev pub returned : Op → Phase → Option Reply
+returned o (Ended x) = Some (reply_of o x)
+returned o f = None
 
 abbrev pub led : Op → Whole → Onward → Led
 led o p g =
-    record { stage = stage_after o p g.phase; operation = p.operation; point = g.point; returned = returned g.phase }
+    record { stage = stage_after o p g.phase; operation = p.operation; point = g.point; returned = returned o g.phase }
 
 -- of a call on a condition variable: once a wait is awake again it is in the lock that ends it
 abbrev pub stage_at : CondCall → CondWhole → CondPhase → Stage
@@ -343,7 +349,7 @@ reply_at (Some p) = Some p.reply
 abbrev pub led_at : CondCall → CondWhole → CondOnward → Led
 led_at c p g = record {
   stage = stage_at c p g.phase;
-  operation = decided_at (conditions.operation_of c) g.point;
+  operation = decided_at (conditions.acts_as c) g.point;
   point = reply_at g.point;
   returned = returned_at g.phase;
 }
@@ -395,6 +401,7 @@ departed s t = record { state = record s { queues = λ key. without t (s.queues 
 -- a call with a time limit
 abbrev pub is_timed : Op → Bool
 is_timed (OnMutex (call.TimedLock m)) = true
+is_timed (OnCondition (cond_call.TimedWait k x)) = true
 is_timed o = false
 
 -- thread t's lock is out of time: it leaves its mutex's queue, woken by nobody, and never owned the mutex; what is left
@@ -405,13 +412,35 @@ lapsed s t held o p =
       state = record (departed s t).state {
         threads = put s.threads t (record { stage = Calling o (timed_out p); held = held });
       };
-      note = Expired t (mutex_of s.layout o);
+      note = Expired t (Mutex (mutex_of s.layout o));
     }
 
--- where a thread sleeps in such a call
+-- thread t's wait on condition variable k is out of time: it leaves the queue, woken by nobody; what is left of its call
+-- is to lock its mutex, and to return ETIMEDOUT where that is OK
+abbrev pub overslept : State → ℕ → ℕ → ℕ → Whole → After
+overslept s t held k p =
+    record {
+      state = record (departed s t).state {
+        threads = put s.threads t
+            (record { stage = Calling (OnCondition (cond_call.TimedWait k Past)) p; held = held });
+      };
+      note = Expired t (Condition k);
+    }
+
+-- thread t sleeps on the counter of condition variable k
+abbrev pub waits_on : State → ℕ → ℕ → Bool
+waits_on s t k = stands_in t (s.queues (counter_place s.layout k))
+
+-- where a thread sleeps on its mutex, in a lock with a time limit, or on its condition variable, in a wait with one
 abbrev pub expired : State → ℕ → ℕ → Stage → After
-expired s t held (Calling o p) =
-    if is_timed o && may_expire p.phase && sleeps s t (Calling o p) then lapsed s t held o p else nothing s
+expired s t held (Calling (OnMutex c) p) =
+    if is_timed (OnMutex c) && may_expire p.phase && sleeps s t (Calling (OnMutex c) p)
+    then lapsed s t held (OnMutex c) p
+    else nothing s
+expired s t held (Calling (OnCondition c) p) =
+    if is_timed (OnCondition c) && waits_on s t (conditions.condition_of c)
+    then overslept s t held (conditions.condition_of c) p
+    else nothing s
 expired s t held g = nothing s
 
 -- ---- trims that are declined
@@ -678,9 +707,9 @@ abbrev pub repeating : State → ℕ → Stage → After
 repeating s t (Dying w) = if is_mark w.row then nothing s else repeated s t w
 repeating s t g = nothing s
 
--- a begin of a busy, killed or unknown thread or of a call outside the layout, a step of an idle, sleeping, reaped or
+-- a begin of a busy, killed or unknown thread, of a call outside the layout or of a wait that is out of time, a step of an idle, sleeping, reaped or
 -- unknown thread, a kill of a killed or unknown thread, a leave of a thread that doesn't sleep, an expiry of one that
--- doesn't sleep in a lock with a time limit, a decline of one that isn't about to trim, a renewal of one that wasn't
+-- doesn't sleep in a lock with a time limit or on the condition variable of a wait with one, a decline of one that isn't about to trim, a renewal of one that wasn't
 -- reaped, a reinit by one that isn't idle, or of a mutex that is usable or slept on, a remake by one that isn't idle,
 -- or of a mutex that is usable, a recount of a counter that somebody sleeps on or knows, a spare of a thread that isn't
 -- about to wake one of a mutex, or is alone to answer for it, a resleep of one that doesn't sleep on a counter, and a

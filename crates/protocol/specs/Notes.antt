@@ -1,7 +1,7 @@
 -- The lines that notes stand for, in their order.
 --
 -- *What a note tells.* Facts, one after the other: a begin, a point, a sleep, wakes, moves, a return; a kill, a death
--- of a mutex's owner, a reaping, a renewal; of a leave a wake; of an expiry a wake and a point; of a reinit a begin, a
+-- of a mutex's owner, a reaping, a renewal; of a leave a wake; of an expiry a wake, and of a lock's a point; of a reinit a begin, a
 -- point and a return; of a resleep a wake and a sleep; of a recount nothing. A call that is refused at once is decided
 -- and returns at its begin.
 use Rattle.std.specs.Prelude.{ℕ, ◌+◌, Bool, true, false, Option, Some, None, List, [], ◌∷◌, ◌++◌, map}
@@ -14,7 +14,7 @@ use Rattle.protocol.specs.declared.note.Note.TheVariants.{Nothing, Began, Steppe
 use Rattle.protocol.specs.declared.note.Note.TheVariants.{Walked, Left, Expired, Renewed, Reinited, Recounted, Reslept}
 use Rattle.facts.specs.declared.fact.Begun.{Begun}
 use Rattle.facts.specs.declared.fact.Queue.{Queue}
-use Rattle.facts.specs.declared.fact.Queue.TheVariants.{Condition}
+use Rattle.facts.specs.declared.fact.Queue.TheVariants.{Mutex, Condition}
 use Rattle.facts.specs.declared.fact.Fact.{Fact}
 use Rattle.facts.specs.declared.fact.Fact.TheVariants.{Begin, Point, Sleep, Wake, Move}
 use Rattle.facts.specs.declared.fact.Fact.TheVariants.{Return, Kill, Death, Reap, Renew}
@@ -63,8 +63,9 @@ facts_of (Stepped t m point slept woken moved returned) = point_facts point
     ++ (sleep_facts t slept ++ (map Wake woken ++ (map (moves_to m) moved ++ return_facts t returned)))
 facts_of (Killed t) = Kill t ∷ []
 facts_of (Left t) = Wake t ∷ []
-facts_of (Expired t m) = Wake t
+facts_of (Expired t (Mutex m)) = Wake t
     ∷ Point (record { thread = t; mutex = m; operation = operation.TimedLock; reply = ETIMEDOUT }) ∷ []
+facts_of (Expired t (Condition k)) = Wake t ∷ []
 facts_of (Renewed t) = Renew t ∷ []
 facts_of (Reinited t m) = Begin t (reinit_of m)
     ∷ Point (record { thread = t; mutex = m; operation = operation.Reinit; reply = OK }) ∷ Return t OK ∷ []

@@ -13,7 +13,8 @@
 use Rattle.std.specs.Prelude.{ℕ, ◌≡◌, ◌<◌, ◌==◌, ◌⊎◌, Option, Some, None, List, [], ◌∷◌, map, take, if◌then◌else◌}
 use Rattle.posixmutex.specs.declared.object.Object.{Object}
 use Rattle.posixmutex.specs.declared.point.Operation.{Operation}
-use Rattle.posixmutex.specs.declared.point.Operation.TheVariants.{Lock, TimedLock, Unlock, Wait, Signal, Broadcast}
+use Rattle.posixmutex.specs.declared.point.Operation.TheVariants.{Lock, TimedLock, Unlock, Wait, TimedWait}
+use Rattle.posixmutex.specs.declared.point.Operation.TheVariants.{Signal, Broadcast}
 use Rattle.memorymap.specs.Layouts.{Layout', IsLayout}
 use Rattle.facts.specs.declared.fact.Begun.{Begun}
 use Rattle.facts.specs.declared.fact.Queue.TheVariants.{Condition}
@@ -79,6 +80,7 @@ whom_it_wakes s o Lock m k = to_tell o (sleepers s m)
 whom_it_wakes s o TimedLock m k = to_tell o (sleepers s m)
 whom_it_wakes s o Unlock m k = to_tell o (sleepers s m)
 whom_it_wakes s o Wait m k = to_tell o (sleepers s m)
+whom_it_wakes s o TimedWait m k = to_tell o (sleepers s m)
 whom_it_wakes s o op m k = []
 
 -- a broadcast moves all of the condition variable's queue

@@ -18,7 +18,8 @@ use Rattle.std.specs.Prelude.{ℕ, length, slice_index, ◌≡◌, ◌≢◌, �
 use Rattle.std.specs.Prelude.{false, Option, Some, None, List, [], ◌∷◌, ◌++◌, if◌then◌else◌}
 use Rattle.buckets.specs.Queues.{without}
 use Rattle.memorymap.specs.Layouts.{Layout', IsLayout}
-use Rattle.posixmutex.specs.declared.point.Operation.TheVariants.{Lock, TimedLock, Wait}
+use Rattle.posixmutex.specs.declared.point.Operation.TheVariants.{Lock, TimedLock}
+use Rattle.facts.specs.Lives.{IsWait}
 use Rattle.protocol.specs.declared.event.Event.{Event}
 use Rattle.protocol.specs.declared.event.Event.TheVariants as event
 use Rattle.protocol.specs.declared.note.Note.{Note}
@@ -123,7 +124,7 @@ NameFronts l w (f ∷ fs) = NamesFront l w f × NameFronts l (queues_next f w) f
 -- are woken or moved are fronts
 abbrev pub NotesFronts : Layout' → (Queue → List ℕ) → Note → Type 0
 NotesFronts l w (Left t) = (q : Queue) × IsQueue l q × (stands_in t (w q) ≡ true)
-NotesFronts l w (Expired t m) = (m < l.mutexes) × (stands_in t (w (Mutex m)) ≡ true)
+NotesFronts l w (Expired t q) = IsQueue l q × (stands_in t (w q) ≡ true)
 NotesFronts l w (Reslept t k) = (k < length l.conditions) × (stands_in t (w (Condition k)) ≡ true)
 NotesFronts l w n = NameFronts l w (facts_of n)
 
@@ -171,8 +172,8 @@ pub record TellsTurns (s : State) (e : Event) (t : ℕ) : Type 0 where
 abbrev pub MaySleepIn : Queue → Option Begun → Type 0
 MaySleepIn q None = ⊥
 MaySleepIn (Mutex m) (Some b) =
-    (b.mutex ≡ m) × ((b.operation ≡ Lock) ⊎ ((b.operation ≡ TimedLock) ⊎ (b.operation ≡ Wait)))
-MaySleepIn (Condition k) (Some b) = (b.condition ≡ Some k) × (b.operation ≡ Wait)
+    (b.mutex ≡ m) × ((b.operation ≡ Lock) ⊎ ((b.operation ≡ TimedLock) ⊎ IsWait b.operation))
+MaySleepIn (Condition k) (Some b) = (b.condition ≡ Some k) × IsWait b.operation
 
 -- ---- runs
 

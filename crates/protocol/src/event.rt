@@ -17,7 +17,8 @@ pub enum Event {
     /// The thread leaves the queue in which it sleeps, woken by nobody, and goes on as if it had been: a signal handler
     /// ran (futex(2), EINTR), say.
     Leave(Tid),
-    /// The time limit of the thread's lock comes while it sleeps on the mutex: it leaves the queue, out of time.
+    /// The time limit of the thread's lock comes while it sleeps on the mutex, or that of its wait while it sleeps on the
+    /// condition variable: it leaves the queue, out of time. A wait then locks its mutex again, without any limit.
     Expire(Tid),
     /// The next access of the thread's call, a trim, is declined: whatever the word is, it stays, and the thread is
     /// answered so.

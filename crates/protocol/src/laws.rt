@@ -1,6 +1,6 @@
 //! What holds of every run.
 ghost use Rattle.protocol.specs.Expiries.{ExpiriesAreLone};
-ghost use Rattle.protocol.specs.TimeLimits.{LocksWithoutLimits, NobodyTimesOutEarly, WaitedIsOwned};
+ghost use Rattle.protocol.specs.TimeLimits.{LateWaitsTimeOut, LocksWithoutLimits, NobodyTimesOutEarly, WaitedIsOwned};
 ghost use Rattle.protocol.specs.Headline.{HistoryIsLegal, NoReapedOwner};
 ghost use Rattle.protocol.specs.Explained.{TraceIsExplained};
 ghost use Rattle.protocol.specs.Sleepers.{NoSleeperIsStranded, LoneThreadsComeToRest, UndividedCallsReply};
@@ -84,7 +84,7 @@ pub fn lists_are_kept()
 /// noted as a begin, which is refused only where it is to take a mutex and the thread owns 2,048; a kill of a thread
 /// that lives is noted; a step is an access of its thread where that is in a call, or was killed and not reaped, and
 /// sleeps on nothing; a leave is its thread's where that sleeps, and an expiry where it sleeps in a lock that was told
-/// with a time limit; a decline is an access of its thread's call, and of that call's mutex, that tells nothing, where
+/// with a time limit, or on a condition variable in a wait that was; a decline is an access of its thread's call, and of that call's mutex, that tells nothing, where
 /// the thread's next access is a trim; a renewal is its thread's where that was reaped, and hasn't been renewed since;
 /// and a reinit is that of its mutex where its thread lives and is in no call, and the mutex, one of the layout, is
 /// unusable and nobody sleeps on it, and a remake whoever sleeps on it; a recount, a spare, a resleep and a repeat
@@ -254,7 +254,8 @@ pub fn resleeps_and_repeats_are_lone()
 /// A time limit that comes takes its thread out of its mutex's queue, and does nothing else: no word changes, no other
 /// thread, and not how many mutexes it owns; it is told that the thread is awake, and then the call's point. By its next
 /// step the thread clears its pending entry and the call returns ETIMEDOUT; no other word changes, no queue and no other
-/// thread.
+/// thread. Or it takes its thread out of its condition variable's queue, and does nothing else, but that the thread's wait
+/// is out of time: it is told that the thread is awake, which goes on as if it had been woken.
 pub fn expiries_are_lone()
     ensures { ExpiriesAreLone }
 {}
@@ -272,8 +273,15 @@ pub fn waited_is_owned()
     ensures { WaitedIsOwned }
 {}
 
+/// Whatever happens: a wait with a time limit returns ETIMEDOUT only where that came while it slept on its condition
+/// variable, and OK only where it didn't. So, by `trace_is_explained`, one that is out of time returns ETIMEDOUT as the
+/// owner of its mutex, or the reply of the lock that ends it, where that is another than OK.
+pub fn late_waits_time_out()
+    ensures { LateWaitsTimeOut }
+{}
+
 /// Whatever else happens, where no time limit comes: no lock is told to be out of time, so that none returns ETIMEDOUT
-/// (`trace_is_explained`). And a lock with a limit is as one without: if each had begun without it, every event would
+/// (`trace_is_explained`), nor does a wait. And a lock or a wait with a limit is as one without: if each had begun without it, every event would
 /// have been noted as it was, but for the name of the operation in these begins, and each word and each queue would be
 /// the same.
 pub fn without_expiries_as_before()

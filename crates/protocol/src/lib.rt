@@ -1,8 +1,8 @@
 //! The protocol of robust mutexes as a pure machine, and what holds of every run of it.
 //!
 //! A state is the words, who sleeps on each, and for each thread the call that it is in. An [`Event`] begins a call,
-//! makes its next access, kills a thread, takes a sleeper out of its queue, lets a lock's time limit come, declines a
-//! trim, renews a reaped thread or makes an unusable mutex anew; `specs/` says what each event does and notes
+//! makes its next access, kills a thread, takes a sleeper out of its queue, lets the time limit of a lock or a wait
+//! come, declines a trim, renews a reaped thread or makes an unusable mutex anew; `specs/` says what each event does and notes
 //! ([`Note`]), and a trace is what the notes tell ([`Note::facts`]). The theorems about every run, wherever threads are
 //! killed and renewed, and mutexes made anew:
 //!
@@ -16,9 +16,10 @@
 //! - `wakes_are_right`: whom an event wakes or moves;
 //! - `leaves_and_declines_are_lone`, `without_leaves_as_before`: what sleepers that leave and trims that are declined
 //!   do;
-//! - `expiries_are_lone`, `nobody_times_out_early`, `waited_is_owned`, `without_expiries_as_before`: what a time limit
-//!   does that comes; that a lock is out of time only where one came and another thread owned its mutex since it began;
-//!   and that locks with a limit that never comes are as locks without one;
+//! - `expiries_are_lone`, `nobody_times_out_early`, `waited_is_owned`, `late_waits_time_out`,
+//!   `without_expiries_as_before`: what a time limit does that comes; that a lock is out of time only where one came and
+//!   another thread owned its mutex since it began; that a wait returns ETIMEDOUT only where its limit came, and OK only
+//!   where it didn't; and that locks and waits with a limit that never comes are as those without one;
 //! - `renewals_begin_anew`, `without_renewals_as_before`: what a reaped thread that lives anew finds, and leaves as it
 //!   is;
 //! - `reinits_free_the_mutex`, `remakes_forget_nobody`, `without_reinits_as_before`, `nobody_joins_an_unusable_mutex`:
@@ -56,14 +57,14 @@ mod thread;
 pub use event::Event;
 pub use laws::{
     counters_count_up, deaths_are_told, events_apply, events_leave_the_rest, expiries_are_lone,
-    history_is_legal, leaves_and_declines_are_lone, lists_are_kept, lone_threads_come_to_rest,
-    no_reaped_owner, no_sleeper_is_stranded, nobody_is_passed_by, nobody_joins_an_unusable_mutex,
-    nobody_times_out_early, only_locks_and_waits_wait, recounts_are_lone, reinits_free_the_mutex,
-    remakes_forget_nobody, renewals_begin_anew, resleeps_and_repeats_are_lone, signals_are_right,
-    sleeps_are_told, spares_are_lone, trace_is_explained, undivided_calls_reply, waited_is_owned,
-    waiters_are_kept, waits_release_consistent_mutexes, wakes_are_right, walks_go_on,
-    without_expiries_as_before, without_leaves_as_before, without_reinits_as_before,
-    without_renewals_as_before,
+    history_is_legal, late_waits_time_out, leaves_and_declines_are_lone, lists_are_kept,
+    lone_threads_come_to_rest, no_reaped_owner, no_sleeper_is_stranded, nobody_is_passed_by,
+    nobody_joins_an_unusable_mutex, nobody_times_out_early, only_locks_and_waits_wait,
+    recounts_are_lone, reinits_free_the_mutex, remakes_forget_nobody, renewals_begin_anew,
+    resleeps_and_repeats_are_lone, signals_are_right, sleeps_are_told, spares_are_lone,
+    trace_is_explained, undivided_calls_reply, waited_is_owned, waiters_are_kept,
+    waits_release_consistent_mutexes, wakes_are_right, walks_go_on, without_expiries_as_before,
+    without_leaves_as_before, without_reinits_as_before, without_renewals_as_before,
 };
 pub use note::{Facts, Note};
 pub use thread::{Stage, Thread};

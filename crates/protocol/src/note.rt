@@ -41,10 +41,11 @@ pub enum Note {
     Left {
         thread: Tid,
     },
-    /// The time limit of a thread's lock came: it left its mutex's queue, and its call is decided.
+    /// A thread's time limit came: it left its queue. On a mutex its lock is decided; on a condition variable its wait is
+    /// out of time, and locks its mutex again.
     Expired {
         thread: Tid,
-        mutex: u16,
+        queue: Queue,
     },
     /// The kernel made an access for a thread that died: of which mutex it told the owner's death, whom it woke, and
     /// whether it has reaped the thread.
@@ -230,7 +231,14 @@ impl Note {
             },
             Note::Killed { thread } => Facts::of(Some(Fact::Kill(thread)), None, None),
             Note::Left { thread } => Facts::of(Some(Fact::Wake(thread)), None, None),
-            Note::Expired { thread, mutex } => {
+            Note::Expired {
+                thread,
+                queue: Queue::Condition(_),
+            } => Facts::of(Some(Fact::Wake(thread)), None, None),
+            Note::Expired {
+                thread,
+                queue: Queue::Mutex(mutex),
+            } => {
                 let decision = Decision {
                     thread,
                     mutex,

@@ -7,13 +7,14 @@ use Rattle.lockword.specs.declared.reply.Reply.TheVariants.{OK, EPERM, EBUSY, EI
 use Rattle.posixmutex.specs.declared.object.Object.{Object}
 use Rattle.posixmutex.specs.declared.point.Decision.{Decision}
 use Rattle.posixmutex.specs.declared.point.Operation.{Operation}
-use Rattle.posixmutex.specs.declared.point.Operation.TheVariants.{Lock, TryLock, TimedLock, Unlock, Consistent, Wait, Signal, Broadcast, Death, Reinit}
+use Rattle.posixmutex.specs.declared.point.Operation.TheVariants.{Lock, TryLock, TimedLock, Unlock, Consistent, Wait, TimedWait, Signal, Broadcast, Death, Reinit}
 use Rattle.posixmutex.specs.Histories.{held_by, is_thread}
 use Rattle.posixmutex.specs.Objects.{Does, Permits, acquires, stepped}
 use Rattle.posixmutex.proofs.Replies.{limit}
 use Rattle.posixmutex.proofs.Steps.{determined}
 use Rattle.facts.specs.declared.fact.Begun.{Begun}
 use Rattle.facts.specs.declared.fact.Line.{Line}
+use Rattle.facts.specs.Lives.{IsWait, MayReturn}
 use Rattle.verdict.specs.declared.stage.Made.{Made}
 use Rattle.verdict.specs.declared.stage.Made.TheVariants.{Nothing, Released, Decided}
 use Rattle.verdict.specs.declared.stage.Stage.TheVariants as stage
@@ -23,7 +24,7 @@ use Rattle.verdict.specs.Stages.{MayPoint, pointed}
 use Rattle.verdict.proofs.Owners.{does_owners, held_put, held_same, others_own}
 use Rattle.refuting.specs.Counts.{AtLimit, Counted, KeepsLimit, lost, lost_by, won, won_by}
 use Rattle.refuting.proofs.Standing.{moved_here, moved_there, same_or_not}
-use Rattle.refuting.proofs.Hiding.{is_timed, is_wait, plain_may, wait_may}
+use Rattle.refuting.proofs.Hiding.{is_timed, is_wait, never_late, plain_may, wait_may, waits_locked, waits_refused, waits_released}
 
 -- ---- what a point changes
 
@@ -119,6 +120,7 @@ at_limit count k o t TimedLock x n same h = let l = limit count o t TimedLock x 
 at_limit count k o t Wait x n same h = λ is. absurd (never (subst (λ y. Permits o t Wait y n) is h)) where
   never : Permits o t Wait XHELD n → ⊥
   never p = p
+at_limit count k o t TimedWait x n same h = absurd h
 at_limit count k o t op x n same h = tt
 
 -- ---- what a step changes
@@ -162,21 +164,55 @@ as_lock OK = (refl, refl)
 as_lock EOWNERDEAD = (refl, refl)
 as_lock y = (refl, refl)
 
+-- and a wait with one gives up what a wait does
+as_wait : (y : Reply) → y ≢ ETIMEDOUT → lost_by TimedWait y ≡ lost_by Wait y
+as_wait ETIMEDOUT ne = absurd (ne refl)
+as_wait OK ne = refl
+as_wait EOWNERDEAD ne = refl
+as_wait EPERM ne = refl
+as_wait XSTATE ne = refl
+as_wait y ne = refl
+
+waits_lose : (a : Operation) (y : Reply) → IsWait a → y ≢ ETIMEDOUT → lost_by a y ≡ lost_by Wait y
+waits_lose a y (inl is) ne = ap (λ b. lost_by b y) is
+waits_lose a y (inr is) ne = ap (λ b. lost_by b y) is ∙ as_wait y ne
+
+waits_win : (a : Operation) (y : Reply) → IsWait a → won_by a y ≡ 0
+waits_win a y (inl is) = ap (λ b. won_by b y) is
+waits_win a y (inr is) = ap (λ b. won_by b y) is
+
+waits_limit : (a : Operation) (y : Reply) (own : ℕ) → IsWait a → (y ≡ XHELD → 2049 ≤ own) → AtLimit a y own
+waits_limit a y own (inl is) most = subst (λ b. AtLimit b y own) (sym is) most
+waits_limit a y own (inr is) most = subst (λ b. AtLimit b y own) (sym is) most
+
+-- who is told so has won and lost what the last point of its call says, and is as near to the limit
+pub told_alike : (a : Operation) (y z : Reply) → MayReturn a y z → (won_by a z ≡ won_by a y) × (lost_by a z ≡ lost_by a y)
+told_alike TimedWait y z (inl is) = (refl, ap (lost_by TimedWait) is)
+told_alike TimedWait y z (inr late) = (refl, ap (lost_by TimedWait) late.1 ∙ sym (ap (lost_by TimedWait) late.0))
+told_alike a y z is = (ap (won_by a) is, ap (lost_by a) is)
+
+pub limit_alike : (a : Operation) (y z : Reply) (own : ℕ) → MayReturn a y z → AtLimit a y own → AtLimit a z own
+limit_alike TimedWait y z own (inl is) most = subst (λ x. AtLimit TimedWait x own) (sym is) most
+limit_alike TimedWait y z own (inr late) most = λ held. let no : ETIMEDOUT ≡ XHELD = sym late.1 ∙ held in absurd cc
+limit_alike a y z own is most = subst (λ x. AtLimit a x own) (sym is) most
+
 points_to : (a : Operation) (y : Reply) → pointed a a y ≡ Decided y
 points_to Wait y = refl
 points_to a y = refl
 
-pub point_counted : (k : Begun) (its : Made) (t : ℕ) (b : Operation) (y : Reply) (o new : Object) (z : Bool) (before after lines : ℕ) → (its ≡ Released → k.operation ≡ Wait) → MayPoint k.operation its b y → Does before o t b y new → after + own t o ≡ before + own t new
+pub point_counted : (k : Begun) (its : Made) (t : ℕ) (b : Operation) (y : Reply) (o new : Object) (z : Bool) (before after lines : ℕ) → (its ≡ Released → IsWait k.operation) → MayPoint k.operation its b y → Does before o t b y new → after + own t o ≡ before + own t new
     → Counted (stage.Calling k its z) before lines → Counted (stage.Calling k (pointed k.operation b y) z) after lines
 point_counted k (Decided x) t b y o new z before after lines wait may does counts c = absurd may
 point_counted k Released t b y o new z before after lines wait may does counts c =
-    let a : k.operation ≡ Wait = wait refl in
+    let a : IsWait k.operation = wait refl in
     let its : Does before o t Lock y new = subst (λ q. Does before o t q y new) may does in
+    let in_time : y ≢ ETIMEDOUT = never_late before o t Lock y new its (λ timed. absurd cc) in
     let back = retakes_all before o t y new its in
-    let sum : after + lost_by Wait y ≡ lines + 0 = omega (arith, c.0, counts, back) in
-    subst (λ q. Counted (stage.Calling k (pointed q b y) z) after lines) (sym a)
-    (subst (λ q. Counted (stage.Calling k (pointed Wait q y) z) after lines) (sym may)
-    (subst (λ q. (after + lost q (Decided y) ≡ lines + won q (Decided y)) × KeepsLimit q (Decided y) lines) (sym a) (sum, λ is. let l = limit before o t Lock y new its in let le : 2048 ≤ before = (l.0 is).1 in omega (arith, le, c.0))))
+    let loses = waits_lose k.operation y a in_time in
+    let wins = waits_win k.operation y a in
+    let sum : after + lost_by k.operation y ≡ lines + won_by k.operation y = omega (arith, c.0, counts, back, loses, wins) in
+    subst (λ q. Counted (stage.Calling k q z) after lines) (sym (ap (λ q. pointed k.operation q y) may ∙ waits_locked k.operation y a))
+    (sum, waits_limit k.operation y lines a (λ is. let l = limit before o t Lock y new its in let le : 2048 ≤ before = (l.0 is).1 in omega (arith, le, c.0)))
 point_counted k Nothing t b y o new z before after lines wait may does counts c = by_cases (is_wait k.operation) (is_timed k.operation) where
   same : before ≡ lines
   same = omega (arith, c.0)
@@ -187,14 +223,21 @@ point_counted k Nothing t b y o new z before after lines wait may does counts c 
       subst (λ q. Counted (stage.Calling k (pointed k.operation q y) z) after lines) (sym is)
       (own_point k.operation y Nothing before after (own t new) (own t o) lines (points_to k.operation y) counts (shifts_all before o t k.operation y new its) same (at_limit before lines o t k.operation y new same its))
 
-  by_wait : k.operation ≡ Wait → (b ≡ Wait) ⊎ ((b ≡ Unlock) × (y ≡ OK)) → Counted (stage.Calling k (pointed k.operation b y) z) after lines
-  by_wait a (inl is) = own_one (is ∙ sym a)
+  by_wait : IsWait k.operation → (b ≡ Wait) ⊎ ((b ≡ Unlock) × (y ≡ OK)) → Counted (stage.Calling k (pointed k.operation b y) z) after lines
+  by_wait a (inl is) =
+      let its : Does before o t Wait y new = subst (λ q. Does before o t q y new) is does in
+      let in_time : y ≢ ETIMEDOUT = never_late before o t Wait y new its (λ timed. absurd cc) in
+      let shift : own t new + lost_by Wait y ≡ own t o + 0 = shifts_all before o t Wait y new its in
+      let loses = waits_lose k.operation y a in_time in
+      let wins = waits_win k.operation y a in
+      let sum : after + lost_by k.operation y ≡ lines + won_by k.operation y = omega (arith, counts, shift, same, loses, wins) in
+      subst (λ q. Counted (stage.Calling k q z) after lines) (sym (ap (λ q. pointed k.operation q y) is ∙ waits_refused k.operation y a))
+      (sum, waits_limit k.operation y lines a (at_limit before lines o t Wait y new same its))
   by_wait a (inr release) =
       let its : Does before o t Unlock OK new = subst (λ r. Does before o t Unlock r new) release.1 (subst (λ q. Does before o t q y new) release.0 does) in
       let shift = shifts_all before o t Unlock OK new its in
       let sum : after + 1 ≡ lines + 0 = omega (arith, shift, counts, same) in
-      subst (λ q. Counted (stage.Calling k (pointed q b y) z) after lines) (sym a)
-      (subst (λ q. Counted (stage.Calling k (pointed Wait q y) z) after lines) (sym release.0) (sum, tt))
+      subst (λ q. Counted (stage.Calling k q z) after lines) (sym (ap (λ q. pointed k.operation q y) release.0 ∙ waits_released k.operation y a)) (sum, tt)
 
   -- a lock with a time limit that is told as a lock
   by_timed : k.operation ≡ TimedLock → (b ≡ TimedLock) ⊎ (b ≡ Lock) → Counted (stage.Calling k (pointed k.operation b y) z) after lines
@@ -206,7 +249,7 @@ point_counted k Nothing t b y o new z before after lines wait may does counts c 
       subst (λ q. Counted (stage.Calling k (pointed q b y) z) after lines) (sym a)
       (subst (λ q. (after + lost q (Decided y) ≡ lines + won q (Decided y)) × KeepsLimit q (Decided y) lines) (sym a) (sum, at_limit before lines o t Lock y new same its))
 
-  by_cases : (k.operation ≡ Wait) ⊎ (k.operation ≢ Wait) → (k.operation ≡ TimedLock) ⊎ (k.operation ≢ TimedLock) → Counted (stage.Calling k (pointed k.operation b y) z) after lines
-  by_cases (inl a) timed = by_wait a (wait_may b y (subst (λ q. MayPoint q Nothing b y) a may))
+  by_cases : IsWait k.operation ⊎ (IsWait k.operation → ⊥) → (k.operation ≡ TimedLock) ⊎ (k.operation ≢ TimedLock) → Counted (stage.Calling k (pointed k.operation b y) z) after lines
+  by_cases (inl a) timed = by_wait a (wait_may k.operation b y a may)
   by_cases (inr a) (inl timed) = by_timed timed (subst (λ q. MayPoint q Nothing b y) timed may)
   by_cases (inr a) (inr untimed) = own_one (plain_may k.operation b y a untimed may)

@@ -7,7 +7,7 @@ use Rattle.lockword.specs.declared.reply.Reply.TheVariants.{OK, ETIMEDOUT, EOWNE
 use Rattle.posixmutex.specs.declared.object.Object.{Object}
 use Rattle.posixmutex.specs.declared.point.Decision.{Decision}
 use Rattle.posixmutex.specs.declared.point.Operation.{Operation}
-use Rattle.posixmutex.specs.declared.point.Operation.TheVariants.{Lock, TimedLock, Unlock, Wait, Death}
+use Rattle.posixmutex.specs.declared.point.Operation.TheVariants.{Lock, TimedLock, Unlock, Wait, TimedWait, Death}
 use Rattle.posixmutex.specs.Histories.{held_by}
 use Rattle.posixmutex.specs.Objects.{Does, Permits, stepped}
 use Rattle.posixmutex.proofs.Steps.{determined}
@@ -15,6 +15,7 @@ use Rattle.facts.specs.declared.fact.Begun.{Begun}
 use Rattle.facts.specs.declared.fact.Fact.TheVariants as fact
 use Rattle.facts.specs.declared.fact.Queue.{Queue}
 use Rattle.facts.specs.declared.fact.Line.{Line}
+use Rattle.facts.specs.Lives.{IsWait, MayReturn}
 use Rattle.verdict.specs.declared.stage.Made.{Made as TheirMade}
 use Rattle.verdict.specs.declared.stage.Made.TheVariants as made
 use Rattle.verdict.specs.declared.stage.Stage.{Stage}
@@ -122,17 +123,20 @@ record Plain (a : Operation) (my : Made) (b : Operation) (x : Reply) : Type 0 wh
   after : (y : Reply) → after_change a my y ≡ Changed y
   points : (y : Reply) → pointed a b y ≡ made.Decided y
   still : IsOpen my
+  -- of a wait with a time limit it is the lock that ends it
+  late : a ≡ TimedWait → b ≡ Lock
 
-plain_nothing : (a : Operation) (x : Reply) → a ≢ Wait → a ≢ TimedLock → Plain a Nothing a x
-plain_nothing Wait x ne timed = absurd (ne refl)
+plain_nothing : (a : Operation) (x : Reply) → (IsWait a → ⊥) → a ≢ TimedLock → Plain a Nothing a x
+plain_nothing Wait x ne timed = absurd (ne (inl refl))
+plain_nothing TimedWait x ne timed = absurd (ne (inr refl))
 plain_nothing TimedLock x ne timed = absurd (timed refl)
-plain_nothing a x ne timed = record { look = refl; change = refl; releases = λ o. tt; after = λ y. refl; points = λ y. refl; still = tt }
+plain_nothing a x ne timed = record { look = refl; change = refl; releases = λ o. tt; after = λ y. refl; points = λ y. refl; still = tt; late = λ is. absurd cc }
 
 plain_released : (a : Operation) (x : Reply) → Plain a Released Lock x
 plain_released a x = elim_plain a where
   elim_plain : (a : Operation) → Plain a Released Lock x
-  elim_plain Wait = record { look = refl; change = refl; releases = λ o. tt; after = λ y. refl; points = λ y. refl; still = tt }
-  elim_plain a = record { look = refl; change = refl; releases = λ o. tt; after = λ y. refl; points = λ y. refl; still = tt }
+  elim_plain Wait = record { look = refl; change = refl; releases = λ o. tt; after = λ y. refl; points = λ y. refl; still = tt; late = λ is. refl }
+  elim_plain a = record { look = refl; change = refl; releases = λ o. tt; after = λ y. refl; points = λ y. refl; still = tt; late = λ is. refl }
 
 -- a lock with a time limit that is told as a lock
 told_lock : (x : Reply) → x ≢ ETIMEDOUT → told_as TimedLock x ≡ Lock
@@ -140,29 +144,99 @@ told_lock ETIMEDOUT ne = absurd (ne refl)
 told_lock x ne = refl
 
 plain_timed : (x : Reply) → x ≢ ETIMEDOUT → Plain TimedLock Nothing Lock x
-plain_timed x ne = record { look = ap Some (told_lock x ne); change = refl; releases = λ o. tt; after = λ y. refl; points = λ y. refl; still = tt }
+plain_timed x ne = record { look = ap Some (told_lock x ne); change = refl; releases = λ o. tt; after = λ y. refl; points = λ y. refl; still = tt; late = λ is. absurd cc }
 
 pub is_timed : (a : Operation) → (a ≡ TimedLock) ⊎ (a ≢ TimedLock)
 is_timed TimedLock = inl refl
 is_timed a = inr (λ e. absurd cc)
 
 -- out of time is only told as a lock with a time limit
-never_late : (held : ℕ) (o : Object) (t : ℕ) (op : Operation) (x : Reply) (n : Object) → Does held o t op x n → op ≢ TimedLock → x ≢ ETIMEDOUT
+pub never_late : (held : ℕ) (o : Object) (t : ℕ) (op : Operation) (x : Reply) (n : Object) → Does held o t op x n → op ≢ TimedLock → x ≢ ETIMEDOUT
 never_late held o t op x n does ne late = ne (late_is_timed held o t op n (subst (λ y. Does held o t op y n) late does))
 
-pub is_wait : (a : Operation) → (a ≡ Wait) ⊎ (a ≢ Wait)
-is_wait Wait = inl refl
-is_wait a = inr (λ e. absurd cc)
+-- neither one of two, nor the other
+neither : (a : Operation) → a ≢ Wait → a ≢ TimedWait → IsWait a → ⊥
+neither a one other (inl is) = one is
+neither a one other (inr is) = other is
 
-pub plain_may : (a b : Operation) (x : Reply) → a ≢ Wait → a ≢ TimedLock → MayPoint a made.Nothing b x → b ≡ a
-plain_may Wait b x ne timed may = absurd (ne refl)
+pub is_wait : (a : Operation) → IsWait a ⊎ (IsWait a → ⊥)
+is_wait Wait = inl (inl refl)
+is_wait TimedWait = inl (inr refl)
+is_wait a = inr (neither a (λ e. absurd cc) (λ e. absurd cc))
+
+pub plain_may : (a b : Operation) (x : Reply) → (IsWait a → ⊥) → a ≢ TimedLock → MayPoint a made.Nothing b x → b ≡ a
+plain_may Wait b x ne timed may = absurd (ne (inl refl))
+plain_may TimedWait b x ne timed may = absurd (ne (inr refl))
 plain_may TimedLock b x ne timed may = absurd (timed refl)
 plain_may a b x ne timed may = may
 
-pub wait_may : (b : Operation) (x : Reply) → MayPoint Wait made.Nothing b x → (b ≡ Wait) ⊎ ((b ≡ Unlock) × (x ≡ OK))
-wait_may Wait x may = inl refl
-wait_may Unlock x may = inr (refl, may)
-wait_may b x may = absurd cc
+may_wait : (b : Operation) (x : Reply) → MayPoint Wait made.Nothing b x → (b ≡ Wait) ⊎ ((b ≡ Unlock) × (x ≡ OK))
+may_wait Wait x may = inl refl
+may_wait Unlock x may = inr (refl, may)
+may_wait b x may = absurd cc
+
+may_wait_timed : (b : Operation) (x : Reply) → MayPoint TimedWait made.Nothing b x → (b ≡ Wait) ⊎ ((b ≡ Unlock) × (x ≡ OK))
+may_wait_timed Wait x may = inl refl
+may_wait_timed Unlock x may = inr (refl, may)
+may_wait_timed b x may = absurd may
+
+-- a wait, with a time limit or without, is refused, or releases its mutex
+pub wait_may : (a b : Operation) (x : Reply) → IsWait a → MayPoint a made.Nothing b x → (b ≡ Wait) ⊎ ((b ≡ Unlock) × (x ≡ OK))
+wait_may a b x (inl is) may = may_wait b x (subst (λ c. MayPoint c made.Nothing b x) is may)
+wait_may a b x (inr is) may = may_wait_timed b x (subst (λ c. MayPoint c made.Nothing b x) is may)
+
+-- what a wait is refused by
+waits_look : (a : Operation) (x : Reply) → IsWait a → next_look a Nothing x ≡ Some Wait
+waits_look a x (inl is) = ap (λ b. next_look b Nothing x) is
+waits_look a x (inr is) = ap (λ b. next_look b Nothing x) is
+
+-- and releases by
+waits_change : (a : Operation) → IsWait a → next_change a Nothing ≡ Some Unlock
+waits_change a (inl is) = ap (λ b. next_change b Nothing) is
+waits_change a (inr is) = ap (λ b. next_change b Nothing) is
+
+waits_release : (a : Operation) (o : Object) → IsWait a → o.inconsistent ≡ false → MayRelease a Nothing o
+waits_release a o (inl is) sound = subst (λ b. MayRelease b Nothing o) (sym is) sound
+waits_release a o (inr is) sound = subst (λ b. MayRelease b Nothing o) (sym is) sound
+
+waits_after : (a : Operation) (x : Reply) → IsWait a → after_change a Nothing x ≡ Released
+waits_after a x (inl is) = ap (λ b. after_change b Nothing x) is
+waits_after a x (inr is) = ap (λ b. after_change b Nothing x) is
+
+pub waits_refused : (a : Operation) (x : Reply) → IsWait a → pointed a Wait x ≡ made.Decided x
+waits_refused a x (inl is) = ap (λ b. pointed b Wait x) is
+waits_refused a x (inr is) = ap (λ b. pointed b Wait x) is
+
+pub waits_released : (a : Operation) (x : Reply) → IsWait a → pointed a Unlock x ≡ made.Released
+waits_released a x (inl is) = ap (λ b. pointed b Unlock x) is
+waits_released a x (inr is) = ap (λ b. pointed b Unlock x) is
+
+pub waits_locked : (a : Operation) (x : Reply) → IsWait a → pointed a Lock x ≡ made.Decided x
+waits_locked a x (inl is) = ap (λ b. pointed b Lock x) is
+waits_locked a x (inr is) = ap (λ b. pointed b Lock x) is
+
+-- a call returns what its last point replied, but for a wait with a time limit that took its mutex
+told_exactly : (a : Operation) (y z : Reply) → MayReturn a y z → (a ≡ TimedWait → y ≢ OK) → z ≡ y
+told_exactly TimedWait y z (inl is) never = is
+told_exactly TimedWait y z (inr late) never = absurd (never refl late.0)
+told_exactly a y z is never = is
+
+-- a lock that is told OK changes the mutex
+taking_changes : (held : ℕ) (o : Object) (t : ℕ) (n : Object) → Does held o t Lock OK n → n ≢ o
+taking_changes held o t n does same = by_cases (nat_le 2048 held) does where
+  by_cases : (b : Bool) → MatchBool b ((OK ≡ XHELD) × (n ≡ o)) (Permits o t Lock OK n) → ⊥
+  by_cases true h = let no : OK ≡ XHELD = h.0 in absurd cc
+  by_cases false h =
+      let none : o.owner ≡ None = h.1 in
+      let some : n.owner ≡ Some t = ap (λ (q : Object). q.owner) h.3 in
+      let both : None ≡ Some t = sym none ∙ ap (λ (q : Object). q.owner) (sym same) ∙ some in
+      absurd cc
+
+-- a wait's own point isn't told OK
+never_ok : (o : Object) (t : ℕ) (n : Object) (x : Reply) → Permits o t Wait x n → x ≢ OK
+never_ok o t n x h ok = none (subst (λ y. Permits o t Wait y n) ok h) where
+  none : Permits o t Wait OK n → ⊥
+  none p = p
 
 pub record InItsCall (s : Stage) (p : Decision) : Type 0 where
   pub call : Begun
@@ -226,8 +300,8 @@ plain_point n m ts ss es d s x i p y may untimed k my z call on here is plain go
   object : new ≡ objects_after (e ∷ es) m
   object = determined (held_by t (objects_after es) n) s.object t p.operation p.reply new does ∙ ap (λ o. stepped o t p.operation p.reply) x.stands.object ∙ sym (moved_here (objects_after es) p m here)
 
-  decided : (c : Call) → HasCome (made.Decided p.reply) (reply_of (turn_at ts t)) c → Goes m (next (stage_after t es) (fact.Point p)) (turn_at ts t) c
-  decided c come = subst (λ q. Goes m q (turn_at ts t) c) (sym goes) (λ at. subst (λ q. HasCome q (reply_of (turn_at ts t)) c) (sym (plain.points p.reply)) come)
+  decided : (c : Call) → HasCome k.operation (made.Decided p.reply) (reply_of (turn_at ts t)) c → Goes m (next (stage_after t es) (fact.Point p)) (turn_at ts t) c
+  decided c come = subst (λ q. Goes m q (turn_at ts t) c) (sym goes) (λ at. subst (λ q. HasCome k.operation q (reply_of (turn_at ts t)) c) (sym (plain.points p.reply)) come)
 
   seen : reply_of (turn_at ts t) ≡ Some p.reply → new ≡ s.object → (call_at s.calls t).seen ≡ true
   seen reply same = x.closed.noted s x.there t id.first (sees_there m (turn_at ts t) k (d t) s t p.reply call on reply (
@@ -240,9 +314,15 @@ plain_point n m ts ss es d s x i p y may untimed k my z call on here is plain go
     λ late. absurd (never_late (held_by t (objects_after es) n) s.object t p.operation p.reply new does untimed late),
   ))
 
+  -- a point that changes nothing isn't the lock that a wait which is out of time takes its mutex by
+  never : new ≡ s.object → k.operation ≡ TimedWait → p.reply ≢ OK
+  never same late ok =
+      let its : Does (held_by t (objects_after es) n) s.object t Lock OK new = subst (λ r. Does (held_by t (objects_after es) n) s.object t Lock r new) ok (subst (λ a. Does (held_by t (objects_after es) n) s.object t a p.reply new) (plain.late late) does) in
+      taking_changes (held_by t (objects_after es) n) s.object t new its same
+
   by_cases : (new ≡ s.object) ⊎ (new ≢ s.object) → Stood m ts ss (record { event = i; fact = fact.Point p } ∷ es)
   by_cases (inl same) = no_change m ts ss d e es s y x.there x.stands (sym object ∙ same ∙ x.stands.object)
-      (decided (call_at s.calls t) (inr (subst IsOpen (sym is) plain.still, λ reply. seen reply same)))
+      (decided (call_at s.calls t) (inr (subst IsOpen (sym is) plain.still, λ z may reply. seen (reply ∙ ap Some (told_exactly k.operation p.reply z may (never same))) same)))
   by_cases (inr ne) =
       let cov : Covered ss (changed s t k.operation p.reply new) = by_call m ts ss es d s x k t call on (held_by t (objects_after es) n) p.operation p.reply new (ap (next_change k.operation) is ∙ plain.change) (subst (λ q. MayRelease k.operation q s.object) (sym is) (plain.releases s.object)) does ne in
       own_change m ts ss d e es s (record { made = after_change k.operation (call_at s.calls t).made p.reply; seen = false }) new y may refl x.stands object id.last
@@ -250,7 +330,7 @@ plain_point n m ts ss es d s x i p y may untimed k my z call on here is plain go
 
 -- a wait's own point changes nothing
 wait_point : (n m : ℕ) (ts : List Turn) (ss : List State) (es : List Line) (d : ℕ → Bool) (s : State) → Scene m ts ss es d s → (i : ℕ) (p : Decision) → Setting m ts ts ss d s (record { event = i; fact = fact.Point p }) es → (k : Begun) (z : Bool)
-    → InCall k (turn_at ts p.thread) (d p.thread) → k.mutex ≡ m → p.mutex ≡ m → (call_at s.calls p.thread).made ≡ Nothing → k.operation ≡ Wait → p.operation ≡ Wait
+    → InCall k (turn_at ts p.thread) (d p.thread) → k.mutex ≡ m → p.mutex ≡ m → (call_at s.calls p.thread).made ≡ Nothing → IsWait k.operation → p.operation ≡ Wait
     → next (stage_after p.thread es) (fact.Point p) ≡ stage.Calling k (pointed k.operation p.operation p.reply) z
     → (new : Object) → Does (held_by p.thread (objects_after es) n) s.object p.thread p.operation p.reply new → Stood m ts ss (record { event = i; fact = fact.Point p } ∷ es)
 wait_point n m ts ss es d s x i p y k z call on here is wait op goes new does =
@@ -260,11 +340,11 @@ wait_point n m ts ss es d s x i p y k z call on here is wait op goes new does =
     let same : new ≡ s.object = waits_still s.object t p.reply new its in
     let id : HasId ts t = has_id ts t x.long x.nobody (busy_calling (turn_at ts t) k (d t) call) in
     let object : new ≡ objects_after (e ∷ es) m = determined (held_by t (objects_after es) n) s.object t p.operation p.reply new does ∙ ap (λ o. stepped o t p.operation p.reply) x.stands.object ∙ sym (moved_here (objects_after es) p m here) in
-    let points : pointed k.operation p.operation p.reply ≡ made.Decided p.reply = ap (λ a. pointed a p.operation p.reply) wait ∙ ap (λ b. pointed Wait b p.reply) op in
+    let points : pointed k.operation p.operation p.reply ≡ made.Decided p.reply = ap (λ b. pointed k.operation b p.reply) op ∙ waits_refused k.operation p.reply wait in
     let look : MayLook s t k.operation p.reply = (
       record {
         operation = Wait;
-        next = ap (λ q. next_look k.operation q p.reply) is ∙ ap (λ a. next_look a Nothing p.reply) wait;
+        next = ap (λ q. next_look k.operation q p.reply) is ∙ waits_look k.operation p.reply wait;
         held = 0;
         does = subst (λ o. Permits s.object t Wait p.reply o) same its;
       },
@@ -272,8 +352,8 @@ wait_point n m ts ss es d s x i p y k z call on here is wait op goes new does =
     ) in
     no_change m ts ss d e es s y x.there x.stands (sym object ∙ same ∙ x.stands.object)
     (subst (λ q. Goes m q (turn_at ts t) (call_at s.calls t)) (sym goes)
-    (λ at. subst (λ q. HasCome q (reply_of (turn_at ts t)) (call_at s.calls t)) (sym points)
-    (inr (subst IsOpen (sym is) tt, λ reply. x.closed.noted s x.there t id.first (sees_there m (turn_at ts t) k (d t) s t p.reply call on reply look)))))
+    (λ at. subst (λ q. HasCome k.operation q (reply_of (turn_at ts t)) (call_at s.calls t)) (sym points)
+    (inr (subst IsOpen (sym is) tt, λ r may reply. x.closed.noted s x.there t id.first (sees_there m (turn_at ts t) k (d t) s t p.reply call on (reply ∙ ap Some (told_exactly k.operation p.reply r may (λ late. never_ok s.object t new p.reply its))) look)))))
 
 -- a wait's release
 frees : (o : Object) (t : ℕ) (new : Object) → Permits o t Unlock OK new → new ≢ o
@@ -284,7 +364,7 @@ frees o t new h same =
     absurd cc
 
 release_point : (n m : ℕ) (ts : List Turn) (ss : List State) (es : List Line) (d : ℕ → Bool) (s : State) → Scene m ts ss es d s → (i : ℕ) (p : Decision) → Setting m ts ts ss d s (record { event = i; fact = fact.Point p }) es → May (stage_after p.thread es) (fact.Point p) → (k : Begun) (z : Bool)
-    → InCall k (turn_at ts p.thread) (d p.thread) → k.mutex ≡ m → p.mutex ≡ m → (call_at s.calls p.thread).made ≡ Nothing → k.operation ≡ Wait → p.operation ≡ Unlock → p.reply ≡ OK
+    → InCall k (turn_at ts p.thread) (d p.thread) → k.mutex ≡ m → p.mutex ≡ m → (call_at s.calls p.thread).made ≡ Nothing → IsWait k.operation → p.operation ≡ Unlock → p.reply ≡ OK
     → s.object.inconsistent ≡ false
     → next (stage_after p.thread es) (fact.Point p) ≡ stage.Calling k (pointed k.operation p.operation p.reply) z
     → (new : Object) → Does (held_by p.thread (objects_after es) n) s.object p.thread p.operation p.reply new → Stood m ts ss (record { event = i; fact = fact.Point p } ∷ es)
@@ -294,14 +374,14 @@ release_point n m ts ss es d s x i p y may k z call on here is wait op ok sound 
     let id : HasId ts t = has_id ts t x.long x.nobody (busy_calling (turn_at ts t) k (d t) call) in
     let its : Permits s.object t Unlock OK new = subst (λ r. Permits s.object t Unlock r new) ok (subst (λ a. Does (held_by t (objects_after es) n) s.object t a p.reply new) op does) in
     let object : new ≡ objects_after (e ∷ es) m = determined (held_by t (objects_after es) n) s.object t p.operation p.reply new does ∙ ap (λ o. stepped o t p.operation p.reply) x.stands.object ∙ sym (moved_here (objects_after es) p m here) in
-    let points : pointed k.operation p.operation p.reply ≡ made.Released = ap (λ a. pointed a p.operation p.reply) wait ∙ ap (λ b. pointed Wait b p.reply) op in
-    let follows : next_change k.operation (call_at s.calls t).made ≡ Some Unlock = ap (next_change k.operation) is ∙ ap (λ a. next_change a Nothing) wait in
-    let releases : MayRelease k.operation (call_at s.calls t).made s.object = subst (λ q. MayRelease k.operation q s.object) (sym is) (subst (λ a. MayRelease a Nothing s.object) (sym wait) sound) in
+    let points : pointed k.operation p.operation p.reply ≡ made.Released = ap (λ b. pointed k.operation b p.reply) op ∙ waits_released k.operation p.reply wait in
+    let follows : next_change k.operation (call_at s.calls t).made ≡ Some Unlock = ap (next_change k.operation) is ∙ waits_change k.operation wait in
+    let releases : MayRelease k.operation (call_at s.calls t).made s.object = subst (λ q. MayRelease k.operation q s.object) (sym is) (waits_release k.operation s.object wait sound) in
     let cov : Covered ss (changed s t k.operation OK new) = by_call m ts ss es d s x k t call on 0 Unlock OK new follows releases its (frees s.object t new its) in
-    let after : after_change k.operation (call_at s.calls t).made OK ≡ Released = ap (λ q. after_change k.operation q OK) is ∙ ap (λ a. after_change a Nothing OK) wait in
+    let after : after_change k.operation (call_at s.calls t).made OK ≡ Released = ap (λ q. after_change k.operation q OK) is ∙ waits_after k.operation OK wait in
     own_change m ts ss d e es s (record { made = after_change k.operation (call_at s.calls t).made OK; seen = false }) new y may refl x.stands object id.last
     (subst (λ q. Goes m q (turn_at ts t) (record { made = after_change k.operation (call_at s.calls t).made OK; seen = false })) (sym goes)
-    (λ at. subst (λ q. HasCome q (reply_of (turn_at ts t)) (record { made = after_change k.operation (call_at s.calls t).made OK; seen = false })) (sym points) after)) cov
+    (λ at. subst (λ q. HasCome k.operation q (reply_of (turn_at ts t)) (record { made = after_change k.operation (call_at s.calls t).made OK; seen = false })) (sym points) after)) cov
 
 -- a lock that is told that its time limit came, or that its thread holds too many
 timed_tells : (held : ℕ) (o : Object) (t : ℕ) (x : Reply) (n : Object) → Does held o t TimedLock x n → (n ≡ o) × ((x ≡ ETIMEDOUT) ⊎ ((x ≢ ETIMEDOUT) × Does held o t Lock x o))
@@ -321,7 +401,7 @@ timed_point : (n m : ℕ) (ts : List Turn) (ss : List State) (es : List Line) (d
 timed_point n m ts ss es d s x i p y due k z call on here is was timed op goes new does =
     no_change m ts ss d e es s y x.there x.stands (sym object ∙ tells.0 ∙ x.stands.object)
     (subst (λ q. Goes m q (turn_at ts t) (call_at s.calls t)) (sym goes)
-    (λ at. subst (λ q. HasCome q (reply_of (turn_at ts t)) (call_at s.calls t)) (sym points) (inr (subst IsOpen (sym is) tt, λ reply. ⊎_elim (late reply) (held_as reply) tells.1))))
+    (λ at. subst (λ q. HasCome k.operation q (reply_of (turn_at ts t)) (call_at s.calls t)) (sym points) (inr (subst IsOpen (sym is) tt, λ r may reply. let same = as_told r may reply in ⊎_elim (late same) (held_as same) tells.1))))
   where
     t : ℕ
     t = p.thread
@@ -340,6 +420,9 @@ timed_point n m ts ss es d s x i p y due k z call on here is was timed op goes n
 
     points : pointed k.operation p.operation p.reply ≡ made.Decided p.reply
     points = ap (λ a. pointed a p.operation p.reply) timed ∙ ap (λ b. pointed TimedLock b p.reply) op
+
+    as_told : (r : Reply) → MayReturn k.operation p.reply r → reply_of (turn_at ts t) ≡ Some r → reply_of (turn_at ts t) ≡ Some p.reply
+    as_told r may reply = reply ∙ ap Some (told_exactly k.operation p.reply r may (λ wait. let no : TimedLock ≡ TimedWait = sym timed ∙ wait in absurd cc))
 
     -- it has seen another owner, as there was one
     late : reply_of (turn_at ts t) ≡ Some p.reply → p.reply ≡ ETIMEDOUT → (call_at s.calls t).seen ≡ true
@@ -360,15 +443,15 @@ timed_point n m ts ss es d s x i p y due k z call on here is was timed op goes n
 
 -- any point of the mutex
 made_point : (n m : ℕ) (ts : List Turn) (ss : List State) (es : List Line) (d : ℕ → Bool) (s : State) → Scene m ts ss es d s → (i : ℕ) (p : Decision) → Setting m ts ts ss d s (record { event = i; fact = fact.Point p }) es → IsDue es (fact.Point p) → May (stage_after p.thread es) (fact.Point p) → (k : Begun) (its : TheirMade) (z : Bool) → stage_after p.thread es ≡ stage.Calling k its z
-    → InCall k (turn_at ts p.thread) (d p.thread) → k.mutex ≡ m → p.mutex ≡ m → HasCome its (reply_of (turn_at ts p.thread)) (call_at s.calls p.thread) → MayPoint k.operation its p.operation p.reply
-    → (p.operation ≡ Unlock → k.operation ≡ Wait → s.object.inconsistent ≡ false)
+    → InCall k (turn_at ts p.thread) (d p.thread) → k.mutex ≡ m → p.mutex ≡ m → HasCome k.operation its (reply_of (turn_at ts p.thread)) (call_at s.calls p.thread) → MayPoint k.operation its p.operation p.reply
+    → (p.operation ≡ Unlock → IsWait k.operation → s.object.inconsistent ≡ false)
     → next (stage_after p.thread es) (fact.Point p) ≡ stage.Calling k (pointed k.operation p.operation p.reply) z
     → (new : Object) → Does (held_by p.thread (objects_after es) n) s.object p.thread p.operation p.reply new → Stood m ts ss (record { event = i; fact = fact.Point p } ∷ es)
 made_point n m ts ss es d s x i p y due own k (made.Decided r) z was call on here come may sound goes new does = absurd may
 made_point n m ts ss es d s x i p y due own k made.Released z was call on here come may sound goes new does =
     plain_point n m ts ss es d s x i p y own (λ timed. let no : Lock ≡ TimedLock = sym may ∙ timed in absurd cc) k Released z call on here come (subst (λ b. Plain k.operation Released b p.reply) (sym may) (plain_released k.operation p.reply)) goes new does
 made_point n m ts ss es d s x i p y due own k made.Nothing z was call on here come may sound goes new does = by_cases (is_wait k.operation) (is_timed k.operation) where
-  by_wait : k.operation ≡ Wait → (p.operation ≡ Wait) ⊎ ((p.operation ≡ Unlock) × (p.reply ≡ OK)) → Stood m ts ss (record { event = i; fact = fact.Point p } ∷ es)
+  by_wait : IsWait k.operation → (p.operation ≡ Wait) ⊎ ((p.operation ≡ Unlock) × (p.reply ≡ OK)) → Stood m ts ss (record { event = i; fact = fact.Point p } ∷ es)
   by_wait wait (inl its) = wait_point n m ts ss es d s x i p y k z call on here come wait its goes new does
   by_wait wait (inr free) = release_point n m ts ss es d s x i p y own k z call on here come wait free.0 free.1 (sound free.0 wait) goes new does
 
@@ -379,15 +462,15 @@ made_point n m ts ss es d s x i p y due own k made.Nothing z was call on here co
       let plain : Plain TimedLock Nothing Lock p.reply = plain_timed p.reply (never_late (held_by p.thread (objects_after es) n) s.object p.thread p.operation p.reply new does untimed) in
       plain_point n m ts ss es d s x i p y own untimed k Nothing z call on here come (subst (λ a. Plain a Nothing p.operation p.reply) (sym timed) (subst (λ b. Plain TimedLock Nothing b p.reply) (sym lock) plain)) goes new does
 
-  by_cases : (k.operation ≡ Wait) ⊎ (k.operation ≢ Wait) → (k.operation ≡ TimedLock) ⊎ (k.operation ≢ TimedLock) → Stood m ts ss (record { event = i; fact = fact.Point p } ∷ es)
-  by_cases (inl wait) t = by_wait wait (wait_may p.operation p.reply (subst (λ a. MayPoint a made.Nothing p.operation p.reply) wait may))
+  by_cases : IsWait k.operation ⊎ (IsWait k.operation → ⊥) → (k.operation ≡ TimedLock) ⊎ (k.operation ≢ TimedLock) → Stood m ts ss (record { event = i; fact = fact.Point p } ∷ es)
+  by_cases (inl wait) t = by_wait wait (wait_may k.operation p.operation p.reply wait may)
   by_cases (inr other) (inl timed) = by_timed timed (subst (λ a. MayPoint a made.Nothing p.operation p.reply) timed may)
   by_cases (inr other) (inr untimed) =
       let its : p.operation ≡ k.operation = plain_may k.operation p.operation p.reply other untimed may in
       plain_point n m ts ss es d s x i p y own (λ is. untimed (sym its ∙ is)) k Nothing z call on here come (subst (λ b. Plain k.operation Nothing b p.reply) (sym its) (plain_nothing k.operation p.reply other untimed)) goes new does
 
 pub point_stands : (n m : ℕ) (ts : List Turn) (ss : List State) (es : List Line) (d : ℕ → Bool) (s : State) → Scene m ts ss es d s → (i : ℕ) (p : Decision) → Setting m ts ts ss d s (record { event = i; fact = fact.Point p }) es → IsDue es (fact.Point p) → May (stage_after p.thread es) (fact.Point p)
-    → ((k : Begun) (its : TheirMade) (z : Bool) → stage_after p.thread es ≡ stage.Calling k its z → p.operation ≡ Unlock → k.operation ≡ Wait → (objects_after es p.mutex).inconsistent ≡ false)
+    → ((k : Begun) (its : TheirMade) (z : Bool) → stage_after p.thread es ≡ stage.Calling k its z → p.operation ≡ Unlock → IsWait k.operation → (objects_after es p.mutex).inconsistent ≡ false)
     → (new : Object) → Does (held_by p.thread (objects_after es) n) (objects_after es p.mutex) p.thread p.operation p.reply new → Stood m ts ss (record { event = i; fact = fact.Point p } ∷ es)
 point_stands n m ts ss es d s x i p y due may sound new does = by_cases (same_or_not p.mutex m) where
   t : ℕ

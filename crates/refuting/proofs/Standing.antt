@@ -27,14 +27,14 @@ use Rattle.refuting.proofs.Waiting.{Setting, carried, decided_on, own_carried, w
 
 -- ---- what covers a state stands for what it does
 
-come_on : (m : TheirMade) (x : Option Reply) (c d : Call) → HasCome m x c → HasAll d c → HasCome m x d
-come_on made.Nothing x c d h all = all.0 ∙ h
-come_on made.Released x c d h all = all.0 ∙ h
-come_on (made.Decided y) x c d (inl h) all = inl (all.0 ∙ h)
-come_on (made.Decided y) x c d (inr h) all = inr (subst IsOpen (sym all.0) h.0, λ is. all.1 (h.1 is))
+come_on : (a : Operation) (m : TheirMade) (x : Option Reply) (c d : Call) → HasCome a m x c → HasAll d c → HasCome a m x d
+come_on a made.Nothing x c d h all = all.0 ∙ h
+come_on a made.Released x c d h all = all.0 ∙ h
+come_on a (made.Decided y) x c d (inl h) all = inl (all.0 ∙ h)
+come_on a (made.Decided y) x c d (inr h) all = inr (subst IsOpen (sym all.0) h.0, λ z may is. all.1 (h.1 z may is))
 
 pub goes_on : (m : ℕ) (s : Stage) (turn : Turn) (c d : Call) → Goes m s turn c → HasAll d c → Goes m s turn d
-goes_on m (stage.Calling k made z) turn c d h all = λ on. come_on made (reply_of turn) c d (h on) all
+goes_on m (stage.Calling k made z) turn c d h all = λ on. come_on k.operation made (reply_of turn) c d (h on) all
 goes_on m s turn c d h all = tt
 
 pub stands_on : (m : ℕ) (ts : List Turn) (es : List Line) (r s : State) → Covers r s → StandsFor m ts es s → StandsFor m ts es r

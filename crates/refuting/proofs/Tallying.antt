@@ -6,12 +6,13 @@ use Rattle.lockword.specs.declared.reply.Reply.{Reply}
 use Rattle.lockword.specs.declared.reply.Reply.TheVariants.{OK}
 use Rattle.posixmutex.specs.declared.object.Object.{Object}
 use Rattle.posixmutex.specs.declared.point.Decision.{Decision}
-use Rattle.posixmutex.specs.declared.point.Operation.TheVariants.{Death, Wait}
+use Rattle.posixmutex.specs.declared.point.Operation.TheVariants.{Death}
 use Rattle.posixmutex.specs.Histories.{held_by}
 use Rattle.facts.specs.declared.fact.Begun.{Begun}
 use Rattle.facts.specs.declared.fact.Fact.{Fact}
 use Rattle.facts.specs.declared.fact.Fact.TheVariants as fact
 use Rattle.facts.specs.declared.fact.Line.{Line}
+use Rattle.facts.specs.Lives.{IsWait}
 use Rattle.facts.specs.Facts.{decision_of, thread_of}
 use Rattle.verdict.specs.declared.stage.Made.TheVariants as made
 use Rattle.verdict.specs.declared.stage.Stage.{Stage}
@@ -30,7 +31,7 @@ use Rattle.refuting.specs.declared.turn.Turn.TheVariants.{Resting, Calling, Dyin
 use Rattle.refuting.specs.Counts.{Counted, WithinLimit, count_after, lost_by, won_by}
 use Rattle.refuting.specs.Following.{stage_after}
 use Rattle.refuting.specs.Turns.{Turned}
-use Rattle.refuting.proofs.Counting.{others_count, own_count, point_counted}
+use Rattle.refuting.proofs.Counting.{limit_alike, others_count, own_count, point_counted, told_alike}
 use Rattle.refuting.proofs.Hiding.{calling_of, dying_of}
 use Rattle.refuting.proofs.Staging.{stage_kept, stage_may}
 use Rattle.refuting.proofs.Telling.{in_call}
@@ -59,7 +60,7 @@ hidden_counted n i (fact.Point p) es lines hid fit inside tally =
     let c = calling_of (stage_after t es) p may in
     let does = fit.0.allowed.1 in
     let kept = subst (λ q. Kept q (told_of t es)) c.is (stage_kept n es fit.1 t) in
-    let waits : c.made ≡ made.Released → c.call.operation ≡ Wait = λ is. (subst (Of c.call.operation (points_in (told_of t es))) is kept.4).0 in
+    let waits : c.made ≡ made.Released → IsWait c.call.operation = λ is. (subst (Of c.call.operation (points_in (told_of t es))) is kept.4).0 in
     let before : Counted (stage.Calling c.call c.made c.asleep) (held_by t (objects_after es) n) (lines t) = subst (λ q. Counted q (held_by t (objects_after es) n) (lines t)) c.is (tally t) in
     lift_counted n (record { event = i; fact = fact.Point p }) es lines lines (λ u other. (others_count n es p fit.0.allowed.0 u other does, refl)) tally
     (subst (λ q. Counted (next q (fact.Point p)) (held_by t (moved (objects_after es) (Some p)) n) (lines t)) (sym c.is)
@@ -122,10 +123,12 @@ told_counted n es (fact.Begin t c) turn stage.Resting count own seen turned may 
     let same : count_after turn (Told (fact.Begin t c)) own ≡ own = begin_count turn t c own in
     (omega (arith, h, same), tt)
 told_counted n es (fact.Begin t c) turn s count own seen turned may h none = absurd may
-told_counted n es (fact.Return t y) turn (stage.Calling b its a) count own seen turned may h none =
+told_counted n es (fact.Return t y) turn (stage.Calling b (made.Decided w) a) count own seen turned may h none =
     let calls = in_call b turn turned in
-    let sum : count + lost_by b.operation y ≡ own + won_by b.operation y = (subst (λ q. Counted (stage.Calling b q a) count own) may.1 h).0 in
-    subst (λ q. count ≡ count_after q (Told (fact.Return t y)) own) (sym calls.is) (omega (arith, sum))
+    let alike = told_alike b.operation w y may.1 in
+    let sum : count + lost_by b.operation w ≡ own + won_by b.operation w = h.0 in
+    subst (λ q. count ≡ count_after q (Told (fact.Return t y)) own) (sym calls.is) (omega (arith, sum, alike.0, alike.1))
+told_counted n es (fact.Return t y) turn (stage.Calling b its a) count own seen turned may h none = absurd may.1
 told_counted n es (fact.Return t y) turn s count own seen turned may h none = absurd may
 told_counted n es (fact.Kill t) turn s count own seen turned may h none = tt
 told_counted n es (fact.Reap t) turn s count own seen turned may h none = (none t refl, reap_count turn t own)
@@ -161,8 +164,9 @@ any_limit (Calling c x) f own never = tt
 any_limit turn f own never = tt
 
 pub within : (f : Fact) (turn : Turn) (s : Stage) (count own : ℕ) → Turned turn s false → May s f → Counted s count own → WithinLimit turn (Told f) own
-within (fact.Return t y) turn (stage.Calling b its a) count own turned may h =
+within (fact.Return t y) turn (stage.Calling b (made.Decided w) a) count own turned may h =
     let calls = in_call b turn turned in
-    subst (λ q. WithinLimit q (Told (fact.Return t y)) own) (sym calls.is) (subst (λ q. Counted (stage.Calling b q a) count own) may.1 h).1
+    subst (λ q. WithinLimit q (Told (fact.Return t y)) own) (sym calls.is) (limit_alike b.operation w y own may.1 h.1)
+within (fact.Return t y) turn (stage.Calling b its a) count own turned may h = absurd may.1
 within (fact.Return t y) turn s count own turned may h = absurd may
 within f turn s count own turned may h = any_limit turn f own (λ t y is. absurd cc)

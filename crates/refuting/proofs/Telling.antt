@@ -5,6 +5,7 @@ use Rattle.std.specs.Option.{is_some}
 use Rattle.std.proofs.lemmas.Bool.Decides.{nat_tests}
 use Rattle.lockword.specs.declared.reply.Reply.{Reply}
 use Rattle.posixmutex.specs.declared.object.Object.{Object}
+use Rattle.posixmutex.specs.declared.point.Operation.{Operation}
 use Rattle.facts.specs.declared.fact.Begun.{Begun}
 use Rattle.facts.specs.declared.fact.Fact.{Fact}
 use Rattle.facts.specs.declared.fact.Fact.TheVariants as fact
@@ -18,7 +19,7 @@ use Rattle.verdict.specs.declared.stage.Stage.TheVariants as stage
 use Rattle.verdict.specs.Earlier.{chances_behind, is_killed, moved, objects_after, told_of}
 use Rattle.verdict.specs.Fits.{Fits, OwnsNothing}
 use Rattle.verdict.specs.Judges.{IsMutex}
-use Rattle.verdict.specs.Stages.{May, next}
+use Rattle.verdict.specs.Stages.{May, MayReturnNow, next}
 use Rattle.verdict.specs.Verdicts.{AllFit}
 use Rattle.verdict.proofs.Stages.{Kept}
 use Rattle.histories.specs.declared.entry.Entry.{Entry}
@@ -35,7 +36,7 @@ use Rattle.refuting.specs.declared.turn.Turn.TheVariants.{Resting, Calling, Dyin
 use Rattle.refuting.specs.States.{Covered, call_at, first_call}
 use Rattle.refuting.specs.Counts.{count_after, count_at}
 use Rattle.refuting.specs.Steps.{IsClosed}
-use Rattle.refuting.specs.Following.{Follows, Goes, HasCome, HasMade, HaveWaited, IsOpen, MayReturn, Retells, StandsFor, Waits, renewed, stage_after}
+use Rattle.refuting.specs.Following.{Follows, Goes, HasCome, HasMade, HaveWaited, IsOpen, MayBeTold, Retells, StandsFor, Waits, renewed, stage_after}
 use Rattle.refuting.specs.Turns.{InCall, Turned, after_doom, call_on, entry_thread, if_on, reply_in, reply_of, turn_after, turn_at}
 use Rattle.refuting.proofs.Staging.{TurnsTo, stage_kept, stage_may, turned_doom, turned_hidden, turned_kill, turned_told}
 use Rattle.refuting.proofs.Waiting.{Setting, carried, seen_on, waits_covered, waits_on, waits_silent}
@@ -109,14 +110,15 @@ renewed_there s t u other = get_or-set_other s.calls t u first_call first_call o
 
 -- ---- what a state allows
 
-open_returns : (q : Made) (b : Bool) (y : Reply) → IsOpen q → b ≡ true → HasMade q b y
-open_returns my.Nothing b y o seen = seen
-open_returns my.Released b y o seen = seen
-open_returns (my.Changed x) b y o seen = absurd o
+open_returns : (a : Operation) (q : Made) (b : Bool) (y : Reply) → IsOpen q → b ≡ true → HasMade a q b y
+open_returns a my.Nothing b y o seen = seen
+open_returns a my.Released b y o seen = seen
+open_returns a (my.Changed x) b y o seen = absurd o
 
-may_return : (c : Call) (x : Option Reply) (y : Reply) → HasCome (made.Decided y) x c → x ≡ Some y → MayReturn c y
-may_return c x y (inl is) reply = subst (λ q. HasMade q c.seen y) (sym is) refl
-may_return c x y (inr h) reply = open_returns c.made c.seen y h.0 (h.1 reply)
+may_return : (a : Operation) (its : TheirMade) (c : Call) (x : Option Reply) (z : Reply) → HasCome a its x c → MayReturnNow a its z → x ≡ Some z → MayBeTold a c z
+may_return a (made.Decided y) c x z (inl is) may reply = subst (λ q. HasMade a q c.seen z) (sym is) may
+may_return a (made.Decided y) c x z (inr h) may reply = open_returns a c.made c.seen z h.0 (h.1 z may reply)
+may_return a its c x z come may reply = absurd may
 
 pub record Calls (c : Begun) (turn : Turn) : Type 0 where
   pub reply : Option Reply
@@ -132,6 +134,12 @@ on_mutex m c k = by_cases (c.mutex == m) refl where
   by_cases true is on = grind (arith, nat_tests)
   by_cases false is on = absurd cc
 
+same_call : (m : ℕ) (c k : Begun) → if_on m c ≡ Some k → c ≡ k
+same_call m c k = by_cases (c.mutex == m) where
+  by_cases : (b : Bool) → (if b then Some c else None) ≡ Some k → c ≡ k
+  by_cases true on = cc
+  by_cases false on = absurd cc
+
 returned : (u : ℕ) (y : Reply) (future : List Entry) → reply_in u (Told (fact.Return u y) ∷ future) ≡ Some y
 returned u y future = by_cases (u == u) refl where
   by_cases : (b : Bool) → (u == u) ≡ b → (if b then Some y else reply_in u future) ≡ Some y
@@ -139,13 +147,14 @@ returned u y future = by_cases (u == u) refl where
   by_cases false is = let other : u ≢ u = grind (arith, nat_tests) in absurd (other refl)
 
 allows_return : (m : ℕ) (turn : Turn) (z : Stage) (c : Call) (u : ℕ) (y : Reply) (future : List Entry) → May z (fact.Return u y) → Turned turn z false
-    → ((k : Begun) (x : Option Reply) → turn ≡ Calling k x → x ≡ reply_in u (Told (fact.Return u y) ∷ future)) → Goes m z turn c → (k : Begun) → call_on m turn ≡ Some k → MayReturn c y
+    → ((k : Begun) (x : Option Reply) → turn ≡ Calling k x → x ≡ reply_in u (Told (fact.Return u y) ∷ future)) → Goes m z turn c → (k : Begun) → call_on m turn ≡ Some k → MayBeTold k.operation c y
 allows_return m turn (stage.Calling b its a) c u y future may turned knows goes k on =
     let calls : Calls b turn = in_call b turn turned in
-    let here : b.mutex ≡ m = on_mutex m b k (subst (λ z. call_on m z ≡ Some k) calls.is on) in
+    let its_own : if_on m b ≡ Some k = subst (λ z. call_on m z ≡ Some k) calls.is on in
+    let here : b.mutex ≡ m = on_mutex m b k its_own in
     let reply : calls.reply ≡ Some y = knows b calls.reply calls.is ∙ returned u y future in
-    let come : HasCome (made.Decided y) calls.reply c = subst (λ z. HasCome z calls.reply c) may.1 (subst (λ z. HasCome its (reply_of z) c) calls.is (goes here)) in
-    may_return c calls.reply y come reply
+    let come : HasCome b.operation its calls.reply c = subst (λ z. HasCome b.operation its (reply_of z) c) calls.is (goes here) in
+    subst (λ (q : Begun). MayBeTold q.operation c y) (same_call m b k its_own) (may_return b.operation its c calls.reply y come may.1 reply)
 allows_return m turn z c u y future may turned knows goes k on = absurd may
 
 -- ---- a line that is seen
@@ -194,7 +203,7 @@ begins n h future i t c x r k after d es s b st = by_cases (c.mutex == r.mutex) 
 returns : (n : ℕ) (h future : List Entry) (i t : ℕ) (y : Reply) (x : Option Reply) (r k : Refuter) (after : Turn) (d : ℕ → Bool) (es : List Line) (s : State) → Before n h future (fact.Return t y) x r k after d es s → Setting r.mutex r.turns k.turns k.states.items d s (record { event = i; fact = fact.Return t y }) es
     → Stood r.mutex k.turns k.states.items (record { event = i; fact = fact.Return t y } ∷ es)
 returns n h future i t y x r k after d es s b st = by_cases (is_some (call_on r.mutex (turn_at r.turns t))) (b.step.retells s b.there may) where
-  may : (c : Begun) → call_on r.mutex (turn_at r.turns t) ≡ Some c → MayReturn (call_at s.calls t) y
+  may : (c : Begun) → call_on r.mutex (turn_at r.turns t) ≡ Some c → MayBeTold c.operation (call_at s.calls t) y
   may = allows_return r.mutex (turn_at r.turns t) (stage_after t es) (call_at s.calls t) t y future b.may b.turned (b.step.follows.knows t) (b.stands.calls t)
 
   by_cases : (q : Bool) → Covered k.states.items (if q then renewed s t else s) → Stood r.mutex k.turns k.states.items (record { event = i; fact = fact.Return t y } ∷ es)
@@ -249,14 +258,14 @@ doom_silent (Calling c x) after is = let same : Dying (Some c) ≡ after = cc in
 doom_silent turn after is = absurd cc
 
 -- a doomed thread's call returns nothing
-doomed_come : (its : TheirMade) (x y : Option Reply) (c : Call) → y ≡ None → HasCome its x c → HasCome its y c
-doomed_come made.Nothing x y c none h = h
-doomed_come made.Released x y c none h = h
-doomed_come (made.Decided z) x y c none (inl h) = inl h
-doomed_come (made.Decided z) x y c none (inr h) = inr (h.0, λ is. let no : None ≡ Some z = sym none ∙ is in absurd cc)
+doomed_come : (a : Operation) (its : TheirMade) (x y : Option Reply) (c : Call) → y ≡ None → HasCome a its x c → HasCome a its y c
+doomed_come a made.Nothing x y c none h = h
+doomed_come a made.Released x y c none h = h
+doomed_come a (made.Decided z) x y c none (inl h) = inl h
+doomed_come a (made.Decided z) x y c none (inr h) = inr (h.0, λ r may is. let no : None ≡ Some r = sym none ∙ is in absurd cc)
 
 doomed_goes : (m : ℕ) (z : Stage) (turn after : Turn) (c : Call) → reply_of after ≡ None → Goes m z turn c → Goes m z after c
-doomed_goes m (stage.Calling b its a) turn after c silent h = λ on. doomed_come its (reply_of turn) (reply_of after) c silent (h on)
+doomed_goes m (stage.Calling b its a) turn after c silent h = λ on. doomed_come b.operation its (reply_of turn) (reply_of after) c silent (h on)
 doomed_goes m z turn after c silent h = tt
 
 doom_line : (n : ℕ) (h future : List Entry) (u : ℕ) (x : Option Reply) (r k : Refuter) (after : Turn) (d : ℕ → Bool) (es : List Line) → Step n h future (Doom u) x r k after → Certifies n d es h

@@ -8,7 +8,7 @@ use Rattle.lockword.specs.declared.reply.Reply.{Reply}
 use Rattle.lockword.specs.declared.reply.Reply.TheVariants.{ETIMEDOUT}
 use Rattle.posixmutex.specs.declared.object.Object.{Object}
 use Rattle.posixmutex.specs.declared.point.Operation.{Operation}
-use Rattle.posixmutex.specs.declared.point.Operation.TheVariants.{TimedLock, Unlock, Wait}
+use Rattle.posixmutex.specs.declared.point.Operation.TheVariants.{TimedLock, TimedWait, Unlock, Wait}
 use Rattle.facts.specs.declared.fact.Begun.{Begun}
 use Rattle.facts.specs.declared.fact.Fact.{Fact}
 use Rattle.facts.specs.declared.fact.Fact.TheVariants as fact
@@ -75,6 +75,7 @@ waits_silent m s turn c h silent = tt
 
 pointed_some : (a b : Operation) (x : Reply) → pointed a b x ≡ made.Nothing → ⊥
 pointed_some Wait Unlock x is = absurd cc
+pointed_some TimedWait Unlock x is = absurd cc
 pointed_some a b x is = absurd cc
 
 -- a thread in a call that has had no point, which this fact of it doesn't begin, was in it

@@ -6,9 +6,9 @@
 -- isn't, as its thread owns less (robust-futexes).
 use Rattle.std.specs.Prelude.{ℕ, ◌≡◌, ◌+◌, ◌-◌, ◌≤◌, ◌↔◌, List, slice_index}
 use Rattle.lockword.specs.declared.reply.Reply.{Reply}
-use Rattle.lockword.specs.declared.reply.Reply.TheVariants.{OK, EPERM, EOWNERDEAD, XHELD, XSTATE}
+use Rattle.lockword.specs.declared.reply.Reply.TheVariants.{OK, EPERM, ETIMEDOUT, EOWNERDEAD, XHELD, XSTATE}
 use Rattle.posixmutex.specs.declared.point.Operation.{Operation}
-use Rattle.posixmutex.specs.declared.point.Operation.TheVariants.{Lock, TryLock, TimedLock, Unlock, Wait, Death}
+use Rattle.posixmutex.specs.declared.point.Operation.TheVariants.{Lock, TryLock, TimedLock, Unlock, Wait, TimedWait, Death}
 use Rattle.verdict.specs.declared.stage.Made.{Made}
 use Rattle.verdict.specs.declared.stage.Made.TheVariants.{Nothing, Released, Decided}
 use Rattle.facts.specs.declared.fact.Fact.TheVariants.{Return, Reap}
@@ -37,6 +37,12 @@ lost_by Wait EOWNERDEAD = 0
 lost_by Wait EPERM = 0
 lost_by Wait XSTATE = 0
 lost_by Wait x = 1
+lost_by TimedWait OK = 0
+lost_by TimedWait ETIMEDOUT = 0
+lost_by TimedWait EOWNERDEAD = 0
+lost_by TimedWait EPERM = 0
+lost_by TimedWait XSTATE = 0
+lost_by TimedWait x = 1
 lost_by a x = 0
 
 -- so far
@@ -59,6 +65,7 @@ AtLimit Lock x own = (x ≡ XHELD) ↔ (2048 ≤ own)
 AtLimit TryLock x own = (x ≡ XHELD) ↔ (2048 ≤ own)
 AtLimit TimedLock x own = (x ≡ XHELD) ↔ (2048 ≤ own)
 AtLimit Wait x own = x ≡ XHELD → 2049 ≤ own
+AtLimit TimedWait x own = x ≡ XHELD → 2049 ≤ own
 AtLimit a x own = Unit {0}
 
 abbrev pub KeepsLimit : Operation → Made → ℕ → Type 0

@@ -12,6 +12,7 @@ use Rattle.std.specs.Option.{is_some}
 use Rattle.lockword.specs.declared.reply.Reply.{Reply}
 use Rattle.lockword.specs.declared.reply.Reply.TheVariants.{ETIMEDOUT}
 use Rattle.lockword.specs.Threads.{most_threads}
+use Rattle.posixmutex.specs.declared.point.Operation.{Operation}
 use Rattle.posixmutex.specs.declared.point.Operation.TheVariants.{TimedLock}
 use Rattle.posixmutex.specs.Histories.{held_by}
 use Rattle.facts.specs.declared.fact.Begun.{Begun}
@@ -19,6 +20,7 @@ use Rattle.facts.specs.declared.fact.Fact.TheVariants.{Begin, Kill, Return, Reap
 use Rattle.facts.specs.declared.fact.Line.{Line}
 use Rattle.facts.specs.Facts.{thread_of}
 use Rattle.facts.specs.Chances.{Chances}
+use Rattle.facts.specs.Lives.{MayReturn}
 use Rattle.verdict.specs.declared.stage.Made.{Made as TheirMade}
 use Rattle.verdict.specs.declared.stage.Made.TheVariants as made
 use Rattle.verdict.specs.declared.stage.Stage.{Stage}
@@ -42,13 +44,14 @@ use Rattle.refuting.specs.Turns.{Turned, call_on, entry_thread, reply_in, reply_
 
 -- ---- what a line makes of a state
 
--- a call that has come so far may return so: its point decided this reply, or it has seen that it could be told it
-abbrev pub HasMade : Made → Bool → Reply → Type 0
-HasMade (Changed x) seen y = x ≡ y
-HasMade m seen y = seen ≡ true
+-- a call of this operation that has come so far may return so: its point decided this reply, or OK where it is a wait
+-- that is out of time; or it has seen that it could be told it
+abbrev pub HasMade : Operation → Made → Bool → Reply → Type 0
+HasMade a (Changed x) seen y = MayReturn a x y
+HasMade a m seen y = seen ≡ true
 
-abbrev pub MayReturn : Call → Reply → Type 0
-MayReturn c x = HasMade c.made c.seen x
+abbrev pub MayBeTold : Operation → Call → Reply → Type 0
+MayBeTold a c x = HasMade a c.made c.seen x
 
 -- thread t has no call any more, or a new one
 abbrev pub renewed : State → ℕ → State
@@ -56,7 +59,8 @@ renewed s t = record { object = s.object; calls = slice_set s.calls t first_call
 
 -- the state allows a line, whose thread was at this turn
 abbrev pub Allows : ℕ → Turn → State → Entry → Type 0
-Allows m turn s (Told (Return t x)) = (k : Begun) → call_on m turn ≡ Some k → MayReturn (call_at s.calls t) x
+Allows m turn s (Told (Return t x)) =
+    (k : Begun) → call_on m turn ≡ Some k → MayBeTold k.operation (call_at s.calls t) x
 Allows m turn s (Told (Reap t)) = s.object.owner ≢ Some t
 Allows m turn s e = Unit {0}
 
@@ -80,14 +84,15 @@ abbrev pub IsOpen : Made → Type 0
 IsOpen (Changed x) = ⊥
 IsOpen m = Unit {0}
 
--- a call that returns x, and of which these points are made, has come so far
-abbrev pub HasCome : TheirMade → Option Reply → Call → Type 0
-HasCome made.Nothing x c = c.made ≡ Nothing
-HasCome made.Released x c = c.made ≡ Released
-HasCome (made.Decided y) x c = (c.made ≡ Changed y) ⊎ (IsOpen c.made × (x ≡ Some y → c.seen ≡ true))
+-- a call of this operation that returns x, and of which these points are made, has come so far
+abbrev pub HasCome : Operation → TheirMade → Option Reply → Call → Type 0
+HasCome a made.Nothing x c = c.made ≡ Nothing
+HasCome a made.Released x c = c.made ≡ Released
+HasCome a (made.Decided y) x c = (c.made ≡ Changed y)
+    ⊎ (IsOpen c.made × ((z : Reply) → MayReturn a y z → x ≡ Some z → c.seen ≡ true))
 
 abbrev pub Goes : ℕ → Stage → Turn → Call → Type 0
-Goes m (Calling k made asleep) turn c = k.mutex ≡ m → HasCome made (reply_of turn) c
+Goes m (Calling k made asleep) turn c = k.mutex ≡ m → HasCome k.operation made (reply_of turn) c
 Goes m stage turn c = Unit {0}
 
 -- a lock that will be told that its time limit came, and has had no point, has seen another owner, if there was one

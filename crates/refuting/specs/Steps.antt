@@ -13,7 +13,7 @@ use Rattle.lockword.specs.declared.reply.Reply.{Reply}
 use Rattle.lockword.specs.declared.reply.Reply.TheVariants.{OK, ETIMEDOUT, EOWNERDEAD}
 use Rattle.posixmutex.specs.declared.object.Object.{Object}
 use Rattle.posixmutex.specs.declared.point.Operation.{Operation}
-use Rattle.posixmutex.specs.declared.point.Operation.TheVariants.{Death, Lock, TimedLock, Unlock, Wait}
+use Rattle.posixmutex.specs.declared.point.Operation.TheVariants.{Death, Lock, TimedLock, Unlock, Wait, TimedWait}
 use Rattle.posixmutex.specs.Objects.{Does}
 use Rattle.facts.specs.declared.fact.Begun.{Begun}
 use Rattle.facts.specs.Chances.{is_anothers}
@@ -30,16 +30,18 @@ use Rattle.refuting.specs.Turns.{call_on, turn_at}
 -- the operation of a call's next point that changes the mutex
 abbrev pub next_change : Operation → Made → Option Operation
 next_change Wait Nothing = Some Unlock
+next_change TimedWait Nothing = Some Unlock
 next_change TimedLock Nothing = Some Lock
 next_change a Nothing = Some a
 next_change a Released = Some Lock
 next_change a (Changed x) = None
 
 -- the operation of the first point by which a call is told so: a lock with a time limit is told as a lock, unless the
--- limit came
+-- limit came; a wait with one as a wait
 abbrev pub told_as : Operation → Reply → Operation
 told_as TimedLock ETIMEDOUT = TimedLock
 told_as TimedLock x = Lock
+told_as TimedWait x = Wait
 told_as a x = a
 
 -- and of one that changes nothing and tells this reply
@@ -51,11 +53,13 @@ next_look a (Changed y) x = None
 -- how far a change brings the call
 abbrev pub after_change : Operation → Made → Reply → Made
 after_change Wait Nothing x = Released
+after_change TimedWait Nothing x = Released
 after_change a m x = Changed x
 
 -- a wait releases a consistent mutex
 abbrev pub MayRelease : Operation → Made → Object → Type 0
 MayRelease Wait Nothing o = o.inconsistent ≡ false
+MayRelease TimedWait Nothing o = o.inconsistent ≡ false
 MayRelease a m o = Unit {0}
 
 -- thread t's call may change the mutex to o by a point that decides this reply

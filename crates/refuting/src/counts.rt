@@ -29,7 +29,11 @@ fn lost_by(operation: Operation, reply: Reply) -> u16
     match (operation, reply) {
         (Operation::Unlock | Operation::Death, Reply::OK) => 1,
         (Operation::Wait, Reply::OK | Reply::EOWNERDEAD | Reply::EPERM | Reply::XSTATE) => 0,
-        (Operation::Wait, _) => 1,
+        (
+            Operation::TimedWait,
+            Reply::OK | Reply::ETIMEDOUT | Reply::EOWNERDEAD | Reply::EPERM | Reply::XSTATE,
+        ) => 0,
+        (Operation::Wait | Operation::TimedWait, _) => 1,
         _ => 0,
     }
 }
@@ -42,7 +46,7 @@ fn is_at_limit(operation: Operation, reply: Reply, own: u16) -> bool
         Operation::Lock | Operation::TryLock | Operation::TimedLock => {
             (reply == Reply::XHELD) == (own >= HELD_LIMIT)
         }
-        Operation::Wait => reply != Reply::XHELD || own > HELD_LIMIT,
+        Operation::Wait | Operation::TimedWait => reply != Reply::XHELD || own > HELD_LIMIT,
         _ => true,
     }
 }

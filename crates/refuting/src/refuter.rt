@@ -3,7 +3,8 @@
 ghost use Rattle.std.specs.Prelude.{ℕ, ◌≡◌, ◌↔◌, ◌+◌, [], List, length, IfOk, IsTrue, MatchOption};
 ghost use Rattle.lockword.specs.Threads.{most_threads};
 ghost use Rattle.histories.specs.declared.entry.Entry.{Entry};
-ghost use Rattle.refuting.specs.Following.{Allows, Follows, MayReturn, Retells, Takes, renewed, told};
+ghost use Rattle.refuting.specs.Following.{Allows, Follows, MayBeTold, Retells, Takes, renewed, told};
+ghost use Rattle.facts.specs.Lives.{MayReturn};
 ghost use Rattle.refuting.specs.Steps.{IsClosed};
 ghost use Rattle.refuting.specs.Turns.{turn_at};
 ghost use Rattle.refuting.specs.Counts.{count_at};
@@ -16,6 +17,7 @@ use crate::turn::{Turn, thread_of};
 use facts::Fact;
 use histories::Entry;
 use lockword::{Reply, Tid};
+use posixmutex::Operation;
 use std::alloc::{AllocError, Global};
 
 /// What is known of all threads and of one mutex behind some lines.
@@ -30,12 +32,25 @@ pub struct Refuter {
     pub states: Vec<State>,
 }
 
+/// Whether a call may return the reply whose last point replied as the other says: a wait with a time limit may be out
+/// of time.
+fn may_return(operation: Operation, decided: Reply, reply: Reply) -> bool
+    ensures { IsTrue result ↔ MayReturn operation decided reply }
+{
+    match operation {
+        Operation::TimedWait => {
+            reply == decided || (decided == Reply::OK && reply == Reply::ETIMEDOUT)
+        }
+        _ => reply == decided,
+    }
+}
+
 /// Whether a call that has come so far may return so.
-fn returns(call: Call, reply: Reply) -> bool
-    ensures { IsTrue result ↔ MayReturn call reply }
+fn returns(operation: Operation, call: Call, reply: Reply) -> bool
+    ensures { IsTrue result ↔ MayBeTold operation call reply }
 {
     match call.made {
-        Made::Changed(decided) => decided == reply,
+        Made::Changed(decided) => may_return(operation, decided, reply),
         Made::Nothing | Made::Released => call.seen,
     }
 }
@@ -59,13 +74,17 @@ fn told(state: &State, entry: &Entry, turn: Turn, mutex: u16) -> Option<State>
     };
     match fact {
         Fact::Begin(thread, call) if call.mutex == mutex => Some(renewed(state, thread)),
-        Fact::Return(thread, reply) if turn.call_on(mutex).is_some() => {
-            if returns(state.calls[usize::from(thread.get())], reply) {
-                Some(renewed(state, thread))
-            } else {
-                None
+        Fact::Return(thread, reply) => match turn.call_on(mutex) {
+            Some(call) => {
+                let at = usize::from(thread.get());
+                if returns(call.operation, state.calls[at], reply) {
+                    Some(renewed(state, thread))
+                } else {
+                    None
+                }
             }
-        }
+            None => Some(*state),
+        },
         Fact::Kill(thread) => Some(renewed(state, thread)),
         Fact::Reap(thread) => {
             if state.object.owner == Some(thread) {

@@ -21,7 +21,7 @@ fn next_change(call: Operation, made: Made) -> Option<Operation>
 {
     match made {
         Made::Nothing => match call {
-            Operation::Wait => Some(Operation::Unlock),
+            Operation::Wait | Operation::TimedWait => Some(Operation::Unlock),
             Operation::TimedLock => Some(Operation::Lock),
             _ => Some(call),
         },
@@ -31,13 +31,14 @@ fn next_change(call: Operation, made: Made) -> Option<Operation>
 }
 
 /// The operation of the first point by which a call is told so: a lock with a time limit is told as a lock, unless the
-/// limit came.
+/// limit came; a wait with one as a wait.
 fn told_as(call: Operation, reply: Reply) -> Operation
     ensures { result ≡ told_as call reply }
 {
     match (call, reply) {
         (Operation::TimedLock, Reply::ETIMEDOUT) => Operation::TimedLock,
         (Operation::TimedLock, _) => Operation::Lock,
+        (Operation::TimedWait, _) => Operation::Wait,
         _ => call,
     }
 }
@@ -58,7 +59,7 @@ fn after_change(call: Operation, made: Made, reply: Reply) -> Made
     ensures { result ≡ after_change call made reply }
 {
     match (call, made) {
-        (Operation::Wait, Made::Nothing) => Made::Released,
+        (Operation::Wait | Operation::TimedWait, Made::Nothing) => Made::Released,
         _ => Made::Changed(reply),
     }
 }
@@ -68,7 +69,7 @@ fn may_release(call: Operation, made: Made, object: &Object) -> bool
     ensures { IsTrue result ↔ MayRelease call made object.now }
 {
     match (call, made) {
-        (Operation::Wait, Made::Nothing) => !object.inconsistent,
+        (Operation::Wait | Operation::TimedWait, Made::Nothing) => !object.inconsistent,
         _ => true,
     }
 }

@@ -18,7 +18,7 @@ use Rattle.posixmutex.proofs.Steps.{determined}
 use Rattle.mutex.specs.declared.call.Call.TheVariants.{Lock, TimedLock, TryLock, Unlock, Consistent}
 use Rattle.condvar.specs.declared.op.Op.{Op}
 use Rattle.condvar.specs.declared.op.Op.TheVariants.{OnMutex, OnCondition}
-use Rattle.condvar.specs.declared.call.CondCall.TheVariants.{Wait, Signal, Broadcast}
+use Rattle.condvar.specs.declared.call.CondCall.TheVariants.{Wait, TimedWait, Signal, Broadcast}
 use Rattle.condvar.specs.Ops.{acts_as, condition_of, mutex_of}
 use Rattle.facts.specs.Lives.{Act, Beginning}
 use Rattle.ruledwords.specs.declared.pass.Card.{Card}
@@ -154,6 +154,7 @@ replied_knows k a (OnMutex (Consistent m)) r b told = (told.saw.threads, told.sa
 replied_knows k a (OnCondition (Signal q)) r b told = (told.called.saw.threads, told.called.saw.knows)
 replied_knows k a (OnCondition (Broadcast q)) r b told = (told.called.saw.threads, told.called.saw.knows)
 replied_knows k a (OnCondition (Wait q)) r b told = ⊎_elim (λ (refused : CondEnded k q operation.Wait r a b). (refused.called.saw.threads, refused.called.saw.knows)) (λ (took : TookAgain k a q r b). (took.called.saw.threads, took.called.saw.knows)) told
+replied_knows k a (OnCondition (TimedWait q y)) r b told = ⊎_elim (λ (refused : CondEnded k q operation.Wait r a b). (refused.called.saw.threads, refused.called.saw.knows)) (λ (took : TookAgain k a q r b). (took.called.saw.threads, took.called.saw.knows)) told
 
 pub answered_knows : (k : Layout') (a : Card) (cs : List Op) (rs : List Reply) (b : Card) → Answered k a cs rs b → Onwards a b
 answered_knows k a [] [] b same = subst (Onwards a) same (onwards_self a)
@@ -354,6 +355,10 @@ module _ (k : Layout') (t : ℕ) (seen' : List (List Point)) (changes' : List (L
       (λ (refused : CondEnded k q operation.Wait r c e). one_point c e os (vs q) (mutex_of k (OnCondition (Wait q))) operation.Wait r low (λ same. absurd (cc same)) (λ same. cc same) (λ same. absurd (cc same)) by s refused.called tails)
       (λ (took : TookAgain k c q r e). took_again c e os (vs q) q (mutex_of k (OnCondition (Wait q))) r refl low s took tails)
       told
+  replied_alone c e os vs (OnCondition (TimedWait q y)) r low by s told tails = ⊎_elim
+      (λ (refused : CondEnded k q operation.Wait r c e). one_point c e os (vs q) (mutex_of k (OnCondition (TimedWait q y))) operation.Wait r low (λ same. absurd (cc same)) (λ same. cc same) (λ same. absurd (cc same)) by s refused.called tails)
+      (λ (took : TookAgain k c q r e). took_again c e os (vs q) q (mutex_of k (OnCondition (TimedWait q y))) r refl low s took tails)
+      told
 
   -- ---- all of its calls
 
@@ -388,6 +393,7 @@ module _ (k : Layout') (t : ℕ) (seen' : List (List Point)) (changes' : List (L
   never_refused c dead os (OnMutex (Unlock m)) s dies takes = absurd (cc takes)
   never_refused c dead os (OnMutex (Consistent m)) s dies takes = absurd (cc takes)
   never_refused c dead os (OnCondition (Wait q)) s dies takes = absurd (cc takes)
+  never_refused c dead os (OnCondition (TimedWait q y)) s dies takes = absurd (cc takes)
   never_refused c dead os (OnCondition (Signal q)) s dies takes = absurd (cc takes)
   never_refused c dead os (OnCondition (Broadcast q)) s dies takes = absurd (cc takes)
 

@@ -13,7 +13,7 @@ use Rattle.memorymap.specs.Layouts.{Layout', cell_place, counter_place}
 use Rattle.mutex.specs.declared.call.Call.TheVariants.{Lock, TimedLock, TryLock, Unlock, Consistent}
 use Rattle.condvar.specs.declared.op.Op.{Op}
 use Rattle.condvar.specs.declared.op.Op.TheVariants.{OnMutex, OnCondition}
-use Rattle.condvar.specs.declared.call.CondCall.TheVariants.{Wait, Signal, Broadcast}
+use Rattle.condvar.specs.declared.call.CondCall.TheVariants.{Wait, TimedWait, Signal, Broadcast}
 use Rattle.condvar.specs.Laws.{largest_counter, reply_counts}
 use Rattle.condvar.specs.Ops.{acts_as, condition_of, mutex_of}
 use Rattle.facts.specs.Lives.{Act, Beginning, Complete}
@@ -270,6 +270,13 @@ module _ (k : Layout') (t : ℕ) (changes' : List (List Change)) where
         (λ (took : TookAgain k c q r e). other_call c e vs (Some q) (mutex_at k q) 0 ((operation.Unlock, OK) ∷ (operation.Lock, r) ∷ []) mine s ahead low refl refl took.called.saw)
         told,
   )
+  replied_tallies c e vs (OnCondition (TimedWait q y)) r mine low inside s told ahead = (
+    tt,
+    ⊎_elim
+        (λ (refused : CondEnded k q operation.Wait r c e). other_call c e vs (Some q) (mutex_at k q) 0 ((operation.Wait, r) ∷ []) mine s ahead low refl refl refused.called.saw)
+        (λ (took : TookAgain k c q r e). other_call c e vs (Some q) (mutex_at k q) 0 ((operation.Unlock, OK) ∷ (operation.Lock, r) ∷ []) mine s ahead low refl refl took.called.saw)
+        told,
+  )
 
   -- ---- its death
 
@@ -333,6 +340,7 @@ module _ (k : Layout') (t : ℕ) (changes' : List (List Change)) where
   dead_tallies c dead vs (OnMutex (Unlock m)) mine low inside s dies ahead = dies_quietly c dead vs None m operation.Unlock mine s ahead low dies (plain operation.Unlock 0 ((λ p x e. e), (λ p q x e. e)) (λ x. tt) dies.acts dies.beginning) (none_counts operation.Unlock ((λ p x e. e), (λ p q x e. e)) (λ x. refl) dies.acts dies.beginning)
   dead_tallies c dead vs (OnMutex (Consistent m)) mine low inside s dies ahead = dies_quietly c dead vs None m operation.Consistent mine s ahead low dies (plain operation.Consistent 0 ((λ p x e. e), (λ p q x e. e)) (λ x. tt) dies.acts dies.beginning) (none_counts operation.Consistent ((λ p x e. e), (λ p q x e. e)) (λ x. refl) dies.acts dies.beginning)
   dead_tallies c dead vs (OnCondition (Wait q)) mine low inside s dies ahead = dies_quietly c dead vs (Some q) (mutex_at k q) operation.Wait mine s ahead low dies.died (wait_plain (vs q) dies.died.acts dies.died.beginning.0 dies.died.beginning.1 dies.died.beginning.2) (wait_counts dies.died.acts dies.died.beginning.0 dies.died.beginning.1 dies.died.beginning.2)
+  dead_tallies c dead vs (OnCondition (TimedWait q y)) mine low inside s dies ahead = dies_quietly c dead vs (Some q) (mutex_at k q) operation.Wait mine s ahead low dies.died (wait_plain (vs q) dies.died.acts dies.died.beginning.0 dies.died.beginning.1 dies.died.beginning.2) (wait_counts dies.died.acts dies.died.beginning.0 dies.died.beginning.1 dies.died.beginning.2)
   dead_tallies c dead vs (OnCondition (Signal q)) mine low inside s dies ahead = dies_counting operation.Signal q c dead vs mine s ahead low (inside q refl) ((λ p x e. e), (λ p q x e. e)) signal_counts refl (λ v x. x) (λ x. x) (λ x. x) dies
   dead_tallies c dead vs (OnCondition (Broadcast q)) mine low inside s dies ahead = dies_counting operation.Broadcast q c dead vs mine s ahead low (inside q refl) ((λ p x e. e), (λ p q x e. e)) broadcast_counts refl (λ v x. x) (λ x. x) (λ x. x) dies
 

@@ -5,7 +5,7 @@ use Rattle.lockword.specs.declared.reply.Reply.{Reply}
 use Rattle.lockword.specs.declared.reply.Reply.TheVariants.{OK, EPERM, EBUSY, EINVAL, EDEADLK, ETIMEDOUT, EOWNERDEAD, ENOTRECOVERABLE, XRACED, XHELD, XFULL, XSTATE}
 use Rattle.posixmutex.specs.declared.object.Object.{Object}
 use Rattle.posixmutex.specs.declared.point.Operation.{Operation}
-use Rattle.posixmutex.specs.declared.point.Operation.TheVariants.{Lock, TryLock, TimedLock, Unlock, Consistent, Wait, Signal, Broadcast, Death, Reinit}
+use Rattle.posixmutex.specs.declared.point.Operation.TheVariants.{Lock, TryLock, TimedLock, Unlock, Consistent, Wait, TimedWait, Signal, Broadcast, Death, Reinit}
 use Rattle.posixmutex.proofs.Steps.{determined}
 use Rattle.posixmutex.specs.Objects.{held_limit, acquires, Does, freed, owned_by, Permits}
 use Rattle.condvar.specs.Laws.{largest_counter}
@@ -108,6 +108,7 @@ step_answer h t v o n TimedLock r sound alive won by does =
 step_answer h t v o n Unlock r sound alive won by does = permits_answer h t v o n Unlock r (λ takes. absurd (cc takes)) sound alive (λ same. won) by does
 step_answer h t v o n Consistent r sound alive won by does = permits_answer h t v o n Consistent r (λ takes. absurd (cc takes)) sound alive (λ same. won) by does
 step_answer h t v o n Wait r sound alive won by does = permits_answer h t v o n Wait r (λ takes. absurd (cc takes)) sound alive (λ same. won) by does
+step_answer h t v o n TimedWait r sound alive won by does = absurd does
 step_answer h t v o n Signal r sound alive won by does = permits_answer h t v o n Signal r (λ takes. absurd (cc takes)) sound alive (λ same. won) by does
 step_answer h t v o n Broadcast r sound alive won by does = permits_answer h t v o n Broadcast r (λ takes. absurd (cc takes)) sound alive (λ same. won) by does
 step_answer h t v o n Reinit r sound alive won by does = permits_answer h t v o n Reinit r (λ takes. absurd (cc takes)) sound alive (λ same. won) by does

@@ -13,7 +13,7 @@ use Rattle.posixmutex.specs.Objects.{acquires}
 use Rattle.facts.specs.Lives.{Act, Beginning, Complete}
 use Rattle.condvar.specs.declared.op.Op.{Op}
 use Rattle.condvar.specs.declared.op.Op.TheVariants.{OnMutex, OnCondition}
-use Rattle.condvar.specs.declared.call.CondCall.TheVariants.{Wait, Signal, Broadcast}
+use Rattle.condvar.specs.declared.call.CondCall.TheVariants.{Wait, TimedWait, Signal, Broadcast}
 use Rattle.condvar.specs.Ops.{acts_as, mutex_of}
 use Rattle.mutex.specs.declared.call.Call.TheVariants.{Lock, TimedLock, TryLock, Unlock, Consistent}
 use Rattle.ruledwords.specs.declared.pass.Card.{Card}
@@ -66,6 +66,10 @@ replied_adds k a (OnMutex (Consistent m)) r b p t = called_adds a b (cell_place 
 replied_adds k a (OnCondition (Signal q)) r b p t = called_adds a b (cell_at k q) p operation.Signal r ((operation.Signal, r) ∷ []) refl t.called
 replied_adds k a (OnCondition (Broadcast q)) r b p t = called_adds a b (cell_at k q) p operation.Broadcast r ((operation.Broadcast, r) ∷ []) refl t.called
 replied_adds k a (OnCondition (Wait q)) r b p t = ⊎_elim
+    (λ (refused : CondEnded k q operation.Wait r a b). called_adds a b (cell_at k q) p operation.Wait r ((operation.Wait, r) ∷ []) refl refused.called)
+    (λ (took : TookAgain k a q r b). called_adds a b (cell_at k q) p operation.Wait r ((operation.Unlock, OK) ∷ (operation.Lock, r) ∷ []) (refl, refl) took.called)
+    t
+replied_adds k a (OnCondition (TimedWait q y)) r b p t = ⊎_elim
     (λ (refused : CondEnded k q operation.Wait r a b). called_adds a b (cell_at k q) p operation.Wait r ((operation.Wait, r) ∷ []) refl refused.called)
     (λ (took : TookAgain k a q r b). called_adds a b (cell_at k q) p operation.Wait r ((operation.Unlock, OK) ∷ (operation.Lock, r) ∷ []) (refl, refl) took.called)
     t
@@ -187,6 +191,10 @@ replied_grew k a (OnMutex (Consistent m)) r b p t = saw_grew a b (cell_place k m
 replied_grew k a (OnCondition (Signal q)) r b p t = saw_grew a b (cell_at k q) p ((operation.Signal, r) ∷ []) t.called.saw
 replied_grew k a (OnCondition (Broadcast q)) r b p t = saw_grew a b (cell_at k q) p ((operation.Broadcast, r) ∷ []) t.called.saw
 replied_grew k a (OnCondition (Wait q)) r b p t = ⊎_elim
+    (λ (refused : CondEnded k q operation.Wait r a b). saw_grew a b (cell_at k q) p ((operation.Wait, r) ∷ []) refused.called.saw)
+    (λ (took : TookAgain k a q r b). saw_grew a b (cell_at k q) p ((operation.Unlock, OK) ∷ (operation.Lock, r) ∷ []) took.called.saw)
+    t
+replied_grew k a (OnCondition (TimedWait q y)) r b p t = ⊎_elim
     (λ (refused : CondEnded k q operation.Wait r a b). saw_grew a b (cell_at k q) p ((operation.Wait, r) ∷ []) refused.called.saw)
     (λ (took : TookAgain k a q r b). saw_grew a b (cell_at k q) p ((operation.Unlock, OK) ∷ (operation.Lock, r) ∷ []) took.called.saw)
     t

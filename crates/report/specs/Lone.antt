@@ -18,8 +18,8 @@ use Rattle.lockword.specs.declared.reply.Reply.TheVariants.{OK, EPERM, EBUSY, EI
 use Rattle.lockword.specs.declared.reply.Reply.TheVariants.{ENOTRECOVERABLE, XRACED, XHELD, XFULL, XSTATE}
 use Rattle.posixmutex.specs.declared.object.Object.{Object}
 use Rattle.posixmutex.specs.declared.point.Operation.{Operation}
-use Rattle.posixmutex.specs.declared.point.Operation.TheVariants.{Lock, TryLock, TimedLock, Unlock, Consistent, Wait}
-use Rattle.posixmutex.specs.declared.point.Operation.TheVariants.{Signal, Broadcast, Death, Reinit}
+use Rattle.posixmutex.specs.declared.point.Operation.TheVariants.{Lock, TryLock, TimedLock, Unlock, Consistent}
+use Rattle.posixmutex.specs.declared.point.Operation.TheVariants.{Wait, TimedWait, Signal, Broadcast, Death, Reinit}
 use Rattle.posixmutex.specs.Histories.{is_thread, held_by}
 use Rattle.memorymap.specs.Layouts.{Layout', cell_place}
 use Rattle.posixmutex.specs.Objects.{acquires, held_limit, bereaved, stepped, Does, Run}
@@ -55,8 +55,8 @@ counting v = if v == largest_counter then XFULL else OK
 -- the answer to thread t, which holds so many mutexes, of a call of this operation on a mutex that is o, and on a
 -- condition variable whose counter is v, if on one. None: it isn't answered, as a lock of a mutex that another thread
 -- owns sleeps for good. A wait that isn't refused sleeps for good too, as nobody signals; if it is answered, it has
--- taken the mutex again that it released. A reinit is no call of theirs, nor is a lock with a time limit; one whose
--- limit doesn't come is a lock. (A trylock never gives up, as nobody else changes the cell)
+-- taken the mutex again that it released. A reinit is no call of theirs, nor is a lock or a wait with a time limit; one
+-- whose limit doesn't come is a lock, or a wait. (A trylock never gives up, as nobody else changes the cell)
 abbrev pub answer : ℕ → ℕ → ℕ → Operation → Object → Option Reply
 answer held t v Lock o = taking t (nat_le held_limit held) o.unusable o.owner o.inconsistent (Some EDEADLK) None
 answer held t v TryLock o =
@@ -66,6 +66,7 @@ answer held t v Unlock o = by_owner t o.owner (Some EPERM) (Some OK) (Some EPERM
 answer held t v Consistent o =
     by_owner t o.owner (Some EPERM) (Some (if o.inconsistent then OK else EINVAL)) (Some EPERM)
 answer held t v Wait o = by_owner t o.owner (Some EPERM) (Some (if o.inconsistent then XSTATE else OK)) (Some EPERM)
+answer held t v TimedWait o = None
 answer held t v Signal o = by_owner t o.owner (Some EPERM) (Some (counting v)) (Some EPERM)
 answer held t v Broadcast o = by_owner t o.owner (Some EPERM) (Some (counting v)) (Some EPERM)
 answer held t v Death o = None

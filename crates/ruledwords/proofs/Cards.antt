@@ -5,7 +5,6 @@ use native.Mathlib.Decide.{ℕ_discrete}
 use Rattle.lockword.specs.declared.reply.Reply.{Reply}
 use Rattle.posixmutex.specs.declared.object.Object.{Object}
 use Rattle.posixmutex.specs.declared.point.Operation.{Operation}
-use Rattle.posixmutex.specs.declared.point.Operation.TheVariants as operation
 use Rattle.posixmutex.specs.declared.point.Point.{Point}
 use Rattle.memorymap.specs.Layouts.{Layout', IsLayout, base_of, cell_place}
 use Rattle.mutex.proofs.Addresses.{same_place}
@@ -103,13 +102,9 @@ saw_more c p d op r o e called sees more none = record {
   go (Some x) grows = (at d.seen p ++ sees.between, subst (λ (t : ℕ). at e.seen p ≡ (at d.seen p ++ sees.between) ++ told t p op (Some x)) was.thread grows)
 
 -- a thread that dies in a call has made its point, or not yet
-complete_one : (op : Operation) (x : Reply) → Complete op ((op, x) ∷ []) x
-complete_one operation.TimedLock x = inl refl
-complete_one op x = refl
-
-pub dies : (c : Card) (p : ℕ) (op : Operation) (r : Option Reply) (d : Card) → Called c p (acts op r) d → Died c p op d
-dies c p op None d called = record { acts = []; beginning = ((op, Rattle.lockword.specs.declared.reply.Reply.TheVariants.OK) ∷ [], Rattle.lockword.specs.declared.reply.Reply.TheVariants.OK, complete_one op _); saw = called.saw }
-dies c p op (Some x) d called = record { acts = (op, x) ∷ []; beginning = ([], x, complete_one op x); saw = called.saw }
+pub dies : (c : Card) (p : ℕ) (op : Operation) (r : Option Reply) (d : Card) → ((x : Reply) → Complete op ((op, x) ∷ []) x) → Called c p (acts op r) d → Died c p op d
+dies c p op None d complete called = record { acts = []; beginning = ((op, Rattle.lockword.specs.declared.reply.Reply.TheVariants.OK) ∷ [], Rattle.lockword.specs.declared.reply.Reply.TheVariants.OK, complete _); saw = called.saw }
+dies c p op (Some x) d complete called = record { acts = (op, x) ∷ []; beginning = ([], x, complete x); saw = called.saw }
 
 -- ---- what a look notes
 

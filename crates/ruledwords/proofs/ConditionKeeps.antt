@@ -14,7 +14,7 @@ use Rattle.mutex.specs.Whole.{retaking}
 use Rattle.condvar.specs.declared.call.CondCall.{CondCall}
 use Rattle.condvar.specs.declared.call.CondCall.TheVariants as call
 use Rattle.condvar.specs.declared.phase.CondPhase.TheVariants as condition
-use Rattle.condvar.specs.Calls.{condition_of, operation_of}
+use Rattle.condvar.specs.Calls.{acts_as, condition_of}
 use Rattle.condvar.specs.Standings.{CondWhole}
 use Rattle.condvar.specs.Whole.{begins, cond_access, cond_led, cond_moved, IsUnderWay}
 use Rattle.ruledwords.specs.declared.pass.Card.{Card}
@@ -42,10 +42,10 @@ use Rattle.ruledwords.proofs.Standing.{begins as stands_begun}
 
 -- where it stands, and what its pass has seen
 abbrev pub CondStandsIn : Words → Pass Live → CondCall → CondWhole → Card → Type 0
-CondStandsIn w a cl p d = (condition_at (layout_of w) p ≡ condition_of cl) × CondStands (layout_of w) (condition_of cl) (operation_of cl) (card a) (cond_row_in p.phase) d
+CondStandsIn w a cl p d = (condition_at (layout_of w) p ≡ condition_of cl) × CondStands (layout_of w) (condition_of cl) (acts_as cl) (card a) (cond_row_in p.phase) d
 
 abbrev pub CondHasEnded : Words → Pass Live → CondCall → Reply → Card → Type 0
-CondHasEnded w a cl x d = CondEnded (layout_of w) (condition_of cl) (operation_of cl) x (card a) d
+CondHasEnded w a cl x d = CondEnded (layout_of w) (condition_of cl) (acts_as cl) x (card a) d
 
 module _ (w : Words) (r : CondRunning) (of : IsCondRunningOf w r) where
   abbrev k : Layout'
@@ -61,20 +61,20 @@ module _ (w : Words) (r : CondRunning) (of : IsCondRunningOf w r) where
   in_layout = of_mutex k (condition_at k p) of.0.1.layout of.1.on.inside
 
   module _ (a : Pass Live) (cl : CondCall) (u : IsCondUnderWay w a cl r) where
-    stands : CondStands k (condition_at k p) (operation_of cl) (card a) (cond_row_in p.phase) c
-    stands = subst (λ (z : ℕ). CondStands k z (operation_of cl) (card a) (cond_row_in p.phase) c) (sym u.1) u.2
+    stands : CondStands k (condition_at k p) (acts_as cl) (card a) (cond_row_in p.phase) c
+    stands = subst (λ (z : ℕ). CondStands k z (acts_as cl) (card a) (cond_row_in p.phase) c) (sym u.1) u.2
 
-    goes_on : (p' : CondWhole) (o : _) (d : Card) → p' ≡ cond_moved p o → CondStands k (condition_at k p) (operation_of cl) (card a) (cond_row_in o.phase) d → CondStandsIn w a cl p' d
-    goes_on p' o d to s = subst (λ (z : CondWhole). CondStandsIn w a cl z d) (sym to) (u.1, subst (λ (z : ℕ). CondStands k z (operation_of cl) (card a) (cond_row_in o.phase) d) u.1 s)
+    goes_on : (p' : CondWhole) (o : _) (d : Card) → p' ≡ cond_moved p o → CondStands k (condition_at k p) (acts_as cl) (card a) (cond_row_in o.phase) d → CondStandsIn w a cl p' d
+    goes_on p' o d to s = subst (λ (z : CondWhole). CondStandsIn w a cl z d) (sym to) (u.1, subst (λ (z : ℕ). CondStands k z (acts_as cl) (card a) (cond_row_in o.phase) d) u.1 s)
 
     -- a step
     module _ (one : IsCondStep (cond_access_in r)) (s : Seat (Unit {0}) (List Card)) (n : ℕ) (finds : FindsCondWord w r.pass.seat s r.program n) (x : Answer) (is_answer : x ≡ answer_at (cond_access p) n) where
-      outcome : Outcome k p.head p.entry p.cell p.counter p.thread (operation_of cl) (card a) (card_of s.me.0) (cond_led p x)
-      outcome = subst (λ (y : Answer). Outcome k p.head p.entry p.cell p.counter p.thread (operation_of cl) (card a) (card_of s.me.0) (cond_led p y)) (sym is_answer)
+      outcome : Outcome k p.head p.entry p.cell p.counter p.thread (acts_as cl) (card a) (card_of s.me.0) (cond_led p x)
+      outcome = subst (λ (y : Answer). Outcome k p.head p.entry p.cell p.counter p.thread (acts_as cl) (card a) (card_of s.me.0) (cond_led p y)) (sym is_answer)
           (step_stands k p.head p.entry p.cell p.counter p.thread (card a) c r.mine of.0.1.first in_layout
           (λ seen ready. release_ready k p.head p.entry p.cell p.counter p.thread c of.0.1 (on w r of) (addressed w r of) (few w r of) seen ready)
           (λ unlink seen call. unlinks_on k p.head p.entry p.cell p.counter p.thread c of.0.1 (on w r of) (addressed w r of) (few w r of) unlink seen call.list)
-          (operation_of cl) p.phase r.there of.1 one n (card_of s.me.0) finds.2 stands)
+          (acts_as cl) p.phase r.there of.1 one n (card_of s.me.0) finds.2 stands)
 
       pub keeps_goes : IsUnderWay (cond_led p x).phase → (p' : CondWhole) → p' ≡ cond_moved p (cond_led p x) → (b : Pass Live) → card b ≡ card_of s.me.0 → CondStandsIn w a cl p' (card b)
       keeps_goes under p' to b is =
@@ -82,18 +82,18 @@ module _ (w : Words) (r : CondRunning) (of : IsCondRunningOf w r) where
           subst (CondStandsIn w a cl p') (sym is) (goes_on p' (cond_led p x) (card_of s.me.0) to (outcome.goes there))
 
       pub keeps_lives : (y : Reply) → (cond_led p x).phase ≡ condition.Ended y → (b : Pass Live) → card b ≡ card_of s.me.0 → CondHasEnded w a cl y (card b)
-      keeps_lives y ended b is = subst (CondHasEnded w a cl y) (sym is) (subst (λ (z : ℕ). CondEnded k z (operation_of cl) y (card a) (card_of s.me.0)) u.1 (outcome.ends y ended))
+      keeps_lives y ended b is = subst (CondHasEnded w a cl y) (sym is) (subst (λ (z : ℕ). CondEnded k z (acts_as cl) y (card a) (card_of s.me.0)) u.1 (outcome.ends y ended))
 
     -- a section
     module _ (x : Answer) (fits : IsCondAnswerOf (cond_access_in r) x) where
-      answered : SectionOutcome k p.head p.entry p.cell p.counter p.thread (card a) c r.mine of.0.1.first in_layout (operation_of cl) (cond_led p x)
-      answered = section_stands k p.head p.entry p.cell p.counter p.thread (card a) c r.mine of.0.1.first in_layout (operation_of cl) p.phase r.there of.1 x fits stands
+      answered : SectionOutcome k p.head p.entry p.cell p.counter p.thread (card a) c r.mine of.0.1.first in_layout (acts_as cl) (cond_led p x)
+      answered = section_stands k p.head p.entry p.cell p.counter p.thread (card a) c r.mine of.0.1.first in_layout (acts_as cl) p.phase r.there of.1 x fits stands
 
       pub keeps_answered : (p' : CondWhole) → p' ≡ cond_moved p (cond_led p x) → IsAtCondition p'.phase → CondStandsIn w a cl p' c
       keeps_answered p' to there = goes_on p' (cond_led p x) c to (answered.outcome.goes (subst (λ (z : CondWhole). IsAtCondition z.phase) to there))
 
       pub ends_answered : (y : Reply) → (cond_led p x).phase ≡ condition.Ended y → CondHasEnded w a cl y c
-      ends_answered y ended = subst (λ (z : ℕ). CondEnded k z (operation_of cl) y (card a) c) u.1 (answered.outcome.ends y ended)
+      ends_answered y ended = subst (λ (z : ℕ). CondEnded k z (acts_as cl) y (card a) c) u.1 (answered.outcome.ends y ended)
 
       pub releases_answered : (l : Whole) → (cond_led p x).phase ≡ condition.Locking l → HasReleased w a cl r.pass
       releases_answered l locks =
@@ -109,16 +109,17 @@ module _ (w : Words) (r : CondRunning) (of : IsCondRunningOf w r) where
           ((in_layout, of.1.on.cell), stands_begun operation.Lock (cell_place k (mutex_at k (condition_at k p))) c at refl refl tt)
 
     -- its thread dies
-    pub dies_here : (d : Card) → d ≡ c → DiesOn k (condition_of cl) (operation_of cl) (card a) d
-    dies_here d same = subst (DiesOn k (condition_of cl) (operation_of cl) (card a)) (sym same) record {
-      died = record { acts = cond_acts (cond_row_in p.phase); beginning = begins_acts k (condition_of cl) (operation_of cl) (card a) c (cond_row_in p.phase) u.2; saw = u.2.called.saw };
+    pub dies_here : (d : Card) → d ≡ c → DiesOn k (condition_of cl) (acts_as cl) (card a) d
+    dies_here d same = subst (DiesOn k (condition_of cl) (acts_as cl) (card a)) (sym same) record {
+      died = record { acts = cond_acts (cond_row_in p.phase); beginning = begins_acts k (condition_of cl) (acts_as cl) (card a) c (cond_row_in p.phase) u.2; saw = u.2.called.saw };
       loaded = loaded_behind (card a) c (cell_at k (condition_of cl)) (counter_place k (condition_of cl)) (cond_row_in p.phase) _ u.2.loads u.2.counts;
     }
 
 -- ---- a call begins
 
-stands_first : (k : Layout') (c : Card) (cl : CondCall) → CondStands k (condition_of cl) (operation_of cl) c (cond_row_in (begins k c.thread cl).phase) c
+stands_first : (k : Layout') (c : Card) (cl : CondCall) → CondStands k (condition_of cl) (acts_as cl) c (cond_row_in (begins k c.thread cl).phase) c
 stands_first k c (call.Wait q) = record { of = refl; called = saw_nothing c (cell_at k q); owns = tt; counts = tt; waiters = tt; usable = tt; loads = nothing_yet c (counter_place k q) }
+stands_first k c (call.TimedWait q y) = record { of = refl; called = saw_nothing c (cell_at k q); owns = tt; counts = tt; waiters = tt; usable = tt; loads = nothing_yet c (counter_place k q) }
 stands_first k c (call.Signal q) = record { of = refl; called = saw_nothing c (cell_at k q); owns = tt; counts = tt; waiters = tt; usable = tt; loads = tt }
 stands_first k c (call.Broadcast q) = record { of = refl; called = saw_nothing c (cell_at k q); owns = tt; counts = tt; waiters = tt; usable = tt; loads = tt }
 

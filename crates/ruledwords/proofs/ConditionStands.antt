@@ -364,6 +364,7 @@ module _ (k : Layout') (he en ce co t : ℕ) where
 
 one_point : (op : Operation) → Beginning op []
 one_point operation.TimedLock = ((operation.TimedLock, OK) ∷ [], OK, inl refl)
+one_point operation.TimedWait = ((operation.Wait, OK) ∷ [], OK, (refl, inl refl))
 one_point op = ((op, OK) ∷ [], OK, refl)
 
 pub begins_acts : (k : Layout') (n : ℕ) (op : Operation) (c0 c : Card) (r : CondRow) → CondStands k n op c0 r c → Beginning op (cond_acts r)

@@ -344,6 +344,12 @@ begins_so k c is alive (call.Wait q) low = let list = alive.list in record {
   list = record { inside = of_mutex k q is.layout low; knows = alive.knows; of = record { thread = refl; head = refl; entry = refl; cell = refl }; list = record { knows = (tt, tt); stands = (tt, refl); entries = list.entries; owned = list.owned; chain = list.chain; pending = list.pending } };
   ready = λ o run. tt;
 }
+begins_so k c is alive (call.TimedWait q y) low = let list = alive.list in record {
+  on = on_begun k c (call.TimedWait q y) low;
+  knows = tt;
+  list = record { inside = of_mutex k q is.layout low; knows = alive.knows; of = record { thread = refl; head = refl; entry = refl; cell = refl }; list = record { knows = (tt, tt); stands = (tt, refl); entries = list.entries; owned = list.owned; chain = list.chain; pending = list.pending } };
+  ready = λ o run. tt;
+}
 begins_so k c is alive (call.Signal q) low = let list = alive.list in record {
   on = on_begun k c (call.Signal q) low;
   knows = tt;
@@ -366,5 +372,6 @@ begun_there k t cl = tt
 
 pub begun_room : (k : Layout') (t h : ℕ) (cl : CondCall) → h ≤ held_limit → h ≤ most_behind (cond_row_in (begins k t cl).phase)
 begun_room k t h (call.Wait q) le = le
+begun_room k t h (call.TimedWait q y) le = le
 begun_room k t h (call.Signal q) le = le
 begun_room k t h (call.Broadcast q) le = le

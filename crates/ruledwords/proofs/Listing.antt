@@ -126,6 +126,7 @@ fault_never o n t operation.TimedLock permits = permits
 fault_never o n t operation.Unlock permits = permits
 fault_never o n t operation.Consistent permits = permits
 fault_never o n t operation.Wait permits = permits
+fault_never o n t operation.TimedWait permits = permits
 fault_never o n t operation.Signal permits = permits
 fault_never o n t operation.Broadcast permits = permits
 fault_never o n t operation.Death permits = permits

@@ -3,6 +3,7 @@ use Rattle.std.proofs.Common.{false, ◌≡◌, ℕ, ◌≤◌, None, Ok, [], �
 use Rattle.std.specs.Prelude.{◌&&◌, nat_le}
 use Rattle.std.proofs.lemmas.Bool.Decides.{nat_tests}
 use Rattle.lockword.specs.declared.reply.Reply.{Reply}
+use Rattle.facts.specs.Lives.{Complete}
 use Rattle.lockword.specs.declared.reply.Reply.TheVariants.{XRACED}
 use Rattle.stepprograms.specs.declared.access.Answer.{Answer}
 use Rattle.posixmutex.specs.declared.point.Operation.TheVariants as operation
@@ -167,8 +168,16 @@ module _ (w : Words) (a : Pass Live) (call : Call) (r : Running) (u : IsUnderWay
       let end : Standing = moved z (led z x) in
       (called (acts_as call) (first_row call) place (card a) end (card r.pass) y s (ap decided is), raced_at call place (card a) end (card r.pass) y s is, s.knows)
 
+-- one point is all of a call on a mutex
+one_point : (c : Call) (x : Reply) → Complete (acts_as c) ((acts_as c, x) ∷ []) x
+one_point (Lock m) x = refl
+one_point (TryLock m) x = refl
+one_point (TimedLock m) x = refl
+one_point (Unlock m) x = refl
+one_point (Consistent m) x = refl
+
 -- a thread that dies in it
 pub died_in : (w : Words) (a : Pass Live) (call : Call) (r : Running) (d : Card) → IsUnderWay w a call r → d ≡ card r.pass → Died (card a) (cell_place (layout_of w) (mutex_of call)) (acts_as call) d × KnowsMoreAt (card a) (cell_place (layout_of w) (mutex_of call)) d
 died_in w a call r d u same =
     subst (λ (z : Card). Died (card a) (cell_place (layout_of w) (mutex_of call)) (acts_as call) z × KnowsMoreAt (card a) (cell_place (layout_of w) (mutex_of call)) z) (sym same)
-    (dies (card a) (cell_place (layout_of w) (mutex_of call)) (acts_as call) (decided (running_program r).row) (card r.pass) u.2.called, u.2.knows)
+    (dies (card a) (cell_place (layout_of w) (mutex_of call)) (acts_as call) (decided (running_program r).row) (card r.pass) (one_point call) u.2.called, u.2.knows)

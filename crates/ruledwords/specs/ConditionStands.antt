@@ -30,7 +30,7 @@ use Rattle.condvar.specs.declared.row.CondRow.{CondRow}
 use Rattle.condvar.specs.declared.row.CondRow.TheVariants as cond
 use Rattle.condvar.specs.declared.signal.SignalRow.TheVariants as signal
 use Rattle.condvar.specs.declared.wait.WaitRow.TheVariants as wait
-use Rattle.condvar.specs.Calls.{condition_of, operation_of}
+use Rattle.condvar.specs.Calls.{acts_as, condition_of}
 use Rattle.condvar.specs.Laws.{largest_counter, IsOf}
 use Rattle.ruledwords.specs.declared.pass.Card.{Card}
 use Rattle.ruledwords.specs.declared.turn.CondRunning.{CondRunning}
@@ -153,13 +153,13 @@ pub record CondEnded (k : Layout') (q : ℕ) (op : Operation) (x : Reply) (c d :
 abbrev pub IsCondUnderWay : Words → Pass Live → CondCall → CondRunning → Type 0
 IsCondUnderWay w a c r =
     IsCondRunningOf w r × (condition_at (layout_of w) (cond_call r) ≡ condition_of c)
-    × CondStands (layout_of w) (condition_of c) (operation_of c) (card a) (cond_row_in (cond_call r).phase)
+    × CondStands (layout_of w) (condition_of c) (acts_as c) (card a) (cond_row_in (cond_call r).phase)
     (card (cond_pass r))
 
 -- a wait has released its mutex, which is usable then, and takes it by a lock that begins now: of the two points the
 -- first is the last that its thread has seen. It has loaded the counter of its own condition variable
 pub record HasReleased (w : Words) (a : Pass Live) (c : CondCall) (b : Pass Live) : Type 0 where
-  pub of : operation_of c ≡ operation.Wait
+  pub of : acts_as c ≡ operation.Wait
   pub called : Called (card a) (cell_at (layout_of w) (condition_of c)) ((operation.Unlock, OK) ∷ []) (card b)
   pub owns : owns_in (layout_of w) (card a) (mutex_at (layout_of w) (condition_of c)) ≡ true
   pub usable : LeftUsable (layout_of w) (condition_of c) (card b)
@@ -171,7 +171,7 @@ CondGoesOn w a c (Goes r) = IsCondUnderWay w a c r
 CondGoesOn w a c (Locks r) = HasReleased w a c (running_pass r)
     × IsUnderWay w (running_pass r) (call.Lock (mutex_at (layout_of w) (condition_of c))) r
 CondGoesOn w a c (Lives b x) =
-    IsLive w b × CondEnded (layout_of w) (condition_of c) (operation_of c) x (card a) (card b)
+    IsLive w b × CondEnded (layout_of w) (condition_of c) (acts_as c) x (card a) (card b)
 
 -- wherever the call began, it goes on
 abbrev pub CondKeeps : Words → CondRunning → CondTurn → Type 0
@@ -194,4 +194,4 @@ pub record DiesOn (k : Layout') (q : ℕ) (op : Operation) (c d : Card) : Type 0
 
 -- its thread died in it
 abbrev pub HasDiedInCondition : Words → Pass Live → CondCall → Pass Dead → Type 0
-HasDiedInCondition w a c d = IsDying w d × DiesOn (layout_of w) (condition_of c) (operation_of c) (card a) (card d)
+HasDiedInCondition w a c d = IsDying w d × DiesOn (layout_of w) (condition_of c) (acts_as c) (card a) (card d)

@@ -180,7 +180,8 @@ note_moved t w (Began u c None) once k = (tt, tt)
 note_moved t w (Began u c (Some x)) once k = (tt, (tt, (tt, tt)))
 note_moved t w (Killed u) once k = (tt, tt)
 note_moved t w (Left u) once k = (tt, tt)
-note_moved t w (Expired u m) once k = (tt, (tt, tt))
+note_moved t w (Expired u (Mutex m)) once k = (tt, (tt, tt))
+note_moved t w (Expired u (Condition c)) once k = (tt, tt)
 note_moved t w (Renewed u) once k = (tt, tt)
 note_moved t w (Reinited u j) once k = (tt, (tt, (tt, tt)))
 note_moved t w (Recounted c) once k = tt
@@ -203,6 +204,7 @@ event_once s e inv queued =
     (λ u first most alive. tt)
     (λ u first most asleep. tt)
     (λ u k p first most is asleep may. tt)
+    (λ u k x p first most is there. tt)
     (λ u o p first most is awake trims. tt)
     (λ u first most gone. tt)
     (λ u j may. tt)
@@ -221,6 +223,7 @@ none_moved s e t u m =
     (λ v first most alive is h. absurd cc)
     (λ v first most asleep is h. absurd cc)
     (λ v k p first most at asleep may is h. absurd cc)
+    (λ v k y p first most at there is h. absurd cc)
     (λ v o p first most at awake trims is h. absurd cc)
     (λ v first most gone is h. absurd cc)
     (λ v j may is h. absurd cc)
@@ -456,7 +459,8 @@ note_few (Began u c None) = record { own_few = omega arith; slept_few = omega ar
 note_few (Began u c (Some x)) = record { own_few = omega arith; slept_few = omega arith }
 note_few (Killed u) = record { own_few = omega arith; slept_few = omega arith }
 note_few (Left u) = record { own_few = omega arith; slept_few = omega arith }
-note_few (Expired u m) = record { own_few = omega arith; slept_few = omega arith }
+note_few (Expired u (Mutex m)) = record { own_few = omega arith; slept_few = omega arith }
+note_few (Expired u (Condition c)) = record { own_few = omega arith; slept_few = omega arith }
 note_few (Renewed u) = record { own_few = omega arith; slept_few = omega arith }
 note_few (Reinited u j) = record { own_few = omega arith; slept_few = omega arith }
 note_few (Recounted c) = record { own_few = omega arith; slept_few = omega arith }

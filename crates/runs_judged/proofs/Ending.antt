@@ -10,6 +10,7 @@ use Rattle.posixmutex.specs.declared.point.Decision.{Decision}
 use Rattle.memorymap.specs.Layouts.{Layout', IsLayout}
 use Rattle.posixmutex.specs.Histories.{Legal, opening}
 use Rattle.facts.specs.declared.fact.Queue.{Queue}
+use Rattle.facts.specs.declared.fact.Queue.TheVariants.{Mutex, Condition}
 use Rattle.facts.specs.declared.fact.Fact.{Fact}
 use Rattle.facts.specs.declared.fact.Fact.TheVariants.{Point, Death, Wake, Reap}
 use Rattle.facts.specs.declared.fact.Line.{Line}
@@ -33,7 +34,7 @@ use Rattle.protocol.specs.declared.note.Note.TheVariants.{Nothing, Began, Steppe
 use Rattle.protocol.specs.declared.thread.Thread.{Thread}
 use Rattle.protocol.specs.declared.thread.Stage.TheVariants.{Reaped}
 use Rattle.protocol.specs.Notes.{facts_of, death_facts, reap_facts, line_of, lines_from}
-use Rattle.protocol.specs.Machine.{State, After, start, begun, killed, departed, lapsed, renewed, reinited, reslept, walked, has_ended, stage_walked, happens, run, notes, led, decision}
+use Rattle.protocol.specs.Machine.{State, After, start, begun, killed, departed, lapsed, overslept, renewed, reinited, reslept, walked, has_ended, stage_walked, happens, run, notes, led, decision}
 use Rattle.protocol.specs.Headline.{points_of, points_among, facts_among, seen}
 use Rattle.protocol.specs.Sleepers.{IsAmong}
 use Rattle.protocol.proofs.Puts.{put-same}
@@ -170,6 +171,10 @@ module _ (s : State) (t : ℕ) where
   lapsed_rightly u k p (inr (inl f)) = absurd cc
   lapsed_rightly u k p (inr (inr h)) = absurd h
 
+  overslept_rightly : (u k : ℕ) (p : Whole) → ReapsRightly (overslept s u (s.threads u).held k p)
+  overslept_rightly u k p (inl f) = absurd cc
+  overslept_rightly u k p (inr h) = absurd h
+
   renewed_rightly : (u : ℕ) → ReapsRightly (renewed s u)
   renewed_rightly u (inl f) = absurd cc
   renewed_rightly u (inr h) = absurd h
@@ -192,6 +197,7 @@ module _ (s : State) (t : ℕ) where
       (λ u first most alive. killed_rightly u)
       (λ u first most asleep. left_rightly u)
       (λ u k p first most is asleep may. lapsed_rightly u k p)
+      (λ u k x p first most is there. overslept_rightly u k p)
       (λ u o p first most is awake trims h. let g = led o p (whole_led p (Trimmed false)) in absurd (step_reaps_none t u (mutex_of s.layout o) (decision u (mutex_of s.layout o) g.operation g.point) None [] [] g.returned h))
       (λ u first most gone. renewed_rightly u)
       (λ u j may. reinited_rightly u j 0)
@@ -209,7 +215,8 @@ note_reaped k i earlier (Began u c None) owns = (tt, tt)
 note_reaped k i earlier (Began u c (Some x)) owns = (tt, (tt, (tt, tt)))
 note_reaped k i earlier (Killed u) owns = (tt, tt)
 note_reaped k i earlier (Left u) owns = (tt, tt)
-note_reaped k i earlier (Expired u m) owns = (tt, (tt, tt))
+note_reaped k i earlier (Expired u (Mutex m)) owns = (tt, (tt, tt))
+note_reaped k i earlier (Expired u (Condition m)) owns = (tt, tt)
 note_reaped k i earlier (Renewed u) owns = (tt, tt)
 note_reaped k i earlier (Reinited u j) owns = (tt, (tt, (tt, tt)))
 note_reaped k i earlier (Recounted c) owns = tt

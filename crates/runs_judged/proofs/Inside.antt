@@ -33,7 +33,7 @@ use Rattle.protocol.specs.declared.note.Note.{Note}
 use Rattle.protocol.specs.declared.note.Note.TheVariants.{Stepped, Walked}
 use Rattle.protocol.specs.Notes.{facts_of, reinit_of, line_of, lines_from}
 use Rattle.protocol.specs.Ops.{begun_of, queue_place}
-use Rattle.protocol.specs.Machine.{State, After, start, begun, killed, departed, lapsed, renewed, reinited, reslept, decision, happens, run, notes, led}
+use Rattle.protocol.specs.Machine.{State, After, start, begun, killed, departed, lapsed, overslept, renewed, reinited, reslept, decision, happens, run, notes, led}
 use Rattle.protocol.specs.Headline.{facts_among, seen}
 use Rattle.protocol.specs.Sleepers.{IsAmong}
 use Rattle.protocol.specs.Applies.{IsThread, Names}
@@ -86,6 +86,10 @@ module _ (s : State) where
   lapsed_own u k p first most f (inr (inl e)) active = its_own u f first most (ap thread_of e)
   lapsed_own u k p first most f (inr (inr h)) active = absurd h
 
+  overslept_own : (u k : ℕ) (p : Whole) → OwnThreads (overslept s u (s.threads u).held k p)
+  overslept_own u k p f (inl e) active = let never : true ≡ false = ap is_passive e ∙ active in absurd cc
+  overslept_own u k p f (inr h) active = absurd h
+
   renewed_own : (u : ℕ) → 1 ≤ u → u ≤ s.layout.threads → OwnThreads (renewed s u)
   renewed_own u first most f (inl e) active = its_own u f first most (ap thread_of e)
   renewed_own u first most f (inr h) active = absurd h
@@ -134,6 +138,7 @@ module _ (s : State) where
       (λ u first most alive. killed_own u first most)
       (λ u first most asleep. left_own u)
       (λ u k p first most is asleep may. lapsed_own u k p first most)
+      (λ u k x p first most is there. overslept_own u k p)
       (λ u o p first most is awake trims. let g = led o p (whole_led p (Trimmed false)) in stepped_own u (mutex_of s.layout o) g.operation g.point None [] [] g.returned first most)
       (λ u first most gone. renewed_own u first most)
       (λ u j may. reinited_own u j 0 may.remake.first may.remake.last)
@@ -158,6 +163,7 @@ module _ (s : State) where
   names_call (OnMutex (call.Unlock m)) is names = (names_mutex s.layout (OnMutex (call.Unlock m)) is names, tt)
   names_call (OnMutex (call.Consistent m)) is names = (names_mutex s.layout (OnMutex (call.Consistent m)) is names, tt)
   names_call (OnCondition (cond_call.Wait k)) is names = (names_mutex s.layout (OnCondition (cond_call.Wait k)) is names, names)
+  names_call (OnCondition (cond_call.TimedWait k x)) is names = (names_mutex s.layout (OnCondition (cond_call.TimedWait k x)) is names, names)
   names_call (OnCondition (cond_call.Signal k)) is names = (names_mutex s.layout (OnCondition (cond_call.Signal k)) is names, names)
   names_call (OnCondition (cond_call.Broadcast k)) is names = (names_mutex s.layout (OnCondition (cond_call.Broadcast k)) is names, names)
 
@@ -203,6 +209,10 @@ module _ (s : State) where
   lapsed_inside u k p t c (inr (inl e)) = absurd cc
   lapsed_inside u k p t c (inr (inr h)) = absurd h
 
+  overslept_inside : (u k : ℕ) (p : Whole) → CallsInside (overslept s u (s.threads u).held k p)
+  overslept_inside u k p t c (inl e) = absurd cc
+  overslept_inside u k p t c (inr h) = absurd h
+
   renewed_inside : (u : ℕ) → CallsInside (renewed s u)
   renewed_inside u t c (inl e) = absurd cc
   renewed_inside u t c (inr h) = absurd h
@@ -227,6 +237,7 @@ module _ (s : State) where
       (λ u first most alive. killed_inside u)
       (λ u first most asleep. left_inside u)
       (λ u k p first most at asleep may. lapsed_inside u k p)
+      (λ u k x p first most at there. overslept_inside u k p)
       (λ u o p first most at awake trims t c h. let g = led o p (whole_led p (Trimmed false)) in absurd (step_begins_none t u (mutex_of s.layout o) c (decision u (mutex_of s.layout o) g.operation g.point) None [] [] g.returned h))
       (λ u first most gone. renewed_inside u)
       (λ u j may. reinited_inside u j 0 may.remake.inside)

@@ -1,18 +1,19 @@
 -- What is told of a thread's calls, its deaths and its renewals goes through the stages that a checker keeps of it.
-use Rattle.std.proofs.Common.{◌≡◌, ⊎_elim, ℕ, false, List, [], ◌∷◌, ◌++◌, refl, sym, ap, ◌∙◌, subst, append_assoc, append-nil}
+use Rattle.std.proofs.Common.{◌≡◌, ⊎_elim, inl, inr, ℕ, false, List, [], ◌∷◌, ◌++◌, refl, sym, ap, ◌∙◌, subst, append_assoc, append-nil}
 use Rattle.lockword.specs.declared.reply.Reply.{Reply}
 use Rattle.lockword.specs.declared.reply.Reply.TheVariants.{OK}
 use Rattle.posixmutex.specs.declared.point.Operation.{Operation}
-use Rattle.posixmutex.specs.declared.point.Operation.TheVariants.{TimedLock, Unlock, Wait}
+use Rattle.posixmutex.specs.declared.point.Operation.TheVariants.{TimedLock, Unlock, Wait, TimedWait}
 use Rattle.facts.specs.declared.fact.Begun.{Begun}
 use Rattle.facts.specs.declared.fact.Fact.{Fact}
 use Rattle.facts.specs.declared.fact.Fact.TheVariants.{Return, Kill, Reap, Renew}
-use Rattle.facts.specs.Lives.{Act, Complete, Beginning, made, Mourned, Unburied, Tells_of, Buried, Life, Rests, Returns, Stays, Cut, Dies, Lives, Last, Earlier}
+use Rattle.facts.specs.Lives.{Act, IsWait, MayReturn, Complete, Beginning, made, Mourned, Unburied, Tells_of, Buried, Life, Rests, Returns, Stays, Cut, Dies, Lives, Last, Earlier}
 use Rattle.verdict.specs.declared.stage.Made.{Made}
 use Rattle.verdict.specs.declared.stage.Made.TheVariants.{Nothing, Released, Decided}
 use Rattle.verdict.specs.declared.stage.Stage.{Stage}
 use Rattle.verdict.specs.declared.stage.Stage.TheVariants.{Resting, Calling, Dying, Reaped}
-use Rattle.verdict.specs.Stages.{May, next}
+use Rattle.verdict.specs.Misfits.{Replied}
+use Rattle.verdict.specs.Stages.{May, MayReturnNow, next}
 use Rattle.verdict.proofs.Stages.{Of, onward, may_point}
 
 -- these facts may be told, one after the other, of a thread at this stage
@@ -24,24 +25,32 @@ Runs v (f ∷ fs) = May v f × Runs (next v f) fs
 shorter : (op : Operation) (ps qs : List Act) (p : Act) → Beginning op (ps ++ p ∷ qs) → Beginning op (ps ++ p ∷ [])
 shorter op ps qs p (rest, x, all) = (qs ++ rest, x, subst (λ (zs : List Act). Complete op zs x) (append_assoc ps (p ∷ qs) rest ∙ sym (append_assoc ps (p ∷ []) (qs ++ rest))) all)
 
--- a call whose points are made has decided the reply of the last
-all_made : (op : Operation) (ps : List Act) (m : Made) (x : Reply) → Of op ps m → Complete op ps x → m ≡ Decided x
-all_made op ps Nothing x of is = absurd (subst (λ (zs : List Act). Complete op zs x) of is)
-all_made op ps Released x of is =
-    let h : Complete Wait ((Unlock, OK) ∷ []) x = subst (λ (zs : List Act). Complete Wait zs x) of.1 (subst (λ (a : Operation). Complete a ps x) of.0 is) in
+-- a wait that has released its mutex has a point to come
+unfinished : (op : Operation) (x : Reply) → IsWait op → Complete op ((Unlock, OK) ∷ []) x → ⊥
+unfinished op x (inl is) all =
+    let h : Complete Wait ((Unlock, OK) ∷ []) x = subst (λ (a : Operation). Complete a ((Unlock, OK) ∷ []) x) is all in
     let e : Unlock ≡ Wait = ap (λ (p : Act). p.0) h in
     absurd cc
-all_made op ps (Decided y) x of is = ap Decided (one_reply op ps of is)
+unfinished op x (inr is) all =
+    let h : Complete TimedWait ((Unlock, OK) ∷ []) x = subst (λ (a : Operation). Complete a ((Unlock, OK) ∷ []) x) is all in
+    let e : Unlock ≡ Wait = h.0 in
+    absurd cc
+
+-- a call whose points are made may return what is told
+all_made : (op : Operation) (ps : List Act) (m : Made) (x : Reply) → Of op ps m → Complete op ps x → MayReturnNow op m x
+all_made op ps Nothing x of is = absurd (subst (λ (zs : List Act). Complete op zs x) of is)
+all_made op ps Released x of is = absurd (unfinished op x of.0 (subst (λ (zs : List Act). Complete op zs x) of.1 is))
+all_made op ps (Decided y) x of is = by_last op ps of.1 is
   where
-    one_reply : (a : Operation) (qs : List Act) → Complete a qs y → Complete a qs x → y ≡ x
-    one_reply a [] h k = absurd h
-    one_reply TimedLock (r ∷ []) h k =
-        ⊎_elim (λ a. ⊎_elim (λ b. ap (λ (z : Act). z.1) (sym a ∙ b)) (λ b. ap (λ (z : Act). z.1) (sym a ∙ b)) k)
-        (λ a. ⊎_elim (λ b. ap (λ (z : Act). z.1) (sym a ∙ b)) (λ b. ap (λ (z : Act). z.1) (sym a ∙ b)) k) h
-    one_reply a (r ∷ []) h k = ap (λ (z : Act). z.1) (sym h ∙ k)
-    one_reply Wait (r ∷ s ∷ []) h k = ap (λ (z : Act). z.1) (sym h.1 ∙ k.1)
-    one_reply a (r ∷ s ∷ []) h k = absurd h
-    one_reply a (r ∷ s ∷ t ∷ rs) h k = absurd h
+    by_last : (a : Operation) (qs : List Act) → Replied qs y → Complete a qs x → MayReturn a y x
+    by_last a [] r k = absurd k
+    by_last TimedLock (p ∷ []) r k = ⊎_elim (λ b. sym (ap (λ (z : Act). z.1) b) ∙ r) (λ b. sym (ap (λ (z : Act). z.1) b) ∙ r) k
+    by_last TimedWait (p ∷ []) r k = subst (λ z. MayReturn TimedWait z x) r k.1
+    by_last a (p ∷ []) r k = sym (ap (λ (z : Act). z.1) k) ∙ r
+    by_last Wait (p ∷ q ∷ []) r k = sym (ap (λ (z : Act). z.1) k.1) ∙ r
+    by_last TimedWait (p ∷ q ∷ []) r k = subst (λ z. MayReturn TimedWait z x) r k.2
+    by_last a (p ∷ q ∷ []) r k = absurd k
+    by_last a (p ∷ q ∷ s ∷ rs) r k = absurd k
 
 -- the points of a call, of which some are made, and then what may come behind them
 call_runs : (t : ℕ) (c : Begun) (ps qs : List Act) (m : Made) (rest : List Fact) → Of c.operation qs m → Beginning c.operation (qs ++ ps) → ((n : Made) → Of c.operation (qs ++ ps) n → Runs (Calling c n false) rest)

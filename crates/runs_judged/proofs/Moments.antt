@@ -111,7 +111,7 @@ module _ (l : Layout') (s : State) (ns : List Note) (m : Moment l s ns) where
       go : 1 ≤ t → t ≤ s.layout.threads → is_alive (s.threads t).stage ≡ true → is_idle (s.threads t).stage ≡ false → (o : Told) → last_told t ns ≡ o → o ≡ InCall
       go first most alive busy InCall e = refl
       go first most alive busy AtRest e =
-          let noted = m.applies.happens_so (event.Begin t (OnMutex (Lock 0))) (in_range t first most, subst (λ (k : Layout'). 0 < k.mutexes) m.layout m.kept.layout.mutexes.0, e) in
+          let noted = m.applies.happens_so (event.Begin t (OnMutex (Lock 0))) (in_range t first most, subst (λ (k : Layout'). 0 < k.mutexes) m.layout m.kept.layout.mutexes.0, tt, e) in
           let not_noted : (happens s (event.Begin t (OnMutex (Lock 0)))).note ≡ Nothing = ap (λ (b : Bool). (if b then begun s t (OnMutex (Lock 0)) (first_stage s.layout t (s.threads t).held (OnMutex (Lock 0))) else nothing s).note) (rests_not _ _ _ busy) in
           let never : Nothing ≡ Began t (begun_of l (OnMutex (Lock 0))) (refusal l s t (OnMutex (Lock 0))) = sym not_noted ∙ noted in
           absurd cc

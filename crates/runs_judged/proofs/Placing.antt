@@ -7,7 +7,7 @@ use Rattle.posixmutex.specs.declared.point.Operation.{Operation}
 use Rattle.posixmutex.specs.declared.point.Decision.{Decision}
 use Rattle.memorymap.specs.Layouts.{Layout', IsLayout}
 use Rattle.facts.specs.declared.fact.Queue.{Queue}
-use Rattle.facts.specs.declared.fact.Queue.TheVariants.{Condition}
+use Rattle.facts.specs.declared.fact.Queue.TheVariants.{Condition, Mutex}
 use Rattle.facts.specs.declared.fact.Begun.{Begun}
 use Rattle.facts.specs.declared.fact.Fact.{Fact}
 use Rattle.facts.specs.declared.fact.Fact.TheVariants.{Point, Sleep, Wake, Move, Return, Kill, Renew}
@@ -177,7 +177,8 @@ module _ (t : ℕ) (o : Told) (w : Option Queue) where
   placed_note (Began u c (Some x)) k awake = (tt, ((λ is. awake _ (inr (inl refl)) is), ((λ is. k.returns x (inr (inr (inl (ap (λ (v : ℕ). Return v x) is))))), tt)))
   placed_note (Killed u) k awake = (tt, tt)
   placed_note (Left u) k awake = wakes_placed t o w (u ∷ []) k.wakes
-  placed_note (Expired u m) k awake = ((λ is. k.wakes (inl (ap Wake is))), ((λ is. ap (λ (b : Bool). if b then None else w) (eq-eqb u t is)), tt))
+  placed_note (Expired u (Condition c)) k awake = wakes_placed t o w (u ∷ []) k.wakes
+  placed_note (Expired u (Mutex m)) k awake = ((λ is. k.wakes (inl (ap Wake is))), ((λ is. ap (λ (b : Bool). if b then None else w) (eq-eqb u t is)), tt))
   placed_note (Renewed u) k awake = (tt, tt)
   placed_note (Reinited u j) k awake = (tt, ((λ is. awake _ (inr (inl refl)) is), ((λ is. k.returns OK (inr (inr (inl (ap (λ (v : ℕ). Return v OK) is))))), tt)))
   placed_note (Recounted c) k awake = tt
@@ -202,9 +203,11 @@ slept_in_call t o (Killed u) q (inl f) e = absurd cc
 slept_in_call t o (Killed u) q (inr h) e = absurd h
 slept_in_call t o (Left u) q (inl f) e = absurd cc
 slept_in_call t o (Left u) q (inr h) e = absurd h
-slept_in_call t o (Expired u m) q (inl f) e = absurd cc
-slept_in_call t o (Expired u m) q (inr (inl f)) e = absurd cc
-slept_in_call t o (Expired u m) q (inr (inr h)) e = absurd h
+slept_in_call t o (Expired u (Mutex m)) q (inl f) e = absurd cc
+slept_in_call t o (Expired u (Mutex m)) q (inr (inl f)) e = absurd cc
+slept_in_call t o (Expired u (Mutex m)) q (inr (inr h)) e = absurd h
+slept_in_call t o (Expired u (Condition c)) q (inl f) e = absurd cc
+slept_in_call t o (Expired u (Condition c)) q (inr h) e = absurd h
 slept_in_call t o (Renewed u) q (inl f) e = absurd cc
 slept_in_call t o (Renewed u) q (inr h) e = absurd h
 slept_in_call t o (Reinited u j) q (inl f) e = absurd cc
@@ -242,9 +245,11 @@ returned_rests t o (Killed u) x (inl f) = absurd cc
 returned_rests t o (Killed u) x (inr h) = absurd h
 returned_rests t o (Left u) x (inl f) = absurd cc
 returned_rests t o (Left u) x (inr h) = absurd h
-returned_rests t o (Expired u m) x (inl f) = absurd cc
-returned_rests t o (Expired u m) x (inr (inl f)) = absurd cc
-returned_rests t o (Expired u m) x (inr (inr h)) = absurd h
+returned_rests t o (Expired u (Mutex m)) x (inl f) = absurd cc
+returned_rests t o (Expired u (Mutex m)) x (inr (inl f)) = absurd cc
+returned_rests t o (Expired u (Mutex m)) x (inr (inr h)) = absurd h
+returned_rests t o (Expired u (Condition c)) x (inl f) = absurd cc
+returned_rests t o (Expired u (Condition c)) x (inr h) = absurd h
 returned_rests t o (Renewed u) x (inl f) = absurd cc
 returned_rests t o (Renewed u) x (inr h) = absurd h
 returned_rests t o (Reinited u j) x (inl f) = absurd cc
@@ -336,6 +341,7 @@ module _ (l : Layout') (s : State) (ns : List Note) (m : Moment l s ns) (t : ℕ
       (λ u first most alive d h is. died u d h)
       (λ u first most asleep d h is. left u d h)
       (λ u k p first most is asleep may. tt)
+      (λ u k x p first most is there. tt)
       (λ u o p first most is awake trims. let g = led o p (whole_led p (Trimmed false)) in stepped_awake u (mutex_of s.layout o) g.operation g.point None [] [] g.returned awake)
       (λ u first most gone d h is. anew u d h)
       (λ u j may. reinited_awake u j 0 may.remake.resting)

@@ -12,7 +12,7 @@ use Rattle.lockword.specs.declared.reply.Reply.TheVariants as reply
 use Rattle.lockword.specs.Replies.{reply_of, reply_word}
 use Rattle.lockword.proofs.Names.{replies_read_back}
 use Rattle.posixmutex.specs.declared.point.Operation.{Operation}
-use Rattle.posixmutex.specs.declared.point.Operation.TheVariants.{Lock, TryLock, TimedLock, Unlock, Consistent, Wait, Signal, Broadcast, Death, Reinit}
+use Rattle.posixmutex.specs.declared.point.Operation.TheVariants.{Lock, TryLock, TimedLock, Unlock, Consistent, Wait, TimedWait, Signal, Broadcast, Death, Reinit}
 use Rattle.posixmutex.specs.Words.{operation_of, operation_word}
 use Rattle.posixmutex.proofs.Words.{operations_read_back}
 use Rattle.lines.specs.Numbers.{is_number, within}
@@ -97,6 +97,7 @@ condition-call op h k is = let both = kept op is in (ap (λ o. o >>= of_conditio
   where
     kept : (op : Operation) → IsCallOf h op (Some k) → (of_condition op ≡ Some op) × (k < h.conditions)
     kept Wait is = (refl, is)
+    kept TimedWait is = (refl, is)
     kept Signal is = (refl, is)
     kept Broadcast is = (refl, is)
     kept op is = absurd is
@@ -111,6 +112,7 @@ call-word op is = let both = kept op is in (ap (λ o. o >>= of_call) (operation-
     kept Unlock is = (refl, refl)
     kept Consistent is = (refl, refl)
     kept Wait is = (refl, refl)
+    kept TimedWait is = (refl, refl)
     kept Signal is = (refl, refl)
     kept Broadcast is = (refl, refl)
     kept Reinit is = (refl, refl)
@@ -149,6 +151,7 @@ mutex-word op h is = absurd is
 
 condition-word : (op : Operation) (h : Head) (k : ℕ) → IsCallOf h op (Some k) → IsWord (operation_word op)
 condition-word Wait h k is = refl
+condition-word TimedWait h k is = refl
 condition-word Signal h k is = refl
 condition-word Broadcast h k is = refl
 condition-word op h k is = absurd is
@@ -160,6 +163,7 @@ operation-short TimedLock = omega arith
 operation-short Unlock = omega arith
 operation-short Consistent = omega arith
 operation-short Wait = omega arith
+operation-short TimedWait = omega arith
 operation-short Signal = omega arith
 operation-short Broadcast = omega arith
 operation-short Death = omega arith

@@ -4,8 +4,8 @@
 -- operations those that calls have. Each is one line, whatever stands behind it, and is read as what it was written of.
 use Rattle.std.specs.Prelude.{ℕ, ◌≡◌, ◌<◌, ◌≤◌, Option, Some, None, List, ◌∷◌, ◌++◌, Ok}
 use Rattle.posixmutex.specs.declared.point.Operation.{Operation}
-use Rattle.posixmutex.specs.declared.point.Operation.TheVariants.{Lock, TimedLock, TryLock, Unlock, Consistent, Wait}
-use Rattle.posixmutex.specs.declared.point.Operation.TheVariants.{Signal, Broadcast, Death, Reinit}
+use Rattle.posixmutex.specs.declared.point.Operation.TheVariants.{Lock, TimedLock, TryLock, Unlock, Consistent}
+use Rattle.posixmutex.specs.declared.point.Operation.TheVariants.{Wait, TimedWait, Signal, Broadcast, Death, Reinit}
 use Rattle.facts.specs.declared.fact.Queue.{Queue}
 use Rattle.facts.specs.declared.fact.Queue.TheVariants.{Mutex, Condition}
 use Rattle.facts.specs.declared.fact.Fact.{Fact}
@@ -33,6 +33,7 @@ IsCallOf h Unlock None = Unit {0}
 IsCallOf h Consistent None = Unit {0}
 IsCallOf h Reinit None = Unit {0}
 IsCallOf h Wait (Some k) = k < h.conditions
+IsCallOf h TimedWait (Some k) = k < h.conditions
 IsCallOf h Signal (Some k) = k < h.conditions
 IsCallOf h Broadcast (Some k) = k < h.conditions
 IsCallOf h op k = ⊥

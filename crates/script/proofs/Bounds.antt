@@ -13,7 +13,8 @@ use Rattle.condvar.specs.declared.op.Op.{Op}
 use Rattle.condvar.specs.declared.op.Op.TheVariants.{OnMutex, OnCondition}
 use Rattle.mutex.specs.declared.call.Call.TheVariants as call
 use Rattle.condvar.specs.declared.call.CondCall.TheVariants as on
-use Rattle.script.specs.Forms.{CallForm, lock, trylock, timedlock, unlock, consistent, wait, signal, broadcast, Form, silent, process, thread, member, mutex, mutexes, cond, begins, steps, kills, kills_all, goes, leaves, declines, expires, renews, reinits, remakes, recounts, spares, resleeps, repeats, calls, locks, phase, dies, form_of, of_mode, has, words_form, or_else, name_form, step_form, die_form, mutexes_form, process_form, member_form, reinit_form, remake_form, locks_form, cond_form, call_form, calling_form, is_silent, is_name, is_stem}
+use Rattle.condvar.specs.declared.call.Limit.TheVariants.{Ahead}
+use Rattle.script.specs.Forms.{CallForm, lock, trylock, timedlock, unlock, consistent, wait, timedwait, signal, broadcast, Form, silent, process, thread, member, mutex, mutexes, cond, begins, steps, kills, kills_all, goes, leaves, declines, expires, renews, reinits, remakes, recounts, spares, resleeps, repeats, calls, locks, phase, dies, form_of, of_mode, has, words_form, or_else, name_form, step_form, die_form, mutexes_form, process_form, member_form, reinit_form, remake_form, locks_form, cond_form, call_form, calling_form, is_silent, is_name, is_stem}
 use Rattle.lines.specs.Numbers.{is_number, within}
 use Rattle.lines.specs.Lines.{words_of}
 use Rattle.script.specs.Deaths.{death_by, deaths_by, death_of}
@@ -83,6 +84,7 @@ called s (timedlock m) = chain (place_of m s.mutexes) (λ j. Ok (OnMutex (call.T
 called s (unlock m) = chain (place_of m s.mutexes) (λ j. Ok (OnMutex (call.Unlock j))) (λ j. j < length s.mutexes) (Names (length s.mutexes) (length s.conditions)) (placed m s.mutexes) (λ j h. h)
 called s (consistent m) = chain (place_of m s.mutexes) (λ j. Ok (OnMutex (call.Consistent j))) (λ j. j < length s.mutexes) (Names (length s.mutexes) (length s.conditions)) (placed m s.mutexes) (λ j h. h)
 called s (wait c) = chain (place_of c (condition_names s)) (λ k. Ok (OnCondition (on.Wait k))) (λ k. k < length (condition_names s)) (Names (length s.mutexes) (length s.conditions)) (placed c (condition_names s)) (λ k h. omega (arith, h, length-map_of (λ d. d.0) s.conditions))
+called s (timedwait c) = chain (place_of c (condition_names s)) (λ k. Ok (OnCondition (on.TimedWait k Ahead))) (λ k. k < length (condition_names s)) (Names (length s.mutexes) (length s.conditions)) (placed c (condition_names s)) (λ k h. omega (arith, h, length-map_of (λ d. d.0) s.conditions))
 called s (signal c) = chain (place_of c (condition_names s)) (λ k. Ok (OnCondition (on.Signal k))) (λ k. k < length (condition_names s)) (Names (length s.mutexes) (length s.conditions)) (placed c (condition_names s)) (λ k h. omega (arith, h, length-map_of (λ d. d.0) s.conditions))
 called s (broadcast c) = chain (place_of c (condition_names s)) (λ k. Ok (OnCondition (on.Broadcast k))) (λ k. k < length (condition_names s)) (Names (length s.mutexes) (length s.conditions)) (placed c (condition_names s)) (λ k h. omega (arith, h, length-map_of (λ d. d.0) s.conditions))
 

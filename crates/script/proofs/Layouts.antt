@@ -15,7 +15,7 @@ use Rattle.protocol.specs.declared.event.Event.TheVariants.{Begin, Step, Kill, L
 use Rattle.protocol.specs.declared.thread.Stage.{Stage}
 use Rattle.protocol.specs.declared.thread.Stage.TheVariants.{Idle, Calling, AtCondition, Dying, Reaped}
 use Rattle.memorymap.specs.Layouts.{cell_place}
-use Rattle.protocol.specs.Machine.{State, After, nothing, has_thread, is_alive, is_gone, may_begin, may_reinit, may_remake, waiters_of, first_stage, begun, killed, renewed, reinited, departed, declined, expired, is_timed, lapsed, spared, may_recount, recounted, wakes_one, wakes_next, another_answers, sparing, stands_in, reslept, resleeping, is_mark, repeated, repeating, is_asleep, is_trim, sleeps, led, led_at, went, answer_of, stepped, happens, run}
+use Rattle.protocol.specs.Machine.{State, After, nothing, has_thread, is_alive, is_gone, may_begin, may_reinit, may_remake, waiters_of, first_stage, begun, killed, renewed, reinited, departed, declined, expired, is_timed, lapsed, overslept, waits_on, spared, may_recount, recounted, wakes_one, wakes_next, another_answers, sparing, stands_in, reslept, resleeping, is_mark, repeated, repeating, is_asleep, is_trim, sleeps, led, led_at, went, answer_of, stepped, happens, run}
 
 -- whichever of two states comes, both have the layout
 either : (s : State) (b : Bool) (a : After) → a.state.layout ≡ s.layout → (if b then a else nothing s).state.layout ≡ s.layout
@@ -44,7 +44,8 @@ declined_layout s t held (Calling o p) =
 declined_layout s t held g = refl
 
 expired_layout : (s : State) (t held : ℕ) (g : Stage) → (expired s t held g).state.layout ≡ s.layout
-expired_layout s t held (Calling o p) = either s (is_timed o && may_expire p.phase && sleeps s t (Calling o p)) (lapsed s t held o p) refl
+expired_layout s t held (Calling (OnMutex c) p) = either s (is_timed (OnMutex c) && may_expire p.phase && sleeps s t (Calling (OnMutex c) p)) (lapsed s t held (OnMutex c) p) refl
+expired_layout s t held (Calling (OnCondition c) p) = either s (is_timed (OnCondition c) && waits_on s t (condition_of c)) (overslept s t held (condition_of c) p) refl
 expired_layout s t held g = refl
 
 spare_layout : (s : State) (t held : ℕ) (g : Stage) → (sparing s t held g).state.layout ≡ s.layout

@@ -2,7 +2,7 @@
 use Rattle.std.proofs.Common.{◌≡◌, ℕ, ◌+◌, ◌<◌, ◌≤◌, ◌==◌, ◌||◌, Bool, false, true, not, nat_le, nat_lt, List, [], ◌∷◌, ◌++◌, length, map, Option, Some, None, Result, Ok, Err, refl, sym, ap, ◌∙◌, arith, length-append}
 use Rattle.std.specs.Option.{ok_or, is_some}
 use Rattle.std.proofs.lemmas.Bool.{le-ltb}
-use Rattle.script.specs.Forms.{CallForm, lock, trylock, timedlock, unlock, consistent, wait, signal, broadcast, Form, silent, process, thread, member, mutex, mutexes, cond, begins, steps, kills, kills_all, goes, leaves, declines, expires, renews, reinits, remakes, recounts, spares, resleeps, repeats, calls, locks, phase, dies, form_of, is_silent}
+use Rattle.script.specs.Forms.{CallForm, lock, trylock, timedlock, unlock, consistent, wait, timedwait, signal, broadcast, Form, silent, process, thread, member, mutex, mutexes, cond, begins, steps, kills, kills_all, goes, leaves, declines, expires, renews, reinits, remakes, recounts, spares, resleeps, repeats, calls, locks, phase, dies, form_of, is_silent}
 use Rattle.script.specs.Deaths.{deaths_by, death_of}
 use Rattle.script.specs.Scope.{Scope}
 use Rattle.script.specs.Reading.{refuse, place_of, process_of, thread_of, added, several, declares, died, with_name, with_entry, thread_declared, call_of, begun, stepped, killed, all_killed, gone, left, declined, expired, renewed, reinited, remade, recounted, wake_spared, slept_again, repeated, made, locked, with_action, enter, met_at, line_read, finished, lines_read, nothing}
@@ -50,6 +50,7 @@ same_call s (timedlock m) = refl
 same_call s (unlock m) = refl
 same_call s (consistent m) = refl
 same_call s (wait c) = refl
+same_call s (timedwait c) = refl
 same_call s (signal c) = refl
 same_call s (broadcast c) = refl
 

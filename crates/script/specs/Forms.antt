@@ -11,8 +11,8 @@ use Rattle.std.specs.Str.{bytes_eq}
 use Rattle.std.specs.Char.{is_ascii_digit}
 use Rattle.std.specs.Str.Parse.{digits_value}
 use Rattle.posixmutex.specs.declared.point.Operation.{Operation}
-use Rattle.posixmutex.specs.declared.point.Operation.TheVariants.{Lock, TryLock, TimedLock, Unlock, Consistent, Wait}
-use Rattle.posixmutex.specs.declared.point.Operation.TheVariants.{Signal, Broadcast, Death, Reinit}
+use Rattle.posixmutex.specs.declared.point.Operation.TheVariants.{Lock, TryLock, TimedLock, Unlock, Consistent}
+use Rattle.posixmutex.specs.declared.point.Operation.TheVariants.{Wait, TimedWait, Signal, Broadcast, Death, Reinit}
 use Rattle.posixmutex.specs.Words.{operation_of}
 use Rattle.script.specs.declared.command.Mode.{Mode}
 use Rattle.script.specs.declared.command.Mode.TheVariants as mode
@@ -39,6 +39,7 @@ pub data CallForm : Type 0 where
   unlock : List ℕ → CallForm
   consistent : List ℕ → CallForm
   wait : List ℕ → CallForm
+  timedwait : List ℕ → CallForm
   signal : List ℕ → CallForm
   broadcast : List ℕ → CallForm
 
@@ -153,12 +154,14 @@ call_on m TimedLock = Some (timedlock m)
 call_on m Unlock = Some (unlock m)
 call_on m Consistent = Some (consistent m)
 call_on m Wait = Some (wait m)
+call_on m TimedWait = Some (timedwait m)
 call_on m Signal = Some (signal m)
 call_on m Broadcast = Some (broadcast m)
 call_on m Death = None
 call_on m Reinit = None
 
--- CALL: `lock M`, `trylock M`, `timedlock M`, `unlock M` and `consistent M`; `wait C`, `signal C` and `broadcast C`
+-- CALL: `lock M`, `trylock M`, `timedlock M`, `unlock M` and `consistent M`; `wait C`, `timedwait C`, `signal C` and
+-- `broadcast C`
 abbrev pub call_form : List ℕ → List ℕ → Option CallForm
 call_form w m = if not (is_name m) then None else option_and_then (call_on m) (operation_of w)
 
@@ -194,6 +197,7 @@ words_form _ = None
 -- a call that has no time limit
 abbrev pub is_untimed : CallForm → Bool
 is_untimed (timedlock m) = false
+is_untimed (timedwait c) = false
 is_untimed c = true
 
 -- whether scripts of real threads have lines of this form: events are the machine's alone, and so are time limits

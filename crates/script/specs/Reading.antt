@@ -11,9 +11,11 @@ use Rattle.std.specs.Str.{bytes_eq, is_utf8}
 use Rattle.std.specs.Str.Parse.{digits_value}
 use Rattle.mutex.specs.declared.call.Call.TheVariants as call
 use Rattle.condvar.specs.declared.call.CondCall.TheVariants as on
+use Rattle.condvar.specs.declared.call.Limit.TheVariants.{Ahead}
 use Rattle.condvar.specs.declared.op.Op.{Op}
 use Rattle.condvar.specs.declared.op.Op.TheVariants.{OnMutex, OnCondition}
-use Rattle.script.specs.Forms.{CallForm, lock, trylock, timedlock, unlock, consistent, wait, signal, broadcast, Form, silent}
+use Rattle.script.specs.Forms.{CallForm, lock, trylock, timedlock, unlock, consistent, wait, timedwait, signal}
+use Rattle.script.specs.Forms.{broadcast, Form, silent}
 use Rattle.script.specs.Forms.{process, thread, member, mutex, mutexes, cond, begins, steps, kills, kills_all}
 use Rattle.script.specs.Forms.{goes, leaves, declines, expires, renews, reinits, remakes, recounts, spares, resleeps, repeats}
 use Rattle.script.specs.Forms.{calls, locks, phase, dies, form_of}
@@ -98,6 +100,7 @@ call_of s (timedlock m) = place_of m s.mutexes >>= λ j. Ok (OnMutex (call.Timed
 call_of s (unlock m) = place_of m s.mutexes >>= λ j. Ok (OnMutex (call.Unlock j))
 call_of s (consistent m) = place_of m s.mutexes >>= λ j. Ok (OnMutex (call.Consistent j))
 call_of s (wait c) = place_of c (condition_names s) >>= λ k. Ok (OnCondition (on.Wait k))
+call_of s (timedwait c) = place_of c (condition_names s) >>= λ k. Ok (OnCondition (on.TimedWait k Ahead))
 call_of s (signal c) = place_of c (condition_names s) >>= λ k. Ok (OnCondition (on.Signal k))
 call_of s (broadcast c) = place_of c (condition_names s) >>= λ k. Ok (OnCondition (on.Broadcast k))
 

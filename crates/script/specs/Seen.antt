@@ -1,7 +1,8 @@
 -- Values of the code as the definitions see them.
 use Rattle.std.specs.Prelude.{ℕ, List, map, String, string_bytes}
 use Rattle.std.specs.declared.alloc.Global.{Global}
-use Rattle.script.specs.Forms.{CallForm, lock, trylock, timedlock, unlock, consistent, wait, signal, broadcast, Form}
+use Rattle.script.specs.Forms.{CallForm, lock, trylock, timedlock, unlock, consistent, wait, timedwait, signal}
+use Rattle.script.specs.Forms.{broadcast, Form}
 use Rattle.script.specs.Forms.{process, thread, member, mutex, mutexes, cond, begins, steps, kills}
 use Rattle.script.specs.Forms.{kills_all, goes, leaves, declines, expires, renews, reinits, remakes, recounts, spares, resleeps, repeats}
 use Rattle.script.specs.Forms.{calls, locks, phase, dies}
@@ -20,6 +21,7 @@ call_seen (named.TimedLock m) = timedlock m.now
 call_seen (named.Unlock m) = unlock m.now
 call_seen (named.Consistent m) = consistent m.now
 call_seen (named.Wait c) = wait c.now
+call_seen (named.TimedWait c) = timedwait c.now
 call_seen (named.Signal c) = signal c.now
 call_seen (named.Broadcast c) = broadcast c.now
 

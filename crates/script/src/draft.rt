@@ -18,7 +18,7 @@ use crate::fault::Fault;
 use crate::limits::{MAX_CONDITIONS, MAX_LINES, MAX_MUTEXES, MAX_PROCESSES, MAX_THREADS};
 use crate::line::{Line, NamedCall, is_silent_line, line_of};
 use crate::naming::{add_entry, add_name, declare, declare_numbered, entry_place, place};
-use condvar::{CondCall, Op};
+use condvar::{CondCall, Limit, Op};
 use indexmap::{IndexMap, IndexSet};
 use lockword::Tid;
 use mutex::Call;
@@ -108,6 +108,9 @@ impl Draft {
             NamedCall::Unlock(name) => Op::OnMutex(Call::Unlock(self.mutex(name)?)),
             NamedCall::Consistent(name) => Op::OnMutex(Call::Consistent(self.mutex(name)?)),
             NamedCall::Wait(name) => Op::OnCondition(CondCall::Wait(self.condition(name)?)),
+            NamedCall::TimedWait(name) => {
+                Op::OnCondition(CondCall::TimedWait(self.condition(name)?, Limit::Ahead))
+            }
             NamedCall::Signal(name) => Op::OnCondition(CondCall::Signal(self.condition(name)?)),
             NamedCall::Broadcast(name) => {
                 Op::OnCondition(CondCall::Broadcast(self.condition(name)?))

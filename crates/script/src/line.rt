@@ -22,6 +22,7 @@ pub enum NamedCall<'a> {
     Unlock(&'a str),
     Consistent(&'a str),
     Wait(&'a str),
+    TimedWait(&'a str),
     Signal(&'a str),
     Broadcast(&'a str),
 }
@@ -200,6 +201,7 @@ fn named_call<'a>(word: &'a str, name: &'a str) -> Option<NamedCall<'a>>
         Ok(Operation::Unlock) => Some(NamedCall::Unlock(name)),
         Ok(Operation::Consistent) => Some(NamedCall::Consistent(name)),
         Ok(Operation::Wait) => Some(NamedCall::Wait(name)),
+        Ok(Operation::TimedWait) => Some(NamedCall::TimedWait(name)),
         Ok(Operation::Signal) => Some(NamedCall::Signal(name)),
         Ok(Operation::Broadcast) => Some(NamedCall::Broadcast(name)),
         Ok(Operation::Death) | Ok(Operation::Reinit) | Err(_) => None,
@@ -284,7 +286,7 @@ fn is_untimed(call: NamedCall<'_>) -> bool
     ensures { result ≡ is_untimed (call_seen call.entry) }
 {
     match call {
-        NamedCall::TimedLock(_) => false,
+        NamedCall::TimedLock(_) | NamedCall::TimedWait(_) => false,
         NamedCall::Lock(_) | NamedCall::TryLock(_) => true,
         NamedCall::Unlock(_) | NamedCall::Consistent(_) => true,
         NamedCall::Wait(_) | NamedCall::Signal(_) | NamedCall::Broadcast(_) => true,

@@ -29,7 +29,7 @@ use Rattle.protocol.specs.declared.note.Note.TheVariants.{Stepped, Walked}
 use Rattle.protocol.specs.Machine.{State, After, put, place_met, is_met, words_after, answer_of, joined, moved_by, woken_by, queue_after, happens, nothing, begun, first_stage, went, walked}
 use Rattle.protocol.specs.Machine.{Led, led, led_at, held_after, decision, slept_in, stepped, declined, spared, killed, departed, renewed, reinited, has_thread, is_alive, is_asleep, is_gone, is_trim, sleeps}
 use Rattle.protocol.specs.Machine.{may_begin, may_reinit, may_remake, waiters_of, is_first, is_idle, sleepers, death_at, told_of, has_ended, stage_walked}
-use Rattle.protocol.specs.Machine.{expired, is_timed, lapsed, may_recount, recounted, another_answers, answers, wakes_one, wakes_next, sparing, stands_in, reslept, resleeping, is_mark, repeated, repeating}
+use Rattle.protocol.specs.Machine.{expired, is_timed, lapsed, overslept, waits_on, may_recount, recounted, another_answers, answers, wakes_one, wakes_next, sparing, stands_in, reslept, resleeping, is_mark, repeated, repeating}
 use Rattle.protocol.proofs.Puts.{by_put, put-same, put-other}
 use Rattle.protocol.proofs.Kept.{Kept}
 use Rattle.protocol.proofs.Renewals.{renewed_word, renewed_elsewhere}
@@ -242,8 +242,11 @@ module _ (s : State) (v : ℕ → ℕ) where
   declined_alike t held Reaped = record { note = refl; rest = refl; does = λ p. refl }
 
   expired_alike : (t held : ℕ) (g : Stage) → Comes s v (Expire t) (expired (with_words s v) t held g) (expired s t held g)
-  expired_alike t held (Calling o p) =
-      chosen (Expire t) (is_timed o && may_expire p.phase && sleeps s t (Calling o p)) (lapsed (with_words s v) t held o p) (lapsed s t held o p)
+  expired_alike t held (Calling (OnMutex c) p) =
+      chosen (Expire t) (is_timed (OnMutex c) && may_expire p.phase && sleeps s t (Calling (OnMutex c) p)) (lapsed (with_words s v) t held (OnMutex c) p) (lapsed s t held (OnMutex c) p)
+      (λ on. record { note = refl; rest = refl; does = λ p. refl })
+  expired_alike t held (Calling (OnCondition c) p) =
+      chosen (Expire t) (is_timed (OnCondition c) && waits_on s t (condition_of c)) (overslept (with_words s v) t held (condition_of c) p) (overslept s t held (condition_of c) p)
       (λ on. record { note = refl; rest = refl; does = λ p. refl })
   expired_alike t held Idle = record { note = refl; rest = refl; does = λ p. refl }
   expired_alike t held (AtCondition c p) = record { note = refl; rest = refl; does = λ p. refl }

@@ -37,7 +37,7 @@ use Rattle.condvar.specs.declared.row.CondRow.{CondRow}
 use Rattle.condvar.specs.Standings.{CondWhole}
 use Rattle.condvar.specs.Programs.{point_of}
 use Rattle.condvar.specs.Programs.{row_access as cond_row_access, resume_of as cond_resume_of}
-use Rattle.condvar.specs.Calls.{operation_of}
+use Rattle.condvar.specs.Calls.{acts_as}
 use Rattle.condvar.specs.Whole.{cond_access, cond_led}
 use Rattle.exitwalk.specs.Standings as walks
 use Rattle.protocol.specs.declared.event.Event.TheVariants.{Begin, Step}
@@ -98,6 +98,7 @@ owner_stays s e inv = by_event s (OwnerStays s)
     (λ t pos known alive u k apart own. own)
     (λ t pos known asleep u k apart own. own)
     (λ t m p pos known is asleep may u k apart own. own)
+    (λ t k x p pos known is waits u j apart own. own)
     (λ t o p pos known is awake trims u k apart own. own)
     (λ t pos known is u k apart own. ap (λ (o : Object). o.owner) (renewed_seen s t pos known k) ∙ own)
     (λ t m may u k apart own. anew_stays s inv t m 0 refl may.remake k _ own)
@@ -182,7 +183,7 @@ module _ (s : State) (t : ℕ) (inv : Kept s) (pos : 1 ≤ t) (known : t ≤ s.l
       subst (λ (a : After). StaysOwn s t a.state) (sym (went-is s t (mutex_of s.layout (OnCondition c)) (Condition (condition_of c)) (AtCondition c p) (cond_access p) (λ a. led_at c p (cond_led p a)) step.valid))
       (by_own_step s t (cond_step s t c p) step (by_access s t c inv pos known
       (λ (q : CondWhole). IsWritten (way_of s.layout t (cond_access q)) → (x : Reply) → (cond_step s t c q).point ≡ Some x → Loses (cond_step s t c q).operation x → ⊥)
-      (λ r fits stepping on x point loses. condition_keeps s.layout t _ _ _ r _ (operation_of c) x on point loses)
+      (λ r fits stepping on x point loses. condition_keeps s.layout t _ _ _ r _ (acts_as c) x on point loses)
       (λ y q near on x point loses. plain_unwritten s.layout t (cond_access q) near.plain on)
       p is (written_at (AtCondition c p) is written)))
 
@@ -205,6 +206,7 @@ own_stays s e inv = by_event s (OwnStays s)
     (λ t pos known alive written. absurd written)
     (λ t pos known asleep written. absurd written)
     (λ t m p pos known is asleep may written. absurd written)
+    (λ t k x p pos known is waits written. absurd written)
     (λ t o p pos known is awake trims written. absurd written)
     (λ t pos known is written. absurd written)
     (λ t m may written alive k own. anew_stays s inv t m 0 refl may.remake k _ own)

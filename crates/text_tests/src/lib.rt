@@ -1,14 +1,12 @@
-//! Tests of how scripts and traces are read, played and judged, by public calls alone.
+//! Tests of how scripts and traces are read, played and judged, by public calls alone: what no program prints. What the
+//! programs print stands in cases/, and is compared by checks/answers.
 //!
 //! They stand above the crates that they test, since a crate with tests of its own is proved a second time for them,
-//! and that takes longer than its proof. A test of many cases goes over tables of them, by their outcome, and tells the
-//! first case that is answered otherwise.
+//! and that takes longer than its proof.
 #![tactic(auto)]
 
 #[cfg(test)]
 mod built;
-#[cfg(test)]
-mod cases;
 #[cfg(test)]
 mod events;
 #[cfg(test)]

@@ -1,11 +1,12 @@
 //! Traces with a line that doesn't fit, each the smallest with its reason, and the text of the reason.
 
-use crate::cases::all_hold;
-use crate::traces::{BEHIND_THE_FIRST, taken_and_one_more};
+use crate::built::joined;
+use crate::traces::taken_and_one_more;
 use facts::Begun;
 use lockword::{Reply, Tid};
 use posixmutex::{Object, Operation};
 use std::alloc::{AllocError, Global};
+use std::process::Abort;
 use std::test::Fail;
 use verdict::{Fault, Finding, Misfit, TraceFault, TraceMisfit, Verdict, check, explain};
 
@@ -158,7 +159,7 @@ const OF_THREADS: [Reason; 8] = [
 ];
 
 /// By the points of the thread's call.
-const OF_CALLS: [Reason; 8] = [
+const OF_CALLS: [Reason; 9] = [
     Reason {
         misfit: Misfit::OtherMutex { mutex: 0 },
         text: "the thread's call is on m0",
@@ -178,6 +179,17 @@ const OF_CALLS: [Reason; 8] = [
         },
         text: "a call of wait has no such point",
         traces: &[("1 begin t1 wait c0 m0\n2 point t1 m0 lock OK\nend 2", 3)],
+    },
+    // With a time limit it is told as a wait.
+    Reason {
+        misfit: Misfit::OtherOperation {
+            operation: Operation::TimedWait,
+        },
+        text: "a call of timedwait has no such point",
+        traces: &[(
+            "1 begin t1 timedwait c0 m0\n2 point t1 m0 timedwait EPERM\nend 2",
+            3,
+        )],
     },
     Reason {
         misfit: Misfit::ReleaseRefused,
@@ -349,6 +361,11 @@ fn is_told(alloc: Global, misfit: TraceMisfit, text: &str) -> Result<bool, Alloc
     Ok(told.as_str() == wanted.as_str())
 }
 
+/// Fails where there is such a trace, and tells the first.
+fn all_hold(rt: &impl Abort, first_wrong: Option<&str>) {
+    assert_eq!(rt; first_wrong, None, "this is answered otherwise");
+}
+
 /// The first trace in which another line, or another reason, is found.
 fn first_wrong(alloc: Global, reasons: &[Reason]) -> Option<&'static str> {
     for reason in reasons {
@@ -362,7 +379,7 @@ fn first_wrong(alloc: Global, reasons: &[Reason]) -> Option<&'static str> {
 }
 
 fn is_found_behind(alloc: Global, behind: &str, line: usize, reason: &Reason) -> bool {
-    match BEHIND_THE_FIRST.around(alloc, behind) {
+    match joined(alloc, "trace 2 2 1\n", behind, "\n") {
         Ok(trace) => is_found(alloc, trace.as_str(), line, reason),
         Err(_) => false,
     }

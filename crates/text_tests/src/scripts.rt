@@ -1,4 +1,4 @@
-//! Scripts, what each declares and commands, or the fault that it is refused for, written out by hand from the format.
+//! What scripts declare and command, and the texts of faults. Which scripts are refused stands in cases/scripts.
 
 use crate::built::joined;
 use crate::faults::{Refused, is_or_wants_memory, read};
@@ -8,9 +8,6 @@ use mutex::Call;
 use script::{Action, Command, Fault, Mode, Script, ScriptFault};
 use std::alloc::{AllocError, Global};
 use std::test::Fail;
-
-mod limits;
-mod script_lines;
 
 fn at(line: usize, action: Action) -> Command {
     Command { line, action }

@@ -8,8 +8,10 @@ use Rattle.std.proofs.lemmas.List.{take_more}
 use Rattle.lockword.specs.declared.reply.Reply.{Reply}
 use Rattle.posixmutex.specs.declared.point.Decision.{Decision}
 use Rattle.protocol.specs.declared.note.Note.{Note}
+use Rattle.protocol.specs.declared.note.Note.TheVariants.{Expired}
 use Rattle.facts.specs.declared.fact.Begun.{Begun}
 use Rattle.facts.specs.declared.fact.Queue.{Queue}
+use Rattle.facts.specs.declared.fact.Queue.TheVariants.{Mutex, Condition}
 use Rattle.facts.specs.declared.fact.Fact.{Fact}
 use Rattle.facts.specs.declared.fact.Fact.TheVariants.{Wake}
 use Rattle.protocol.specs.Notes.{facts_of, point_facts, sleep_facts, moves_to, refusal_facts, return_facts, death_facts, reap_facts}
@@ -22,6 +24,11 @@ told_by t fs = flat_map (told_to t) fs
 
 told_by-append : (t : ℕ) (fs gs : List Fact) → told_by t (fs ++ gs) ≡ told_by t fs ++ told_by t gs
 told_by-append t fs gs = flat_map-append (told_to t) fs gs
+
+-- a time limit that comes
+pub told_at_expiry : (t u : ℕ) (q : Queue) → told_by t (facts_of (Expired u q)) ≡ []
+told_at_expiry t u (Mutex m) = refl
+told_at_expiry t u (Condition k) = refl
 
 -- facts that tell it nothing
 behind : (t : ℕ) (fs gs : List Fact) → told_by t fs ≡ [] → told_by t (fs ++ gs) ≡ told_by t gs

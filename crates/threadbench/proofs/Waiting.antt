@@ -8,13 +8,13 @@ use Rattle.stepprograms.specs.declared.access.Answer.{Answer}
 use Rattle.posixmutex.specs.declared.point.Operation.TheVariants as operation
 use Rattle.mutex.specs.declared.call.Call.TheVariants as call
 use Rattle.condvar.specs.declared.call.CondCall.{CondCall}
-use Rattle.condvar.specs.declared.call.CondCall.TheVariants.{Wait, Signal, Broadcast}
+use Rattle.condvar.specs.declared.call.CondCall.TheVariants.{Wait, TimedWait, Signal, Broadcast}
 use Rattle.condvar.specs.declared.row.CondRow.{CondRow}
 use Rattle.condvar.specs.declared.row.CondRow.TheVariants as cond
 use Rattle.condvar.specs.declared.broadcast.BroadcastRow.TheVariants as broadcast
 use Rattle.condvar.specs.declared.signal.SignalRow.TheVariants as signal
 use Rattle.condvar.specs.declared.wait.WaitRow.TheVariants as wait
-use Rattle.condvar.specs.Calls.{condition_of, operation_of}
+use Rattle.condvar.specs.Calls.{acts_as, condition_of}
 use Rattle.memorymap.specs.Layouts.{Layout', counter_place}
 use Rattle.ruledwords.specs.Looks.{noted}
 use Rattle.condvar.specs.Standings.{CondWhole}
@@ -81,8 +81,8 @@ cond_still_under_way w r r' a cl m u =
     let q = condition_of cl in (
       m.0,
       ap (condition_at k) m.1 ∙ u.1,
-      subst (λ (z : Card). CondStands k q (operation_of cl) (card a) (cond_row_in (cond_call r').phase) z) (sym m.2)
-          (subst (λ (p : CondWhole). CondStands k q (operation_of cl) (card a) (cond_row_in p.phase) (record (card (cond_pass r)) { last = (card (cond_pass r')).last; trims = (card (cond_pass r')).trims; changes = (card (cond_pass r)).changes })) (sym m.1)
+      subst (λ (z : Card). CondStands k q (acts_as cl) (card a) (cond_row_in (cond_call r').phase) z) (sym m.2)
+          (subst (λ (p : CondWhole). CondStands k q (acts_as cl) (card a) (cond_row_in p.phase) (record (card (cond_pass r)) { last = (card (cond_pass r')).last; trims = (card (cond_pass r')).trims; changes = (card (cond_pass r)).changes })) (sym m.1)
           record {
             of = u.2.of;
             called = still_called (card a) (cell_at k q) (cond_acts (cond_row_in (cond_call r).phase)) (card (cond_pass r)) looked (refl, more_same (card (cond_pass r)) looked (cell_at k q) refl refl) u.2.called;
@@ -151,6 +151,8 @@ took_again w a e q (outcome.Dead d) low was ran = (
 
 took_again_in : (w : Words) (a e : Pass Live) (cl : CondCall) (end : Outcome) → mutex_at (layout_of w) (condition_of cl) < (layout_of w).mutexes → HasReleased w a cl e → RanOut w e (call.Lock (mutex_at (layout_of w) (condition_of cl))) end → CondAnswered w a cl end
 took_again_in w a e (Wait q) end low was ran = took_again w a e q end low was ran
+took_again_in w a e (TimedWait q y) end low was ran =
+    took_again w a e q end low (record { of = refl; called = was.called; owns = was.owns; usable = was.usable; loaded = was.loaded }) ran
 took_again_in w a e (Signal q) end low was ran = let bad = was.of in absurd (cc bad)
 took_again_in w a e (Broadcast q) end low was ran = let bad = was.of in absurd (cc bad)
 
@@ -172,8 +174,9 @@ locks_out w r r' l end far on runs = λ a cl u.
     let went = on.1 a cl (far a cl u) in
     took_again_in w a (running_pass l) cl end went.1.1.0 went.0 (runs.0 (running_pass l) (call.Lock (mutex_at (layout_of w) (condition_of cl))) went.1)
 
-replied : (k : Layout') (c : Card) (cl : CondCall) (x : Reply) (d : Card) → CondEnded k (condition_of cl) (operation_of cl) x c d → CondReplied k c cl x d
+replied : (k : Layout') (c : Card) (cl : CondCall) (x : Reply) (d : Card) → CondEnded k (condition_of cl) (acts_as cl) x c d → CondReplied k c cl x d
 replied k c (Wait q) x d ended = inl ended
+replied k c (TimedWait q y) x d ended = inl ended
 replied k c (Signal q) x d ended = ended
 replied k c (Broadcast q) x d ended = ended
 

@@ -23,8 +23,8 @@ use Rattle.posixmutex.specs.declared.point.Operation.TheVariants as operation
 use Rattle.memorymap.specs.Layouts.{Layout', counter_place}
 use Rattle.buckets.specs.Queues.{Sleepers, queue, Fits, MovesTo, MovesWithin}
 use Rattle.condvar.specs.declared.call.CondCall.{CondCall}
-use Rattle.condvar.specs.declared.call.CondCall.TheVariants.{Wait, Signal, Broadcast}
-use Rattle.condvar.specs.Calls.{condition_of, operation_of}
+use Rattle.condvar.specs.declared.call.CondCall.TheVariants.{Wait, TimedWait, Signal, Broadcast}
+use Rattle.condvar.specs.Calls.{acts_as, condition_of}
 use Rattle.ruledwords.specs.declared.pass.Card.{Card}
 use Rattle.ruledwords.specs.Changes.{Loaded}
 use Rattle.ruledwords.specs.declared.turn.CondRunning.{CondRunning}
@@ -66,13 +66,14 @@ pub record TookAgain (k : Layout') (c : Card) (q : ℕ) (x : Reply) (d : Card) :
 -- took its mutex again
 abbrev pub CondReplied : Layout' → Card → CondCall → Reply → Card → Type 0
 CondReplied k c (Wait q) x d = CondEnded k q operation.Wait x c d ⊎ TookAgain k c q x d
+CondReplied k c (TimedWait q y) x d = CondEnded k q operation.Wait x c d ⊎ TookAgain k c q x d
 CondReplied k c (Signal q) x d = CondEnded k q operation.Signal x c d
 CondReplied k c (Broadcast q) x d = CondEnded k q operation.Broadcast x c d
 
 -- the thread died in it: it had made all of the call's points, or some of the first; behind the release of a wait it
 -- had loaded the counter of the call's condition variable
 abbrev pub CondDies : Layout' → Card → CondCall → Card → Type 0
-CondDies k c call d = DiesOn k (condition_of call) (operation_of call) c d
+CondDies k c call d = DiesOn k (condition_of call) (acts_as call) c d
 
 -- it was answered, or its thread died in it
 abbrev pub CondAnswered : Words → Pass Live → CondCall → Outcome → Type 0

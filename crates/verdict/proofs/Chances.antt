@@ -9,7 +9,7 @@ use Rattle.lockword.specs.declared.reply.Reply.TheVariants.{OK, ETIMEDOUT, XHELD
 use Rattle.posixmutex.specs.declared.object.Object.{Object}
 use Rattle.posixmutex.specs.declared.point.Decision.{Decision}
 use Rattle.posixmutex.specs.declared.point.Operation.{Operation}
-use Rattle.posixmutex.specs.declared.point.Operation.TheVariants.{Lock, TimedLock, Unlock, Consistent, Wait, Death}
+use Rattle.posixmutex.specs.declared.point.Operation.TheVariants.{Lock, TimedLock, Unlock, Consistent, Wait, TimedWait, Death}
 use Rattle.posixmutex.specs.Objects.{Permits, Does, IsByOwner, acquires, releases, stepped}
 use Rattle.posixmutex.specs.Histories.{held_by}
 use Rattle.posixmutex.proofs.Reasons.{reasons}
@@ -253,7 +253,13 @@ late_is_timed held o t op n does = by_cases (acquires op && nat_le 2048 held) do
 
 unmade : (a : Operation) (ps : List Act) (made : Made) (b : Operation) (x : Reply) → Of a ps made → MayPoint a made b x → b ≡ TimedLock → ps ≡ []
 unmade a ps Nothing b x of may is = of
-unmade a ps Released b x of may is = let e : b ≡ Lock = subst (λ k. MayPoint k Released b x) of.0 may in absurd cc
+unmade a ps Released b x of may is = absurd (cc (released a may, is))
+  where
+    released : (k : Operation) → MayPoint k Released b x → b ≡ Lock
+    released Wait h = h
+    released TimedWait h = h
+    released TimedLock h = h
+    released k h = h
 unmade Wait ps (Decided y) b x of may is = absurd may
 unmade TimedLock ps (Decided y) b x of may is = absurd may
 unmade a ps (Decided y) b x of may is = absurd may

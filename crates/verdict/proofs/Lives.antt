@@ -17,7 +17,7 @@ use Rattle.verdict.specs.Explained.{Alternates, Doing, Idle, Awake, Asleep}
 use Rattle.verdict.specs.Fits.{FitsThread}
 use Rattle.verdict.specs.Stages.{May, next}
 use Rattle.verdict.specs.Verdicts.{AllFit}
-use Rattle.verdict.proofs.Stages.{Of, Kept, beginning, onward, fits_may, next_kept}
+use Rattle.verdict.proofs.Stages.{Of, Kept, beginning, onward, returned, fits_may, next_kept}
 
 append_nil : {A : Type 0} (xs : List A) → xs ++ [] ≡ xs
 append_nil [] = refl
@@ -78,7 +78,7 @@ own_fact t (Calling c made_so z) (Point d) fs old is life m p = record {
 }
 own_fact t (Calling c made_so z) (Return u x) fs old is life m p = λ later h.
     subst (Life t) (sym (behind t c fs p.before p.points (Return u x) later p.all))
-    (subst (λ v. Life t (p.before ++ Begin t c ∷ (made t c p.points ++ Return v x ∷ later))) (sym is) (p.goes_on (Begin t c ∷ (made t c p.points ++ Return t x ∷ later)) (Returns c p.points x later (subst (Of c.operation p.points) m.1 p.of) h)))
+    (subst (λ v. Life t (p.before ++ Begin t c ∷ (made t c p.points ++ Return v x ∷ later))) (sym is) (p.goes_on (Begin t c ∷ (made t c p.points ++ Return t x ∷ later)) (Returns c p.points x later (returned c.operation p.points made_so x p.of m.1) h)))
 own_fact t Dying (Death u k) fs old is life m p = λ later h. subst (Life t) (sym (append_assoc fs (Death u k ∷ []) later)) (subst (λ v. Life t (fs ++ Death v k ∷ later)) (sym is) (p (Death t k ∷ later) (Tells_of k later h)))
 own_fact t Dying (Reap u) fs old is life m p = (subst (λ v. Life t (fs ++ Reap v ∷ [])) (sym is) (p (Reap t ∷ []) Buried), (fs, ap (λ v. fs ++ Reap v ∷ []) is))
 own_fact t Reaped (Renew u) fs old is life m p = absurd cc

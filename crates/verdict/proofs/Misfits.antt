@@ -1,5 +1,5 @@
 -- A reason for which a line is refused is a reason for which it doesn't fit.
-use Rattle.std.proofs.Common.{◌≡◌, ◌≢◌, inl, inr, ℕ, ◌≤◌, ◌&&◌, Bool, true, false, nat_le, MatchBool, List, [], ◌∷◌, ◌++◌, Option, None, Some, refl, sym, ap, subst, ◌∙◌, arith}
+use Rattle.std.proofs.Common.{◌≡◌, ◌≢◌, inl, inr, ℕ, ◌≤◌, ◌&&◌, Bool, true, false, nat_le, MatchBool, List, [], ◌∷◌, ◌++◌, Option, None, Some, ⊎_elim, refl, sym, ap, subst, ◌∙◌, arith}
 use Rattle.std.proofs.lemmas.Bool.Decides.{nat_tests}
 use Rattle.lockword.specs.declared.reply.Reply.{Reply}
 use Rattle.lockword.specs.declared.reply.Reply.TheVariants.{OK, ETIMEDOUT, XHELD}
@@ -25,7 +25,7 @@ use Rattle.verdict.specs.Earlier.{call_in, points_in, is_reaped}
 use Rattle.verdict.specs.Fits.{Fits, FitsThread, Allows, IsDue, OwnsNothing}
 use Rattle.verdict.specs.Misfits.{IsAwakeIn, IsDoneBy, IsEnded, IsMisfit, IsOutOfLife, IsOutOfOrder, IsTooEarly, OwnsSome, Refuses, RefusesStep, Told, needs_kill}
 use Rattle.verdict.specs.Stages.{Forbids, ForbidsPoint, MayPoint}
-use Rattle.verdict.proofs.Stages.{Of, Kept, all_made, may_first, may_point, nobody_calls, same_call, unkilled}
+use Rattle.verdict.proofs.Stages.{Of, Kept, all_made, may_first, may_point, no_more, nobody_calls, same_call, unkilled}
 
 -- ---- the thread's stage says what of it was told
 
@@ -34,7 +34,7 @@ point_out (misfit.OtherOperation op) c d Nothing fs of awake h =
     (c, awake, h.0, of, λ x begins. h.1 x (may_first c.operation d.operation x (subst (λ a. Beginning a ((d.operation, x) ∷ [])) h.0 begins)))
 point_out misfit.ReleaseRefused c d Nothing fs of awake h = (c, awake, h.0, of, h.1, h.2)
 point_out misfit.Released c d Released fs of awake h = (c, awake, of.0, of.1, h)
-point_out (misfit.Decided y) c d (Decided z) fs of awake h = (c, awake, subst (Complete c.operation (points_in fs)) (sym h) of)
+point_out (misfit.Decided y) c d (Decided z) fs of awake h = (c, awake, subst (Complete c.operation (points_in fs)) (sym h) of.0)
 point_out m c d made fs of awake h = absurd h
 
 pub forbids_out : (m : Misfit) (s : Stage) (f : Fact) (fs : List Fact) → Kept s fs → Forbids m s f → IsOutOfLife m fs f
@@ -53,7 +53,9 @@ forbids_out misfit.Undecided (Calling c made z) (fact.Return t x) fs kept h = (c
 forbids_out misfit.Released (Calling c made z) (fact.Return t x) fs kept h =
     let of : Of c.operation (points_in fs) Released = subst (Of c.operation (points_in fs)) h.1 kept.4 in
     (c, record { call = kept.0; awake = kept.1 ∙ h.0 }, of.0, of.1)
-forbids_out (misfit.OtherReply y) (Calling c made z) (fact.Return t x) fs kept h = (c, record { call = kept.0; awake = kept.1 ∙ h.0 }, subst (Of c.operation (points_in fs)) h.1 kept.4, h.2)
+forbids_out (misfit.OtherReply y) (Calling c made z) (fact.Return t x) fs kept h =
+    let of : Of c.operation (points_in fs) (Decided y) = subst (Of c.operation (points_in fs)) h.1 kept.4 in
+    (c, record { call = kept.0; awake = kept.1 ∙ h.0 }, of.0, of.1, h.2)
 forbids_out m (Calling c made z) (fact.Point d) fs kept h = point_out m c d made fs kept.4 (record { call = kept.0; awake = kept.1 ∙ h.0 }) h.2
 forbids_out m s f fs kept h = absurd h
 
@@ -100,12 +102,13 @@ life_breaks (misfit.OtherOperation op) fs (fact.Point d) h fits =
     h.4 d.reply (subst (λ a. Beginning a ((d.operation, d.reply) ∷ [])) (sym h.2) (subst (λ ps. Beginning h.0.operation (ps ++ (d.operation, d.reply) ∷ [])) h.3 (points_with fs d h.0 h.1.call fits)))
 life_breaks misfit.ReleaseRefused fs (fact.Point d) h fits =
     let may = may_point h.0.operation (points_in fs) Nothing d.operation d.reply h.3 (points_with fs d h.0 h.1.call fits) in
-    h.5 (subst (λ b. MayPoint operation.Wait Nothing b d.reply) h.4 (subst (λ a. MayPoint a Nothing d.operation d.reply) h.2 may))
+    h.5 (⊎_elim (λ is. subst (λ b. MayPoint operation.Wait Nothing b d.reply) h.4 (subst (λ a. MayPoint a Nothing d.operation d.reply) is may))
+    (λ is. subst (λ b. MayPoint operation.TimedWait Nothing b d.reply) h.4 (subst (λ a. MayPoint a Nothing d.operation d.reply) is may)) h.2)
 life_breaks misfit.Released fs (fact.Point d) h fits = h.4 (may_point h.0.operation (points_in fs) Released d.operation d.reply (h.2, h.3) (points_with fs d h.0 h.1.call fits))
-life_breaks misfit.Released fs (fact.Return t x) h fits = let e : Released ≡ Decided x = all_made h.0.operation (points_in fs) Released x (h.2, h.3) (points_all fs t x h.0 h.1.call fits) in absurd cc
-life_breaks (misfit.Decided y) fs (fact.Point d) h fits = may_point h.0.operation (points_in fs) (Decided y) d.operation d.reply h.2 (points_with fs d h.0 h.1.call fits)
-life_breaks misfit.Undecided fs (fact.Return t x) h fits = let e : Nothing ≡ Decided x = all_made h.0.operation (points_in fs) Nothing x h.2 (points_all fs t x h.0 h.1.call fits) in absurd cc
-life_breaks (misfit.OtherReply y) fs (fact.Return t x) h fits = let e : Decided y ≡ Decided x = all_made h.0.operation (points_in fs) (Decided y) x h.2 (points_all fs t x h.0 h.1.call fits) in h.3 (cc)
+life_breaks misfit.Released fs (fact.Return t x) h fits = all_made h.0.operation (points_in fs) Released x (h.2, h.3) (points_all fs t x h.0 h.1.call fits)
+life_breaks (misfit.Decided y) fs (fact.Point d) h fits = no_more h.0.operation (points_in fs) y d.operation d.reply h.2 (points_with fs d h.0 h.1.call fits)
+life_breaks misfit.Undecided fs (fact.Return t x) h fits = all_made h.0.operation (points_in fs) Nothing x h.2 (points_all fs t x h.0 h.1.call fits)
+life_breaks (misfit.OtherReply y) fs (fact.Return t x) h fits = h.4 (all_made h.0.operation (points_in fs) (Decided y) x (h.2, h.3) (points_all fs t x h.0 h.1.call fits))
 life_breaks (misfit.InCall c) fs f h fits = let e : false ≡ true = h.0 in absurd cc
 life_breaks misfit.NoCall fs f h fits = let e : false ≡ true = h.0 in absurd cc
 life_breaks misfit.Asleep fs f h fits = let e : false ≡ true = h.0 in absurd cc

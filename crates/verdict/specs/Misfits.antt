@@ -18,7 +18,7 @@ use Rattle.facts.specs.declared.fact.Begun.{Begun}
 use Rattle.facts.specs.declared.fact.Fact.{Fact}
 use Rattle.facts.specs.declared.fact.Fact.TheVariants.{Begin, Point, Death, Sleep, Return, Reap, Renew}
 use Rattle.facts.specs.declared.fact.Line.{Line}
-use Rattle.facts.specs.Lives.{Complete, Beginning}
+use Rattle.facts.specs.Lives.{Act, Complete, Beginning, IsWait, MayReturn}
 use Rattle.facts.specs.Facts.{thread_of, decision_of, decides, is_passive, is_kill, is_renewal}
 use Rattle.facts.specs.Orders.{Later, Each}
 use Rattle.verdict.specs.declared.misfit.Misfit.{Misfit}
@@ -85,6 +85,12 @@ pub record IsAwakeIn (fs : List Fact) (c : Begun) : Type 0 where
   pub call : call_in fs ≡ Some c
   pub awake : is_asleep fs ≡ false
 
+-- the last of these points replied so
+abbrev pub Replied : List Act → Reply → Type 0
+Replied [] x = ⊥
+Replied (p ∷ []) x = p.1 ≡ x
+Replied (p ∷ q ∷ ps) x = Replied (q ∷ ps) x
+
 -- the fact isn't what comes next in the life of a thread of which these facts are told
 abbrev pub IsOutOfLife : Misfit → List Fact → Fact → Type 0
 IsOutOfLife (InCall c) fs f = (begins f ≡ true) × (call_in fs ≡ Some c)
@@ -98,16 +104,17 @@ IsOutOfLife Alive fs f = (needs_kill f ≡ true) × (is_killed fs ≡ false) × 
 IsOutOfLife (OtherMutex m) fs (Point d) = (c : Begun) × IsAwakeIn fs c × (m ≡ c.mutex) × (d.mutex ≢ m)
 IsOutOfLife (OtherOperation op) fs (Point d) = (c : Begun) × IsAwakeIn fs c × (op ≡ c.operation) × (points_in fs ≡ [])
     × ((x : Reply) → Beginning op ((d.operation, x) ∷ []) → ⊥)
-IsOutOfLife ReleaseRefused fs (Point d) = (c : Begun) × IsAwakeIn fs c × (c.operation ≡ operation.Wait)
+IsOutOfLife ReleaseRefused fs (Point d) = (c : Begun) × IsAwakeIn fs c × IsWait c.operation
     × (points_in fs ≡ []) × (d.operation ≡ operation.Unlock) × (d.reply ≢ OK)
-IsOutOfLife Released fs (Point d) = (c : Begun) × IsAwakeIn fs c × (c.operation ≡ operation.Wait)
+IsOutOfLife Released fs (Point d) = (c : Begun) × IsAwakeIn fs c × IsWait c.operation
     × (points_in fs ≡ (operation.Unlock, OK) ∷ []) × (d.operation ≢ operation.Lock)
 IsOutOfLife Released fs (Return t x) =
-    (c : Begun) × IsAwakeIn fs c × (c.operation ≡ operation.Wait) × (points_in fs ≡ (operation.Unlock, OK) ∷ [])
+    (c : Begun) × IsAwakeIn fs c × IsWait c.operation × (points_in fs ≡ (operation.Unlock, OK) ∷ [])
 IsOutOfLife (Decided x) fs (Point d) = (c : Begun) × IsAwakeIn fs c × Complete c.operation (points_in fs) x
 IsOutOfLife Undecided fs (Return t x) = (c : Begun) × IsAwakeIn fs c × (points_in fs ≡ [])
 IsOutOfLife (OtherReply y) fs (Return t x) =
-    (c : Begun) × IsAwakeIn fs c × Complete c.operation (points_in fs) y × (x ≢ y)
+    (c : Begun) × IsAwakeIn fs c × Complete c.operation (points_in fs) y × Replied (points_in fs) y
+    × (MayReturn c.operation y x → ⊥)
 IsOutOfLife m fs f = ⊥
 
 -- ---- the mutexes

@@ -1,9 +1,10 @@
 -- What the checker keeps of a thread.
 use Rattle.std.specs.Prelude.{◌≡◌, ◌≢◌, ◌⊎◌, true, false}
+use Rattle.facts.specs.Lives.{IsWait, MayReturn}
 use Rattle.lockword.specs.declared.reply.Reply.{Reply}
 use Rattle.lockword.specs.declared.reply.Reply.TheVariants.{OK}
 use Rattle.posixmutex.specs.declared.point.Operation.{Operation}
-use Rattle.posixmutex.specs.declared.point.Operation.TheVariants.{Lock, TimedLock, Unlock, Wait}
+use Rattle.posixmutex.specs.declared.point.Operation.TheVariants.{Lock, TimedLock, Unlock, Wait, TimedWait}
 use Rattle.facts.specs.declared.fact.Fact.{Fact}
 use Rattle.facts.specs.declared.fact.Fact.TheVariants.{Begin, Kill, Point, Death, Sleep}
 use Rattle.facts.specs.declared.fact.Fact.TheVariants.{Wake, Move, Return, Reap, Renew}
@@ -20,6 +21,9 @@ use Rattle.verdict.specs.Misfits.{acts, begins, needs_kill}
 abbrev pub MayPoint : Operation → Made → Operation → Reply → Type 0
 MayPoint Wait Nothing Wait x = Unit {0}
 MayPoint Wait Nothing Unlock x = x ≡ OK
+MayPoint TimedWait Nothing Wait x = Unit {0}
+MayPoint TimedWait Nothing Unlock x = x ≡ OK
+MayPoint TimedWait Nothing b x = ⊥
 MayPoint TimedLock Nothing b x = (b ≡ TimedLock) ⊎ (b ≡ Lock)
 MayPoint a Nothing b x = b ≡ a
 MayPoint a Released b x = b ≡ Lock
@@ -28,7 +32,7 @@ MayPoint a (Decided y) b x = ⊥
 -- why a point isn't the next of such a call
 abbrev pub ForbidsPoint : Misfit → Operation → Made → Operation → Reply → Type 0
 ForbidsPoint (misfit.OtherOperation op) a Nothing b x = (op ≡ a) × ((y : Reply) → MayPoint a Nothing b y → ⊥)
-ForbidsPoint misfit.ReleaseRefused a Nothing b x = (a ≡ Wait) × (b ≡ Unlock) × (x ≢ OK)
+ForbidsPoint misfit.ReleaseRefused a Nothing b x = IsWait a × (b ≡ Unlock) × (x ≢ OK)
 ForbidsPoint misfit.Released a Released b x = b ≢ Lock
 ForbidsPoint (misfit.Decided y) a (Decided z) b x = y ≡ z
 ForbidsPoint m a made b x = ⊥
@@ -36,7 +40,13 @@ ForbidsPoint m a made b x = ⊥
 -- how far a point brings a call
 abbrev pub pointed : Operation → Operation → Reply → Made
 pointed Wait Unlock x = Released
+pointed TimedWait Unlock x = Released
 pointed a b x = Decided x
+
+-- such a call may return this reply
+abbrev pub MayReturnNow : Operation → Made → Reply → Type 0
+MayReturnNow a (Decided y) x = MayReturn a y x
+MayReturnNow a made x = ⊥
 
 -- what may be told of a thread at a stage
 abbrev pub May : Stage → Fact → Type 0
@@ -48,7 +58,7 @@ May (Calling c made asleep) (Point d) =
 May (Calling c made asleep) (Sleep t q) = asleep ≡ false
 May (Calling c made asleep) (Wake t) = asleep ≡ true
 May (Calling c made asleep) (Move t m) = asleep ≡ true
-May (Calling c made asleep) (Return t x) = (asleep ≡ false) × (made ≡ Decided x)
+May (Calling c made asleep) (Return t x) = (asleep ≡ false) × MayReturnNow c.operation made x
 May Dying (Death t m) = Unit {0}
 May Dying (Reap t) = Unit {0}
 May Reaped (Renew t) = Unit {0}
@@ -69,7 +79,8 @@ Forbids misfit.Reaped Reaped f = is_renewal f ≡ false
 Forbids (misfit.OtherMutex n) (Calling c made asleep) (Point d) = (asleep ≡ false) × (n ≡ c.mutex) × (d.mutex ≢ n)
 Forbids misfit.Undecided (Calling c made asleep) (Return t x) = (asleep ≡ false) × (made ≡ Nothing)
 Forbids misfit.Released (Calling c made asleep) (Return t x) = (asleep ≡ false) × (made ≡ Released)
-Forbids (misfit.OtherReply y) (Calling c made asleep) (Return t x) = (asleep ≡ false) × (made ≡ Decided y) × (x ≢ y)
+Forbids (misfit.OtherReply y) (Calling c made asleep) (Return t x) =
+    (asleep ≡ false) × (made ≡ Decided y) × (MayReturn c.operation y x → ⊥)
 Forbids m (Calling c made asleep) (Point d) =
     (asleep ≡ false) × (d.mutex ≡ c.mutex) × ForbidsPoint m c.operation made d.operation d.reply
 Forbids m stage f = ⊥

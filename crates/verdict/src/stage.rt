@@ -1,5 +1,6 @@
 //! How far a thread has come.
-ghost use Rattle.std.specs.Prelude.{◌≡◌, true, false, MatchResult};
+ghost use Rattle.std.specs.Prelude.{◌≡◌, ◌↔◌, true, false, IsTrue, MatchResult};
+ghost use Rattle.facts.specs.Lives.{MayReturn};
 ghost use Rattle.verdict.specs.Stages.{Forbids, ForbidsPoint, May, MayPoint, next, pointed};
 
 use crate::misfit::Misfit;
@@ -13,7 +14,7 @@ pub enum Made {
     Nothing,
     /// A wait has released its mutex.
     Released,
-    /// All of them: the call returns this reply.
+    /// All of them: the last one replied so, and the call returns that; a wait that is out of time `ETIMEDOUT` for `OK`.
     Decided(Reply),
 }
 
@@ -36,7 +37,7 @@ fn begun(call: Operation, operation: Operation, reply: Reply) -> Result<Made, Mi
         (λ m. ForbidsPoint m call Made.Nothing operation reply) }
 {
     match call {
-        Operation::Wait => match operation {
+        Operation::Wait | Operation::TimedWait => match operation {
             Operation::Wait => Ok(Made::Decided(reply)),
             Operation::Unlock => {
                 if reply == Reply::OK {
@@ -146,6 +147,19 @@ fn sleeping(call: Begun, made: Made, fact: &Fact) -> Result<Stage, Misfit>
     }
 }
 
+/// Whether a call of that operation may return the reply, whose last point replied as the other says: a wait with a time
+/// limit may be out of time.
+fn may_return(call: Operation, decided: Reply, reply: Reply) -> bool
+    ensures { IsTrue result ↔ MayReturn call decided reply }
+{
+    match call {
+        Operation::TimedWait => {
+            reply == decided || (decided == Reply::OK && reply == Reply::ETIMEDOUT)
+        }
+        _ => reply == decided,
+    }
+}
+
 /// The same of a thread awake in a call.
 fn awake(call: Begun, made: Made, fact: &Fact) -> Result<Stage, Misfit>
     ensures { MatchResult result
@@ -171,7 +185,7 @@ fn awake(call: Begun, made: Made, fact: &Fact) -> Result<Stage, Misfit>
             Made::Nothing => Err(Misfit::Undecided),
             Made::Released => Err(Misfit::Released),
             Made::Decided(decided) => {
-                if decided == reply {
+                if may_return(call.operation, decided, reply) {
                     Ok(Stage::Resting)
                 } else {
                     Err(Misfit::OtherReply { reply: decided })

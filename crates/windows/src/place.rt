@@ -53,13 +53,14 @@ pub fn has_taken(call: Begun, made: Made) -> bool {
     }
 }
 
-/// The operation of the point by which a call is told so: a lock with a time limit is told as a lock, unless the limit
-/// came.
+/// The operation of the first point by which a call is told so: a lock with a time limit is told as a lock, unless the
+/// limit came; a wait with one as a wait.
 pub fn told_as(call: Operation, reply: Reply) -> Operation {
-    if call == Operation::TimedLock && reply != Reply::ETIMEDOUT {
-        return Operation::Lock;
+    match call {
+        Operation::TimedLock if reply != Reply::ETIMEDOUT => Operation::Lock,
+        Operation::TimedWait => Operation::Wait,
+        _ => call,
     }
-    call
 }
 
 /// Whether another thread owns the mutex.

@@ -1,84 +1,48 @@
-use Rattle.std.proofs.Common.{◌≡◌, ◌+◌, refl, sym, ap, ◌∙◌, arith, slice_index_or, slice_set}
+use Rattle.std.proofs.Common.{◌≡◌, ◌+◌, true, sym, ap, ◌∙◌, subst, arith, slice_index_or}
 use Rattle.std.proofs.lemmas.Grind.{common_steps}
+use Rattle.condvar.specs.Ops.{is_in}
 use Rattle.condvar.specs.declared.op.Op.{Op}
+use Rattle.condvar.specs.declared.op.Op.TheVariants.{OnCondition}
 use Rattle.protocol.specs.declared.thread.Thread.{Thread}
+use Rattle.protocol.specs.declared.thread.Stage.{Stage}
 use Rattle.protocol.specs.declared.thread.Stage.TheVariants.{Calling}
-use Rattle.protocol.specs.Machine.{After, idle}
-use Rattle.interleave.specs.Shown.{state_at, thread_at}
+use Rattle.protocol.specs.Machine.{idle}
+use Rattle.interleave.specs.Shown.{thread_at}
+use Rattle.interleave.specs.Steps.{IsOnItsWay}
 use Rattle.interleave.proofs.Views.{thread_at-index}
-use Rattle.interleave.proofs.Expiring.{untimed_rests, early_rests, stayed_state, stayed_note, lapsed_state, lapsed_note}
 use Rattle.interleave.proofs.expiries.expire.Goals as goal
 
-pub returns-in_default-timed_lock : goal.returns-in_default-timed_lock
-returns-in_default-timed_lock c =
+pub expire_lock-requires-clause-stands : goal.expire_lock-requires-clause-stands
+expire_lock-requires-clause-stands c =
     let ts = c.args.threads.now.items in
     let t = c.args.thread in
-    let k = c.as_index-index.result in
+    let k = c.as_index.result in
     let at : k + 1 ≡ t = omega arith in
-    let read : c.index.result.now ≡ slice_index_or ts k idle = grind (arith, common_steps) in
-    let is : (thread_at ts t).stage ≡ Calling c.in-Calling.op c.in-Calling.program = ap (λ (z : Thread). z.stage) (thread_at-index ts k t at ∙ sym read) ∙ c.in-Calling.is in
-    record {
-      state = λ ws in_call. sym (ap (λ (a : After). a.state) (untimed_rests (state_at c.args.layout.now ws c.args.kernel.now ts) t c.in-Calling.op c.in-Calling.program is c.in_default-timed_lock.ensures));
-      note = λ ws in_call. sym (ap (λ (a : After). a.note) (untimed_rests (state_at c.args.layout.now ws c.args.kernel.now ts) t c.in-Calling.op c.in-Calling.program is c.in_default-timed_lock.ensures));
-      kernel = refl;
-      heads = refl;
-      threads = refl;
-    }
+    let found : c.index.result.now ≡ slice_index_or ts k idle = grind (arith, common_steps) in
+    ap (λ (z : Thread). z.stage) (thread_at-index ts k t at ∙ sym found) ∙ c.in-Calling.is ∙ ap (λ (o : Op). Calling o c.in-Calling.program) c.in-OnMutex.is
 
-pub returns-in_default-expired : goal.returns-in_default-expired
-returns-in_default-expired c =
+pub expire_wait-requires-clause-stands : goal.expire_wait-requires-clause-stands
+expire_wait-requires-clause-stands c =
     let ts = c.args.threads.now.items in
     let t = c.args.thread in
-    let k = c.as_index-index.result in
-    let p = c.in-Calling.program in
+    let k = c.as_index.result in
     let at : k + 1 ≡ t = omega arith in
-    let read : c.index.result.now ≡ slice_index_or ts k idle = grind (arith, common_steps) in
-    let is = ap (λ (z : Thread). z.stage) (thread_at-index ts k t at ∙ sym read) ∙ c.in-Calling.is ∙ ap (λ (o : Op). Calling o p) c.in-Some.ensures in
-    record {
-      state = λ ws in_call. sym (ap (λ (a : After). a.state) (early_rests (state_at c.args.layout.now ws c.args.kernel.now ts) t c.in-Some.mutex p is c.in_default-expired.ensures));
-      note = λ ws in_call. sym (ap (λ (a : After). a.note) (early_rests (state_at c.args.layout.now ws c.args.kernel.now ts) t c.in-Some.mutex p is c.in_default-expired.ensures));
-      kernel = refl;
-      heads = refl;
-      threads = refl;
-    }
+    let found : c.index.result.now ≡ slice_index_or ts k idle = grind (arith, common_steps) in
+    ap (λ (z : Thread). z.stage) (thread_at-index ts k t at ∙ sym found) ∙ c.in-Calling.is ∙ ap (λ (o : Op). Calling o c.in-Calling.program) c.in-OnCondition.is
 
-pub returns-then-not-remove-clause-state : goal.returns-then-not-remove-clause-state
-returns-then-not-remove-clause-state c = λ ws in_call.
+pub expire_wait-requires-clause-inside : goal.expire_wait-requires-clause-inside
+expire_wait-requires-clause-inside c =
     let ts = c.args.threads.now.items in
     let t = c.args.thread in
-    let k = c.as_index-index.result in
-    let p = c.in-Calling.program in
+    let k = c.as_index.result in
     let at : k + 1 ≡ t = omega arith in
-    let read : c.index.result.now ≡ slice_index_or ts k idle = grind (arith, common_steps) in
-    stayed_state c.args.layout.now ws c.args.kernel.now c.remove.new.self ts k t c.in-Some.mutex p c.in-Some-expired.left c.index.result.now (omega arith) (omega arith) at c.requires.threads (thread_at-index ts k t at ∙ sym read) (c.in-Calling.is ∙ ap (λ (o : Op). Calling o p) c.in-Some.ensures) c.in-Some-expired.ensures in_call c.if-not-remove.ensures.changes
+    let found : c.index.result.now ≡ slice_index_or ts k idle = grind (arith, common_steps) in
+    let is : (thread_at ts t).stage ≡ Calling (OnCondition c.in-OnCondition.call) c.in-Calling.program =
+    ap (λ (z : Thread). z.stage) (thread_at-index ts k t at ∙ sym found) ∙ c.in-Calling.is ∙ ap (λ (o : Op). Calling o c.in-Calling.program) c.in-OnCondition.is in
+    (subst (IsOnItsWay c.args.layout.now) is (c.requires.goes (omega arith)).0).0
 
-pub returns-then-not-remove-clause-note : goal.returns-then-not-remove-clause-note
-returns-then-not-remove-clause-note c = λ ws in_call.
-    let ts = c.args.threads.now.items in
-    let t = c.args.thread in
-    let k = c.as_index-index.result in
-    let p = c.in-Calling.program in
-    let at : k + 1 ≡ t = omega arith in
-    let read : c.index.result.now ≡ slice_index_or ts k idle = grind (arith, common_steps) in
-    stayed_note c.args.layout.now ws c.args.kernel.now c.remove.new.self ts k t c.in-Some.mutex p c.in-Some-expired.left c.index.result.now (omega arith) (omega arith) at c.requires.threads (thread_at-index ts k t at ∙ sym read) (c.in-Calling.is ∙ ap (λ (o : Op). Calling o p) c.in-Some.ensures) c.in-Some-expired.ensures in_call c.if-not-remove.ensures.changes
+pub returns-in-OnCondition-clause-state : goal.returns-in-OnCondition-clause-state
+returns-in-OnCondition-clause-state c = λ ws in_call. c.expire_wait.ensures.state ws
 
-pub returns-clause-state : goal.returns-clause-state
-returns-clause-state c = λ ws in_call.
-    let ts = c.args.threads.now.items in
-    let t = c.args.thread in
-    let k = c.as_index-index.result in
-    let p = c.in-Calling.program in
-    let at : k + 1 ≡ t = omega arith in
-    let read : c.index.result.now ≡ slice_index_or ts k idle = grind (arith, common_steps) in
-    (λ i. state_at c.args.layout.now ws c.remove.new.self (slice_set ts k (record { stage = Calling (c.in-Some.ensures i) c.in-Some-expired.left; held = c.index.result.now.held })))
-    ∙ lapsed_state c.args.layout.now ws c.args.kernel.now c.remove.new.self ts k t c.in-Some.mutex p c.in-Some-expired.left c.index.result.now (omega arith) (omega arith) at c.requires.threads (thread_at-index ts k t at ∙ sym read) (c.in-Calling.is ∙ ap (λ (o : Op). Calling o p) c.in-Some.ensures) c.in-Some-expired.ensures in_call c.if-not-remove.ensures.changes
-
-pub returns-clause-note : goal.returns-clause-note
-returns-clause-note c = λ ws in_call.
-    let ts = c.args.threads.now.items in
-    let t = c.args.thread in
-    let k = c.as_index-index.result in
-    let p = c.in-Calling.program in
-    let at : k + 1 ≡ t = omega arith in
-    let read : c.index.result.now ≡ slice_index_or ts k idle = grind (arith, common_steps) in
-    lapsed_note c.args.layout.now ws c.args.kernel.now c.remove.new.self ts k t c.in-Some.mutex p c.in-Some-expired.left c.index.result.now (omega arith) (omega arith) at c.requires.threads (thread_at-index ts k t at ∙ sym read) (c.in-Calling.is ∙ ap (λ (o : Op). Calling o p) c.in-Some.ensures) c.in-Some-expired.ensures in_call c.if-not-remove.ensures.changes
+pub returns-in-OnCondition-clause-note : goal.returns-in-OnCondition-clause-note
+returns-in-OnCondition-clause-note c = λ ws in_call. c.expire_wait.ensures.note ws

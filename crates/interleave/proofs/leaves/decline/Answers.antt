@@ -10,7 +10,7 @@ use Rattle.protocol.specs.Machine.{State, After, idle, is_trim}
 use Rattle.interleave.specs.declared.calls.InCall.TheVariants as in_call
 use Rattle.interleave.specs.Shown.{state_at, thread_at}
 use Rattle.interleave.specs.Steps.{IsOnItsWay, SleepsInItsCall}
-use Rattle.interleave.specs.Perform.{held_with, stage_in}
+use Rattle.interleave.specs.Perform.{held_with, replying, stage_in}
 use Rattle.interleave.proofs.Views.{thread_at-index}
 use Rattle.interleave.proofs.Sleeping.{told_asleep}
 use Rattle.interleave.proofs.Leaving.{asleep_rests, declined_by, no_trim_rests}
@@ -65,9 +65,9 @@ returns c =
     let known : t ≤ l.threads = omega arith in
     let read : th ≡ slice_index_or ts k idle = grind (arith, common_steps) in
     let trims : is_trim (whole_access p) ≡ true = sym (ap is_trim c.next.ensures) ∙ ap is_trim c.in-Trim.is in
-    let resumed = c.resume-progress.ensures in
-    let shows = answered_shows l ts k t (in_call.Calling o p) (Trimmed false) th at known c.requires.threads c.quiet-done.result c.quiet-done.ensures c.resume-progress.result resumed.progress
-    c.stage_after.result c.held_after.result (c.stage_after.ensures ∙ (λ i. stage_in o (resumed.moved i) (resumed.progress i))) (c.held_after.ensures ∙ ap (held_with th.held) c.point.ensures)
+    let progressed = c.replied-progress.ensures ∙ ap (replying o) c.resume-told.ensures.progress in
+    let shows = answered_shows l ts k t (in_call.Calling o p) (Trimmed false) th at known c.requires.threads c.quiet-done.result c.quiet-done.ensures c.replied-progress.result progressed
+    c.stage_after.result c.held_after.result (c.stage_after.ensures ∙ (λ i. stage_in o (c.resume-told.ensures.moved i) (progressed i))) (c.held_after.ensures ∙ ap (held_with th.held) c.point.ensures)
     c.mutex-mutex.result (Mutex c.mutex-mutex.result) c.stepped.result c.mutex-mutex.ensures c.stepped.ensures (Decline t) in
     let goes = λ (ws : List ℕ) (sleeps : SleepsInItsCall (state_at l ws kernel ts) t). let s : State = state_at l ws kernel ts in declined_by s t o p th (is_there s k t at known) (thread_at-index ts k t at ∙ sym read) c.in-Calling.is trims (sym (told_asleep s kernel t (λ key. refl) sleeps false c.if-asleep.ensures.value)) in
     record {

@@ -5,7 +5,7 @@ use Rattle.facts.specs.declared.fact.Queue.TheVariants.{Mutex}
 use Rattle.protocol.specs.declared.event.Event.TheVariants.{Spare}
 use Rattle.protocol.specs.Machine.{idle}
 use Rattle.interleave.specs.declared.calls.InCall.TheVariants.{Calling}
-use Rattle.interleave.specs.Perform.{held_with, stage_in}
+use Rattle.interleave.specs.Perform.{held_with, replying, stage_in}
 use Rattle.interleave.proofs.Views.{thread_at-index}
 use Rattle.interleave.proofs.Sparing.{answered_shows, spares_there}
 use Rattle.interleave.proofs.spares.spare_unlock.Goals as goal
@@ -20,9 +20,9 @@ returns c =
     let k = c.as_index-index.result in
     let at : k + 1 ≡ t = omega arith in
     let read : th ≡ slice_index_or ts k idle = grind (arith, common_steps) in
-    let resumed = c.resume-progress.ensures in
-    let shows = answered_shows l ts k t call (Count 1) th at c.requires.known c.requires.threads c.quiet-done.result c.quiet-done.ensures c.resume-progress.result resumed.progress
-    c.stage_after.result c.held_after.result (c.stage_after.ensures ∙ (λ i. stage_in c.args.op (resumed.moved i) (resumed.progress i))) (c.held_after.ensures ∙ ap (held_with th.held) c.point.ensures)
+    let progressed = c.replied-progress.ensures ∙ ap (replying c.args.op) c.resume-told.ensures.progress in
+    let shows = answered_shows l ts k t call (Count 1) th at c.requires.known c.requires.threads c.quiet-done.result c.quiet-done.ensures c.replied-progress.result progressed
+    c.stage_after.result c.held_after.result (c.stage_after.ensures ∙ (λ i. stage_in c.args.op (c.resume-told.ensures.moved i) (progressed i))) (c.held_after.ensures ∙ ap (held_with th.held) c.point.ensures)
     c.mutex-mutex.result (Mutex c.mutex-mutex.result) c.stepped.result c.mutex-mutex.ensures c.stepped.ensures (Spare t) in
     let goes = spares_there l ts k t call th at c.requires.known (thread_at-index ts k t at ∙ sym read) c.requires.stands c.requires.wakes in
     record {

@@ -3,7 +3,7 @@ use Rattle.std.specs.List.{flat_map}
 use Rattle.protocol.specs.declared.note.Note.{Note}
 use Rattle.protocol.specs.Notes.{facts_of}
 use Rattle.texts.specs.Tables.{told_to}
-use Rattle.texts.proofs.Told.{told_at_step, told_at_walk}
+use Rattle.texts.proofs.Told.{told_at_expiry, told_at_step, told_at_walk}
 use Rattle.texts.proofs.table.reply_in.Goals as goal
 
 pub returns-in-Stepped : goal.returns-in-Stepped
@@ -16,7 +16,7 @@ returns-in-Nothing c = elim c.in-Nothing.is [
   | inl e ↦ ap (λ (m : Note). flat_map (told_to c.args.thread) (facts_of m)) (sym e)
   | inr (inl e) ↦ ap (λ (m : Note). flat_map (told_to c.args.thread) (facts_of m)) (sym e.1)
   | inr (inr (inl e)) ↦ ap (λ (m : Note). flat_map (told_to c.args.thread) (facts_of m)) (sym e.1)
-  | inr (inr (inr e)) ↦ ap (λ (m : Note). flat_map (told_to c.args.thread) (facts_of m)) (sym e.2)
+  | inr (inr (inr e)) ↦ sym (told_at_expiry c.args.thread e.0 e.1) ∙ ap (λ (m : Note). flat_map (told_to c.args.thread) (facts_of m)) (sym e.2)
 ]
 
 pub returns-in-Walked : goal.returns-in-Walked
