@@ -107,13 +107,16 @@ void pz_comes(const pz *p, unsigned t, uint64_t cell)
         ;
 }
 
-/* Who finds nobody asleep, and no heir, becomes it. */
+/* Who finds nobody asleep, and no heir, becomes it. (One that comes to sleep meanwhile sleeps behind it: an unlock of
+ * the heir's own wakes that one.) */
 static int is_heir(const pz *p, unsigned t, uint64_t cell)
 {
     uint64_t is = SEE(heir(p, cell));
     if ((is & WHO) == t)
         return 1;
-    if (is || (SEE(sleepers(p, cell)) & ~bit_of(t)))
+    struct ids others = noted(sleepers(p, cell));
+    leave_out(&others, t);
+    if (is || how_many(&others))
         return 0;
     heir_since = now_ns();
     return EXCHANGE(heir(p, cell), &is, t | since(heir_since));
@@ -161,7 +164,8 @@ static long longest_pause(const pz *p, uint64_t cell)
     if (may_be)
         patience.processors = count_processors();
     long most = may_be ? LONGEST_PAUSE : patience.ns;
-    int crowded = __builtin_popcountll(SEE(sleepers(p, cell))) >= patience.processors;
+    struct ids who = noted(sleepers(p, cell));
+    int crowded = (int)how_many(&who) >= patience.processors;
     return crowded && most > CROWDED_PAUSE ? CROWDED_PAUSE : most;
 }
 
