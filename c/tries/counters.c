@@ -51,7 +51,7 @@ static pthread_t waiter(int *is_stopped)
     pthread_t it;
     atomic_store(&stopped, 0);
     CHECK(!pthread_create(&it, NULL, a_waiter, is_stopped));
-    while (is_stopped ? !atomic_load(&stopped) : !atomic_load(counter + 3) || owner_of(atomic_load(cell)))
+    while (is_stopped ? !atomic_load(&stopped) : !atomic_load(counter + SLEEPERS) || owner_of(atomic_load(cell)))
         rest(100);
     return it;
 }
@@ -114,7 +114,7 @@ static void one_is_killed(void)
     pid_t child = a_child();
     if (!child)
         _exit(a_waiter(NULL) != NULL);
-    while (!atomic_load(counter + 3) || owner_of(atomic_load(cell)))
+    while (!atomic_load(counter + SLEEPERS) || owner_of(atomic_load(cell)))
         rest(100);
     CHECK(!kill(child, SIGKILL) && waitpid(child, NULL, 0) == child);
     counts(pz_cond_signal, AGAIN + 7, 0, AGAIN + 8);

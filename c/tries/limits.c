@@ -24,7 +24,7 @@ static int lock_until(pz *p, unsigned m, clockid_t clock, const struct timespec 
     int r = lock_by(p, m, clock, until);
     unsigned t = pz_thread_id(p);
     CHECK(errno == WAS && atomic_load(&p->words[head_place(t) + 2]) == 0);
-    CHECK(!(atomic_load(sleepers(p, cell_place(m))) & bit_of(t)) && (atomic_load(heir(p, cell_place(m))) & WHO) != t);
+    CHECK(!is_noted(sleepers(p, cell_place(m)), t) && (atomic_load(heir(p, cell_place(m))) & WHO) != t);
     return r;
 }
 
@@ -296,8 +296,8 @@ static int wait_until(pz *p, clockid_t clock, const struct timespec *until)
     int r = wait_by(p, 0, clock, until);
     unsigned t = pz_thread_id(p);
     CHECK(errno == WAS && atomic_load(&p->words[head_place(t) + 2]) == 0);
-    CHECK(!(atomic_load(sleepers(p, cell_place(0))) & bit_of(t)) && (atomic_load(heir(p, cell_place(0))) & WHO) != t);
-    CHECK(!(atomic_load(sleepers(p, counter_place(p, 0))) & bit_of(t)));
+    CHECK(!is_noted(sleepers(p, cell_place(0)), t) && (atomic_load(heir(p, cell_place(0))) & WHO) != t);
+    CHECK(!is_noted(sleepers(p, counter_place(p, 0)), t));
     CHECK((pz_mutex_owner(p, 0) == t) == (r != ENOTRECOVERABLE));
     return r;
 }

@@ -29,7 +29,7 @@ enum { STEP = 2500, PROCESSORS = 3, DEAD = 2, SELF = 1, OTHER = 3 };
 /* Thread 2 is dead, and its walk marks the one mutex. */
 static struct pz file;
 _Thread_local struct self pz_self[FILES];
-static word words[80 * LINE];
+static word words[(16 + THREADS) * LINE];
 static uint64_t cell;
 static int reaps;
 static uint32_t token[1 + THREADS] = {[DEAD] = FUTEX_OWNER_DIED};
@@ -121,7 +121,7 @@ static long played_call(long number, ...)
 
 static void begin(uint64_t is, uint64_t its_heir)
 {
-    file = (struct pz){.words = words, .places = 80 * LINE, .mutexes = 8, .conds = 2};
+    file = (struct pz){.words = words, .places = (16 + THREADS) * LINE, .mutexes = 8, .conds = 2};
     cell = cell_place(0);
     memset(words, 0, sizeof words);
     words[cell] = is;
@@ -175,10 +175,11 @@ static void where_many_sleep(void)
 {
     begin(OTHER, SELF);
     patience.sleeps = 0;
-    *sleepers(&file, cell) = bit_of(4) | bit_of(5);
+    note_sleeper(sleepers(&file, cell), 4);
+    note_sleeper(sleepers(&file, cell), 5);
     pauses_for(PZ_SPIN, 0);
     patience.sleeps = 0;
-    *sleepers(&file, cell) |= bit_of(64);
+    note_sleeper(sleepers(&file, cell), THREADS);
     pauses_for(CROWDED_PAUSE / 1000, 0);
 }
 
@@ -202,9 +203,10 @@ static void an_owner_dies_meanwhile(void)
 static void who_comes_behind_sleepers(void)
 {
     begin(OTHER, 0);
-    *sleepers(&file, cell) = bit_of(SELF) | bit_of(64);
+    note_sleeper(sleepers(&file, cell), SELF);
+    note_sleeper(sleepers(&file, cell), THREADS);
     CHECK(!is_heir(&file, SELF, cell) && !*heir(&file, cell));
-    *sleepers(&file, cell) = bit_of(SELF);
+    forget_sleeper(sleepers(&file, cell), THREADS);
     CHECK(is_heir(&file, SELF, cell));
 }
 
@@ -393,7 +395,7 @@ static void time_passes(void)
 }
 static void a_sleep_ends_there(clockid_t clock)
 {
-    begin(OTHER | WAITERS, 64); /* it doesn't wait awake */
+    begin(OTHER | WAITERS, THREADS); /* it doesn't wait awake */
     struct limit limit = until_then(clock, SECOND / 4);
     refuses = ETIMEDOUT;
     meanwhile = time_passes;
@@ -412,7 +414,7 @@ static void sleeps_twice(void)
 }
 static void a_limit_that_is_far(clockid_t clock)
 {
-    begin(OTHER | WAITERS, 64);
+    begin(OTHER | WAITERS, THREADS);
     at = (struct timespec){INT64_MAX, SECOND - 1};
     struct limit limit = {.clock = clock, .at = &at};
     meanwhile = sleeps_twice;
@@ -424,7 +426,7 @@ static void a_limit_that_is_far(clockid_t clock)
 static void is_set(void) { ahead_ns += sleeps_asked == 1 ? -60l * SECOND : 3600l * SECOND; }
 static void a_clock_that_is_set(void)
 {
-    begin(OTHER | WAITERS, 64);
+    begin(OTHER | WAITERS, THREADS);
     struct limit limit = until_then(CLOCK_REALTIME, SECOND / 100);
     refuses = ETIMEDOUT;
     meanwhile = is_set;
@@ -450,7 +452,7 @@ static void it_has_come(clockid_t clock)
 /* Its owner dies just before: it is reaped, and the mutex may be had. */
 static void its_owner_dies_there(void)
 {
-    begin(DEAD, 64);
+    begin(DEAD, THREADS);
     struct limit limit = until_then(CLOCK_MONOTONIC, -1);
     struct sleeper s = {.p = &file, .thread = SELF, .at = cell, .expected = DEAD, .limit = &limit};
     SAME((int)sleep_on(&s), PZ_AGAIN);
@@ -473,7 +475,7 @@ static void others_look(void)
 {
     for (int was_woken = 0; was_woken < 2; was_woken++)
         for (int others = 0; others < 2; others++) {
-            begin(OTHER | WAITERS, 64);
+            begin(OTHER | WAITERS, THREADS);
             *sleepers(&file, cell) = others ? bit_of(5) : 0;
             struct limit limit = until_then(CLOCK_MONOTONIC, SECOND);
             if (was_woken)
