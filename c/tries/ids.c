@@ -6,7 +6,7 @@
 #include <pthread.h>
 #include <sys/syscall.h>
 
-enum { IDS = 64, HUNDRED = 100, ALL = IDS + HUNDRED, MUTEXES = 2, WAS = 77 };
+enum { IDS = PZ_THREADS, HUNDRED = 100, ALL = IDS + HUNDRED, MUTEXES = 2, WAS = 77 };
 enum order { STAY, BEGIN, LOCK, UNTIL_FAR, TRYLOCK, UNLOCK, WAIT, SIGNAL, LEAVE };
 
 /* One process: what it is told to do, with which mutex, and how often it has done that; what it was answered last, and
@@ -112,7 +112,7 @@ static void comes_and_waits(int i, enum order what)
     sleeps_in(i, what, 1);
 }
 
-/* A file of its own, and 64 that have its ids, in their order. */
+/* A file of its own, and those that have its ids, in their order. */
 static void begin(void)
 {
     alarm(100);

@@ -28,7 +28,7 @@ enum { MUTEXES = 8, CONDS = 2, PLACES = LINE * (1 + THREADS + MUTEXES + CONDS) }
 static unsigned its_id, thirds_id;
 static const struct {
     unsigned its, thirds;
-} ids_of[] = {{2, 4}, {THREADS, 4}};
+} ids_of[] = {{THREADS, 4}, {2, 4}};
 enum { IDS = sizeof ids_of / sizeof *ids_of };
 
 static struct pz file;
