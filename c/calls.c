@@ -382,13 +382,11 @@ int pz_cond_by_steps(pz *p, unsigned c, unsigned operation, struct limit *limit)
     return answer_to(reply);
 }
 
-/* Whose count, and a broadcast's WAITERS, are made, and who found that somebody may sleep: these bits, or MORE. */
-int pz_counted(pz *p, unsigned c, unsigned operation, uint64_t count, uint64_t found, uint64_t bits)
+/* Whose count, and a broadcast's WAITERS, are made, and who found that somebody may sleep. */
+int pz_counted(pz *p, unsigned c, unsigned operation, uint64_t count, uint64_t found)
 {
     unsigned t = pz_self[p->number].id;
     struct pz_call call = cond_call_of(p, t, c);
-    if (!any_of(sleepers(p, call.counter), bits))
-        return 0;
     call.program = ON_CONDITION;
     call.phase.kind = operation == PZ_OP_SIGNAL ? SIGNAL_COUNT : BROADCAST_SET_WAITERS;
     call.phase.seen = operation == PZ_OP_SIGNAL ? 0 : (uint32_t)count;

@@ -18,7 +18,7 @@ int pz_lost(pz *p, unsigned m, unsigned operation, struct limit *limit, uint64_t
 int pz_hand_on(pz *p, unsigned m, uint64_t found);
 int pz_take_behind(pz *p, unsigned m, struct limit *limit);
 int pz_cond_by_steps(pz *p, unsigned c, unsigned operation, struct limit *limit);
-int pz_counted(pz *p, unsigned c, unsigned operation, uint64_t count, uint64_t found, uint64_t bits);
+int pz_counted(pz *p, unsigned c, unsigned operation, uint64_t count, uint64_t found);
 uint64_t pz_begin_again(word *counter, uint64_t count);
 
 static inline uint64_t own(const word *w) { return atomic_load_explicit(w, memory_order_relaxed); }
@@ -81,10 +81,10 @@ static inline __attribute__((always_inline)) int pz_give(pz *p, unsigned m)
     /* WAITERS alone is no sleeper: where there is no heir, and none has a bit, the wake of nobody and the trim that is
      * declined are left out; where there is an heir who is awake, and not due, the wake is. (Without WAITERS no word is
      * looked at. Who sleeps has set it before, and its bit before the kernel's look at the cell; the words are looked
-     * at behind the release: so it is found, or finds the mutex released. One load is enough, but where that shows
-     * bits, or MORE: then pz_hand_on looks at all.) */
+     * at behind the release: so it is found, or finds the mutex released.) */
     uint64_t its = found & WAITERS ? SEE(w + HEIR) : 0;
-    if ((found & WAITERS) && (its ? its & (NAPS | DUE) : SEE(w + SLEEPERS)))
+    uint64_t who = !(found & WAITERS) ? 0 : its ? its & (NAPS | DUE) : SEE(w + SLEEPERS);
+    if (who && (its || any_of(w + SLEEPERS, who)))
         return pz_hand_on(p, m, found);
     STORE(h + 2, 0);
     self->held--;
@@ -128,6 +128,6 @@ static inline int pz_count(pz *p, unsigned c, unsigned operation)
     if (operation == PZ_OP_BROADCAST)
         found = OR(w, WAITERS); /* before anybody is moved there */
     uint64_t bits = SEE(counter + SLEEPERS);
-    return bits ? pz_counted(p, c, operation, count, found, bits) : 0;
+    return bits && any_of(counter + SLEEPERS, bits) ? pz_counted(p, c, operation, count, found) : 0;
 }
 #endif

@@ -77,7 +77,7 @@ static void a_file_of_another_program(void)
 static void a_file_of_another_format(void)
 {
     const char *path = a_file("format");
-    static char before[1 << 16], after[1 << 16];
+    static char before[1 << 17], after[1 << 17];
     pz *p;
     SAME(pz_open(path, 0600, 2, 1, NULL, 8, &p), 0);
     SAME(pz_mutex_lock(p, 1), 0);
@@ -724,7 +724,7 @@ static void a_child_closes(void)
 /* Refused, as its condition variable is to be of another mutex than it is, and left as it was. */
 static void is_left_as_it_is(const char *path)
 {
-    static char before[1 << 16], after[1 << 16];
+    static char before[1 << 17], after[1 << 17];
     pz *p;
     uint16_t other[1] = {1};
     int fd = open(path, O_RDONLY);
