@@ -335,6 +335,8 @@ static void one_is_interrupted(void)
 
 /* ---- A hundred wait. */
 
+enum { AT_ONCE = 126, LOOKS = 7 }; /* how many ids one watches at a time; how often one that can't watch all looks */
+
 static long sleeps_of_all(void)
 {
     long all = 0;
@@ -343,7 +345,8 @@ static long sleeps_of_all(void)
     return all;
 }
 
-/* They have no processor meanwhile, and all of them an id in the end, as each that has one leaves. */
+/* They have no processor meanwhile, but for looks where futex_waitv(2) doesn't take all ids, and all of them an id in
+ * the end, as each that has one leaves. */
 static void a_hundred_wait(void)
 {
     begin();
@@ -355,7 +358,7 @@ static void a_hundred_wait(void)
         until_waits(i);
     long before = sleeps_of_all();
     rest(1000000);
-    SAME((int)(sleeps_of_all() - before), 0);
+    CHECK(sleeps_of_all() - before <= (PZ_THREADS > AT_ONCE ? LOOKS * HUNDRED : 0));
     for (int i = 0; i < IDS; i++)
         order(i, LEAVE, 0);
     for (int left = HUNDRED; left; rest(100))

@@ -16,7 +16,8 @@
 #include <sys/syscall.h>
 #include <sys/time.h>
 
-enum { OURS = 0x7a61700c, MOST = 32768, IDS = 64 };
+enum { OURS = 0x7a61700c, MOST = 32768, IDS = PZ_THREADS };
+_Static_assert(IDS <= 64, "the crowds here are of as many mutexes of the second bank, which has 240");
 
 static const char *folder, *self;
 
