@@ -112,11 +112,11 @@ void pz_comes(const pz *p, unsigned t, uint64_t cell)
 static int is_heir(const pz *p, unsigned t, uint64_t cell)
 {
     uint64_t is = SEE(heir(p, cell));
-    if ((is & WHO) == t)
-        return 1;
+    if (is)
+        return (is & WHO) == t;
     struct ids others = noted(sleepers(p, cell));
     leave_out(&others, t);
-    if (is || how_many(&others))
+    if (how_many(&others))
         return 0;
     heir_since = now_ns();
     return EXCHANGE(heir(p, cell), &is, t | since(heir_since));
