@@ -63,7 +63,7 @@ static uint32_t requeue(const pz *p, const struct pz_access *x, uint64_t *value)
 {
     *value = 0;
     struct ids who = noted(sleepers(p, x->at));
-    if (!how_many(&who))
+    if (!count_ids(&who))
         return PZ_COUNTS;
     note_all(sleepers(p, x->b), &who);
     long n = futex(&p->words[x->at], FUTEX_CMP_REQUEUE, x->wakes, x->most, &p->words[x->b], (uint32_t)x->a);

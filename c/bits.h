@@ -17,8 +17,8 @@
 #ifndef PZ_BITS_H
 #define PZ_BITS_H
 
-enum { OF_WORD = 64, WORDS = THREADS / OF_WORD + 1, HEIR = 3, SLEEPERS = 4 };
-_Static_assert(SLEEPERS + WORDS <= LINE, "a line has a bit for each id");
+enum { OF_WORD = 64, BIT_WORDS = THREADS / OF_WORD + 1, HEIR = 3, SLEEPERS = 4 };
+_Static_assert(SLEEPERS + BIT_WORDS <= LINE, "a line has a bit for each id");
 static const uint64_t MORE = 1, LAST_IDS = UINT64_MAX >> (OF_WORD - 1 - THREADS % OF_WORD);
 
 /* The first of these words, of the line that has this place. */
@@ -27,14 +27,14 @@ static inline uint64_t bit_of(unsigned t) { return 1ull << t % OF_WORD; }
 
 /* Threads, as those words have them, without MORE. */
 struct ids {
-    uint64_t of[WORDS];
+    uint64_t of[BIT_WORDS];
 };
 static inline struct ids all_ids(void)
 {
     struct ids all;
-    for (unsigned k = 0; k < WORDS; k++)
+    for (unsigned k = 0; k < BIT_WORDS; k++)
         all.of[k] = UINT64_MAX;
-    all.of[WORDS - 1] &= LAST_IDS;
+    all.of[BIT_WORDS - 1] &= LAST_IDS;
     all.of[0] &= ~MORE;
     return all;
 }
@@ -43,21 +43,21 @@ static inline void leave_out(struct ids *who, unsigned t) { who->of[t / OF_WORD]
 static inline struct ids in_both(const struct ids *a, const struct ids *b)
 {
     struct ids both;
-    for (unsigned k = 0; k < WORDS; k++)
+    for (unsigned k = 0; k < BIT_WORDS; k++)
         both.of[k] = a->of[k] & b->of[k];
     return both;
 }
-static inline unsigned how_many(const struct ids *who)
+static inline unsigned count_ids(const struct ids *who)
 {
     unsigned n = 0;
-    for (unsigned k = 0; k < WORDS; k++)
+    for (unsigned k = 0; k < BIT_WORDS; k++)
         n += (unsigned)__builtin_popcountll(who->of[k]);
     return n;
 }
 /* The next one behind t; 0: there is none. */
 static inline unsigned id_behind(const struct ids *who, unsigned t)
 {
-    for (unsigned k = ++t / OF_WORD; k < WORDS; t = ++k * OF_WORD) {
+    for (unsigned k = ++t / OF_WORD; k < BIT_WORDS; t = ++k * OF_WORD) {
         uint64_t left = who->of[k] & (UINT64_MAX << t % OF_WORD);
         if (left)
             return k * OF_WORD + (unsigned)__builtin_ctzll(left);
@@ -84,7 +84,7 @@ static inline int any_of(word *first, uint64_t bits)
     if (bits != MORE)
         return bits != 0;
     bits = 0;
-    for (unsigned k = 1; k < WORDS; k++)
+    for (unsigned k = 1; k < BIT_WORDS; k++)
         bits |= SEE(first + k);
     return bits != 0;
 }
@@ -94,7 +94,7 @@ static inline int any_noted(word *first) { return any_of(first, SEE(first)); }
 static inline struct ids noted(word *first)
 {
     struct ids who = {{SEE(first)}}, all = all_ids();
-    for (unsigned k = 1; k < WORDS && (who.of[0] & MORE); k++)
+    for (unsigned k = 1; k < BIT_WORDS && (who.of[0] & MORE); k++)
         who.of[k] = SEE(first + k);
     return in_both(&who, &all);
 }
@@ -103,7 +103,7 @@ static inline struct ids noted(word *first)
 static inline void note_all(word *first, const struct ids *who)
 {
     uint64_t more = 0;
-    for (unsigned k = 1; k < WORDS; k++) {
+    for (unsigned k = 1; k < BIT_WORDS; k++) {
         if (who->of[k])
             OR(first + k, who->of[k]);
         more |= who->of[k];

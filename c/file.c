@@ -171,7 +171,7 @@ static void begin_boot(pz *p, const char boot[40])
     for (unsigned t = 1; t <= THREADS; t++)
         pz_walk_on(p, t);
     for (uint64_t at = cell_place(0); at < p->places; at += LINE)
-        for (unsigned k = 0; k < WORDS; k++)
+        for (unsigned k = 0; k < BIT_WORDS; k++)
             atomic_store(sleepers(p, at) + k, 0);
     for (uint64_t at = cell_place(0); at < counter_place(p, 0); at += LINE)
         atomic_store(heir(p, at), 0);

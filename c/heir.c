@@ -116,7 +116,7 @@ static int is_heir(const pz *p, unsigned t, uint64_t cell)
         return (is & WHO) == t;
     struct ids others = noted(sleepers(p, cell));
     leave_out(&others, t);
-    if (how_many(&others))
+    if (count_ids(&others))
         return 0;
     heir_since = now_ns();
     return EXCHANGE(heir(p, cell), &is, t | since(heir_since));
@@ -165,7 +165,7 @@ static long longest_pause(const pz *p, uint64_t cell)
         patience.processors = count_processors();
     long most = may_be ? LONGEST_PAUSE : patience.ns;
     struct ids who = noted(sleepers(p, cell));
-    int crowded = (int)how_many(&who) >= patience.processors;
+    int crowded = (int)count_ids(&who) >= patience.processors;
     return crowded && most > CROWDED_PAUSE ? CROWDED_PAUSE : most;
 }
 

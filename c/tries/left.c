@@ -28,7 +28,7 @@ static void all_are_clean(void)
 {
     for (unsigned m = 0; m < 2; m++) {
         CHECK(atomic_load(its_heir[m]) == 0 && (atomic_load(its_sleepers[m]) & ~MORE) == 0);
-        for (unsigned k = 1; k < WORDS; k++)
+        for (unsigned k = 1; k < BIT_WORDS; k++)
             CHECK(atomic_load(its_sleepers[m] + k) == 0);
     }
 }
@@ -142,7 +142,7 @@ static void a_reboot(void)
     open_new();
     atomic_store(its_heir[0], COMES);
     atomic_store(its_heir[1], NOBODYS | DUE);
-    for (unsigned k = 0; k < WORDS; k++)
+    for (unsigned k = 0; k < BIT_WORDS; k++)
         atomic_store(its_sleepers[0] + k, UINT64_MAX);
     setenv("PZ_BOOT", "the second boot", 1);
     SAME(pz_open(a_file("left"), 0600, 2, 0, NULL, 0, &again), 0);
@@ -154,7 +154,7 @@ static void a_reboot(void)
 int main(void)
 {
     alarm(100);
-    for (unsigned k = 0; k < WORDS; k++) { /* of each word an id */
+    for (unsigned k = 0; k < BIT_WORDS; k++) { /* of each word an id */
         asked_for = k ? k * OF_WORD : 1;
         one_is_killed();
         one_is_made_anew();

@@ -230,8 +230,8 @@ static void a_lock(unsigned t, unsigned m, unsigned operation, uint64_t seen, ui
  * words are any.) */
 static void who_sleeps(uint64_t *bits, int sleeps)
 {
-    for (unsigned k = 0; k < WORDS && sleeps != SOME; k++)
-        bits[k] = k == 0 && sleeps != NONE ? MORE : k == WORDS - 1 && sleeps == BEYOND ? LAST_IDS : 0;
+    for (unsigned k = 0; k < BIT_WORDS && sleeps != SOME; k++)
+        bits[k] = k == 0 && sleeps != NONE ? MORE : k == BIT_WORDS - 1 && sleeps == BEYOND ? LAST_IDS : 0;
 }
 
 /* Who sleeps on the mutex, and who is its heir: an unlock wakes one where somebody sleeps and nobody is; else it is as

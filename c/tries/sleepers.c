@@ -257,7 +257,7 @@ static void begin_words(void)
 static int is_alone(uint64_t at, unsigned t)
 {
     struct ids who = noted(sleepers(&file, at));
-    return how_many(&who) == (t != 0) && id_behind(&who, 0) == t;
+    return count_ids(&who) == (t != 0) && id_behind(&who, 0) == t;
 }
 static void sleeps_at(uint64_t at, unsigned t)
 {
