@@ -277,7 +277,7 @@ class Owners(unittest.TestCase):
 
     def test_numbers(self):
         info = self.file.info()
-        self.assertEqual((info.format, info.mutexes, info.conditions, info.data), (2, 2, 1, 32))
+        self.assertEqual((info.format, info.mutexes, info.conditions, info.data), (3, 2, 1, 32))
         self.assertEqual(info.size, os.stat(self.path).st_size)
         self.assertIn("other numbers", self.assertAnswers(errno.EINVAL, lambda: self.open(mutexes=3)))
         self.assertAnswers(errno.EINVAL, lambda: self.open(mutex_of=[1]))
