@@ -16,8 +16,7 @@
 #include <sys/syscall.h>
 #include <sys/time.h>
 
-enum { OURS = 0x7a61700c, MOST = 32768, IDS = PZ_THREADS };
-_Static_assert(IDS <= 64, "the crowds here are of as many mutexes of the second bank, which has 240");
+enum { OURS = 0x7a61700c, MOST = 32768, IDS = 64 };
 
 static const char *folder, *self;
 
@@ -824,6 +823,8 @@ static void more_threads_than_ids(void)
 {
     many_threads();
     many_processes();
+    if (PZ_THREADS > IDS)
+        return; /* the crowds below are for so many: each owner wants another mutex of the second bank, which has 240 */
     all_ids_are_had();
     in_child(init_beside_a_crowd);
     in_child(all_owners_die);
