@@ -147,7 +147,7 @@ static inline unsigned mutex_at(uint64_t cell) { return (unsigned)(cell / LINE) 
  * has had the mutex. The upper half is a time. */
 enum { WHO = 0xff, COMES = 0x100, DUE = 0x200, NAPS = 0x400, AWAITED = 0x800 };
 _Static_assert((int)THREADS <= (int)WHO && THREADS <= UINT8_MAX,
-               "an id has eight bits here, and in calls, walks and selves");
+               "an id has eight bits here, and in calls, walks and selves; pz_info tells as many");
 static inline word *heir(const pz *p, uint64_t at) { return sleepers(p, at) - SLEEPERS + HEIR; }
 
 /* The first word of a mutex's line: its owner, and three marks. (WAITERS stays once it is set.) */

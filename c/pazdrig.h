@@ -13,9 +13,9 @@ extern "C" {
 #pragma GCC visibility push(default)
 #define PZ_VERSION "0.1"
 /* How many threads take part in a file at a time; their ids begin at 1. Of a library that was built for another number
- * the header that is installed with it says that one. */
+ * the header that is installed with it says that one. (pz_info tells that of the library that runs.) */
 #ifndef PZ_THREADS
-#define PZ_THREADS 64
+#define PZ_THREADS 250
 #endif
 typedef struct pz pz;
 struct timespec;
@@ -73,9 +73,9 @@ struct pz_thread {
     enum pz_life life;
 };
 struct pz_info {
-    unsigned format, mutexes, conds;
+    unsigned format, mutexes, conds, threads;  /* threads: how many may take part at a time */
     size_t data, size;                         /* bytes: the program's own, and the whole file's */
-    struct pz_thread thread[PZ_THREADS + 1];   /* by id */
+    struct pz_thread thread[1 + 255];          /* by id, 1 to threads; room for as many as a library may be built for */
 };
 int pz_info(pz *, struct pz_info *);
 

@@ -80,8 +80,12 @@ static void an_owner_dies(void)
 static void is_told(pz *p, unsigned id, enum pz_life life, pid_t tid)
 {
     struct pz_info info;
+    enum { MOST = sizeof info.thread / sizeof *info.thread };
+    _Static_assert(MOST == 256, "whatever PZ_THREADS is, so that libraries fit programs with another one");
+    memset(&info, 0xff, sizeof info);
     SAME(pz_info(p, &info), 0);
-    for (unsigned t = 1; t <= PZ_THREADS; t++) {
+    SAME((int)info.threads, PZ_THREADS);
+    for (unsigned t = 1; t < MOST; t++) {
         SAME(info.thread[t].life, t == id ? life : PZ_ID_FREE);
         SAME(info.thread[t].tid, t == id ? tid : 0);
     }

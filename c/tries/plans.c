@@ -136,7 +136,7 @@ static const uint64_t ABOVE[] = {0, 1ull << 33, 0xdeadbeeull << 33};
 /* What stands in a cell: each owner that there may be, with each of the three marks. */
 static uint64_t cell_of_case(unsigned k, unsigned t)
 {
-    static const uint64_t owners[] = {0, 1, 2, 63, 64, 65, 0x3fffffff};
+    static const uint64_t owners[] = {0, 1, 2, THREADS - 1, THREADS, THREADS + 1, 0x3fffffff};
     uint64_t owner = k % 8 < 7 ? owners[k % 8] : t;
     return owner | (uint64_t)(k / 8 % 2) << 30 | (uint64_t)(k / 16 % 2) << 31 | (uint64_t)(k / 32 % 2) << 32 |
            ABOVE[k / 64];

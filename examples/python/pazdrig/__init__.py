@@ -30,7 +30,7 @@ import weakref
 
 __all__ = ["Condition", "Error", "File", "Info", "Mutex", "Thread", "nothing_to_repair", "version"]
 
-MOST_THREADS = 255  # that a library may be built for
+MOST_THREADS = 255  # as many as struct pz_info has room for
 _FREE, _LIVES, _DIED = range(3)
 
 
@@ -47,6 +47,7 @@ class _Info(ctypes.Structure):
         ("format", ctypes.c_uint),
         ("mutexes", ctypes.c_uint),
         ("conditions", ctypes.c_uint),
+        ("threads", ctypes.c_uint),
         ("data", ctypes.c_size_t),
         ("size", ctypes.c_size_t),
         ("thread", _Thread * (MOST_THREADS + 1)),
