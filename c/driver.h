@@ -180,6 +180,7 @@ int pz_disinherit(const pz *p, unsigned t, uint64_t cell);
 void pz_end_nap(const pz *p, uint64_t cell);
 int pz_changes(pz *p, unsigned t, uint64_t at, uint32_t expected, const struct limit *limit);
 void pz_give_way(pz *p, unsigned t, unsigned m, const struct limit *limit);
+void pz_let_pass(pz *p, unsigned t, uint64_t cell);
 
 /* ---- sleep.c */
 int pz_has_died(pz *p, unsigned t);

@@ -274,6 +274,13 @@ static void wait_for_it(pz *p, unsigned t, uint64_t cell, long most)
     pz_reap(p);
 }
 
+/* By who is late in a wait, before it locks the mutex again. (Who was signalled isn't the one who freed it last.) */
+void pz_let_pass(pz *p, unsigned t, uint64_t cell)
+{
+    if (SEE(heir(p, cell)) & DUE)
+        wait_for_it(p, t, cell, WAY);
+}
+
 /* Before a lock that looks at the heir. */
 void pz_give_way(pz *p, unsigned t, unsigned m, const struct limit *limit)
 {

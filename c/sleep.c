@@ -319,6 +319,8 @@ uint32_t pz_sleep(pz *p, unsigned t, uint64_t at, uint32_t expected, struct limi
     forget_sleeper(sleepers(p, at), t);
     if (s.limit)
         pass_on(&s, answer);
+    if (answer == EXPIRED && counter)
+        pz_let_pass(p, t, cell_of(p, at)); /* it freed the mutex as its wait began */
     return answer;
 }
 
@@ -348,7 +350,7 @@ static int is_had(pz *p, unsigned t)
 static int watch_ids(pz *p, struct watched *all)
 {
     static _Thread_local unsigned looks;
-    unsigned from = WATCHES_ALL ? 0 : ((unsigned)getpid() + looks++) * WATCHED_IDS;
+    unsigned from = WATCHES_ALL ? 0 : ((unsigned)getpid() + looks++) % THREADS * WATCHED_IDS;
     for (unsigned k = 0; k < THREADS; k++) {
         unsigned t = (from + k) % THREADS + 1, n = all->n;
         if (k < WATCHED_IDS ? !watch(p, t, all) || all->n == n : !is_had(p, t))

@@ -4,7 +4,7 @@
  * it the mutex waits for it, and not too long. Only who was woken takes the place of one that was. How long a waiter
  * sleeps until it looks by itself, and one that waits for an id. And a time limit: it ends pauses and naps, the kernel
  * is asked for it by its own clock, which may be set, and it comes where it is past, or no time. So too of a wait,
- * unless a signal came first. */
+ * unless a signal came first; and one that is late gives way. */
 #include <sched.h>
 #include <time.h>
 #include <unistd.h>
@@ -569,6 +569,24 @@ static void a_waits_limit_has_come(clockid_t clock)
     CHECK(sleeps_asked == 0);
 }
 
+/* It is late, and the heir of the mutex that it freed is due: it goes on once that has had it, whose nap it ends, or
+ * once that doesn't come. One that isn't due is left alone. */
+static void a_late_one_gives_way(void)
+{
+    static const uint64_t heirs[] = {OTHER | DUE | NAPS, OTHER | DUE, OTHER};
+    for (int i = 0; i < 3; i++) {
+        struct limit limit = begin_wait(CLOCK_MONOTONIC, -1);
+        long since = clock_ns;
+        words[cell] = WAITERS;
+        *heir(&file, cell) = heirs[i];
+        meanwhile = i == 0 ? has_had_it : NULL;
+        SAME((int)pz_sleep(&file, SELF, counter_place(&file, 0), DEAD, &limit), EXPIRED);
+        long took = clock_ns - since;
+        CHECK(i == 1 ? took >= WAY && took < 2 * WAY : took < WAY_AWAKE);
+        CHECK((*heir(&file, cell) & (WHO | DUE)) == (i == 0 ? 0 : OTHER) && reaps == (i == 1) && wakes == (i == 0));
+    }
+}
+
 static void a_waits_clock_is_set(void)
 {
     struct limit limit = begin_wait(CLOCK_REALTIME, SECOND / 100);
@@ -618,5 +636,6 @@ int main(void)
     it_owes();
     others_look();
     an_heir_gives_up();
+    a_late_one_gives_way();
     return 0;
 }
