@@ -54,9 +54,18 @@ void pz_tell_of_id(pz *p) { (void)p; }
 static long refused(int why) { return errno = why, -1; }
 static int is_awake(void) { return !asleep_on; }
 
-/* Whether it has a time limit, which comes at some moment of its sleep there, and whether that has come. */
-static int is_timed, time_is_over;
+/* A sleep looks at the clock twice before: so which look is the next. */
+enum { BEHIND_A_SLEEP = 3 };
+
+/* Whether it has a time limit, which comes at some moment of its sleep there, or at one of its looks at the clock; and
+ * whether that has come, and its wait was counted before. */
+static int is_timed, time_is_over, looks_left, was_counted;
 static uint64_t timed_at;
+static void its_time_comes(void)
+{
+    was_counted = !time_is_over && words[counter_place(&file, 0)] != COUNT;
+    time_is_over = 1;
+}
 static int has_limit, was_picked; /* whether this sleep has it; whether one that has was woken, or moved */
 static int may_end(void) { return 1; }
 
@@ -67,11 +76,17 @@ static int interruptions, is_interrupted;
 int pz_reap(pz *p) { return (void)p, is_interrupted = 0; }
 enum fate pz_reap_one(pz *p, unsigned t) { return (void)p, (void)t, LIVES; }
 
-/* Naps take so long that there is one, which nothing but a wake ends. */
+/* Naps take so long that there is one, which nothing but a wake ends. (A look at which the limit may come is a step of
+ * its own.) */
 static int played_clock(clockid_t clock, struct timespec *now)
 {
     static long ms;
     (void)clock;
+    if (looks_left && me == 1) {
+        pz_between();
+        if (--looks_left == 0)
+            its_time_comes();
+    }
     *now = (struct timespec){++ms * 21 / 1000 + (time_is_over ? 2 * FAR_AWAY_S : 0), ms * 21 % 1000 * 1000000};
     return 0;
 }
@@ -88,7 +103,7 @@ static long fall_asleep(uint32_t *on)
     if (!asleep_on)
         return 0;
     asleep_on = NULL;
-    time_is_over = 1;
+    its_time_comes();
     return refused(ETIMEDOUT);
 }
 
@@ -273,10 +288,11 @@ static void in_orders(void (*wakes)(void), void (*sleeps)(void), unsigned dead, 
         begin_words();
         sleeps_at(cell, dead);
         interruptions = interrupted;
+        is_interrupted = 0;
         slept_while = (uint32_t)words[slept_at];
         if (!take_turns(wakes, sleeps))
             fail(__FILE__, __LINE__, "left asleep");
-        CHECK(!is_interrupted && (answer == PZ_WOKEN || answer == PZ_AGAIN));
+        CHECK((!is_interrupted || is_counter(&file, slept_at)) && (answer == PZ_WOKEN || answer == PZ_AGAIN));
         CHECK(is_alone(cell, dead) && is_alone(counter, 0) && !(*heir(&file, cell) & COMES));
         orders++;
     } while (next_order());
@@ -300,8 +316,10 @@ static void on_a_counter(uint64_t cell, uint64_t counter)
                      wake = {.kind = PZ_WAKE, .at = cell, .most = 1};
     nobody_is_left(counter, (struct pz_access[]){count, signal, release}, 3 * sizeof wake);
     nobody_is_left(counter, (struct pz_access[]){count, waiters, move_all, release, wake}, 5 * sizeof wake);
-    in_orders(signals, sleeps_there, 0, 0);
-    in_orders(broadcasts, sleeps_there, 0, 0);
+    for (int interrupted = 0; interrupted < 2; interrupted++) {
+        in_orders(signals, sleeps_there, 0, interrupted);
+        in_orders(broadcasts, sleeps_there, 0, interrupted);
+    }
 }
 
 static void on_a_cell(uint64_t cell)
@@ -352,9 +370,8 @@ static void with_a_limit(void (*wakes)(void))
             }
 }
 
-/* A wait that has just released the mutex, which the other one has taken: what it returns, and whether it was counted
- * before. It has the mutex then, and gives it back. */
-static int was_counted;
+/* A wait that has just released the mutex, which the other one has taken: what it returns. It has the mutex then, and
+ * gives it back. */
 static void waits_for_a_time(void)
 {
     static const struct timespec far_away = {FAR_AWAY_S, 0};
@@ -363,7 +380,6 @@ static void waits_for_a_time(void)
     call.program = ON_CONDITION;
     call.phase.kind = WAIT_RELEASE;
     call.phase.seen = COUNT;
-    was_counted = words[call.counter] != COUNT;
     answer = run_on(&file, its_id, &call, &limit, PZ_VALUE, its_id);
     CHECK(owner_of(words[cell_place(0)]) == its_id && !is_noted(sleepers(&file, call.counter), its_id));
     pz_awake(&file, its_id, cell_place(0));
@@ -371,9 +387,25 @@ static void waits_for_a_time(void)
     SAME((int)run(&file, &call, PZ_OP_UNLOCK, -1, NULL), 0);
 }
 
-/* A third one waits too, if any: a signal is its own where the first is late. (Where it was moved and woken before the
- * first, that one sleeps behind it.) */
-static void one_waits_with_a_limit(void (*wakes)(void), int is_over, int third)
+/* Moved and woken before the first, which sleeps behind it on the mutex, the third has had that, and wakes the next. */
+static void third_has_had_it(uint64_t cell)
+{
+    struct pz_access wake = {.kind = PZ_WAKE, .at = cell, .most = 1};
+    uint64_t value;
+    CHECK(asleep_on == (uint32_t *)&words[cell] && !other_asleep_on);
+    pz_comes(&file, thirds_id, cell);
+    pz_awake(&file, thirds_id, cell);
+    pz_disinherit(&file, thirds_id, cell);
+    CHECK(pz_make(&file, &wake, &value) == PZ_COUNT && !asleep_on);
+    for (me = 1; can_go_on(1);)
+        swapcontext(&chooser, &of_two[1].context);
+    me = -1;
+    CHECK(of_two[1].has_ended);
+}
+
+/* A third one waits too, if any: a signal is its own where the first is late. The limit comes in the first one's sleep,
+ * or at so many of its looks at the clock, and a handler ends so many of its sleeps. */
+static void one_waits_with_a_limit(void (*wakes)(void), int looks, int third, int interrupted)
 {
     uint64_t cell = cell_place(0), counter = counter_place(&file, 0);
     unsigned of_third = third ? thirds_id : 0;
@@ -383,11 +415,13 @@ static void one_waits_with_a_limit(void (*wakes)(void), int is_over, int third)
         sleeps_at(counter, of_third);
         asleep_on = NULL;
         other_asleep_on = third ? (uint32_t *)&words[counter] : NULL;
-        was_picked = 0;
-        time_is_over = is_over;
+        was_picked = was_counted = time_is_over = 0;
+        looks_left = looks;
+        interruptions = interrupted;
+        slept_at = counter;
         if (!take_turns(wakes, waits_for_a_time)) {
-            CHECK(wakes == broadcasts && third && !other_asleep_on && asleep_on == (uint32_t *)&words[cell]);
-            continue;
+            CHECK(wakes == broadcasts && third);
+            third_has_had_it(cell);
         }
         CHECK(answer == 0 || answer == ETIMEDOUT);
         CHECK(answer == 0 || (!was_picked && !was_counted));
@@ -405,10 +439,14 @@ static void one_waits_with_a_limit(void (*wakes)(void), int is_over, int third)
 
 static void waits_have_a_limit(void (*wakes)(void))
 {
-    for (int is_over = 0; is_over < 2; is_over++)
+    static const struct {
+        int looks, interrupted;
+    } ways[] = {{0, 0}, {1, 0}, {0, 1}, {BEHIND_A_SLEEP, 1}};
+    for (size_t i = 0; i < sizeof ways / sizeof *ways; i++)
         for (int third = 0; third < 2; third++)
             for (other_is_first = 0; other_is_first <= third; other_is_first++)
-                one_waits_with_a_limit(wakes, is_over, third);
+                one_waits_with_a_limit(wakes, ways[i].looks, third, ways[i].interrupted);
+    looks_left = interruptions = 0;
 }
 
 static void it_has_a_limit(void)
