@@ -338,7 +338,7 @@ static void one_is_interrupted(void)
 
 /* ---- A hundred wait. */
 
-/* How many ids one watches at a time; how often one that can't watch all looks: the first few, and then each so long. */
+/* How many ids one watches at a time; when one that can't watch all looks: a few times, and then each so long. */
 enum { AT_ONCE = 126, FIRST_LOOKS = 6, LOOK_MS = 640 };
 
 static long sleeps_of_all(void)

@@ -478,8 +478,8 @@ static int is_left_before(clockid_t clock, enum how how, long us, struct waiting
     return in_time;
 }
 
-/* Nothing but a signal ends a wait before its limit: no death of the mutex's owner, and not that it becomes unusable, or
- * is made free again. */
+/* Nothing but a signal ends a wait before its limit: no death of the mutex's owner, and not that it becomes unusable,
+ * or is made free again. */
 static void it_waits_still(pz *p, pid_t it)
 {
     until_asleep(it);
