@@ -467,11 +467,11 @@ static int is_left_before(clockid_t clock, enum how how, long us, struct waiting
     pz *p = open_new(1);
     pid_t it = a_waiter(p, clock, us, 0, w);
     an_owner_is_killed(p, 0);
-    if (how == SPOILED) {
-        SAME(pz_mutex_lock(p, 0), EOWNERDEAD);
+    int r = how == SPOILED ? pz_mutex_lock(p, 0) : EOWNERDEAD; /* 0: the waiter was late, and has repaired it */
+    if (how == SPOILED)
         SAME(pz_mutex_unlock(p, 0), 0);
-    }
-    int in_time = !has_come(clock, &w->until), told = is_told(it);
+    int in_time = r == EOWNERDEAD && !has_come(clock, &w->until), told = is_told(it);
+    CHECK(r == EOWNERDEAD || r == 0);
     if (in_time)
         SAME(told, answer_of[how]);
     pz_close(p);
