@@ -12,6 +12,9 @@
 static int played_clock(clockid_t clock, struct timespec *now);
 static int played_processors(pid_t thread, size_t size, cpu_set_t *set);
 static long played_call(long number, ...);
+static pid_t its_pid;
+static pid_t played_pid(void) { return its_pid; }
+#define getpid            played_pid
 #define clock_gettime     played_clock
 #define sched_getaffinity played_processors
 #define syscall           played_call
@@ -21,6 +24,7 @@ static long played_call(long number, ...);
 #undef clock_gettime
 #undef sched_getaffinity
 #undef syscall
+#undef getpid
 #include "try.h"
 #include <stdarg.h>
 
@@ -348,6 +352,29 @@ static void who_waits_for_an_id_looks(void)
     no_waitv = 0;
 }
 
+/* One is free, whichever it is: it is seen, wherever the look begins, which is by its process and by how often it has
+ * looked. (None has looked before: so the numbers are those behind which 32 bits have no more.) */
+static void a_free_id_is_seen(void)
+{
+    enum { LAST = UINT32_MAX / WATCHED_IDS, AROUND = 3 };
+    _Atomic uint32_t freed = 0;
+    pid_t looks = 0;
+    begin(0, 0);
+    for (unsigned t = 1; t <= THREADS; t++)
+        token[t] = t;
+    for (pid_t at = LAST - AROUND; at <= LAST + AROUND; at++)
+        for (unsigned t = 1; t <= THREADS; t++) {
+            long look_ms = FIRST_LOOK_MS;
+            its_pid = at - looks++;
+            token[t] = 0;
+            SAME(pz_sleep_for_id(&file, &freed, 0, NULL, &look_ms), 1);
+            CHECK(sleeps_asked == 0);
+            token[t] = t;
+        }
+    memset(token, 0, sizeof token);
+    token[DEAD] = FUTEX_OWNER_DIED;
+}
+
 /* ---- Until its limit. */
 
 static struct timespec at;
@@ -610,6 +637,7 @@ static void with_a_limit(clockid_t clock)
 int main(void)
 {
     alarm(60);
+    a_free_id_is_seen();
     a_word_that_stays();
     a_word_that_changes();
     where_many_sleep();
