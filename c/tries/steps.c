@@ -79,6 +79,7 @@ static void calls(int waits)
 
 static pid_t child(long before, long in_walk)
 {
+    alarm(60); /* for what is done with it */
     pid_t is = a_child();
     dies_before = is ? 0 : before;
     dies_in_walk = is ? 0 : in_walk;
@@ -501,7 +502,6 @@ int main(void)
 {
     const char *path = a_file("steps");
     long instructions = 0, walks = 0;
-    alarm(280);
     SAME(pz_open(path, 0600, MUTEXES + 1, 1, NULL, 0, &p), 0);
     SAME(pz_mutex_lock(p, ANOTHERS), 0);
     seen = shared(sizeof *seen);
