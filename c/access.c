@@ -42,28 +42,30 @@ static long wake_one(const pz *p, uint64_t cell)
     return wake_asleep(p, cell, 1);
 }
 
-/* Nobody has a bit: nobody sleeps there, and whoever is about to will find the word changed. A walk's wake is made
- * whoever is the heir, and nothing is left to it. */
+/* Nobody has a bit, in any word of them: nobody sleeps there, and whoever is about to will find the word changed, since
+ * all are looked at behind that change. A walk's wake is made whoever is the heir, and nothing is left to it. */
 static uint32_t wake(const pz *p, const struct pz_access *x, uint64_t *value, int is_walk)
 {
     int cell = !is_counter(p, x->at);
     *value = 0;
     if (cell && (SEE(heir(p, x->at)) & NAPS))
         pz_end_nap(p, x->at);
-    if (SEE(sleepers(p, x->at)))
+    if (any_noted(sleepers(p, x->at)))
         *value = (uint64_t)(cell && x->most == 1 && !is_walk ? wake_one(p, x->at) : wake_asleep(p, x->at, x->most));
     return PZ_COUNT;
 }
 
-/* Whoever is moved sleeps on the other word then, so has its bit there before. (That is the cell of the call itself,
- * and was read from no word.) */
+/* Whoever is moved sleeps on the other word then, so has its bit there before, and MORE: those of all words. Nobody is
+ * missed that sleeps on the counter when they are moved: it had its bit since before it released the mutex, which the
+ * caller owns, and nobody comes meanwhile. One that goes meanwhile takes both its bits back (pz_awake). (The other word
+ * is the cell of the call itself, and was read from no word.) */
 static uint32_t requeue(const pz *p, const struct pz_access *x, uint64_t *value)
 {
     *value = 0;
-    uint64_t who = SEE(sleepers(p, x->at));
-    if (!who)
+    struct ids who = noted(sleepers(p, x->at));
+    if (!count_ids(&who))
         return PZ_COUNTS;
-    OR(sleepers(p, x->b), who);
+    note_all(sleepers(p, x->b), &who);
     long n = futex(&p->words[x->at], FUTEX_CMP_REQUEUE, x->wakes, x->most, &p->words[x->b], (uint32_t)x->a);
     if (n < 0)
         return errno == EAGAIN ? PZ_AGAIN : PZ_FAULT;

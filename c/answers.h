@@ -5,7 +5,8 @@ static const struct {
     const char *says;
 } answers[] = {
     {"pz_open", EINVAL, "not 1 to 4,096 mutexes, or more than 256 condition variables, or one of a mutex that isn't "
-     "there, or too much data; or the file was made with other numbers, or isn't such a file: it is left as it is"},
+     "there, or too much data; or the file was made with other numbers, or by a library that is built for another "
+     "PZ_THREADS, or isn't such a file: it is left as it is"},
     {"pz_open", EPROTO, "the file is of another format, as an older or newer version of the library makes it: it is "
      "left as it is"},
     {"pz_open", EMFILE, "this process has 16 files open, those that it closed and a thread hasn't left yet among "
@@ -14,8 +15,8 @@ static const struct {
     {"pz_open", EFBIG, "there is no room for all of it, which is taken here: so no later store meets a full disk"},
     {"pz_open", ENOMEM, "no memory, or no room to map it"},
     {"pz_open_fd", EINVAL, "not 1 to 4,096 mutexes, or more than 256 condition variables, or one of a mutex that "
-     "isn't there, or too much data; or the file was made with other numbers, or isn't such a file: it is left as it "
-     "is"},
+     "isn't there, or too much data; or the file was made with other numbers, or by a library that is built for "
+     "another PZ_THREADS, or isn't such a file: it is left as it is"},
     {"pz_open_fd", EPROTO, "the file is of another format, as an older or newer version of the library makes it: it "
      "is left as it is"},
     {"pz_open_fd", EMFILE, "this process has 16 files open, those that it closed and a thread hasn't left yet among "
@@ -24,8 +25,8 @@ static const struct {
     {"pz_open_fd", EFBIG, "there is no room for all of it, which is taken here: so no later store meets a full disk"},
     {"pz_open_fd", ENOMEM, "no memory, or no room to map it"},
     {"pz_thread_begin", EBUSY, "it takes part already"},
-    {"pz_thread_begin", EAGAIN, "64 threads take part (dead ones too, while somebody goes over what they owned), and "
-     "the caller takes part in another file"},
+    {"pz_thread_begin", EAGAIN, "PZ_THREADS threads take part (dead ones too, while somebody goes over what they "
+     "owned), and the caller takes part in another file"},
     {"pz_thread_begin", ENOMEM, "pthread_setspecific(3) has no memory; or the process has no pthread_key_create(3) "
      "key left, so then for all its threads and for good"},
     {"pz_thread_end", EPERM, "it doesn't take part"},

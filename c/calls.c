@@ -195,7 +195,7 @@ int pz_hand_on(pz *p, unsigned m, uint64_t found)
         pz_end_nap(p, cell);
     if (next & DUE)
         self->owes = m + 1;
-    if (!next && SEE(sleepers(p, cell)))
+    if (!next && any_noted(sleepers(p, cell)))
         return released(p, m, found);
     STORE(&p->words[head_place(self->id) + 2], 0);
     self->held--;
@@ -277,14 +277,16 @@ int pz_mutex_trylock(pz *p, unsigned m)
 }
 
 /* Somebody who lives may sleep there, or is its heir, who may nap. Of those that were killed nobody has told yet; and
- * one that is reaped already may be noted by a broadcast that looked before. */
+ * one that is reaped already may be noted by a broadcast that looked before. (Words that are read one after the other
+ * say that nobody does: while the mutex stays unusable bits only go.) */
 static int has_sleepers(pz *p, uint64_t cell)
 {
-    if (!atomic_load(sleepers(p, cell)) && !atomic_load(heir(p, cell)))
+    if (!any_noted(sleepers(p, cell)) && !atomic_load(heir(p, cell)))
         return 0;
     pz_reap(p);
-    for (uint64_t who = atomic_load(sleepers(p, cell)); who; who &= who - 1)
-        if (pz_fate(p, (unsigned)__builtin_ctzll(who) + 1) != GONE)
+    struct ids who = noted(sleepers(p, cell));
+    for (unsigned t = 0; (t = id_behind(&who, t));)
+        if (pz_fate(p, t) != GONE)
             return 1;
     uint64_t next = atomic_load(heir(p, cell)) & WHO;
     return next && next <= THREADS && pz_fate(p, (unsigned)next) != GONE;
@@ -341,10 +343,11 @@ static struct pz_call cond_call_of(const pz *p, unsigned t, unsigned c)
 
 /* By the mutex's owner: nobody else counts. Where nobody has a bit, nobody sleeps there, and no wait has loaded the
  * counter and is still to sleep, as its bit is set before it releases the mutex. So no signal is missed (`Recount`, an
- * event of the machine in crates/protocol). */
+ * event of the machine in crates/protocol). Meanwhile nobody comes, and bits only go: so words without bits, read one
+ * after the other, have none at the last load. */
 uint64_t pz_begin_again(word *counter, uint64_t count)
 {
-    return !SEE(counter + 3) && EXCHANGE(counter, &count, 0) ? 0 : count;
+    return !any_noted(counter + SLEEPERS) && EXCHANGE(counter, &count, 0) ? 0 : count;
 }
 
 /* By its steps. A waiter is noted from before its release on, until it is awake. */
@@ -364,7 +367,7 @@ int pz_cond_by_steps(pz *p, unsigned c, unsigned operation, struct limit *limit)
     if (owned)
         tell_given(w);
     if (owned && operation == PZ_OP_WAIT)
-        OR(counter + 3, bit_of(t));
+        note_sleeper(counter + SLEEPERS, t);
     else if (owned && count - AGAIN <= FULL - AGAIN)
         pz_begin_again(counter, count);
     uint32_t reply = run(p, &call, operation, (int)c, limit);

@@ -35,12 +35,13 @@
 #define PZ_AT(moment) ((void)0)
 #endif
 
-_Static_assert((int)PZ_THREADS == (int)PZ_MOST_THREADS, "a file has as many ids as the proved calls take");
+/* How many threads take part at a time is said once, by PZ_THREADS; the steps are those of as many or more. */
+_Static_assert(PZ_THREADS >= 1 && PZ_THREADS <= PZ_MOST_THREADS, "the steps don't take so many ids");
 enum { THREADS = PZ_THREADS, LINE = 8, HELD = 2048, FILES = PZ_FILES, MOST_MUTEXES = 4096, MOST_CONDS = 256 };
 
 /* Of files, and of the companions of libpazdrig_pthread.so: another number for each other layout, and for each change
  * after which old and new drivers may not share one. */
-enum { FORMAT = 2 };
+enum { FORMAT = 3 };
 
 typedef _Atomic uint64_t word;
 
@@ -71,10 +72,9 @@ struct header {
     _Atomic uint64_t magic;
     uint32_t mutexes, conds;
     uint64_t data, size;
-    char boot[40]; /* the system that the tokens are of */
-    /* ids: somebody waits for one; how often one of those who wait was woken (ids.c). A driver of this format that
-     * doesn't know of them wakes nobody: who waits beside it looks each PZ_POLL_S. */
-    _Atomic uint32_t wanted, freed;
+    char boot[40];                  /* the system that the tokens are of */
+    _Atomic uint32_t wanted, freed; /* ids: somebody waits for one; how often one who waits was woken (ids.c) */
+    uint32_t threads;               /* how many ids there are */
 };
 _Static_assert(sizeof(struct header) <= 128, "what is behind it stays where this format has it");
 
@@ -139,16 +139,16 @@ static inline uint64_t cell_of(const pz *p, uint64_t counter)
 }
 static inline unsigned mutex_at(uint64_t cell) { return (unsigned)(cell / LINE) - 1 - THREADS; }
 
-/* Word 3 of a line: the threads that may sleep on its first word, a bit each. The kernel's queue has no others: a bit
- * is set before the sleep and cleared behind it. So a wake of nobody costs no system call. */
-static inline word *sleepers(const pz *p, uint64_t at) { return &p->words[(at | (LINE - 1)) - 4]; }
-static inline uint64_t bit_of(unsigned t) { return 1ull << (t - 1); }
+/* Words 4 to 7 of a line: who may sleep on its first word. */
+#include "bits.h"
 
-/* Word 4 of a mutex's line: its heir (heir.c), by its id; or COMES, one that was woken and hasn't come yet. DUE: who
+/* Word 3 of a mutex's line: its heir (heir.c), by its id; or COMES, one that was woken and hasn't come yet. DUE: who
  * frees the mutex gives way to it. NAPS: it sleeps on this word, and an unlock wakes it. AWAITED: others do, until it
  * has had the mutex. The upper half is a time. */
 enum { WHO = 0xff, COMES = 0x100, DUE = 0x200, NAPS = 0x400, AWAITED = 0x800 };
-static inline word *heir(const pz *p, uint64_t at) { return sleepers(p, at) + 1; }
+_Static_assert((int)THREADS <= (int)WHO && THREADS <= UINT8_MAX,
+               "an id has eight bits here, and in calls, walks and selves; pz_info tells as many");
+static inline word *heir(const pz *p, uint64_t at) { return sleepers(p, at) - SLEEPERS + HEIR; }
 
 /* The first word of a mutex's line: its owner, and three marks. (WAITERS stays once it is set.) */
 static const uint64_t OWNED = 0x3fffffff, DIED = 0x40000000, WAITERS = 0x80000000, UNUSABLE = 0x100000000;
@@ -180,6 +180,7 @@ int pz_disinherit(const pz *p, unsigned t, uint64_t cell);
 void pz_end_nap(const pz *p, uint64_t cell);
 int pz_changes(pz *p, unsigned t, uint64_t at, uint32_t expected, const struct limit *limit);
 void pz_give_way(pz *p, unsigned t, unsigned m, const struct limit *limit);
+void pz_let_pass(pz *p, unsigned t, uint64_t cell);
 
 /* ---- sleep.c */
 int pz_has_died(pz *p, unsigned t);

@@ -154,6 +154,7 @@ static void make(pz *p, const struct asked *a, const char boot[40])
     h->conds = a->conds;
     h->data = a->data;
     h->size = p->size;
+    h->threads = THREADS;
     memcpy(h->boot, boot, sizeof h->boot);
     make_tokens(p);
     for (unsigned t = 1; t <= THREADS; t++)
@@ -170,18 +171,20 @@ static void begin_boot(pz *p, const char boot[40])
     for (unsigned t = 1; t <= THREADS; t++)
         pz_walk_on(p, t);
     for (uint64_t at = cell_place(0); at < p->places; at += LINE)
-        atomic_store(sleepers(p, at), 0);
+        for (unsigned k = 0; k < BIT_WORDS; k++)
+            atomic_store(sleepers(p, at) + k, 0);
     for (uint64_t at = cell_place(0); at < counter_place(p, 0); at += LINE)
         atomic_store(heir(p, at), 0);
     for (size_t i = 0; i < sizeof p->header->boot; i++) /* last, since who finds it written doesn't ask for the lock */
         atomic_store_explicit((_Atomic char *)&p->header->boot[i], boot[i], memory_order_release);
 }
 
-/* With as many of each, and with each condition variable of the mutex that was asked for. */
+/* With as many of each, of ids too, and with each condition variable of the mutex that was asked for. */
 static int is_as_asked(const pz *p, const struct asked *a)
 {
     const struct header *h = p->header;
-    if (h->mutexes != a->mutexes || h->conds != a->conds || h->data != a->data || h->size != p->size)
+    if (h->mutexes != a->mutexes || h->conds != a->conds || h->data != a->data || h->size != p->size ||
+        h->threads != THREADS)
         return 0;
     for (unsigned c = 0; c < a->conds; c++)
         if (atomic_load(&p->words[counter_place(p, c) + 2]) != cell_asked(a, c))

@@ -107,13 +107,16 @@ void pz_comes(const pz *p, unsigned t, uint64_t cell)
         ;
 }
 
-/* Who finds nobody asleep, and no heir, becomes it. */
+/* Who finds nobody asleep, and no heir, becomes it. (One that comes to sleep meanwhile sleeps behind it: an unlock of
+ * the heir's own wakes that one.) */
 static int is_heir(const pz *p, unsigned t, uint64_t cell)
 {
     uint64_t is = SEE(heir(p, cell));
-    if ((is & WHO) == t)
-        return 1;
-    if (is || (SEE(sleepers(p, cell)) & ~bit_of(t)))
+    if (is)
+        return (is & WHO) == t;
+    struct ids others = noted(sleepers(p, cell));
+    leave_out(&others, t);
+    if (count_ids(&others))
         return 0;
     heir_since = now_ns();
     return EXCHANGE(heir(p, cell), &is, t | since(heir_since));
@@ -161,7 +164,8 @@ static long longest_pause(const pz *p, uint64_t cell)
     if (may_be)
         patience.processors = count_processors();
     long most = may_be ? LONGEST_PAUSE : patience.ns;
-    int crowded = __builtin_popcountll(SEE(sleepers(p, cell))) >= patience.processors;
+    struct ids who = noted(sleepers(p, cell));
+    int crowded = (int)count_ids(&who) >= patience.processors;
     return crowded && most > CROWDED_PAUSE ? CROWDED_PAUSE : most;
 }
 
@@ -268,6 +272,13 @@ static void wait_for_it(pz *p, unsigned t, uint64_t cell, long most)
     if (is & DUE) /* not where it has gone just now: a time alone would be taken for an heir */
         EXCHANGE(h, &is, (uint32_t)(is & ~(uint64_t)DUE) | since(now_ns()));
     pz_reap(p);
+}
+
+/* By who is late in a wait, before it locks the mutex again. (Who was signalled isn't the one who freed it last.) */
+void pz_let_pass(pz *p, unsigned t, uint64_t cell)
+{
+    if (SEE(heir(p, cell)) & DUE)
+        wait_for_it(p, t, cell, WAY);
 }
 
 /* Before a lock that looks at the heir. */

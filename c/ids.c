@@ -4,7 +4,8 @@
  * **Nobody sleeps beside an id that is free.** Who waits notes `freed`, sets `wanted`, and then looks at each token.
  * Who frees an id changes its token, and then looks at `wanted`. (That is an exchange by the C library, which no later
  * load overtakes; the words here are sequentially consistent.) So the one finds the id, or the other that it is wanted,
- * and then `freed` changes before the sleep, or wakes from it. At a death the kernel wakes who watches the token.
+ * and then `freed` changes before the sleep, or wakes from it. At a death the kernel wakes who watches the token; where
+ * there are too many tokens for one thread to watch, it finds a death that it isn't told of at its next look (sleep.c).
  *
  * **Who was woken and has an id wakes the next.** `wanted` is cleared before a wake, so who frees another id meanwhile
  * wakes nobody, and who frees one may be killed before its wake. It is set again where somebody was woken, as others

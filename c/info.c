@@ -39,9 +39,11 @@ static struct pz_thread thread_of(pz *p, unsigned t)
     return (struct pz_thread){(pid_t)tid, life_of(fate)};
 }
 
+/* (Its size doesn't depend on for how many ids this library is built: so it fits whatever header a program was built
+ * with.) */
 int pz_info(pz *p, struct pz_info *info)
 {
-    *info = (struct pz_info){FORMAT, p->mutexes, p->conds, p->data_size, p->size, {{0}}};
+    *info = (struct pz_info){FORMAT, p->mutexes, p->conds, THREADS, p->data_size, p->size, {{0}}};
     for (unsigned t = 1; t <= THREADS; t++)
         info->thread[t] = thread_of(p, t);
     return 0;

@@ -12,7 +12,11 @@ extern "C" {
 #endif
 #pragma GCC visibility push(default)
 #define PZ_VERSION "0.1"
-enum { PZ_THREADS = 64 }; /* take part in a file at a time; their ids begin at 1 */
+/* How many threads take part in a file at a time; their ids begin at 1. Of a library that was built for another number
+ * the header that is installed with it says that one. (pz_info tells that of the library that runs.) */
+#ifndef PZ_THREADS
+#define PZ_THREADS 250
+#endif
 typedef struct pz pz;
 struct timespec;
 
@@ -28,12 +32,12 @@ int pz_open_fd(int fd, unsigned mutexes, unsigned conds, const uint16_t *mutex_o
 void pz_close(pz *);
 void *pz_data(pz *);
 
-/* The calling thread takes part from here, till it leaves or dies. 64 threads do at a time: it waits until one of them
+/* The calling thread takes part from here, till it leaves or dies. PZ_THREADS do at a time: it waits until one of them
  * leaves or dies; EAGAIN: not if it takes part in another file. EBUSY: it does already. A thread's first call does this
  * by itself, and its end leaves. */
 int pz_thread_begin(pz *);
 int pz_thread_end(pz *);         /* 0; EPERM: it doesn't take part */
-unsigned pz_thread_id(pz *);     /* 1 to 64; 0: it doesn't take part */
+unsigned pz_thread_id(pz *);     /* 1 to PZ_THREADS; 0: it doesn't take part */
 
 /* 0, or an errno. Each may also be EINVAL (no such number), ENOMEM (the thread can't take part), and EFAULT, EINVAL or
  * EBUSY where somebody wrote stray values into the file. EAGAIN: it holds 2,048, or it is the thread's first call, no id
@@ -69,9 +73,9 @@ struct pz_thread {
     enum pz_life life;
 };
 struct pz_info {
-    unsigned format, mutexes, conds;
+    unsigned format, mutexes, conds, threads;  /* threads: how many may take part at a time */
     size_t data, size;                         /* bytes: the program's own, and the whole file's */
-    struct pz_thread thread[PZ_THREADS + 1];   /* by id */
+    struct pz_thread thread[1 + 255];          /* by id, 1 to threads; room for as many as a library may be built for */
 };
 int pz_info(pz *, struct pz_info *);
 

@@ -33,7 +33,7 @@ static inline __attribute__((always_inline)) int pz_take_now(pz *p, unsigned m, 
     if (PZ_TRACE || m >= p->mutexes || !t || self->held >= HELD)
         return pz_by_steps(p, m, operation, limit);
     word *words = p->words, *h = &words[head], *w = &words[cell];
-    if (!has_given_way && operation == PZ_OP_LOCK && own(w + 4) && looks_at_heir(self, m))
+    if (!has_given_way && operation == PZ_OP_LOCK && own(w + HEIR) && looks_at_heir(self, m))
         return pz_take_behind(p, m, limit);
     uint64_t seen = atomic_load_explicit(w, memory_order_acquire), found = seen, first = own(h);
     if (seen & (OWNED | UNUSABLE))
@@ -79,9 +79,12 @@ static inline __attribute__((always_inline)) int pz_give(pz *p, unsigned m)
         STORE(&words[next + 1], previous);
     uint64_t found = XOR(w, t);
     /* WAITERS alone is no sleeper: where there is no heir, and none has a bit, the wake of nobody and the trim that is
-     * declined are left out; where there is an heir who is awake, and not due, the wake is. */
-    uint64_t its = found & WAITERS ? SEE(w + 4) : 0;
-    if ((found & WAITERS) && (its ? its & (NAPS | DUE) : SEE(w + 3)))
+     * declined are left out; where there is an heir who is awake, and not due, the wake is. (Without WAITERS no word is
+     * looked at. Who sleeps has set it before, and its bit before the kernel's look at the cell; the words are looked
+     * at behind the release: so it is found, or finds the mutex released.) */
+    uint64_t its = found & WAITERS ? SEE(w + HEIR) : 0;
+    uint64_t who = !(found & WAITERS) ? 0 : its ? its & (NAPS | DUE) : SEE(w + SLEEPERS);
+    if (who && (its || any_of(w + SLEEPERS, who)))
         return pz_hand_on(p, m, found);
     STORE(h + 2, 0);
     self->held--;
@@ -105,7 +108,8 @@ static inline int pz_declare(pz *p, unsigned m)
 }
 
 /* A signal or a broadcast by the mutex's owner, over a counter that goes up once more. Whoever is about to sleep finds
- * it changed: so where nobody has a bit behind that, there is nobody to wake, and nobody to move. */
+ * it changed: so where nobody has a bit behind that, in any word, there is nobody to wake, and nobody to move. (Nobody
+ * comes while the words are read: who begins a wait owns the mutex.) */
 static inline int pz_count(pz *p, unsigned c, unsigned operation)
 {
     uint64_t t = pz_self[p->number].id;
@@ -116,13 +120,14 @@ static inline int pz_count(pz *p, unsigned c, unsigned operation)
     if ((seen & OWNED) != t)
         return EPERM;
     uint64_t count = atomic_load_explicit(counter, memory_order_acquire);
-    if (count - AGAIN <= FULL - AGAIN)
+    if (__builtin_expect(count - AGAIN <= FULL - AGAIN, 0))
         count = pz_begin_again(counter, count);
     if (count == FULL)
         return EOVERFLOW;
     uint64_t found = ADD(counter, 1);
     if (operation == PZ_OP_BROADCAST)
         found = OR(w, WAITERS); /* before anybody is moved there */
-    return SEE(counter + 3) ? pz_counted(p, c, operation, count, found) : 0;
+    uint64_t bits = SEE(counter + SLEEPERS);
+    return bits && any_of(counter + SLEEPERS, bits) ? pz_counted(p, c, operation, count, found) : 0;
 }
 #endif

@@ -69,12 +69,12 @@ void pz_walk_on(pz *p, unsigned t)
     pz_trace_unlock();
 }
 
-/* It sleeps nowhere any more. */
+/* It sleeps nowhere any more. (Its own word says so: who was killed before MORE was set has a bit all the same.) */
 static void forget(pz *p, unsigned t)
 {
     for (uint64_t at = cell_place(0); at < p->places; at += LINE)
-        if (SEE(sleepers(p, at)) & bit_of(t))
-            AND(sleepers(p, at), ~bit_of(t));
+        if (is_noted(sleepers(p, at), t))
+            forget_sleeper(sleepers(p, at), t);
 }
 
 /* It is nobody's heir, and nobody waits for one that it woke: before the walk looks at what it had pending. */

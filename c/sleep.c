@@ -26,7 +26,7 @@ struct sleeper {
     uint64_t at;
     uint32_t expected;
     struct limit *limit;
-    uint64_t before; /* who sleeps there already: they are woken first, and one that is killed then hands nothing on */
+    struct ids before; /* who sleeps there already: woken first, and one that is killed then hands nothing on */
     long look_ms;
     int is_woken; /* by its last system call, maybe: not where that says otherwise */
 };
@@ -53,13 +53,15 @@ void pz_reap_if_dead(pz *p, unsigned self, unsigned t)
         pz_reap_one(p, t);
 }
 
-/* What a sleeper waits for: the word first, then the ends of threads, and the bell behind them. */
-enum { MOST_WATCHED = 2 + (THREADS > 2 + PZ_WATCH ? THREADS : 2 + PZ_WATCH) };
+/* What a sleeper waits for: the word first, then the ends of threads, and the bell behind them. Who waits for an id
+ * watches all threads that have one, or so many of them as futex_waitv(2) takes. */
+enum { WATCHES_ALL = PZ_THREADS <= FUTEX_WAITV_MAX - 2, WATCHED_IDS = WATCHES_ALL ? PZ_THREADS : FUTEX_WAITV_MAX - 2 };
+enum { MOST_WATCHED = 2 + (WATCHED_IDS > 2 + PZ_WATCH ? WATCHED_IDS : 2 + PZ_WATCH) };
 _Static_assert(MOST_WATCHED <= FUTEX_WAITV_MAX, "futex_waitv(2) takes no more");
 struct watched {
     struct futex_waitv v[MOST_WATCHED];
     unsigned n;
-    uint64_t threads; /* a bit each */
+    struct ids threads;
 };
 
 static struct futex_waitv watched(const void *word, uint32_t is)
@@ -80,7 +82,7 @@ static int watch(pz *p, unsigned t, struct watched *all)
     } while (!(seen & FUTEX_WAITERS) &&
              !__atomic_compare_exchange_n(token, &seen, seen | FUTEX_WAITERS, 0, __ATOMIC_SEQ_CST, __ATOMIC_SEQ_CST));
     all->v[all->n++] = watched(token, seen | FUTEX_WAITERS);
-    all->threads |= bit_of(t);
+    put_in(&all->threads, t);
     return 1;
 }
 
@@ -97,18 +99,18 @@ static unsigned watch_all(const struct sleeper *s, unsigned owner, struct watche
 {
     all->v[0] = watched(&s->p->words[s->at], s->expected);
     all->n = 1;
-    all->threads = 0;
+    all->threads = (struct ids){{0}};
     if (!watch(s->p, owner, all))
         return owner;
     unsigned next = heir_of(s);
     if (next && next != owner && !watch(s->p, next, all))
         return next;
-    uint64_t others = s->before & SEE(sleepers(s->p, s->at)) & ~bit_of(owner);
-    for (unsigned most = all->n + PZ_WATCH; others && all->n < most; others &= others - 1) {
-        unsigned t = (unsigned)__builtin_ctzll(others) + 1;
+    struct ids still = noted(sleepers(s->p, s->at)), others = in_both(&s->before, &still);
+    leave_out(&others, owner);
+    unsigned most = all->n + PZ_WATCH;
+    for (unsigned t = 0; all->n < most && (t = id_behind(&others, t));)
         if (!watch(s->p, t, all))
             return t;
-    }
     return 0;
 }
 
@@ -173,30 +175,29 @@ static void ring_at_my_end(pz *p)
 
 /* Those that have died. The C library stands in the lock of each one's token meanwhile, and in none behind it: so the
  * bell is to be rung again. (No try sees that.) */
-static void reap_those(pz *p, uint64_t those)
+static void reap_those(pz *p, const struct ids *those)
 {
-    for (; those; those &= those - 1) {
-        unsigned t = (unsigned)__builtin_ctzll(those) + 1;
+    for (unsigned t = 0; (t = id_behind(those, t));)
         if (pz_has_died(p, t)) {
             pz_reap_one(p, t);
             ring_at_my_end(p);
         }
-    }
 }
 
 /* Until any of them is woken or differs, a time comes, or a handler: 0, or the number of an error. Of several that were
  * woken Linux names the last one, and the bell is that. Who rang it may have been told of an id, too. */
-static int wait_for_any(pz *p, struct watched *all, const struct limit *limit)
+static int wait_for_any(pz *p, struct watched *all, const struct limit *limit, long look_ms)
 {
     const uint32_t *bell = pz_token_word(p, 0);
-    struct timespec until = from_now(limit, PZ_POLL_S * 1000l);
+    struct timespec until = from_now(limit, look_ms);
+    struct ids everybody = all_ids();
     all->v[all->n] = watched(bell, __atomic_load_n(bell, __ATOMIC_SEQ_CST)); /* 0, but where somebody wrote strays */
     ring_at_my_end(p);
     long r = syscall(SYS_futex_waitv, all->v, all->n + 1, 0, &until, clock_of(limit));
     int error = r < 0 ? errno : 0, is_bell = r == (long)all->n;
     if (is_bell)
         pz_tell_of_id(p);
-    reap_those(p, is_bell ? UINT64_MAX : all->threads); /* a sleeper on its mutex may have been meant */
+    reap_those(p, is_bell ? &everybody : &all->threads); /* a sleeper on its mutex may have been meant */
     ring_at_my_end(NULL);
     if (error == ENOSYS || error == EPERM) /* an older kernel, or a filter of calls: so it isn't asked each time */
         atomic_store(&no_waitv, 1);
@@ -242,7 +243,7 @@ static uint32_t wait_watching(struct sleeper *s, unsigned owner)
         pz_reap_one(s->p, dead);
         return PZ_WOKEN;
     }
-    int error = wait_for_any(s->p, &all, s->limit);
+    int error = wait_for_any(s->p, &all, s->limit, PZ_POLL_S * 1000l);
     s->is_woken = error == 0; /* by a token too: that another woke it by the word meanwhile isn't told */
     return is_known(error) ? ended(s, owner, error) : wait_looking(s, owner);
 }
@@ -254,7 +255,8 @@ static uint32_t sleep_once(struct sleeper *s)
         owner = 0; /* a word that was spoiled */
     s->is_woken = 0;
     /* anew each time: the kernel has it stand behind those that came while it looked */
-    s->before = SEE(sleepers(s->p, s->at)) & ~bit_of(s->thread);
+    s->before = noted(sleepers(s->p, s->at));
+    leave_out(&s->before, s->thread);
     return owner && !atomic_load(&no_waitv) ? wait_watching(s, owner) : wait_looking(s, owner);
 }
 
@@ -295,7 +297,7 @@ static void pass_on(const struct sleeper *s, uint32_t answer)
 {
     if (answer != EXPIRED)
         s->limit->is_relied_on = 1;
-    else if (s->limit->is_relied_on && SEE(sleepers(s->p, s->at)))
+    else if (s->limit->is_relied_on && any_noted(sleepers(s->p, s->at)))
         syscall(SYS_futex, (uint32_t *)&s->p->words[s->at], FUTEX_WAKE, 1, NULL, NULL, 0);
 }
 
@@ -307,16 +309,18 @@ uint32_t pz_sleep(pz *p, unsigned t, uint64_t at, uint32_t expected, struct limi
         return unless_changed(&s, PZ_WOKEN);
     if (!counter && pz_changes(p, t, at, expected, limit))
         return PZ_AGAIN;
-    OR(sleepers(p, at), bit_of(t));
+    note_sleeper(sleepers(p, at), t);
     int was_heir = !counter && pz_disinherit(p, t, at); /* who releases from here on wakes */
     if (was_heir && limit)
         limit->is_relied_on = 1;
     uint32_t answer = sleep_on(&s);
     if (s.is_woken)
         pz_comes(p, t, counter ? cell_of(p, at) : at); /* a broadcast may have moved it there */
-    AND(sleepers(p, at), ~bit_of(t));
+    forget_sleeper(sleepers(p, at), t);
     if (s.limit)
         pass_on(&s, answer);
+    if (answer == EXPIRED && counter)
+        pz_let_pass(p, t, cell_of(p, at)); /* it freed the mutex as its wait began */
     return answer;
 }
 
@@ -326,8 +330,8 @@ uint32_t pz_sleep(pz *p, unsigned t, uint64_t at, uint32_t expected, struct limi
  */
 void pz_awake(pz *p, unsigned t, uint64_t cell)
 {
-    if (SEE(sleepers(p, cell)) & bit_of(t))
-        AND(sleepers(p, cell), ~bit_of(t));
+    if (is_noted(sleepers(p, cell), t))
+        forget_sleeper(sleepers(p, cell), t);
 }
 
 /* ---- A thread that waits for an id. */
@@ -335,26 +339,43 @@ void pz_awake(pz *p, unsigned t, uint64_t cell)
 /* The kernel tells who waits for an id of this thread's death. */
 void pz_watch_me(pz *p) { __atomic_fetch_or(pz_token_word(p, pz_self[p->number].id), FUTEX_WAITERS, __ATOMIC_SEQ_CST); }
 
+static int is_had(pz *p, unsigned t)
+{
+    uint32_t token = __atomic_load_n(pz_token_word(p, t), __ATOMIC_SEQ_CST);
+    return (token & FUTEX_TID_MASK) && !(token & FUTEX_OWNER_DIED);
+}
+
+/* Each id is looked at, and as many are watched as may be: all of them; or a part, at the next look another, and by
+ * other processes others. 0: one is free, or its thread is dead, and it can be had. */
+static int watch_ids(pz *p, struct watched *all)
+{
+    static _Thread_local unsigned looks;
+    unsigned from = WATCHES_ALL ? 0 : ((unsigned)getpid() + looks++) % THREADS * WATCHED_IDS;
+    for (unsigned k = 0; k < THREADS; k++) {
+        unsigned t = (from + k) % THREADS + 1, n = all->n;
+        if (k < WATCHED_IDS ? !watch(p, t, all) || all->n == n : !is_had(p, t))
+            return 0;
+    }
+    return 1;
+}
+
 /* Until `freed` differs, a thread that has an id dies, or its limit comes: else for PZ_POLL_S, as one that was woken
- * may be killed. Whether anything has come but a time. Without futex_waitv it looks by itself, and of one wait each
- * time later. */
+ * may be killed. Whether anything has come but a time. Without futex_waitv, and where that doesn't take all ids, it
+ * looks by itself, and of one wait each time later. */
 int pz_sleep_for_id(pz *p, _Atomic uint32_t *freed, uint32_t seen, const struct limit *limit, long *look_ms)
 {
     struct watched all = {.v = {watched(freed, seen)}, .n = 1};
-    for (unsigned t = 1; t <= THREADS; t++)
-        if (!watch(p, t, &all))
-            return 1; /* dead: its id can be had */
-    if (all.n < 1 + THREADS)
-        return 1; /* one is free */
-    int error = atomic_load(&no_waitv) ? ENOSYS : wait_for_any(p, &all, limit);
-    if (is_known(error))
-        return error == 0 || error == EAGAIN;
-    struct timespec until = from_now(limit, *look_ms);
-    if (wait_on((uint32_t *)freed, seen, clock_of(limit), &until) == 0) {
-        *look_ms = FIRST_LOOK_MS;
+    if (!watch_ids(p, &all))
         return 1;
+    long ms = *look_ms;
+    int looks = !WATCHES_ALL || atomic_load(&no_waitv);
+    int error = atomic_load(&no_waitv) ? ENOSYS : wait_for_any(p, &all, limit, looks ? ms : PZ_POLL_S * 1000l);
+    if (!is_known(error)) {
+        struct timespec until = from_now(limit, ms);
+        looks = 1;
+        error = wait_on((uint32_t *)freed, seen, clock_of(limit), &until) == 0 ? 0 : errno;
     }
-    if (*look_ms < LAST_LOOK_MS)
-        *look_ms *= 2;
-    return errno == EAGAIN;
+    if (looks)
+        *look_ms = error == 0 ? FIRST_LOOK_MS : ms < LAST_LOOK_MS ? 2 * ms : ms;
+    return error == 0 || error == EAGAIN;
 }

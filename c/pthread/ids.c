@@ -1,5 +1,6 @@
-/* A bank has 64 ids, and more threads than that may lock. A thread has one from its first lock, and keeps it while few
- * are taken: by whoever wants one then, or where many are, it gives its own back as soon as it owns nothing. */
+/* A bank has PZ_THREADS ids, and more threads than that may lock. A thread has one from its first lock, and keeps it
+ * while few are taken: by whoever wants one then, or where many are, it gives its own back as soon as it owns nothing.
+ */
 #include "shim.h"
 #include <errno.h>
 

@@ -278,15 +278,15 @@ static int lock_trusted(int fd, const struct object *o, struct stat *st)
     return r ? r : fstat(fd, st) < 0 ? errno : 0;
 }
 
-/* A companion, of this format (else EPROTO), and of this object: another's may have been linked here. */
+/* A companion, of this format and of as many ids, as its size says (else EPROTO), and of this object: another's may
+ * have been linked here. */
 static int look_at_table(const struct table *t, const struct stat *st, const struct object *o)
 {
     if ((t->magic ^ MAGIC) & ~DIGIT)
         return EPERM;
-    if (t->magic != MAGIC)
+    if (t->magic != MAGIC || (size_t)st->st_size != sh_size())
         return EPROTO;
-    int is_whole = t->nonce && (size_t)st->st_size == sh_size();
-    return is_whole && t->dev == o->dev && t->ino == o->ino ? 0 : EPERM;
+    return t->nonce && t->dev == o->dev && t->ino == o->ino ? 0 : EPERM;
 }
 
 /* Where the companion of an object is to be. */

@@ -20,7 +20,7 @@ static const struct {
      "it has no companion here (another PAZDRIG_DIR, or an earlier boot?), and only pthread_mutex_init makes one"},
     {EPERM, "its companion may not be opened, or was made by somebody who may not write the file that it is of"},
     {EACCES, "this user's folder of companions can't be made"},
-    {EPROTO, "its companion is of another version's format"},
+    {EPROTO, "its companion is of another version's format, or for another PZ_THREADS"},
     {EAGAIN, "there is no room for more mutexes, or for more objects that have some"},
 };
 

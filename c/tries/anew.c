@@ -15,7 +15,7 @@ struct seen {
 };
 static pz *p;
 static struct seen *seen;
-static enum { NOTHING, BEFORE_THE_FIRST, BEHIND_ITS_RELEASE } stops;
+static enum { NOTHING, BEFORE_ITS_LOOK, BEFORE_ITS_EXCHANGE, BEHIND_ITS_RELEASE } stops;
 static int sleeps_there, has_turn;
 
 /* Asked for by nobody of those who do it here, it is an id again that nobody has. */
@@ -26,10 +26,13 @@ static int is_cleaned_up(void)
     return t && pz_info(p, &info) == 0 && info.thread[t].life == PZ_ID_FREE;
 }
 
-/* Those who were told go on one after the other, once the mutex is free. */
+/* Those who were told go on one after the other, once the mutex is free. (A reinit's first instruction here is its look
+ * for sleepers, and its second the exchange.) */
 void pz_between(void)
 {
-    if (stops == BEFORE_THE_FIRST || (stops == BEHIND_ITS_RELEASE && pz_mutex_owner(p, 0) == 0)) {
+    if (stops == BEFORE_ITS_LOOK)
+        stops = BEFORE_ITS_EXCHANGE;
+    else if (stops == BEFORE_ITS_EXCHANGE || (stops == BEHIND_ITS_RELEASE && pz_mutex_owner(p, 0) == 0)) {
         stops = NOTHING;
         raise(SIGSTOP);
     }
@@ -61,7 +64,7 @@ static pid_t a_renewer(void)
 {
     pid_t it = a_child();
     if (!it) {
-        stops = BEFORE_THE_FIRST;
+        stops = BEFORE_ITS_LOOK;
         _exit(pz_mutex_reinit(p, 0));
     }
     until_stopped(it);

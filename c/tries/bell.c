@@ -7,7 +7,7 @@
 #include <sched.h>
 #include <sys/syscall.h>
 
-enum { IDS = 64, ROUNDS = 4, INSIDE = 5, NOBODY = 0 };
+enum { IDS = PZ_THREADS, ROUNDS = 4, INSIDE = 5, NOBODY = 0 };
 enum mutex { OWNED, BUSY, ANY, MUTEXES }; /* of the one that ends; of one that lives */
 enum step { BEGUN, HEARS, ENDS };
 

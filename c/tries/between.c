@@ -10,7 +10,7 @@ int pz_disinherit(const pz *p, unsigned t, uint64_t cell) { return (void)p, (voi
 void pz_end_nap(const pz *p, uint64_t cell) { (void)p, (void)cell; }
 
 static struct pz file;
-static word words[80 * LINE];
+static word words[(16 + THREADS) * LINE];
 static struct {
     struct pz_access access;
     uint64_t value;
@@ -67,7 +67,7 @@ static void one_after_the_other(uint64_t was, struct pz_access a, struct pz_acce
 
 int main(void)
 {
-    file = (struct pz){.words = words, .places = 80 * LINE, .mutexes = 8, .conds = 2};
+    file = (struct pz){.words = words, .places = (16 + THREADS) * LINE, .mutexes = 8, .conds = 2};
     struct pz_access take = {.kind = PZ_EXCHANGE, .a = 0, .b = 1}, also = {.kind = PZ_EXCHANGE, .a = 0, .b = 2};
     struct pz_access release = {.kind = PZ_XOR, .a = 1}, flip = {.kind = PZ_XOR, .a = 2},
                      waiters = {.kind = PZ_OR, .a = 0x80000000};

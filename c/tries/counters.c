@@ -1,12 +1,13 @@
 /* A condition variable's counter begins again where nobody waits, whatever it was, and nowhere else: beside a waiter
- * that is asleep, one that has released the mutex and isn't asleep yet, and one that was killed, it counts on; behind
- * one whose time limit came it doesn't. */
+ * that is asleep, one that has released the mutex and isn't asleep yet, and one that was killed, up to a time too, it
+ * counts on; behind one whose time limit came it doesn't. */
 #include "driver.h"
 #include "plans.h"
 #include "try.h"
 #include <pthread.h>
 
 static pz *file;
+static int is_timed; /* each wait, up to a time that is far away */
 static word *cell, *counter;
 static _Thread_local int stops;
 static atomic_int stopped, goes_on;
@@ -40,7 +41,7 @@ static void *a_waiter(void *is_stopped)
     SAME(pz_mutex_lock(file, 0), 0);
     atomic_store(&goes_on, 0);
     stops = is_stopped != NULL;
-    SAME(pz_cond_wait(file, 0), 0);
+    SAME(is_timed ? pz_cond_timedwait(file, 0, &(struct timespec){INT64_MAX, 0}) : pz_cond_wait(file, 0), 0);
     SAME(pz_mutex_unlock(file, 0), 0);
     return NULL;
 }
@@ -51,7 +52,7 @@ static pthread_t waiter(int *is_stopped)
     pthread_t it;
     atomic_store(&stopped, 0);
     CHECK(!pthread_create(&it, NULL, a_waiter, is_stopped));
-    while (is_stopped ? !atomic_load(&stopped) : !atomic_load(counter + 3) || owner_of(atomic_load(cell)))
+    while (is_stopped ? !atomic_load(&stopped) : !atomic_load(counter + SLEEPERS) || owner_of(atomic_load(cell)))
         rest(100);
     return it;
 }
@@ -114,7 +115,7 @@ static void one_is_killed(void)
     pid_t child = a_child();
     if (!child)
         _exit(a_waiter(NULL) != NULL);
-    while (!atomic_load(counter + 3) || owner_of(atomic_load(cell)))
+    while (!atomic_load(counter + SLEEPERS) || owner_of(atomic_load(cell)))
         rest(100);
     CHECK(!kill(child, SIGKILL) && waitpid(child, NULL, 0) == child);
     counts(pz_cond_signal, AGAIN + 7, 0, AGAIN + 8);
@@ -152,9 +153,11 @@ int main(void)
 {
     alarm(60);
     nobody_waits();
-    one_sleeps();
-    one_is_about_to_sleep();
-    one_is_killed();
+    for (is_timed = 0; is_timed < 2; is_timed++) {
+        one_sleeps();
+        one_is_about_to_sleep();
+        one_is_killed();
+    }
     one_is_late();
     one_is_refused();
     puts("counters: each began again where nobody waited, and nowhere else");

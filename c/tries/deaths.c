@@ -1,12 +1,13 @@
 /* Processes that lock and wait, also with a time limit, signal and are killed at random. Of each mutex the data says
  * who is inside and is written twice, so a second owner or a lost write is seen; each process has to get on, so a lost
- * wake is. In a crowd more processes come than there are ids, and leave now and then. usage: deaths DEATHS PROCESSES
- * THREADS [storm | crowd] */
+ * wake is. In a crowd more processes come than there are ids, and leave now and then. Where many come, each takes any
+ * id, over more mutexes and condition variables. usage: deaths DEATHS PROCESSES THREADS [storm | crowd | many] */
+#include "driver.h"
 #include "try.h"
 #include <pthread.h>
 #include <sys/time.h>
 
-enum { FEW = 4, MUTEXES = 64, CONDS = 2, MOST = 1000, QUIET_S = 60 };
+enum { FEW = 4, MUTEXES = 64, FEW_CONDS = 2, CONDS = 8, MOST = 1000, QUIET_S = 60 };
 
 struct guarded {
     _Atomic int inside;          /* the pid of who is, 0 for nobody */
@@ -23,7 +24,8 @@ struct board {
 
 static pz *p;
 static struct board *b;
-static int threads, is_crowd;
+static int threads, is_stormy, is_crowd, is_many;
+static unsigned few, conds; /* how many of them are used, but in a crowd all mutexes */
 
 static void storm(int unused) { (void)unused; }
 
@@ -110,7 +112,7 @@ static int lock_until(unsigned m, unsigned *random)
 /* Takes an item, and waits for one where there is none; or gives one. */
 static void wait_or_give(unsigned c, unsigned *random)
 {
-    unsigned m = c % FEW;
+    unsigned m = c % few;
     enter(m, pz_mutex_lock(p, m));
     if (rand_r(random) % 2) {
         take(c, m, random);
@@ -125,7 +127,7 @@ static void wait_or_give(unsigned c, unsigned *random)
 /* To whoever waits, so that nobody waits for good. */
 static void give_to_all(void)
 {
-    for (unsigned c = 0; c < CONDS; c++) {
+    for (unsigned c = 0; c < conds; c++) {
         enter(c, pz_mutex_lock(p, c));
         atomic_store(&b->items[c], 1);
         SAME(pz_cond_broadcast(p, c), 0);
@@ -157,10 +159,12 @@ static void *work(void *of)
 {
     int slot = (int)(intptr_t)of;
     unsigned random = (unsigned)getpid() * 31 + (unsigned)(uintptr_t)pthread_self();
+    if (is_many) /* the id that it takes, if nobody has it */
+        pz_self[p->number].last = (uint8_t)((unsigned)rand_r(&random) % PZ_THREADS + 1);
     for (;;) {
         if (!is_crowd && rand_r(&random) % 4 == 0 && slot != 0)
-            wait_or_give((unsigned)rand_r(&random) % CONDS, &random);
-        else if (!had_one(is_crowd ? MUTEXES : FEW, &random))
+            wait_or_give((unsigned)rand_r(&random) % conds, &random);
+        else if (!had_one(is_crowd ? MUTEXES : few, &random))
             continue;
         atomic_fetch_add(&b->got_on[slot], 1);
         atomic_fetch_add(&b->locks, 1);
@@ -173,12 +177,12 @@ static void *work(void *of)
     return NULL;
 }
 
-static pid_t begin(int slot, int stormy)
+static pid_t begin(int slot)
 {
     pid_t child = a_child();
     if (child)
         return child;
-    if (stormy) {
+    if (is_stormy) {
         sigaction(SIGALRM, &(struct sigaction){.sa_handler = storm}, NULL); /* so that sleeps end by EINTR */
         struct itimerval each = {{0, 700}, {0, 700}};
         setitimer(ITIMER_REAL, &each, NULL);
@@ -245,25 +249,34 @@ static void all_get_on(const pid_t *child, int n)
             look(child, n);
 }
 
+static void how(const char *it)
+{
+    is_stormy = !strcmp(it, "storm");
+    is_crowd = !strcmp(it, "crowd");
+    is_many = !strcmp(it, "many");
+    few = is_many ? 4 * FEW : FEW;
+    conds = is_many ? CONDS : FEW_CONDS;
+}
+
 int main(int argc, char **argv)
 {
     int deaths = argc > 1 ? atoi(argv[1]) : 1000, n = argc > 2 ? atoi(argv[2]) : 8;
     threads = argc > 3 ? atoi(argv[3]) : 1;
     pid_t child[MOST];
     const char *path = a_file("deaths");
-    is_crowd = argc > 4 && !strcmp(argv[4], "crowd");
-    CHECK(n >= 2 && n <= MOST && (is_crowd || n * threads <= 64));
+    how(argc > 4 ? argv[4] : "");
+    CHECK(n >= 2 && n <= MOST && (is_crowd || n * threads <= PZ_THREADS));
     SAME(pz_open(path, 0600, MUTEXES, CONDS, NULL, sizeof *b, &p), 0);
     b = pz_data(p);
     srand(argc > 5 ? (unsigned)atoi(argv[5]) : 1);
     for (int i = 0; i < n; i++)
-        child[i] = begin(i, argc > 4 && !strcmp(argv[4], "storm"));
+        child[i] = begin(i);
     for (int k = 0; k < deaths; k++) {
         int i = who_dies(child, n, k);
         rest(rand() % 1500);
         look(child, n);
         kill_and_wait(child[i]);
-        child[i] = begin(i, argc > 4 && !strcmp(argv[4], "storm"));
+        child[i] = begin(i);
     }
     if (is_crowd)
         all_get_on(child, n);

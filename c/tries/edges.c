@@ -80,8 +80,12 @@ static void an_owner_dies(void)
 static void is_told(pz *p, unsigned id, enum pz_life life, pid_t tid)
 {
     struct pz_info info;
+    enum { MOST = sizeof info.thread / sizeof *info.thread };
+    _Static_assert(MOST == 256, "whatever PZ_THREADS is, so that libraries fit programs with another one");
+    memset(&info, 0xff, sizeof info);
     SAME(pz_info(p, &info), 0);
-    for (unsigned t = 1; t <= PZ_THREADS; t++) {
+    SAME((int)info.threads, PZ_THREADS);
+    for (unsigned t = 1; t < MOST; t++) {
         SAME(info.thread[t].life, t == id ? life : PZ_ID_FREE);
         SAME(info.thread[t].tid, t == id ? tid : 0);
     }
@@ -478,13 +482,13 @@ static void the_2049th_mutex(void)
     pz_close(p);
 }
 
-/* At the 65th there is no id; one that has died makes room. (Who waits for one: tries/ids.c.) */
-static void the_65th_thread(void)
+/* With one more than there are ids there is none; one that has died makes room. (Who waits for one: tries/ids.c.) */
+static void one_thread_too_many(void)
 {
     pz *p = open_new("ids", 1, 0);
-    pid_t child[64];
+    pid_t child[PZ_THREADS];
     int *parts = shared(sizeof *parts);
-    for (int i = 0; i < 64; i++)
+    for (int i = 0; i < PZ_THREADS; i++)
         if (!(child[i] = fork())) {
             if (pz_thread_begin(p))
                 _exit(1);
@@ -492,17 +496,17 @@ static void the_65th_thread(void)
             for (;;)
                 pause();
         }
-    while (__atomic_load_n(parts, __ATOMIC_SEQ_CST) < 64)
+    while (__atomic_load_n(parts, __ATOMIC_SEQ_CST) < PZ_THREADS)
         rest(200);
     SAME(pz_mutex_trylock(p, 0), EAGAIN);
     SAME(pz_mutex_timedlock(p, 0, &(struct timespec){0}), ETIMEDOUT);
     kill_and_wait(child[13]);
     SAME(pz_mutex_lock(p, 0), 0);
-    CHECK(pz_thread_id(p) >= 1 && pz_thread_id(p) <= 64);
-    for (int i = 0; i < 64; i++)
+    CHECK(pz_thread_id(p) >= 1 && pz_thread_id(p) <= PZ_THREADS);
+    for (int i = 0; i < PZ_THREADS; i++)
         if (i != 13)
             kill_and_wait(child[i]);
-    CHECK(pz_reap(p) == 63);
+    SAME(pz_reap(p), PZ_THREADS - 1);
     pz_close(p);
 }
 
@@ -641,7 +645,7 @@ int main(void)
     a_fork();
     an_exec();
     the_2049th_mutex();
-    the_65th_thread();
+    one_thread_too_many();
     closed_beside_calls();
     another_namespace();
     two_reapers();

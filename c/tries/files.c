@@ -1,4 +1,5 @@
 /* Each case of a file once: which are opened, made and refused, and what becomes of those who have it open. */
+#include "driver.h"
 #include "try.h"
 #include <dirent.h>
 #include <fcntl.h>
@@ -76,24 +77,41 @@ static void a_file_of_another_program(void)
 static void a_file_of_another_format(void)
 {
     const char *path = a_file("format");
-    static char before[1 << 16], after[1 << 16];
+    static char before[1 << 17], after[1 << 17];
     pz *p;
     SAME(pz_open(path, 0600, 2, 1, NULL, 8, &p), 0);
     SAME(pz_mutex_lock(p, 1), 0);
     pz_close(p);
     int fd = open(path, O_RDWR);
-    CHECK(fd >= 0 && pread(fd, before, 8, 0) == 8 && !memcmp(before, "pazdrig2", 8));
-    for (const char *digit = "13/9\xff"; *digit; digit++) {
+    CHECK(fd >= 0 && pread(fd, before, 8, 0) == 8 && !memcmp(before, "pazdrig3", 8));
+    for (const char *digit = "24/9\xff"; *digit; digit++) {
         CHECK(pwrite(fd, digit, 1, 7) == 1);
         ssize_t n = pread(fd, before, sizeof before, 0);
         SAME(pz_open(path, 0600, 2, 1, NULL, 8, &p), EPROTO);
         SAME(pz_open(path, 0600, 3, 1, NULL, 8, &p), EPROTO); /* another one's numbers may stand elsewhere */
         CHECK(n > 0 && pread(fd, after, sizeof after, 0) == n && !memcmp(before, after, (size_t)n));
     }
-    CHECK(pwrite(fd, "2", 1, 7) == 1);
+    CHECK(pwrite(fd, "3", 1, 7) == 1);
     SAME(pz_open(path, 0600, 2, 1, NULL, 8, &p), 0);
     SAME(pz_mutex_lock(p, 1), EOWNERDEAD);
     pz_close(p);
+    close(fd);
+    unlink(path);
+}
+
+/* Made by a library that is built for one id less, which here is as large: its words may stand elsewhere. */
+static void a_file_of_other_ids(void)
+{
+    const char *path = a_file("other ids");
+    const off_t at = offsetof(struct header, threads);
+    uint32_t threads;
+    pz *p;
+    SAME(pz_open(path, 0600, 1, 0, NULL, 0, &p), 0);
+    pz_close(p);
+    int fd = open(path, O_RDWR);
+    CHECK(fd >= 0 && pread(fd, &threads, sizeof threads, at) == sizeof threads && threads-- == PZ_THREADS);
+    CHECK(pwrite(fd, &threads, sizeof threads, at) == sizeof threads);
+    SAME(pz_open(path, 0600, 1, 0, NULL, 0, &p), EINVAL);
     close(fd);
     unlink(path);
 }
@@ -108,7 +126,7 @@ static void the_numbers_of_a_file(void)
     SAME(pz_open(path, 0600, 30, 4, NULL, 10000, &p), 0);
     SAME(pz_info(p, &info), 0);
     CHECK(stat(path, &st) == 0 && (size_t)st.st_size == info.size);
-    CHECK(info.format == 2 && info.mutexes == 30 && info.conds == 4 && info.data == 10000);
+    CHECK(info.format == 3 && info.mutexes == 30 && info.conds == 4 && info.data == 10000);
     pz_close(p);
     unlink(path);
 }
@@ -706,7 +724,7 @@ static void a_child_closes(void)
 /* Refused, as its condition variable is to be of another mutex than it is, and left as it was. */
 static void is_left_as_it_is(const char *path)
 {
-    static char before[1 << 16], after[1 << 16];
+    static char before[1 << 17], after[1 << 17];
     pz *p;
     uint16_t other[1] = {1};
     int fd = open(path, O_RDONLY);
@@ -813,6 +831,7 @@ int main(void)
     a_file_of_another_layout();
     a_file_of_another_program();
     a_file_of_another_format();
+    a_file_of_other_ids();
     the_numbers_of_a_file();
     whose_file_it_is();
     nothing_is_lost();

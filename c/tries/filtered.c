@@ -80,7 +80,7 @@ static void without_futex_waitv(int error, int is_interrupted, int is_timed)
 /* All ids are had, and of those who have them one dies. */
 static void for_an_id(int error)
 {
-    enum { IDS = 64 };
+    enum { IDS = PZ_THREADS };
     const char *path = a_file("ids");
     _Atomic int *taken = shared(2 * sizeof *taken), *has_come = taken + 1;
     pid_t has[IDS];

@@ -3,10 +3,11 @@
  * off, so one that isn't told of an id sleeps for good, and makes no system call meanwhile. */
 #include "driver.h"
 #include "times.h"
+#include <linux/futex.h>
 #include <pthread.h>
 #include <sys/syscall.h>
 
-enum { IDS = 64, HUNDRED = 100, ALL = IDS + HUNDRED, MUTEXES = 2, WAS = 77 };
+enum { IDS = PZ_THREADS, HUNDRED = 100, ALL = IDS + HUNDRED, MUTEXES = 2, WAS = 77 };
 enum order { STAY, BEGIN, LOCK, UNTIL_FAR, TRYLOCK, UNLOCK, WAIT, SIGNAL, LEAVE };
 
 /* One process: what it is told to do, with which mutex, and how often it has done that; what it was answered last, and
@@ -50,13 +51,14 @@ static int does(enum order order, unsigned m)
     }
 }
 
-/* What it was told is there before it is woken for the next. */
+/* What it was told is there before it is woken for the next. (It sleeps until there is one: so many that look would
+ * leave no processor to the others.) */
 static _Noreturn void work(struct part *of)
 {
     for (;;) {
         int order = atomic_exchange(&of->order, STAY);
         if (order == STAY) {
-            rest(200);
+            syscall(SYS_futex, &of->order, FUTEX_WAIT, STAY, NULL, NULL, 0);
             continue;
         }
         atomic_store(&of->told, does((enum order)order, atomic_load(&of->m)));
@@ -84,6 +86,7 @@ static int order(int i, enum order what, unsigned m)
     int done = atomic_load(&part[i].done);
     atomic_store(&part[i].m, m);
     atomic_store(&part[i].order, what);
+    syscall(SYS_futex, &part[i].order, FUTEX_WAKE, 1, NULL, NULL, 0);
     return done;
 }
 static int tell(int i, enum order what, unsigned m)
@@ -112,7 +115,7 @@ static void comes_and_waits(int i, enum order what)
     sleeps_in(i, what, 1);
 }
 
-/* A file of its own, and 64 that have its ids, in their order. */
+/* A file of its own, and those that have its ids, in their order. */
 static void begin(void)
 {
     alarm(100);
@@ -243,7 +246,7 @@ static _Noreturn void takes_part_in_both(pz *const file[2], int first, _Atomic i
     do {
         SAME(pz_thread_begin(file[first]), 0);
         for (atomic_fetch_add(&had[first], 1); atomic_load(&had[0]) < IDS || atomic_load(&had[1]) < IDS;)
-            rest(1000);
+            rest(10000);
         r = pz_mutex_lock(file[!first], 0);
         CHECK(r == EAGAIN || (r == 0 && pz_mutex_unlock(file[!first], 0) == 0));
         SAME(pz_thread_end(file[first]), 0);
@@ -335,6 +338,9 @@ static void one_is_interrupted(void)
 
 /* ---- A hundred wait. */
 
+/* How many ids one watches at a time; when one that can't watch all looks: a few times, and then each so long. */
+enum { AT_ONCE = 126, FIRST_LOOKS = 6, LOOK_MS = 640 };
+
 static long sleeps_of_all(void)
 {
     long all = 0;
@@ -343,7 +349,8 @@ static long sleeps_of_all(void)
     return all;
 }
 
-/* They have no processor meanwhile, and all of them an id in the end, as each that has one leaves. */
+/* They have no processor meanwhile, but for looks where futex_waitv(2) doesn't take all ids, and all of them an id in
+ * the end, as each that has one leaves. */
 static void a_hundred_wait(void)
 {
     begin();
@@ -353,9 +360,11 @@ static void a_hundred_wait(void)
         order(i, BEGIN, 0);
     for (int i = IDS; i < ALL; i++)
         until_waits(i);
+    double since = now();
     long before = sleeps_of_all();
     rest(1000000);
-    SAME((int)(sleeps_of_all() - before), 0);
+    long slept = sleeps_of_all() - before, looks = FIRST_LOOKS + (long)((now() - since) * 1000 / LOOK_MS);
+    CHECK(slept <= (PZ_THREADS > AT_ONCE ? looks * HUNDRED : 0));
     for (int i = 0; i < IDS; i++)
         order(i, LEAVE, 0);
     for (int left = HUNDRED; left; rest(100))

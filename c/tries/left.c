@@ -7,6 +7,7 @@
 #include "try.h"
 
 enum { NOBODYS = 60 };
+static unsigned asked_for; /* the id that a child takes */
 
 static pz *p;
 static word *its_heir[2], *its_sleepers[2];
@@ -22,10 +23,14 @@ static void open_new(void)
     }
 }
 
+/* But for MORE, which stays. */
 static void all_are_clean(void)
 {
-    for (unsigned m = 0; m < 2; m++)
-        CHECK(atomic_load(its_heir[m]) == 0 && atomic_load(its_sleepers[m]) == 0);
+    for (unsigned m = 0; m < 2; m++) {
+        CHECK(atomic_load(its_heir[m]) == 0 && (atomic_load(its_sleepers[m]) & ~MORE) == 0);
+        for (unsigned k = 1; k < BIT_WORDS; k++)
+            CHECK(atomic_load(its_sleepers[m] + k) == 0);
+    }
 }
 
 /* A child that takes part, and its id. */
@@ -34,6 +39,7 @@ static pid_t takes_part(unsigned *id)
     _Atomic unsigned *its = shared(sizeof *its);
     pid_t it = a_child();
     if (!it) {
+        pz_self[p->number].last = (uint8_t)asked_for;
         SAME(pz_thread_begin(p), 0);
         for (atomic_store(its, pz_thread_id(p));;)
             pause();
@@ -51,8 +57,9 @@ static void one_is_killed(void)
     pid_t it = takes_part(&id);
     atomic_store(its_heir[0], COMES); /* it woke that one, or is that one */
     atomic_store(its_heir[1], id | NAPS);
-    atomic_store(its_sleepers[0], bit_of(id));
-    atomic_store(its_sleepers[1], bit_of(id));
+    CHECK(id == asked_for);
+    note_sleeper(its_sleepers[0], id);
+    atomic_store(its_sleepers[1] + id / OF_WORD, bit_of(id)); /* killed before it set MORE */
     kill_and_wait(it);
     SAME(pz_reap(p), 1);
     SAME(pz_thread_id(p), 0);
@@ -66,7 +73,8 @@ static void one_is_made_anew(void)
     unsigned id;
     open_new();
     pid_t it = takes_part(&id);
-    atomic_store(its_sleepers[0], bit_of(id) | bit_of(NOBODYS));
+    note_sleeper(its_sleepers[0], id);
+    note_sleeper(its_sleepers[0], NOBODYS);
     SAME(pz_mutex_reinit(p, 0), EBUSY);
     kill_and_wait(it);
     SAME(pz_mutex_reinit(p, 0), 0);
@@ -106,8 +114,9 @@ static void one_owner_is_a_stray(uint32_t owner)
 static void one_leaves(void)
 {
     open_new();
+    pz_self[p->number].last = (uint8_t)asked_for;
     SAME(pz_thread_begin(p), 0);
-    atomic_store(its_sleepers[0], bit_of(pz_thread_id(p)));
+    note_sleeper(its_sleepers[0], pz_thread_id(p));
     SAME(pz_mutex_reinit(p, 0), EBUSY);
     SAME(pz_thread_end(p), 0);
     SAME(pz_mutex_reinit(p, 0), 0);
@@ -133,7 +142,8 @@ static void a_reboot(void)
     open_new();
     atomic_store(its_heir[0], COMES);
     atomic_store(its_heir[1], NOBODYS | DUE);
-    atomic_store(its_sleepers[0], UINT64_MAX);
+    for (unsigned k = 0; k < BIT_WORDS; k++)
+        atomic_store(its_sleepers[0] + k, UINT64_MAX);
     setenv("PZ_BOOT", "the second boot", 1);
     SAME(pz_open(a_file("left"), 0600, 2, 0, NULL, 0, &again), 0);
     all_are_clean();
@@ -144,12 +154,15 @@ static void a_reboot(void)
 int main(void)
 {
     alarm(100);
-    one_is_killed();
-    one_is_made_anew();
+    for (unsigned k = 0; k < BIT_WORDS; k++) { /* of each word an id */
+        asked_for = k ? k * OF_WORD : 1;
+        one_is_killed();
+        one_is_made_anew();
+        one_leaves();
+    }
     one_takes_no_part();
     one_owner_is_a_stray(THREADS + 1);
     one_owner_is_a_stray((uint32_t)OWNED);
-    one_leaves();
     one_is_reaped_already();
     a_reboot();
     unlink(a_file("left"));

@@ -24,7 +24,7 @@ static int lock_until(pz *p, unsigned m, clockid_t clock, const struct timespec 
     int r = lock_by(p, m, clock, until);
     unsigned t = pz_thread_id(p);
     CHECK(errno == WAS && atomic_load(&p->words[head_place(t) + 2]) == 0);
-    CHECK(!(atomic_load(sleepers(p, cell_place(m))) & bit_of(t)) && (atomic_load(heir(p, cell_place(m))) & WHO) != t);
+    CHECK(!is_noted(sleepers(p, cell_place(m)), t) && (atomic_load(heir(p, cell_place(m))) & WHO) != t);
     return r;
 }
 
@@ -289,15 +289,17 @@ static void an_owner_dies(void)
 
 /* ---- Waits. */
 
-/* Nothing is left of a wait, but the mutex where it says so; and errno is as it was. */
+/* Nothing is left of a wait, but the mutex where it says so, which is counted then; and errno is as it was. */
 static int wait_until(pz *p, clockid_t clock, const struct timespec *until)
 {
+    int held = pz_self[p->number].held;
     errno = WAS;
     int r = wait_by(p, 0, clock, until);
     unsigned t = pz_thread_id(p);
+    CHECK(pz_self[p->number].held == held - (r == ENOTRECOVERABLE));
     CHECK(errno == WAS && atomic_load(&p->words[head_place(t) + 2]) == 0);
-    CHECK(!(atomic_load(sleepers(p, cell_place(0))) & bit_of(t)) && (atomic_load(heir(p, cell_place(0))) & WHO) != t);
-    CHECK(!(atomic_load(sleepers(p, counter_place(p, 0))) & bit_of(t)));
+    CHECK(!is_noted(sleepers(p, cell_place(0)), t) && (atomic_load(heir(p, cell_place(0))) & WHO) != t);
+    CHECK(!is_noted(sleepers(p, counter_place(p, 0)), t));
     CHECK((pz_mutex_owner(p, 0) == t) == (r != ENOTRECOVERABLE));
     return r;
 }
@@ -305,7 +307,10 @@ static int wait_until(pz *p, clockid_t clock, const struct timespec *until)
 /* Which of the two that it owns it had last. */
 static unsigned last_had(pz *p) { return mutex_at(atomic_load(&p->words[head_place(pz_thread_id(p))]) - 1); }
 
-/* A limit that is past has it released and had again; what is no time doesn't. */
+static const clockid_t others[] = {CLOCK_PROCESS_CPUTIME_ID, CLOCK_BOOTTIME, 99, -1};
+enum { OTHERS = sizeof others / sizeof *others };
+
+/* A limit that is past has it released and had again; what is no time, or by another clock, doesn't. */
 static void a_wait_answers(pz *p, clockid_t clock)
 {
     SAME(pz_mutex_lock(p, 0), 0);
@@ -318,6 +323,8 @@ static void a_wait_answers(pz *p, clockid_t clock)
     SAME(pz_mutex_lock(p, 1), 0);
     for (int i = 0; i < NO_TIME; i++)
         SAME(wait_until(p, clock, &no_time[i]), EINVAL);
+    for (int i = 0; i < OTHERS; i++)
+        SAME(pz_cond_clockwait(p, 0, others[i], &past[0]), EINVAL);
     SAME(wait_by(p, 1, clock, &past[0]), EINVAL);
     SAME((int)last_had(p), 1);
     SAME(pz_mutex_unlock(p, 1), 0);
@@ -335,9 +342,8 @@ static void a_wait_answers(pz *p, clockid_t clock)
 
 static void waits_answer(void)
 {
-    static const clockid_t others[] = {CLOCK_PROCESS_CPUTIME_ID, CLOCK_BOOTTIME, 99, -1};
     pz *p = open_new(2);
-    for (int i = 0; i < 4; i++)
+    for (int i = 0; i < OTHERS; i++)
         SAME(pz_cond_clockwait(p, 0, others[i], &far_away), EINVAL);
     SAME(pz_thread_id(p), 0);
     for (int c = 0; c < 2; c++)
@@ -454,6 +460,51 @@ static int is_behind_it(clockid_t clock, enum how how, long us, struct waiting *
     return in_time;
 }
 
+/* It is a dead owner's, or unusable, by when the limit comes: the waiter knows of that only as it locks it. Where that
+ * was behind the limit, or may have been, it is tried again with a later one. */
+static int is_left_before(clockid_t clock, enum how how, long us, struct waiting *w)
+{
+    pz *p = open_new(1);
+    pid_t it = a_waiter(p, clock, us, 0, w);
+    an_owner_is_killed(p, 0);
+    int r = how == SPOILED ? pz_mutex_lock(p, 0) : EOWNERDEAD; /* 0: the waiter was late, and has repaired it */
+    if (how == SPOILED)
+        SAME(pz_mutex_unlock(p, 0), 0);
+    int in_time = r == EOWNERDEAD && !has_come(clock, &w->until), told = is_told(it);
+    CHECK(r == EOWNERDEAD || r == 0);
+    if (in_time)
+        SAME(told, answer_of[how]);
+    pz_close(p);
+    return in_time;
+}
+
+/* Nothing but a signal ends a wait before its limit: no death of the mutex's owner, and not that it becomes unusable,
+ * or is made free again. */
+static void it_waits_still(pz *p, pid_t it)
+{
+    until_asleep(it);
+    CHECK(any_noted(sleepers(p, counter_place(p, 0))) && !any_noted(sleepers(p, cell_place(0))));
+}
+static void nothing_else_ends_it(clockid_t clock, struct waiting *w)
+{
+    pz *p = open_new(1);
+    pid_t it = a_waiter(p, clock, 0, 0, w);
+    it_waits_still(p, it);
+    an_owner_is_killed(p, 0);
+    SAME(pz_reap(p), 1);
+    it_waits_still(p, it);
+    SAME(pz_mutex_lock(p, 0), EOWNERDEAD);
+    SAME(pz_mutex_unlock(p, 0), 0);
+    it_waits_still(p, it);
+    SAME(pz_mutex_reinit(p, 0), 0);
+    it_waits_still(p, it);
+    SAME(pz_mutex_lock(p, 0), 0);
+    SAME(pz_cond_signal(p, 0), 0);
+    SAME(pz_mutex_unlock(p, 0), 0);
+    SAME(is_told(it), 0);
+    pz_close(p);
+}
+
 /* Who waits behind one whose limit comes has the next signal. */
 static void the_next_is_signalled(struct waiting *w)
 {
@@ -479,6 +530,10 @@ static void waits(void)
         for (int how = 0; how < HOWS; how++)
             for (long us = 50000; !is_behind_it(clocks[c], (enum how)how, us, w); us *= 2)
                 ;
+        for (int how = OWNER_DIES; how <= SPOILED; how++)
+            for (long us = 50000; !is_left_before(clocks[c], (enum how)how, us, w); us *= 2)
+                ;
+        nothing_else_ends_it(clocks[c], w);
     }
     the_next_is_signalled(w);
 }

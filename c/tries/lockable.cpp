@@ -324,7 +324,7 @@ static void before_a_time_a_waiter_is_told()
 }
 
 /* It is woken by one that dies before it has freed the mutex. */
-static void who_waits_repairs()
+template <class Wait> static void who_waits_repairs(Wait waits)
 {
     pazdrig::file f = a_file();
     counter &c = f.as<counter>();
@@ -333,11 +333,67 @@ static void who_waits_repairs()
         pazdrig::mutex m(f, 0, [&] { c.copy = c.count, repairs++; });
         pazdrig::condition came(m, 0);
         std::unique_lock<pazdrig::mutex> lock(m);
-        came.wait(lock, [&] { return repairs != 0; });
+        waits(came, lock, [&] { return repairs != 0; });
         CHECK(lock.owns_lock() && c.count == 1 && c.copy == 1);
     });
     until_asleep(waiter);
     dies_amid_a_change(f, true);
+    ends_well(waiter);
+}
+static void each_who_waits_repairs()
+{
+    who_waits_repairs([](auto &c, auto &l, auto is_so) { c.wait(l, is_so); });
+    who_waits_repairs([](auto &c, auto &l, auto is_so) { CHECK(c.wait_for(l, 1000h, is_so)); });
+    who_waits_repairs([](auto &c, auto &l, auto is_so) { CHECK(c.wait_until(l, system_clock::now() + 1000h, is_so)); });
+}
+
+/* An owner dies, or spoils the mutex, in one of its waits, each of which is over soon: it is told of that as it has the
+ * mutex again, or hasn't. */
+static void until_it_is_told(counter &c)
+{
+    while (!__atomic_load_n(&c.is_told, __ATOMIC_SEQ_CST))
+        usleep(100);
+}
+static void who_is_late_repairs()
+{
+    pazdrig::file f = a_file();
+    counter &c = f.as<counter>();
+    pid_t waiter = child([&] {
+        int repairs = 0;
+        pazdrig::mutex m(f, 0, [&] { c.copy = c.count, repairs++; });
+        pazdrig::condition came(m, 0);
+        std::unique_lock<pazdrig::mutex> lock(m);
+        __atomic_store_n(&c.is_told, 1, __ATOMIC_SEQ_CST);
+        while (c.count == 0)
+            came.wait_for(lock, 1ms);
+        CHECK(lock.owns_lock() && m.is_mine() && repairs == 1 && c.copy == 1);
+    });
+    until_it_is_told(c);
+    dies_amid_a_change(f);
+    ends_well(waiter);
+}
+static void the_lock_is_lost_as_it_is_late()
+{
+    pazdrig::file f = a_file();
+    counter &c = f.as<counter>();
+    pid_t waiter = child([&] {
+        pazdrig::mutex m(f, 0, pazdrig::nothing_to_repair);
+        pazdrig::condition came(m, 0);
+        std::unique_lock<pazdrig::mutex> lock(m);
+        __atomic_store_n(&c.is_told, 1, __ATOMIC_SEQ_CST);
+        CHECK(thrown([&] {
+                  for (;;)
+                      came.wait_for(lock, 1ms);
+              }) == ENOTRECOVERABLE);
+        CHECK(!lock.owns_lock());
+    });
+    int r;
+    until_it_is_told(c);
+    do { /* until this process is told of it, and not the other one */
+        dies_amid_a_change(f);
+        r = pz_mutex_lock(f.get(), 0);
+        CHECK((r == 0 || r == EOWNERDEAD) && pz_mutex_unlock(f.get(), 0) == 0);
+    } while (r == 0);
     ends_well(waiter);
 }
 
@@ -389,7 +445,9 @@ int main()
     who_waits_is_told();
     a_waits_time_comes();
     before_a_time_a_waiter_is_told();
-    who_waits_repairs();
+    each_who_waits_repairs();
+    who_is_late_repairs();
+    the_lock_is_lost_as_it_is_late();
     the_lock_is_lost_in_a_wait();
     files();
     std::puts("lockable: each lock has what it should");

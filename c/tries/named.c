@@ -24,7 +24,12 @@ void pz_between(void)
 }
 void pz_at_walk(void) {}
 
-static int at_once(void) { return 1; }
+/* A reinit's look for sleepers is its first instruction here. */
+static int behind_its_look(void)
+{
+    static int looks;
+    return looks++ > 0;
+}
 static int is_about_to_sleep(void) { return (atomic_load(&p->words[cell_place(0)]) & WAITERS) != 0; }
 static int is_signalled(void) { return atomic_load(&p->words[counter_place(p, 0)]) != 0; }
 
@@ -74,7 +79,7 @@ static pid_t a_renewer(void)
 {
     pid_t it = a_child();
     if (!it) {
-        stands = at_once;
+        stands = behind_its_look;
         _exit(pz_mutex_reinit(p, 0));
     }
     until_stopped(it);

@@ -4,7 +4,7 @@
  * it the mutex waits for it, and not too long. Only who was woken takes the place of one that was. How long a waiter
  * sleeps until it looks by itself, and one that waits for an id. And a time limit: it ends pauses and naps, the kernel
  * is asked for it by its own clock, which may be set, and it comes where it is past, or no time. So too of a wait,
- * unless a signal came first. */
+ * unless a signal came first; and one that is late gives way. */
 #include <sched.h>
 #include <time.h>
 #include <unistd.h>
@@ -12,6 +12,9 @@
 static int played_clock(clockid_t clock, struct timespec *now);
 static int played_processors(pid_t thread, size_t size, cpu_set_t *set);
 static long played_call(long number, ...);
+static pid_t its_pid;
+static pid_t played_pid(void) { return its_pid; }
+#define getpid            played_pid
 #define clock_gettime     played_clock
 #define sched_getaffinity played_processors
 #define syscall           played_call
@@ -21,6 +24,7 @@ static long played_call(long number, ...);
 #undef clock_gettime
 #undef sched_getaffinity
 #undef syscall
+#undef getpid
 #include "try.h"
 #include <stdarg.h>
 
@@ -29,7 +33,7 @@ enum { STEP = 2500, PROCESSORS = 3, DEAD = 2, SELF = 1, OTHER = 3 };
 /* Thread 2 is dead, and its walk marks the one mutex. */
 static struct pz file;
 _Thread_local struct self pz_self[FILES];
-static word words[80 * LINE];
+static word words[(16 + THREADS) * LINE];
 static uint64_t cell;
 static int reaps;
 static uint32_t token[1 + THREADS] = {[DEAD] = FUTEX_OWNER_DIED};
@@ -121,7 +125,7 @@ static long played_call(long number, ...)
 
 static void begin(uint64_t is, uint64_t its_heir)
 {
-    file = (struct pz){.words = words, .places = 80 * LINE, .mutexes = 8, .conds = 2};
+    file = (struct pz){.words = words, .places = (16 + THREADS) * LINE, .mutexes = 8, .conds = 2};
     cell = cell_place(0);
     memset(words, 0, sizeof words);
     words[cell] = is;
@@ -175,10 +179,11 @@ static void where_many_sleep(void)
 {
     begin(OTHER, SELF);
     patience.sleeps = 0;
-    *sleepers(&file, cell) = bit_of(4) | bit_of(5);
+    note_sleeper(sleepers(&file, cell), 4);
+    note_sleeper(sleepers(&file, cell), 5);
     pauses_for(PZ_SPIN, 0);
     patience.sleeps = 0;
-    *sleepers(&file, cell) |= bit_of(64);
+    note_sleeper(sleepers(&file, cell), THREADS);
     pauses_for(CROWDED_PAUSE / 1000, 0);
 }
 
@@ -202,9 +207,10 @@ static void an_owner_dies_meanwhile(void)
 static void who_comes_behind_sleepers(void)
 {
     begin(OTHER, 0);
-    *sleepers(&file, cell) = bit_of(SELF) | bit_of(64);
+    note_sleeper(sleepers(&file, cell), SELF);
+    note_sleeper(sleepers(&file, cell), THREADS);
     CHECK(!is_heir(&file, SELF, cell) && !*heir(&file, cell));
-    *sleepers(&file, cell) = bit_of(SELF);
+    forget_sleeper(sleepers(&file, cell), THREADS);
     CHECK(is_heir(&file, SELF, cell));
 }
 
@@ -346,6 +352,29 @@ static void who_waits_for_an_id_looks(void)
     no_waitv = 0;
 }
 
+/* One is free, whichever it is: it is seen, wherever the look begins, which is by its process and by how often it has
+ * looked. (None has looked before: so the numbers are those behind which 32 bits have no more.) */
+static void a_free_id_is_seen(void)
+{
+    enum { LAST = UINT32_MAX / WATCHED_IDS, AROUND = 3 };
+    _Atomic uint32_t freed = 0;
+    pid_t looks = 0;
+    begin(0, 0);
+    for (unsigned t = 1; t <= THREADS; t++)
+        token[t] = t;
+    for (pid_t at = LAST - AROUND; at <= LAST + AROUND; at++)
+        for (unsigned t = 1; t <= THREADS; t++) {
+            long look_ms = FIRST_LOOK_MS;
+            its_pid = at - looks++;
+            token[t] = 0;
+            SAME(pz_sleep_for_id(&file, &freed, 0, NULL, &look_ms), 1);
+            CHECK(sleeps_asked == 0);
+            token[t] = t;
+        }
+    memset(token, 0, sizeof token);
+    token[DEAD] = FUTEX_OWNER_DIED;
+}
+
 /* ---- Until its limit. */
 
 static struct timespec at;
@@ -393,7 +422,7 @@ static void time_passes(void)
 }
 static void a_sleep_ends_there(clockid_t clock)
 {
-    begin(OTHER | WAITERS, 64); /* it doesn't wait awake */
+    begin(OTHER | WAITERS, THREADS); /* it doesn't wait awake */
     struct limit limit = until_then(clock, SECOND / 4);
     refuses = ETIMEDOUT;
     meanwhile = time_passes;
@@ -412,7 +441,7 @@ static void sleeps_twice(void)
 }
 static void a_limit_that_is_far(clockid_t clock)
 {
-    begin(OTHER | WAITERS, 64);
+    begin(OTHER | WAITERS, THREADS);
     at = (struct timespec){INT64_MAX, SECOND - 1};
     struct limit limit = {.clock = clock, .at = &at};
     meanwhile = sleeps_twice;
@@ -424,7 +453,7 @@ static void a_limit_that_is_far(clockid_t clock)
 static void is_set(void) { ahead_ns += sleeps_asked == 1 ? -60l * SECOND : 3600l * SECOND; }
 static void a_clock_that_is_set(void)
 {
-    begin(OTHER | WAITERS, 64);
+    begin(OTHER | WAITERS, THREADS);
     struct limit limit = until_then(CLOCK_REALTIME, SECOND / 100);
     refuses = ETIMEDOUT;
     meanwhile = is_set;
@@ -450,7 +479,7 @@ static void it_has_come(clockid_t clock)
 /* Its owner dies just before: it is reaped, and the mutex may be had. */
 static void its_owner_dies_there(void)
 {
-    begin(DEAD, 64);
+    begin(DEAD, THREADS);
     struct limit limit = until_then(CLOCK_MONOTONIC, -1);
     struct sleeper s = {.p = &file, .thread = SELF, .at = cell, .expected = DEAD, .limit = &limit};
     SAME((int)sleep_on(&s), PZ_AGAIN);
@@ -473,7 +502,7 @@ static void others_look(void)
 {
     for (int was_woken = 0; was_woken < 2; was_woken++)
         for (int others = 0; others < 2; others++) {
-            begin(OTHER | WAITERS, 64);
+            begin(OTHER | WAITERS, THREADS);
             *sleepers(&file, cell) = others ? bit_of(5) : 0;
             struct limit limit = until_then(CLOCK_MONOTONIC, SECOND);
             if (was_woken)
@@ -567,6 +596,24 @@ static void a_waits_limit_has_come(clockid_t clock)
     CHECK(sleeps_asked == 0);
 }
 
+/* It is late, and the heir of the mutex that it freed is due: it goes on once that has had it, whose nap it ends, or
+ * once that doesn't come. One that isn't due is left alone. */
+static void a_late_one_gives_way(void)
+{
+    static const uint64_t heirs[] = {OTHER | DUE | NAPS, OTHER | DUE, OTHER};
+    for (int i = 0; i < 3; i++) {
+        struct limit limit = begin_wait(CLOCK_MONOTONIC, -1);
+        long since = clock_ns;
+        words[cell] = WAITERS;
+        *heir(&file, cell) = heirs[i];
+        meanwhile = i == 0 ? has_had_it : NULL;
+        SAME((int)pz_sleep(&file, SELF, counter_place(&file, 0), DEAD, &limit), EXPIRED);
+        long took = clock_ns - since;
+        CHECK(i == 1 ? took >= WAY && took < 2 * WAY : took < WAY_AWAKE);
+        CHECK((*heir(&file, cell) & (WHO | DUE)) == (i == 0 ? 0 : OTHER) && reaps == (i == 1) && wakes == (i == 0));
+    }
+}
+
 static void a_waits_clock_is_set(void)
 {
     struct limit limit = begin_wait(CLOCK_REALTIME, SECOND / 100);
@@ -590,6 +637,7 @@ static void with_a_limit(clockid_t clock)
 int main(void)
 {
     alarm(60);
+    a_free_id_is_seen();
     a_word_that_stays();
     a_word_that_changes();
     where_many_sleep();
@@ -616,5 +664,6 @@ int main(void)
     it_owes();
     others_look();
     an_heir_gives_up();
+    a_late_one_gives_way();
     return 0;
 }

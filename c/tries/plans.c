@@ -136,12 +136,13 @@ static const uint64_t ABOVE[] = {0, 1ull << 33, 0xdeadbeeull << 33};
 /* What stands in a cell: each owner that there may be, with each of the three marks. */
 static uint64_t cell_of_case(unsigned k, unsigned t)
 {
-    static const uint64_t owners[] = {0, 1, 2, 63, 64, 65, 0x3fffffff};
+    static const uint64_t owners[] = {0, 1, 2, THREADS - 1, THREADS, THREADS + 1, 0x3fffffff};
     uint64_t owner = k % 8 < 7 ? owners[k % 8] : t;
     return owner | (uint64_t)(k / 8 % 2) << 30 | (uint64_t)(k / 16 % 2) << 31 | (uint64_t)(k / 32 % 2) << 32 |
            ABOVE[k / 64];
 }
 enum { CELLS = 3 * 64, LINKS = 6 };
+enum { NONE, GONE_BY_NOW, SOME, BEYOND }; /* who sleeps */
 
 /* What stands in a link: the thread's own head, another mutex's entry, strays at both ends of the file and beyond it.
  */
@@ -198,7 +199,7 @@ static void a_lock(unsigned t, unsigned m, unsigned operation, uint64_t seen, ui
     begin(t, m);
     is[cell] = seen;
     is[head_place(t)] = first;
-    is[cell + 4] = meanwhile ? 0 : 5 | DUE; /* an heir to whom it owes nothing */
+    is[cell + HEIR] = meanwhile ? 0 : 5 | DUE; /* an heir to whom it owes nothing */
     go();
     changes_meanwhile = meanwhile;
     changed_to = seen ^ 1ull << 31;
@@ -225,12 +226,28 @@ static void a_lock(unsigned t, unsigned m, unsigned operation, uint64_t seen, ui
     planned++;
 }
 
+/* That nobody sleeps there, of the first word or of others; or that somebody does who is beyond the first. (Else all
+ * words are any.) */
+static void who_sleeps(uint64_t *bits, int sleeps)
+{
+    for (unsigned k = 0; k < BIT_WORDS && sleeps != SOME; k++)
+        bits[k] = k == 0 && sleeps != NONE ? MORE : k == BIT_WORDS - 1 && sleeps == BEYOND ? LAST_IDS : 0;
+}
+
 /* Who sleeps on the mutex, and who is its heir: an unlock wakes one where somebody sleeps and nobody is; else it is as
  * its plan, but that it ends the heir's nap, and keeps in mind that the heir is due. */
 static const struct {
     int sleeps;
     uint64_t heir;
-} others[] = {{0, 0}, {1, 0}, {1, 5}, {1, COMES}, {0, 6 | NAPS}, {1, 6 | NAPS | DUE}, {1, 64 | DUE | 7ull << 32}};
+} others[] = {{NONE, 0},
+              {SOME, 0},
+              {GONE_BY_NOW, 0},
+              {BEYOND, 0},
+              {SOME, 5},
+              {SOME, COMES},
+              {NONE, 6 | NAPS},
+              {SOME, 6 | NAPS | DUE},
+              {BEYOND, THREADS | DUE | 7ull << 32}};
 enum { OTHERS = sizeof others / sizeof *others };
 
 static void an_unlock(unsigned t, unsigned m, uint64_t seen, uint64_t next, uint64_t previous, unsigned k)
@@ -241,9 +258,8 @@ static void an_unlock(unsigned t, unsigned m, uint64_t seen, uint64_t next, uint
     is[cell] = seen;
     is[cell + 1] = next;
     is[cell + 2] = previous;
-    if (!others[k].sleeps)
-        is[cell + 3] = 0;
-    is[cell + 4] = others[k].heir;
+    who_sleeps(&is[cell + SLEEPERS], others[k].sleeps);
+    is[cell + HEIR] = others[k].heir;
     go();
     int fits = next >= LINE && next < PLACES - 2 && previous >= LINE && previous < PLACES - 2;
     int may = fits && pz_plan_unlock(&plan, (uint8_t)t, head_place(t), cell + 1, seen, next, previous);
@@ -255,7 +271,7 @@ static void an_unlock(unsigned t, unsigned m, uint64_t seen, uint64_t next, uint
     for (unsigned i = 0; i < plan.before; i++)
         same_change(i, plan.at[i], plan.value[i]);
     same_change(plan.before, cell, seen ^ plan.operand);
-    if (others[k].sleeps && (seen & WAITERS) && !its) {
+    if (others[k].sleeps >= SOME && (seen & WAITERS) && !its) {
         uint64_t loaded[] = {seen, next, previous};
         struct pz_call call = proved(t, PZ_OP_UNLOCK, loaded, PZ_XOR);
         CHECK(steps == 1 && changes == plan.before + 1 && answered == PZ_VALUE && with == seen &&
@@ -265,7 +281,7 @@ static void an_unlock(unsigned t, unsigned m, uint64_t seen, uint64_t next, uint
     }
     unsigned naps = (its & NAPS) != 0;
     if (naps)
-        same_change(plan.before + 1, cell + 4, its & ~(uint64_t)NAPS);
+        same_change(plan.before + 1, cell + HEIR, its & ~(uint64_t)NAPS);
     for (unsigned i = plan.before; i < plan.stores; i++)
         same_change(i + 1 + naps, plan.at[i], plan.value[i]);
     CHECK(steps == 0 && changes == plan.stores + 1 + naps && pz_self[0].held == 6);
@@ -304,12 +320,11 @@ static void a_count(unsigned t, unsigned m, unsigned operation, uint64_t seen, u
     begin(t, m);
     is[cell] = seen;
     is[counter] = count;
-    if (!sleeps)
-        is[counter + 3] = 0;
+    who_sleeps(&is[counter + SLEEPERS], sleeps);
     go();
     int r = pz_count(&file, 0, operation), is_signal = operation == PZ_OP_SIGNAL;
     end();
-    if ((seen & OWNED) == t && !sleeps && count >= AGAIN && count <= FULL) {
+    if ((seen & OWNED) == t && sleeps < SOME && count >= AGAIN && count <= FULL) {
         same_change(0, counter, 0);
         memmove(made, made + 1, --changes * sizeof *made);
         first[counter] = count = 0;
@@ -318,7 +333,7 @@ static void a_count(unsigned t, unsigned m, unsigned operation, uint64_t seen, u
         return isnt_planned(t, operation, seen, count, r);
     CHECK(begins == 0 && pz_self[0].held == 7);
     same_changes(&plan, plan.changes - 1);
-    if (!sleeps) {
+    if (sleeps < SOME) {
         CHECK(steps == 0);
         SAME(r, (int)plan.reply);
         planned++;
@@ -333,7 +348,7 @@ static void counts(unsigned t, unsigned m, uint64_t seen)
 {
     static const uint64_t at[] = {0, 1, 0x7fffffff, 0xfffffffe, 0xffffffff, 0x100000000, UINT64_MAX};
     for (unsigned k = 0; k < sizeof at / sizeof *at; k++)
-        for (int sleeps = 0; sleeps < 2; sleeps++) {
+        for (int sleeps = NONE; sleeps <= BEYOND; sleeps++) {
             a_count(t, m, PZ_OP_SIGNAL, seen, at[k], sleeps);
             a_count(t, m, PZ_OP_BROADCAST, seen, at[k], sleeps);
         }
@@ -348,7 +363,7 @@ static void takes_and_gives(unsigned t, unsigned m, uint64_t seen)
             a_lock(t, m, PZ_OP_TRYLOCK, seen, link, meanwhile);
         }
         for (unsigned j = 0; j < LINKS; j++)
-            for (unsigned k = 0; k < (i + j ? 2 : OTHERS); k++)
+            for (unsigned k = 0; k < (i + j ? 4 : OTHERS); k++)
                 an_unlock(t, m, seen, link, link_of_case(j, t, m), k);
     }
 }

@@ -4,7 +4,7 @@
 #include <pthread.h>
 
 enum { THREADS_HERE = 4, ROUNDS = 20000 };
-enum stage { BEGUN, GIVEN, SLEPT, WAITS, TOLD, HAS_WAITED, LEFT, SPOILED, MADE_ANEW };
+enum stage { BEGUN, GIVEN, SLEPT, WAITS, TOLD, HAS_WAITED, IS_LATE, GOES_ON, LEFT, SPOILED, MADE_ANEW };
 static pz *p;
 static long counter[2];
 static enum stage stage;
@@ -127,6 +127,30 @@ static void one_waits(void)
     CHECK(!pthread_join(thread, NULL));
 }
 
+static void *is_late(void *unused)
+{
+    (void)unused;
+    SAME(pz_mutex_lock(p, 0), 0);
+    stage = IS_LATE;
+    while (stage != GOES_ON)
+        SAME(pz_cond_timedwait(p, 0, &(struct timespec){0}), ETIMEDOUT);
+    stage = HAS_WAITED;
+    SAME(pz_mutex_unlock(p, 0), 0);
+    return NULL;
+}
+
+/* From who only unlocks to who is late in a wait, and back. */
+static void one_is_late(void)
+{
+    pthread_t thread = a_thread(is_late);
+    lock_until(0, 0, IS_LATE);
+    stage = GOES_ON;
+    SAME(pz_mutex_unlock(p, 0), 0);
+    lock_until(0, 0, HAS_WAITED);
+    SAME(pz_mutex_unlock(p, 0), 0);
+    CHECK(!pthread_join(thread, NULL));
+}
+
 static void *ends(void *unused)
 {
     (void)unused;
@@ -172,6 +196,7 @@ int main(void)
     they_contend();
     one_sleeps();
     one_waits();
+    one_is_late();
     one_ends();
     puts("races: none");
     pz_close(p);

@@ -1,34 +1,50 @@
 /* Rounds that stop for good where a wake is lost: built with a driver that looks so seldom by itself that it would be
- * seen. Two play ping-pong by signals, three by broadcasts, and some contend for one mutex, now and then with a time
- * limit. usage: rounds TURNS CONTENDED */
+ * seen. Two play ping-pong by signals, three by broadcasts, and some contend for one mutex, all now and then with a
+ * time limit. usage: rounds TURNS CONTENDED */
 #include "try.h"
 
 static pz *p;
 static _Atomic long *turn;
+
+/* A limit that comes within 64 us. */
+static struct timespec soon(long i)
+{
+    struct timespec until;
+    clock_gettime(CLOCK_MONOTONIC, &until);
+    until.tv_nsec += i % 64 * 1000;
+    until.tv_sec += until.tv_nsec / 1000000000;
+    until.tv_nsec %= 1000000000;
+    return until;
+}
+
+/* Now and then with a limit, until it has had its turn. */
+static void wait_for(unsigned c, long i)
+{
+    for (long k = i; atomic_load(&turn[c]) != i; k++) {
+        struct timespec until = soon(k);
+        int r = i % 4 ? pz_cond_wait(p, c) : pz_cond_clockwait(p, c, CLOCK_MONOTONIC, &until);
+        CHECK(r == 0 || (r == ETIMEDOUT && i % 4 == 0));
+    }
+}
 
 static void play(int me, int of, long turns, int broadcast)
 {
     unsigned c = broadcast ? 1 : 0;
     for (long i = me; i < turns; i += of) {
         SAME(pz_mutex_lock(p, c), 0);
-        while (atomic_load(&turn[c]) != i)
-            SAME(pz_cond_wait(p, c), 0);
+        wait_for(c, i);
         atomic_store(&turn[c], i + 1);
         SAME(of == 2 ? pz_cond_signal(p, c) : pz_cond_broadcast(p, c), 0);
         SAME(pz_mutex_unlock(p, c), 0);
     }
 }
 
-/* With a limit that comes within 64 us, as often as it comes. */
+/* With a limit, as often as it comes. */
 static void lock_soon(unsigned m, long i)
 {
-    struct timespec until;
     int r;
     do {
-        clock_gettime(CLOCK_MONOTONIC, &until);
-        until.tv_nsec += i++ % 64 * 1000;
-        until.tv_sec += until.tv_nsec / 1000000000;
-        until.tv_nsec %= 1000000000;
+        struct timespec until = soon(i++);
         r = pz_mutex_clocklock(p, m, CLOCK_MONOTONIC, &until);
     } while (r == ETIMEDOUT);
     SAME(r, 0);

@@ -178,7 +178,7 @@ static unsigned many;
 /* Cells of each owner and mark, places and their neighbours, counts at their limits, and any number. */
 static void make_words(unsigned t)
 {
-    const uint64_t owners[] = {0, t, t ^ 1, 65, 0x3fffffff};
+    const uint64_t owners[] = {0, t, t ^ 1, PZ_MOST_THREADS + 1, 0x3fffffff};
     const uint64_t more[] = {HEAD, HEAD + 1,   ENTRY,          CELL,       1,          3,          4,
                              5,    1ull << 33, 1ull << 34 | t, UINT32_MAX, UINT64_MAX, 1ull << 63, any()};
     many = 0;
@@ -305,7 +305,7 @@ static void begins(unsigned t)
 
 int main(int argc, char **argv)
 {
-    static const unsigned threads[] = {6, 65, 64, 1, 0, 255};
+    static const unsigned threads[] = {6, PZ_MOST_THREADS + 1, PZ_MOST_THREADS, 1, 0, 255};
     int all = argc > 1 && strcmp(argv[1], "all") == 0;
     for (unsigned t = 0; t < 256; t++)
         begins(t);

@@ -8,6 +8,8 @@
 enum { MUTEXES = 3, ANOTHERS = MUTEXES, FREE = 0, UNSURE = 1, HELD_BY_IT = 2 };
 
 struct seen {
+    struct timespec until;      /* of who waits up to a time */
+    _Atomic int told;           /* to it */
     _Atomic long made;          /* accesses of a thread that is counted */
     _Atomic int state[MUTEXES]; /* what the owner had, as it knew */
     _Atomic int done, walked;
@@ -77,6 +79,7 @@ static void calls(int waits)
 
 static pid_t child(long before, long in_walk)
 {
+    alarm(60); /* for what is done with it */
     pid_t is = a_child();
     dies_before = is ? 0 : before;
     dies_in_walk = is ? 0 : in_walk;
@@ -286,6 +289,151 @@ static long heirs_die(int is_timed)
     return n;
 }
 
+/* ---- Waits up to a time. Another thread waits besides, which slept first, and is told in the end. */
+
+enum teller { NOBODY, SIGNALLER, BROADCASTER, TELLERS };
+
+static struct timespec from_now(long us)
+{
+    struct timespec t;
+    clock_gettime(CLOCK_MONOTONIC, &t);
+    long ns = t.tv_nsec + us % 1000000 * 1000;
+    return (struct timespec){t.tv_sec + us / 1000000 + ns / 1000000000, ns % 1000000000};
+}
+static int has_come(const struct timespec *t)
+{
+    struct timespec is = from_now(0);
+    return is.tv_sec > t->tv_sec || (is.tv_sec == t->tv_sec && is.tv_nsec >= t->tv_nsec);
+}
+
+static _Noreturn void waits(const struct timespec *until, long before)
+{
+    SAME(pz_mutex_lock(p, 0), 0);
+    dies_before = before;
+    int r = until ? pz_cond_clockwait(p, 0, CLOCK_MONOTONIC, until) : pz_cond_wait(p, 0);
+    dies_before = 0;
+    CHECK(pz_mutex_owner(p, 0) == pz_thread_id(p));
+    if (until)
+        atomic_store(&seen->told, r);
+    if (r == EOWNERDEAD)
+        SAME(pz_mutex_consistent(p, 0), 0);
+    _exit(pz_mutex_unlock(p, 0));
+}
+static pid_t one_waits(void)
+{
+    pid_t is = child(0, 0);
+    if (!is)
+        waits(NULL, 0);
+    until_asleep(is);
+    return is;
+}
+static pid_t one_waits_until(long us, long before)
+{
+    seen->until = from_now(us);
+    pid_t is = child(0, 0);
+    if (!is)
+        waits(&seen->until, before);
+    return is;
+}
+
+/* Both of them. */
+static int tells(enum teller who)
+{
+    if (who == BROADCASTER)
+        return pz_cond_broadcast(p, 0);
+    int r = pz_cond_signal(p, 0);
+    return r ? r : pz_cond_signal(p, 0);
+}
+
+/* Who waits still is told, and nothing is left of anybody. */
+static void it_ends(pid_t is)
+{
+    take_and_repair();
+    SAME(pz_cond_broadcast(p, 0), 0);
+    SAME(pz_mutex_unlock(p, 0), 0);
+    CHECK(!was_killed(is));
+    pz_reap(p);
+    CHECK(!any_noted(sleepers(p, cell_place(0))) && !any_noted(sleepers(p, counter_place(p, 0))));
+    CHECK(!(atomic_load(heir(p, cell_place(0))) & WHO));
+}
+
+/* Whether it died, out of time: if it owned the mutex then, the next owner is told so, and else not. */
+static int died_late(pid_t is)
+{
+    int died = was_killed(is), owned = owner_of(atomic_load(&p->words[cell_place(0)])) != 0;
+    if (!died)
+        SAME(atomic_load(&seen->told), ETIMEDOUT);
+    SAME(pz_mutex_lock(p, 0), owned ? EOWNERDEAD : 0);
+    if (owned)
+        SAME(pz_mutex_consistent(p, 0), 0);
+    SAME(pz_mutex_unlock(p, 0), 0);
+    return died;
+}
+static int died_told(pid_t is, enum teller who)
+{
+    until_it_rests(is);
+    take_and_repair();
+    SAME(tells(who), 0);
+    SAME(pz_mutex_unlock(p, 0), 0);
+    int died = was_killed(is);
+    if (!died)
+        SAME(atomic_load(&seen->told), 0);
+    return died;
+}
+static long waiters_die(enum teller who)
+{
+    long n = 0;
+    for (int died = 1; died; n++) {
+        pid_t other = one_waits(), is = one_waits_until(who == NOBODY ? 1000 : 1000000000, n + 1);
+        died = who == NOBODY ? died_late(is) : died_told(is, who);
+        it_ends(other);
+    }
+    return n;
+}
+
+/* Who tells them dies: who waits up to a time is told of that owner's death, or of the signal, and isn't late. Where
+ * that was behind its limit, or may have been, it is tried again with a later one: -1. */
+static int teller_died(enum teller who, long us, long n)
+{
+    word *counter = &p->words[counter_place(p, 0)];
+    uint64_t before = atomic_load(counter);
+    pid_t is = one_waits_until(us, 0);
+    until_it_rests(is);
+    pid_t teller = child(0, 0);
+    if (!teller) {
+        SAME(pz_mutex_lock(p, 0), 0);
+        dies_before = n;
+        _exit(tells(who) || pz_mutex_unlock(p, 0));
+    }
+    int died = was_killed(teller), counted = atomic_load(counter) != before, in_time = !has_come(&seen->until);
+    CHECK(!was_killed(is));
+    int told = atomic_load(&seen->told);
+    CHECK(!in_time || (counted ? told != ETIMEDOUT : told == EOWNERDEAD));
+    return in_time ? died : -1;
+}
+static long tellers_die(enum teller who)
+{
+    long n = 1, us = 30000;
+    for (int died = 1; died;) {
+        pid_t other = one_waits();
+        died = teller_died(who, us, n);
+        it_ends(other);
+        if (died < 0)
+            us *= 2;
+        else
+            n++;
+    }
+    return n;
+}
+
+static long with_waits_up_to_a_time(void)
+{
+    long n = 0;
+    for (enum teller who = NOBODY; who < TELLERS; who++)
+        n += waiters_die(who) + (who == NOBODY ? 0 : tellers_die(who));
+    return n;
+}
+
 /* Killed amid the walk over what it owned itself, a thread that leaves is a dead one until that has ended. */
 static void leavers_die(void)
 {
@@ -354,7 +502,6 @@ int main(void)
 {
     const char *path = a_file("steps");
     long instructions = 0, walks = 0;
-    alarm(280);
     SAME(pz_open(path, 0600, MUTEXES + 1, 1, NULL, 0, &p), 0);
     SAME(pz_mutex_lock(p, ANOTHERS), 0);
     seen = shared(sizeof *seen);
@@ -372,16 +519,16 @@ int main(void)
             if (atomic_load(&seen->walked) - before < k)
                 break; /* it had ended before */
         }
-    long waits = heirs_die(0), timed = heirs_die(1);
+    long waits = heirs_die(0), timed = heirs_die(1), told = with_waits_up_to_a_time();
     a_trylock_beside_a_reaper();
     leavers_die();
     openers_die_after_a_reboot();
     makers_die();
     SAME(pz_mutex_unlock(p, ANOTHERS), 0);
     printf("steps: dead before each of %ld instructions, of %ld of a wait and %ld of a timed one, and %ld times amid "
-           "the walk\n",
-           instructions, waits, timed, walks);
-    CHECK(instructions >= 50 && waits >= 20 && timed >= 20 && walks > 500);
+           "the walk; %ld times in waits on a condition variable up to a time, or telling of it\n",
+           instructions, waits, timed, walks, told);
+    CHECK(instructions >= 50 && waits >= 20 && timed >= 20 && walks > 500 && told > 100);
     pz_close(p);
     unlink(path);
     return 0;

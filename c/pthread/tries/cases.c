@@ -16,7 +16,7 @@
 #include <sys/syscall.h>
 #include <sys/time.h>
 
-enum { OURS = 0x7a61700c, MOST = 32768, IDS = 64 };
+enum { OURS = 0x7a61700c, MOST = 32768, IDS = PZ_THREADS };
 
 static const char *folder, *self;
 
@@ -305,17 +305,21 @@ static void an_earlier_boot(void)
     unlink(path);
 }
 
-/* Its companion is of another format, as the digit in it says: it is left as it is, and nobody comes to it. */
+/* Its companion is of another format, as the digit in it says, or of other ids, as its size does: it is left as it is,
+ * and nobody comes to it. */
 static void another_format(void)
 {
     const char *path = file("format");
     struct stat before, after;
+    char digit;
     SAME(comes(path, 0, "init", 1), 0);
     int fd = open(companion_of(path), O_RDWR);
-    CHECK(fd >= 0 && pwrite(fd, "1", 1, 6) == 1 && fstat(fd, &before) == 0);
+    CHECK(fd >= 0 && pread(fd, &digit, 1, 6) == 1 && pwrite(fd, "1", 1, 6) == 1 && fstat(fd, &before) == 0);
     SAME(comes(path, 0, "lock", 1), EINVAL);
     SAME(comes(path, 0, "init", 1), EPROTO);
     CHECK(ftruncate(fd, before.st_size * 2) == 0 && fstat(fd, &before) == 0);
+    SAME(comes(path, 0, "init", 1), EPROTO);
+    CHECK(pwrite(fd, &digit, 1, 6) == 1);
     SAME(comes(path, 0, "init", 1), EPROTO);
     CHECK(stat(companion_of(path), &after) == 0 && after.st_ino == before.st_ino && after.st_size == before.st_size);
     CHECK(unlink(companion_of(path)) == 0 && close(fd) == 0);
@@ -597,7 +601,24 @@ static void a_number_that_none_has(void)
 }
 
 /* ---- More threads than ids. */
+enum { MORE_THREADS = IDS + 56, MORE_PROCESSES = IDS + 36, MORE_THAN_IDS = IDS + 6 };
+
+/* Ids are a bank's, and so are mutexes: of each object those are used that are of its third bank, which has room for
+ * many; the first two have 256. A mutex's first word is its number. */
+enum { OF_OTHER_BANKS = 256 };
+static int of_third_bank(const pthread_mutex_t *m, int n, int wanted, int at[])
+{
+    int many = 0;
+    for (int i = 0; i < n && many < wanted; i++)
+        if (*(const uint32_t *)&m[i] >= OF_OTHER_BANKS)
+            at[many++] = i;
+    return many == wanted;
+}
+
+enum { CROWD = OF_OTHER_BANKS + MORE_THAN_IDS };
 static pthread_mutex_t *crowd;
+static int in_crowd[MORE_THAN_IDS];
+static pthread_mutex_t *one_of_crowd(int i) { return &crowd[in_crowd[i]]; }
 static long count;
 
 static void *counts(void *unused)
@@ -613,27 +634,34 @@ static void *counts(void *unused)
 
 static void make_crowd(void)
 {
-    for (int i = 0; i < 100; i++)
+    for (int i = 0; i < CROWD; i++)
         SAME(init(&crowd[i]), 0);
+}
+
+/* By a child, so that this thread has no id in its third bank. */
+static void make_a_crowd(const char *name)
+{
+    crowd = map(file(name), CROWD);
+    in_child(make_crowd);
+    CHECK(of_third_bank(crowd, CROWD, MORE_THAN_IDS, in_crowd));
 }
 
 static void many_threads(void)
 {
-    pthread_t t[120];
-    crowd = map(file("crowd"), 100);
-    in_child(make_crowd); /* so that this thread has no id in the second bank */
-    for (int i = 0; i < 120; i++)
+    pthread_t t[MORE_THREADS];
+    make_a_crowd("crowd");
+    for (int i = 0; i < MORE_THREADS; i++)
         CHECK(!pthread_create(&t[i], NULL, counts, NULL));
-    for (int i = 0; i < 120; i++)
+    for (int i = 0; i < MORE_THREADS; i++)
         CHECK(!pthread_join(t[i], NULL));
-    CHECK(count == 120 * 500);
+    CHECK(count == MORE_THREADS * 500);
 }
 
 static void many_processes(void)
 {
     _Atomic long *got = shared(sizeof *got);
-    pid_t it[100];
-    for (int i = 0; i < 100; i++)
+    pid_t it[MORE_PROCESSES];
+    for (int i = 0; i < MORE_PROCESSES; i++)
         if (!(it[i] = fork())) {
             for (int k = 0; k < 200; k++) {
                 SAME(pthread_mutex_lock(crowd), 0);
@@ -642,12 +670,12 @@ static void many_processes(void)
             }
             pause(); /* it may keep its id: others get on */
         }
-    while (atomic_load(got) < 100 * 200) {
-        for (int i = 0; i < 100; i++)
+    while (atomic_load(got) < MORE_PROCESSES * 200) {
+        for (int i = 0; i < MORE_PROCESSES; i++)
             CHECK(waitpid(it[i], NULL, WNOHANG) == 0);
         rest(1000);
     }
-    for (int i = 0; i < 100; i++)
+    for (int i = 0; i < MORE_PROCESSES; i++)
         kill_and_wait(it[i]);
 }
 
@@ -670,23 +698,25 @@ static long sleeps_of_all(const pid_t *it, int n)
     return all;
 }
 
-enum { WAITERS = 50 };
+/* How often one looks by itself: the first few times, and then each so long. */
+enum { WAITERS = 50, FIRST_LOOKS = 6, LOOK_MS = 640 };
 
-/* Who waits for an id sleeps until one is given back: looks in between would be 20 a waiter and more. One that has an
- * id and dies is noticed too. */
+/* Who waits for an id sleeps until one is given back, but for few looks. One that has an id and dies is noticed too. */
 static void waits_for_ids(pid_t it[WAITERS])
 {
     for (int i = 0; i < WAITERS; i++)
         if (!(it[i] = fork())) {
-            SAME(pthread_mutex_lock(&crowd[96]), 0);
-            SAME(pthread_mutex_unlock(&crowd[96]), 0);
+            SAME(pthread_mutex_lock(one_of_crowd(IDS)), 0);
+            SAME(pthread_mutex_unlock(one_of_crowd(IDS)), 0);
             _exit(0);
         }
     for (int i = 0; i < WAITERS; i++)
         until_asleep(it[i]);
+    double since = now();
     long before = sleeps_of_all(it, WAITERS);
     rest(500000);
-    CHECK(sleeps_of_all(it, WAITERS) - before < 8 * WAITERS);
+    long slept = sleeps_of_all(it, WAITERS) - before;
+    CHECK(slept <= WAITERS * (FIRST_LOOKS + (long)((now() - since) * 1000 / LOOK_MS)));
 }
 
 static void all_end_well(const pid_t *it, int n)
@@ -697,19 +727,18 @@ static void all_end_well(const pid_t *it, int n)
     }
 }
 
-/* All ids are had by threads that own: who comes is told what is busy, and waits for what is free, but for a trylock.
- * Of the mutexes that it may lock each is in the second bank, where there are as many ids. */
+/* All ids are had by threads that own: who comes is told what is busy, and waits for what is free, not by trylock. */
 static void all_ids_are_had(void)
 {
     pthread_t t[IDS];
     for (int i = 0; i < IDS; i++)
-        CHECK(!pthread_create(&t[i], NULL, owns_one, &crowd[30 + i]));
+        CHECK(!pthread_create(&t[i], NULL, owns_one, one_of_crowd(i)));
     while (atomic_load(&owning) < IDS)
         rest(1000);
-    SAME(comes(file("crowd"), 31, "trylock", 1), EBUSY);
-    SAME(comes(file("crowd"), 31, "timedlock", 1), ETIMEDOUT);
-    SAME(comes(file("crowd"), 96, "timedlock", 1), ETIMEDOUT);
-    SAME(comes(file("crowd"), 96, "trylock", 1), EAGAIN);
+    SAME(comes(file("crowd"), in_crowd[1], "trylock", 1), EBUSY);
+    SAME(comes(file("crowd"), in_crowd[1], "timedlock", 1), ETIMEDOUT);
+    SAME(comes(file("crowd"), in_crowd[IDS], "timedlock", 1), ETIMEDOUT);
+    SAME(comes(file("crowd"), in_crowd[IDS], "trylock", 1), EAGAIN);
     pid_t it[WAITERS];
     waits_for_ids(it);
     atomic_store(&let_go, 1);
@@ -724,24 +753,23 @@ static void init_beside_a_crowd(void)
 {
     pid_t it[IDS];
     _Atomic int *may_end = shared(sizeof *may_end);
-    crowd = map(file("beside"), 100);
-    in_child(make_crowd);
+    make_a_crowd("beside");
     for (int i = 0; i < IDS; i++) {
         if (!(it[i] = fork())) {
-            SAME(pthread_mutex_lock(&crowd[30]), 0);
+            SAME(pthread_mutex_lock(one_of_crowd(0)), 0);
             while (!atomic_load(may_end))
                 rest(1000);
-            SAME(pthread_mutex_unlock(&crowd[30]), 0);
+            SAME(pthread_mutex_unlock(one_of_crowd(0)), 0);
             _exit(0);
         }
         if (i)
             until_asleep(it[i]);
         else
-            while (comes(file("beside"), 30, "trylock", 1) != EBUSY)
+            while (comes(file("beside"), in_crowd[0], "trylock", 1) != EBUSY)
                 rest(1000);
     }
-    SAME(comes(file("beside"), 31, "init", 1), 0);
-    SAME(comes(file("beside"), 31, "destroy", 1), 0);
+    SAME(comes(file("beside"), in_crowd[1], "init", 1), 0);
+    SAME(comes(file("beside"), in_crowd[1], "destroy", 1), 0);
     atomic_store(may_end, 1);
     all_end_well(it, IDS);
     unlink(file("beside"));
@@ -752,11 +780,10 @@ static void all_owners_die(void)
 {
     pid_t owner[IDS], it[WAITERS];
     _Atomic int *owned = shared(sizeof *owned);
-    crowd = map(file("dying"), 100);
-    in_child(make_crowd);
+    make_a_crowd("dying");
     for (int i = 0; i < IDS; i++)
         if (!(owner[i] = fork())) {
-            SAME(pthread_mutex_lock(&crowd[30 + i]), 0);
+            SAME(pthread_mutex_lock(one_of_crowd(i)), 0);
             atomic_fetch_add(owned, 1);
             for (;;)
                 pause();
@@ -767,7 +794,7 @@ static void all_owners_die(void)
     for (int i = 0; i < IDS; i++)
         kill_and_wait(owner[i]);
     all_end_well(it, WAITERS);
-    SAME(comes(file("dying"), 31, "lock", 1), EOWNERDEAD);
+    SAME(comes(file("dying"), in_crowd[1], "lock", 1), EOWNERDEAD);
     unlink(file("dying"));
 }
 
@@ -780,7 +807,7 @@ static void nests(pthread_mutex_t *outer, pthread_mutex_t *inner, _Atomic int ou
         SAME(pthread_mutex_lock(outer), 0);
         atomic_fetch_add(&outside[side], 1);
         while (atomic_load(&outside[0]) < IDS || atomic_load(&outside[1]) < IDS)
-            rest(1000);
+            rest(10000);
         r = pthread_mutex_lock(inner);
         CHECK(r == 0 || r == EAGAIN);
         if (!r)
@@ -791,7 +818,7 @@ static void nests(pthread_mutex_t *outer, pthread_mutex_t *inner, _Atomic int ou
     _exit(0);
 }
 
-enum { NESTED = 200 };
+enum { NESTING = 2 * MORE_THAN_IDS, NESTED = OF_OTHER_BANKS + NESTING };
 static pthread_mutex_t *nested[2];
 static void make_nested(void)
 {
@@ -801,19 +828,20 @@ static void make_nested(void)
 
 static void nested_crowds(void)
 {
-    enum { EACH = 70 };
-    pid_t it[2 * EACH];
+    pid_t it[NESTING];
+    int in_a[NESTING], in_b[NESTING];
     _Atomic int *outside = shared(2 * sizeof *outside);
     const char *one = file("one"), *two = file("two");
     pthread_mutex_t *a = nested[0] = map(one, NESTED), *b = nested[1] = map(two, NESTED);
     in_child(make_nested); /* so that this process has no id */
-    for (int i = 0; i < 2 * EACH; i++)
+    CHECK(of_third_bank(a, NESTED, NESTING, in_a) && of_third_bank(b, NESTED, NESTING, in_b));
+    for (int i = 0; i < NESTING; i++)
         if (!(it[i] = fork())) {
             if (i % 2)
-                nests(&a[20 + i], &b[20 + i], outside, 0);
-            nests(&b[20 + i], &a[20 + i], outside, 1);
+                nests(&a[in_a[i]], &b[in_b[i]], outside, 0);
+            nests(&b[in_b[i]], &a[in_a[i]], outside, 1);
         }
-    all_end_well(it, 2 * EACH);
+    all_end_well(it, NESTING);
     unlink(one);
     unlink(two);
 }
@@ -1178,7 +1206,7 @@ static void ends_elsewhere(void)
     SAME(pthread_mutex_lock(m), 0);
     SAME(pthread_mutex_unlock(m), 0);
     if (may_mount("another namespace"))
-        CHECK(mount("try", folder, "tmpfs", 0, "size=64k") == 0 && access(file("elsewhere"), F_OK) < 0);
+        CHECK(mount("try", folder, "tmpfs", 0, "size=256k") == 0 && access(file("elsewhere"), F_OK) < 0);
     exit(0);
 }
 
@@ -1237,7 +1265,7 @@ static void no_room(void)
     CHECK(mkdir(small, 0700) == 0);
     if (!may_mount("a full folder"))
         return;
-    CHECK(mount("try", small, "tmpfs", 0, "size=64k") == 0);
+    CHECK(mount("try", small, "tmpfs", 0, "size=256k") == 0);
     setenv("PAZDRIG_DIR", small, 1);
     pthread_mutex_t *m = map(file("full"), 300);
     int n = 0, r;

@@ -7,7 +7,7 @@
 #include <sys/stat.h>
 #include <sys/syscall.h>
 
-enum { IDS = 64, WAITERS = 8, ALL = IDS + WAITERS, FIRST = 30 }; /* its mutexes are of the second bank */
+enum { IDS = PZ_THREADS, WAITERS = 8, ALL = IDS + WAITERS, FIRST = 30 }; /* its mutexes are of the second bank */
 enum order { STAY, UNLOCK, LOCK_AND_UNLOCK, TRY_A_BUSY_ONE, TAKE_A_DEAD_ONES, SLEEP_FOR_A_DEAD_ONES, LEAVE };
 enum moment { ASKING, ASKED, NO_ID, GIVING, MOMENTS };
 enum at_moment { GO_ON, STOP, DIE };

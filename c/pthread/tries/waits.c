@@ -11,7 +11,7 @@
 #include <sys/stat.h>
 #include <sys/time.h>
 
-enum { MANY = 100, FIRST = 16, IDS = 64 };
+enum { MANY = 100, FIRST = 16, IDS = PZ_THREADS };
 enum { COUNTED = 0x7a617063, KIND = 11 }; /* what one of a variable's words says */
 enum moment { COMING, RELEASED, WOKEN, RAISED, NOBODY, MOMENTS };
 enum at_moment { GO_ON, STOP, DIE };

@@ -30,7 +30,7 @@ import weakref
 
 __all__ = ["Condition", "Error", "File", "Info", "Mutex", "Thread", "nothing_to_repair", "version"]
 
-THREADS = 64
+MOST_THREADS = 255  # as many as struct pz_info has room for
 _FREE, _LIVES, _DIED = range(3)
 
 
@@ -47,9 +47,10 @@ class _Info(ctypes.Structure):
         ("format", ctypes.c_uint),
         ("mutexes", ctypes.c_uint),
         ("conditions", ctypes.c_uint),
+        ("threads", ctypes.c_uint),
         ("data", ctypes.c_size_t),
         ("size", ctypes.c_size_t),
-        ("thread", _Thread * (THREADS + 1)),
+        ("thread", _Thread * (MOST_THREADS + 1)),
     ]
 
 
@@ -110,8 +111,8 @@ def nothing_to_repair():
 
 
 class Thread:
-    """One that takes part in a file: its id, 1 to 64; its number in the system, 0 once somebody cleans up after it; and
-    whether it lives, or died and isn't cleaned up after yet."""
+    """One that takes part in a file: its id, from 1 on; its number in the system, 0 once somebody cleans up after it;
+    and whether it lives, or died and isn't cleaned up after yet."""
 
     def __init__(self, number, tid, lives):
         self.id, self.tid, self.lives = number, tid, lives
@@ -174,7 +175,7 @@ class File:
         return _library.pz_reap(self._file)
 
     def begin_thread(self):
-        """The calling thread takes part from here: it waits while 64 others do. Its first call does this by itself."""
+        """The calling thread takes part from here: it waits while there is no id. Its first call does this by itself."""
         _check("pz_thread_begin", _library.pz_thread_begin(self._file))
 
     def end_thread(self):

@@ -53,6 +53,7 @@ class Owners(unittest.TestCase):
         reader, writer = os.pipe()
         pid = os.fork()
         if pid == 0:
+            signal.alarm(120)  # it ends though its parent can't kill it any more
             status = 1
             try:
                 does(lambda: os.write(writer, b"!"))
@@ -219,19 +220,20 @@ class Owners(unittest.TestCase):
 
     def test_who_waits_repairs_or_is_told_that_it_is_lost(self):
         for is_lost in False, True:
-            with self.subTest(is_lost=is_lost):
-                self.waits_under_a_death(is_lost)
+            for timeout in None, threading.TIMEOUT_MAX / 2:
+                with self.subTest(is_lost=is_lost, timeout=timeout):
+                    self.waits_under_a_death(is_lost, timeout)
 
-    def waits_under_a_death(self, is_lost):
+    def waits_under_a_death(self, is_lost, timeout):
         came = self.mutex.condition(0)
 
         def wait(_):
             with self.mutex:
                 if is_lost:
-                    self.assertAnswers(errno.ENOTRECOVERABLE, came.wait)
+                    self.assertAnswers(errno.ENOTRECOVERABLE, lambda: came.wait(timeout))
                     self.assertFalse(self.mutex.is_mine)
                 else:
-                    came.wait_for(lambda: self.repairs)
+                    came.wait_for(lambda: self.repairs, timeout)
                     self.assertEqual(*self.count[:2])
 
         def tell_and_die(tell):
@@ -247,6 +249,45 @@ class Owners(unittest.TestCase):
             self.kill(last)
         else:
             self.ended(last)
+        self.ends_well(pid)
+        if is_lost:
+            self.mutex.reinit()
+
+    def test_who_is_late_repairs_or_is_told_that_it_is_lost(self):
+        """An owner dies, or spoils the mutex, in one of its waits, each of which is over soon."""
+        for is_lost in False, True:
+            with self.subTest(is_lost=is_lost):
+                self.is_late_behind_a_death(is_lost)
+
+    def is_late_behind_a_death(self, is_lost):
+        came = self.mutex.condition(0)
+        before = self.count[0]
+
+        def wait(tell):
+            with self.mutex:
+                tell()
+                if is_lost:
+                    self.assertAnswers(errno.ENOTRECOVERABLE, lambda: [came.wait(0.001) for _ in iter(int, 1)])
+                    self.assertFalse(self.mutex.is_mine)
+                while not is_lost and self.count[0] == before:
+                    came.wait(0.001)
+                self.assertTrue(is_lost or (self.repairs == 1 and self.mutex.is_mine))
+
+        def spoil():
+            raise Beyond
+
+        pid, told = self.child(wait)
+        told()
+        if not is_lost:
+            self.kill_amid_a_change()
+        while is_lost:  # until this process is told of the death, and not the other one
+            self.file.mutex(0, pazdrig.nothing_to_repair).acquire()
+            self.file.end_thread()
+            try:
+                self.file.mutex(0, spoil).acquire()
+                self.mutex.release()
+            except Beyond:
+                break
         self.ends_well(pid)
 
     def end(self, came, is_lost, tell):
@@ -277,7 +318,7 @@ class Owners(unittest.TestCase):
 
     def test_numbers(self):
         info = self.file.info()
-        self.assertEqual((info.format, info.mutexes, info.conditions, info.data), (2, 2, 1, 32))
+        self.assertEqual((info.format, info.mutexes, info.conditions, info.data), (3, 2, 1, 32))
         self.assertEqual(info.size, os.stat(self.path).st_size)
         self.assertIn("other numbers", self.assertAnswers(errno.EINVAL, lambda: self.open(mutexes=3)))
         self.assertAnswers(errno.EINVAL, lambda: self.open(mutex_of=[1]))
