@@ -21,6 +21,7 @@ pub mod Turns
 pub mod ConditionCalls
 pub mod ConditionStands
 pub mod Stretches
+pub mod InLine
 pub mod Owing
 pub mod Releases
 pub mod Outcomes

@@ -29,6 +29,7 @@ mod rule;
 mod running;
 mod step;
 mod turn;
+mod uncrossed;
 mod walk;
 
 pub use counter::CounterWord;

@@ -16,7 +16,6 @@ use crate::section::{Waited, trim_in, wait_in, wake_in};
 use buckets::{BUCKETS, Batch};
 use lockword::{Reply, Tid};
 use memorymap::{Key, bucket_of, key_of};
-use mutex::Call;
 use ruledwords::{Fate, Live, Outcome, Owed, Pass, Running, Stretch, Turn, Wakes, either_stops};
 use std::hint::spin_loop;
 use std::sync::Wait;
@@ -40,12 +39,12 @@ impl Bench {
         ensures locked { Locked self.now mutex pass result }
         ensures fate { IsHeeded (F.stopped fate.old) (F.stopped fate.new) result }
     {
-        match Running::call(&self.words, pass, Call::Lock(mutex)) {
-            Ok(running) => {
-                let mut note = self.note(running.thread()).fate();
-                self.run(rt, running, fate, &mut note)
-            }
-            Err((pass, reply)) => Outcome::Lives(pass, reply),
+        let thread = pass.thread();
+        let mut note = self.note(thread).fate();
+        match Running::lock(&self.words, pass, mutex, fate, &mut note) {
+            Stretch::Goes(running) => self.run_anew(rt, thread, running, fate),
+            Stretch::Lives(pass, reply) => Outcome::Lives(pass, reply),
+            Stretch::Dead(pass) => Outcome::Dead(pass),
         }
     }
 
@@ -92,32 +91,25 @@ impl Bench {
         }
     }
 
-    /// Runs a call to its end, or until one of its thread's fates ends it: first as far as it makes steps on words,
-    /// where it stands, then turn by turn. The compiler knows at which access that is, where it knows where the call
-    /// begins.
-    #[inline(always)]
-    fn run<R: Wait, F: Fate, N: ByOthers>(
+    /// Runs a call to its end that was crossed, or until one of its thread's fates ends it. It asks the note anew, and is
+    /// compiled apart: so what it keeps in memory costs a call nothing that nobody crosses.
+    #[inline(never)]
+    pub(crate) fn run_anew<R: Wait, F: Fate>(
         &self,
         rt: &R,
+        thread: Tid,
         running: Running,
         fate: &mut F,
-        note: &mut N,
     ) -> Outcome
         requires { IsRunningOf self.now running }
         ensures runs { Runs self.now running result }
-        ensures fate { Heeds (F.stopped fate.old) (F.stopped fate.new) (N.stopped note.old) (N.stopped note.new)
-            (stops_in result) }
+        ensures fate { IsHeeded (F.stopped fate.old) (F.stopped fate.new) result }
     {
-        match running.stretch(&self.words, fate, note) {
-            Stretch::Goes(next) => self.run_on(rt, next, fate, note),
-            Stretch::Lives(pass, reply) => Outcome::Lives(pass, reply),
-            Stretch::Dead(pass) => Outcome::Dead(pass),
-        }
+        let mut note = self.note(thread).fate();
+        self.run_on(rt, running, fate, &mut note)
     }
 
-    /// Runs a call to its end, or until one of its thread's fates ends it, turn by turn: what is left of a call that
-    /// wasn't made in one stretch. (Stretches are made in [`Bench::run`] alone: a function that is called in one place
-    /// is compiled there.)
+    /// Runs a call to its end, or until one of its thread's fates ends it, turn by turn.
     pub(crate) fn run_on<R: Wait, F: Fate, N: ByOthers>(
         &self,
         rt: &R,
