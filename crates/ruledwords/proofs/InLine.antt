@@ -34,7 +34,7 @@ use Rattle.mutex.specs.Calls.{mutex_of}
 use Rattle.mutex.specs.declared.call.Call.{Call}
 use Rattle.mutex.specs.declared.call.Call.TheVariants as call
 use Rattle.mutex.specs.Standings.{Standing, Whole}
-use Rattle.mutex.specs.Whole.{begins, from_cell, leaving, linked_at, progress_in, unlinked_at, whole_access, whole_led, whole_moved, whole_point, whole_started, IsUnderWay as IsInProgress}
+use Rattle.mutex.specs.Whole.{begins, from_cell, leaving, linked_at, progress_in, unlinked_at, whole_access, whole_led, whole_moved, whole_point, whole_started, IsUnderWay as IsInProgress, PhaseKnows}
 use Rattle.atomic_table.specs.declared.shared.Seat.{Seat}
 use Rattle.ruledwords.specs.declared.pass.Card.{Card}
 use Rattle.ruledwords.specs.declared.pass.Words.{Words}
@@ -43,20 +43,22 @@ use Rattle.ruledwords.specs.declared.pass.Dead.{Dead}
 use Rattle.ruledwords.specs.declared.pass.Live.{Live}
 use Rattle.ruledwords.specs.declared.step.End.{End}
 use Rattle.ruledwords.specs.declared.step.End.TheVariants as end
+use Rattle.ruledwords.specs.declared.uncrossed.Crossed.{Crossed}
 use Rattle.ruledwords.specs.declared.uncrossed.Line.{Line}
 use Rattle.ruledwords.specs.Fates.{Heeds}
 use Rattle.ruledwords.specs.Calls.{count_after, standing_of, IsOnMutex}
 use Rattle.ruledwords.specs.Lists.{IsInCall, IsMortal}
 use Rattle.ruledwords.specs.Passes.{card, layout_of, IsLive, IsPassOf}
 use Rattle.ruledwords.specs.Rules.{card_of}
-use Rattle.ruledwords.specs.Stretches.{ComesOn, ComesToEnd, StepsOn, StepsTo}
+use Rattle.ruledwords.specs.Straight.{crossed_answer, crossed_call, crossed_phase, ComesAcross}
+use Rattle.ruledwords.specs.Stretches.{ComesOn, ComesToEnd, StepsOn}
 use Rattle.ruledwords.specs.Turns.{running_of, Advances, FindsWord, HasDied, IsCallOf, IsIn, IsOneStep, stops_with, stops_within}
-use Rattle.ruledwords.specs.InLine.{announcing_lock, announcing_release, is_free, line_of, is_held, linking, loading_lock, loading_unlock, releasing, stands, taking, led_to, told_in, unlinking, Leads, GoesOnWith}
+use Rattle.ruledwords.specs.InLine.{announcing_lock, announcing_release, is_free, line_of, is_held, linking, loading_lock, loading_unlock, releasing, stands, taking, led_to, told_in, unlinking, Leads}
 use Rattle.ruledwords.proofs.Advancing.{goes as advances, lives as returns}
 use Rattle.ruledwords.proofs.Fates.{heeds_on}
 use Rattle.ruledwords.proofs.Listing.{call_begins, mortal}
 use Rattle.ruledwords.proofs.Turning.{begun, begun_ready, begun_room, begun_under_way, died_in, starts_so}
-use Rattle.ruledwords.proofs.Stepping.{after, comes_further, ended, Went}
+use Rattle.ruledwords.proofs.Stepping.{after, comes_further, Went}
 
 -- the point that a progress tells is that of the access
 pub told : (point : Option Point) (f : Phase) → told_in (progress_in point f) ≡ point
@@ -106,31 +108,30 @@ leads_on {w} {a} l f g {p} {b} {n} is to going found =
 
 -- it was the call's last
 pub leads_out : {w : Words} {a : Pass Live} {p : Whole} {q : Whole} (l : Line) (f : Phase) (x : Reply) {b d : Pass Live} {n s s' s'' t t' t'' : ℕ} → Went w a p b (stands l f) s s' t t' → q ≡ stands l f → (led_to (stands l f) n).phase ≡ phase.Ended x → record { leads : Leads w b q d n; fate : Heeds s' s'' t' t'' 0 }
-    → record { steps : StepsTo w a p d (Err (end.Replied x)); fate : Heeds s s'' t t'' 0 }
+    → record { steps : ComesAcross w a p d l (Err (end.Replied x)); fate : Heeds s s'' t t'' 0 }
 leads_out {w} {a} {p} {q} l f x {b} {d} {n} so_far is to found =
     let there = subst (λ (z : Whole). Leads w b z d n) is found.leads in
     record { steps = after w a p b (stands l f) d (end.Replied x) so_far.came (there.ends x to); fate = heeds_on _ _ _ _ _ _ _ so_far.fate found.fate }
 
--- a call that the line hands on with the answer of its last access
-pub hands_on : {w : Words} {a : Pass Live} {p : Whole} {q : Whole} (l : Line) (f : Phase) {b d : Pass Live} {n s s' s'' t t' t'' : ℕ} (x : Answer) (r : Result Whole End) → Went w a p b (stands l f) s s' t t' → q ≡ stands l f → answer_at (whole_access (stands l f)) n ≡ x → record { leads : Leads w b q d n; fate : Heeds s' s'' t' t'' 0 } → GoesOnWith q x r
-    → record { steps : StepsTo w a p d r; fate : Heeds s s'' t t'' (stops_within r) }
-hands_on {w} {a} {p} {q} l f {b} {d} {n} x (Ok z) so_far is answered found on =
+-- there it left its line
+pub leads_across : {w : Words} {a : Pass Live} {p : Whole} {q : Whole} (l : Line) (x : Crossed) {b d : Pass Live} {n s s' s'' t t' t'' : ℕ} → Went w a p b (stands l (crossed_phase x)) s s' t t' → q ≡ stands l (crossed_phase x) → PhaseKnows (crossed_phase x) → answer_at (whole_access (stands l (crossed_phase x))) n ≡ crossed_answer x → record { leads : Leads w b q d n; fate : Heeds s' s'' t' t'' 0 }
+    → record { steps : ComesAcross w a p d l (Ok x); fate : Heeds s s'' t t'' 0 }
+leads_across {w} {a} {p} {q} l x {b} {d} {n} so_far is knows answered found =
+    let f : Phase = crossed_phase x in
     let there = subst (λ (z : Whole). Leads w b z d n) is found.leads in
-    let to : z ≡ led_to (stands l f) n = on.0 ∙ ap (λ (y : Whole). whole_moved y (whole_led y x)) is ∙ ap (λ (y : Answer). whole_moved (stands l f) (whole_led (stands l f) y)) (sym answered) in
-    let came = subst (ComesOn w b (stands l f) d) (sym to) (there.goes (subst (λ (y : Whole). IsInProgress y.phase) to on.1)) in
-    record { steps = comes_further w a p b (stands l f) d z so_far.came came; fate = heeds_on _ _ _ _ _ _ _ so_far.fate found.fate }
-hands_on {w} {a} {p} {q} l f {b} {d} {n} {s} {s'} {s''} {t} {t'} {t''} x (Err e) so_far is answered found on =
-    let there = subst (λ (z : Whole). Leads w b z d n) is found.leads in
-    let to : (led_to (stands l f) n).phase ≡ phase.Ended on.0 = ap (λ (y : Answer). (whole_led (stands l f) y).phase) answered ∙ ap (λ (y : Whole). (whole_led y x).phase) (sym is) ∙ on.2 in
-    let ends = after w a p b (stands l f) d (end.Replied on.0) so_far.came (there.ends on.0 to) in
+    let to : led_to (stands l f) n ≡ crossed_call l x = ap (λ (y : Answer). whole_moved (stands l f) (whole_led (stands l f) y)) answered in
     record {
-      steps = subst (ComesToEnd w a p d) (sym on.1) ends;
-      fate = subst (λ (z : End). Heeds s s'' t t'' (stops_with z)) (sym on.1) (heeds_on _ _ _ _ _ _ _ so_far.fate found.fate);
+      steps = record {
+        knows = knows;
+        goes = λ under. comes_further w a p b (stands l f) d (crossed_call l x) so_far.came (subst (ComesOn w b (stands l f) d) to (there.goes (subst (λ (z : Whole). IsInProgress z.phase) (sym to) under)));
+        ends = λ y ended. after w a p b (stands l f) d (end.Replied y) so_far.came (there.ends y (ap (λ (z : Whole). z.phase) to ∙ ended));
+      };
+      fate = heeds_on _ _ _ _ _ _ _ so_far.fate found.fate;
     }
 
 -- the thread was told to stop before an access, or an end is handed on by a `?`
-pub stopped : {w : Words} {a : Pass Live} {p : Whole} {q : Whole} (l : Line) (f : Phase) {b : Pass Live} {s s' s'' t t' t'' : ℕ} (d : Pass Live) (e : End) (r : Result Whole End) → Went w a p b (stands l f) s s' t t' → q ≡ stands l f → record { leads : ComesToEnd w b q d e; fate : Heeds s' s'' t' t'' (stops_with e) } → IsErrAnd r (λ y. y ≡ e)
-    → record { steps : StepsTo w a p d r; fate : Heeds s s'' t t'' (stops_within r) }
+pub stopped : {w : Words} {a : Pass Live} {p : Whole} {q : Whole} (l : Line) (f : Phase) {b : Pass Live} {s s' s'' t t' t'' : ℕ} (d : Pass Live) (e : End) (r : Result Crossed End) → Went w a p b (stands l f) s s' t t' → q ≡ stands l f → record { leads : ComesToEnd w b q d e; fate : Heeds s' s'' t' t'' (stops_with e) } → IsErrAnd r (λ y. y ≡ e)
+    → record { steps : ComesAcross w a p d l r; fate : Heeds s s'' t t'' (stops_within r) }
 stopped l f d e (Ok z) so_far is found told = absurd told
 stopped {w} {a} {p} {q} l f {b} {s} {s'} {s''} {t} {t'} {t''} d e (Err y) so_far is found told =
     let ends = after w a p b (stands l f) d e so_far.came (subst (λ (z : Whole). ComesToEnd w b z d e) is found.leads) in
@@ -150,19 +151,30 @@ stopped_within {w} {a} {p} {q} l f {b} {s} {s'} {s''} {t} {t'} {t''} d z e (Err 
     }
 
 -- accesses, and what came behind them
-pub behind : {w : Words} {a : Pass Live} {p : Whole} {b : Pass Live} {q : Whole} {s s' s'' t t' t'' : ℕ} (d : Pass Live) (r : Result Whole End) → Went w a p b q s s' t t' → record { steps : StepsTo w b q d r; fate : Heeds s' s'' t' t'' (stops_within r) }
-    → record { steps : StepsTo w a p d r; fate : Heeds s s'' t t'' (stops_within r) }
-behind {w} {a} {p} {b} {q} d (Ok z) so_far more = record { steps = comes_further w a p b q d z so_far.came more.steps; fate = heeds_on _ _ _ _ _ _ _ so_far.fate more.fate }
-behind {w} {a} {p} {b} {q} d (Err e) so_far more = record { steps = after w a p b q d e so_far.came more.steps; fate = heeds_on _ _ _ _ _ _ _ so_far.fate more.fate }
+pub behind : {w : Words} {a : Pass Live} {p : Whole} {b : Pass Live} {q : Whole} {s s' s'' t t' t'' : ℕ} (l : Line) (d : Pass Live) (r : Result Crossed End) → Went w a p b q s s' t t' → record { steps : ComesAcross w b q d l r; fate : Heeds s' s'' t' t'' (stops_within r) }
+    → record { steps : ComesAcross w a p d l r; fate : Heeds s s'' t t'' (stops_within r) }
+behind {w} {a} {p} {b} {q} l d (Ok x) so_far more = record {
+  steps = record {
+    knows = more.steps.knows;
+    goes = λ under. comes_further w a p b q d (crossed_call l x) so_far.came (more.steps.goes under);
+    ends = λ y ended. after w a p b q d (end.Replied y) so_far.came (more.steps.ends y ended);
+  };
+  fate = heeds_on _ _ _ _ _ _ _ so_far.fate more.fate;
+}
+behind {w} {a} {p} {b} {q} l d (Err e) so_far more = record { steps = after w a p b q d e so_far.came more.steps; fate = heeds_on _ _ _ _ _ _ _ so_far.fate more.fate }
 
 -- so many accesses were made
 pub came_on : {w : Words} {a : Pass Live} {p : Whole} {b : Pass Live} {q : Whole} {s s' t t' : ℕ} → record { steps : ComesOn w a p b q; fate : Heeds s s' t t' 0 } → Went w a p b q s s' t t'
 came_on so = record { came = so.steps; fate = so.fate }
 
 -- or it ended in them
-pub ended_so : {w : Words} {a : Pass Live} {p : Whole} {b : Pass Live} {q : Whole} {s s' s'' t t' t'' : ℕ} (d : Pass Live) (e : End) (r : Result Whole End) → Went w a p b q s s' t t' → record { steps : ComesToEnd w b q d e; fate : Heeds s' s'' t' t'' (stops_with e) } → IsErrAnd r (λ y. y ≡ e)
-    → record { steps : StepsTo w a p d r; fate : Heeds s s'' t t'' (stops_within r) }
-ended_so d e r so_far so is = ended {O = Unit {0}} d e r so_far (record { steps = so.steps; once = tt; fate = so.fate }) is
+pub ended_so : {w : Words} {a : Pass Live} {p : Whole} {b : Pass Live} {q : Whole} {s s' s'' t t' t'' : ℕ} (l : Line) (d : Pass Live) (e : End) (r : Result Crossed End) → Went w a p b q s s' t t' → record { steps : ComesToEnd w b q d e; fate : Heeds s' s'' t' t'' (stops_with e) } → IsErrAnd r (λ y. y ≡ e)
+    → record { steps : ComesAcross w a p d l r; fate : Heeds s s'' t t'' (stops_within r) }
+ended_so l d e (Ok z) so_far so told = absurd told
+ended_so {w} {a} {p} {b} {q} {s} {s'} {s''} {t} {t'} {t''} l d e (Err y) so_far so told = record {
+  steps = subst (ComesToEnd w a p d) (sym told) (after w a p b q d e so_far.came so.steps);
+  fate = subst (λ (z : End). Heeds s s'' t t'' (stops_with z)) (sym told) (heeds_on _ _ _ _ _ _ _ so_far.fate so.fate);
+}
 
 -- ---- where each access of a lock leads
 

@@ -102,18 +102,6 @@ abbrev pub LeadsOn : Words → Pass Live → Whole → Pass Live → Result ℕ 
 LeadsOn w a p b (Ok n) = Leads w a p b n
 LeadsOn w a p b (Err e) = ComesToEnd w a p b e
 
--- a call that was answered so goes on, or has replied
-abbrev pub GoesOnWith : Whole → Answer → Result Whole End → Type 0
-GoesOnWith p x (Ok q) = (q ≡ whole_moved p (whole_led p x)) × IsInProgress q.phase
-GoesOnWith p x (Err e) = (y : Reply) × (e ≡ end.Replied y) × ((whole_led p x).phase ≡ phase.Ended y)
-
 abbrev pub told_in : Progress → Option Point
 told_in (Goes point) = point
 told_in (Returns x point) = point
-
--- ---- as the crates above see it
-
--- a lock of mutex m by a thread whose pass was a has come to this: it was refused where the thread holds 2,048
-abbrev pub LocksSoFar : Words → ℕ → Pass Live → Stretch → Type 0
-LocksSoFar w m a s =
-    MatchBool (nat_le held_limit (held (card a))) (s ≡ stretch.Lives a XHELD) (StretchesFrom w a (call.Lock m) s)

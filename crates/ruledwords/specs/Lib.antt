@@ -22,6 +22,7 @@ pub mod ConditionCalls
 pub mod ConditionStands
 pub mod Stretches
 pub mod InLine
+pub mod Straight
 pub mod Owing
 pub mod Releases
 pub mod Outcomes

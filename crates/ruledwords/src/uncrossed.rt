@@ -7,22 +7,28 @@ ghost use Rattle.memorymap.specs.Layouts.{base_of};
 ghost use Rattle.posixmutex.specs.declared.point.Operation.TheVariants.{Lock as LockOf, Unlock as UnlockOf};
 ghost use Rattle.robustlist.specs.Link.{LinkGoes};
 ghost use Rattle.robustlist.specs.Unlink.{UnlinkGoes};
-ghost use Rattle.mutex.specs.Whole.{whole_access, IsUnderWay as IsInProgress, PhaseKnows};
+ghost use Rattle.mutex.specs.Whole.{whole_access, PhaseKnows};
 ghost use Rattle.ruledwords.specs.Fates.{Heeds};
 ghost use Rattle.ruledwords.specs.Passes.{layout_of, IsLive};
 ghost use Rattle.robustlist.specs.declared.link.LinkRow.TheVariants.{LoadFirst, StoreFirst};
 ghost use Rattle.robustlist.specs.declared.unlink.UnlinkRow.TheVariants.{LoadNext};
 ghost use Rattle.mutex.specs.declared.call.Call.TheVariants.{Unlock as UnlockCall};
-ghost use Rattle.ruledwords.specs.Stretches.{StepsOn, StepsTo, StretchesFrom, stops_stretching};
-ghost use Rattle.ruledwords.specs.Turns.{IsCallOf, IsOneStep, stops_within};
-ghost use Rattle.ruledwords.specs.InLine.{stands, line_of, Leads, LeadsOn, GoesOnWith, LocksSoFar};
-ghost use Rattle.ruledwords.specs.InLine.{announcing_lock, is_free, is_held, linking, loading_unlock, releasing, told_in, unlinking};
+ghost use Rattle.ruledwords.specs.Stretches.{StepsOn};
+ghost use Rattle.ruledwords.specs.Turns.{GoesOn, IsCallOf, IsOneStep, stops_within};
+ghost use Rattle.mutex.specs.declared.call.Call.{Call};
+ghost use Rattle.ruledwords.specs.declared.pass.Live.{Live};
+ghost use Rattle.ruledwords.specs.declared.pass.Pass.{Pass};
+ghost use Rattle.ruledwords.specs.declared.pass.Words.{Words};
+ghost use Rattle.ruledwords.specs.InLine.{announcing_lock, is_free, is_held, line_of, linking, loading_unlock};
+ghost use Rattle.ruledwords.specs.InLine.{releasing, stands, told_in, unlinking, Leads, LeadsOn};
+ghost use Rattle.ruledwords.specs.Straight.{crossed_answer, crossed_phase, stops_straight, ComesAcross, CrossedFrom};
+ghost use Rattle.ruledwords.specs.Straight.{IsCrossingOf, LocksStraight, StraightFrom};
 
 use crate::fate::{Fate, either_stops};
-use crate::pass::{Live, Pass, Words};
+use crate::pass::{Dead, Live, Pass, Words};
 use crate::running::{answer, count};
 use crate::step::End;
-use crate::turn::{Running, Stretch};
+use crate::turn::{Running, Turn};
 use lockword::{Cell, Reply, Tid};
 use mutex::{LockRow, Phase, Program, Row, UnlockRow};
 use posixmutex::{HELD_LIMIT, Operation, Point};
@@ -37,6 +43,39 @@ pub(crate) struct Line {
     head: u64,
     entry: u64,
     cell: u64,
+}
+
+/// Where a lock or an unlock left its line.
+#[derive(Clone, Copy)]
+pub(crate) enum Crossed {
+    /// A lock found this word, by which it doesn't take the cell with OK.
+    Locking { word: u64 },
+    /// A lock met this word, and not the cell that it saw, by the exchange that takes it.
+    Meeting { seen: Cell, met: u64 },
+    /// An unlock found this word, by which its thread doesn't own the cell, or that isn't consistent.
+    Unlocking { word: u64 },
+    /// An unlock found this word by its release: somebody waits.
+    Releasing { found: u64 },
+}
+
+/// A pass, and a lock or an unlock of its thread that left its line: [`Crossing::go_on`] gives what it comes to, by its
+/// rows. It is small, so that it costs a call little that stays in the line.
+#[derive(Drop)]
+pub struct Crossing {
+    pass: Pass<Live>,
+    line: Line,
+    at: Crossed,
+}
+
+/// What a lock or an unlock comes to in one straight line.
+#[derive(Drop)]
+pub enum Straight {
+    /// Somebody crossed it, or the mutex isn't consistent, or isn't the thread's: it goes on.
+    Crossed(Crossing),
+    /// The call has replied.
+    Lives(Pass<Live>, Reply),
+    /// The thread died in the call.
+    Dead(Pass<Dead>),
 }
 
 impl Line {
@@ -147,10 +186,10 @@ impl Words {
         line: &Line,
         fate: &mut F,
         note: &mut N,
-    ) -> Result<Program, End>
+    ) -> Result<Crossed, End>
         requires call { IsCallOf self.now pass.old (stands line.now (linking line.now LoadFirst)) }
         requires base { base ≡ base_of self.now.layout line.now.thread }
-        ensures steps { StepsTo self.now pass.old (stands line.now (linking line.now LoadFirst)) pass.new result }
+        ensures steps { ComesAcross self.now pass.old (stands line.now (linking line.now LoadFirst)) pass.new line.now result }
         ensures fate { Heeds (F.stopped fate.old) (F.stopped fate.new) (N.stopped note.old) (N.stopped note.new)
             (stops_within result) }
     {
@@ -191,10 +230,10 @@ impl Words {
         line: &Line,
         fate: &mut F,
         note: &mut N,
-    ) -> Result<Program, End>
+    ) -> Result<Crossed, End>
         requires call { IsCallOf self.now pass.old (stands line.now (linking line.now StoreFirst)) }
         requires base { base ≡ base_of self.now.layout line.now.thread }
-        ensures steps { StepsTo self.now pass.old (stands line.now (linking line.now StoreFirst)) pass.new result }
+        ensures steps { ComesAcross self.now pass.old (stands line.now (linking line.now StoreFirst)) pass.new line.now result }
         ensures fate { Heeds (F.stopped fate.old) (F.stopped fate.new) (N.stopped note.old) (N.stopped note.new)
             (stops_within result) }
     {
@@ -214,11 +253,11 @@ impl Words {
         line: &Line,
         fate: &mut F,
         note: &mut N,
-    ) -> Result<Program, End>
+    ) -> Result<Crossed, End>
         requires operation { line.now.operation ≡ LockOf }
         requires call { IsCallOf self.now pass.old (stands line.now announcing_lock) }
         requires base { base ≡ base_of self.now.layout line.now.thread }
-        ensures steps { StepsTo self.now pass.old (stands line.now announcing_lock) pass.new result }
+        ensures steps { ComesAcross self.now pass.old (stands line.now announcing_lock) pass.new line.now result }
         ensures fate { Heeds (F.stopped fate.old) (F.stopped fate.new) (N.stopped note.old) (N.stopped note.new)
             (stops_within result) }
     {
@@ -230,14 +269,14 @@ impl Words {
         let word = self.find(pass, base, &loading, fate, note)?;
         let seen = Cell::new(word);
         if !is_free(seen) {
-            return go_on(loading, Answer::Value(word));
+            return Ok(Crossed::Locking { word });
         }
         let taking = line.at(Phase::AtCell(Row::Lock(LockRow::Take { seen })));
         let met = self.find(pass, base, &taking, fate, note)?;
         if met == seen.word() {
             return self.link_in_line(pass, base, line, fate, note);
         }
-        go_on(taking, Answer::Changed(met))
+        Ok(Crossed::Meeting { seen, met })
     }
 
     /// Takes the entry of a mutex out of its thread's list, before it is released.
@@ -281,11 +320,11 @@ impl Words {
         line: &Line,
         fate: &mut F,
         note: &mut N,
-    ) -> Result<Program, End>
+    ) -> Result<Crossed, End>
         requires operation { line.now.operation ≡ UnlockOf }
         requires call { IsCallOf self.now pass.old (stands line.now loading_unlock) }
         requires base { base ≡ base_of self.now.layout line.now.thread }
-        ensures steps { StepsTo self.now pass.old (stands line.now loading_unlock) pass.new result }
+        ensures steps { ComesAcross self.now pass.old (stands line.now loading_unlock) pass.new line.now result }
         ensures fate { Heeds (F.stopped fate.old) (F.stopped fate.new) (N.stopped note.old) (N.stopped note.new)
             (stops_within result) }
     {
@@ -293,7 +332,7 @@ impl Words {
         let word = self.find(pass, base, &loading, fate, note)?;
         let seen = Cell::new(word);
         if !is_held(seen, line.thread) {
-            return go_on(loading, Answer::Value(word));
+            return Ok(Crossed::Unlocking { word });
         }
         let announcing = line.at(Phase::Announcing {
             next: Row::Unlock(UnlockRow::Release { died: false }),
@@ -303,7 +342,7 @@ impl Words {
         let releasing = line.at(Phase::AtCell(Row::Unlock(UnlockRow::Release { died: false })));
         let found = self.find(pass, base, &releasing, fate, note)?;
         if Cell::new(found).waiters() {
-            return go_on(releasing, Answer::Value(found));
+            return Ok(Crossed::Releasing { found });
         }
         let clearing = line.at(Phase::Clearing { reply: Reply::OK });
         self.find(pass, base, &clearing, fate, note)?;
@@ -327,16 +366,45 @@ fn is_held(cell: Cell, thread: Tid) -> bool
     cell.owner() == u32::from(thread.get()) && !cell.owner_died()
 }
 
-/// A call behind an access that was answered so.
-#[inline(always)]
-fn go_on(program: Program, answer: Answer) -> Result<Program, End>
-    requires { IsInProgress program.phase }
-    ensures { GoesOnWith program answer result }
-{
-    let mut after = program;
-    match after.resume(answer) {
-        Progress::Goes { .. } => Ok(after),
-        Progress::Returns { reply, .. } => Err(End::Replied(reply)),
+impl Crossed {
+    /// Where the call stood.
+    fn phase(&self) -> Phase
+        ensures { result ≡ crossed_phase self.now }
+    {
+        match *self {
+            Crossed::Locking { .. } => Phase::AtCell(Row::Lock(LockRow::Load)),
+            Crossed::Meeting { seen, .. } => Phase::AtCell(Row::Lock(LockRow::Take { seen })),
+            Crossed::Unlocking { .. } => Phase::AtCell(Row::Unlock(UnlockRow::Load)),
+            Crossed::Releasing { .. } => {
+                Phase::AtCell(Row::Unlock(UnlockRow::Release { died: false }))
+            }
+        }
+    }
+
+    /// What its access was answered.
+    fn answer(&self) -> Answer
+        ensures { result ≡ crossed_answer self.now }
+    {
+        match *self {
+            Crossed::Locking { word } | Crossed::Unlocking { word } => Answer::Value(word),
+            Crossed::Meeting { met, .. } => Answer::Changed(met),
+            Crossed::Releasing { found } => Answer::Value(found),
+        }
+    }
+}
+
+impl Crossing {
+    /// What the call comes to by the answer of the access at which it left its line. No access is made.
+    pub fn go_on(self) -> Turn
+        requires { (w : Words) × IsCrossingOf w self }
+        ensures { (w : Words) (a : Pass Live) (call : Call) → CrossedFrom w a call self → GoesOn w a call result }
+    {
+        let Crossing { pass, line, at } = self;
+        let mut program = line.at(at.phase());
+        match program.resume(at.answer()) {
+            Progress::Goes { .. } => Turn::Goes(Running { pass, program }),
+            Progress::Returns { reply, .. } => Turn::Lives(pass, reply),
+        }
     }
 }
 
@@ -361,24 +429,24 @@ impl Running {
         mutex: u16,
         fate: &mut F,
         note: &mut N,
-    ) -> Stretch
+    ) -> Straight
         requires pass { IsLive words.now pass }
         requires mutex { mutex < (layout_of words.now).mutexes }
-        ensures locks { LocksSoFar words.now mutex pass result }
+        ensures locks { LocksStraight words.now mutex pass result }
         ensures fate { Heeds (F.stopped fate.old) (F.stopped fate.new) (N.stopped note.old) (N.stopped note.new)
-            (stops_stretching result) }
+            (stops_straight result) }
     {
         if HELD_LIMIT <= pass.held {
-            return Stretch::Lives(pass, Reply::XHELD);
+            return Straight::Lives(pass, Reply::XHELD);
         }
         let mut pass = pass;
         let base = words.layout.base(pass.thread);
         let line = words.line(pass.thread, Operation::Lock, mutex);
         match words.lock_in_line(&mut pass, base, &line, fate, note) {
-            Ok(program) => Stretch::Goes(Running { pass, program }),
+            Ok(at) => Straight::Crossed(Crossing { pass, line, at }),
             Err(end) => match end {
-                End::Replied(reply) => Stretch::Lives(pass, reply),
-                End::Stopped => Stretch::Dead(pass.died()),
+                End::Replied(reply) => Straight::Lives(pass, reply),
+                End::Stopped => Straight::Dead(pass.died()),
             },
         }
     }
@@ -392,21 +460,21 @@ impl Running {
         mutex: u16,
         fate: &mut F,
         note: &mut N,
-    ) -> Stretch
+    ) -> Straight
         requires pass { IsLive words.now pass }
         requires mutex { mutex < (layout_of words.now).mutexes }
-        ensures unlocks { StretchesFrom words.now pass (UnlockCall mutex) result }
+        ensures unlocks { StraightFrom words.now pass (UnlockCall mutex) result }
         ensures fate { Heeds (F.stopped fate.old) (F.stopped fate.new) (N.stopped note.old) (N.stopped note.new)
-            (stops_stretching result) }
+            (stops_straight result) }
     {
         let mut pass = pass;
         let base = words.layout.base(pass.thread);
         let line = words.line(pass.thread, Operation::Unlock, mutex);
         match words.unlock_in_line(&mut pass, base, &line, fate, note) {
-            Ok(program) => Stretch::Goes(Running { pass, program }),
+            Ok(at) => Straight::Crossed(Crossing { pass, line, at }),
             Err(end) => match end {
-                End::Replied(reply) => Stretch::Lives(pass, reply),
-                End::Stopped => Stretch::Dead(pass.died()),
+                End::Replied(reply) => Straight::Lives(pass, reply),
+                End::Stopped => Straight::Dead(pass.died()),
             },
         }
     }

@@ -17,7 +17,7 @@ use crate::room::push_in_room;
 use condvar::Op;
 use lockword::Reply;
 use mutex::Call;
-use ruledwords::{Fate, Live, Never, Outcome, Pass, Running, Stretch};
+use ruledwords::{Fate, Live, Never, Outcome, Pass, Running, Straight};
 use std::sync::Wait;
 
 #[inline(always)]
@@ -36,9 +36,9 @@ fn unlock<R: Wait, F: Fate>(
     let thread = pass.thread();
     let mut note = bench.note(thread).fate();
     match Running::unlock(bench.words(), pass, mutex, fate, &mut note) {
-        Stretch::Goes(running) => bench.run_anew(rt, thread, running, fate),
-        Stretch::Lives(pass, reply) => Outcome::Lives(pass, reply),
-        Stretch::Dead(pass) => Outcome::Dead(pass),
+        Straight::Crossed(crossing) => bench.run_crossed(rt, thread, crossing, fate),
+        Straight::Lives(pass, reply) => Outcome::Lives(pass, reply),
+        Straight::Dead(pass) => Outcome::Dead(pass),
     }
 }
 

@@ -4,9 +4,13 @@ ghost use Rattle.stepprograms.specs.declared.access.Access.TheVariants.{Wait as 
 ghost use Rattle.ruledwords.specs.Fates.{Heeds};
 ghost use Rattle.ruledwords.specs.Outcomes.{IsOwedOf, stops_in};
 ghost use Rattle.ruledwords.specs.Passes.{layout_of, IsLive};
+ghost use Rattle.mutex.specs.declared.call.Call.{Call};
+ghost use Rattle.ruledwords.specs.declared.pass.Live.{Live};
+ghost use Rattle.ruledwords.specs.declared.pass.Pass.{Pass};
+ghost use Rattle.ruledwords.specs.Straight.{CrossedFrom, IsCrossingOf};
 ghost use Rattle.ruledwords.specs.Stretches.{Stretches, stops_stretching};
 ghost use Rattle.ruledwords.specs.Turns.{access_in, IsRunningOf, IsTurnOf, Keeps, KeepsDecided};
-ghost use Rattle.threadbench.specs.Calls.{Locked, Paid, Runs, IsHeeded, stretch_of};
+ghost use Rattle.threadbench.specs.Calls.{Locked, Paid, RanOut, Runs, IsHeeded, stretch_of};
 
 use crate::bench::Bench;
 use crate::kill::note::{ByOthers, Note};
@@ -16,7 +20,10 @@ use crate::section::{Waited, trim_in, wait_in, wake_in};
 use buckets::{BUCKETS, Batch};
 use lockword::{Reply, Tid};
 use memorymap::{Key, bucket_of, key_of};
-use ruledwords::{Fate, Live, Outcome, Owed, Pass, Running, Stretch, Turn, Wakes, either_stops};
+use ruledwords::{
+    Crossing, Fate, Live, Outcome, Owed, Pass, Running, Straight, Stretch, Turn, Wakes,
+    either_stops,
+};
 use std::hint::spin_loop;
 use std::sync::Wait;
 use stepprograms::{Access, Answer};
@@ -42,9 +49,9 @@ impl Bench {
         let thread = pass.thread();
         let mut note = self.note(thread).fate();
         match Running::lock(&self.words, pass, mutex, fate, &mut note) {
-            Stretch::Goes(running) => self.run_anew(rt, thread, running, fate),
-            Stretch::Lives(pass, reply) => Outcome::Lives(pass, reply),
-            Stretch::Dead(pass) => Outcome::Dead(pass),
+            Straight::Crossed(crossing) => self.run_crossed(rt, thread, crossing, fate),
+            Straight::Lives(pass, reply) => Outcome::Lives(pass, reply),
+            Straight::Dead(pass) => Outcome::Dead(pass),
         }
     }
 
@@ -91,22 +98,28 @@ impl Bench {
         }
     }
 
-    /// Runs a call to its end that was crossed, or until one of its thread's fates ends it. It asks the note anew, and is
-    /// compiled apart: so what it keeps in memory costs a call nothing that nobody crosses.
+    /// Runs a lock or an unlock to its end that left its line, or until one of its thread's fates ends it. It asks the
+    /// note anew, and is compiled apart: so what it keeps in memory costs a call nothing that stays in its line.
     #[inline(never)]
-    pub(crate) fn run_anew<R: Wait, F: Fate>(
+    pub(crate) fn run_crossed<R: Wait, F: Fate>(
         &self,
         rt: &R,
         thread: Tid,
-        running: Running,
+        crossing: Crossing,
         fate: &mut F,
     ) -> Outcome
-        requires { IsRunningOf self.now running }
-        ensures runs { Runs self.now running result }
+        requires { IsCrossingOf self.now crossing }
+        ensures runs { (a : Pass Live) (call : Call) → CrossedFrom self.now a call crossing
+            → RanOut self.now a call result }
         ensures fate { IsHeeded (F.stopped fate.old) (F.stopped fate.new) result }
     {
-        let mut note = self.note(thread).fate();
-        self.run_on(rt, running, fate, &mut note)
+        match crossing.go_on() {
+            Turn::Goes(running) => {
+                let mut note = self.note(thread).fate();
+                self.run_on(rt, running, fate, &mut note)
+            }
+            Turn::Lives(pass, reply) => Outcome::Lives(pass, reply),
+        }
     }
 
     /// Runs a call to its end, or until one of its thread's fates ends it, turn by turn.

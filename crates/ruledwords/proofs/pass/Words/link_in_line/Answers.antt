@@ -40,7 +40,7 @@ returns-then-first-line g c =
     let one = leads_on l (linking l LoadFirst) (linking l (StoreNext f)) c.linking.ensures refl tt c.in_ok-first.ensures in
     let two = one ⨾ leads_on l (linking l (StoreNext f)) (linking l (StorePrevious f)) c.linking-2.ensures refl tt c.in_ok-find.ensures in
     let three = two ⨾ leads_on l (linking l (StorePrevious f)) (linking l StoreFirst) c.linking-3.ensures (to_first l f c.in_ok-find-2.field-0 c.if-first-line.true) tt c.in_ok-find-2.ensures in
-    behind _ _ three c.end_in_line.ensures
+    behind l _ _ three c.end_in_line.ensures
 
 pub find-requires-4-clause-call : goal.find-requires-4-clause-call
 find-requires-4-clause-call g c =
@@ -66,4 +66,4 @@ returns g c =
     let two = one ⨾ leads_on l (linking l (StoreNext f)) (linking l (StorePrevious f)) c.linking-2.ensures refl tt c.in_ok-find.ensures in
     let three = two ⨾ leads_on l (linking l (StorePrevious f)) (linking l (StoreBehind f)) c.linking-3.ensures (to_behind l f c.in_ok-find-2.field-0 c.if-first-line.false) tt c.in_ok-find-2.ensures in
     let four = three ⨾ leads_on l (linking l (StoreBehind f)) (linking l StoreFirst) c.linking-4.ensures refl tt c.in_ok-find-3.ensures in
-    behind _ _ four c.end_in_line-2.ensures
+    behind l _ _ four c.end_in_line-2.ensures

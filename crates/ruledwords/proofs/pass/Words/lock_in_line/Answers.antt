@@ -1,8 +1,8 @@
 use Rattle.std.proofs.Common.{ℕ, ◌≤◌, refl, subst, sym, ◌∙◌}
-use Rattle.stepprograms.specs.declared.access.Answer.TheVariants.{Value, Changed}
+use Rattle.ruledwords.specs.declared.uncrossed.Crossed.TheVariants.{Locking, Meeting}
 use Rattle.robustlist.specs.declared.link.LinkRow.TheVariants.{LoadFirst}
 use Rattle.ruledwords.specs.InLine.{announcing_lock, linking, loading_lock, taking}
-use Rattle.ruledwords.proofs.InLine.{behind, hands_on, leads_on, misses, stopped, to_link, to_take}
+use Rattle.ruledwords.proofs.InLine.{behind, free_knows, leads_across, leads_on, misses, stopped, to_link, to_take}
 use Rattle.ruledwords.proofs.Stepping.{◌⨾◌, went_nowhere}
 use Rattle.ruledwords.proofs.pass.Words.lock_in_line.Goals as goal
 
@@ -21,7 +21,7 @@ pub returns-then-not-is_free : goal.returns-then-not-is_free
 returns-then-not-is_free g c =
     let l = c.args.line.now in
     let one = leads_on l announcing_lock loading_lock c.at-announcing.ensures refl tt c.in_ok-find.ensures in
-    hands_on l loading_lock (Value c.in_ok-word.word) _ one c.at-loading.ensures refl c.in_ok-word.ensures c.go_on.ensures
+    leads_across l (Locking c.in_ok-word.word) one c.at-loading.ensures (tt, tt) refl c.in_ok-word.ensures
 
 pub returns-in_err-met : goal.returns-in_err-met
 returns-in_err-met g c =
@@ -49,7 +49,7 @@ returns-then-met-word g c =
     let one = leads_on l announcing_lock loading_lock c.at-announcing.ensures refl tt c.in_ok-find.ensures in
     let two = one ⨾ leads_on l loading_lock (taking s) c.at-loading.ensures (to_take l c.in_ok-word.word s c.new-seen.ensures pos free) tt c.in_ok-word.ensures in
     let three = two ⨾ leads_on l (taking s) (linking l LoadFirst) c.at-taking.ensures (to_link l s c.in_ok-met.met c.requires.operation free (c.if-met-word.true ∙ c.word.ensures.value)) tt c.in_ok-met.ensures in
-    behind _ _ three c.link_in_line.ensures
+    behind l _ _ three c.link_in_line.ensures
 
 pub returns : goal.returns
 returns g c =
@@ -59,4 +59,4 @@ returns g c =
     let pos = subst (λ (t : ℕ). 1 ≤ t) (sym c.requires.call.ready.0) c.requires.call.words.0.1.first in
     let one = leads_on l announcing_lock loading_lock c.at-announcing.ensures refl tt c.in_ok-find.ensures in
     let two = one ⨾ leads_on l loading_lock (taking s) c.at-loading.ensures (to_take l c.in_ok-word.word s c.new-seen.ensures pos free) tt c.in_ok-word.ensures in
-    hands_on l (taking s) (Changed c.in_ok-met.met) _ two c.at-taking.ensures (misses l s c.in_ok-met.met (λ is. c.if-met-word.false (is ∙ sym c.word.ensures.value))) c.in_ok-met.ensures c.go_on-2.ensures
+    leads_across l (Meeting s c.in_ok-met.met) two c.at-taking.ensures (tt, free_knows s free) (misses l s c.in_ok-met.met (λ is. c.if-met-word.false (is ∙ sym c.word.ensures.value))) c.in_ok-met.ensures

@@ -1,11 +1,11 @@
 use Rattle.std.proofs.Common.{refl, ap, sym, ◌∙◌}
 use Rattle.lockword.specs.Cells.{Fields}
 use Rattle.lockword.specs.declared.reply.Reply.TheVariants.{OK}
-use Rattle.stepprograms.specs.declared.access.Answer.TheVariants.{Value}
+use Rattle.ruledwords.specs.declared.uncrossed.Crossed.TheVariants.{Releasing, Unlocking}
 use Rattle.mutex.specs.declared.phase.Phase.TheVariants.{Clearing}
 use Rattle.robustlist.specs.declared.unlink.UnlinkRow.TheVariants.{LoadNext}
 use Rattle.ruledwords.specs.InLine.{announcing_release, loading_unlock, releasing, unlinking}
-use Rattle.ruledwords.proofs.InLine.{came_on, ended_so, hands_on, leads_on, leads_out, stopped, to_announce, to_clear}
+use Rattle.ruledwords.proofs.InLine.{came_on, ended_so, leads_across, leads_on, leads_out, stopped, to_announce, to_clear}
 use Rattle.ruledwords.proofs.Stepping.{◌⨾◌, went_nowhere}
 use Rattle.ruledwords.proofs.pass.Words.unlock_in_line.Goals as goal
 
@@ -17,7 +17,7 @@ returns-in_err-word g c =
 pub returns-then-not-is_held : goal.returns-then-not-is_held
 returns-then-not-is_held g c =
     let l = c.args.line.now in
-    hands_on l loading_unlock (Value c.in_ok-word.word) _ (went_nowhere _ _ c.requires.call) c.at-loading.ensures refl c.in_ok-word.ensures c.go_on.ensures
+    leads_across l (Unlocking c.in_ok-word.word) (went_nowhere _ _ c.requires.call) c.at-loading.ensures (tt, tt) refl c.in_ok-word.ensures
 
 pub returns-in_err-find : goal.returns-in_err-find
 returns-in_err-find g c =
@@ -32,7 +32,7 @@ returns-in_err-unlink_in_line g c =
     let held = sym c.is_held.ensures ∙ c.if-not-is_held.false in
     let one = leads_on l loading_unlock announcing_release c.at-loading.ensures (to_announce l c.in_ok-word.word c.new-seen.result c.new-seen.ensures held) tt c.in_ok-word.ensures in
     let two = one ⨾ leads_on l announcing_release (unlinking l LoadNext) c.at-announcing.ensures refl tt c.in_ok-find.ensures in
-    ended_so _ _ _ two c.in_err-unlink_in_line.ensures c.from_residual-in_err-unlink_in_line.ensures.1
+    ended_so l _ _ _ two c.in_err-unlink_in_line.ensures c.from_residual-in_err-unlink_in_line.ensures.1
 
 pub returns-in_err-found : goal.returns-in_err-found
 returns-in_err-found g c =
@@ -50,7 +50,7 @@ returns-then-waiters g c =
     let one = leads_on l loading_unlock announcing_release c.at-loading.ensures (to_announce l c.in_ok-word.word c.new-seen.result c.new-seen.ensures held) tt c.in_ok-word.ensures in
     let two = one ⨾ leads_on l announcing_release (unlinking l LoadNext) c.at-announcing.ensures refl tt c.in_ok-find.ensures in
     let three = two ⨾ came_on c.in_ok-unlink_in_line.ensures in
-    hands_on l releasing (Value c.in_ok-found.found) _ three c.at-releasing.ensures refl c.in_ok-found.ensures c.go_on-then-waiters.ensures
+    leads_across l (Releasing c.in_ok-found.found) three c.at-releasing.ensures (tt, tt) refl c.in_ok-found.ensures
 
 pub returns-in_err-find-2 : goal.returns-in_err-find-2
 returns-in_err-find-2 g c =

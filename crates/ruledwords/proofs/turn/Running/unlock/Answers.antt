@@ -12,7 +12,7 @@ pub returns-in-Ok-clause-unlocks : goal.returns-in-Ok-clause-unlocks
 returns-in-Ok-clause-unlocks g c =
     let a = c.args.pass in
     let begun = unlock_begins_in c.args.words.now a c.args.mutex c.line-line.result c.requires.pass c.requires.mutex c.line-line.ensures in
-    (c.in-Ok.ensures.steps.1 a (Unlock c.args.mutex) begun).1
+    (record { knows = c.in-Ok.ensures.steps.knows; goes = λ under. (c.in-Ok.ensures.steps.goes under).1 a (Unlock c.args.mutex) begun; ends = λ y ended. (c.in-Ok.ensures.steps.ends y ended).0 a (Unlock c.args.mutex) begun })
 
 pub returns-in-Replied-clause-unlocks : goal.returns-in-Replied-clause-unlocks
 returns-in-Replied-clause-unlocks g c =
