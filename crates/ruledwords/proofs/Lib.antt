@@ -45,6 +45,7 @@ mod Stepping
 mod Stretching
 mod Settling
 mod StepsOfCalls
+pub mod InLine
 mod Releasing
 mod ReleaseSteps
 mod ConditionActs

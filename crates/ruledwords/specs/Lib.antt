@@ -21,6 +21,8 @@ pub mod Turns
 pub mod ConditionCalls
 pub mod ConditionStands
 pub mod Stretches
+pub mod InLine
+pub mod Straight
 pub mod Owing
 pub mod Releases
 pub mod Outcomes

@@ -95,11 +95,10 @@ pub record IsCallOf (w : Words) (a : Pass Live) (p : Whole) : Type 0 where
   pub going : IsInProgress p.phase
   pub words : IsPassOf w a × ((m : ℕ) × IsInCall (layout_of w) (card a) m p)
 
--- the seat of thread t, whose call stands at p
-pub record IsSeatedCall (w : Words) (s : Seat (Unit {0}) (List Card)) (t : ℕ) (p : Whole) : Type 0 where
+-- the seat of a thread whose call stands at p
+pub record IsSeatedCall (w : Words) (s : Seat (Unit {0}) (List Card)) (p : Whole) : Type 0 where
   pub table : s.table_id ≡ w.places.table.shared.table_id
   pub one : IsOne s.me
-  pub is : t ≡ (card_of s.me.0).thread
   pub ready : Ready (standing_of p) (card_of s.me.0)
   pub going : IsInProgress p.phase
   pub card : IsCardOf (layout_of w) (card_of s.me.0)

@@ -2,7 +2,7 @@
 //! variable; and looks and trims, by which nothing is seen anew.
 ghost use Rattle.std.specs.Prelude.{◌≡◌, ◌<◌, ◌≤◌, ℕ, Some, ◌+◌, ◌==◌, if◌then◌else◌, length};
 ghost use Rattle.stepprograms.specs.Accesses.{address_of, answer_at};
-ghost use Rattle.memorymap.specs.Layouts.{words_of, place_in, cell_place, counter_place};
+ghost use Rattle.memorymap.specs.Layouts.{base_of, words_of, place_in, cell_place, counter_place};
 ghost use Rattle.robustlist.specs.Words.{answer_on};
 ghost use Rattle.mutex.specs.Programs.{access_of};
 ghost use Rattle.mutex.specs.Rows.{IsGoing};
@@ -27,18 +27,19 @@ use crate::rule::{Look, LookAtCounter, Recall, Store, Trim};
 use atomic_table::{Play, Seat};
 use condvar::{CondPhase, CondProgram};
 use lockword::{Tid, WAITERS};
+use memorymap::seen_at;
 use mutex::Program;
 use std::marker::{Brand, PhantomData};
 use stepprograms::{Access, StepProgram};
 
 impl Words {
-    /// Makes a load or a store of one of the thread's own words, by its address in the thread's process, and gives the
-    /// word of a load.
+    /// Makes a load or a store of one of the thread's own words, by its address in the thread's process, which maps the
+    /// words at this base, and gives the word of a load.
     #[inline(always)]
-    pub(crate) fn access_own(&self, seat: &mut Seat<(), View>, thread: Tid, access: Access) -> u64
+    pub(crate) fn access_own(&self, seat: &mut Seat<(), View>, base: u64, access: Access) -> u64
         requires table { seat.old.table_id ≡ self.now.places.table.shared.table_id }
         requires one { IsOne seat.old.me }
-        requires is { thread ≡ (card_of seat.old.me.0).thread }
+        requires base { base ≡ base_of self.now.layout (card_of seat.old.me.0).thread }
         requires thread { (1 ≤ (card_of seat.old.me.0).thread)
             × ((card_of seat.old.me.0).thread ≤ self.now.layout.threads) }
         requires kind { IsLoadOrStore access }
@@ -53,11 +54,11 @@ impl Words {
     {
         match access {
             Access::Load { at } => {
-                let place = self.place(thread, at);
+                let place = seen_at(base, at);
                 self.recall(seat, place)
             }
             Access::Store { at, value } => {
-                let place = self.place(thread, at);
+                let place = seen_at(base, at);
                 self.store(seat, place, value);
                 0
             }
@@ -136,17 +137,18 @@ impl Words {
         address.wrapping_sub(self.layout.base(thread))
     }
 
-    /// Makes the call's next access, which is one step on its cell, and gives the word that it found.
+    /// Makes the call's next access, which is one step on its cell, and gives the word that it found. The thread's
+    /// process maps the words at this base.
     #[inline(always)]
     pub(crate) fn make<M: Making>(
         &self,
         seat: &mut Seat<(), View>,
-        thread: Tid,
+        base: u64,
         program: &Program,
     ) -> u64
         requires table { seat.old.table_id ≡ self.now.places.table.shared.table_id }
         requires one { IsOne seat.old.me }
-        requires thread { (thread ≡ M.program.thread) × (thread ≤ self.now.layout.threads) }
+        requires base { base ≡ base_of self.now.layout M.program.thread }
         requires place { IsInLayout self.now.layout M.program }
         requires cell { IsAtCell program.now.phase }
         requires is { M.program ≡ standing_of program.now }
@@ -163,23 +165,18 @@ impl Words {
     {
         let places = &self.places;
         match program.next() {
-            Access::Load { at } => { places.load::<Make<M>>(seat, self.place(thread, at) as usize) }
+            Access::Load { at } => { places.load::<Make<M>>(seat, seen_at(base, at) as usize) }
             Access::Exchange { at, expected, new } => {
-                places.compare_exchange::<Make<M>>(
-                    seat,
-                    self.place(thread, at) as usize,
-                    expected,
-                    new,
-                )
+                places.compare_exchange::<Make<M>>(seat, seen_at(base, at) as usize, expected, new)
             }
             Access::FetchXor { at, operand } => {
-                places.fetch_xor::<Make<M>>(seat, self.place(thread, at) as usize, operand)
+                places.fetch_xor::<Make<M>>(seat, seen_at(base, at) as usize, operand)
             }
             Access::FetchOr { at, operand } => {
-                places.fetch_or::<Make<M>>(seat, self.place(thread, at) as usize, operand)
+                places.fetch_or::<Make<M>>(seat, seen_at(base, at) as usize, operand)
             }
             Access::FetchAnd { at, operand } => {
-                places.fetch_and::<Make<M>>(seat, self.place(thread, at) as usize, operand)
+                places.fetch_and::<Make<M>>(seat, seen_at(base, at) as usize, operand)
             }
             _ => unreachable!(),
         }
@@ -265,7 +262,10 @@ impl Words {
     {
         match program.phase() {
             CondPhase::AtWords(_) => self.act::<Brand>(seat, thread, program),
-            _ => self.access_own(seat, thread, access),
+            _ => {
+                let base = self.layout.base(thread);
+                self.access_own(seat, base, access)
+            }
         }
     }
 }

@@ -8,7 +8,8 @@
 //! does. Each thread keeps its robust list in words that it alone writes: between its calls, of just the mutexes that
 //! it holds; and wherever it dies, the kernel would find them all. A thread that was reaped may live anew
 //! ([`Pass::renew`]): its id is used again, with an empty list, and what its pass has seen goes on. Whoever lets
-//! threads sleep runs a call itself, turn by turn ([`Running`]; on a condition variable [`CondRunning`]).
+//! threads sleep runs a call itself, turn by turn ([`Running`]; on a condition variable [`CondRunning`]), and first in one
+//! straight line, where nobody crosses it ([`Running::lock`], [`Running::unlock`]).
 //!
 //! Nothing is claimed of the order between passes that never met, nor that a trylock is ever won.
 #![tactic(auto)]
@@ -29,6 +30,7 @@ mod rule;
 mod running;
 mod step;
 mod turn;
+mod uncrossed;
 mod walk;
 
 pub use counter::CounterWord;
@@ -38,3 +40,4 @@ pub use pass::{Card, Dead, EitherPass, Last, Live, Pass, Reaped, Spent, Words};
 pub use turn::{
     CondRunning, CondTurn, Outcome, Owed, Reaping, Released, Running, Stretch, Turn, Wakes, Walked,
 };
+pub use uncrossed::{Crossing, Straight};

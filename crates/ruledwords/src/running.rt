@@ -4,7 +4,7 @@ ghost use Rattle.std.specs.Prelude.{◌≡◌, ◌<◌, ◌≤◌, ℕ, Some, �
 ghost use Rattle.posixmutex.specs.Objects.{held_limit};
 ghost use Rattle.stepprograms.specs.Accesses.{answer_at, address_of};
 ghost use Rattle.stepprograms.specs.declared.access.Access.TheVariants.{Trim as AtTrim};
-ghost use Rattle.memorymap.specs.Layouts.{cell_place};
+ghost use Rattle.memorymap.specs.Layouts.{base_of, cell_place};
 ghost use Rattle.mutex.specs.Calls.{mutex_of};
 ghost use Rattle.mutex.specs.Whole.{whole_access};
 ghost use Rattle.mutex.specs.declared.call.Call.{Call};
@@ -17,6 +17,7 @@ ghost use Rattle.ruledwords.specs.Turns.{IsUnderWay, HasDied};
 ghost use Rattle.ruledwords.specs.declared.pass.Words.{Words};
 ghost use Rattle.ruledwords.specs.Changes.{Writes};
 ghost use Rattle.ruledwords.specs.Looks.{Finds};
+ghost use Rattle.ruledwords.specs.Rules.{card_of};
 ghost use Rattle.ruledwords.specs.declared.pass.Live.{Live};
 ghost use Rattle.ruledwords.specs.declared.pass.Pass.{Pass};
 
@@ -81,8 +82,8 @@ impl Words {
         ensures { Advances self.now pass.old program.old pass.new program.new result }
     {
         let access = program.next();
-        let thread = pass.thread;
-        let found = self.found(&mut pass.seat, thread, program, access);
+        let base = self.layout.base(pass.thread);
+        let found = self.found(&mut pass.seat, base, program, access);
         match program.resume(answer(access, found)) {
             Progress::Goes { point } => {
                 pass.held = count(pass.held, point);
@@ -95,23 +96,25 @@ impl Words {
         }
     }
 
-    /// The word that the access finds: at the mutex's cell, or at a word that the thread alone writes.
+    /// The word that the access finds: at the mutex's cell, or at a word that the thread alone writes. The thread's
+    /// process maps the words at this base.
     #[inline(always)]
-    fn found(
+    pub(crate) fn found(
         &self,
         seat: &mut Seat<(), View>,
-        thread: Tid,
+        base: u64,
         program: &Program,
         access: Access,
     ) -> u64
-        requires call { IsSeatedCall self.now seat.old thread program.now }
+        requires call { IsSeatedCall self.now seat.old program.now }
+        requires base { base ≡ base_of self.now.layout (card_of seat.old.me.0).thread }
         requires step { IsOneStep (whole_access program.now) }
         requires access { access ≡ whole_access program.now }
         ensures { FindsWord self.now seat.old seat.new program.now result }
     {
         match program.phase() {
-            Phase::AtCell(_) => self.make::<Brand>(seat, thread, program),
-            _ => self.access_own(seat, thread, access),
+            Phase::AtCell(_) => self.make::<Brand>(seat, base, program),
+            _ => self.access_own(seat, base, access),
         }
     }
 }

@@ -13,7 +13,7 @@ use crate::fate::{Fate, Never, either_stops};
 use crate::pass::{Live, Pass, Words};
 use crate::turn::{Outcome, Running, Stretch};
 use lockword::Reply;
-use mutex::{LockRow, Phase, Program, Row, TryLockRow};
+use mutex::{Phase, Program, Row, TryLockRow};
 use stepprograms::{Access, StepProgram};
 
 /// How many accesses a stretch has at most behind its first ones: what is left of a call that isn't crossed again and
@@ -27,56 +27,6 @@ pub(crate) enum End {
     Stopped,
     /// The call replied.
     Replied(Reply),
-}
-
-/// The calls of which the first accesses are made one after the other. A type of its own for each, so that the compiler
-/// knows where such a call begins.
-pub(crate) trait Begins {
-    /// Whether such a call begins there.
-    fn begins(phase: Phase) -> bool;
-
-    /// Whether such a call takes its mutex there.
-    fn takes(phase: Phase) -> bool;
-}
-
-/// Locks.
-pub(crate) struct Locks;
-
-impl Begins for Locks {
-    #[inline(always)]
-    fn begins(phase: Phase) -> bool {
-        matches!(
-            phase,
-            Phase::Announcing {
-                next: Row::Lock(LockRow::Load)
-            }
-        )
-    }
-
-    #[inline(always)]
-    fn takes(phase: Phase) -> bool {
-        matches!(phase, Phase::AtCell(Row::Lock(LockRow::Take { .. })))
-    }
-}
-
-/// Trylocks.
-pub(crate) struct TryLocks;
-
-impl Begins for TryLocks {
-    #[inline(always)]
-    fn begins(phase: Phase) -> bool {
-        matches!(
-            phase,
-            Phase::Announcing {
-                next: Row::TryLock(TryLockRow::Load)
-            }
-        )
-    }
-
-    #[inline(always)]
-    fn takes(phase: Phase) -> bool {
-        matches!(phase, Phase::AtCell(Row::TryLock(TryLockRow::Take { .. })))
-    }
 }
 
 impl Words {
@@ -108,11 +58,11 @@ impl Words {
         }
     }
 
-    /// The accesses of a lock or trylock that nobody crosses, one after the other: so the compiler knows at each where
-    /// the call stands. Of one that meets an owned or a changed cell some of them, of other calls none. It is here for
-    /// speed alone: its contract lets it make fewer.
+    /// The accesses of a trylock that nobody crosses, one after the other: so the compiler knows at each where the call
+    /// stands. Of one that meets an owned or a changed cell some of them, of other calls none. It is here for speed
+    /// alone: its contract lets it make fewer.
     #[inline(always)]
-    pub(crate) fn first_steps<B: Begins, F: Fate, N: Fate>(
+    fn first_steps<F: Fate, N: Fate>(
         &self,
         pass: &mut Pass<Live>,
         begun: Program,
@@ -125,12 +75,12 @@ impl Words {
             (stops_within result) }
     {
         let mut program = begun;
-        if !B::begins(program.phase()) {
+        if !begins(program.phase()) {
             return Ok(program);
         }
         self.step(pass, &mut program, fate, note)?;
         self.step(pass, &mut program, fate, note)?;
-        if !B::takes(program.phase()) {
+        if !takes(program.phase()) {
             return Ok(program);
         }
         self.step(pass, &mut program, fate, note)?;
@@ -172,7 +122,7 @@ impl Words {
         ensures ends { EndsIn self.now pass.old program pass.new result }
         ensures fate { F.stopped fate.new ≡ F.stopped fate.old + stops_with result }
     {
-        match self.first_steps::<TryLocks, F, Never>(pass, program, fate, &mut Never) {
+        match self.first_steps(pass, program, fate, &mut Never) {
             Ok(program) => self.last_steps(pass, program, fate),
             Err(end) => end,
         }
@@ -215,51 +165,13 @@ impl Words {
         }
         Ok(program)
     }
-
-    /// Accesses of the call from where it stands, up to a futex section, and not too many of them.
-    #[inline(always)]
-    fn stretch<F: Fate, N: Fate>(
-        &self,
-        pass: &mut Pass<Live>,
-        begun: Program,
-        fate: &mut F,
-        note: &mut N,
-    ) -> Result<Program, End>
-        requires { IsCallOf self.now pass.old begun }
-        ensures steps { StepsTo self.now pass.old begun pass.new result }
-        ensures fate { Heeds (F.stopped fate.old) (F.stopped fate.new) (N.stopped note.old) (N.stopped note.new)
-            (stops_within result) }
-    {
-        let program = self.first_steps::<Locks, F, N>(pass, begun, fate, note)?;
-        self.more_steps(pass, program, fate, note)
-    }
 }
 
 impl Running {
     /// Makes accesses that come next, one after the other where the call stands, up to a futex section, or its end, or
-    /// its thread's death: the fate is asked before each, and then the note, by which others can tell the thread to
-    /// stop ([`Never`](crate::Never) where nobody can). It may stop before that, and goes on where it is called again
-    /// or where the next access is made by [`Running::access`]. It is here for speed: an access by itself moves the
-    /// call.
-    #[inline(always)]
-    pub fn stretch<F: Fate, N: Fate>(self, words: &Words, fate: &mut F, note: &mut N) -> Stretch
-        requires words { IsRunningOf words.now self }
-        ensures stretches { Stretches words.now self result }
-        ensures fate { Heeds (F.stopped fate.old) (F.stopped fate.new) (N.stopped note.old) (N.stopped note.new)
-            (stops_stretching result) }
-    {
-        let Running { mut pass, program } = self;
-        match words.stretch(&mut pass, program, fate, note) {
-            Ok(program) => Stretch::Goes(Running { pass, program }),
-            Err(end) => match end {
-                End::Replied(reply) => Stretch::Lives(pass, reply),
-                End::Stopped => Stretch::Dead(pass.died()),
-            },
-        }
-    }
-
-    /// As [`Running::stretch`], of a call that goes on behind a section: the compiler can't know where it stands, and
-    /// needn't.
+    /// its thread's death, and not too many of them: the fate is asked before each, and then the note, by which others
+    /// can tell the thread to stop ([`Never`](crate::Never) where nobody can). It goes on where it is called again or
+    /// where the next access is made by [`Running::access`]. It is here for speed: an access by itself moves the call.
     pub fn more<F: Fate, N: Fate>(self, words: &Words, fate: &mut F, note: &mut N) -> Stretch
         requires words { IsRunningOf words.now self }
         ensures stretches { Stretches words.now self result }
@@ -275,6 +187,23 @@ impl Running {
             },
         }
     }
+}
+
+/// Whether a trylock begins there.
+#[inline(always)]
+fn begins(phase: Phase) -> bool {
+    matches!(
+        phase,
+        Phase::Announcing {
+            next: Row::TryLock(TryLockRow::Load)
+        }
+    )
+}
+
+/// Whether a trylock takes its mutex there.
+#[inline(always)]
+fn takes(phase: Phase) -> bool {
+    matches!(phase, Phase::AtCell(Row::TryLock(TryLockRow::Take { .. })))
 }
 
 /// Whether an access is one step on one word, and no futex section.

@@ -9,3 +9,4 @@ mod Turning
 mod Heeding
 mod Waiting
 pub mod Living
+mod Begun

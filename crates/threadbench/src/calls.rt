@@ -17,7 +17,7 @@ use crate::room::push_in_room;
 use condvar::Op;
 use lockword::Reply;
 use mutex::Call;
-use ruledwords::{Fate, Live, Never, Outcome, Pass, Released};
+use ruledwords::{Fate, Live, Never, Outcome, Pass, Running, Straight};
 use std::sync::Wait;
 
 #[inline(always)]
@@ -33,10 +33,12 @@ fn unlock<R: Wait, F: Fate>(
     ensures ends { CallEnds bench.now pass (OnMutexOf (UnlockOf mutex)) result }
     ensures fate { IsHeeded (F.stopped fate.old) (F.stopped fate.new) result }
 {
-    match bench.words().release(pass, mutex, fate) {
-        Released::Owes(owed) => bench.pay(rt, owed, fate),
-        Released::Refused(pass, reply) => Outcome::Lives(pass, reply),
-        Released::Dead(pass) => Outcome::Dead(pass),
+    let thread = pass.thread();
+    let mut note = bench.note(thread).fate();
+    match Running::unlock(bench.words(), pass, mutex, fate, &mut note) {
+        Straight::Crossed(crossing) => bench.run_crossed(rt, thread, crossing, fate),
+        Straight::Lives(pass, reply) => Outcome::Lives(pass, reply),
+        Straight::Dead(pass) => Outcome::Dead(pass),
     }
 }
 

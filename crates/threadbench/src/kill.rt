@@ -77,8 +77,9 @@ impl Sweep {
 impl Bench {
     /// Kills a thread (kill(2), by SIGKILL). Its call of this bench ends in its death before its next access, asleep or
     /// not; where it is in none, its next one that makes an access does. Whoever walks its list then ([`Bench::exit`])
-    /// marks what it holds. A trylock, a declaration and a release ask their fate alone. A second kill of a thread in
-    /// one life changes nothing. ESRCH where the bench has no thread with this id.
+    /// marks what it holds. A trylock, a declaration and a release ask their fate alone; a worker's unlock heeds kills
+    /// as a lock does. A second kill of a thread in one life changes nothing. ESRCH where the bench has no thread with
+    /// this id.
     pub fn kill<R: Wait>(&self, rt: &R, thread: u8) -> Result<(), Reply>
         ensures { Kills (layout_of self.now) thread result }
     {

@@ -4,9 +4,13 @@ ghost use Rattle.stepprograms.specs.declared.access.Access.TheVariants.{Wait as 
 ghost use Rattle.ruledwords.specs.Fates.{Heeds};
 ghost use Rattle.ruledwords.specs.Outcomes.{IsOwedOf, stops_in};
 ghost use Rattle.ruledwords.specs.Passes.{layout_of, IsLive};
+ghost use Rattle.mutex.specs.declared.call.Call.{Call};
+ghost use Rattle.ruledwords.specs.declared.pass.Live.{Live};
+ghost use Rattle.ruledwords.specs.declared.pass.Pass.{Pass};
+ghost use Rattle.ruledwords.specs.Straight.{CrossedFrom, IsCrossingOf};
 ghost use Rattle.ruledwords.specs.Stretches.{Stretches, stops_stretching};
 ghost use Rattle.ruledwords.specs.Turns.{access_in, IsRunningOf, IsTurnOf, Keeps, KeepsDecided};
-ghost use Rattle.threadbench.specs.Calls.{Locked, Paid, Runs, IsHeeded, stretch_of};
+ghost use Rattle.threadbench.specs.Calls.{Locked, Paid, RanOut, Runs, IsHeeded, stretch_of};
 
 use crate::bench::Bench;
 use crate::kill::note::{ByOthers, Note};
@@ -16,8 +20,10 @@ use crate::section::{Waited, trim_in, wait_in, wake_in};
 use buckets::{BUCKETS, Batch};
 use lockword::{Reply, Tid};
 use memorymap::{Key, bucket_of, key_of};
-use mutex::Call;
-use ruledwords::{Fate, Live, Outcome, Owed, Pass, Running, Stretch, Turn, Wakes, either_stops};
+use ruledwords::{
+    Crossing, Fate, Live, Outcome, Owed, Pass, Running, Straight, Stretch, Turn, Wakes,
+    either_stops,
+};
 use std::hint::spin_loop;
 use std::sync::Wait;
 use stepprograms::{Access, Answer};
@@ -40,12 +46,12 @@ impl Bench {
         ensures locked { Locked self.now mutex pass result }
         ensures fate { IsHeeded (F.stopped fate.old) (F.stopped fate.new) result }
     {
-        match Running::call(&self.words, pass, Call::Lock(mutex)) {
-            Ok(running) => {
-                let mut note = self.note(running.thread()).fate();
-                self.run(rt, running, fate, &mut note)
-            }
-            Err((pass, reply)) => Outcome::Lives(pass, reply),
+        let thread = pass.thread();
+        let mut note = self.note(thread).fate();
+        match Running::lock(&self.words, pass, mutex, fate, &mut note) {
+            Straight::Crossed(crossing) => self.run_crossed(rt, thread, crossing, fate),
+            Straight::Lives(pass, reply) => Outcome::Lives(pass, reply),
+            Straight::Dead(pass) => Outcome::Dead(pass),
         }
     }
 
@@ -92,32 +98,31 @@ impl Bench {
         }
     }
 
-    /// Runs a call to its end, or until one of its thread's fates ends it: first as far as it makes steps on words,
-    /// where it stands, then turn by turn. The compiler knows at which access that is, where it knows where the call
-    /// begins.
-    #[inline(always)]
-    fn run<R: Wait, F: Fate, N: ByOthers>(
+    /// Runs a lock or an unlock to its end that left its line, or until one of its thread's fates ends it. It asks the
+    /// note anew, and is compiled apart: so what it keeps in memory costs a call nothing that stays in its line.
+    #[inline(never)]
+    pub(crate) fn run_crossed<R: Wait, F: Fate>(
         &self,
         rt: &R,
-        running: Running,
+        thread: Tid,
+        crossing: Crossing,
         fate: &mut F,
-        note: &mut N,
     ) -> Outcome
-        requires { IsRunningOf self.now running }
-        ensures runs { Runs self.now running result }
-        ensures fate { Heeds (F.stopped fate.old) (F.stopped fate.new) (N.stopped note.old) (N.stopped note.new)
-            (stops_in result) }
+        requires { IsCrossingOf self.now crossing }
+        ensures runs { (a : Pass Live) (call : Call) → CrossedFrom self.now a call crossing
+            → RanOut self.now a call result }
+        ensures fate { IsHeeded (F.stopped fate.old) (F.stopped fate.new) result }
     {
-        match running.stretch(&self.words, fate, note) {
-            Stretch::Goes(next) => self.run_on(rt, next, fate, note),
-            Stretch::Lives(pass, reply) => Outcome::Lives(pass, reply),
-            Stretch::Dead(pass) => Outcome::Dead(pass),
+        match crossing.go_on() {
+            Turn::Goes(running) => {
+                let mut note = self.note(thread).fate();
+                self.run_on(rt, running, fate, &mut note)
+            }
+            Turn::Lives(pass, reply) => Outcome::Lives(pass, reply),
         }
     }
 
-    /// Runs a call to its end, or until one of its thread's fates ends it, turn by turn: what is left of a call that
-    /// wasn't made in one stretch. (Stretches are made in [`Bench::run`] alone: a function that is called in one place
-    /// is compiled there.)
+    /// Runs a call to its end, or until one of its thread's fates ends it, turn by turn.
     pub(crate) fn run_on<R: Wait, F: Fate, N: ByOthers>(
         &self,
         rt: &R,

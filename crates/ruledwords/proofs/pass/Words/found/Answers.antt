@@ -22,7 +22,7 @@ access_own-requires c =
     record {
       table = call.table;
       one = call.one;
-      is = call.is;
+      base = c.requires.base;
       thread = (call.card.first, call.card.thread);
       kind = subst IsLoadOrStore (sym c.requires.access) (is_load_or_store p own);
       own = subst (λ (a : Access). IsOwn k d (place_in k d.thread (address_of a))) (sym c.requires.access) (at_own k d call.card call.call.0 p call.call.1 own);

@@ -1,7 +1,7 @@
-use Rattle.std.proofs.Common.{◌<◌, ◌∙◌, refl, sym, subst}
+use Rattle.std.proofs.Common.{◌<◌, ◌∙◌, refl, sym, ap, subst}
 use Rattle.stepprograms.specs.declared.access.Access.{Access}
 use Rattle.stepprograms.specs.Accesses.{address_of}
-use Rattle.memorymap.specs.Layouts.{place_in}
+use Rattle.memorymap.specs.Layouts.{base_of, place_in}
 use Rattle.mutex.specs.Standings.{Whole}
 use Rattle.condvar.specs.Standings.{CondWhole}
 use Rattle.ruledwords.specs.ConditionCalls.{IsCondStep}
@@ -52,7 +52,7 @@ access_own-requires c =
     record {
       table = r.table;
       one = r.one;
-      is = r.is;
+      base = c.base-base.ensures.value ∙ ap (base_of k) r.is;
       thread = (r.card.first, r.card.thread);
       kind = subst IsLoadOrStore (sym same) (is_load_or_store u own.0);
       own = subst (λ (a : Access). IsOwn k d (place_in k d.thread (address_of a))) (sym same) (at_own k d r.card m u r.call.list own.0);

@@ -1,33 +1,42 @@
-use Rattle.std.proofs.Common.{sym, ap, subst}
-use Rattle.std.specs.Prelude.{nat_le}
-use Rattle.mutex.specs.declared.call.Call.TheVariants as call
+use Rattle.std.proofs.Common.{subst}
+use Rattle.mutex.specs.declared.call.Call.TheVariants.{Lock}
 use Rattle.ruledwords.specs.declared.pass.Words.{Words}
-use Rattle.ruledwords.specs.declared.pass.Pass.{Pass}
-use Rattle.ruledwords.specs.declared.pass.Live.{Live}
-use Rattle.ruledwords.specs.Passes.{card, layout_of, IsLive}
-use Rattle.ruledwords.specs.Seen.{held}
-use Rattle.ruledwords.specs.Turns.{IsUnderWay}
-use Rattle.ruledwords.proofs.Beginnings.{picks_true}
-use Rattle.threadbench.proofs.Beginnings.{lock_begins, lock_refused}
+use Rattle.ruledwords.specs.declared.turn.Outcome.TheVariants as outcome
+use Rattle.ruledwords.specs.declared.uncrossed.Straight.TheVariants as straight
+use Rattle.ruledwords.specs.Straight.{LocksStraight}
+use Rattle.threadbench.proofs.Begun.{heeded_on, lock_dies, lock_goes_on, lock_lives, lock_ran}
 use Rattle.threadbench.proofs.Heeding.{is_heeded}
-use Rattle.threadbench.proofs.Turning.{ran_locked}
 use Rattle.threadbench.proofs.bench.Bench.lock.Goals as goal
 
-pub returns-in-Ok-clause-locked : goal.returns-in-Ok-clause-locked
-returns-in-Ok-clause-locked g c =
+pub run_crossed-requires : goal.run_crossed-requires
+run_crossed-requires g c =
     let a = c.args.pass in
-    let few = lock_begins (layout_of c.self.inside.words) (card a).thread (held (card a)) c.args.mutex c.in-Ok.running.program c.in-Ok.ensures.0 in
-    let under = subst (λ (w : Words). IsUnderWay w a (call.Lock c.args.mutex) c.in-Ok.running) c.self.view_is c.in-Ok.ensures.2 in
-    ran_locked c.args.self.now a c.args.mutex c.run.result few (c.run.ensures.runs.0 a (call.Lock c.args.mutex) under)
+    let so = subst (λ (w : Words). LocksStraight w c.args.mutex a (straight.Crossed c.in-Crossed.crossing)) c.self.view_is c.in-Crossed.ensures.locks in
+    lock_goes_on c.args.self.now c.args.mutex a c.in-Crossed.crossing so
 
-pub returns-in-Err-clause-locked : goal.returns-in-Err-clause-locked
-returns-in-Err-clause-locked g c =
+pub returns-in-Crossed-clause-locked : goal.returns-in-Crossed-clause-locked
+returns-in-Crossed-clause-locked g c =
     let a = c.args.pass in
-    let many = lock_refused (layout_of c.self.inside.words) (card a).thread (held (card a)) c.args.mutex c.in-Err.reply c.in-Err.ensures.0 in
-    let same = c.in-Err.ensures.1 in (
-      subst (λ (b : Pass Live). IsLive c.args.self.now b) (sym same) c.requires.pass,
-      picks_true (nat_le 2048 (held (card a))) _ _ many.0 (many.1, ap (λ (b : Pass Live). card b) same),
-    )
+    let so = subst (λ (w : Words). LocksStraight w c.args.mutex a (straight.Crossed c.in-Crossed.crossing)) c.self.view_is c.in-Crossed.ensures.locks in
+    lock_ran c.args.self.now c.args.mutex a c.in-Crossed.crossing c.run_crossed.result so (c.run_crossed.ensures.runs a (Lock c.args.mutex))
 
-pub returns-in-Ok-clause-fate : goal.returns-in-Ok-clause-fate
-returns-in-Ok-clause-fate g c = is_heeded _ _ _ _ c.run.result c.run.ensures.fate
+pub returns-in-Lives-clause-locked : goal.returns-in-Lives-clause-locked
+returns-in-Lives-clause-locked g c =
+    let a = c.args.pass in
+    let so = subst (λ (w : Words). LocksStraight w c.args.mutex a (straight.Lives c.in-Lives.pass c.in-Lives.reply)) c.self.view_is c.in-Lives.ensures.locks in
+    lock_lives c.args.self.now c.args.mutex a c.in-Lives.pass c.in-Lives.reply c.requires.pass so
+
+pub returns-in-Dead-clause-locked : goal.returns-in-Dead-clause-locked
+returns-in-Dead-clause-locked g c =
+    let a = c.args.pass in
+    let so = subst (λ (w : Words). LocksStraight w c.args.mutex a (straight.Dead c.in-Dead.pass)) c.self.view_is c.in-Dead.ensures.locks in
+    lock_dies c.args.self.now c.args.mutex a c.in-Dead.pass so
+
+pub returns-in-Crossed-clause-fate : goal.returns-in-Crossed-clause-fate
+returns-in-Crossed-clause-fate g c = heeded_on _ _ _ _ _ c.run_crossed.result c.in-Crossed.ensures.fate c.run_crossed.ensures.fate
+
+pub returns-in-Lives-clause-fate : goal.returns-in-Lives-clause-fate
+returns-in-Lives-clause-fate g c = is_heeded _ _ _ _ (outcome.Lives c.in-Lives.pass c.in-Lives.reply) c.in-Lives.ensures.fate
+
+pub returns-in-Dead-clause-fate : goal.returns-in-Dead-clause-fate
+returns-in-Dead-clause-fate g c = is_heeded _ _ _ _ (outcome.Dead c.in-Dead.pass) c.in-Dead.ensures.fate
