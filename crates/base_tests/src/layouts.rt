@@ -110,6 +110,30 @@ fn the_first_fault_is_told(rt: HostRuntime) {
     }
 }
 
+/// The last thread of a layout that is given by it, mutexes and condition variables, and the fault or how many words
+/// there are.
+static LAST: [(u8, u16, &[u16], Result<usize, LayoutFault>); 4] = [
+    (250, 4096, &[4095; 256], Ok(13_295)),
+    (65, 1, &[], Ok(199)),
+    (250, 0, &[0; 257], Err(LayoutFault::Mutexes)),
+    (1, 4096, &[4096], Err(LayoutFault::Conditions)),
+];
+
+fn words_up_to(last: u8, mutexes: u16, conditions: &[u16]) -> Option<Result<usize, LayoutFault>> {
+    match Layout::up_to(Tid::new(last)?, mutexes, conditions) {
+        Ok(layout) => Some(Ok(layout.words())),
+        Err(fault) => Some(Err(fault)),
+    }
+}
+
+#[test]
+fn a_layout_has_up_to_250_threads(rt: HostRuntime) {
+    for (last, mutexes, conditions, want) in &LAST {
+        let found = words_up_to(*last, *mutexes, conditions);
+        assert!(rt; found == Some(*want), "up to thread {last}");
+    }
+}
+
 static TEXTS: [(LayoutFault, &str); 6] = [
     (LayoutFault::Threads, "not 1 to 64 threads"),
     (LayoutFault::Mutexes, "not 1 to 4096 mutexes"),

@@ -10,7 +10,13 @@ const OWNER_DIED: u64 = 0x4000_0000;
 const UNUSABLE: u64 = 0x1_0000_0000;
 
 /// An id, and whether a thread has it.
-static IDS: [(u8, bool); 5] = [(0, false), (1, true), (64, true), (65, false), (255, false)];
+static IDS: [(u8, bool); 5] = [
+    (0, false),
+    (1, true),
+    (250, true),
+    (251, false),
+    (255, false),
+];
 
 /// Whether there is a thread with this id, if it should be, and it tells the id, and its place among all threads.
 fn is_id(id: u8, there: bool) -> bool {
@@ -21,7 +27,7 @@ fn is_id(id: u8, there: bool) -> bool {
 }
 
 #[test]
-fn a_thread_has_an_id_from_1_to_64(rt: HostRuntime) {
+fn a_thread_has_an_id_from_1_to_250(rt: HostRuntime) {
     for (id, there) in &IDS {
         assert!(rt; is_id(*id, *there), "of {id}");
     }

@@ -14,6 +14,7 @@ use Rattle.buckets.proofs.Places.{threads_on-append, threads_on-one, stands_ther
 use Rattle.buckets.proofs.Changes.{bucket, orderly, nowhere, enqueues, removes_between}
 use Rattle.buckets.proofs.Rows.{Apart, Same, once_more, away_less, follow_some, follow_linked, linked_same, same_put, same_appended, appended, appended_other, once_parts, apart_parts, apart_turned, put_same, put_other, joined_other, not_last_or, not_first_or, away, away_from_both, away_more, once_less, length_follow, among, its_row, rowless, slot_some, slot_none}
 use Rattle.buckets.proofs.Rings.{ids_both, sleeping_both, all_on_both, threads_of, as_many, stand_once, on_same, on_none, Between, between, keyed_nowhere, Gone, gone, found_split, none_found, gone_set, pushed_linked, same_ids, same_sleeping}
+use Rattle.lockword.specs.Threads.{most_threads}
 
 -- ---- what is always so
 
@@ -456,15 +457,15 @@ queue_nowhere n w rs k b is none = ap (λ (s : Sleepers). queue s k) (sym is) �
 pub first_here : (w : ℕ → Option Row) (x : Ring) (q : List ℕ) → 1 ≤ x.count → q ≡ ids_of w x → Some x.first.thread ≡ slice_get q 0
 first_here w x q some is = let m = follow_some w x.count x.first.thread some in sym (ap (λ (l : List ℕ). slice_get l 0) (is ∙ m.1))
 
-pub few_asleep : (n m : ℕ) (w : ℕ → Option Row) (rs : List Ring) → AreRings n m w rs → length (sleeping_of w rs) ≤ 64
+pub few_asleep : (n m : ℕ) (w : ℕ → Option Row) (rs : List Ring) → AreRings n m w rs → length (sleeping_of w rs) ≤ most_threads
 few_asleep n m w rs a = let room = has_room n m w rs a in let last = room.last in let enough = room.enough in omega arith
 
 -- ---- a new bucket, and the rows
 
-pub no_rings : (n : ℕ) (w : ℕ → Option Row) → 1 ≤ n → n ≤ 64 → ((t : ℕ) → w t ≡ None) → AreRings n 0 w []
+pub no_rings : (n : ℕ) (w : ℕ → Option Row) → 1 ≤ n → n ≤ most_threads → ((t : ℕ) → w t ≡ None) → AreRings n 0 w []
 no_rings n w first last none = record { first = first; last = last; enough = omega arith; counted = refl; once = tt; linked = tt; idle = λ t out. none t }
 
-pub are_rows : (n m : ℕ) (rows : List (Option Row)) (rs : List Ring) (b : Sleepers) → AreRings n m (row_of rows) rs → length rows ≡ 64 → bucket n (sleeping_of (row_of rows) rs) ≡ b → AreRows rows b
+pub are_rows : (n m : ℕ) (rows : List (Option Row)) (rs : List Ring) (b : Sleepers) → AreRings n m (row_of rows) rs → length rows ≡ most_threads → bucket n (sleeping_of (row_of rows) rs) ≡ b → AreRows rows b
 are_rows n m rows rs b a long is = record {
   long = long;
   awake = λ t first last h. slot_none rows t first (omega (arith, last, long)) (a.idle t (new_thread n m (row_of rows) rs t b a is h));

@@ -125,7 +125,7 @@ fn a_free_mutex_is_taken(rt: HostRuntime) {
 #[test]
 fn a_lock_of_an_unusable_mutex_wakes_all(rt: HostRuntime) {
     for woken in [3, 0] {
-        let wakes = [Step(Wakes(10, 64, woken), Returns(ENOTRECOVERABLE))];
+        let wakes = [Step(Wakes(10, 250, woken), Returns(ENOTRECOVERABLE))];
         let then = Decides(Lock, ENOTRECOVERABLE);
         assert!(rt;
             lock_decides(0x1_8000_0000, then, &wakes),
@@ -231,8 +231,8 @@ static UNLOCKS: [(&[Step], Step); 7] = [
     (&RELEASED, Step(Wakes(10, 1, 1), Returns(OK))),
     (&NOBODY_WOKEN, Step(Is(TRIM, Trimmed(true)), Returns(OK))),
     (&NOBODY_WOKEN, Step(Is(TRIM, Trimmed(false)), Returns(OK))),
-    (&SPOILED, Step(Wakes(10, 64, 1), Returns(OK))),
-    (&SPOILED, Step(Wakes(10, 64, 0), Returns(OK))),
+    (&SPOILED, Step(Wakes(10, 250, 1), Returns(OK))),
+    (&SPOILED, Step(Wakes(10, 250, 0), Returns(OK))),
 ];
 
 fn unlocks(done: &[Step], last: Step) -> bool {

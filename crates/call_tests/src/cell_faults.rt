@@ -58,7 +58,7 @@ static NEXT_ACCESSES: [(Operation, &[Step], Access); 13] = [
     (
         Lock,
         &[Step(Loads(10, 0x1_8000_0000), Decides(Lock, ENOTRECOVERABLE))],
-        Access::Wake { at: 10, most: 64 },
+        Access::Wake { at: 10, most: 250 },
     ),
     (TryLock, &[], LOAD),
     (TryLock, &[Step(Loads(10, 0), Goes)], TAKE),

@@ -31,7 +31,7 @@ const MOVE: Access = Access::CmpRequeue {
     expected: 6,
     wake: 0,
     to: 10,
-    moves: 64,
+    moves: 250,
 };
 
 /// The call on this condition variable that is this operation.

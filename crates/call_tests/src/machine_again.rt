@@ -368,7 +368,10 @@ static MOVED_WAIT: [Act; 10] = [
 
 #[test]
 fn a_wait_that_was_moved_is_in_time(rt: HostRuntime) -> Result<(), Fail> {
-    assert_eq!(rt; first_wrong(rt.alloc(), (2, 1, &[0]), &[&MOVED_WAIT])?, None);
+    assert_eq!(rt;
+        first_wrong(rt.alloc(), (2, 1, &[0]), &[&MOVED_WAIT])?,
+        None
+    );
     Ok(())
 }
 
@@ -402,13 +405,13 @@ fn a_late_wait_hears_of_a_dead_owner(rt: HostRuntime) -> Result<(), Fail> {
 const LATE: Op = Op::OnCondition(CondCall::TimedWait(0, Limit::Past));
 
 /// A wait begins while its time limit is to come.
-static OUT_OF_TIME: [Act; 2] = [
-    RefusedCall(1, LATE),
-    Is(Stands(1, Resting)),
-];
+static OUT_OF_TIME: [Act; 2] = [RefusedCall(1, LATE), Is(Stands(1, Resting))];
 
 #[test]
 fn no_wait_begins_out_of_time(rt: HostRuntime) -> Result<(), Fail> {
-    assert_eq!(rt; first_wrong(rt.alloc(), (1, 1, &[0]), &[&OUT_OF_TIME])?, None);
+    assert_eq!(rt;
+        first_wrong(rt.alloc(), (1, 1, &[0]), &[&OUT_OF_TIME])?,
+        None
+    );
     Ok(())
 }

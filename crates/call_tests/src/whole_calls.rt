@@ -92,7 +92,7 @@ static REFUSED: [(Operation, u64, &[Step], Reply); 4] = [
     (
         Lock,
         0x1_8000_0000,
-        &[Step(Wakes(10, 64, 3), Goes)],
+        &[Step(Wakes(10, 250, 3), Goes)],
         ENOTRECOVERABLE,
     ),
 ];

@@ -2,6 +2,7 @@
 use Rattle.std.specs.Prelude.{ℕ, ◌≡◌, ◌⊎◌, ◌<◌, ◌≤◌, ◌-◌, false, Some, None, List, [], reverse}
 use Rattle.std.specs.List.{Contains, count_by, slice_get}
 use Rattle.lockword.specs.declared.reply.Reply.{Reply}
+use Rattle.lockword.specs.Threads.{named_threads}
 use Rattle.posixmutex.specs.declared.object.Object.{Object}
 use Rattle.posixmutex.specs.declared.point.Operation.TheVariants.{Lock, TimedLock}
 use Rattle.posixmutex.specs.Objects.{Does}
@@ -48,7 +49,7 @@ NamedCallsAreStuck = (n : ℕ) (history : List HistoryLine) (steps : List Entry)
 
 -- and each such call of a thread that isn't doomed is named
 abbrev pub StuckCallsAreNamed : Type 0
-StuckCallsAreNamed = (t : ℕ) (steps : List Entry) (call : Begun) → 0 < t → t ≤ 64
+StuckCallsAreNamed = (t : ℕ) (steps : List Entry) (call : Begun) → 0 < t → t ≤ named_threads
     → IsStuck t (trace_of (reverse steps)) call → is_doomed t (reverse steps) ≡ false
     → (w : Waiter) × (w.thread ≡ t) × Contains (waiters (reverse steps)) w
 

@@ -1,7 +1,7 @@
 //! How far a thread of a certificate has come.
 
-ghost use Rattle.std.specs.Prelude.{◌≡◌, IfSome, MatchBool, true};
-ghost use Rattle.facts.specs.Lives.{IsWait};
+ghost use Rattle.std.specs.Prelude.{◌≡◌, ◌↔◌, IfSome, IsTrue, MatchBool};
+ghost use Rattle.facts.specs.Lives.{IsWait, MayReturn};
 ghost use Rattle.certificates.specs.Phases.{made_of, stage_of};
 ghost use Rattle.verdict.specs.Stages.{May, MayPoint, MayReturnNow, next, pointed};
 
@@ -37,13 +37,27 @@ pub(crate) fn is_wait(call: Operation) -> bool
     call == Operation::Wait || call == Operation::TimedWait
 }
 
-/// Whether a call of which these points are made may return the reply: that of the last one; a wait that is out of time
+/// Whether a call may return the reply whose last point replied as the other says: a wait that is out of time
 /// `ETIMEDOUT` for `OK`.
-fn may_return(call: Operation, made: Made, reply: Reply) -> bool
-    ensures { result ≡ true → MayReturnNow call (made_of made) reply }
+fn may_return(call: Operation, replied: Reply, reply: Reply) -> bool
+    ensures { IsTrue result ↔ MayReturn call replied reply }
 {
-    let is_late = call == Operation::TimedWait && reply == Reply::ETIMEDOUT;
-    made == Made::Decided(reply) || (is_late && made == Made::Decided(Reply::OK))
+    match call {
+        Operation::TimedWait => {
+            reply == replied || (replied == Reply::OK && reply == Reply::ETIMEDOUT)
+        }
+        _ => reply == replied,
+    }
+}
+
+/// Whether a call of which these points are made may return the reply.
+fn may_return_now(call: Operation, made: Made, reply: Reply) -> bool
+    ensures { IsTrue result ↔ MayReturnNow call (made_of made) reply }
+{
+    match made {
+        Made::Decided(replied) => may_return(call, replied, reply),
+        _ => false,
+    }
 }
 
 /// How far its first point brings a call.
@@ -93,7 +107,9 @@ fn called(call: Begun, made: Made, fact: &Fact) -> Option<Phase>
             let made = made_by(call.operation, made, point.operation, point.reply)?;
             Some(Phase::Calling(call, made))
         }
-        Fact::Return(_, reply) if may_return(call.operation, made, reply) => Some(Phase::Resting),
+        Fact::Return(_, reply) if may_return_now(call.operation, made, reply) => Some(
+            Phase::Resting,
+        ),
         _ => None,
     }
 }

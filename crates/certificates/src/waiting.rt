@@ -6,7 +6,7 @@ ghost use Rattle.certificates.specs.Waiters.{added, waiters};
 
 use crate::walk::{Walk, walked};
 use histories::Entry;
-use lockword::{MOST_THREADS, Tid};
+use lockword::{NAMED_THREADS, Tid};
 use std::alloc::{AllocError, Global};
 
 /// A call that still waits and shouldn't: a lock without a point, with a time limit or without, of a mutex that nobody
@@ -72,7 +72,7 @@ pub fn still_waiting(alloc: Global, steps: &[Entry]) -> Result<Vec<Waiter>, Allo
 {
     let walk = walked(alloc, steps)?;
     let mut found = Vec::new(alloc);
-    for before in 0..MOST_THREADS {
+    for before in 0..NAMED_THREADS {
         let thread = Tid::new(before + 1).unwrap();
         add(&mut found, waiter_of(&walk, thread))?;
     }

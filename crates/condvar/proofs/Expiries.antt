@@ -1,5 +1,6 @@
 -- Waits with a time limit.
-use Rattle.std.proofs.Common.{◌≡◌, ◌≢◌, ◌≤◌, ℕ, List, [], ◌∷◌, refl, sym, ap, ◌∙◌, subst}
+use Rattle.std.proofs.Common.{◌≡◌, ◌≢◌, ◌≤◌, ℕ, Bool, true, false, Option, List, [], ◌∷◌, refl, sym, ap, ◌∙◌}
+use Rattle.std.specs.Prelude.{Some}
 use Rattle.lockword.specs.declared.reply.Reply.{Reply}
 use Rattle.lockword.specs.declared.reply.Reply.TheVariants.{OK, ETIMEDOUT}
 use Rattle.stepprograms.specs.declared.access.Answer.{Answer}
@@ -10,11 +11,12 @@ use Rattle.mutex.specs.Whole as mutex
 use Rattle.condvar.specs.declared.call.CondCall.{CondCall}
 use Rattle.condvar.specs.declared.call.CondCall.TheVariants.{Wait, TimedWait, Signal, Broadcast}
 use Rattle.condvar.specs.declared.call.Limit.TheVariants.{Ahead, Past}
+use Rattle.condvar.specs.declared.call.Limit.{Limit}
 use Rattle.condvar.specs.declared.wait.WaitRow.TheVariants.{Sleep}
 use Rattle.condvar.specs.declared.row.CondRow.TheVariants as row
 use Rattle.condvar.specs.declared.phase.CondPhase.{CondPhase}
 use Rattle.condvar.specs.declared.phase.CondPhase.TheVariants.{AtWords, Locking}
-use Rattle.condvar.specs.Calls.{reply_of}
+use Rattle.condvar.specs.Calls.{expired, is_ahead, reply_of}
 use Rattle.condvar.specs.Programs.{mutex_of}
 use Rattle.condvar.specs.Standings.{CondWhole}
 use Rattle.condvar.specs.Whole.{begins, cond_led, phase_led, onward}
@@ -52,6 +54,29 @@ otherwise (Wait k) x other = refl
 otherwise (Signal k) x other = refl
 otherwise (Broadcast k) x other = refl
 
+not_late : (c : CondCall) → is_ahead c ≡ true → ¬ IsLate c
+not_late c ahead (k, is) = absurd (cc (sym ahead ∙ ap is_ahead is))
+
+begins_ahead : (c : CondCall) → (¬ IsLate c) → is_ahead c ≡ true
+begins_ahead (TimedWait k Past) late = absurd (late (k, refl))
+begins_ahead (TimedWait k Ahead) late = refl
+begins_ahead (Wait k) late = refl
+begins_ahead (Signal k) late = refl
+begins_ahead (Broadcast k) late = refl
+
+-- what a limit makes of a call
+abbrev pub Comes : CondCall → CondCall → Type 0
+Comes c d = (k : ℕ) × ((x : Limit) × (c ≡ TimedWait k x)) × (d ≡ TimedWait k Past)
+
+has_come : (c d : CondCall) → expired c ≡ Some d → Comes c d
+has_come (TimedWait k x) d e = (k, (x, refl), cc e)
+has_come (Wait k) d e = absurd (cc e)
+has_come (Signal k) d e = absurd (cc e)
+has_come (Broadcast k) d e = absurd (cc e)
+
+will_come : (c d : CondCall) → Comes c d → expired c ≡ Some d
+will_come c d (k, (x, is), to) = ap expired is ∙ ap Some (sym to)
+
 pub timed : TimedWaitsAreRight
 timed = record {
   waits = λ l t k x. refl;
@@ -59,4 +84,6 @@ timed = record {
   locks = locks;
   late = λ c x in_time. (to_late c x in_time, from_late c x);
   otherwise = otherwise;
+  begins = λ c. (not_late c, begins_ahead c);
+  comes = λ c d. (has_come c d, will_come c d);
 }

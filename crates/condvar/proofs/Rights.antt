@@ -22,6 +22,7 @@ use Rattle.condvar.specs.Wait.{wait_sees}
 use Rattle.condvar.specs.Signal.{signal_sees, signal_counts}
 use Rattle.condvar.specs.Broadcast.{broadcast_sees, broadcast_counts}
 use Rattle.condvar.specs.Laws.{Expects, IsOf, Right, CallsAreRight, AccessesAreThere, MovesAreRight, NeedsAreOwned}
+use Rattle.lockword.specs.Threads.{most_threads}
 
 -- who owns a cell, as an object
 pub names : (t : ℕ) (c : Fields) → 1 ≤ t → c.owner ≡ t → owner_of c.owner ≡ Some t
@@ -190,7 +191,7 @@ pub moves : MovesAreRight
 moves t cell counter seen k c small e =
     let is = e.1 in
     let same : (seen + 1) % 2 ^ 32 ≡ k % 2 ^ 32 = omega arith in
-    (ap (λ (v : ℕ). access.CmpRequeue counter v 0 cell 64) same, e.0, e.2)
+    (ap (λ (v : ℕ). access.CmpRequeue counter v 0 cell most_threads) same, e.0, e.2)
 
 -- what is needed of an owned mutex stays
 pub owned : NeedsAreOwned

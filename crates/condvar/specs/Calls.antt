@@ -11,7 +11,7 @@ use Rattle.posixmutex.specs.declared.point.Operation.{Operation}
 use Rattle.posixmutex.specs.declared.point.Operation.TheVariants as operation
 use Rattle.condvar.specs.declared.call.CondCall.{CondCall}
 use Rattle.condvar.specs.declared.call.CondCall.TheVariants.{Wait, TimedWait, Signal, Broadcast}
-use Rattle.condvar.specs.declared.call.Limit.TheVariants.{Ahead, Past}
+use Rattle.condvar.specs.declared.call.Limit.TheVariants.{Past}
 
 abbrev pub condition_of : CondCall → ℕ
 condition_of (Wait c) = c

@@ -3,12 +3,13 @@
 -- *The points of a call.* One of the call's own operation, with the reply that it returns; of a wait that isn't refused
 -- an unlock with OK and then a lock, with the reply that it returns. A wait with a time limit has the points of a wait,
 -- that returns the same, or OK where it returns ETIMEDOUT: of that the points tell no other reason than its unlock. A
--- call that hasn't returned has a beginning of its points. Sources: pthread_mutex_lock(3p), pthread_cond_wait(3p), pthread_cond_timedwait(3p).
+-- call that hasn't returned has a beginning of its points. Sources: pthread_mutex_lock(3p), pthread_cond_wait(3p),
+-- pthread_cond_timedwait(3p).
 --
 -- *A life.* What is told of one thread's calls and death: calls that returned, each with exactly its points, of its own
 -- mutex; perhaps one that hasn't returned, with a beginning of its points; perhaps a kill, which ends that call, then
 -- deaths, and perhaps a reaping; no other point or death.
-use Rattle.std.specs.Prelude.{ℕ, ◌≡◌, ◌⊎◌, ◌==◌, ◌&&◌, Bool, true, false, List, [], ◌∷◌, ◌++◌, map, if◌then◌else◌}
+use Rattle.std.specs.Prelude.{ℕ, ◌≡◌, ◌≢◌, ◌⊎◌, ◌==◌, ◌&&◌, Bool, true, false, List, [], ◌∷◌, ◌++◌, map, if◌then◌else◌}
 use Rattle.lockword.specs.declared.reply.Reply.{Reply}
 use Rattle.lockword.specs.declared.reply.Reply.TheVariants.{OK, ETIMEDOUT}
 use Rattle.posixmutex.specs.declared.point.Operation.{Operation}
@@ -35,6 +36,11 @@ IsWait op = (op ≡ Wait) ⊎ (op ≡ TimedWait)
 abbrev pub MayReturn : Operation → Reply → Reply → Type 0
 MayReturn TimedWait y x = (x ≡ y) ⊎ ((y ≡ OK) × (x ≡ ETIMEDOUT))
 MayReturn op y x = x ≡ y
+
+-- a call that returns another reply than that is such a wait
+abbrev pub OnlyLateWaitsDiffer : Type 0
+OnlyLateWaitsDiffer = (op : Operation) (y x : Reply) → MayReturn op y x → x ≢ y
+    → (op ≡ TimedWait) × (y ≡ OK) × (x ≡ ETIMEDOUT)
 
 -- these are all the points of a call of this operation that returns that reply: one of its own operation; of a lock
 -- with a time limit that isn't refused, and isn't out of time, a lock; of a wait that isn't refused a release and then a

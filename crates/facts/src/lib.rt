@@ -2,7 +2,7 @@
 //!
 //! A [`Line`] is a [`Fact`] and the number of its event. `specs/` says whose fact it is, which steps of mutexes points
 //! and deaths are, what all lines of one thread must be together, and how lines may stand behind each other: what a run
-//! prints and what a trace is judged by.
+//! prints and what a trace is judged by (of replies, the law `only_late_waits_differ`).
 //!
 //! Stands on `posixmutex`, for operations and decisions, and on `lockword`, for thread ids and replies.
 //!
@@ -20,5 +20,7 @@
 #![tactic(auto)]
 
 mod fact;
+mod laws;
 
 pub use fact::{Begun, Fact, Line, Queue};
+pub use laws::only_late_waits_differ;

@@ -1,11 +1,11 @@
 -- How much a history may have of each thing: the numbers that the definitions mean. The code's constants are proved to
 -- be these wherever they are used.
 use Rattle.std.specs.Prelude.{ℕ}
-use Rattle.lockword.specs.Threads.{most_threads}
+use Rattle.lockword.specs.Threads.{named_threads}
 
--- the threads at a time: a layout has no more; an id is used again once its thread was reaped
+-- the threads at a time: a trace has no more; an id is used again once its thread was reaped
 abbrev pub max_threads : ℕ
-max_threads = most_threads
+max_threads = named_threads
 
 -- the mutexes: as many as two bytes can number
 abbrev pub max_mutexes : ℕ

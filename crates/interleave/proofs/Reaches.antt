@@ -66,6 +66,7 @@ use Rattle.protocol.proofs.Steps.{seen-inside, is_valid-cell}
 use Rattle.std.specs.Option.{SomeIff}
 use Rattle.posixmutex.specs.Objects.{owner_of}
 use Rattle.lockword.specs.Cells.{fields_of}
+use Rattle.lockword.specs.Threads.{most_threads}
 
 -- one event more
 pub run-more : (s : State) (es : List Event) (e : Event) → run s (es ++ e ∷ []) ≡ (happens (run s es) e).state
@@ -385,7 +386,7 @@ state_preset m ws c v q x r inside at is wrote =
 -- ---- owners
 
 -- a mutex's owner is 0 or a thread
-pub owner_small : (m : Shown) (k o : ℕ) → IsReached m → k < m.layout.mutexes → o ≡ (fields_of (slice_index m.words (cell_place m.layout k))).owner → o ≤ 64
+pub owner_small : (m : Shown) (k o : ℕ) → IsReached m → k < m.layout.mutexes → o ≡ (fields_of (slice_index m.words (cell_place m.layout k))).owner → o ≤ most_threads
 owner_small m k zero r inside e = omega arith
 owner_small m k (suc n) r inside e =
     let inv = reached_kept m r in
@@ -394,7 +395,7 @@ owner_small m k (suc n) r inside e =
     let most = r.layout.threads.1 in omega arith
 
 -- an id that is none or a thread is the owner that it names
-pub owner_is : (r : Option ℕ) (o : ℕ) → SomeIff r ((1 ≤ o) × (o ≤ 64)) o → o ≤ 64 → r ≡ owner_of o
+pub owner_is : (r : Option ℕ) (o : ℕ) → SomeIff r ((1 ≤ o) × (o ≤ most_threads)) o → o ≤ most_threads → r ≡ owner_of o
 owner_is None zero h most = refl
 owner_is None (suc n) h most = absurd (h (omega arith, most))
 owner_is (Some x) zero h most = let first = h.0.0 in absurd (omega arith)

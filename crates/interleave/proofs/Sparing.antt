@@ -26,6 +26,7 @@ use Rattle.interleave.specs.Calls.{led_by, op_of, progress_behind, stage_behind,
 use Rattle.interleave.specs.Perform.{decision_with, held_with, point_in, reply_in}
 use Rattle.interleave.specs.Shown.{state_at, thread_at}
 use Rattle.interleave.proofs.Views.{threads-set, thread_at-index, made_by, IsMade}
+use Rattle.lockword.specs.Threads.{most_threads}
 
 -- a call in progress is about to wake one sleeper of its mutex
 abbrev pub wakes_by : InCall → Bool
@@ -158,5 +159,5 @@ differs t u x y is other apart = go (t == u) refl
     go true e = absurd (apart (is ∙ eqb-true t u e ∙ sym other))
 
 -- the thread with one more than this index
-pub its_own : (r : Option ℕ) (i t : ℕ) → SomeIff r ((1 ≤ i + 1) × (i + 1 ≤ 64)) (i + 1) → r ≡ Some t → t ≡ suc i
+pub its_own : (r : Option ℕ) (i t : ℕ) → SomeIff r ((1 ≤ i + 1) × (i + 1 ≤ most_threads)) (i + 1) → r ≡ Some t → t ≡ suc i
 its_own r i t h is = grind (arith)

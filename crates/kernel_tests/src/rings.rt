@@ -96,7 +96,7 @@ fn standing(rows: &[Option<Row>]) -> usize {
 /// Both forms have the same queues, and the rows are their rings.
 fn same_queues(rt: &impl Abort, forms: &Forms) -> Result<(), Fail> {
     let rows = forms.fast.rows();
-    assert!(rt; rows.len() == 64);
+    assert!(rt; rows.len() == 250);
     let mut stand = 0_usize;
     for key in 0..KEYS {
         let queue = forms.slow.sleepers(key)?;
@@ -213,7 +213,7 @@ fn step_both(
 
 fn both_forms(alloc: Global, capacity: usize) -> Result<Forms, Fail>
     requires first { 1 ≤ capacity }
-    requires last { capacity ≤ 64 }
+    requires last { capacity ≤ 250 }
 {
     Ok(Forms {
         fast: Bucket::new(alloc, capacity)?,
@@ -273,7 +273,7 @@ fn copies(rt: &impl Abort, forms: &Forms) -> Result<(), Fail> {
 #[test]
 fn ten_thousand_calls_leave_both_forms_the_same_queues(rt: HostRuntime) -> Result<(), Fail> {
     let small = both_forms(rt.alloc(), 8)?;
-    let large = both_forms(rt.alloc(), 64)?;
+    let large = both_forms(rt.alloc(), 250)?;
     let large = agree(&rt, small, large, 20, 10_000)?;
     copies(&rt, &large)
 }

@@ -3,6 +3,7 @@ ghost use Rattle.ruledwords.specs.Passes.{IsLive};
 
 use condvar::Op::OnMutex;
 use lockword::Reply::{self, EOWNERDEAD, OK};
+use lockword::Tid;
 use memorymap::Layout;
 use mutex::Call::{Lock, Unlock};
 use ruledwords::{Live, Never, Pass};
@@ -58,8 +59,8 @@ static PROCESS_1: [Step; 6] = [
     Calls(Third, &[OnMutex(Lock(1))], Some(OK)),
 ];
 
-/// The note of a kill is that of its thread alone: the first of the last five of 64 threads, with the id 60, lives
-/// where 28 is killed.
+/// The note of a kill is that of its thread alone: the first of the last five of 250 threads, with the id 246,
+/// lives where 28 is killed.
 static ANOTHER_THREAD: [Step; 2] = [Kills(28), Calls(First, &[OnMutex(Lock(0))], Some(OK))];
 
 #[test]
@@ -70,8 +71,9 @@ fn the_killed_die_in_their_next_calls(rt: HostRuntime) -> Result<(), Fail> {
     assert!(rt; cells_of(&rt, rt.alloc(), layout, &BEFORE_IT_PAYS)? == Some([2, 0]));
     let layout = Layout::with_processes(&[0, 1, 0, 1, 0], &[0, 1000], 2, &[])?;
     assert!(rt; cells_of(&rt, rt.alloc(), layout, &PROCESS_1)? == Some([0x4000_0001, 3]));
-    let layout = Layout::new(64, 1, &[])?;
-    assert!(rt; cells_of(&rt, rt.alloc(), layout, &ANOTHER_THREAD)? == Some([60, 0]));
+    let last = Tid::new(250).ok_or("no thread 250")?;
+    let layout = Layout::up_to(last, 1, &[])?;
+    assert!(rt; cells_of(&rt, rt.alloc(), layout, &ANOTHER_THREAD)? == Some([246, 0]));
     Ok(())
 }
 

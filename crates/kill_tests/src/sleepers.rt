@@ -3,6 +3,7 @@ ghost use Rattle.ruledwords.specs.Passes.{IsLive};
 
 use condvar::Op::OnMutex;
 use lockword::Reply::{self, EOWNERDEAD, OK};
+use lockword::Tid;
 use memorymap::{Layout, bucket_of, key_of};
 use mutex::Call::{Consistent, Lock, TryLock, Unlock};
 use ruledwords::{Live, Never, Pass};
@@ -251,10 +252,11 @@ fn in_a_high_bucket(layout: &Layout) -> u16 {
     found
 }
 
-/// The last of 64 threads sleeps in one of the last buckets, and is killed.
+/// The last of 250 threads sleeps in one of the last buckets, and is killed.
 #[test]
-fn the_last_of_64_threads_is_killed_in_a_high_bucket(rt: HostRuntime) -> Result<(), Fail> {
-    let layout = Layout::new(64, 300, &[])?;
+fn the_last_of_250_threads_is_killed_in_a_high_bucket(rt: HostRuntime) -> Result<(), Fail> {
+    let last = Tid::new(250).ok_or("no thread 250")?;
+    let layout = Layout::up_to(last, 300, &[])?;
     let mutex = in_a_high_bucket(&layout);
     let found = played(&rt, rt.alloc(), layout, mutex, Act::Kills)?;
     assert!(rt; mutex > 0 && found == sleeper_died(0));

@@ -25,4 +25,4 @@ mod tid;
 
 pub use cell::{Cell, OWNER_DIED, UNUSABLE, WAITERS};
 pub use reply::{ParseReplyError, Reply, replies_are_read_back};
-pub use tid::{MOST_THREADS, Tid};
+pub use tid::{MOST_THREADS, NAMED_THREADS, Tid};

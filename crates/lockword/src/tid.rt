@@ -6,7 +6,10 @@ ghost use Rattle.lockword.specs.Threads.{most_threads};
 use std::marker::Model;
 
 /// How many threads there are at a time, at most. Their ids are 1 to this.
-pub const MOST_THREADS: u8 = 64;
+pub const MOST_THREADS: u8 = 250;
+
+/// How many threads a script, a trace or a history has at most.
+pub const NAMED_THREADS: u8 = 64;
 
 /// A thread's id, from 1 to [`MOST_THREADS`]. It may be used again, once its thread was reaped.
 #[derive(Clone, Copy, Debug, PartialEq, Eq)]

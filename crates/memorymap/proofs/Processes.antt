@@ -6,7 +6,7 @@ use Rattle.std.proofs.lemmas.Bool.Decides.{nat_tests}
 use Rattle.std.proofs.lemmas.Grind.{common_steps}
 use Rattle.std.proofs.lemmas.List.{length-replicate}
 use Rattle.memorymap.specs.Addresses.{address_from, seen_at, WritesAreSeen}
-use Rattle.memorymap.specs.Layouts.{HasThreads, HasMutexes, HasConditions, HasBases, AreOf, IsLayout, one_process}
+use Rattle.memorymap.specs.Layouts.{HasThreads, HasThreadsTo, HasMutexes, HasConditions, HasBases, AreOf, IsLayout, one_process}
 use Rattle.memorymap.specs.Refusals.{Lays, LaysOver}
 use Rattle.memorymap.specs.declared.layout.Layout.{Layout}
 use Rattle.memorymap.specs.declared.layout.LayoutFault.{LayoutFault}
@@ -51,18 +51,18 @@ one_layout t m cs threads mutexes conditions = record {
 }
 
 -- and there it is no fault
-pub lays_one : (t m : ℕ) (cs ps bs : List ℕ) (r : Result Layout LayoutFault) → ps ≡ replicate t 0 → bs ≡ 0 ∷ [] → LaysOver ps bs m cs r → Lays t m cs r
-lays_one t m cs ps bs r is base h = go r (subst (λ (xs : List ℕ). LaysOver xs (0 ∷ []) m cs r) is (subst (λ (xs : List ℕ). LaysOver ps xs m cs r) base h))
+pub lays_one : (most t m : ℕ) (cs ps bs : List ℕ) (r : Result Layout LayoutFault) → ps ≡ replicate t 0 → bs ≡ 0 ∷ [] → LaysOver most ps bs m cs r → Lays most t m cs r
+lays_one most t m cs ps bs r is base h = go r (subst (λ (xs : List ℕ). LaysOver most xs (0 ∷ []) m cs r) is (subst (λ (xs : List ℕ). LaysOver most ps xs m cs r) base h))
   where
     long : length {A = ℕ} (replicate t 0) ≡ t
     long = length-replicate t 0
 
-    few : HasThreads (length {A = ℕ} (replicate t 0)) → HasThreads t
-    few = subst HasThreads long
+    few : HasThreadsTo most (length {A = ℕ} (replicate t 0)) → HasThreadsTo most t
+    few = subst (HasThreadsTo most) long
 
-    go : (r : Result Layout LayoutFault) → LaysOver (replicate t 0) (0 ∷ []) m cs r → Lays t m cs r
+    go : (r : Result Layout LayoutFault) → LaysOver most (replicate t 0) (0 ∷ []) m cs r → Lays most t m cs r
     go (Ok l) h = (few h.0.0, h.0.1, h.0.2, h.4 ∙ ap (λ (n : ℕ). record { threads = n; mutexes = m; conditions = cs; processes = replicate t 0; bases = 0 ∷ [] }) long)
-    go (Err Threads) h = λ has. h (subst HasThreads (sym long) has)
+    go (Err Threads) h = λ has. h (subst (HasThreadsTo most) (sym long) has)
     go (Err Mutexes) h = (few h.0, h.1)
     go (Err Conditions) h = (few h.0, h.1, h.2)
     go (Err Processes) h = absurd (h.1 (omega arith, omega arith))

@@ -1,6 +1,6 @@
 -- The places of the shared words, and the keys that sleepers meet by.
 --
--- *Layout.* 1 to 64 threads, 1 to 4,096 mutexes and at most 256 condition variables, each of one of the mutexes; 1 to 8
+-- *Layout.* 1 to 250 threads, 1 to 4,096 mutexes and at most 256 condition variables, each of one of the mutexes; 1 to 8
 -- processes, each with a base of at most 1,000,000,000, and for each thread its process. `one_process` is a layout
 -- whose threads are all of one process with base 0. Word 0 is null; then come the heads of the threads (first entry,
 -- offset, pending entry: `struct robust_list_head`), the mutexes (the cell, then the two links of its list entry) and
@@ -21,10 +21,13 @@ pub record Layout' : Type 0 where
   pub processes : List ℕ
   pub bases : List ℕ
 
--- what a layout may be: 1 to 64 threads, 1 to 4,096 mutexes, at most 256 condition variables, each of one of the
+-- what a layout may be: 1 to 250 threads, 1 to 4,096 mutexes, at most 256 condition variables, each of one of the
 -- mutexes
+abbrev pub HasThreadsTo : ℕ → ℕ → Type 0
+HasThreadsTo most threads = (1 ≤ threads) × (threads ≤ most)
+
 abbrev pub HasThreads : ℕ → Type 0
-HasThreads threads = (1 ≤ threads) × (threads ≤ most_threads)
+HasThreads threads = HasThreadsTo most_threads threads
 
 abbrev pub HasMutexes : ℕ → Type 0
 HasMutexes mutexes = (1 ≤ mutexes) × (mutexes ≤ 4096)

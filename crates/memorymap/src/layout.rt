@@ -1,14 +1,14 @@
 //! The places of the shared words.
 ghost use Rattle.std.specs.Prelude.{◌≡◌, ◌≢◌, ◌<◌, ◌≤◌, ◌-◌, ◌*◌, ◌^◌, ℕ, IsTrue, Some};
 ghost use Rattle.std.specs.Prelude.{None, length, slice_index, MatchOption, if◌then◌else◌};
-ghost use Rattle.lockword.specs.Threads.{most_threads};
+ghost use Rattle.lockword.specs.Threads.{most_threads, named_threads};
 ghost use Rattle.memorymap.specs.Layouts.{Layout', head_place, cell_place, entry_place};
 ghost use Rattle.memorymap.specs.Layouts.{counter_place, words_of, base_of, address_in, place_in};
 ghost use Rattle.memorymap.specs.Layouts.{is_place, thread_of, first_word, IsLayout, PlacesDiffer};
 ghost use Rattle.memorymap.specs.Refusals.{Lays, LaysOver};
 
 use crate::address::{address_from, seen_at};
-use lockword::{MOST_THREADS, Tid};
+use lockword::{MOST_THREADS, NAMED_THREADS, Tid};
 use std::marker::Model;
 use thiserror::Error;
 
@@ -18,8 +18,11 @@ pub const CONDITION_LIMIT: usize = 256;
 /// The size of a thread's head in bytes, which the kernel asks for where one is set (set_robust_list(2)).
 pub const HEAD_SIZE: u64 = 24;
 
-/// How many threads a layout has at most.
+/// How many threads a layout has room for.
 const THREAD_LIMIT: usize = MOST_THREADS as usize;
+
+/// How many threads a layout has at most that is asked for by numbers.
+const NAMED_LIMIT: usize = NAMED_THREADS as usize;
 
 /// How many processes a layout has at most.
 pub const PROCESS_LIMIT: usize = 8;
@@ -92,13 +95,22 @@ impl Layout {
     /// its mutex. All threads are of one process, which maps the words at 0: every address is a place. Refused
     /// otherwise, with the first fault in the order of `LayoutFault`.
     pub fn new(threads: u8, mutexes: u16, conditions: &[u16]) -> Result<Layout, LayoutFault>
-        ensures { Lays threads mutexes conditions.now result }
+        ensures { Lays named_threads threads mutexes conditions.now result }
     {
-        if threads < 1 || MOST_THREADS < threads {
+        if threads < 1 || NAMED_THREADS < threads {
             return Err(LayoutFault::Threads);
         }
-        let processes = [0; THREAD_LIMIT];
+        let processes = [0; NAMED_LIMIT];
         Layout::with_processes(&processes[..threads as usize], &[0], mutexes, conditions)
+    }
+
+    /// As `new`, of the threads from 1 to this one, of which there may be 250: more than scripts and traces have.
+    pub fn up_to(last: Tid, mutexes: u16, conditions: &[u16]) -> Result<Layout, LayoutFault>
+        ensures { Lays most_threads last mutexes conditions.now result }
+    {
+        let threads = usize::from(last.get());
+        let processes = [0; THREAD_LIMIT];
+        Layout::over(&processes[..threads], &[0], mutexes, conditions)
     }
 
     /// A layout of 1 to 64 threads, each given by the number of its process, from 0; of 1 to 8 processes, each given by
@@ -111,7 +123,22 @@ impl Layout {
         mutexes: u16,
         conditions: &[u16],
     ) -> Result<Layout, LayoutFault>
-        ensures { LaysOver threads.now bases.now mutexes conditions.now result }
+        ensures { LaysOver named_threads threads.now bases.now mutexes conditions.now result }
+    {
+        if NAMED_LIMIT < threads.len() {
+            return Err(LayoutFault::Threads);
+        }
+        Layout::over(threads, bases, mutexes, conditions)
+    }
+
+    /// The same of as many threads as there is room for.
+    fn over(
+        threads: &[u8],
+        bases: &[u64],
+        mutexes: u16,
+        conditions: &[u16],
+    ) -> Result<Layout, LayoutFault>
+        ensures { LaysOver most_threads threads.now bases.now mutexes conditions.now result }
     {
         if threads.is_empty() || THREAD_LIMIT < threads.len() {
             return Err(LayoutFault::Threads);
@@ -167,7 +194,7 @@ impl Layout {
         }
     }
 
-    /// How many threads there are: 1 to 64.
+    /// How many threads there are: 1 to 250.
     pub fn threads(&self) -> u8
         ensures value { result ≡ self.now.threads }
         ensures first { 1 ≤ result }

@@ -8,7 +8,7 @@ use Rattle.mutex.specs.WholeLists.{head_in, entry_in}
 
 module _ (l : Layout') (t : ℕ) (is : IsLayout l) (pos : 1 ≤ t) (known : t ≤ l.threads) where
   -- the words are few, and mapped low: so no address wraps
-  pub few_words : words_of l ≤ 12737
+  pub few_words : words_of l ≤ 0xffff
   few_words = let threads = is.threads.1 in let mutexes = is.mutexes.1 in let conditions = is.conditions.0 in omega arith
 
   pub low : base_of l t ≤ 1000000000

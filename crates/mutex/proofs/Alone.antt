@@ -26,6 +26,7 @@ use Rattle.mutex.specs.Consistent.{consistent_sees}
 use Rattle.mutex.specs.Programs.{row_access, resume_of}
 use Rattle.mutex.specs.Laws.{Expects}
 use Rattle.mutex.specs.Alone.{answers_for, left, Steady, Alone}
+use Rattle.lockword.specs.Threads.{most_threads}
 
 -- a word is that of the cell that it says
 same_word : (w : ℕ) → (w == word_of (fields_of w)) ≡ true
@@ -124,7 +125,7 @@ release_keeps t w true mine dead = ap (λ (c : Fields). c.waiters) (xor_spoiled 
 release_keeps t w false mine alive = ap (λ (c : Fields). c.waiters) (xor_released w t mine)
 
 -- ---- exchanges, whether they meet the cell that they saw or another
-take_lock : (t cell w : ℕ) (q : List ℕ) (v : Fields) → 1 ≤ t → t ≤ 64 → Knows (Lock (lock.Take v)) → (b : Bool) → (w == word_of v) ≡ b
+take_lock : (t cell w : ℕ) (q : List ℕ) (v : Fields) → 1 ≤ t → t ≤ most_threads → Knows (Lock (lock.Take v)) → (b : Bool) → (w == word_of v) ≡ b
     → Alone t (Lock (lock.Take v)) (row_access t cell (Lock (lock.Take v))) (resume_of t (Lock (lock.Take v)) (if b then Exchanged else Changed w)) w q (if b then word_of (taken v t) else w)
 take_lock t cell w q v pos last known false miss = let s = lock_looked t w pos in let three = misses (w == word_of v) 1 3 miss in record {
   waiters = λ on. inl on;
@@ -167,7 +168,7 @@ mark_lock t cell w q v pos known true hit =
       steady = λ e f. (refl, f.1);
     }
 
-take_try : (t cell w : ℕ) (q : List ℕ) (v : Fields) (k : ℕ) → 1 ≤ t → t ≤ 64 → Knows (TryLock (try.Take v k)) → (b : Bool) → (w == word_of v) ≡ b
+take_try : (t cell w : ℕ) (q : List ℕ) (v : Fields) (k : ℕ) → 1 ≤ t → t ≤ most_threads → Knows (TryLock (try.Take v k)) → (b : Bool) → (w == word_of v) ≡ b
     → Alone t (TryLock (try.Take v k)) (row_access t cell (TryLock (try.Take v k))) (resume_of t (TryLock (try.Take v k)) (if b then Exchanged else Changed w)) w q (if b then word_of (taken v t) else w)
 take_try t cell w q v k pos last known false miss = let few = known.2 in record {
   waiters = λ on. inl on;
@@ -230,7 +231,7 @@ trim t cell w q true is none = record {
 trim t cell w q false is none = record { waiters = λ on. inl on; sleeps = λ e. absurd cc; fewer = λ e. omega arith; answers = λ e free on. inr (refl, refl); steady = λ e f. λ i. cc }
 
 -- each row in turn
-pub alone : (t cell w : ℕ) (q : List ℕ) (r : Row) → 1 ≤ t → t ≤ 64 → IsGoing r → Knows r → Expects t r (object_of (fields_of w))
+pub alone : (t cell w : ℕ) (q : List ℕ) (r : Row) → 1 ≤ t → t ≤ most_threads → IsGoing r → Knows r → Expects t r (object_of (fields_of w))
     → Alone t r (row_access t cell r) (resume_of t r (answer_among (row_access t cell r) w q)) w q (word_among (row_access t cell r) w q)
 alone t cell w q (Lock lock.Load) pos last going known expected = let s = lock_looked t w pos in record {
   waiters = λ on. inl on;
@@ -270,7 +271,7 @@ alone t cell w q (Unlock (unlock.Release d)) pos last going known expected =
       steady = λ e f. s.steady;
     }
 alone t cell w q (Unlock (unlock.Wake a)) pos last going known expected =
-    let b : Bool = not a && (length (take (if a then 64 else 1) q) == 0) in
+    let b : Bool = not a && (length (take (if a then most_threads else 1) q) == 0) in
     record { waiters = λ on. inl on; sleeps = λ e. absurd cc; fewer = λ e. wake_fewer b w; answers = λ e free on. absurd cc; steady = λ e f. wake_steady t w b }
 alone t cell w q (Unlock unlock.Trim) pos last going known expected = trim t cell w q (is_trimmed w q) (trims_free w q) (trims_unslept w q)
 alone t cell w q (Consistent consistent.Load) pos last going known expected = let s = consistent_looked t w in record {

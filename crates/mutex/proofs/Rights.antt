@@ -29,6 +29,7 @@ use Rattle.mutex.specs.Unlock.{released_bits, after_release, unlock_sees}
 use Rattle.mutex.specs.Consistent.{all_but_owner_died, consistent_sees}
 use Rattle.mutex.specs.Programs.{row_operation, point_of, resume_of}
 use Rattle.mutex.specs.Laws.{Expects, Sound, points, decided, Joins, IsOf, Right, ProgramsAreRight}
+use Rattle.lockword.specs.Threads.{most_threads}
 
 -- what a call does with a cell that it only looks at
 pub record Looks (t cell : ℕ) (op : Operation) (l : Led) (c : Fields) : Type 0 where
@@ -150,7 +151,7 @@ after_take : (t : ℕ) (c : Fields) → c.unusable ≡ false → Sound (object_o
 after_take t c usable = λ u. absurd (cc (usable, u))
 
 -- trylock's exchange is right, whether it met the cell that it saw or another
-try_take : (t cell w : ℕ) (v : Fields) (k : ℕ) → 1 ≤ t → t ≤ 64 → Knows (TryLock (try.Take v k)) → Sound (object_of (fields_of w)) → (b : Bool) → (w == word_of v) ≡ b
+try_take : (t cell w : ℕ) (v : Fields) (k : ℕ) → 1 ≤ t → t ≤ most_threads → Knows (TryLock (try.Take v k)) → Sound (object_of (fields_of w)) → (b : Bool) → (w == word_of v) ≡ b
     → Right t cell (TryLock (try.Take v k)) (resume_of t (TryLock (try.Take v k)) (if b then Exchanged else Changed w)) w (if b then word_of (taken v t) else w)
 try_take t cell w v k pos last known sound false miss =
     let few = known.2 in
@@ -176,7 +177,7 @@ small_owner : (w : ℕ) → (fields_of w).owner < 0x4000_0000
 small_owner w = omega arith
 
 -- lock's exchange is right, whether it met the cell that it saw or another
-lock_take : (t cell w : ℕ) (v : Fields) → 1 ≤ t → t ≤ 64 → Knows (Lock (lock.Take v)) → Sound (object_of (fields_of w)) → (b : Bool) → (w == word_of v) ≡ b
+lock_take : (t cell w : ℕ) (v : Fields) → 1 ≤ t → t ≤ most_threads → Knows (Lock (lock.Take v)) → Sound (object_of (fields_of w)) → (b : Bool) → (w == word_of v) ≡ b
     → Right t cell (Lock (lock.Take v)) (resume_of t (Lock (lock.Take v)) (if b then Exchanged else Changed w)) w (if b then word_of (taken v t) else w)
 lock_take t cell w v pos last known sound false miss = looked t cell w (Lock (lock.Take v)) _ refl sound (lock_looks t cell (fields_of w) pos (small_owner w))
 lock_take t cell w v pos last known sound true hit =
@@ -292,7 +293,7 @@ right t cell w q (Unlock (unlock.Release d)) pos last going known sound expected
       tells = release_tells t w d;
       stays = release_stays d (fields_of w).waiters;
     }
-right t cell w q (Unlock (unlock.Wake all)) pos last going known sound expected = wake_leads t cell w all (not all && (length (take (if all then 64 else 1) q) == 0)) sound
+right t cell w q (Unlock (unlock.Wake all)) pos last going known sound expected = wake_leads t cell w all (not all && (length (take (if all then most_threads else 1) q) == 0)) sound
 right t cell w q (Unlock unlock.Trim) pos last going known sound expected =
     let leaves = trim_leaves w (is_trimmed w q) (trims_free w q) in
     record { runs = leaves; knows = tt; expects = tt; sound = subst Sound (sym leaves) sound; tells = (refl, refl); stays = tt }

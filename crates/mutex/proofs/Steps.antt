@@ -35,6 +35,7 @@ use Rattle.mutex.specs.Progresses.{progress_at}
 use Rattle.mutex.specs.Laws.{Expects, Sound, Right, decided, IsOf}
 use Rattle.mutex.specs.Steps.{IsStep, Minds, Tells, rank}
 use Rattle.mutex.proofs.Rights.{right}
+use Rattle.lockword.specs.Threads.{most_threads}
 
 -- a call's accesses are at its cell
 pub at_cell : (t cell : ℕ) (r : Row) → address_of (row_access t cell r) ≡ cell
@@ -81,7 +82,7 @@ acquired_tells c d = go c.died
     go true = tt
     go false = tt
 
-take_minds : (t cell w : ℕ) (v : Fields) (k : ℕ) → t ≤ 64 → Knows (TryLock (try.Take v k)) → (b : Bool) → (w == word_of v) ≡ b
+take_minds : (t cell w : ℕ) (v : Fields) (k : ℕ) → t ≤ most_threads → Knows (TryLock (try.Take v k)) → (b : Bool) → (w == word_of v) ≡ b
     → Minds (TryLock (try.Take v k)) (resume_of t (TryLock (try.Take v k)) (if b then Exchanged else Changed w)) w (if b then word_of (taken v t) else w)
 take_minds t cell w v k last known false miss = let few = known.2 in record {
   tells = try_tells (k + 1) (fields_of w);
@@ -148,7 +149,7 @@ sight_tells t c = go c.unusable (c.owner == t) (c.owner == 0) c.waiters
     go false false false false = tt
 
 -- a lock takes the cell that it saw, or sets WAITERS in it
-take_lock : (t cell w : ℕ) (v : Fields) → t ≤ 64 → Knows (Lock (lock.Take v)) → (b : Bool) → (w == word_of v) ≡ b
+take_lock : (t cell w : ℕ) (v : Fields) → t ≤ most_threads → Knows (Lock (lock.Take v)) → (b : Bool) → (w == word_of v) ≡ b
     → Minds (Lock (lock.Take v)) (resume_of t (Lock (lock.Take v)) (if b then Exchanged else Changed w)) w (if b then word_of (taken v t) else w)
 take_lock t cell w v last known false miss = record { tells = sight_tells t (fields_of w); waiters = λ on. on; rest = λ none. none; falls = λ other. absurd (other refl) }
 take_lock t cell w v last known true hit =
@@ -192,7 +193,7 @@ consistent_tells t c = go (c.owner == t) c.died
     go true false = tt
 
 -- each row in turn
-pub minds : (t cell w : ℕ) (r : Row) → t ≤ 64 → IsGoing r → IsStep (row_access t cell r) → Knows r → Expects t r (object_of (fields_of w))
+pub minds : (t cell w : ℕ) (r : Row) → t ≤ most_threads → IsGoing r → IsStep (row_access t cell r) → Knows r → Expects t r (object_of (fields_of w))
     → Minds r (resume_of t r (answer_at (row_access t cell r) w)) w (changed (row_access t cell r) w)
 minds t cell w (Lock lock.Load) last going step known expected = record { tells = sight_tells t (fields_of w); waiters = λ on. on; rest = λ none. none; falls = λ other. absurd (other refl) }
 minds t cell w (Lock (lock.Take v)) last going step known expected = take_lock t cell w v last known (w == word_of v) refl
@@ -240,7 +241,7 @@ step_word (access.FetchAnd at v) w queue step = refl
 step_word a w queue step = absurd step
 
 -- so the law of programs holds of it with no word of sleepers
-pub right_step : (t cell w : ℕ) (r : Row) → 1 ≤ t → t ≤ 64 → IsGoing r → IsStep (row_access t cell r) → Knows r → Sound (object_of (fields_of w)) → Expects t r (object_of (fields_of w))
+pub right_step : (t cell w : ℕ) (r : Row) → 1 ≤ t → t ≤ most_threads → IsGoing r → IsStep (row_access t cell r) → Knows r → Sound (object_of (fields_of w)) → Expects t r (object_of (fields_of w))
     → Right t cell r (resume_of t r (answer_at (row_access t cell r) w)) w (changed (row_access t cell r) w)
 right_step t cell w r pos last going step known sound expected =
     subst (λ (z : Answer × ℕ). Right t cell r (resume_of t r z.0) w z.1) (λ i. (step_answer (row_access t cell r) w [] step i, step_word (row_access t cell r) w [] step i)) (right t cell w [] r pos last going known sound expected)
@@ -308,19 +309,19 @@ unlock_steps t cell (Lock r) c going of tells other = absurd (cc of)
 unlock_steps t cell (TryLock r) c going of tells other = absurd (cc of)
 unlock_steps t cell (Unlock unlock.Load) c going of tells other = tt
 unlock_steps t cell (Unlock (unlock.Release d)) c going of tells other = tt
-unlock_steps t cell (Unlock (unlock.Wake a)) c going of tells other = absurd (other cell (if a then 64 else 1) refl)
+unlock_steps t cell (Unlock (unlock.Wake a)) c going of tells other = absurd (other cell (if a then most_threads else 1) refl)
 unlock_steps t cell (Unlock unlock.Trim) c going of tells other = absurd tells
 unlock_steps t cell (Consistent r) c going of tells other = absurd (cc of)
 unlock_steps t cell (Ended x) c going of tells other = absurd going
 
 -- who wakes has made its release, which found what its row tells
-pub wakes : (t cell at n : ℕ) (r : Row) (c : Fields) → IsGoing r → IsOf operation.Unlock r → row_access t cell r ≡ access.Wake at n → Tells operation.Unlock r c → (decided r ≡ Some OK) × (c.waiters ≡ true) × (n ≡ (if c.died then 64 else 1))
+pub wakes : (t cell at n : ℕ) (r : Row) (c : Fields) → IsGoing r → IsOf operation.Unlock r → row_access t cell r ≡ access.Wake at n → Tells operation.Unlock r c → (decided r ≡ Some OK) × (c.waiters ≡ true) × (n ≡ (if c.died then most_threads else 1))
 wakes t cell at n (Lock r) c going of is tells = absurd (cc of)
 wakes t cell at n (TryLock r) c going of is tells = absurd (cc of)
 wakes t cell at n (Unlock unlock.Load) c going of is tells = absurd (cc is)
 wakes t cell at n (Unlock (unlock.Release d)) c going of is tells = absurd (cc is)
 wakes t cell at n (Unlock unlock.Trim) c going of is tells = absurd tells
-wakes t cell at n (Unlock (unlock.Wake a)) c going of is tells = let e : (if a then 64 else 1) ≡ n = cc is in (refl, tells.0, sym e ∙ ap (λ (b : Bool). if b then 64 else 1) (sym tells.1))
+wakes t cell at n (Unlock (unlock.Wake a)) c going of is tells = let e : (if a then most_threads else 1) ≡ n = cc is in (refl, tells.0, sym e ∙ ap (λ (b : Bool). if b then most_threads else 1) (sym tells.1))
 wakes t cell at n (Consistent r) c going of is tells = absurd (cc of)
 wakes t cell at n (Ended x) c going of is tells = absurd going
 

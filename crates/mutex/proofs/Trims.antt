@@ -22,6 +22,7 @@ use Rattle.mutex.specs.Whole.{whole_access, whole_moved, phase_led}
 use Rattle.mutex.specs.WholeLaws.{WholeUnlocksTrim}
 use Rattle.mutex.proofs.Steps.{minds}
 use Rattle.mutex.proofs.Wholes.{goes_on}
+use Rattle.lockword.specs.Threads.{most_threads}
 
 pub kept : WaitersAreKept
 kept t cell w q (Lock lock.Load) last going known expected other on = on
@@ -72,7 +73,7 @@ release_leads d false is = cc
 
 -- a wake does, of one thread that woke nobody
 wake_leads : (t cell k : ℕ) (all : Bool) → (if not all && (k == 0) then Unlock unlock.Trim else Ended OK) ≡ Unlock unlock.Trim
-    → (access.Wake cell (if all then 64 else 1) ≡ access.Wake cell 1) × (Count k ≡ Count 0)
+    → (access.Wake cell (if all then most_threads else 1) ≡ access.Wake cell 1) × (Count k ≡ Count 0)
 wake_leads t cell k true is = let e : Ended OK ≡ Unlock unlock.Trim = is in absurd cc
 wake_leads t cell k false is = go (k == 0) refl is
   where

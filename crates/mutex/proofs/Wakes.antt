@@ -24,6 +24,7 @@ use Rattle.mutex.specs.Programs.{row_access, resume_of}
 use Rattle.mutex.specs.Laws.{Sound}
 use Rattle.mutex.specs.Wakes.{to_wake, Wakes, WakesAreRight}
 use Rattle.mutex.proofs.Rights.{right}
+use Rattle.lockword.specs.Threads.{most_threads}
 
 -- the next access of a call that was led so is a wake exactly where it is to be one
 abbrev Next : ℕ → ℕ → Operation → Led → Bool → Object → ℕ → ℕ → Type 0
@@ -82,8 +83,8 @@ module _ (t cell at n : ℕ) where
       go : (u : Bool) → c.unusable ≡ u → (w x f : Bool)
           → Next t cell operation.Lock (if u then decides (if w then Lock lock.WakeAll else Ended ENOTRECOVERABLE) ENOTRECOVERABLE else if x then ends EDEADLK else if f then goes (Lock (lock.Take c)) else if w then goes (Lock (lock.Sleep c)) else goes (Lock (lock.SetWaiters c))) w (object_of c) at n
       go true lost true x f =
-          let all : to_wake (object_of c) ≡ 64 = ap (λ (y : Bool). if y then 64 else 1) lost in
-          wakes cell at n 64 _ (λ e. e ∙ sym all) (λ e. e ∙ all)
+          let all : to_wake (object_of c) ≡ most_threads = ap (λ (y : Bool). if y then most_threads else 1) lost in
+          wakes cell at n most_threads _ (λ e. e ∙ sym all) (λ e. e ∙ all)
       go true lost false x f = (λ is. absurd (cc is), λ h. absurd h.1)
       go false usable w true f = (λ is. absurd (cc is), λ h. absurd h.1)
       go false usable w false true = (λ is. absurd (cc is), λ h. absurd h.1)
@@ -109,8 +110,8 @@ module _ (t cell at n : ℕ) where
 
   -- a release: one where it leaves the mutex usable, and else everybody
   releases : (d : Bool) (o : Object) → o.unusable ≡ d → (b : Bool) → Next t cell operation.Unlock (decides (if b then Unlock (unlock.Wake d) else Ended OK) OK) b o at n
-  releases true o lost true = let all : to_wake o ≡ 64 = ap (λ (y : Bool). if y then 64 else 1) lost in wakes cell at n 64 _ (λ e. e ∙ sym all) (λ e. e ∙ all)
-  releases false o usable true = let one : to_wake o ≡ 1 = ap (λ (y : Bool). if y then 64 else 1) usable in wakes cell at n 1 _ (λ e. e ∙ sym one) (λ e. e ∙ one)
+  releases true o lost true = let all : to_wake o ≡ most_threads = ap (λ (y : Bool). if y then most_threads else 1) lost in wakes cell at n most_threads _ (λ e. e ∙ sym all) (λ e. e ∙ all)
+  releases false o usable true = let one : to_wake o ≡ 1 = ap (λ (y : Bool). if y then most_threads else 1) usable in wakes cell at n 1 _ (λ e. e ∙ sym one) (λ e. e ∙ one)
   releases d o is false = (λ is. absurd (cc is), λ h. absurd h.1)
 
 -- whoever owns a mutex finds it usable
@@ -141,7 +142,7 @@ woken_right t cell w at n q (Unlock unlock.Load) pos last going known sound expe
 woken_right t cell w at n q (Unlock (unlock.Release d)) pos last going known sound expected =
     let step = (right t cell w q (Unlock (unlock.Release d)) pos last tt tt sound expected).runs in
     releases t cell at n d _ (ap (λ (x : Object). x.unusable) step.2 ∙ left (object_of (fields_of w)) step.0 d (usable t (object_of (fields_of w)) sound expected.0) expected.1 step.1.1) (fields_of w).waiters
-woken_right t cell w at n q (Unlock (unlock.Wake all)) pos last going known sound expected = woken t cell at n (object_of (fields_of w)) (fields_of w).waiters (not all && (length (take (if all then 64 else 1) q) == 0))
+woken_right t cell w at n q (Unlock (unlock.Wake all)) pos last going known sound expected = woken t cell at n (object_of (fields_of w)) (fields_of w).waiters (not all && (length (take (if all then most_threads else 1) q) == 0))
 woken_right t cell w at n q (Unlock unlock.Trim) pos last going known sound expected = (λ is. absurd (cc is), λ h. absurd h.1)
 woken_right t cell w at n q (Consistent consistent.Load) pos last going known sound expected = declaration_looks t cell at n (object_of (fields_of w)) (fields_of w).waiters (fields_of w)
 woken_right t cell w at n q (Consistent consistent.Declare) pos last going known sound expected = (λ is. absurd (cc is), λ h. absurd h.1)

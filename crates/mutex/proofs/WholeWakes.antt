@@ -25,6 +25,7 @@ use Rattle.mutex.specs.Wakes.{Wakes}
 use Rattle.mutex.specs.Whole.{begins, first_phase, phase_access, phase_led, after_cell, whole_access, whole_led, whole_moved}
 use Rattle.mutex.specs.WholeLaws.{IsAt, IsWhole, IsAtCell, WholeCallsWake, whole_reached}
 use Rattle.mutex.proofs.Wakes.{woken_right}
+use Rattle.lockword.specs.Threads.{most_threads}
 
 -- a call announces before it looks at the cell, and before it releases the mutex
 abbrev pub Announces : Row → Type 0
@@ -73,7 +74,7 @@ module _ (p : Whole) (w at n : ℕ) (queue : List ℕ) where
       (there p (phase_led p f (answer_among (phase_access p f) w queue)).phase ≡ access.Wake at n)
       ↔ ((at ≡ p.cell) × Wakes p.operation (phase_led p f (answer_among (phase_access p f) w queue)).point (fields_of w).waiters (object_of (fields_of (word_among (phase_access p f) w queue))) n)
 
-  pub at_row : (r : Row) → IsWhole p → p.thread ≤ 64 → p.phase ≡ AtCell r → IsGoing r → Sound (object_of (fields_of w)) → Expects p.thread r (object_of (fields_of w)) → Wakes_so p.phase
+  pub at_row : (r : Row) → IsWhole p → p.thread ≤ most_threads → p.phase ≡ AtCell r → IsGoing r → Sound (object_of (fields_of w)) → Expects p.thread r (object_of (fields_of w)) → Wakes_so p.phase
   at_row r whole few is going sound expected =
       let knows : Knows r × (row_operation r ≡ p.operation) = subst (IsAt p) is whole.1 in
       let so = woken_right p.thread p.cell w at n queue r whole.0 few going knows.0 sound expected in

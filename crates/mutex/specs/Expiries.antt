@@ -1,5 +1,5 @@
 -- What holds of a lock whose time limit comes while it sleeps (pthread_mutex_timedlock(3p)).
-use Rattle.std.specs.Prelude.{ℕ, ◌≡◌, ◌≢◌, ◌<◌, Bool, true, List, []}
+use Rattle.std.specs.Prelude.{ℕ, ◌≡◌, Bool, true, List, []}
 use Rattle.lockword.specs.declared.reply.Reply.TheVariants.{ETIMEDOUT}
 use Rattle.stepprograms.specs.declared.access.Access.TheVariants as access
 use Rattle.stepprograms.specs.declared.access.Answer.{Answer}
@@ -7,7 +7,6 @@ use Rattle.stepprograms.specs.declared.access.Answer.TheVariants.{Stored}
 use Rattle.memorymap.specs.Layouts.{Layout'}
 use Rattle.posixmutex.specs.declared.point.Operation.TheVariants as operation
 use Rattle.mutex.specs.declared.call.Call.{Call}
-use Rattle.mutex.specs.declared.row.Row.TheVariants as row
 use Rattle.mutex.specs.declared.phase.Phase.TheVariants.{Ended}
 use Rattle.mutex.specs.Standings.{Whole}
 use Rattle.mutex.specs.Whole.{begins, may_expire, onward, pending_place, timed_out, whole_access, whole_led}

@@ -11,9 +11,9 @@
 
 enum pz_state { PZ_GOES, PZ_RETURNED, PZ_NO_SUCH };
 
-/* The ids of threads are 1 to this. The archive is proved for 64; c/steps/steps.c in its place may be built for up to 255. */
+/* The ids of threads are 1 to this. The archive is proved for so many; c/steps/steps.c in its place may be built for up to 255. */
 #ifndef PZ_MOST_THREADS
-#define PZ_MOST_THREADS 64
+#define PZ_MOST_THREADS 250
 #endif
 
 struct pz_phase {           /* where a call on a mutex stands */

@@ -1,6 +1,6 @@
 -- A call in progress as C keeps it.
 --
--- *A call in progress as C keeps it.* A call of a thread from 1 to 64 that hasn't returned, and knows what its phase
+-- *A call in progress as C keeps it.* A call of a thread from 1 to 250 that hasn't returned, and knows what its phase
 -- does. It goes on as its program does: `moved`, `access_of` and `progress_of` are `mutex`' and `condvar`'s own.
 use Rattle.std.specs.Prelude.{ℕ, ◌≡◌, ◌==◌, ◌≤◌, ◌&&◌, nat_le, Option, Some, None, option_map, if◌then◌else◌}
 use Rattle.lockword.specs.Threads.{most_threads}

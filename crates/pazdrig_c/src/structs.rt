@@ -22,7 +22,7 @@ pub struct PzCall {
     pub phase: CodedCondPhase,
     /// The operation on a mutex, 0 to 3, or 4 of a call on a condition variable.
     pub program: u8,
-    /// The thread's id, 1 to 64.
+    /// The thread's id, 1 to 250.
     pub thread: u8,
 }
 
@@ -34,7 +34,7 @@ pub struct PzWalk {
     pub head: u64,
     /// Where it stands.
     pub row: CodedRow,
-    /// The dead thread's id, 1 to 64.
+    /// The dead thread's id, 1 to 250.
     pub thread: u8,
 }
 

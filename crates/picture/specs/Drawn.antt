@@ -3,7 +3,7 @@
 -- *The picture in text.* A row for each line, in the order of the trace: the number of its event, the mutexes' owners,
 -- all lanes.
 use Rattle.std.specs.Prelude.{ℕ, min, List, [], ◌∷◌, ◌++◌}
-use Rattle.lockword.specs.Threads.{most_threads}
+use Rattle.lockword.specs.Threads.{named_threads}
 use Rattle.facts.specs.declared.fact.Line.{Line}
 use Rattle.picture.specs.declared.bands.Extent.{Extent}
 use Rattle.picture.specs.declared.scene.Scene.{Scene}
@@ -16,7 +16,7 @@ use Rattle.picture.specs.Scenes.{behind, first_scene}
 
 -- how many lanes there are: a trace has no more threads
 abbrev pub lanes_of : ℕ → ℕ
-lanes_of threads = min threads most_threads
+lanes_of threads = min threads named_threads
 
 -- what a picture has, in which there is room for so many bands
 abbrev pub extent_in : ℕ → Called → ℕ → ℕ → List Line → Extent

@@ -1,21 +1,21 @@
 //! Which mutexes have bands, and what else a picture has.
 
 ghost use Rattle.std.specs.Prelude.{◌≡◌, ◌≤◌, ◌<◌, IfSome};
-ghost use Rattle.lockword.specs.Threads.{most_threads};
+ghost use Rattle.lockword.specs.Threads.{named_threads};
 ghost use Rattle.picture.specs.Bands.{band_of, first_bands, has_long, least_letters};
 ghost use Rattle.picture.specs.Bands.{one_more, shown, with_decision, with_mutex};
 ghost use Rattle.picture.specs.Drawn.{extent_in};
 
 use crate::names::Names;
 use facts::Line;
-use lockword::MOST_THREADS;
+use lockword::{MOST_THREADS, NAMED_THREADS};
 use posixmutex::Decision;
 
 /// How many mutexes have a band at most.
 pub const BANDS: usize = 16;
 
 /// How many lanes there are at most.
-pub const LANES: u8 = MOST_THREADS;
+pub const LANES: u8 = NAMED_THREADS;
 
 /// How many places there are where things are kept by threads' ids: 0 is no thread's.
 pub const IDS: usize = MOST_THREADS as usize + 1;
@@ -157,7 +157,7 @@ impl Extent {
     pub fn of(room: usize, names: &Names, threads: u8, mutexes: u16, lines: &[Line]) -> Extent
         requires { room ≤ 16 }
         ensures value { result ≡ extent_in room names.now threads mutexes lines.now }
-        ensures few { result.threads ≤ most_threads }
+        ensures few { result.threads ≤ named_threads }
         ensures narrow { result.bands.count ≤ 16 }
     {
         let bands = Bands::of(room, mutexes, lines);

@@ -1,7 +1,7 @@
 //! A picture in text, row by row.
 
 ghost use Rattle.std.specs.Prelude.{◌≤◌};
-ghost use Rattle.lockword.specs.Threads.{most_threads};
+ghost use Rattle.lockword.specs.Threads.{named_threads};
 ghost use Rattle.streams.specs.Leaves.{Leaves};
 ghost use Rattle.picture.specs.Drawn.{drawn, rows_text};
 ghost use Rattle.picture.specs.Heads.{heads};
@@ -51,7 +51,7 @@ pub fn write_text<W: Write>(text: &str, out: &mut W) -> Result<(), Unwritten>
 }
 
 fn write_heads<W: Write>(row: &mut String, sheet: &Sheet<'_>, out: &mut W) -> Result<(), Unwritten>
-    requires few { sheet.now.extent.threads ≤ most_threads }
+    requires few { sheet.now.extent.threads ≤ named_threads }
     requires narrow { sheet.now.extent.bands.count ≤ 16 }
     ensures { Leaves (W.contents out.old) (W.contents out.new) result (heads sheet.now.names.now sheet.now.extent) }
 {
@@ -67,7 +67,7 @@ fn write_row<W: Write>(
     line: &Line,
     out: &mut W,
 ) -> Result<(), Unwritten>
-    requires few { sheet.now.extent.threads ≤ most_threads }
+    requires few { sheet.now.extent.threads ≤ named_threads }
     requires narrow { sheet.now.extent.bands.count ≤ 16 }
     ensures { Leaves (W.contents out.old) (W.contents out.new) result
         (row_text sheet.now.names.now sheet.now.extent scene.now line.now) }
@@ -83,7 +83,7 @@ fn write_rows<W: Write>(
     lines: &[Line],
     out: &mut W,
 ) -> Result<(), Unwritten>
-    requires few { sheet.now.extent.threads ≤ most_threads }
+    requires few { sheet.now.extent.threads ≤ named_threads }
     requires narrow { sheet.now.extent.bands.count ≤ 16 }
     ensures { Leaves (W.contents out.old) (W.contents out.new) result
         (rows_text sheet.now.names.now sheet.now.extent first_scene lines.now) }

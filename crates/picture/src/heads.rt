@@ -1,7 +1,7 @@
 //! The rows above all lanes.
 
 ghost use Rattle.std.specs.Prelude.{◌≡◌, ◌++◌, ◌≤◌, ◌<◌, string_bytes, IfOk};
-ghost use Rattle.lockword.specs.Threads.{most_threads};
+ghost use Rattle.lockword.specs.Threads.{named_threads};
 ghost use Rattle.picture.specs.Heads.{band_heads, heads, lane_heads, letter, letter_at};
 ghost use Rattle.picture.specs.Heads.{letters, letters_below, letters_down, name_width};
 ghost use Rattle.picture.specs.Heads.{narrow_heads, next_row, numbers_down, ten_sign, tens, units};
@@ -40,7 +40,7 @@ fn name_width(extent: &Extent, lane: u8) -> usize
 
 /// The names of all lanes, side by side.
 fn add_lane_heads(text: &mut String, sheet: &Sheet<'_>) -> Result<(), AllocError>
-    requires { sheet.now.extent.threads ≤ most_threads }
+    requires { sheet.now.extent.threads ≤ named_threads }
     ensures { IfOk result
         (λ _. string_bytes text.new ≡ string_bytes text.old ++ lane_heads sheet.now.names.now sheet.now.extent) }
 {
@@ -70,7 +70,7 @@ fn ten_sign(digits: &mut Buffer, lane: u8) -> &str
 
 /// The first signs of the lanes' numbers, where these are written downwards.
 fn add_tens(text: &mut String, extent: &Extent) -> Result<(), AllocError>
-    requires { extent.now.threads ≤ most_threads }
+    requires { extent.now.threads ≤ named_threads }
     ensures { IfOk result (λ _. string_bytes text.new ≡ string_bytes text.old ++ tens extent.now) }
 {
     for index in 0..extent.threads {
@@ -84,7 +84,7 @@ fn add_tens(text: &mut String, extent: &Extent) -> Result<(), AllocError>
 
 /// And the second ones.
 fn add_units(text: &mut String, extent: &Extent) -> Result<(), AllocError>
-    requires { extent.now.threads ≤ most_threads }
+    requires { extent.now.threads ≤ named_threads }
     ensures { IfOk result (λ _. string_bytes text.new ≡ string_bytes text.old ++ units extent.now) }
 {
     for index in 0..extent.threads {
@@ -107,7 +107,7 @@ fn add_next_row(text: &mut String, extent: &Extent) -> Result<(), AllocError>
 
 /// The numbers of all lanes, downwards.
 fn add_numbers_down(text: &mut String, extent: &Extent) -> Result<(), AllocError>
-    requires few { extent.now.threads ≤ most_threads }
+    requires few { extent.now.threads ≤ named_threads }
     requires narrow { extent.now.bands.count ≤ 16 }
     ensures { IfOk result (λ _. string_bytes text.new ≡ string_bytes text.old ++ numbers_down extent.now) }
 {
@@ -135,7 +135,7 @@ fn add_letter(
     place: usize,
     index: u8,
 ) -> Result<(), AllocError>
-    requires { index < most_threads }
+    requires { index < named_threads }
     ensures { IfOk result
         (λ _. string_bytes text.new
         ≡ string_bytes text.old ++ letter sheet.now.names.now sheet.now.extent place index) }
@@ -146,7 +146,7 @@ fn add_letter(
 
 /// A letter of each lane's name.
 fn add_letters(text: &mut String, sheet: &Sheet<'_>, place: usize) -> Result<(), AllocError>
-    requires { sheet.now.extent.threads ≤ most_threads }
+    requires { sheet.now.extent.threads ≤ named_threads }
     ensures { IfOk result
         (λ _. string_bytes text.new ≡ string_bytes text.old ++ letters sheet.now.names.now sheet.now.extent place) }
 {
@@ -158,7 +158,7 @@ fn add_letters(text: &mut String, sheet: &Sheet<'_>, place: usize) -> Result<(),
 
 /// The same in the next row.
 fn add_letters_below(text: &mut String, sheet: &Sheet<'_>, place: usize) -> Result<(), AllocError>
-    requires few { sheet.now.extent.threads ≤ most_threads }
+    requires few { sheet.now.extent.threads ≤ named_threads }
     requires narrow { sheet.now.extent.bands.count ≤ 16 }
     requires few_letters { place < 64 }
     ensures { IfOk result
@@ -171,7 +171,7 @@ fn add_letters_below(text: &mut String, sheet: &Sheet<'_>, place: usize) -> Resu
 
 /// The names of all lanes, downwards: so many rows below the first.
 fn add_letters_down(text: &mut String, sheet: &Sheet<'_>, rows: usize) -> Result<(), AllocError>
-    requires few { sheet.now.extent.threads ≤ most_threads }
+    requires few { sheet.now.extent.threads ≤ named_threads }
     requires narrow { sheet.now.extent.bands.count ≤ 16 }
     requires low { rows ≤ 64 }
     ensures { IfOk result
@@ -185,7 +185,7 @@ fn add_letters_down(text: &mut String, sheet: &Sheet<'_>, rows: usize) -> Result
 }
 
 fn add_narrow_heads(text: &mut String, sheet: &Sheet<'_>) -> Result<(), AllocError>
-    requires few { sheet.now.extent.threads ≤ most_threads }
+    requires few { sheet.now.extent.threads ≤ named_threads }
     requires narrow { sheet.now.extent.bands.count ≤ 16 }
     ensures { IfOk result
         (λ _. string_bytes text.new ≡ string_bytes text.old ++ narrow_heads sheet.now.names.now sheet.now.extent) }
@@ -199,7 +199,7 @@ fn add_narrow_heads(text: &mut String, sheet: &Sheet<'_>) -> Result<(), AllocErr
 
 /// The rows above all lanes: what stands in which column.
 pub fn add_heads(text: &mut String, sheet: &Sheet<'_>) -> Result<(), AllocError>
-    requires few { sheet.now.extent.threads ≤ most_threads }
+    requires few { sheet.now.extent.threads ≤ named_threads }
     requires narrow { sheet.now.extent.bands.count ≤ 16 }
     ensures { IfOk result
         (λ _. string_bytes text.new ≡ string_bytes text.old ++ heads sheet.now.names.now sheet.now.extent) }

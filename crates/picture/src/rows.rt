@@ -1,7 +1,7 @@
 //! The rows of a picture in text.
 
 ghost use Rattle.std.specs.Prelude.{◌≡◌, ◌++◌, ◌≤◌, map, string_bytes, IfOk};
-ghost use Rattle.lockword.specs.Threads.{most_threads};
+ghost use Rattle.lockword.specs.Threads.{named_threads};
 ghost use Rattle.picture.specs.Rows.{arrow_end, arrow_from, arrow_sign, bands_text, blanks, cell, cells, end_text};
 ghost use Rattle.picture.specs.Rows.{event_text, is_covered, is_from_right, mark, narrow_mark, origin, owner_pieces};
 ghost use Rattle.picture.specs.Rows.{part_of, reach, row_of, row_text, sign, stays_so, tail, taken, wide_mark};
@@ -245,7 +245,7 @@ fn add_cell(text: &mut String, row: &Row<'_>, shown: Lane, lane: u8) -> Result<(
 }
 
 fn add_cells(text: &mut String, row: &Row<'_>, lanes: &[Lane; IDS]) -> Result<(), AllocError>
-    requires { row.now.extent.threads ≤ most_threads }
+    requires { row.now.extent.threads ≤ named_threads }
     ensures { IfOk result
         (λ _. string_bytes text.new
         ≡ string_bytes text.old
@@ -332,7 +332,7 @@ fn add_row_of(
     scene: &Scene,
     row: &Row<'_>,
 ) -> Result<(), AllocError>
-    requires few { row.now.extent.threads ≤ most_threads }
+    requires few { row.now.extent.threads ≤ named_threads }
     requires narrow { row.now.extent.bands.count ≤ 16 }
     ensures { IfOk result
         (λ _. string_bytes text.new
@@ -354,7 +354,7 @@ pub fn add_row(
     scene: &Scene,
     line: &Line,
 ) -> Result<(), AllocError>
-    requires few { sheet.now.extent.threads ≤ most_threads }
+    requires few { sheet.now.extent.threads ≤ named_threads }
     requires narrow { sheet.now.extent.bands.count ≤ 16 }
     ensures { IfOk result
         (λ _. string_bytes text.new

@@ -1,7 +1,7 @@
 //! The parts of an SVG picture: what lanes and bands show from line to line, and over that the lines' marks.
 
 ghost use Rattle.std.specs.Prelude.{◌≡◌, ◌++◌, ◌≤◌, ◌<◌, decimal, map, string_bytes, IfOk};
-ghost use Rattle.lockword.specs.Threads.{most_threads};
+ghost use Rattle.lockword.specs.Threads.{named_threads};
 ghost use Rattle.facts.specs.Facts.{decision_of};
 ghost use Rattle.picture.specs.Svg.{band_part, band_rests, begins_at, ends_lane, first_since, foot_text, lane_line};
 ghost use Rattle.picture.specs.Svg.{lane_part, lane_rests, line_marks, line_parts, mark_of, marks_of, rests};
@@ -180,7 +180,7 @@ fn add_lane_rests(
     since: &Since,
     line: usize,
 ) -> Result<(), AllocError>
-    requires few { extent.now.threads ≤ most_threads }
+    requires few { extent.now.threads ≤ named_threads }
     requires narrow { extent.now.bands.count ≤ 16 }
     ensures { IfOk result
         (λ _. string_bytes text.new
@@ -233,7 +233,7 @@ pub fn add_rests(
     since: &Since,
     line: usize,
 ) -> Result<(), AllocError>
-    requires few { sheet.now.extent.threads ≤ most_threads }
+    requires few { sheet.now.extent.threads ≤ named_threads }
     requires narrow { sheet.now.extent.bands.count ≤ 16 }
     ensures { IfOk result
         (λ _. string_bytes text.new
@@ -373,7 +373,7 @@ fn add_lane_name(
 }
 
 fn add_lane_names(text: &mut String, sheet: &Sheet<'_>, bottom: u128) -> Result<(), AllocError>
-    requires few { sheet.now.extent.threads ≤ most_threads }
+    requires few { sheet.now.extent.threads ≤ named_threads }
     requires narrow { sheet.now.extent.bands.count ≤ 16 }
     ensures { IfOk result
         (λ _. string_bytes text.new ≡ string_bytes text.old ++ svg_lanes sheet.now.names.now sheet.now.extent bottom) }
@@ -412,7 +412,7 @@ fn add_open(text: &mut String, extent: &Extent, lines: usize) -> Result<(), Allo
 
 /// What stands before all lines, of which there are so many.
 pub fn add_svg_heads(text: &mut String, sheet: &Sheet<'_>, lines: usize) -> Result<(), AllocError>
-    requires few { sheet.now.extent.threads ≤ most_threads }
+    requires few { sheet.now.extent.threads ≤ named_threads }
     requires narrow { sheet.now.extent.bands.count ≤ 16 }
     ensures { IfOk result
         (λ _. string_bytes text.new ≡ string_bytes text.old ++ svg_heads sheet.now.names.now sheet.now.extent lines) }

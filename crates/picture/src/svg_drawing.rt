@@ -1,7 +1,7 @@
 //! An SVG picture, part by part.
 
 ghost use Rattle.std.specs.Prelude.{◌≤◌};
-ghost use Rattle.lockword.specs.Threads.{most_threads};
+ghost use Rattle.lockword.specs.Threads.{named_threads};
 ghost use Rattle.streams.specs.Leaves.{Leaves};
 ghost use Rattle.picture.specs.Scenes.{first_scene};
 ghost use Rattle.picture.specs.Svg.{first_since, foot_text, line_marks, line_parts};
@@ -25,7 +25,7 @@ fn write_svg_heads<W: Write>(
     lines: usize,
     out: &mut W,
 ) -> Result<(), Unwritten>
-    requires few { sheet.now.extent.threads ≤ most_threads }
+    requires few { sheet.now.extent.threads ≤ named_threads }
     requires narrow { sheet.now.extent.bands.count ≤ 16 }
     ensures { Leaves (W.contents out.old) (W.contents out.new) result
         (svg_heads sheet.now.names.now sheet.now.extent lines) }
@@ -61,7 +61,7 @@ fn write_rests<W: Write>(
     line: usize,
     out: &mut W,
 ) -> Result<(), Unwritten>
-    requires few { sheet.now.extent.threads ≤ most_threads }
+    requires few { sheet.now.extent.threads ≤ named_threads }
     requires narrow { sheet.now.extent.bands.count ≤ 16 }
     ensures { Leaves (W.contents out.old) (W.contents out.new) result
         (rests sheet.now.names.now sheet.now.extent scene.now since.now line) }
@@ -78,7 +78,7 @@ fn write_parts<W: Write>(
     lines: &[Line],
     out: &mut W,
 ) -> Result<(), Unwritten>
-    requires few { sheet.now.extent.threads ≤ most_threads }
+    requires few { sheet.now.extent.threads ≤ named_threads }
     requires narrow { sheet.now.extent.bands.count ≤ 16 }
     ensures { Leaves (W.contents out.old) (W.contents out.new) result
         (parts sheet.now.names.now sheet.now.extent first_scene first_since 1 lines.now) }

@@ -14,11 +14,7 @@ const USAGE: &str =
     "usage: rfx-draw [--svg | --html] [--script SCRIPT] [FILE] (in any order) | --legend\n";
 
 /// What the program answers these words, or the error of having them, among these files.
-fn answer_of(
-    alloc: Global,
-    words: io::Result<Vec<String>>,
-    files: &Folder<'_>,
-) -> Answered {
+fn answer_of(alloc: Global, words: io::Result<Vec<String>>, files: &Folder<'_>) -> Answered {
     let mut printed = Vec::new(alloc);
     let mut told = Vec::new(alloc);
     let status = run(alloc, words, files, &mut printed, &mut told);
@@ -43,7 +39,11 @@ const SVG_END: &str =
 #[test]
 fn files_are_opened_where_they_are_named(rt: HostRuntime) {
     let files = files_of(TRACE);
-    let usage = answer_of(rt.alloc(), words(rt.alloc(), &["rfx-draw", "f", "f"]), &files);
+    let usage = answer_of(
+        rt.alloc(),
+        words(rt.alloc(), &["rfx-draw", "f", "f"]),
+        &files,
+    );
     assert!(rt; usage.is(2, "", USAGE) && files.opened.get() == 0);
     let line = words(rt.alloc(), &["rfx-draw", "--script", "s", "f"]);
     assert!(rt; answer_of(rt.alloc(), line, &files).is(0, NAMED, "") && files.opened.get() == 2);

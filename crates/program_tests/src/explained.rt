@@ -14,12 +14,7 @@ fn answer_of(alloc: Global, words: io::Result<Vec<String>>, text: &[u8]) -> Answ
 }
 
 /// Whether the explanation of these bytes was this, and nothing told; or nothing was printed, and want of memory told.
-fn explains_or_wants_memory(
-    alloc: Global,
-    bytes: &[u8],
-    status: u8,
-    text: &str,
-) -> bool {
+fn explains_or_wants_memory(alloc: Global, bytes: &[u8], status: u8, text: &str) -> bool {
     let mut out = Fixed::new();
     let mut err = Fixed::new();
     let line = words(alloc, &["rfx-explain", "f"]);

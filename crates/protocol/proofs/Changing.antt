@@ -39,6 +39,7 @@ use Rattle.protocol.proofs.QueueRuns.{run_queued}
 use Rattle.protocol.proofs.Runs.{start_kept, run_kept, run_layout}
 use Rattle.protocol.proofs.Applying.{run_agrees}
 use Rattle.protocol.proofs.Learnt.{Learnt, run_learnt}
+use Rattle.lockword.specs.Threads.{most_threads}
 
 -- an event of another thread leaves a thread as it is
 pub theirs : (s : State) (e : Event) (t : ℕ) → caller e ≢ t → (happens s e).state.threads t ≡ s.threads t
@@ -238,7 +239,7 @@ module _ (s : State) (t : ℕ) (w : Told) (b : Option Begun) (o : Option Object)
               ⊎_elim
               (λ none. still_queue s t (row_access t (cell_at s t c) (counter_at s t c) r) key none (apart off other))
               (λ moves. subst (λ (z : CondRow). queues_then s t (row_access t (cell_at s t c) (counter_at s t c) z) key ≡ s.queues key) (sym moves.1)
-              (two_queues s t (counter_at s t c) ((moves.0 + 1) % 2 ^ 32) 0 (cell_at s t c) 64 key
+              (two_queues s t (counter_at s t c) ((moves.0 + 1) % 2 ^ 32) 0 (cell_at s t c) most_threads key
               (λ e. off (e ∙ counter_again s.layout t inv.layout pos known (condition_of c) fits.there))
               (λ e. other (e ∙ cell_again s.layout t inv.layout pos known (its_mutex s c) fits.inside))))
               (move_or t (cell_at s t c) (counter_at s t c) r)

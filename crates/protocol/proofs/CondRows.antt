@@ -18,6 +18,7 @@ use Rattle.condvar.specs.Broadcast.{broadcast_sees, broadcast_counts}
 use Rattle.protocol.proofs.Kept.{Needs, Room, left_out_at, pending_at_words}
 use Rattle.protocol.proofs.Steps.{Tells, IsNoMove, IsNoTrim}
 use Rattle.protocol.proofs.Stepping.{wakes_next, left_of_row}
+use Rattle.lockword.specs.Threads.{most_threads}
 
 -- ---- whoever sleeps
 
@@ -90,7 +91,7 @@ broadcast_reads t cell held w k pos sound own = grind (arith)
 
 -- ---- the release
 
-released : (t cell held w seen : ℕ) → 1 ≤ t → t ≤ 64 → Sound (object_of (fields_of w)) → (fields_of w).owner ≡ t → (fields_of w).died ≡ false → (b : Bool) → (fields_of w).waiters ≡ b
+released : (t cell held w seen : ℕ) → 1 ≤ t → t ≤ most_threads → Sound (object_of (fields_of w)) → (fields_of w).owner ≡ t → (fields_of w).died ≡ false → (b : Bool) → (fields_of w).waiters ≡ b
     → Fair t cell held (Wait (WaitRow.Release seen)) (record { row = if b then Wait (WaitRow.Wake seen) else Wait (WaitRow.Sleep seen); decided = Some (record { operation = Operation.Unlock; reply = OK }) }) w (bit_xor w t)
 released t cell held w seen pos last sound own living b is = go b is
   where
@@ -114,7 +115,7 @@ released t cell held w seen pos last sound own living b is = go b is
     go false off = record { tells = tells; takes_none = refl; sound = step.sound; waiters = λ e. leaves ∙ e; needs = tt; stays = refl; room = λ few. omega arith; fewer = omega arith; pends = λ x. refl; touched = inr own; frees = λ m. inr (refl, none); settles = λ free set. absurd (cc (sym leaves ∙ set, off)) }
 
 -- ---- each row in turn
-pub fair : (t cell counter held w k : ℕ) (r : CondRow) → 1 ≤ t → t ≤ 64 → IsGoing r → Sound (object_of (fields_of w)) → Needs t r (fields_of w) → Room held r
+pub fair : (t cell counter held w k : ℕ) (r : CondRow) → 1 ≤ t → t ≤ most_threads → IsGoing r → Sound (object_of (fields_of w)) → Needs t r (fields_of w) → Room held r
     → Fair t cell held r (resume_of t r (answer_at (row_access t cell counter r) (met_word r w k))) w (cell_after t cell counter r w)
 fair t cell counter held w k (Wait WaitRow.LoadCell) pos last going sound needs room = wait_looks t cell held w pos sound
 fair t cell counter held w k (Wait WaitRow.LoadCounter) pos last going sound needs room = record { tells = refl; takes_none = refl; sound = sound; waiters = λ on. on; needs = needs; stays = refl; room = λ few. tt; fewer = omega arith; pends = λ x. refl; touched = inl refl; frees = λ m. inl (refl, refl); settles = λ free on. inr (inr (refl, refl)) }

@@ -23,6 +23,7 @@ use Rattle.protocol.proofs.CondRows.{cond_alike, only_waits_sleep, move_or, left
 use Rattle.protocol.proofs.Cases.{at_or_else, some_same, same_object}
 use Rattle.protocol.proofs.Queues.{not_true}
 use Rattle.protocol.proofs.Seeing.{head_in, words_in, cell_again, counter_again}
+use Rattle.lockword.specs.Threads.{most_threads}
 
 -- the call of thread t in a phase
 abbrev pub cond_of : Layout' → ℕ → CondCall → CondPhase → CondWhole
@@ -327,7 +328,7 @@ module _ (s : State) (t : ℕ) (c : CondCall) (r : CondRow) (inv : Kept s) (pos 
       moves : (seen : ℕ) × (r ≡ Broadcast (BroadcastRow.Move seen)) → Moving s t v
       moves (x, is) =
           let needs : ((fields_of w).owner ≡ t) × ((fields_of w).waiters ≡ true) = subst (λ (z : CondRow). Needs t z (fields_of w)) is stands.needs in
-          Moves_to (condition_of c) _ 64 fits.there refl (ap (row_access t cell_there counter_there) is) needs.1
+          Moves_to (condition_of c) _ most_threads fits.there refl (ap (row_access t cell_there counter_there) is) needs.1
           (λ none. cc (sym (ap (λ (z : Object). z.owner) before ∙ ap owner_of needs.0 ∙ owner_of-some t pos) ∙ none))
 
   settled : (j : ℕ) → j < s.layout.mutexes → IsUnowned s' j → HasWaiters s' j → Settles s t v j

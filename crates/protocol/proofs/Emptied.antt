@@ -36,6 +36,7 @@ use Rattle.protocol.proofs.NoteFacts.{IsOfSleep, of_access, of_walk}
 use Rattle.std.proofs.lemmas.List.{take_all, drop_all}
 use Rattle.protocol.proofs.Cases.{some_same}
 use Rattle.protocol.proofs.Seeing.{cell_again, counter_again}
+use Rattle.lockword.specs.Threads.{most_threads}
 
 -- ---- queues are short
 
@@ -93,7 +94,7 @@ never_returns : (seen : ℕ) (f : CondPhase) → IsBefore seen f → returned_at
 never_returns seen f is e = grind (arith)
 
 module _ (s : State) (t : ℕ) (c : CondCall) (p : CondWhole) (inv : Kept s) (queued : Queued s) (counted : Counted s) (pos : 1 ≤ t) (known : t ≤ s.layout.threads) (is : (s.threads t).stage ≡ AtCondition c p) where
-  short : length (s.queues (its_counter s c)) ≤ 64
+  short : length (s.queues (its_counter s c)) ≤ most_threads
   short =
       let few = no_more s.layout.threads (s.queues (its_counter s c)) (queued.once (its_counter s c)) (λ u stands. let slept = queued.sleeps (its_counter s c) u stands in (slept.0, slept.1)) in
       let most = inv.layout.threads.1 in omega (arith, few, most)
@@ -120,22 +121,22 @@ module _ (s : State) (t : ℕ) (c : CondCall) (p : CondWhole) (inv : Kept s) (qu
       (λ i. put (left (counter_is i)) (cell_is i) (left (counter_is i) (cell_is i) ++ moves (counter_is i)) (its_counter s c))
       ∙ put-other (left (its_counter s c)) (its_cell s c) (left (its_counter s c) (its_cell s c) ++ moves (its_counter s c)) (its_counter s c) (counter_is_no_cell s.layout (its_mutex s c) (condition_of c) fits.inside)
       ∙ put-same s.queues (its_counter s c) _
-      ∙ ap (λ (b : Bool). if b then drop 64 (drop 0 (s.queues (its_counter s c))) else s.queues (its_counter s c)) (as_counted seen at)
-      ∙ drop_all 64 (s.queues (its_counter s c)) short
+      ∙ ap (λ (b : Bool). if b then drop most_threads (drop 0 (s.queues (its_counter s c))) else s.queues (its_counter s c)) (as_counted seen at)
+      ∙ drop_all most_threads (s.queues (its_counter s c)) short
     where
       -- what it leaves where it meets its word, and moves from there
       left : ℕ → ℕ → List ℕ
-      left x = put s.queues x (if s.words x % 2 ^ 32 == (seen + 1) % 2 ^ 32 then drop 64 (drop 0 (s.queues x)) else s.queues x)
+      left x = put s.queues x (if s.words x % 2 ^ 32 == (seen + 1) % 2 ^ 32 then drop most_threads (drop 0 (s.queues x)) else s.queues x)
 
       moves : ℕ → List ℕ
-      moves x = if s.words x % 2 ^ 32 == (seen + 1) % 2 ^ 32 then take 64 (drop 0 (s.queues x)) else []
+      moves x = if s.words x % 2 ^ 32 == (seen + 1) % 2 ^ 32 then take most_threads (drop 0 (s.queues x)) else []
 
   -- what a move tells
   told_moved : (seen : ℕ) → s.words (its_counter s c) ≡ seen + 1 → facts_of (cond_note s t c (cond_of s.layout t c (CondPhase.AtWords (Broadcast (BroadcastRow.Move seen))))) ≡ map (moves_to (its_mutex s c)) (s.queues (its_counter s c)) ++ Return t OK ∷ []
   told_moved seen at =
       ap (λ (x : ℕ). facts_of (noted x (s.words x % 2 ^ 32 == (seen + 1) % 2 ^ 32))) counter_is
       ∙ ap (λ (b : Bool). facts_of (noted (its_counter s c) b)) (as_counted seen at)
-      ∙ ap (λ (us : List ℕ). map (moves_to (its_mutex s c)) us ++ Return t OK ∷ []) (take_all 64 (s.queues (its_counter s c)) short)
+      ∙ ap (λ (us : List ℕ). map (moves_to (its_mutex s c)) us ++ Return t OK ∷ []) (take_all most_threads (s.queues (its_counter s c)) short)
     where
       moving : CondWhole
       moving = cond_of s.layout t c (CondPhase.AtWords (Broadcast (BroadcastRow.Move seen)))
@@ -143,8 +144,8 @@ module _ (s : State) (t : ℕ) (c : CondCall) (p : CondWhole) (inv : Kept s) (qu
       -- as it is noted, where it meets its word, by whether that is as it is to be
       noted : ℕ → Bool → Note
       noted x b =
-          let g = led_at c moving (cond_led moving (if b then Counts (length (take 0 (s.queues x))) (length (take 64 (drop 0 (s.queues x)))) else Again)) in
-          Stepped t (its_mutex s c) (decision t (its_mutex s c) g.operation g.point) None (if b then take 0 (s.queues x) else []) (if b then take 64 (drop 0 (s.queues x)) else []) g.returned
+          let g = led_at c moving (cond_led moving (if b then Counts (length (take 0 (s.queues x))) (length (take most_threads (drop 0 (s.queues x)))) else Again)) in
+          Stepped t (its_mutex s c) (decision t (its_mutex s c) g.operation g.point) None (if b then take 0 (s.queues x) else []) (if b then take most_threads (drop 0 (s.queues x)) else []) g.returned
 
   -- what a wake tells
   told_woken : facts_of (cond_note s t c (cond_of s.layout t c (CondPhase.AtWords (Signal SignalRow.Wake)))) ≡ map Fact.Wake (take 1 (s.queues (its_counter s c))) ++ Return t OK ∷ []

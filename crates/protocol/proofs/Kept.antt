@@ -24,6 +24,7 @@ use Rattle.mutex.specs.Programs.{row_operation}
 use Rattle.condvar.specs.Calls as conditions
 use Rattle.condvar.specs.Rows as cond_rows
 use Rattle.condvar.specs.Laws as cond_laws
+use Rattle.lockword.specs.Threads.{most_threads}
 
 -- the words of a state as thread t's process has them
 abbrev pub view_of : State → ℕ → ℕ → ℕ
@@ -270,5 +271,5 @@ pub record Kept (s : State) : Type 0 where
   pub held : (t : ℕ) → 1 ≤ t → t ≤ s.layout.threads → (s.threads t).held ≡ held_by t (seen s) s.layout.mutexes
 
 -- no thread is beyond the 64th
-pub last_thread : (s : State) (t : ℕ) → Kept s → t ≤ s.layout.threads → t ≤ 64
+pub last_thread : (s : State) (t : ℕ) → Kept s → t ≤ s.layout.threads → t ≤ most_threads
 last_thread s t inv known = let most = inv.layout.threads.1 in omega arith

@@ -50,6 +50,7 @@ use Rattle.protocol.proofs.Passing.{Begins_nothing, begins_stepped, begins_walke
 use Rattle.protocol.proofs.Vocabulary.{Led, WaitRow, recounted, reslept, repeated}
 use Rattle.protocol.proofs.Events.{HowSpared, Of_unlock, Of_wait, Sparing}
 use Rattle.protocol.proofs.Sparing.{spare_is, spared_state, next_of, unwoken}
+use Rattle.lockword.specs.Threads.{most_threads}
 
 -- ---- the mutex of a point that is told
 
@@ -160,7 +161,7 @@ module _ (s : State) (t : ℕ) (c : Op) (p : Whole) (inv : Kept s) (pos : 1 ≤ 
       go (AtCell r) e =
           let stands = subst (λ (f : Phase). InPhase t (s.threads t).held p f (seen s m)) e fits.stands in
           let first : 1 ≤ p.thread = subst (λ (x : ℕ). 1 ≤ x) (sym fits.mine) pos in
-          let most : p.thread ≤ 64 = subst (λ (x : ℕ). x ≤ 64) (sym fits.mine) (last_thread s t inv known) in
+          let most : p.thread ≤ most_threads = subst (λ (x : ℕ). x ≤ most_threads) (sym fits.mine) (last_thread s t inv known) in
           let is_at : IsAt p p.phase = subst (IsAt p) (sym e) (stands.knows, stands.of) in
           let expects = subst (λ (x : ℕ). Expects x r (object_of (fields_of (s.words at)))) (sym fits.mine) (subst (Expects t r) (met_object r e) stands.expects) in
           let so = whole.whole_wakes.at_the_cell p r (s.words at) k n (s.queues at) (first, is_at) most e stands.going (subst Sound (met_object r e) (inv.sound m)) expects in

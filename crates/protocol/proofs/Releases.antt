@@ -1,5 +1,5 @@
 -- A wait's unlock is of a consistent mutex of its own.
-use Rattle.std.proofs.Common.{◌≡◌, ⊎_elim, ℕ, ◌≤◌, Bool, true, false, Option, Some, None, Ok, Err, List, refl, sym, ap, ◌∙◌, subst, arith}
+use Rattle.std.proofs.Common.{◌≡◌, ⊎_elim, inl, inr, ℕ, ◌≤◌, Bool, true, false, Option, Some, None, Ok, Err, List, refl, sym, ap, ◌∙◌, subst, arith}
 use Rattle.protocol.proofs.Vocabulary.{CondCall, CondRow, CondWhole, CondOnward, cond_access, cond_led, condition_of, met_word, Condition, Fact, Begun, Decision, Object, Operation, Layout', fields_of, owner_of, owner_of-some}
 use Rattle.protocol.proofs.Vocabulary.{OK, XHELD, Reply, Op, OnCondition, mutex_of, begun_of, Event, Stage, AtCondition, State, After, answer_at, decision, decided_at, reply_at, facts_of, led_at, begun, happens, run, notes, start, WaitRow, if◌then◌else◌}
 use Rattle.posixmutex.specs.declared.point.Point.{Point}
@@ -8,6 +8,7 @@ use Rattle.condvar.specs.declared.row.Decided.{Decided}
 use Rattle.condvar.specs.Calls.{acts_as}
 use Rattle.condvar.specs.Programs.{row_access, resume_of, point_of}
 use Rattle.condvar.specs.Ops as ops
+use Rattle.facts.specs.Lives.{IsWait}
 use Rattle.protocol.specs.Sleepers.{IsAmong}
 use Rattle.protocol.specs.PassedBy.{call_told}
 use Rattle.protocol.specs.Wakes.{left_by}
@@ -63,15 +64,16 @@ releases_row : (t cell counter w n : ℕ) (r : CondRow) (d : Decided) → (resum
 releases_row t cell counter w n r d e of = grind (arith)
 
 -- a wait makes no unlock point in the lock that ends it
-never_in_lock : (l : Layout') (o : Op) (op : Operation) → IsFor l o op → op ≡ Operation.Unlock → ops.operation_of o ≡ Operation.Wait → ⊥
-never_in_lock l o op is unlocks waits = grind (arith)
+never_in_lock : (l : Layout') (o : Op) (op : Operation) → IsFor l o op → op ≡ Operation.Unlock → IsWait (ops.operation_of o) → ⊥
+never_in_lock l o op is unlocks (inl waits) = grind (arith)
+never_in_lock l o op is unlocks (inr waits) = grind (arith)
 
 same_some : (x y : Begun) → Some x ≡ Some y → x ≡ y
 same_some x y e = cc
 
 module _ (s : State) (inv : Kept s) (calls : ℕ → Option Begun) (left : ℕ → Option Object) (learnt : (t : ℕ) → Learnt s.layout (s.threads t).stage (calls t) (left t)) where
   abbrev Releases : After → Type 0
-  Releases a = (t m : ℕ) (b : Begun) → TellsUnlock t m (facts_of a.note) → calls t ≡ Some b → b.operation ≡ Operation.Wait → (b.mutex ≡ m) × OwnsConsistent s t m
+  Releases a = (t m : ℕ) (b : Begun) → TellsUnlock t m (facts_of a.note) → calls t ≡ Some b → IsWait b.operation → (b.mutex ≡ m) × OwnsConsistent s t m
 
   -- its call is the one that it stands in
   call_is : (u t : ℕ) (b c : Begun) → u ≡ t → calls u ≡ Some c → calls t ≡ Some b → c ≡ b
@@ -118,7 +120,7 @@ module _ (s : State) (inv : Kept s) (calls : ℕ → Option Begun) (left : ℕ �
       (λ o p is awake t m b h told waits.
       let point = of_call u (mutex_of s.layout o) p.operation _ t m (point_noted (unlock_of t m) u (mutex_of s.layout o) _ _ _ _ _ h) in
       let same = call_is u t b (begun_of s.layout o) point.0 (subst (λ (g : Stage). Learnt s.layout g (calls u) (left u)) is (learnt u)).0 told in
-      absurd (never_in_lock s.layout o p.operation (fits_in s u o p inv pos known is).1 point.1 (ap (λ (x : Begun). x.operation) same ∙ waits)))
+      absurd (never_in_lock s.layout o p.operation (fits_in s u o p inv pos known is).1 point.1 (subst IsWait (sym (ap (λ (x : Begun). x.operation) same)) waits)))
       (λ c p is awake. subst Releases
       (sym (went-is s u (its_mutex s c) (Condition (condition_of c)) (AtCondition c p) (cond_access p) (λ a. led_at c p (cond_led p a)) (cond_stepping s u c p inv pos known is).valid))
       (at_condition u c p pos known is))

@@ -30,6 +30,7 @@ use Rattle.protocol.proofs.Returning.{still_run, still_tells, idle_still}
 use Rattle.protocol.proofs.Seeing.{cell_in, cell_again}
 use Rattle.protocol.proofs.CondAccesses.{fits_at}
 use Rattle.condvar.specs.Laws.{is_at_counter}
+use Rattle.lockword.specs.Threads.{most_threads}
 
 -- ---- functions with one new value
 
@@ -281,7 +282,7 @@ module _ (s : State) (t k : ℕ) (inv : Kept s) (counted : Counted s) (queued : 
     words_set = put words_counted mutex_cell (bit_or (words_counted mutex_cell) 0x8000_0000)
 
     abbrev queues_moved : ℕ → List ℕ
-    queues_moved = put (put s.queues at (drop 64 q)) mutex_cell (put s.queues at (drop 64 q) mutex_cell ++ take 64 q)
+    queues_moved = put (put s.queues at (drop most_threads q)) mutex_cell (put s.queues at (drop most_threads q) mutex_cell ++ take most_threads q)
 
     -- the counter is as the broadcast left it
     not_cell : at ≢ mutex_cell
@@ -295,16 +296,16 @@ module _ (s : State) (t k : ℕ) (inv : Kept s) (counted : Counted s) (queued : 
 
     -- what its move leaves there, and takes from there
     abbrev left_if : Bool → ℕ → List ℕ
-    left_if b = put s.queues at (if b then drop 64 (drop 0 q) else q)
+    left_if b = put s.queues at (if b then drop most_threads (drop 0 q) else q)
 
     abbrev moved_if : Bool → List ℕ
-    moved_if b = if b then take 64 (drop 0 q) else []
+    moved_if b = if b then take most_threads (drop 0 q) else []
 
     compares : differs_not ≡ true
     compares = eq-eqb (words_set at % 2 ^ 32) ((low + 1) % 2 ^ 32) (ap (λ (x : ℕ). x % 2 ^ 32) set_counter ∙ omega arith)
 
-    -- no more than 64 sleep
-    short_queue : length q ≤ 64
+    -- no more than `most_threads` sleep
+    short_queue : length q ≤ most_threads
     short_queue =
         let few = no_more s.layout.threads q (queued.once at) (λ u stands. let slept = queued.sleeps at u stands in (slept.0, slept.1)) in
         let last = inv.layout.threads.1 in omega (arith, few, last)
@@ -319,8 +320,8 @@ module _ (s : State) (t k : ℕ) (inv : Kept s) (counted : Counted s) (queued : 
     -- what the move tells
     move_told : facts_of (note_at s t cast pos known words_set s.queues (Broadcast (BroadcastRow.Move low)) (onward (CondPhase.Ended OK))) ≡ map (moves_to mutex) q ++ Fact.Return t OK ∷ []
     move_told =
-        ap (λ (b : Bool). map Fact.Wake (if b then take 0 q else []) ++ (map (moves_to mutex) (if b then take 64 (drop 0 q) else []) ++ Fact.Return t OK ∷ [])) compares
-        ∙ ap (λ (us : List ℕ). map (moves_to mutex) us ++ Fact.Return t OK ∷ []) (take_all 64 q short_queue)
+        ap (λ (b : Bool). map Fact.Wake (if b then take 0 q else []) ++ (map (moves_to mutex) (if b then take most_threads (drop 0 q) else []) ++ Fact.Return t OK ∷ [])) compares
+        ∙ ap (λ (us : List ℕ). map (moves_to mutex) us ++ Fact.Return t OK ∷ []) (take_all most_threads q short_queue)
 
     cast_alone : n ≢ full → (r : ℕ) → Comes_to s (call_alone t cast (suc (suc (suc (suc (suc r)))))) (at_stage s t cast pos known words_set queues_moved Idle) (told_of_call s t cast mutex Operation.Broadcast OK (map (moves_to mutex) q))
     cast_alone apart r =
@@ -334,7 +335,7 @@ module _ (s : State) (t k : ℕ) (inv : Kept s) (counted : Counted s) (queued : 
         refl (counted_so apart) (put-self s.queues at) refl
         (row_then s t cast pos known words_counted words_set s.queues s.queues (Broadcast (BroadcastRow.SetWaiters low)) (onward (CondPhase.AtWords (Broadcast (BroadcastRow.Move low)))) _ _ _ refl refl (put-self s.queues mutex_cell) refl
         (row_then s t cast pos known words_set words_set s.queues queues_moved (Broadcast (BroadcastRow.Move low)) (onward (CondPhase.Ended OK)) _ _ _
-        (ap (λ (b : Bool). cond_led (whole s t cast pos known (Broadcast (BroadcastRow.Move low))) (if b then Counts (length (take 0 q)) (length (take 64 (drop 0 q))) else Again)) compares)
+        (ap (λ (b : Bool). cond_led (whole s t cast pos known (Broadcast (BroadcastRow.Move low))) (if b then Counts (length (take 0 q)) (length (take most_threads (drop 0 q))) else Again)) compares)
         (put-self words_set at)
         (ap (λ (x : ℕ). put (left_if differs_not) x (left_if differs_not x ++ moved_if differs_not)) (cell_again s.layout t inv.layout pos known mutex inside) ∙ ap (λ (b : Bool). put (left_if b) mutex_cell (left_if b mutex_cell ++ moved_if b)) compares)
         refl (λ kept. returned s t cast pos known words_set queues_moved r))))))
@@ -344,9 +345,9 @@ module _ (s : State) (t k : ℕ) (inv : Kept s) (counted : Counted s) (queued : 
       counter = set_counter;
       cell = ap fields_of (put-same words_counted mutex_cell _ ∙ ap (λ (x : ℕ). bit_or x 0x8000_0000) (put-other s.words at (n + 1) mutex_cell (λ e. not_cell (sym e)))) ∙ or_waiting w;
       words = λ p no_counter no_cell. put-other words_counted mutex_cell _ p no_cell ∙ put-other s.words at (n + 1) p no_counter;
-      queue = put-other (put s.queues at (drop 64 q)) mutex_cell _ at not_cell ∙ put-same s.queues at (drop 64 q) ∙ drop_all 64 q short_queue;
-      moved = put-same (put s.queues at (drop 64 q)) mutex_cell _ ∙ (λ i. put-other s.queues at (drop 64 q) mutex_cell (λ e. not_cell (sym e)) i ++ take_all 64 q short_queue i);
-      queues = λ key no_counter no_cell. put-other (put s.queues at (drop 64 q)) mutex_cell _ key no_cell ∙ put-other s.queues at (drop 64 q) key no_counter;
+      queue = put-other (put s.queues at (drop most_threads q)) mutex_cell _ at not_cell ∙ put-same s.queues at (drop most_threads q) ∙ drop_all most_threads q short_queue;
+      moved = put-same (put s.queues at (drop most_threads q)) mutex_cell _ ∙ (λ i. put-other s.queues at (drop most_threads q) mutex_cell (λ e. not_cell (sym e)) i ++ take_all most_threads q short_queue i);
+      queues = λ key no_counter no_cell. put-other (put s.queues at (drop most_threads q)) mutex_cell _ key no_cell ∙ put-other s.queues at (drop most_threads q) key no_counter;
       threads = idle_again s t cast pos known idle words_set queues_moved;
     }
 

@@ -12,15 +12,16 @@ use Rattle.protocol.specs.declared.thread.Stage.TheVariants.{Dying}
 use Rattle.protocol.specs.WalksOn.{StaysOwned, WalksGoOn}
 use Rattle.protocol.proofs.Kept.{Listed, Sits, Walks, LeftToWalk, Kept, last_thread}
 use Rattle.protocol.proofs.Runs.{start_kept, run_kept, run_layout}
+use Rattle.lockword.specs.Threads.{most_threads}
 
 -- a word that has only got WAITERS since it was seen has the owner that it was seen with
-same_owner : (v w t : ℕ) → (fields_of v).owner ≡ t → t ≤ 64 → (w ≡ v) ⊎ (w ≡ waiting_word v) → (fields_of w).owner ≡ t
+same_owner : (v w t : ℕ) → (fields_of v).owner ≡ t → t ≤ most_threads → (w ≡ v) ⊎ (w ≡ waiting_word v) → (fields_of w).owner ≡ t
 same_owner v w t own small (inl e) = ap (λ (x : ℕ). (fields_of x).owner) e ∙ own
 same_owner v w t own small (inr e) =
     let back : fields_of (word_of (waiting (fields_of v))) ≡ waiting (fields_of v) = fields_of-word_of (waiting (fields_of v)) (omega arith) in
     ap (λ (x : ℕ). (fields_of x).owner) e ∙ ap (λ (c : Fields). c.owner) back ∙ own
 
-stays : (s : State) (t h : ℕ) (r : Row) → t ≤ 64 → Knows t h r → LeftToWalk s t r → StaysOwned s t r
+stays : (s : State) (t h : ℕ) (r : Row) → t ≤ most_threads → Knows t h r → LeftToWalk s t r → StaysOwned s t r
 stays s t h (Mark at v again rest) small knows (k, treats, l, only) = same_owner v (s.words (place_in s.layout t at)) t knows.0 small only.stays
 stays s t h LoadFirst small knows l = tt
 stays s t h (LoadOffset f) small knows l = tt

@@ -37,6 +37,7 @@ use Rattle.protocol.proofs.Emptied.{no_more}
 use Rattle.protocol.proofs.Learnt.{Asks, AsksFor, AsksAt, Learnt, run_learnt}
 use Rattle.protocol.proofs.Vocabulary.{repeated}
 use Rattle.protocol.proofs.Sparing.{spare_is}
+use Rattle.lockword.specs.Threads.{most_threads}
 
 -- ---- the wakes and the moves that are told
 
@@ -95,17 +96,17 @@ is_one (Access.Wake at n) e = (at, n, refl)
 is_one a e = absurd cc
 
 -- no queue is longer than there are threads
-short : (s : State) (key : ℕ) → Kept s → Queued s → length (s.queues key) ≤ 64
+short : (s : State) (key : ℕ) → Kept s → Queued s → length (s.queues key) ≤ most_threads
 short s key inv queued =
     let few = no_more s.layout.threads (s.queues key) (queued.once key) (λ u stands. let slept = queued.sleeps key u stands in (slept.0, slept.1)) in
     let most = inv.layout.threads.1 in omega (arith, few, most)
 
 -- so many as are to learn of a mutex that was left so are the first, or all
-takes_so : (x : Object) (q : List ℕ) → length q ≤ 64 → take (mutex.to_wake x) q ≡ to_tell (Some x) q
+takes_so : (x : Object) (q : List ℕ) → length q ≤ most_threads → take (mutex.to_wake x) q ≡ to_tell (Some x) q
 takes_so x q few = go x.unusable
   where
-    go : (b : Bool) → take (if b then 64 else 1) q ≡ (if b then q else take 1 q)
-    go true = take_all 64 q few
+    go : (b : Bool) → take (if b then most_threads else 1) q ≡ (if b then q else take 1 q)
+    go true = take_all most_threads q few
     go false = refl
 
 -- nobody is woken or moved
@@ -254,9 +255,9 @@ module _ (s : State) (t : ℕ) (c : CondCall) (p : CondWhole) (inv : Kept s) (qu
   moves_so : (seen : ℕ) → p.phase ≡ CondPhase.AtWords (CondRow.Broadcast (BroadcastRow.Move seen)) → acts_as c ≡ Operation.Broadcast → Whom
   moves_so seen at of = subst Moves_so (sym (ap (condition.phase_access p) at)) (go (s.queues (place_in s.layout t p.counter)) (short s (place_in s.layout t p.counter) inv queued) (ap s.queues counter_is) (s.words (place_in s.layout t p.counter) % 2 ^ 32 == (seen + 1) % 2 ^ 32))
     where
-      go : (q : List ℕ) → length q ≤ 64 → q ≡ s.queues (its_counter s c) → (b : Bool)
-          → (((if b then take 0 q else []) ≡ []) ⊎ ((if b then take 0 q else []) ≡ they)) × (((if b then take 64 (drop 0 q) else []) ≡ []) ⊎ ((if b then take 64 (drop 0 q) else []) ≡ whom_it_moves s (acts_as c) (Some (condition_of c))))
-      go q few there true = (inl refl, inr (take_all 64 q few ∙ there ∙ sym (of_broadcast s c of)))
+      go : (q : List ℕ) → length q ≤ most_threads → q ≡ s.queues (its_counter s c) → (b : Bool)
+          → (((if b then take 0 q else []) ≡ []) ⊎ ((if b then take 0 q else []) ≡ they)) × (((if b then take most_threads (drop 0 q) else []) ≡ []) ⊎ ((if b then take most_threads (drop 0 q) else []) ≡ whom_it_moves s (acts_as c) (Some (condition_of c))))
+      go q few there true = (inl refl, inr (take_all most_threads q few ∙ there ∙ sym (of_broadcast s c of)))
       go q few there false = (inl refl, inl refl)
 
   whom_here : Whom

@@ -148,11 +148,12 @@ IsAboutToRead s t = (w : Standing) × ((s.threads t).stage ≡ Dying w) × (is_m
 
 -- a begin applies where its thread lives, is in no call, and what it calls is in the layout; a step where its thread is
 -- in a call, or was killed and not reaped, and sleeps on nothing; a kill where its thread lives; a leave where it
--- sleeps; an expiry where it sleeps in a lock with a time limit, or on a condition variable in a wait with one; a decline where it is about to trim; a renewal where
--- its thread was reaped; a reinit where its thread lives and is in no call, and its mutex, one of the layout, is
--- unusable and nobody sleeps on it; a remake likewise, whoever sleeps on it; a recount where nobody may miss a signal
--- by it; a spare where its thread is about to wake one of a mutex, for which another answers; a resleep where its
--- thread sleeps on a condition variable; a repeat where its thread's walk is about to load or to wake
+-- sleeps; an expiry where it sleeps in a lock with a time limit, or on a condition variable in a wait with one; a
+-- decline where it is about to trim; a renewal where its thread was reaped; a reinit where its thread lives and is in
+-- no call, and its mutex, one of the layout, is unusable and nobody sleeps on it; a remake likewise, whoever sleeps on
+-- it; a recount where nobody may miss a signal by it; a spare where its thread is about to wake one of a mutex, for
+-- which another answers; a resleep where its thread sleeps on a condition variable; a repeat where its thread's walk is
+-- about to load or to wake
 abbrev pub Applies : Layout' → State → List Note → Event → Type 0
 Applies l s ns (event.Begin t o) = IsThread l t × Names l o × BeginsAhead o × (last_told t ns ≡ AtRest)
 Applies l s ns (event.Step t) = IsThread l t × HasAccess (last_told t ns) × IsInNoQueue s t

@@ -85,7 +85,8 @@ AreWithin (l ∷ ls) = Each (Within l) ls × AreWithin ls
 -- what the notes tell is in order, each line but a wake or a move is of an event of its own thread, and what is told of
 -- each thread is its lives, each but the last ended by its reaping and followed by its renewal. In each life its
 -- begins, points and returns belong together: a call has one point at most, of its own operation and mutex, whose reply
--- it returns; but a wait that isn't refused has an unlock and then a lock, whose reply it returns
+-- it returns; but a wait that isn't refused has an unlock and then a lock, whose reply it returns, or ETIMEDOUT for OK
+-- where it has a time limit
 pub record IsExplained (events : List Event) (told : List Note) : Type 0 where
   pub orderly : Orderly (lines_from 1 told)
   pub within : AreWithin (lines_from 1 told)

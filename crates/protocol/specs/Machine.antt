@@ -707,13 +707,14 @@ abbrev pub repeating : State → ℕ → Stage → After
 repeating s t (Dying w) = if is_mark w.row then nothing s else repeated s t w
 repeating s t g = nothing s
 
--- a begin of a busy, killed or unknown thread, of a call outside the layout or of a wait that is out of time, a step of an idle, sleeping, reaped or
--- unknown thread, a kill of a killed or unknown thread, a leave of a thread that doesn't sleep, an expiry of one that
--- doesn't sleep in a lock with a time limit or on the condition variable of a wait with one, a decline of one that isn't about to trim, a renewal of one that wasn't
--- reaped, a reinit by one that isn't idle, or of a mutex that is usable or slept on, a remake by one that isn't idle,
--- or of a mutex that is usable, a recount of a counter that somebody sleeps on or knows, a spare of a thread that isn't
--- about to wake one of a mutex, or is alone to answer for it, a resleep of one that doesn't sleep on a counter, and a
--- repeat of one whose walk isn't about to load or to wake, do nothing
+-- a begin of a busy, killed or unknown thread, of a call outside the layout or of a wait that is out of time, a step of
+-- an idle, sleeping, reaped or unknown thread, a kill of a killed or unknown thread, a leave of a thread that doesn't
+-- sleep, an expiry of one that doesn't sleep in a lock with a time limit or on the condition variable of a wait with
+-- one, a decline of one that isn't about to trim, a renewal of one that wasn't reaped, a reinit by one that isn't idle,
+-- or of a mutex that is usable or slept on, a remake by one that isn't idle, or of a mutex that is usable, a recount of
+-- a counter that somebody sleeps on or knows, a spare of a thread that isn't about to wake one of a mutex, or is alone
+-- to answer for it, a resleep of one that doesn't sleep on a counter, and a repeat of one whose walk isn't about to
+-- load or to wake, do nothing
 abbrev pub happens : State → Event → After
 happens s (Begin t o) = if may_begin s t o then begun s t o (first_stage s.layout t (s.threads t).held o) else nothing s
 happens s (Step t) = if has_thread s t then stepped s t (s.threads t).held (s.threads t).stage else nothing s

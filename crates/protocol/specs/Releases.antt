@@ -5,10 +5,11 @@
 -- `waits_release_consistent_mutexes`. Source: pthread_cond_wait(3p).
 use Rattle.std.specs.Prelude.{ℕ, ◌≡◌, false, Some, List}
 use Rattle.lockword.specs.declared.reply.Reply.TheVariants.{OK}
-use Rattle.posixmutex.specs.declared.point.Operation.TheVariants.{Unlock, Wait}
+use Rattle.posixmutex.specs.declared.point.Operation.TheVariants.{Unlock}
 use Rattle.memorymap.specs.Layouts.{Layout', IsLayout}
 use Rattle.facts.specs.declared.fact.Begun.{Begun}
 use Rattle.facts.specs.declared.fact.Fact.TheVariants.{Point}
+use Rattle.facts.specs.Lives.{IsWait}
 use Rattle.protocol.specs.declared.event.Event.{Event}
 use Rattle.protocol.specs.Notes.{facts_of}
 use Rattle.protocol.specs.Machine.{State, start, happens, run, notes}
@@ -22,12 +23,12 @@ pub record OwnsConsistent (s : State) (t m : ℕ) : Type 0 where
   pub consistent : (seen s m).inconsistent ≡ false
 
 -- whatever happened, with any values of the counters at the beginning: where the next event tells that thread t
--- unlocked mutex m with OK, and its call, as it was told, is a wait, then that is on this mutex, which t owned directly
--- before, and which was consistent
+-- unlocked mutex m with OK, and its call, as it was told, is a wait, with a time limit or without, then that is on this
+-- mutex, which t owned directly before, and which was consistent
 abbrev pub WaitsReleaseConsistentMutexes : Type 0
 WaitsReleaseConsistentMutexes = (l : Layout') (counters : ℕ → ℕ) (events : List Event) → IsLayout l
     → (e : Event) (t m : ℕ) (b : Begun)
     → IsAmong (Point (record { thread = t; mutex = m; operation = Unlock; reply = OK }))
     (facts_of (happens (run (start l counters) events) e).note)
-    → call_told t (notes (start l counters) events) ≡ Some b → b.operation ≡ Wait
+    → call_told t (notes (start l counters) events) ≡ Some b → IsWait b.operation
     → (b.mutex ≡ m) × OwnsConsistent (run (start l counters) events) t m

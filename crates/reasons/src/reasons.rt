@@ -97,7 +97,7 @@ pub fn add_reason(text: &mut Vec<u8>, misfit: &Misfit) -> Result<(), AllocError>
             add(
                 text,
                 &[
-                    "the call has its points already, and returns ",
+                    "the call has its points already, and the last replied ",
                     reply.name(),
                 ],
             )

@@ -22,6 +22,7 @@ use Rattle.verdict.specs.Earlier.{objects_after}
 use Rattle.refuting.proofs.Tallying.{Tally, hidden_tally, killed_tally}
 use Rattle.refuting.proofs.Closure.{rests}
 use Rattle.refuting.proofs.Telling.{Known, Standing, hidden_line, killed_line}
+use Rattle.refuting.specs.States.{ids}
 
 -- a trace of which nothing is seen
 unseen : (m : ℕ) (n : ℕ) (ts : List Turn) (ss : List State) → Known m ts ss → Standing m ts ss (λ t. false) []
@@ -47,7 +48,7 @@ counts n lines none d es g (Dooms d' u es' g' free alive shows) is fit well insi
 counts n lines none d es g (Kills d' u l es' g' kill doomed shows) is fit well inside =
     subst (λ f. Tally n (record { event = l.event; fact = f } ∷ es') lines) (sym kill) (killed_tally n l.event u es' lines (counts n lines none d' es' g' shows is fit.1 well.1 inside.1))
 
-pub begins : (r : Refuter) → length r.turns ≡ 65 → length r.held ≡ 65 → ((t : ℕ) → count_at r.held t ≡ 0) → ((t : ℕ) → turn_at r.turns t ≡ Resting) → (s : State) → r.states.items ≡ s ∷ [] → StandsFor r.mutex r.turns [] s
+pub begins : (r : Refuter) → length r.turns ≡ ids → length r.held ≡ ids → ((t : ℕ) → count_at r.held t ≡ 0) → ((t : ℕ) → turn_at r.turns t ≡ Resting) → (s : State) → r.states.items ≡ s ∷ [] → StandsFor r.mutex r.turns [] s
     → (n : ℕ) (future : List Entry) → Follows n [] future r
 begins r long holds none rest s only stands n future = record {
   long = long;

@@ -11,6 +11,8 @@ use Rattle.refuting.specs.declared.turn.Turn.TheVariants.{Resting, Dying}
 use Rattle.refuting.specs.Steps.{AreNoted, FollowsCall, FollowsThread, Grows, IsClosed, IsFollowed}
 use Rattle.refuting.specs.Turns.{turn_at}
 use Rattle.refuting.proofs.Growing.{grows_on, still_follows}
+use Rattle.lockword.specs.Threads.{most_threads}
+use Rattle.refuting.specs.States.{ids}
 
 -- ---- the threads, one by one
 
@@ -36,9 +38,9 @@ rests m ts ss s t is = record {
   dies = λ c o dying may. let no : Resting ≡ Dying c = sym is ∙ dying in absurd cc;
 }
 
-pub all_follow : (m : ℕ) (ts : List Turn) (ss : List State) (s : State) → length ts ≡ 65 → ((t : ℕ) → 1 ≤ t → t ≤ 64 → FollowsThread m ts ss s t) → IsFollowed m ts ss s
-all_follow m ts ss s long each t low = by_cases (cases_lt t 65) where
-  by_cases : (t < 65) ⊎ (65 ≤ t) → FollowsThread m ts ss s t
+pub all_follow : (m : ℕ) (ts : List Turn) (ss : List State) (s : State) → length ts ≡ ids → ((t : ℕ) → 1 ≤ t → t ≤ most_threads → FollowsThread m ts ss s t) → IsFollowed m ts ss s
+all_follow m ts ss s long each t low = by_cases (cases_lt t ids) where
+  by_cases : (t < ids) ⊎ (ids ≤ t) → FollowsThread m ts ss s t
   by_cases (inl lt) = each t low (omega (arith, lt))
   by_cases (inr ge) = rests m ts ss s t (get_or_past ts t Resting (omega (arith, ge, long)))
 

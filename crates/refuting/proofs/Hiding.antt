@@ -30,7 +30,7 @@ use Rattle.refuting.specs.declared.state.Made.TheVariants.{Nothing, Released, Ch
 use Rattle.refuting.specs.declared.state.State.{State}
 use Rattle.refuting.specs.declared.turn.Turn.{Turn}
 use Rattle.refuting.specs.declared.turn.Turn.TheVariants.{Resting, Calling, Dying}
-use Rattle.refuting.specs.States.{Covered, call_at}
+use Rattle.refuting.specs.States.{ids, Covered, call_at}
 use Rattle.refuting.specs.Steps.{FollowsReply, IsClosed, MayChange, MayLook, MayRelease, after_change, changed, next_change, next_look, over, told_as}
 use Rattle.std.specs.Option.{is_some}
 use Rattle.refuting.specs.Following.{Goes, HasCome, IsOpen, StandsFor, Waits, stage_after}
@@ -40,7 +40,7 @@ use Rattle.refuting.proofs.Standing.{Stood, changes_tell, held_no_more, moved_he
 
 -- what is known of a state that stands for a trace
 pub record Scene (m : ℕ) (ts : List Turn) (ss : List State) (es : List Line) (d : ℕ → Bool) (s : State) : Type 0 where
-  pub long : length ts ≡ 65
+  pub long : length ts ≡ ids
   pub nobody : turn_at ts 0 ≡ Resting
   pub closed : IsClosed m ts ss
   pub turned : (t : ℕ) → Turned (turn_at ts t) (stage_after t es) (d t)

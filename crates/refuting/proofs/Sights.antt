@@ -13,10 +13,11 @@ use Rattle.refuting.specs.declared.state.Call.{Call}
 use Rattle.refuting.specs.declared.state.State.{State}
 use Rattle.refuting.specs.declared.turn.Turn.{Turn}
 use Rattle.refuting.specs.declared.turn.Turn.TheVariants.{Resting, Calling}
-use Rattle.refuting.specs.States.{Covers, HasAll, call_at, first_call}
+use Rattle.refuting.specs.States.{ids, Covers, HasAll, call_at, first_call}
 use Rattle.refuting.specs.Steps.{MayLook, Sees, next_look, with_sight}
 use Rattle.refuting.specs.Turns.{turn_at}
 use Rattle.refuting.proofs.States.{covers_on}
+use Rattle.lockword.specs.Threads.{most_threads}
 
 -- thread u's call behind a sight of thread t's
 sight : (s : State) (t u : ℕ) → t < length s.calls
@@ -73,11 +74,11 @@ sees_none m ts s before none old t low high h = by_cases (cases_lt t (before + 1
   by_cases (inr ge) = let same : t ≡ before + 1 = omega (arith, ge, high) in absurd (none (subst (λ v. Sees m (turn_at ts v) s v) same h))
 
 -- all threads that have turns are looked at
-pub sees_all : (m : ℕ) (ts : List Turn) (s : State) → length ts ≡ 65
-    → ((t : ℕ) → 1 ≤ t → t ≤ 64 → Sees m (turn_at ts t) s t → (call_at s.calls t).seen ≡ true)
+pub sees_all : (m : ℕ) (ts : List Turn) (s : State) → length ts ≡ ids
+    → ((t : ℕ) → 1 ≤ t → t ≤ most_threads → Sees m (turn_at ts t) s t → (call_at s.calls t).seen ≡ true)
     → (t : ℕ) → 1 ≤ t → Sees m (turn_at ts t) s t → (call_at s.calls t).seen ≡ true
-sees_all m ts s long each t low h = by_cases (cases_lt t 65) where
-  by_cases : (t < 65) ⊎ (65 ≤ t) → (call_at s.calls t).seen ≡ true
+sees_all m ts s long each t low h = by_cases (cases_lt t ids) where
+  by_cases : (t < ids) ⊎ (ids ≤ t) → (call_at s.calls t).seen ≡ true
   by_cases (inl lt) = each t low (omega (arith, lt)) h
   by_cases (inr ge) = let rests : turn_at ts t ≡ Resting = get_or_past ts t Resting (omega (arith, ge, long)) in absurd (subst (λ turn. Sees m turn s t) rests h)
 
@@ -85,11 +86,11 @@ sees_all m ts s long each t low h = by_cases (cases_lt t 65) where
 
 -- of threads up to here
 pub record Noting (m : ℕ) (ts : List Turn) (was s : State) (count : ℕ) : Type 0 where
-  pub long : length s.calls ≡ 65
+  pub long : length s.calls ≡ ids
   pub covers : Covers s was
   pub notes : (t : ℕ) → 1 ≤ t → t ≤ count → Sees m (turn_at ts t) s t → (call_at s.calls t).seen ≡ true
 
-pub more_sights : (m : ℕ) (ts : List Turn) (was s r : State) (before : ℕ) → r ≡ with_sight s (before + 1) → before < 64 → Noting m ts was s before → Noting m ts was r (before + 1)
+pub more_sights : (m : ℕ) (ts : List Turn) (was s r : State) (before : ℕ) → r ≡ with_sight s (before + 1) → before < most_threads → Noting m ts was s before → Noting m ts was r (before + 1)
 more_sights m ts was s r before is lt n = subst (λ q. Noting m ts was q (before + 1)) (sym is)
     (let inside : before + 1 < length s.calls = omega (arith, lt, n.long) in
     record {

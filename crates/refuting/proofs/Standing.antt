@@ -20,7 +20,7 @@ use Rattle.verdict.specs.Stages.{May, next}
 use Rattle.refuting.specs.declared.state.Call.{Call}
 use Rattle.refuting.specs.declared.state.State.{State}
 use Rattle.refuting.specs.declared.turn.Turn.{Turn}
-use Rattle.refuting.specs.States.{Covered, Covers, HasAll, call_at, first_call}
+use Rattle.refuting.specs.States.{ids, Covered, Covers, HasAll, call_at, first_call}
 use Rattle.refuting.specs.Following.{Goes, HasCome, HaveWaited, IsOpen, StandsFor, stage_after}
 use Rattle.refuting.specs.Turns.{reply_of, turn_at}
 use Rattle.refuting.proofs.Waiting.{Setting, carried, decided_on, own_carried, waits_on}
@@ -163,7 +163,7 @@ pub record Stood (m : ℕ) (ts : List Turn) (ss : List State) (es : List Line) :
 
 -- what a thread makes of a state by a change stands for what it makes of the trace
 pub own_change : (m : ℕ) (ts : List Turn) (ss : List State) (d : ℕ → Bool) (e : Line) (es : List Line) (s : State) (c : Call) (o : Object) → Setting m ts ts ss d s e es → May (stage_after (thread_of e.fact) es) e.fact → decides e.fact ≡ true
-    → StandsFor m ts es s → o ≡ objects_after (e ∷ es) m → thread_of e.fact < 65
+    → StandsFor m ts es s → o ≡ objects_after (e ∷ es) m → thread_of e.fact < ids
     → Goes m (next (stage_after (thread_of e.fact) es) e.fact) (turn_at ts (thread_of e.fact)) c
     → Covered ss (record { object = o; calls = slice_set s.calls (thread_of e.fact) c }) → Stood m ts ss (e ∷ es)
 own_change m ts ss d e es s c o x may does h object inside own cov = record {

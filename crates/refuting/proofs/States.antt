@@ -4,15 +4,15 @@ use Rattle.std.proofs.lemmas.Bool.{cases_lt}
 use Rattle.std.proofs.lemmas.List.{get_or_past}
 use Rattle.refuting.specs.declared.state.Call.{Call}
 use Rattle.refuting.specs.declared.state.State.{State}
-use Rattle.refuting.specs.States.{Covered, Covers, HasAll, call_at, first_call}
+use Rattle.refuting.specs.States.{ids, Covered, Covers, HasAll, call_at, first_call}
 
-beyond : (cs : List Call) (t : ℕ) → length cs ≡ 65 → 65 ≤ t → call_at cs t ≡ first_call
+beyond : (cs : List Call) (t : ℕ) → length cs ≡ ids → ids ≤ t → call_at cs t ≡ first_call
 beyond cs t long le = get_or_past cs t first_call (omega (arith, long))
 
 -- whoever compares the calls of all threads has compared all calls
-pub has_all_beyond : (xs ys : List Call) → length xs ≡ 65 → length ys ≡ 65 → ((t : ℕ) → t < 65 → HasAll (call_at xs t) (call_at ys t)) → (t : ℕ) → HasAll (call_at xs t) (call_at ys t)
-has_all_beyond xs ys lx ly each t = by_cases (cases_lt t 65) where
-  by_cases : (t < 65) ⊎ (65 ≤ t) → HasAll (call_at xs t) (call_at ys t)
+pub has_all_beyond : (xs ys : List Call) → length xs ≡ ids → length ys ≡ ids → ((t : ℕ) → t < ids → HasAll (call_at xs t) (call_at ys t)) → (t : ℕ) → HasAll (call_at xs t) (call_at ys t)
+has_all_beyond xs ys lx ly each t = by_cases (cases_lt t ids) where
+  by_cases : (t < ids) ⊎ (ids ≤ t) → HasAll (call_at xs t) (call_at ys t)
   by_cases (inl lt) = each t lt
   by_cases (inr ge) = subst (λ c. HasAll c (call_at ys t)) (sym (beyond xs t lx ge)) (subst (λ c. HasAll first_call c) (sym (beyond ys t ly ge)) (refl, λ seen. seen))
 

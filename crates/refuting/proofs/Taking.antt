@@ -28,6 +28,8 @@ use Rattle.verdict.specs.Earlier.{objects_after}
 use Rattle.refuting.proofs.Tallying.{Tally, doom_count, hidden_tally, killed_tally, told_tally, within}
 use Rattle.refuting.proofs.Standing.{same_or_not}
 use Rattle.refuting.proofs.Telling.{Known, Standing, Step, behind, turn_here, turn_there}
+use Rattle.lockword.specs.Threads.{most_threads}
+use Rattle.refuting.specs.States.{ids}
 
 -- ---- what is known behind the line
 
@@ -73,7 +75,7 @@ knows_next n h future e x r k after st t c y is = by_cases (same_or_not t (entry
 
 -- ---- how many mutexes threads own
 
-count_here : (hs ks : List ℕ) (u own : ℕ) → ks ≡ slice_set hs u own → length hs ≡ 65 → u < 65 → count_at ks u ≡ own
+count_here : (hs ks : List ℕ) (u own : ℕ) → ks ≡ slice_set hs u own → length hs ≡ ids → u < ids → count_at ks u ≡ own
 count_here hs ks u own is long lt = let inside : u < length hs = omega (arith, long, lt) in ap (λ z. count_at z u) is ∙ get_or-set_same hs u own 0 inside
 
 count_there : (hs ks : List ℕ) (u t own : ℕ) → ks ≡ slice_set hs u own → t ≢ u → count_at ks t ≡ count_at hs t
@@ -179,7 +181,7 @@ past n h future e x r fol never legal =
 
 -- ---- all of it
 
-pub takes : (e : Entry) (x : Option Reply) (r k : Refuter) (after : Turn) (at : ℕ) (empty : Bool) → at ≡ entry_thread e → 1 ≤ at → at ≤ 64 → Some after ≡ turn_after (turn_at r.turns at) e x → k.turns ≡ slice_set r.turns at after → k.held ≡ slice_set r.held at (count_after (turn_at r.turns at) e (count_at r.held at)) → k.mutex ≡ r.mutex
+pub takes : (e : Entry) (x : Option Reply) (r k : Refuter) (after : Turn) (at : ℕ) (empty : Bool) → at ≡ entry_thread e → 1 ≤ at → at ≤ most_threads → Some after ≡ turn_after (turn_at r.turns at) e x → k.turns ≡ slice_set r.turns at after → k.held ≡ slice_set r.held at (count_after (turn_at r.turns at) e (count_at r.held at)) → k.mutex ≡ r.mutex
     → Retells r.mutex (turn_at r.turns at) e r.states.items k.states.items → IsClosed k.mutex k.turns k.states.items → (empty ≡ true → length k.states.items ≡ 0) → Takes r e x (not empty) k
 takes e x r k after at empty is first last to turns held mutex retells closed none n h future inside follows reply = by_cases empty refl where
   st : Step n h future e x r k after
@@ -192,7 +194,7 @@ takes e x r k after at empty is first last to turns held mutex retells closed no
     held = subst (λ u. k.held ≡ slice_set r.held u (count_after (turn_at r.turns u) e (count_at r.held u))) is held;
     mutex = mutex;
     first = subst (λ u. 1 ≤ u) is first;
-    last = let lt : at < 65 = omega (arith, last) in subst (λ u. u < 65) is lt;
+    last = let lt : at < ids = omega (arith, last) in subst (λ u. u < ids) is lt;
     retells = subst (λ u. Retells r.mutex (turn_at r.turns u) e r.states.items k.states.items) is retells;
     closed = closed;
   }

@@ -33,7 +33,7 @@ use Rattle.refuting.specs.declared.state.Made.TheVariants as my
 use Rattle.refuting.specs.declared.state.State.{State}
 use Rattle.refuting.specs.declared.turn.Turn.{Turn}
 use Rattle.refuting.specs.declared.turn.Turn.TheVariants.{Resting, Calling, Dying}
-use Rattle.refuting.specs.States.{Covered, call_at, first_call}
+use Rattle.refuting.specs.States.{ids, Covered, call_at, first_call}
 use Rattle.refuting.specs.Counts.{count_after, count_at}
 use Rattle.refuting.specs.Steps.{IsClosed}
 use Rattle.refuting.specs.Following.{Follows, Goes, HasCome, HasMade, HaveWaited, IsOpen, MayBeTold, Retells, StandsFor, Waits, renewed, stage_after}
@@ -52,7 +52,7 @@ pub record Step (n : ℕ) (h future : List Entry) (e : Entry) (x : Option Reply)
   pub turns : k.turns ≡ slice_set r.turns (entry_thread e) after
   pub mutex : k.mutex ≡ r.mutex
   pub first : 1 ≤ entry_thread e
-  pub last : entry_thread e < 65
+  pub last : entry_thread e < ids
   pub retells : Retells r.mutex (turn_at r.turns (entry_thread e)) e r.states.items k.states.items
   pub held : k.held ≡ slice_set r.held (entry_thread e) (count_after (turn_at r.turns (entry_thread e)) e (count_at r.held (entry_thread e)))
   pub closed : IsClosed k.mutex k.turns k.states.items
@@ -64,7 +64,7 @@ pub record Standing (m : ℕ) (ts : List Turn) (ss : List State) (d : ℕ → Bo
 
 -- ---- turns
 
-pub turn_here : (ts us : List Turn) (u : ℕ) (after : Turn) → us ≡ slice_set ts u after → length ts ≡ 65 → u < 65 → turn_at us u ≡ after
+pub turn_here : (ts us : List Turn) (u : ℕ) (after : Turn) → us ≡ slice_set ts u after → length ts ≡ ids → u < ids → turn_at us u ≡ after
 turn_here ts us u after is long lt = let inside : u < length ts = omega (arith, long, lt) in ap (λ z. turn_at z u) is ∙ get_or-set_same ts u after Resting inside
 
 pub turn_there : (ts us : List Turn) (u t : ℕ) (after : Turn) → us ≡ slice_set ts u after → t ≢ u → turn_at us t ≡ turn_at ts t
@@ -226,7 +226,7 @@ told_on n h future i f x r k after d es s seen b st = absurd cc
 
 -- what is known of all threads
 pub record Known (m : ℕ) (ts : List Turn) (ss : List State) : Type 0 where
-  pub long : length ts ≡ 65
+  pub long : length ts ≡ ids
   pub nobody : turn_at ts 0 ≡ Resting
   pub closed : IsClosed m ts ss
 

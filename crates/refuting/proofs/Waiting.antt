@@ -27,7 +27,7 @@ use Rattle.refuting.specs.declared.state.Made.TheVariants.{Nothing}
 use Rattle.refuting.specs.declared.state.State.{State}
 use Rattle.refuting.specs.declared.turn.Turn.{Turn}
 use Rattle.refuting.specs.declared.turn.Turn.TheVariants.{Resting, Calling, Dying}
-use Rattle.refuting.specs.States.{HasAll, call_at}
+use Rattle.refuting.specs.States.{ids, HasAll, call_at}
 use Rattle.refuting.specs.Steps.{AreNoted, MayLook, Sees, next_look}
 use Rattle.refuting.specs.Following.{Goes, HaveWaited, StandsFor, Waits, stage_after}
 use Rattle.refuting.specs.Turns.{InCall, Turned, reply_of, turn_at}
@@ -37,12 +37,12 @@ use Rattle.refuting.specs.Turns.{InCall, Turned, reply_of, turn_at}
 -- a thread that has a turn has one of the ids
 pub record HasId (ts : List Turn) (t : ℕ) : Type 0 where
   pub first : 1 ≤ t
-  pub last : t < 65
+  pub last : t < ids
 
-pub has_id : (ts : List Turn) (t : ℕ) → length ts ≡ 65 → turn_at ts 0 ≡ Resting → turn_at ts t ≢ Resting → HasId ts t
+pub has_id : (ts : List Turn) (t : ℕ) → length ts ≡ ids → turn_at ts 0 ≡ Resting → turn_at ts t ≢ Resting → HasId ts t
 has_id ts zero long nobody busy = absurd (busy nobody)
-has_id ts (suc t) long nobody busy = by_cases (cases_lt (suc t) 65) where
-  by_cases : (suc t < 65) ⊎ (65 ≤ suc t) → HasId ts (suc t)
+has_id ts (suc t) long nobody busy = by_cases (cases_lt (suc t) ids) where
+  by_cases : (suc t < ids) ⊎ (ids ≤ suc t) → HasId ts (suc t)
   by_cases (inl lt) = record { first = omega arith; last = lt }
   by_cases (inr ge) = absurd (busy (get_or_past ts (suc t) Resting (omega (arith, long, ge))))
 
@@ -121,7 +121,7 @@ seen_on s f k z seen old is = absurd cc
 -- what is known where a line is taken: the threads' turns behind it, and what calls had seen in a state before it
 pub record Setting (m : ℕ) (ts us : List Turn) (rs : List State) (d : ℕ → Bool) (s : State) (e : Line) (es : List Line) : Type 0 where
   pub noted : AreNoted m us rs
-  pub long : length us ≡ 65
+  pub long : length us ≡ ids
   pub nobody : turn_at us 0 ≡ Resting
   pub turned : (t : ℕ) → Turned (turn_at us t) (stage_after t (e ∷ es)) (d t)
   pub waits : HaveWaited m ts es s

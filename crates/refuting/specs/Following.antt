@@ -11,7 +11,6 @@ use Rattle.std.specs.Prelude.{Contains, MatchBool, slice_set, if◌then◌else�
 use Rattle.std.specs.Option.{is_some}
 use Rattle.lockword.specs.declared.reply.Reply.{Reply}
 use Rattle.lockword.specs.declared.reply.Reply.TheVariants.{ETIMEDOUT}
-use Rattle.lockword.specs.Threads.{most_threads}
 use Rattle.posixmutex.specs.declared.point.Operation.{Operation}
 use Rattle.posixmutex.specs.declared.point.Operation.TheVariants.{TimedLock}
 use Rattle.posixmutex.specs.Histories.{held_by}
@@ -37,7 +36,7 @@ use Rattle.refuting.specs.declared.state.Made.TheVariants.{Nothing, Released, Ch
 use Rattle.refuting.specs.declared.state.State.{State}
 use Rattle.refuting.specs.declared.turn.Turn.{Turn}
 use Rattle.refuting.specs.declared.turn.Turn.TheVariants as turn
-use Rattle.refuting.specs.States.{Covered, call_at, first_call}
+use Rattle.refuting.specs.States.{ids, Covered, call_at, first_call}
 use Rattle.refuting.specs.Counts.{Counted, count_at}
 use Rattle.refuting.specs.Steps.{IsClosed}
 use Rattle.refuting.specs.Turns.{Turned, call_on, entry_thread, reply_in, reply_of, turn_at}
@@ -104,7 +103,7 @@ Waits m stage turn c chances = Unit {0}
 -- the state stands for what this trace has made of mutex m
 pub record StandsFor (m : ℕ) (ts : List Turn) (trace : List Line) (s : State) : Type 0 where
   pub object : s.object ≡ objects_after trace m
-  pub long : length s.calls ≡ most_threads + 1
+  pub long : length s.calls ≡ ids
   pub calls : (t : ℕ) → Goes m (stage_after t trace) (turn_at ts t) (call_at s.calls t)
 
 -- and its calls have waited for what they will be told
@@ -114,14 +113,14 @@ HaveWaited m ts trace s =
 
 -- behind these lines of a history of n mutexes, which stand newest first, before those later ones
 pub record Follows (n : ℕ) (h future : List Entry) (r : Refuter) : Type 0 where
-  pub long : length r.turns ≡ most_threads + 1
+  pub long : length r.turns ≡ ids
   pub nobody : turn_at r.turns 0 ≡ turn.Resting
   pub knows : (t : ℕ) (k : Begun) (x : Option Reply) → turn_at r.turns t ≡ turn.Calling k x → x ≡ reply_in t future
   pub turned : (d : ℕ → Bool) (trace : List Line) → Certifies n d trace h → (t : ℕ)
       → Turned (turn_at r.turns t) (stage_after t trace) (d t)
   pub stands : (d : ℕ → Bool) (trace : List Line) → Certifies n d trace h
       → (s : State) × Contains r.states.items s × StandsFor r.mutex r.turns trace s × HaveWaited r.mutex r.turns trace s
-  pub holds : length r.held ≡ most_threads + 1
+  pub holds : length r.held ≡ ids
   pub counted : (d : ℕ → Bool) (trace : List Line) → Certifies n d trace h → (t : ℕ)
       → Counted (stage_after t trace) (held_by t (objects_after trace) n) (count_at r.held t)
   pub closed : IsClosed r.mutex r.turns r.states.items

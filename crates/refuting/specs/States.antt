@@ -1,11 +1,16 @@
 -- What some order of steps has led to, at one mutex.
-use Rattle.std.specs.Prelude.{ℕ, ◌≡◌, true, false, List, length, Contains, slice_index_or}
+use Rattle.std.specs.Prelude.{ℕ, ◌≡◌, ◌+◌, true, false, List, length, Contains, slice_index_or}
+use Rattle.lockword.specs.Threads.{most_threads}
 use Rattle.refuting.specs.declared.state.Made.TheVariants.{Nothing}
 use Rattle.refuting.specs.declared.state.Call.{Call}
 use Rattle.refuting.specs.declared.state.State.{State}
 
 abbrev pub first_call : Call
 first_call = record { made = Nothing; seen = false }
+
+-- how many places there are where things are kept by threads' ids: 0 is no thread's
+abbrev pub ids : ℕ
+ids = most_threads + 1
 
 -- threads' calls, by their ids
 abbrev pub call_at : List Call → ℕ → Call

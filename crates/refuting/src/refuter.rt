@@ -1,7 +1,7 @@
 //! The states of one mutex, line after line.
 
-ghost use Rattle.std.specs.Prelude.{ℕ, ◌≡◌, ◌↔◌, ◌+◌, [], List, length, IfOk, IsTrue, MatchOption};
-ghost use Rattle.lockword.specs.Threads.{most_threads};
+ghost use Rattle.std.specs.Prelude.{ℕ, ◌≡◌, ◌↔◌, [], List, length, IfOk, IsTrue, MatchOption};
+ghost use Rattle.refuting.specs.States.{ids};
 ghost use Rattle.histories.specs.declared.entry.Entry.{Entry};
 ghost use Rattle.refuting.specs.Following.{Allows, Follows, MayBeTold, Retells, Takes, renewed, told};
 ghost use Rattle.facts.specs.Lives.{MayReturn};
@@ -122,7 +122,7 @@ fn retold(
 /// All threads rest.
 fn resting() -> [Turn; IDS]
     ensures each { (t : ℕ) → turn_at result t ≡ Turn.Resting }
-    ensures count { length result ≡ most_threads + 1 }
+    ensures count { length result ≡ ids }
 {
     [Turn::Resting; IDS]
 }
@@ -130,7 +130,7 @@ fn resting() -> [Turn; IDS]
 /// All threads own nothing.
 fn owning_nothing() -> [u16; IDS]
     ensures each { (t : ℕ) → count_at result t ≡ 0 }
-    ensures count { length result ≡ most_threads + 1 }
+    ensures count { length result ≡ ids }
 {
     [0; IDS]
 }

@@ -55,6 +55,7 @@ use mathlib.Core.Logic.{dite}
 use mathlib.Core.Path.{fun_ext}
 use native.Mathlib.Decide.{ℕ_discrete}
 use Rattle.mutex.specs.WholeLists.{IsOwnPlace}
+use Rattle.lockword.specs.Threads.{most_threads}
 
 -- ---- points
 
@@ -82,7 +83,7 @@ run_here o n t p q (Some d) run = run
 -- ---- a load of the cell
 
 meets : {o : List ℕ} (k : Layout') (slots id : ℕ) (c : Card) (q : ℕ) → mutex_at k q < k.mutexes → (p : CondStanding)
-    → ((n : ℕ) → 1 ≤ c.thread → c.thread ≤ 64 → Sound (object_of (fields_of n)) → Run (object_of (fields_of n)) (points (point_of c.thread p.cell (cond_led_at p n).decided)) (object_of (fields_of n)))
+    → ((n : ℕ) → 1 ≤ c.thread → c.thread ≤ most_threads → Sound (object_of (fields_of n)) → Run (object_of (fields_of n)) (points (point_of c.thread p.cell (cond_led_at p n).decided)) (object_of (fields_of n)))
     → ((n : ℕ) → counts_by (cond_led_at p n).decided ≡ 0)
     → Allows (Kept k o) slots id (c ∷ [], []) (cell_at k q) (λ n. n) (λ n me'. Turns (c ∷ [], []) me' (λ c d. Meets k q p c n d))
 meets {o} k slots id c q low p runs countless =
@@ -108,7 +109,7 @@ meets {o} k slots id c q low p runs countless =
     z : ℕ
     z = cell_at k q
 
-    short : (n : ℕ) → Knowing k c z n → c.thread ≤ 64
+    short : (n : ℕ) → Knowing k c z n → c.thread ≤ most_threads
     short n known = let a = known.thread.1 in let b = known.thread.2 in omega arith
 
     told_runs : (n : ℕ) → Knowing k c z n → Run (object_of (fields_of n)) (told c.thread z (op_in (cond_led_at p n).decided) (reply_in (cond_led_at p n).decided)) (object_of (fields_of n))
@@ -166,7 +167,7 @@ counts_kept k c q xs n v zs thread same = record {
 
 counts_at : {o : List ℕ} (k : Layout') (slots id : ℕ) (c : Card) (q : ℕ) → q < length k.conditions → (p : CondStanding) (f : ℕ → ℕ)
     → ((o : Object) → Run fresh (at c.seen (cell_at k q)) o → o.owner ≡ Some c.thread)
-    → ((n w : ℕ) → 1 ≤ c.thread → c.thread ≤ 64 → Sound (object_of (fields_of w)) → n ≤ largest_counter → ((x : ℕ) → value_at c.values (counter_place k q) ≡ Some x → n ≡ x)
+    → ((n w : ℕ) → 1 ≤ c.thread → c.thread ≤ most_threads → Sound (object_of (fields_of w)) → n ≤ largest_counter → ((x : ℕ) → value_at c.values (counter_place k q) ≡ Some x → n ≡ x)
     → ((o : Object) → Run fresh (at c.seen (cell_at k q)) o → object_of (fields_of w) ≡ o) → CountsRight c.thread p n w (f n))
     → ((n : ℕ) → f n ≡ changed (access_at p) n)
     → Allows (Kept k o) slots id (c ∷ [], []) (counter_place k q) f (λ n me'. Turns (c ∷ [], []) me' (λ c d. Counts k q p c n d))
@@ -187,7 +188,7 @@ counts_at {o} k slots id c q low p f mine rights is_change s h deep is small =
     let still : (x : Object) → Run fresh (at c.seen z) x → object_of (fields_of w) ≡ x = λ x run. same ∙ run_same fresh since.0.0 x (at c.seen z) since.1 run in
     let tells : (x : ℕ) → value_at c.values a ≡ Some x → n ≡ x = λ x e. (fit.values a x e).0 in
     let little = counter_small k s h q low in
-    let short : c.thread ≤ 64 = let x = fit.thread.1 in let y = h.layout.threads.1 in omega arith in
+    let short : c.thread ≤ most_threads = let x = fit.thread.1 in let y = h.layout.threads.1 in omega arith in
     let r = rights n w fit.thread.0 short (sound k c z w known) little tells still in
     let by = (cond_led_at p n).decided in
     let run : Run (says s.words z) (told c.thread z (op_in by) (reply_in by)) (says s.words z) =

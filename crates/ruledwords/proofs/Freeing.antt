@@ -26,6 +26,7 @@ use Rattle.ruledwords.specs.Changes.{ChangedNothing, ChangedOnce, Writes}
 use Rattle.ruledwords.specs.Cards.{at}
 use Rattle.ruledwords.specs.Owing.{ChangesThere, FoundOwn, IsSpoiltAsFound}
 use Rattle.ruledwords.proofs.Changes.{nothing_more, once_now}
+use Rattle.lockword.specs.Threads.{most_threads}
 
 owner_told : (a t : ℕ) → owner_of a ≡ Some t → a ≡ t
 owner_told zero t e = absurd (cc e)
@@ -104,7 +105,7 @@ changes_on x p q c d n same going stepping ready of m so =
     (λ o run. run_same fresh o (object_of (fields_of (changed (access_of p) n))) (at d.seen q) run m.sees.leaves.0) so
 
 -- an unlock that wakes stands behind its release
-pub at_wake : (t cell at n : ℕ) (r : Row) → IsGoing r → IsOf operation.Unlock r → row_access t cell r ≡ access.Wake at n → (a : Bool) × (r ≡ Unlock (unlock.Wake a)) × (n ≡ (if a then 64 else 1))
+pub at_wake : (t cell at n : ℕ) (r : Row) → IsGoing r → IsOf operation.Unlock r → row_access t cell r ≡ access.Wake at n → (a : Bool) × (r ≡ Unlock (unlock.Wake a)) × (n ≡ (if a then most_threads else 1))
 at_wake t cell at n (Lock r) going of is = absurd (cc of)
 at_wake t cell at n (TryLock r) going of is = absurd (cc of)
 at_wake t cell at n (Unlock unlock.Load) going of is = absurd (cc is)

@@ -30,6 +30,7 @@ use Rattle.ruledwords.proofs.Changes.{recorded_change, writes_there}
 use Rattle.ruledwords.proofs.Counts.{counted_same, counts_more, told_counts}
 use Rattle.ruledwords.proofs.Held.{others_run}
 use Rattle.ruledwords.proofs.Keepers.{IsLink, link_keeper, link_no_cell, cell_keeper, keeper_set, other_cell, inside, counter_no_cell, owner_here, owner_set}
+use Rattle.lockword.specs.Threads.{most_threads}
 
 abbrev pub St : Type 0
 St = State (Unit {0}) (List Card)
@@ -272,7 +273,7 @@ pub record Knowing (k : Layout') (c : Card) (p n : ℕ) : Type 0 where
   pub leaves : Leaves k.threads p xs (object_of (fields_of n))
   pub begins : IsPrefix (at c.seen p) xs
   pub own : by c.thread (at c.seen p) ≡ by c.thread xs
-  pub thread : (1 ≤ c.thread) × (c.thread ≤ k.threads) × (k.threads ≤ 64)
+  pub thread : (1 ≤ c.thread) × (c.thread ≤ k.threads) × (k.threads ≤ most_threads)
   pub narrow : (fields_of n).rest ≡ 0
   pub mark : mark_at c.marks p ≡ true → (fields_of n).owner ≡ c.thread → (fields_of n).waiters ≡ true
 

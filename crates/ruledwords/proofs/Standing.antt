@@ -30,6 +30,7 @@ use Rattle.ruledwords.proofs.Exchanges.{expects_next, failed}
 use Rattle.ruledwords.proofs.Cards.{run_at, saw_nothing, saw_more}
 use Rattle.ruledwords.proofs.Lists.{told}
 use Rattle.ruledwords.proofs.Held.{held_sees}
+use Rattle.lockword.specs.Threads.{most_threads}
 
 -- a call that begins
 pub begins : (op : Operation) (q : ℕ) (c : Card) (p : Standing) → IsOf op p.row → decided p.row ≡ None → ExpectsKnown p.row q c → Stands op p.row q c p c
@@ -47,10 +48,10 @@ begins op q c p of none expects = record {
 -- the laws of programs, of an access that was made
 pub made_right : (p : Standing) (q : ℕ) (c d : Card) (n : ℕ) → IsGoing p.row → IsStep (access_of p) → Ready p c → Made p q c n d → Right c.thread p.cell p.row (led_at p n) n (changed (access_of p) n)
 made_right p q c d n going step ready m = subst (λ (t : ℕ). Right t p.cell p.row (led_at p n) n (changed (access_of p) n)) ready.0
-    (right_step p.thread p.cell n p.row (subst (λ (z : ℕ). 1 ≤ z) (sym ready.0) m.thread.0) (subst (λ (z : ℕ). z ≤ 64) (sym ready.0) m.thread.1) going step ready.1 m.sound (subst (λ (z : ℕ). Expects z p.row (object_of (fields_of n))) (sym ready.0) m.met))
+    (right_step p.thread p.cell n p.row (subst (λ (z : ℕ). 1 ≤ z) (sym ready.0) m.thread.0) (subst (λ (z : ℕ). z ≤ most_threads) (sym ready.0) m.thread.1) going step ready.1 m.sound (subst (λ (z : ℕ). Expects z p.row (object_of (fields_of n))) (sym ready.0) m.met))
 
 made_minds : (p : Standing) (q : ℕ) (c d : Card) (n : ℕ) → IsGoing p.row → IsStep (access_of p) → Ready p c → Made p q c n d → Minds p.row (led_at p n) n (changed (access_of p) n)
-made_minds p q c d n going step ready m = minds p.thread p.cell n p.row (subst (λ (z : ℕ). z ≤ 64) (sym ready.0) m.thread.1) going step ready.1 (subst (λ (z : ℕ). Expects z p.row (object_of (fields_of n))) (sym ready.0) m.met)
+made_minds p q c d n going step ready m = minds p.thread p.cell n p.row (subst (λ (z : ℕ). z ≤ most_threads) (sym ready.0) m.thread.1) going step ready.1 (subst (λ (z : ℕ). Expects z p.row (object_of (fields_of n))) (sym ready.0) m.met)
 
 -- the point that is made is the one that the next row tells
 pub made_point : (p : Standing) (q : ℕ) (c d : Card) (n : ℕ) → IsGoing p.row → IsStep (access_of p) → Ready p c → Made p q c n d → decided (led_at p n).row ≡ (led_at p n).point

@@ -37,6 +37,7 @@ use Rattle.ruledwords.proofs.Lists.{NoReinit, by_append, told, only, value_only,
 use Rattle.ruledwords.proofs.Held.{owner_held}
 use Rattle.ruledwords.proofs.Keepers.{IsLink, other_cell, stays, stays_not}
 use Rattle.ruledwords.proofs.Moves.{Knowing, MayHave, allows, turns}
+use Rattle.lockword.specs.Threads.{most_threads}
 
 -- what a card knows once it knows the links of m
 abbrev pub learnt : Layout' → ℕ → List ℕ → List (Option ℕ) → List (Option ℕ)
@@ -236,7 +237,7 @@ makes k slots id c m low few p a is there going stepping ready x y =
         sound = sound k c q n known;
         met = met n known;
         holder = holder k c q n known;
-        thread = (known.thread.0, let a = known.thread.1 in let b = known.thread.2 in let e : c.thread ≤ 64 = omega arith in e);
+        thread = (known.thread.0, let a = known.thread.1 in let b = known.thread.2 in let e : c.thread ≤ most_threads = omega arith in e);
       },
       own_kept k m low ws c d ((fields_of (changed a n)).owner == c.thread) (holds c.thread (at c.seen q)) sees.thread known.thread.0 known.thread.1 values (holds_then n d known sees) refl (λ l other. ap (holds d.thread) (sees.elsewhere (cell_place k l) (other_cell k m l other)) ∙ ap (λ (t : ℕ). holds t (at c.seen (cell_place k l))) sees.thread),
     ))
@@ -253,7 +254,7 @@ makes k slots id c m low few p a is there going stepping ready x y =
     holds_then : (n : ℕ) (d : Card) → Knowing k c (cell_place k m) n → {new : List Point} → Sees c q new (object_of (fields_of (changed a n))) d → owns_in k d m ≡ ((fields_of (changed a n)).owner == c.thread)
     holds_then n d known sees = ap (λ (t : ℕ). holds t (at d.seen q)) sees.thread ∙ owner_held c.thread fresh (at d.seen q) (object_of (fields_of (changed a n))) sees.leaves.0 ∙ is_owner_by c.thread (fields_of (changed a n)).owner known.thread.0
 
-    short : (n : ℕ) → Knowing k c (cell_place k m) n → (1 ≤ p.thread) × (p.thread ≤ 64)
+    short : (n : ℕ) → Knowing k c (cell_place k m) n → (1 ≤ p.thread) × (p.thread ≤ most_threads)
     short n known = let a = known.thread.0 in let b = known.thread.1 in let d = known.thread.2 in let e = ready.0 in (omega arith, omega arith)
 
     rights : (n : ℕ) → Knowing k c (cell_place k m) n → Right c.thread p.cell p.row (led_at p n) n (changed (access_of p) n)

@@ -18,7 +18,7 @@ use Rattle.verdict.specs.declared.head.Head.{Head}
 use Rattle.verdict.specs.declared.checking.Verdict.{Verdict}
 use Rattle.verdict.specs.declared.checking.Verdict.TheVariants.{Legal, Illegal}
 use Rattle.verdict.specs.declared.fault.TraceFault.{TraceFault}
-use Rattle.verdict.specs.Limits.{max_bytes, max_events, max_conditions}
+use Rattle.verdict.specs.Limits.{max_bytes, max_threads, max_events, max_conditions}
 use Rattle.verdict.specs.Earlier.{latest}
 use Rattle.verdict.specs.Fits.{Fits}
 use Rattle.verdict.specs.Judges.{IsMutex}
@@ -36,8 +36,8 @@ use Rattle.runs_judged.proofs.Counts.{run_lines}
 
 -- ---- the head
 
-pub is_head : (l : Layout') → IsLayout l → IsHead (head_of l)
-is_head l is = record { some_thread = is.threads.0; few_threads = is.threads.1; some_mutex = is.mutexes.0; few_mutexes = is.mutexes.1 }
+pub is_head : (l : Layout') → IsLayout l → l.threads ≤ max_threads → IsHead (head_of l)
+is_head l is few = record { some_thread = is.threads.0; few_threads = few; some_mutex = is.mutexes.0; few_mutexes = is.mutexes.1 }
 
 -- ---- the length
 
@@ -129,13 +129,13 @@ answered_so t points legal count (Err e) (inr (is, h)) = inr (ap Err is)
 -- ---- runs
 
 pub judged : RunsAreJudgedLegal
-judged l counters events is few =
+judged l counters events is named few =
     let ns = notes (start l counters) events in
     let ls = lines_from 1 ns in
     let h = head_of l in
     let most : length ns ≤ max_events = omega (arith, length-notes (start l counters) events, few) in
     let inside = run_inside l counters events is most in
-    let head = is_head l is in
+    let head = is_head l is named in
     let conditions : h.conditions ≤ max_conditions = is.conditions.0 in
     let back = each_map {P = IsLineOf h} {Q = ReadsBack h} (λ k of. reads_back h k head conditions of) ls inside in
     let lines : length ls ≤ 5 * length ns =

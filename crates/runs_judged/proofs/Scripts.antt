@@ -47,7 +47,7 @@ same_head s = ap (λ (k : ℕ). record { threads = length s.threads; mutexes = l
 pub scripts_judged : ScriptsAreJudgedLegal
 scripts_judged s whole none =
     let few = within_from 0 (first_state s) s.commands (omega arith) none in
-    subst (λ (h : Head). IsJudgedLegal h (notes (first_state s) (events_in s))) (same_head s) (judged (layout_of s) (counter_of s) (events_in s) (is_layout s whole) (omega (arith, few)))
+    subst (λ (h : Head). IsJudgedLegal h (notes (first_state s) (events_in s))) (same_head s) (judged (layout_of s) (counter_of s) (events_in s) (is_layout s whole) whole.within.threads_at_most (omega (arith, few)))
 
 -- ---- what is read is well formed
 

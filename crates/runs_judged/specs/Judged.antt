@@ -21,7 +21,7 @@ use Rattle.verdict.specs.declared.checking.Verdict.{Verdict}
 use Rattle.verdict.specs.declared.checking.Verdict.TheVariants.{Legal}
 use Rattle.verdict.specs.declared.fault.Fault.TheVariants.{OutOfMemory}
 use Rattle.verdict.specs.declared.fault.TraceFault.{TraceFault}
-use Rattle.verdict.specs.Limits.{max_events}
+use Rattle.verdict.specs.Limits.{max_threads, max_events}
 use Rattle.verdict.specs.Reading.{Trace, fault_at, trace_read}
 use Rattle.verdict.specs.Verdicts.{IsLegal, Answers}
 
@@ -62,9 +62,10 @@ head_of l = record { threads = l.threads; mutexes = l.mutexes; conditions = leng
 abbrev pub script_head : Scope → Head
 script_head s = record { threads = length s.threads; mutexes = length s.mutexes; conditions = length s.conditions }
 
--- whatever happens, with any values of the counters at the beginning, in at most as many events as a trace may have
+-- whatever happens, with any values of the counters at the beginning, with at most as many threads and in at most as
+-- many events as a trace may have
 abbrev pub RunsAreJudgedLegal : Type 0
-RunsAreJudgedLegal = (l : Layout') (counters : ℕ → ℕ) (events : List Event) → IsLayout l → length events ≤ max_events
+RunsAreJudgedLegal = (l : Layout') (counters : ℕ → ℕ) (events : List Event) → IsLayout l → l.threads ≤ max_threads → length events ≤ max_events
     → IsJudgedLegal (head_of l) (notes (start l counters) events)
 
 -- so it is of every script that isn't too long to play

@@ -8,9 +8,9 @@ pub fn lines_are_read_back()
     ensures { LinesAreReadBack }
 {}
 
-/// Whatever happens, with any values of the counters at the beginning, in at most 100,000 events: the text of the run
-/// is a trace without fault, and that is legal. So whatever answers for this text as a checker does answers that it is
-/// legal, with exactly the number of its points, unless memory was wanted.
+/// Whatever happens, with any values of the counters at the beginning, of at most 64 threads and in at most 100,000
+/// events: the text of the run is a trace without fault, and that is legal. So whatever answers for this text as a
+/// checker does answers that it is legal, with exactly the number of its points, unless memory was wanted.
 pub fn runs_are_judged_legal()
     ensures { RunsAreJudgedLegal }
 {}

@@ -6,8 +6,9 @@ use Rattle.std.proofs.Math.Seq.{take-suc}
 use Rattle.std.proofs.lemmas.Bool.Decides.{nat_tests}
 use Rattle.std.proofs.lemmas.List.{take_more_set, get_or_past}
 use Rattle.std.proofs.lemmas.List.Elements.{All-map}
-use Rattle.memorymap.specs.Layouts.{Layout', IsLayout, HasThreads, HasConditions, HasProcesses, HasBases, AreOf, counter_place}
+use Rattle.memorymap.specs.Layouts.{Layout', IsLayout, HasThreadsTo, HasConditions, HasProcesses, HasBases, AreOf, counter_place}
 use Rattle.memorymap.specs.Refusals.{LaysOver}
+use Rattle.lockword.specs.Threads.{named_threads}
 use Rattle.memorymap.specs.declared.layout.Layout.{Layout}
 use Rattle.memorymap.specs.declared.layout.LayoutFault.{LayoutFault}
 use Rattle.memorymap.specs.declared.layout.LayoutFault.TheVariants.{Threads, Mutexes, Conditions, Processes, Bases, Members}
@@ -43,7 +44,7 @@ are_of s whole i p lt = let its = whole.within.members_possible i p lt in omega 
 -- what the machine of a script has is a layout
 pub is_layout : (s : Scope) → IsWellFormed s → IsLayout (layout_of s)
 is_layout s whole = record {
-  threads = (whole.some_thread, whole.within.threads_at_most);
+  threads = (whole.some_thread, omega (arith, whole.within.threads_at_most));
   mutexes = (whole.some_mutex, whole.within.mutexes_at_most);
   conditions = has_conditions s whole;
   each = whole.within.each_thread;
@@ -53,22 +54,22 @@ is_layout s whole = record {
 }
 
 -- and it can be laid out
-lays_its : (s : Scope) (r : Result Layout LayoutFault) → IsWellFormed s → LaysOver s.members (layout_of s).bases (length s.mutexes) (layout_of s).conditions r → IsOk r
+lays_its : (s : Scope) (r : Result Layout LayoutFault) → IsWellFormed s → LaysOver named_threads s.members (layout_of s).bases (length s.mutexes) (layout_of s).conditions r → IsOk r
 lays_its s (Ok l) whole h = refl
-lays_its s (Err Threads) whole h = absurd (h (subst HasThreads (sym whole.within.each_thread) (is_layout s whole).threads))
+lays_its s (Err Threads) whole h = absurd (h (subst (HasThreadsTo named_threads) (sym whole.within.each_thread) (whole.some_thread, whole.within.threads_at_most)))
 lays_its s (Err Mutexes) whole h = absurd (h.1 (is_layout s whole).mutexes)
 lays_its s (Err Conditions) whole h = absurd (h.2 (has_conditions s whole))
 lays_its s (Err Processes) whole h = absurd (h.1 (has_processes s whole))
 lays_its s (Err Bases) whole h = absurd (h.2 (is_layout s whole).bases)
 lays_its s (Err Members) whole h = absurd (h.3 (are_of s whole))
 
-pub lays : (s : Scope) (ps bs : List ℕ) (m : ℕ) (cs : List ℕ) (r : Result Layout LayoutFault) → IsWellFormed s → ps ≡ s.members → bs ≡ (layout_of s).bases → m ≡ length s.mutexes → cs ≡ (layout_of s).conditions → LaysOver ps bs m cs r
+pub lays : (s : Scope) (ps bs : List ℕ) (m : ℕ) (cs : List ℕ) (r : Result Layout LayoutFault) → IsWellFormed s → ps ≡ s.members → bs ≡ (layout_of s).bases → m ≡ length s.mutexes → cs ≡ (layout_of s).conditions → LaysOver named_threads ps bs m cs r
     → IsOk r
 lays s ps bs m cs r whole members bases mutexes conditions h =
-    lays_its s r whole (subst (λ (x : List ℕ). LaysOver x (layout_of s).bases (length s.mutexes) (layout_of s).conditions r) members
-    (subst (λ (x : List ℕ). LaysOver ps x (length s.mutexes) (layout_of s).conditions r) bases
-    (subst (λ (x : ℕ). LaysOver ps bs x (layout_of s).conditions r) mutexes
-    (subst (λ (x : List ℕ). LaysOver ps bs m x r) conditions h))))
+    lays_its s r whole (subst (λ (x : List ℕ). LaysOver named_threads x (layout_of s).bases (length s.mutexes) (layout_of s).conditions r) members
+    (subst (λ (x : List ℕ). LaysOver named_threads ps x (length s.mutexes) (layout_of s).conditions r) bases
+    (subst (λ (x : ℕ). LaysOver named_threads ps bs x (layout_of s).conditions r) mutexes
+    (subst (λ (x : List ℕ). LaysOver named_threads ps bs m x r) conditions h))))
 
 -- a script with no named process has one process
 zeros : (xs : List ℕ) → All (λ p. p ≤ 0) xs → xs ≡ replicate (length xs) 0

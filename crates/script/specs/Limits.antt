@@ -1,7 +1,7 @@
 -- How much a script may have of each thing: the numbers that the definitions mean. The code's constants are proved to
 -- be these wherever they are used.
 use Rattle.std.specs.Prelude.{ℕ}
-use Rattle.lockword.specs.Threads.{most_threads}
+use Rattle.lockword.specs.Threads.{named_threads}
 
 -- the bytes of a script: chosen, 64 KiB
 abbrev pub max_bytes : ℕ
@@ -19,9 +19,9 @@ max_processes = 7
 abbrev pub max_base : ℕ
 max_base = 1000000000
 
--- the threads that it may declare: a layout has no more
+-- the threads that it may declare: a layout that is asked for by numbers has no more
 abbrev pub max_threads : ℕ
-max_threads = most_threads
+max_threads = named_threads
 
 -- the mutexes that it may declare, and those of one `mutexes` or `locks` line: a layout has no more
 abbrev pub max_mutexes : ℕ

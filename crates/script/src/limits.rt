@@ -1,7 +1,7 @@
 //! How much a script may have of each thing. The definitions name these numbers too, and each use is proved against
 //! theirs.
 
-use lockword::MOST_THREADS;
+use lockword::NAMED_THREADS;
 
 /// The bytes of a script.
 pub const MAX_BYTES: usize = 65_536;
@@ -16,7 +16,7 @@ pub const MAX_PROCESSES: usize = 7;
 pub const MAX_BASE: u32 = 1_000_000_000;
 
 /// The threads that a script may declare.
-pub const MAX_THREADS: usize = MOST_THREADS as usize;
+pub const MAX_THREADS: usize = NAMED_THREADS as usize;
 
 /// The mutexes that a script may declare, and those of one `mutexes` or `locks` line.
 pub const MAX_MUTEXES: usize = 4_096;

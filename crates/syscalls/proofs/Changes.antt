@@ -11,6 +11,7 @@ use Rattle.buckets.proofs.Places.{without-none}
 use Rattle.buckets.specs.BucketCount.{bucket_count}
 use Rattle.syscalls.specs.Kernels.{nobody, bucket_at, queue_in, IsAsleep, IsAwake, IsKernel, HasBuckets, IsIdle, FallsAsleep, Wakes, Leaves, SetsHead}
 use Rattle.syscalls.proofs.Buckets.{kernel, at_same, at_other, number_same, queue_here, queue_there, queues_set, stands_home, inside}
+use Rattle.lockword.specs.Threads.{most_threads}
 
 -- what a kernel is, and what its buckets are
 abbrev pub Sound : ℕ → List ℕ → List Sleepers → Type 0
@@ -255,7 +256,7 @@ zero_heads n i hs zeros = ap (λ (xs : List ℕ). slice_index xs i) zeros ∙ gr
 pub idle : (n : ℕ) (hs : List ℕ) (bs : List Sleepers) → hs ≡ replicate n 0 → length bs ≡ bucket_count → All (λ b. IsEmptied b n) bs → IsIdle (kernel n hs bs) n
 idle n hs bs zeros count emptied = record { threads = refl; queues = λ k. empty_queue bs n (k % length bs) k emptied (mod-lt k (omega arith)); heads = λ t. zero_heads n (t - 1) hs zeros }
 
-pub sound_idle : (n : ℕ) (hs : List ℕ) (bs : List Sleepers) → hs ≡ replicate n 0 → 1 ≤ n → n ≤ 64 → length bs ≡ bucket_count → All (λ b. IsEmptied b n) bs → All IsOrderly bs → Sound n hs bs
+pub sound_idle : (n : ℕ) (hs : List ℕ) (bs : List Sleepers) → hs ≡ replicate n 0 → 1 ≤ n → n ≤ most_threads → length bs ≡ bucket_count → All (λ b. IsEmptied b n) bs → All IsOrderly bs → Sound n hs bs
 sound_idle n hs bs zeros low high count emptied orderly = (
   record {
     first = low;

@@ -217,7 +217,7 @@ const OF_CALLS: [Reason; 9] = [
         misfit: Misfit::Decided {
             reply: Reply::XRACED,
         },
-        text: "the call has its points already, and returns X_RACED",
+        text: "the call has its points already, and the last replied X_RACED",
         traces: &[(
             "1 begin t1 trylock m0\n2 point t1 m0 trylock X_RACED\n3 point t1 m0 trylock OK\nend 3",
             4,

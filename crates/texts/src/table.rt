@@ -2,6 +2,7 @@
 
 ghost use Rattle.std.specs.Prelude.{◌≡◌, ◌<◌, ◌≤◌, ◌++◌, [], ◌∷◌, codes, length, slice_get, option_to_list};
 ghost use Rattle.std.specs.List.{concat, flat_map};
+ghost use Rattle.memorymap.specs.Layouts.{cell_place};
 ghost use Rattle.protocol.specs.Notes.{facts_of, return_facts};
 ghost use Rattle.interleave.specs.Shown.{state_of};
 ghost use Rattle.streams.specs.Leaves.{Leaves};
@@ -168,6 +169,14 @@ fn write_queue<W: Write>(out: &mut W, script: &Script, queue: &Batch) -> io::Res
     }
 }
 
+/// The word of a mutex's cell.
+fn cell_word(machine: &Machine, mutex: u16) -> u64
+    requires { mutex < machine.now.layout.mutexes }
+    ensures { result ≡ (state_of machine.now).words (cell_place machine.now.layout mutex) }
+{
+    machine.word(machine.layout().cell(mutex)).unwrap()
+}
+
 /// `mutex NAME CELL OWNER SLEEPERS`: CELL in 16 hexadecimal digits, SLEEPERS in the order in which they are to be
 /// woken.
 fn write_mutex<W: Write>(
@@ -182,7 +191,7 @@ fn write_mutex<W: Write>(
         (mutex_line script.now (state_of machine.now) mutex) }
 {
     let place = machine.layout().cell(mutex);
-    let cell = machine.word(place).unwrap();
+    let cell = cell_word(machine, mutex);
     let owner = owner_word(script, machine.owner(mutex));
     write_mutex_start(out, script.mutex_name(mutex), cell, owner)?;
     write_queue(out, script, &machine.sleepers(place))?;

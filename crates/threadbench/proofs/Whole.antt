@@ -1,4 +1,4 @@
--- Whole queues: of at most 64, as all are.
+-- Whole queues: of at most `most_threads`, as all are.
 use Rattle.std.proofs.Common.{◌≡◌, ℕ, ◌≤◌, ◌==◌, Bool, true, false, Option, None, Some, List, ◌++◌, length, sym, ap, ◌∙◌, subst, arith}
 use Rattle.std.specs.Prelude.{take, drop, if◌then◌else◌}
 use Rattle.std.proofs.lemmas.Bool.Decides.{nat_tests}
@@ -24,8 +24,9 @@ use Rattle.ruledwords.specs.ConditionCalls.{cond_access_in}
 use Rattle.ruledwords.specs.Conditions.{IsAtCondition}
 use Rattle.threadbench.specs.Conditions.{IsMoveOf, MovesAll}
 use Rattle.threadbench.specs.Sections.{WakesFirsts}
+use Rattle.lockword.specs.Threads.{most_threads}
 
-few : (b : Sleepers) → IsOrderly b → (k : ℕ) → length (queue b k) ≤ 64
+few : (b : Sleepers) → IsOrderly b → (k : ℕ) → length (queue b k) ≤ most_threads
 few b is k = let long = is.long k in let room = is.room in let last = is.last in omega (arith, long, room, last)
 
 -- ---- a queue out of which the first were taken
@@ -56,7 +57,7 @@ abbrev pub moves_of : Access → Option ℕ
 moves_of (access.CmpRequeue from e n to m) = Some m
 moves_of a = None
 
-row_moves : (t cell counter m : ℕ) (r : CondRow) → moves_of (row_access t cell counter r) ≡ Some m → m ≡ 64
+row_moves : (t cell counter m : ℕ) (r : CondRow) → moves_of (row_access t cell counter r) ≡ Some m → m ≡ most_threads
 row_moves t cell counter m (cond.Broadcast (broadcast.Move seen)) is = sym (cc is)
 row_moves t cell counter m (cond.Wait (wait.Sleep seen)) is = absurd (cc is)
 row_moves t cell counter m (cond.Wait wait.LoadCell) is = absurd (cc is)
@@ -74,14 +75,14 @@ row_moves t cell counter m (cond.Broadcast (broadcast.SetWaiters seen)) is = abs
 row_moves t cell counter m cond.Awake is = absurd (cc is)
 row_moves t cell counter m (cond.Ended x) is = absurd (cc is)
 
-unlink_moves : (h e m : ℕ) (r : UnlinkRow) → moves_of (unlink_access h e r) ≡ Some m → m ≡ 64
+unlink_moves : (h e m : ℕ) (r : UnlinkRow) → moves_of (unlink_access h e r) ≡ Some m → m ≡ most_threads
 unlink_moves h e m unlink.LoadNext is = absurd (cc is)
 unlink_moves h e m (unlink.LoadPrevious n) is = absurd (cc is)
 unlink_moves h e m (unlink.StoreNext n p) is = absurd (cc is)
 unlink_moves h e m (unlink.StorePrevious n p) is = absurd (cc is)
 unlink_moves h e m (unlink.Ended x) is = absurd (cc is)
 
-phase_moves : (p : CondWhole) (f : CondPhase) (m : ℕ) → IsAtCondition f → moves_of (phase_access p f) ≡ Some m → m ≡ 64
+phase_moves : (p : CondWhole) (f : CondPhase) (m : ℕ) → IsAtCondition f → moves_of (phase_access p f) ≡ Some m → m ≡ most_threads
 phase_moves p (condition.AtWords r) m there is = row_moves p.thread p.cell p.counter m r is
 phase_moves p (condition.Announcing seen) m there is = absurd (cc is)
 phase_moves p (condition.Unlinking u seen) m there is = unlink_moves u.head u.entry m u.row is
@@ -89,17 +90,17 @@ phase_moves p (condition.Locking w) m there is = absurd there
 phase_moves p (condition.Ended x) m there is = absurd there
 
 -- it moves as many as there are threads at most
-pub moves_64 : (r : CondRunning) (e m : ℕ) → IsMoveOf (cond_access_in r) e m → m ≡ 64
-moves_64 r e m is = phase_moves r.program r.program.phase m r.there (ap moves_of is.2)
+pub moves_all : (r : CondRunning) (e m : ℕ) → IsMoveOf (cond_access_in r) e m → m ≡ most_threads
+moves_all r e m is = phase_moves r.program r.program.phase m r.there (ap moves_of is.2)
 
-pub moved_inside : (old new : Sleepers) (k j m : ℕ) (moved : List ℕ) → IsOrderly old → m ≡ 64 → MovesWithin old new k m j moved → MovesAll old new old new k j (Some moved)
+pub moved_inside : (old new : Sleepers) (k j m : ℕ) (moved : List ℕ) → IsOrderly old → m ≡ most_threads → MovesWithin old new k m j moved → MovesAll old new old new k j (Some moved)
 moved_inside old new k j m moved is many moves =
     let low : length (queue old k) ≤ m = subst (λ (n : ℕ). length (queue old k) ≤ n) (sym many) (few old is k) in (
       moves.left ∙ drop_all m (queue old k) low,
       moves.joined ∙ ap (λ (q : List ℕ). queue old j ++ q) (moves.firsts ∙ take_all m (queue old k) low),
     )
 
-pub moved_across : (old new other other' : Sleepers) (k j m : ℕ) (moved : List ℕ) → IsOrderly old → m ≡ 64 → MovesTo old new other other' k m j moved → MovesAll old new other other' k j (Some moved)
+pub moved_across : (old new other other' : Sleepers) (k j m : ℕ) (moved : List ℕ) → IsOrderly old → m ≡ most_threads → MovesTo old new other other' k m j moved → MovesAll old new other other' k j (Some moved)
 moved_across old new other other' k j m moved is many moves =
     let low : length (queue old k) ≤ m = subst (λ (n : ℕ). length (queue old k) ≤ n) (sym many) (few old is k) in (
       own k (drop m (queue old k)) (queue old k) (queue new k) (moves.leave.queues k) ∙ drop_all m (queue old k) low,

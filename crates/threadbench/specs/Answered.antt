@@ -31,8 +31,7 @@ use Rattle.threadbench.specs.declared.job.WorkerPass.TheVariants.{Lives, Reaped}
 use Rattle.threadbench.specs.Conditions.{CondReplied, CondDies}
 
 -- a call of the thread whose card is c replied so, and left the card d: its point, if it has one, is the last that the
--- thread has seen of the mutex. Of a wait that took its mutex again it is the second of two. No time limit of a lock
--- comes
+-- thread has seen of the mutex. Of a wait that took its mutex again it is the second of two. No time limit comes
 abbrev pub Replied : Layout' → Card → Op → Reply → Card → Type 0
 Replied k c (OnMutex (Lock m)) r d = Takes k m operation.Lock c r d
 Replied k c (OnMutex (TimedLock m)) r d = Takes k m operation.Lock c r d

@@ -51,7 +51,7 @@ pub(crate) fn move_within_in(
         result }
     ensures all { MovesAll bucket.old bucket.new bucket.old bucket.new key.0 to.0 result }
 {
-    // What a bucket always is, as that it has at most 64 sleepers, is known once it is asked for one.
+    // What a bucket always is, as that it has at most 250 sleepers, is known once it is asked for one.
     let _stands = bucket.stands(running.thread());
     let seen = running.load(words).get();
     if (seen & 0xffff_ffff) as u32 != expected {

@@ -219,7 +219,7 @@ fn take_firsts(bucket: &mut Bucket, thread: Tid, key: Key, most: u32) -> Batch
     ensures wakes { WakesFirsts (queue bucket.old key.0) (queue bucket.new key.0) most result }
     ensures orderly { IsOrderly bucket.new }
 {
-    // What a bucket always is, as that it has at most 64 sleepers, is known once it is asked for one.
+    // What a bucket always is, as that it has at most 250 sleepers, is known once it is asked for one.
     let _stands = bucket.stands(thread);
     bucket.take(key, most)
 }

@@ -34,7 +34,9 @@ point_out (misfit.OtherOperation op) c d Nothing fs of awake h =
     (c, awake, h.0, of, λ x begins. h.1 x (may_first c.operation d.operation x (subst (λ a. Beginning a ((d.operation, x) ∷ [])) h.0 begins)))
 point_out misfit.ReleaseRefused c d Nothing fs of awake h = (c, awake, h.0, of, h.1, h.2)
 point_out misfit.Released c d Released fs of awake h = (c, awake, of.0, of.1, h)
-point_out (misfit.Decided y) c d (Decided z) fs of awake h = (c, awake, subst (Complete c.operation (points_in fs)) (sym h) of.0)
+point_out (misfit.Decided y) c d (Decided z) fs of awake h =
+    let is = subst (λ (x : Reply). Of c.operation (points_in fs) (Decided x)) (sym h) of in
+    (c, awake, is.0, is.1)
 point_out m c d made fs of awake h = absurd h
 
 pub forbids_out : (m : Misfit) (s : Stage) (f : Fact) (fs : List Fact) → Kept s fs → Forbids m s f → IsOutOfLife m fs f

@@ -110,7 +110,8 @@ IsOutOfLife Released fs (Point d) = (c : Begun) × IsAwakeIn fs c × IsWait c.op
     × (points_in fs ≡ (operation.Unlock, OK) ∷ []) × (d.operation ≢ operation.Lock)
 IsOutOfLife Released fs (Return t x) =
     (c : Begun) × IsAwakeIn fs c × IsWait c.operation × (points_in fs ≡ (operation.Unlock, OK) ∷ [])
-IsOutOfLife (Decided x) fs (Point d) = (c : Begun) × IsAwakeIn fs c × Complete c.operation (points_in fs) x
+IsOutOfLife (Decided x) fs (Point d) =
+    (c : Begun) × IsAwakeIn fs c × Complete c.operation (points_in fs) x × Replied (points_in fs) x
 IsOutOfLife Undecided fs (Return t x) = (c : Begun) × IsAwakeIn fs c × (points_in fs ≡ [])
 IsOutOfLife (OtherReply y) fs (Return t x) =
     (c : Begun) × IsAwakeIn fs c × Complete c.operation (points_in fs) y × Replied (points_in fs) y

@@ -63,8 +63,8 @@ pub enum Misfit {
     /// The wait has released its mutex: it neither returns nor has another point before it has locked it again.
     #[error("the wait has released its mutex, and locks it next")]
     Released,
-    /// The call has all its points, and returns this reply.
-    #[error("the call has its points already, and returns {}", .reply.name())]
+    /// The call has all its points, and the last replied so.
+    #[error("the call has its points already, and the last replied {}", .reply.name())]
     Decided { reply: Reply },
     /// The call has had no point yet, and returns.
     #[error("the call has had no point yet")]

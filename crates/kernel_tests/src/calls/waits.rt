@@ -30,16 +30,16 @@ fn waits_and_wakes_of_four_threads(rt: HostRuntime) -> Result<(), Fail> {
 }
 
 static FIVE_SLEEP: [Call; 3] = [
-    Call::Sleep(&[3, 64, 1, 2], 15, 0),
+    Call::Sleep(&[3, 250, 1, 2], 15, 0),
     Call::Sleep(&[5], 4, 7),
-    Call::Sleepers(15, &[3, 64, 1, 2]),
+    Call::Sleepers(15, &[3, 250, 1, 2]),
 ];
 
 static ONE_DIES: [Call; 6] = [
-    Call::Remove(64, true),
+    Call::Remove(250, true),
     Call::Sleepers(15, &[3, 1, 2]),
-    Call::Remove(64, false),
-    Call::Asleep(64, false),
+    Call::Remove(250, false),
+    Call::Asleep(250, false),
     Call::Wake(15, u32::MAX, &[3, 1, 2]),
     Call::Asleep(5, true),
 ];
@@ -48,11 +48,11 @@ static ONE_DIES: [Call; 6] = [
 #[test]
 fn a_removal_takes_one_thread(rt: HostRuntime) -> Result<(), Fail> {
     let memory = words(&rt, rt.alloc())?;
-    let mut kernel = Kernel::new(rt.alloc(), 64)?;
+    let mut kernel = Kernel::new(rt.alloc(), 250)?;
     make_all(&rt, &mut kernel, &memory, &FIVE_SLEEP);
     let copy = kernel.clone()?;
     make_all(&rt, &mut kernel, &memory, &ONE_DIES);
-    has_sleepers(&rt, &copy, 15, &[3, 64, 1, 2]);
-    assert!(rt; kernel.threads() == 64);
+    has_sleepers(&rt, &copy, 15, &[3, 250, 1, 2]);
+    assert!(rt; kernel.threads() == 250);
     Ok(())
 }

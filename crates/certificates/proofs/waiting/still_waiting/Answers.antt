@@ -1,6 +1,6 @@
 use Rattle.std.proofs.Common.{ℕ, ◌+◌, ◌≤◌, ◌≡◌, Option, reverse, subst, ap, ◌∙◌, arith}
 use Rattle.std.specs.Option.{SomeIff}
-use Rattle.lockword.specs.Threads.{most_threads}
+use Rattle.lockword.specs.Threads.{most_threads, named_threads}
 use Rattle.certificates.specs.Waiters.{waiters_to}
 use Rattle.certificates.proofs.Behind.{none_yet, one_further}
 use Rattle.certificates.proofs.waiting.still_waiting.Goals as goal
@@ -17,5 +17,5 @@ loop-before-preserved c =
 
 pub returns : goal.returns
 returns c =
-    let all : c.loop-before.before ≡ most_threads = omega arith in
+    let all : c.loop-before.before ≡ named_threads = omega arith in
     c.loop-before.invariant ∙ ap (λ n. waiters_to n (reverse c.args.steps.now)) all

@@ -1,15 +1,16 @@
 use Rattle.std.proofs.Common.{rules, ◌≡◌, ◌≤◌, length, below_more, arith, sym, ◌∙◌}
 use Rattle.refuting.proofs.States.{has_all_beyond}
 use Rattle.refuting.proofs.state.covers.Goals as goal
+use Rattle.refuting.specs.States.{ids}
 
 pub loop-id-preserved : goal.loop-id-preserved
 loop-id-preserved c = below_more _ _ c.loop-id.invariant (search rules)
 
 pub returns : goal.returns
 returns c =
-    let one : length c.args.one.now.calls ≡ 65 = search rules in
-    let other : length c.args.other.now.calls ≡ 65 = search rules in
-    let all : 65 ≤ c.loop-id.id = c.loop-id-test.false in
+    let one : length c.args.one.now.calls ≡ ids = search rules in
+    let other : length c.args.other.now.calls ≡ ids = search rules in
+    let all : ids ≤ c.loop-id.id = c.loop-id-test.false in
     let same : c.args.one.now.object ≡ c.args.other.now.object = search rules in
     λ _. record {
       object = same;

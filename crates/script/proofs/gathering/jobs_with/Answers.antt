@@ -3,6 +3,7 @@ use Rattle.std.specs.Option.{SomeIff}
 use Rattle.script.specs.Jobs.{lists_seen}
 use Rattle.script.proofs.Phases.{far_first, room, turned_some, turned_none, turned_all}
 use Rattle.script.proofs.gathering.jobs_with.Goals as goal
+use Rattle.lockword.specs.Threads.{most_threads}
 
 pub loop-calls-init : goal.loop-calls-init
 loop-calls-init c = rw (c.new-jobs.ensures.items, c.into_iter-calls-iterator.ensures.into_iter_gives.0) (far_first (lists_seen c.args.calls.items))
@@ -15,7 +16,7 @@ unwrap-thread-requires c = let few : c.loop-calls.id + 1 ≤ length c.args.calls
 
 pub loop-calls-preserved-in-Continue-1 : goal.loop-calls-preserved-in-Continue-1
 loop-calls-preserved-in-Continue-1 c =
-    let new = subst (λ (o : Option ℕ). SomeIff o ((1 ≤ c.loop-calls.id + 1) × (c.loop-calls.id + 1 ≤ 64)) (c.loop-calls.id + 1)) c.unwrap-thread.ensures c.new.ensures in
+    let new = subst (λ (o : Option ℕ). SomeIff o ((1 ≤ c.loop-calls.id + 1) × (c.loop-calls.id + 1 ≤ most_threads)) (c.loop-calls.id + 1)) c.unwrap-thread.ensures c.new.ensures in
     rw c.in_ok-push.ensures.items
     (turned_some c.args.calls.items c.loop-calls.calls-iterator.rest.items c.next.new.self.rest.items c.in-Some.calls c.loop-calls.jobs.items c.loop-calls.id c.loop-calls.invariant c.in-Some.ensures.steps.0 (sym c.is_empty.ensures ∙ c.if-not-is_empty.true) c.unwrap-thread.result new.1)
 

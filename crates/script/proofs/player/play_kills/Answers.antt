@@ -10,6 +10,7 @@ use Rattle.script.specs.Playing.{Adds}
 use Rattle.script.proofs.Killing.{kills_pass, kills_next, kills_fail, kills_last, its_process}
 use Rattle.script.proofs.player.play_kills.Goals as goal
 use Rattle.script.proofs.player.play_kills.Goals.{then-process_of-process+in_ok-play_event, else-process_of-process}
+use Rattle.lockword.specs.Threads.{most_threads}
 
 pub returns-in_err-play_event : goal.returns-in_err-play_event
 returns-in_err-play_event c =
@@ -18,7 +19,7 @@ returns-in_err-play_event c =
     let s'' = state_of c.play_event.new.machine in
     let k = c.loop-earlier.earlier in
     let h = c.loop-earlier.invariant in
-    let id = (subst (λ (o : Option ℕ). SomeIff o ((1 ≤ k + 1) × (k + 1 ≤ 64)) (k + 1)) c.unwrap-thread.ensures c.new.ensures).1 in
+    let id = (subst (λ (o : Option ℕ). SomeIff o ((1 ≤ k + 1) × (k + 1 ≤ most_threads)) (k + 1)) c.unwrap-thread.ensures c.new.ensures).1 in
     let its = its_process s.layout c.layout-in-loop-earlier.result.now c.args.process k c.unwrap-thread.result c.process_of.result id (c.layout-in-loop-earlier.ensures.value ∙ h.same) c.process_of.ensures.value in
     let same = c.if-process_of-process.true in
     let killed : (slice_index s.layout.processes k == c.args.process) ≡ true = grind (arith, nat_tests) in
@@ -34,7 +35,7 @@ loop-earlier-preserved c =
     let s' = state_of c.loop-earlier.machine in
     let k = c.loop-earlier.earlier in
     let h = c.loop-earlier.invariant in
-    let id = (subst (λ (o : Option ℕ). SomeIff o ((1 ≤ k + 1) × (k + 1 ≤ 64)) (k + 1)) c.unwrap-thread.ensures c.new.ensures).1 in
+    let id = (subst (λ (o : Option ℕ). SomeIff o ((1 ≤ k + 1) × (k + 1 ≤ most_threads)) (k + 1)) c.unwrap-thread.ensures c.new.ensures).1 in
     let its = its_process s.layout c.layout-in-loop-earlier.result.now c.args.process k c.unwrap-thread.result c.process_of.result id (c.layout-in-loop-earlier.ensures.value ∙ h.same) c.process_of.ensures.value in
     elim c.if-process_of-process.branch [
       | then-process_of-process+in_ok-play_event w ↦

@@ -1,4 +1,4 @@
-use Rattle.std.proofs.Common.{◌∙◌, ◌+◌, ◌-◌, take, List, ℕ, sym, subst, arith}
+use Rattle.std.proofs.Common.{◌∙◌, ◌+◌, take, List, ℕ, sym, subst, arith}
 use Rattle.buckets.proofs.Moves.{somebody}
 use Rattle.syscalls.proofs.Told.{Reminded, reminded_none, reminded_more}
 use Rattle.syscalls.proofs.kernel.remember.Goals as goal

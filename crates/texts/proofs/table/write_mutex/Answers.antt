@@ -20,7 +20,7 @@ returns-in_err-write_mutex_start g c =
     let before = g.W.Write.contents c.args.out.now in
     let after = g.W.Write.contents c.write_mutex_start.new.out in
     let name : c.mutex_name.result.now ≡ name_in (slice_get c.args.script.now.mutexes m) = sym (ap name_in c.mutex_name.ensures) in
-    let cell : c.unwrap-cell.result ≡ s.words (cell_place s.layout m) = search rules in
+    let cell : c.cell_word-cell.result ≡ s.words (cell_place s.layout m) = c.cell_word-cell.ensures in
     let owner : c.owner_word-owner.result.now ≡ owner_word names (seen s m).owner = c.owner_word-owner.ensures ∙ ap (owner_word names) c.owner.ensures in
     ends_at_first before after c.from_residual.result (mutex_start (name_in (slice_get c.args.script.now.mutexes m)) (s.words (cell_place s.layout m)) (owner_word names (seen s m).owner)) (queue_names names (sleepers s m) ++ concat (codes "\n" ∷ []))
     c.from_residual.ensures.0 (subst (AppendsFront before after) (λ i. mutex_start (name i) (cell i) (owner i)) c.in_err-write_mutex_start.ensures)
@@ -34,7 +34,7 @@ returns-in_err-write_queue g c =
     let mid = g.W.Write.contents c.write_mutex_start.new.out in
     let after = g.W.Write.contents c.write_queue.new.out in
     let name : c.mutex_name.result.now ≡ name_in (slice_get c.args.script.now.mutexes m) = sym (ap name_in c.mutex_name.ensures) in
-    let cell : c.unwrap-cell.result ≡ s.words (cell_place s.layout m) = search rules in
+    let cell : c.cell_word-cell.result ≡ s.words (cell_place s.layout m) = c.cell_word-cell.ensures in
     let owner : c.owner_word-owner.result.now ≡ owner_word names (seen s m).owner = c.owner_word-owner.ensures ∙ ap (owner_word names) c.owner.ensures in
     let place : c.cell-place.result ≡ cell_place s.layout m = c.cell-place.ensures.value ∙ ap (λ (l : Layout'). cell_place l m) c.layout.ensures.value in
     let queue : c.sleepers.result ≡ sleepers s m = c.sleepers.ensures.value ∙ ap s.queues place in
@@ -51,7 +51,7 @@ returns g c =
     let late = g.W.Write.contents c.write_queue.new.out in
     let after = g.W.Write.contents c.put.new.out in
     let name : c.mutex_name.result.now ≡ name_in (slice_get c.args.script.now.mutexes m) = sym (ap name_in c.mutex_name.ensures) in
-    let cell : c.unwrap-cell.result ≡ s.words (cell_place s.layout m) = search rules in
+    let cell : c.cell_word-cell.result ≡ s.words (cell_place s.layout m) = c.cell_word-cell.ensures in
     let owner : c.owner_word-owner.result.now ≡ owner_word names (seen s m).owner = c.owner_word-owner.ensures ∙ ap (owner_word names) c.owner.ensures in
     let place : c.cell-place.result ≡ cell_place s.layout m = c.cell-place.ensures.value ∙ ap (λ (l : Layout'). cell_place l m) c.layout.ensures.value in
     let queue : c.sleepers.result ≡ sleepers s m = c.sleepers.ensures.value ∙ ap s.queues place in

@@ -5,6 +5,7 @@ use Rattle.buckets.specs.Rings.{row_of, sleeping_of}
 use Rattle.buckets.proofs.Kept.{orderly_rings, all_counted, few_asleep}
 use Rattle.buckets.proofs.Changes.{takes_none, takes_of_nobody, takes_more, takes_all}
 use Rattle.buckets.proofs.bucket.Bucket.take.Goals as goal
+use Rattle.lockword.specs.Threads.{most_threads}
 
 pub returns-then-self-eq0-clause-changes : goal.returns-then-self-eq0-clause-changes
 returns-then-self-eq0-clause-changes c =
@@ -29,7 +30,7 @@ returns-in_default-clause-changes c =
 
 pub push-requires : goal.push-requires
 push-requires c =
-    let few : standing c.args.self.now ≤ 64 = subst (λ (b : Sleepers). standing b ≤ 64) c.self.view_is (few_asleep _ _ _ _ c.self.invariant.0) in
+    let few : standing c.args.self.now ≤ most_threads = subst (λ (b : Sleepers). standing b ≤ most_threads) c.self.view_is (few_asleep _ _ _ _ c.self.invariant.0) in
     let before = c.loop.invariant.taken.fewer in
     let now = c.in-Some.ensures.changes.fewer in
     omega arith

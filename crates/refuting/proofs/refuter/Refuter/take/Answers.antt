@@ -6,6 +6,7 @@ use Rattle.refuting.specs.Turns.{entry_thread, turn_after, turn_at}
 use Rattle.refuting.specs.Counts.{WithinLimit, count_at}
 use Rattle.refuting.proofs.Taking.{past, takes, untold}
 use Rattle.refuting.proofs.refuter.Refuter.take.Goals as goal
+use Rattle.lockword.specs.Threads.{most_threads}
 
 pub returns-in_default : goal.returns-in_default
 returns-in_default c =
@@ -24,7 +25,7 @@ pub returns : goal.returns
 returns c =
     let at : c.from-at.result ≡ entry_thread c.args.entry.now = c.from-at.ensures ∙ c.get.ensures.value ∙ c.thread_of.ensures in
     let first : 1 ≤ c.from-at.result = omega (arith, c.get.ensures.first, c.from-at.ensures) in
-    let last : c.from-at.result ≤ 64 = omega (arith, c.get.ensures.last, c.from-at.ensures) in
+    let last : c.from-at.result ≤ most_threads = omega (arith, c.get.ensures.last, c.from-at.ensures) in
     takes c.args.entry.now c.args.reply c.args.self.now _ c.in-Some.after c.from-at.result c.is_empty.result at first last c.in-Some.ensures refl (ap (slice_set c.args.self.now.held c.from-at.result) c.count_after.ensures) refl
     (subst (λ ss. Retells c.args.self.now.mutex (turn_at c.args.self.now.turns c.from-at.result) c.args.entry.now ss c.in_ok-states.states.items) c.deref.ensures.value c.in_ok-states.ensures.retells)
     c.in_ok-states.ensures.closed

@@ -1,4 +1,4 @@
-use Rattle.std.proofs.Common.{◌≡◌, ◌-◌, ◌%◌, ℕ, length, set, sym, ap, ◌∙◌, subst, arith}
+use Rattle.std.proofs.Common.{◌≡◌, ◌%◌, ℕ, length, set, sym, ap, ◌∙◌, subst, arith}
 use Rattle.buckets.specs.Queues.{Enqueues}
 use Rattle.syscalls.specs.Kernels.{Kernel', IsAwake}
 use Rattle.std.proofs.lemmas.List.{length-set}
