@@ -11,6 +11,7 @@
 #include <sys/wait.h>
 
 enum { ROOM = 64 << 20 };
+_Static_assert(THREADS <= 64, "a trace has 64 threads at most");
 
 struct trace {
     pthread_mutex_t lock;
