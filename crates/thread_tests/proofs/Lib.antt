@@ -1,1 +1,2 @@
 mod Each
+pub mod Owing

@@ -1,5 +1,0 @@
-use Rattle.ruledwords.specs.Passes.{IsLive}
-use Rattle.condition_tests.proofs.roles.repeats.Given as goal
-
-abbrev pub invariant-loop : goal.invariant-loop
-invariant-loop g l = IsLive l.bench l.pass

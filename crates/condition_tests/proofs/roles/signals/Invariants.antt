@@ -1,5 +1,0 @@
-use Rattle.ruledwords.specs.Passes.{IsLive}
-use Rattle.condition_tests.proofs.roles.signals.Given as goal
-
-abbrev pub invariant-loop-woken : goal.invariant-loop-woken
-invariant-loop-woken g l = IsLive l.bench l.pass

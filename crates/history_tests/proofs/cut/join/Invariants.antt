@@ -1,5 +1,0 @@
-use Rattle.windows.specs.Windows.{IsAt}
-use Rattle.history_tests.proofs.cut.join.Given as goal
-
-abbrev pub invariant-loop : goal.invariant-loop
-invariant-loop l = IsAt l.steps l.cutter

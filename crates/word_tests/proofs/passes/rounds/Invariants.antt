@@ -1,5 +1,0 @@
-use Rattle.ruledwords.specs.Passes.{IsLive}
-use Rattle.word_tests.proofs.passes.rounds.Given as goal
-
-abbrev pub invariant-loop : goal.invariant-loop
-invariant-loop l = IsLive l.words l.pass
