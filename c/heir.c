@@ -36,7 +36,7 @@
 
 /* In nanoseconds: the times above; looks, the first and the longest between two; pauses, the shortest bound of them and
  * that where more threads wait than there are processors; naps, one and all; and how long who gives way stays awake. */
-enum { FAIR = 500000, LATE = 50000, WAY = 2000000, WAY_AWAKE = 20000 };
+enum { FAIR = 100000, LATE = 50000, LATE_AMID_WORK = 20000, WAY = 2000000, WAY_AWAKE = 20000 };
 enum { FIRST_LOOK = 500, LAST_LOOK = 10000, LEAST_PAUSE = 2000, CROWDED_PAUSE = 20000 };
 enum { LONGEST_PAUSE = PZ_SPIN * 1000, NAP = 1000000, ALL_NAPS = 20000000 };
 
@@ -236,15 +236,18 @@ int pz_changes(pz *p, unsigned t, uint64_t at, uint32_t expected, const struct l
 /* ---- The others give way. */
 
 /* Where the heir is late. It may stand behind this thread on the same processor, which is yielded, if the thread does
- * nothing but lock; elsewhere another one is woken. */
+ * nothing but lock; who works between its locks wakes another one, and sooner: few of them sleep then that a processor
+ * would be free for. */
 static void help_late(const pz *p, uint64_t cell, uint64_t is)
 {
     static _Thread_local long last;
-    long now = now_ns(), took = now - last;
+    long now = now_ns();
+    int works = now - last >= BUSY;
+    long late = !(is & COMES) ? FAIR + LATE : works ? LATE_AMID_WORK : LATE;
     last = now;
-    if (age(is, now) < (is & COMES ? LATE : FAIR + LATE) || !EXCHANGE(heir(p, cell), &is, (uint32_t)is | since(now)))
+    if (age(is, now) < late || !EXCHANGE(heir(p, cell), &is, (uint32_t)is | since(now)))
         return;
-    if (took < BUSY)
+    if (!works)
         sched_yield();
     else
         syscall(SYS_futex, (uint32_t *)&p->words[cell], FUTEX_WAKE, 1, NULL, NULL, 0);

@@ -18,7 +18,7 @@
 #define SYS_futex_waitv 449
 #endif
 
-enum { ASLEEP = 0, SECOND_NS = 1000000000 };
+enum { ASLEEP = 0, SECOND_NS = 1000000000, FEW_MS = 2 };
 
 struct sleeper {
     pz *p;
@@ -28,6 +28,7 @@ struct sleeper {
     struct limit *limit;
     struct ids before; /* who sleeps there already: woken first, and one that is killed then hands nothing on */
     long look_ms;
+    int watches_few;
     int is_woken; /* by its last system call, maybe: not where that says otherwise */
 };
 
@@ -94,7 +95,8 @@ static unsigned heir_of(const struct sleeper *s)
 }
 
 /* The word, the tokens of its owner and of its heir, and those of some who slept there before. The id of one that died;
- * 0: all are watched. */
+ * 0: all are watched. For the first FEW_MS of a sleep the owner's alone: most end before, and the more are watched, the
+ * longer the kernel takes to begin one. */
 static unsigned watch_all(const struct sleeper *s, unsigned owner, struct watched *all)
 {
     all->v[0] = watched(&s->p->words[s->at], s->expected);
@@ -102,6 +104,8 @@ static unsigned watch_all(const struct sleeper *s, unsigned owner, struct watche
     all->threads = (struct ids){{0}};
     if (!watch(s->p, owner, all))
         return owner;
+    if (s->watches_few)
+        return 0;
     unsigned next = heir_of(s);
     if (next && next != owner && !watch(s->p, next, all))
         return next;
@@ -243,8 +247,12 @@ static uint32_t wait_watching(struct sleeper *s, unsigned owner)
         pz_reap_one(s->p, dead);
         return PZ_WOKEN;
     }
-    int error = wait_for_any(s->p, &all, s->limit, PZ_POLL_S * 1000l);
+    int error = wait_for_any(s->p, &all, s->limit, s->watches_few ? FEW_MS : PZ_POLL_S * 1000l);
     s->is_woken = error == 0; /* by a token too: that another woke it by the word meanwhile isn't told */
+    if (s->watches_few && error == ETIMEDOUT) {
+        s->watches_few = 0;
+        return unless_changed(s, ASLEEP);
+    }
     return is_known(error) ? ended(s, owner, error) : wait_looking(s, owner);
 }
 
@@ -304,7 +312,7 @@ static void pass_on(const struct sleeper *s, uint32_t answer)
 uint32_t pz_sleep(pz *p, unsigned t, uint64_t at, uint32_t expected, struct limit *limit)
 {
     int counter = is_counter(p, at);
-    struct sleeper s = {p, t, at, expected, limit, .look_ms = FIRST_LOOK_MS};
+    struct sleeper s = {p, t, at, expected, limit, .look_ms = FIRST_LOOK_MS, .watches_few = 1};
     if (!counter && is_reaped(&s))
         return unless_changed(&s, PZ_WOKEN);
     if (!counter && pz_changes(p, t, at, expected, limit))

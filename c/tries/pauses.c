@@ -275,19 +275,25 @@ static void it_comes(void)
     CHECK(pz_self[0].owes == 2);
 }
 
-/* One that was woken is late: another one is woken by who locks now and then, once in LATE, as the eighth of its locks.
- */
-static void one_is_late(void)
+/* One that was woken is late. Who works between its locks wakes another one, as the eighth of these, once in
+ * LATE_AMID_WORK; who does nothing else wakes nobody. */
+static int wakes_beside_late(long between_locks)
 {
     begin(0, COMES | since(clock_ns));
     *sleepers(&file, cell) = bit_of(OTHER);
-    for (int i = 0; i < 10 * LOCKS; i++) {
+    for (int i = 0; i < 40 * LOCKS; i++) {
+        clock_ns += between_locks;
         if (looks_at_heir(&pz_self[0], 0))
             pz_give_way(&file, SELF, 0, NULL);
-        clock_ns += LATE / 2 / LOCKS;
     }
-    CHECK(wakes >= 4 && wakes <= 5 && asked.on == (uint32_t *)&words[cell]);
     CHECK((uint32_t)*heir(&file, cell) == COMES);
+    return wakes;
+}
+static void one_is_late(void)
+{
+    int woken = wakes_beside_late(BUSY / LOCKS + 1);
+    CHECK(woken >= 38 && woken <= 40 && asked.on == (uint32_t *)&words[cell]);
+    SAME(wakes_beside_late(BUSY / LOCKS / 2), 0);
 }
 
 /* ---- It sleeps. */
@@ -434,7 +440,7 @@ static void a_sleep_ends_there(clockid_t clock)
 /* It is far away: it looks by itself meanwhile, as ever. The longest there is too. */
 static void sleeps_twice(void)
 {
-    long ms = no_waitv ? FIRST_LOOK_MS * sleeps_asked : PZ_POLL_S * 1000l;
+    long ms = no_waitv ? FIRST_LOOK_MS * sleeps_asked : sleeps_asked == 1 ? FEW_MS : PZ_POLL_S * 1000l;
     CHECK(asked.ns == ms * 1000000);
     refuses = sleeps_asked < 2 ? ETIMEDOUT : 0;
     clock_ns += asked.ns;
