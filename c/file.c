@@ -33,10 +33,25 @@ struct opening {
 };
 
 static pthread_mutex_t table = PTHREAD_MUTEX_INITIALIZER;
+static _Thread_local atomic_int at_table __attribute__((tls_model("initial-exec"))); /* 0: this thread hasn't that */
 static pz *opened[FILES];
 static struct opening *openings;
 static pthread_once_t once = PTHREAD_ONCE_INIT;
 static int no_forks; /* why forks can't be told */
+
+/* A handler may interrupt a thread that has the table, and fork: so a thread says that it has it before it does, and up
+ * to behind that, and such a fork waits for nothing. (Its child only ends, or makes an execve(2).) */
+static void lock_table(void)
+{
+    if (atomic_fetch_add(&at_table, 1) == 0)
+        pthread_mutex_lock(&table);
+}
+static void unlock_table(void)
+{
+    if (atomic_load(&at_table) == 1)
+        pthread_mutex_unlock(&table);
+    atomic_fetch_sub(&at_table, 1);
+}
 
 static size_t up(size_t n, size_t to) { return (n + to - 1) / to * to; }
 
@@ -301,13 +316,12 @@ static void in_child(void)
     for (; openings; openings = openings->next)
         close(openings->fd);
     pthread_mutex_unlock(&table);
+    atomic_store(&at_table, 0);
     for (unsigned n = 0; n < FILES; n++)
         if (opened[n] && atomic_load(&opened[n]->is_closed))
             pz_let_go(opened[n]);
 }
-static void before_fork(void) { pthread_mutex_lock(&table); }
-static void in_parent(void) { pthread_mutex_unlock(&table); }
-static void at_fork(void) { no_forks = pthread_atfork(before_fork, in_parent, in_child); }
+static void at_fork(void) { no_forks = pthread_atfork(lock_table, unlock_table, in_child); }
 int pz_ready_for_forks(void)
 {
     pthread_once(&once, at_fork);
@@ -330,14 +344,14 @@ static int open_memory(void *memory, const struct asked *a, int whole, pz *p)
 static int enter(pz *p)
 {
     unsigned number = 0;
-    pthread_mutex_lock(&table);
+    lock_table();
     while (number < FILES && opened[number])
         number++;
     if (number < FILES) {
         p->number = number;
         opened[number] = p;
     }
-    pthread_mutex_unlock(&table);
+    unlock_table();
     return number < FILES ? 0 : EMFILE;
 }
 
@@ -347,11 +361,11 @@ static pz *closed;
 
 static pz *new_one(int of_memory)
 {
-    pthread_mutex_lock(&table);
+    lock_table();
     pz *p = of_memory ? closed : NULL;
     if (p)
         closed = p->next;
-    pthread_mutex_unlock(&table);
+    unlock_table();
     if (!p)
         return calloc(1, sizeof *p);
     memset(p, 0, sizeof *p);
@@ -367,10 +381,10 @@ static void free_one(pz *p, int of_memory)
         free(p);
         return;
     }
-    pthread_mutex_lock(&table);
+    lock_table();
     p->next = closed;
     closed = p;
-    pthread_mutex_unlock(&table);
+    unlock_table();
 }
 
 /* By a file, or where fd is -1 in memory. Others may fork meanwhile, so nothing of the process's is locked. */
@@ -426,23 +440,23 @@ static int begin_opening(struct opening *o, const char *path, int flags, mode_t 
     int fd = open_or_make(path, flags, mode);
     if (fd < 0)
         return errno;
-    pthread_mutex_lock(&table);
+    lock_table();
     o->fd = opened_again(fd);
     o->next = openings;
     openings = o;
-    pthread_mutex_unlock(&table);
+    unlock_table();
     return 0;
 }
 
 static void end_opening(struct opening *o)
 {
     struct opening **at = &openings;
-    pthread_mutex_lock(&table);
+    lock_table();
     while (*at != o)
         at = &(*at)->next;
     *at = o->next;
     close(o->fd);
-    pthread_mutex_unlock(&table);
+    unlock_table();
 }
 
 static int open_then_close(const char *path, int flags, mode_t mode, const struct asked *a, pz **out)
@@ -501,9 +515,9 @@ void pz_let_go(pz *p)
         atomic_fetch_add(&closings, 1);
     if (atomic_fetch_sub(&p->users, 1) != 1)
         return;
-    pthread_mutex_lock(&table);
+    lock_table();
     opened[p->number] = NULL;
-    pthread_mutex_unlock(&table);
+    unlock_table();
     free_one(p, !p->mapped);
 }
 

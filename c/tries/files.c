@@ -11,6 +11,7 @@
 #include <sys/resource.h>
 #include <sys/stat.h>
 #include <sys/statvfs.h>
+#include <sys/syscall.h>
 
 /* The C library's, but that a handler interrupts the first of these pieces, and that a maker stops at its first one. */
 static _Atomic int interrupted_pieces;
@@ -116,19 +117,28 @@ static void a_file_of_other_ids(void)
     unlink(path);
 }
 
-/* What a file says of itself. */
-static void the_numbers_of_a_file(void)
+/* What a file says of itself, and how much it takes. */
+static void the_numbers_of_one(unsigned mutexes, unsigned conds, size_t data)
 {
     const char *path = a_file("numbers");
+    size_t page = (size_t)sysconf(_SC_PAGESIZE), size = 64 * (mutexes + conds) + 256 * PZ_THREADS + 384 + data;
     struct pz_info info;
     struct stat st;
     pz *p;
-    SAME(pz_open(path, 0600, 30, 4, NULL, 10000, &p), 0);
+    SAME(pz_open(path, 0600, mutexes, conds, NULL, data, &p), 0);
     SAME(pz_info(p, &info), 0);
     CHECK(stat(path, &st) == 0 && (size_t)st.st_size == info.size);
-    CHECK(info.format == 3 && info.mutexes == 30 && info.conds == 4 && info.data == 10000);
+    CHECK(info.format == 3 && info.mutexes == mutexes && info.conds == conds && info.data == data);
+    CHECK(info.size == (size + page - 1) / page * page);
+    SAME(pz_mutex_lock(p, mutexes - 1), 0);
     pz_close(p);
     unlink(path);
+}
+static void the_numbers_of_a_file(void)
+{
+    the_numbers_of_one(30, 4, 10000);
+    the_numbers_of_one(2, 0, 0);
+    the_numbers_of_one(4096, 256, 1);
 }
 
 /* As with open(2): the mode that was asked for, but for what the umask takes away. */
@@ -318,6 +328,41 @@ static void a_lease(void)
     alarm(120);
     pz_close(second);
     unlink(leased_file);
+}
+
+/* A handler comes wherever an open closes a descriptor, and forks: its child only ends. */
+static _Atomic int forks_at; /* which of them is the next */
+static void forks(int unused)
+{
+    pid_t child = fork();
+    (void)unused;
+    if (!child)
+        _exit(0);
+    ends_well(child);
+}
+int close(int fd)
+{
+    if (atomic_load(&forks_at) && atomic_fetch_sub(&forks_at, 1) == 1)
+        raise(SIGUSR2);
+    return (int)syscall(SYS_close, fd);
+}
+static void a_handler_that_forks(void)
+{
+    const char *path = a_file("forking");
+    pz *p;
+    CHECK(sigaction(SIGUSR2, &(struct sigaction){.sa_handler = forks}, NULL) == 0);
+    alarm(30);
+    for (int n = 1, forked = 1; forked; n++) {
+        atomic_store(&forks_at, n);
+        SAME(pz_open(path, 0600, 1, 0, NULL, 0, &p), 0);
+        forked = atomic_exchange(&forks_at, 0) == 0;
+        CHECK(forked || n > 3);
+        SAME(pz_mutex_lock(p, 0), 0);
+        SAME(pz_mutex_unlock(p, 0), 0);
+        pz_close(p);
+    }
+    alarm(120);
+    unlink(path);
 }
 
 /* Neither one that waits for another opener is given up for a handler, nor one that takes room. */
@@ -837,6 +882,7 @@ int main(void)
     nothing_is_lost();
     a_file_that_cannot_be_written();
     a_lease();
+    a_handler_that_forks();
     an_interrupted_open();
     a_reader_with_the_lock();
     a_child_of_an_opener();
