@@ -1,6 +1,7 @@
 /* Locks and waits with a time limit: each answer; limits that are past, come, and are far away, by either clock; what a
- * call that gives up leaves, and to whom; owners that die just then. Polling is off, so who isn't woken sleeps for
- * good; a limit that must come is waited for, and one that mustn't is far away. */
+ * call that gives up leaves, and to whom; owners that die just then; several whom a broadcast moves; and what other
+ * threads of the process do meanwhile. Polling is off, so who isn't woken sleeps for good; a limit that must come is
+ * waited for, and one that mustn't is far away. */
 #include "driver.h"
 #include "times.h"
 #include <linux/futex.h>
@@ -103,6 +104,7 @@ static void the_2049th(void)
     for (unsigned m = 0; m < HELD_BY_ONE; m++)
         SAME(lock_until(p, m, CLOCK_MONOTONIC, &past[0]), 0);
     SAME(lock_until(p, HELD_BY_ONE, CLOCK_MONOTONIC, &far_away), EAGAIN);
+    SAME(lock_until(p, 0, CLOCK_MONOTONIC, &far_away), EAGAIN);
     pz_close(p);
 }
 
@@ -374,9 +376,11 @@ static void a_waits_limit_comes(void)
     pz_close(p);
 }
 
-/* What a child is told, by its end: it has begun a wait once `waits` says so and it has released the mutex. */
+/* What a child is told, by its end: it has begun a wait once `waits` says so and it has released the mutex. It has this
+ * id, but for 0. */
 struct waiting {
     struct timespec until;
+    unsigned id;
     _Atomic int waits;
 };
 static pid_t a_waiter(pz *p, clockid_t clock, long us, int often, struct waiting *w)
@@ -385,7 +389,9 @@ static pid_t a_waiter(pz *p, clockid_t clock, long us, int often, struct waiting
     pid_t it = a_child();
     if (!it) {
         be_interrupted(often ? 5000 : 0);
+        pz_self[p->number].last = (uint8_t)w->id;
         SAME(pz_mutex_lock(p, 0), 0);
+        CHECK(w->id == 0 || pz_thread_id(p) == w->id);
         w->until = us ? from_now(clock, us) : far_away;
         atomic_store(&w->waits, 1);
         int r = wait_until(p, clock, &w->until);
@@ -405,6 +411,16 @@ static int is_told(pid_t it)
     int status;
     CHECK(waitpid(it, &status, 0) == it && WIFEXITED(status));
     return WEXITSTATUS(status);
+}
+static void signal_one(pz *p)
+{
+    SAME(pz_mutex_lock(p, 0), 0);
+    SAME(pz_cond_signal(p, 0), 0);
+    SAME(pz_mutex_unlock(p, 0), 0);
+}
+static int anybody_is_noted(pz *p)
+{
+    return any_noted(sleepers(p, cell_place(0))) || any_noted(sleepers(p, counter_place(p, 0)));
 }
 
 /* One that is far away: what it waits for comes before. */
@@ -498,9 +514,7 @@ static void nothing_else_ends_it(clockid_t clock, struct waiting *w)
     it_waits_still(p, it);
     SAME(pz_mutex_reinit(p, 0), 0);
     it_waits_still(p, it);
-    SAME(pz_mutex_lock(p, 0), 0);
-    SAME(pz_cond_signal(p, 0), 0);
-    SAME(pz_mutex_unlock(p, 0), 0);
+    signal_one(p);
     SAME(is_told(it), 0);
     pz_close(p);
 }
@@ -512,16 +526,64 @@ static void the_next_is_signalled(struct waiting *w)
     pid_t first = a_waiter(p, CLOCK_MONOTONIC, 50000, 0, w), second = a_waiter(p, CLOCK_REALTIME, 0, 0, w + 1);
     SAME(is_told(first), ETIMEDOUT);
     until_asleep(second);
-    SAME(pz_mutex_lock(p, 0), 0);
-    SAME(pz_cond_signal(p, 0), 0);
-    SAME(pz_mutex_unlock(p, 0), 0);
+    signal_one(p);
     SAME(is_told(second), 0);
     pz_close(p);
 }
 
+/* Several wait, by ids of all words, up to limits in another order than they sleep in: some before a broadcast, some
+ * behind it, and others far away. */
+enum { SEVERAL = 8, BEFORE = -1, FAR_AWAY = 0 };
+static const int comes[SEVERAL] = {4, BEFORE, 2, 3, BEFORE, FAR_AWAY, FAR_AWAY, FAR_AWAY};
+
+static void several_wait(pz *p, long us, struct waiting *w, pid_t *it)
+{
+    word *of_counter = sleepers(p, counter_place(p, 0));
+    for (unsigned k = 0; k < SEVERAL; k++) {
+        w[k].id = 1 + (k + 1) * (PZ_THREADS - 1) / SEVERAL;
+        it[k] = a_waiter(p, clocks[k % 2], comes[k] == BEFORE ? 1000 : us * comes[k], 0, &w[k]);
+        if (comes[k] == FAR_AWAY)
+            until_asleep(it[k]);
+        while (comes[k] > 0 && !is_noted(of_counter, w[k].id) && !has_come(clocks[k % 2], &w[k].until))
+            rest(50);
+    }
+    for (unsigned k = 0; k < SEVERAL; k++)
+        if (comes[k] == BEFORE)
+            SAME(is_told(it[k]), ETIMEDOUT);
+}
+
+/* The broadcast moves who waits still, and its owner has the mutex until all near limits have come: none of them is
+ * late any more, each has it in turn, and nobody is left. Where a limit came before the broadcast, or may have come, it
+ * is tried again with later ones. */
+static int several_are_moved(long us, struct waiting *w)
+{
+    pz *p = open_new(1);
+    pid_t it[SEVERAL];
+    int in_time = 1;
+    several_wait(p, us, w, it);
+    SAME(pz_mutex_lock(p, 0), 0);
+    SAME(pz_cond_broadcast(p, 0), 0);
+    for (unsigned k = 0; k < SEVERAL; k++)
+        in_time &= comes[k] <= 0 || !has_come(clocks[k % 2], &w[k].until);
+    for (unsigned k = 0; k < SEVERAL; k++)
+        while (comes[k] > 0 && !has_come(clocks[k % 2], &w[k].until))
+            rest(500);
+    for (unsigned k = 0; k < SEVERAL && in_time; k++)
+        if (comes[k] != BEFORE)
+            until_asleep(it[k]); /* on the mutex */
+    SAME(pz_mutex_unlock(p, 0), 0);
+    for (unsigned k = 0; k < SEVERAL; k++) {
+        int told = comes[k] == BEFORE ? 0 : is_told(it[k]);
+        CHECK(told == 0 || (told == ETIMEDOUT && comes[k] > 0 && !in_time));
+    }
+    CHECK(!anybody_is_noted(p) && atomic_load(heir(p, cell_place(0))) == 0);
+    pz_close(p);
+    return in_time;
+}
+
 static void waits(void)
 {
-    struct waiting *w = shared(2 * sizeof *w);
+    struct waiting *w = shared(SEVERAL * sizeof *w);
     waits_answer();
     a_waits_limit_comes();
     for (int c = 0; c < 2; c++) {
@@ -536,6 +598,174 @@ static void waits(void)
         nothing_else_ends_it(clocks[c], w);
     }
     the_next_is_signalled(w);
+    for (long us = 100000; !several_are_moved(us, w); us *= 2)
+        ;
+}
+
+/* ---- Threads of one process. One is in a call with a limit while another one closes the file, or forks, or is in such
+ * a call too. */
+
+enum { TOO_LATE = 3 }; /* that was behind the limit, or may have been */
+static struct call {
+    pz *file;
+    int waits, wanted; /* in a wait, or in a lock; what it is told */
+    long us;           /* when its limit comes; 0: it is far away */
+    struct timespec until;
+    unsigned id;
+    _Atomic pid_t thread; /* once it is about to begin */
+} its[2];
+
+/* It takes part until it says otherwise. */
+static void *in_a_call(void *of)
+{
+    struct call *c = of;
+    pz *p = c->file;
+    SAME(c->waits ? pz_mutex_lock(p, 0) : pz_thread_begin(p), 0);
+    c->id = pz_thread_id(p);
+    c->until = c->us ? from_now(CLOCK_MONOTONIC, c->us) : far_away;
+    atomic_store(&c->thread, gettid());
+    int r = c->waits ? wait_until(p, CLOCK_MONOTONIC, &c->until) : lock_until(p, 0, CLOCK_MONOTONIC, &c->until);
+    SAME(r, c->wanted);
+    SAME((int)pz_thread_id(p), (int)c->id);
+    if (r == EOWNERDEAD)
+        SAME(pz_mutex_consistent(p, 0), 0);
+    if (c->waits || r != ETIMEDOUT)
+        SAME(pz_mutex_unlock(p, 0), 0);
+    SAME(pz_thread_end(p), 0);
+    return NULL;
+}
+static pthread_t begin_call(struct call *c, pz *p, int waits, long us, int wanted)
+{
+    pthread_t thread;
+    c->file = p;
+    c->waits = waits;
+    c->us = us;
+    c->wanted = wanted;
+    CHECK(!pthread_create(&thread, NULL, in_a_call, c));
+    while (!atomic_load(&c->thread))
+        rest(50);
+    if (!us)
+        until_asleep(atomic_load(&c->thread));
+    return thread;
+}
+static int is_before_it(const struct call *c) { return !c->us || !has_come(CLOCK_MONOTONIC, &c->until); }
+static int is_mapped(void *at) { return msync(at, 1, MS_ASYNC) == 0; }
+
+/* The file stays mapped until the one that is in the call has left it. */
+static void closes(pz *p, int waits, long us, _Atomic int *is_done)
+{
+    void *at = p->header;
+    pthread_t thread = begin_call(&its[0], p, waits, us, us ? ETIMEDOUT : 0);
+    pz_close(p);
+    int in_time = is_before_it(&its[0]);
+    CHECK(us || is_mapped(at));
+    atomic_store(is_done, 1);
+    CHECK(!pthread_join(thread, NULL) && !is_mapped(at));
+    _exit(in_time ? 0 : TOO_LATE);
+}
+
+/* It owns nothing, waits for nothing, and takes part anew: it signals who waits in its parent, or lives on until the
+ * limit has come. */
+static _Noreturn void is_forked(pz *p)
+{
+    struct call *c = &its[0];
+    void *at = p->header;
+    int in_time = is_before_it(c);
+    SAME((int)pz_thread_id(p), 0);
+    SAME(pz_mutex_unlock(p, 0), EPERM);
+    CHECK(pz_thread_id(p) && pz_thread_id(p) != c->id);
+    if (c->waits && !c->us)
+        signal_one(p);
+    while (c->us && is_before_it(c))
+        rest(500);
+    pz_close(p);
+    CHECK(!is_mapped(at));
+    _exit(in_time ? 0 : TOO_LATE);
+}
+static void forks(pz *p, int waits, long us, _Atomic int *is_done)
+{
+    void *at = p->header;
+    pthread_t thread = begin_call(&its[0], p, waits, us, us ? ETIMEDOUT : 0);
+    pid_t child = a_child();
+    if (!child)
+        is_forked(p);
+    int told = is_told(child);
+    atomic_store(is_done, 1);
+    CHECK(!pthread_join(thread, NULL) && !anybody_is_noted(p));
+    pz_close(p);
+    CHECK(!is_mapped(at));
+    _exit(told);
+}
+
+/* Whether that came before the limit. What is waited for comes from here, but for a forked child's signal. */
+static int beside_a_call(void (*does)(pz *, int, long, _Atomic int *), int waits, long us)
+{
+    pz *p = open_new(1);
+    _Atomic int *is_done = shared(sizeof *is_done);
+    int told = 0;
+    if (!waits)
+        SAME(pz_mutex_lock(p, 0), 0);
+    pid_t it = a_child();
+    if (!it)
+        does(p, waits, us, is_done);
+    for (; !us && !atomic_load(is_done); rest(100))
+        CHECK(waitpid(it, NULL, WNOHANG) == 0);
+    if (us)
+        told = is_told(it);
+    if (!waits)
+        SAME(pz_mutex_unlock(p, 0), 0);
+    else if (!us && does == closes)
+        signal_one(p);
+    if (!us)
+        told = is_told(it);
+    CHECK(told == 0 || (us && told == TOO_LATE));
+    munmap((void *)is_done, sizeof *is_done);
+    pz_close(p);
+    return told == 0;
+}
+
+/* Who closes the file owns what the other one waits for. */
+static void an_owner_closes(pz *p)
+{
+    SAME(pz_mutex_lock(p, 0), 0);
+    pthread_t thread = begin_call(&its[0], p, 0, 0, EOWNERDEAD);
+    pz_close(p);
+    CHECK(!pthread_join(thread, NULL));
+}
+
+/* Each up to its own time. */
+static void two_wait(pz *p)
+{
+    pthread_t first = begin_call(&its[0], p, 1, 0, 0), second = begin_call(&its[1], p, 1, 20000, ETIMEDOUT);
+    CHECK(!pthread_join(second, NULL));
+    until_asleep(atomic_load(&its[0].thread));
+    signal_one(p);
+    CHECK(!pthread_join(first, NULL));
+}
+
+static void in_a_process(void (*do_it)(pz *))
+{
+    pz *p = open_new(1);
+    pid_t it = a_child();
+    if (!it) {
+        do_it(p);
+        _exit(0);
+    }
+    ends_well(it);
+    pz_close(p);
+}
+
+static void threads_of_a_process(void)
+{
+    for (int waits = 0; waits < 2; waits++) {
+        CHECK(beside_a_call(closes, waits, 0) && beside_a_call(forks, waits, 0));
+        for (long us = 50000; !beside_a_call(closes, waits, us); us *= 2)
+            ;
+        for (long us = 50000; !beside_a_call(forks, waits, us); us *= 2)
+            ;
+    }
+    in_a_process(an_owner_closes);
+    in_a_process(two_wait);
 }
 
 int main(void)
@@ -553,5 +783,6 @@ int main(void)
     one_behind();
     an_owner_dies();
     waits();
+    threads_of_a_process();
     return 0;
 }
