@@ -438,6 +438,45 @@ static void one_closes_beside_its_thread(void)
     end();
 }
 
+/* A thread waits up to a limit, which comes behind the close: so nobody has the file any more, and it isn't mapped. */
+static struct timespec its_limit;
+static void *gives_up(void *file)
+{
+    SAME(pz_mutex_clocklock(file, 1, CLOCK_MONOTONIC, &its_limit), ETIMEDOUT);
+    atomic_store(&its.has, 1);
+    return NULL;
+}
+
+/* Whether it was closed before. (Who waits counts as one more that has it.) */
+static int closes_before_its_limit(long us)
+{
+    pthread_t thread;
+    void *at = p->header;
+    its_limit = from_now(CLOCK_MONOTONIC, us);
+    CHECK(!pthread_create(&thread, NULL, gives_up, p));
+    while (atomic_load(&p->users) == 1 && !atomic_load(&its.has))
+        rest(50);
+    pz_close(p);
+    int in_time = !has_come(CLOCK_MONOTONIC, &its_limit);
+    CHECK(!pthread_join(thread, NULL) && !is_mapped(at));
+    return in_time;
+}
+
+static void one_gives_up_in_a_closed_file(void)
+{
+    enum { TOO_LATE = 3 };
+    int status = -1;
+    begin();
+    for (long us = 50000; status; us *= 2) {
+        pid_t it = a_child();
+        if (!it)
+            _exit(closes_before_its_limit(us) ? 0 : TOO_LATE);
+        CHECK(waitpid(it, &status, 0) == it && WIFEXITED(status));
+        CHECK(status == 0 || WEXITSTATUS(status) == TOO_LATE);
+    }
+    end();
+}
+
 int main(void)
 {
     for (enum order call = BEGIN; call <= UNTIL_FAR; call++)
@@ -454,6 +493,7 @@ int main(void)
     one_is_interrupted();
     a_hundred_wait();
     one_closes_beside_its_thread();
+    one_gives_up_in_a_closed_file();
     puts("ids: each who waited for one had one");
     return 0;
 }
