@@ -72,6 +72,7 @@ static void an_owner_dies(void)
     SAME(pz_mutex_lock(p, 0), ENOTRECOVERABLE);
     SAME(pz_mutex_trylock(p, 0), ENOTRECOVERABLE);
     SAME(pz_mutex_trylock(p, 0), ENOTRECOVERABLE);
+    SAME(pz_mutex_owner(p, 0), 0);
     SAME(pz_mutex_unlock(p, 0), EPERM);
     pz_close(p);
 }
@@ -465,6 +466,8 @@ static void the_2049th_mutex(void)
         SAME(pz_mutex_lock(p, m), 0);
     SAME(pz_mutex_lock(p, 2048), EAGAIN);
     SAME(pz_mutex_trylock(p, 2048), EAGAIN);
+    SAME(pz_mutex_lock(p, 5), EAGAIN);
+    SAME(pz_mutex_trylock(p, 5), EAGAIN);
     SAME(pz_mutex_unlock(p, 5), 0);
     SAME(pz_mutex_lock(p, 2048), 0);
     pid_t child = fork();
@@ -561,6 +564,7 @@ static void another_namespace(void)
             puts("edges: no PID namespace to be had here");
             return;
         }
+    is_told(p, pz_mutex_owner(p, 0), PZ_ID_LIVES, 1); /* as it calls itself */
     SAME(pz_mutex_trylock(p, 0), EBUSY);
     pid_t sleeper = fork();
     if (!sleeper)
@@ -622,11 +626,76 @@ static void no_key_is_left(void)
     CHECK(waitpid(child, &status, 0) == child && status == 0);
 }
 
+/* All that there is, but for what is mapped already. */
+static struct chunk {
+    struct chunk *next;
+} * taken;
+static struct rlimit memory;
+static void take_all_memory(void)
+{
+    CHECK(!getrlimit(RLIMIT_AS, &memory) && !setrlimit(RLIMIT_AS, &(struct rlimit){0, memory.rlim_max}));
+    for (size_t size = 1 << 20; size >= sizeof *taken; size /= 2)
+        for (struct chunk *c; (c = malloc(size)); taken = c)
+            c->next = taken;
+}
+static void give_it_back(void)
+{
+    CHECK(!setrlimit(RLIMIT_AS, &memory));
+    for (struct chunk *next; taken; taken = next) {
+        next = taken->next;
+        free(taken);
+    }
+}
+
+/* No call finds room for what tells of the thread's end: nothing is taken then, and the next one goes on. */
+static void is_without_memory(pz *p)
+{
+    static const struct timespec past, far_away = {INT64_MAX, 0};
+    void *at = p->header;
+    take_all_memory();
+    SAME(pz_thread_begin(p), ENOMEM);
+    SAME(pz_mutex_lock(p, 0), ENOMEM);
+    SAME(pz_mutex_trylock(p, 0), ENOMEM);
+    SAME(pz_mutex_timedlock(p, 0, &far_away), ENOMEM);
+    SAME(pz_mutex_clocklock(p, 0, CLOCK_MONOTONIC, &past), ENOMEM);
+    SAME(pz_mutex_unlock(p, 0), ENOMEM);
+    SAME(pz_cond_timedwait(p, 0, &far_away), ENOMEM);
+    SAME(pz_cond_clockwait(p, 0, CLOCK_MONOTONIC, &past), ENOMEM);
+    SAME(pz_cond_signal(p, 0), ENOMEM);
+    SAME(pz_thread_id(p), 0);
+    is_told(p, 0, PZ_ID_FREE, 0);
+    give_it_back();
+    SAME(pz_mutex_timedlock(p, 0, &far_away), 0);
+    is_told(p, pz_mutex_owner(p, 0), PZ_ID_LIVES, getpid());
+    pz_close(p);
+    CHECK(msync(at, 1, MS_ASYNC) != 0);
+}
+
+/* Each thread has room for so many keys. (A sanitizer ends a process that has no memory left.) */
+extern void __asan_init(void) __attribute__((weak));
+static void no_memory_is_left(void)
+{
+    enum { WITH_ROOM = 32 };
+    if (__asan_init)
+        return;
+    pid_t child = a_child();
+    if (!child) {
+        pthread_key_t key;
+        pz *p = open_new("memory", 1, 1);
+        for (int i = 0; i < WITH_ROOM; i++)
+            CHECK(!pthread_key_create(&key, NULL));
+        is_without_memory(p);
+        _exit(0);
+    }
+    ends_well(child);
+}
+
 int main(void)
 {
     alarm(120);
     CHECK(!pthread_atfork(NULL, NULL, in_the_child));
     no_key_is_left();
+    no_memory_is_left();
     calls_and_refusals();
     an_owner_dies();
     who_owns_and_who_lives();
