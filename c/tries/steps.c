@@ -167,6 +167,35 @@ static void woken_and_dead(void)
     CHECK(waitpid(second, &status, 0) == second && status == 0);
 }
 
+static struct timespec from_now(long us)
+{
+    struct timespec t;
+    clock_gettime(CLOCK_MONOTONIC, &t);
+    long ns = t.tv_nsec + us % 1000000 * 1000;
+    return (struct timespec){t.tv_sec + us / 1000000 + ns / 1000000000, ns % 1000000000};
+}
+static int has_come(const struct timespec *t)
+{
+    struct timespec is = from_now(0);
+    return is.tv_sec > t->tv_sec || (is.tv_sec == t->tv_sec && is.tv_nsec >= t->tv_nsec);
+}
+
+/* A lock up to a time doesn't wait for the reaper beyond that. The dead one is told as such, and by no number. */
+static void locks_beside_a_reaper(void)
+{
+    static const long after_us[] = {0, 2000, 50000};
+    struct pz_info info;
+    unsigned dead = pz_mutex_owner(p, 0);
+    for (int i = 0; i < 3; i++) {
+        struct timespec until = from_now(after_us[i]);
+        SAME(pz_mutex_clocklock(p, 0, CLOCK_MONOTONIC, &until), ETIMEDOUT);
+        CHECK(has_come(&until));
+    }
+    CHECK(pz_mutex_owner(p, 0) == dead && dead);
+    SAME(pz_info(p, &info), 0);
+    CHECK(info.thread[dead].life == PZ_ID_DIED && info.thread[dead].tid == 0);
+}
+
 /* While a reaper stands still amid its walk, a trylock of what the dead thread owned waits for it: nobody alive owns
  * it.
  */
@@ -186,6 +215,7 @@ static void a_trylock_beside_a_reaper(void)
         _exit(pz_reap(p) != 1);
     }
     CHECK(waitpid(reaper, &status, WUNTRACED) == reaper && WIFSTOPPED(status));
+    locks_beside_a_reaper();
     pid_t tries = a_child();
     if (!tries) {
         is_counted = 1;
@@ -292,19 +322,6 @@ static long heirs_die(int is_timed)
 /* ---- Waits up to a time. Another thread waits besides, which slept first, and is told in the end. */
 
 enum teller { NOBODY, SIGNALLER, BROADCASTER, TELLERS };
-
-static struct timespec from_now(long us)
-{
-    struct timespec t;
-    clock_gettime(CLOCK_MONOTONIC, &t);
-    long ns = t.tv_nsec + us % 1000000 * 1000;
-    return (struct timespec){t.tv_sec + us / 1000000 + ns / 1000000000, ns % 1000000000};
-}
-static int has_come(const struct timespec *t)
-{
-    struct timespec is = from_now(0);
-    return is.tv_sec > t->tv_sec || (is.tv_sec == t->tv_sec && is.tv_nsec >= t->tv_nsec);
-}
 
 static _Noreturn void waits(const struct timespec *until, long before)
 {
@@ -434,6 +451,25 @@ static long with_waits_up_to_a_time(void)
     return n;
 }
 
+/* Who leaves is told as dead until its walk has ended. */
+static void a_leaver(void)
+{
+    struct pz_info info;
+    pid_t leaver = a_child();
+    if (!leaver) {
+        lock_all(p);
+        stops_in_walk = 6;
+        _exit(pz_thread_end(p));
+    }
+    until_stopped(leaver);
+    unsigned t = pz_mutex_owner(p, 0);
+    SAME(pz_info(p, &info), 0);
+    CHECK(t && info.thread[t].life == PZ_ID_DIED && info.thread[t].tid == 0);
+    kill(leaver, SIGCONT);
+    ends_well(leaver);
+    all_are_told(p);
+}
+
 /* Killed amid the walk over what it owned itself, a thread that leaves is a dead one until that has ended. */
 static void leavers_die(void)
 {
@@ -522,6 +558,7 @@ int main(void)
     long waits = heirs_die(0), timed = heirs_die(1), told = with_waits_up_to_a_time();
     a_trylock_beside_a_reaper();
     leavers_die();
+    a_leaver();
     openers_die_after_a_reboot();
     makers_die();
     SAME(pz_mutex_unlock(p, ANOTHERS), 0);
