@@ -782,7 +782,9 @@ int main(void)
     }
     one_behind();
     an_owner_dies();
+    alarm(100);
     waits();
+    alarm(100);
     threads_of_a_process();
     return 0;
 }
