@@ -180,7 +180,8 @@ static int has_come(const struct timespec *t)
     return is.tv_sec > t->tv_sec || (is.tv_sec == t->tv_sec && is.tv_nsec >= t->tv_nsec);
 }
 
-/* A lock up to a time doesn't wait for the reaper beyond that. The dead one is told as such, and by no number. */
+/* A lock up to a time doesn't wait for the reaper beyond that, and who cleans up doesn't wait at all. The dead one is
+ * told as such, and by no number. */
 static void locks_beside_a_reaper(void)
 {
     static const long after_us[] = {0, 2000, 50000};
@@ -191,6 +192,7 @@ static void locks_beside_a_reaper(void)
         SAME(pz_mutex_clocklock(p, 0, CLOCK_MONOTONIC, &until), ETIMEDOUT);
         CHECK(has_come(&until));
     }
+    SAME(pz_reap(p), 0);
     CHECK(pz_mutex_owner(p, 0) == dead && dead);
     SAME(pz_info(p, &info), 0);
     CHECK(info.thread[dead].life == PZ_ID_DIED && info.thread[dead].tid == 0);
