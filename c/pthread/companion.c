@@ -10,7 +10,21 @@ struct companion sh_all[COMPANIONS];
 static struct companion *anonymous;
 static unsigned how_many, look_at = FEW; /* so many are had; and once so many are, those in no use are looked for */
 static pthread_mutex_t adding = PTHREAD_MUTEX_INITIALIZER;
+static _Thread_local atomic_int at_adding __attribute__((tls_model("initial-exec"))); /* 0: this thread hasn't that */
 static pthread_once_t once = PTHREAD_ONCE_INIT;
+
+/* A handler may interrupt a thread that adds one, and fork: that waits for nothing, as in file.c. */
+static void lock_adding(void)
+{
+    if (atomic_fetch_add(&at_adding, 1) == 0)
+        sh_real_lock(&adding);
+}
+static void unlock_adding(void)
+{
+    if (atomic_load(&at_adding) == 1)
+        sh_real_unlock(&adding);
+    atomic_fetch_sub(&at_adding, 1);
+}
 
 struct companion *sh_find(uint64_t nonce)
 {
@@ -149,13 +163,13 @@ struct companion *sh_attach(const struct ours *mutex, int *why)
     *why = EINVAL;
     if (!nonce || sh_object_at(mutex, &o) || o.anonymous)
         return NULL;
-    sh_real_lock(&adding);
+    lock_adding();
     struct companion *c = sh_find(nonce);
     if (!c)
         c = add(&o, mutex->place, nonce, why);
     if (c)
         sh_enter(c);
-    sh_real_unlock(&adding);
+    unlock_adding();
     if (!c)
         sh_tell(&o, *why);
     return c;
@@ -182,13 +196,13 @@ static struct companion *had_of(const struct object *o)
 struct companion *sh_attach_object(const struct object *o, int *why)
 {
     *why = EAGAIN;
-    sh_real_lock(&adding);
+    lock_adding();
     struct companion *c = o->anonymous ? anonymous : had_of(o);
     if (!c && !o->anonymous)
         c = add(o, (struct place){0}, 0, why);
     if (c)
         sh_enter(c);
-    sh_real_unlock(&adding);
+    unlock_adding();
     return c;
 }
 
@@ -206,9 +220,9 @@ void sh_attach_mapped(void)
     int saved = errno, state;
     pthread_setcancelstate(PTHREAD_CANCEL_DISABLE, &state);
     sh_begin();
-    sh_real_lock(&adding);
+    lock_adding();
     sh_see_objects(attach_any);
-    sh_real_unlock(&adding);
+    unlock_adding();
     pthread_setcancelstate(state, NULL);
     errno = saved;
 }
@@ -223,21 +237,18 @@ pz *sh_open_bank(struct companion *c, unsigned bank, int whole)
 {
     if (bank >= BANKS || (whole && bank >= atomic_load(&c->table->banks)))
         return NULL;
-    sh_real_lock(&adding);
+    lock_adding();
     pz *p = atomic_load(&c->bank[bank]);
     if (!p && pz_open_in(bank_memory(c, bank), whole, count_of(bank), &p) == EMFILE) {
         let_go_of_unused();
         pz_open_in(bank_memory(c, bank), whole, count_of(bank), &p);
     }
     atomic_store_explicit(&c->bank[bank], p, memory_order_release);
-    sh_real_unlock(&adding);
+    unlock_adding();
     return p;
 }
 
 /* ---- Beginning and end. */
-
-static void before_fork(void) { sh_real_lock(&adding); }
-static void in_parent(void) { sh_real_unlock(&adding); }
 
 /* The parent's other threads, and so their calls, aren't here. */
 static void in_child(void)
@@ -245,6 +256,7 @@ static void in_child(void)
     for (unsigned i = 0; i < COMPANIONS; i++)
         atomic_store(&sh_all[i].calls, 0);
     sh_real_unlock(&adding);
+    atomic_store(&at_adding, 0);
 }
 
 /* Of shared memory without a name, which only forked children have too: mapped before any fork, and by no file, so that
@@ -264,7 +276,7 @@ static void map_anonymous(void)
 static void begin(void)
 {
     pz_ready_for_forks();
-    pthread_atfork(before_fork, in_parent, in_child);
+    pthread_atfork(lock_adding, unlock_adding, in_child);
     map_anonymous();
 }
 void sh_begin(void) { pthread_once(&once, begin); }

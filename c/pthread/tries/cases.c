@@ -1482,6 +1482,39 @@ static void a_narrow_umask(void)
     unlink(file("masked"));
 }
 
+/* A handler comes wherever the first calls on an object close a descriptor, and forks: its child only ends. */
+static int forks_at; /* which of them is the next */
+static void forks(int unused)
+{
+    pid_t child = fork();
+    (void)unused;
+    if (!child)
+        _exit(0);
+    ends_well(child);
+}
+int close(int fd)
+{
+    if (forks_at > 0 && --forks_at == 0)
+        raise(SIGUSR2);
+    return (int)syscall(SYS_close, fd);
+}
+static void a_handler_forks(void)
+{
+    CHECK(!sigaction(SIGUSR2, &(struct sigaction){.sa_handler = forks}, NULL));
+    alarm(60);
+    for (int n = 1, forked = 1; forked; n++) {
+        pthread_mutex_t *m = map(file("forking"), 1);
+        forks_at = n;
+        SAME(init(m), 0);
+        SAME(pthread_mutex_lock(m), 0);
+        forked = forks_at == 0;
+        forks_at = 0;
+        CHECK(forked || n > 3);
+        SAME(pthread_mutex_unlock(m), 0);
+        CHECK(munmap(m, sizeof *m) == 0 && unlink(file("forking")) == 0);
+    }
+}
+
 /* Of many companions a process that comes and goes opens its own and a few. */
 static void few_are_looked_at(void)
 {
@@ -1554,6 +1587,7 @@ int main(int argc, char **argv)
     in_child(a_renamed_file);
     another_namespace();
     in_child(forks_meanwhile);
+    in_child(a_handler_forks);
     in_child(no_room);
     in_child(a_reader);
     in_child(a_linked_companion);
