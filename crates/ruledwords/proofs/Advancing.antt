@@ -36,7 +36,7 @@ use Rattle.ruledwords.proofs.Ranks.{own_or_at_cell}
 
 -- ---- what was found, by where the call stands
 
-found_at_cell : (k : Layout') (p : Whole) (f : Phase) (c : Card) (n : ℕ) (d : Card) → IsAtCell f → Found k p f c n d → OwnKept k c d × ((m : ℕ) × IsOnMutex k (standing_of p) m × Made (standing_of p) (cell_place k m) c n d)
+pub found_at_cell : (k : Layout') (p : Whole) (f : Phase) (c : Card) (n : ℕ) (d : Card) → IsAtCell f → Found k p f c n d → OwnKept k c d × ((m : ℕ) × IsOnMutex k (standing_of p) m × Made (standing_of p) (cell_place k m) c n d)
 found_at_cell k p (phase.Announcing r) c n d at found = absurd at
 found_at_cell k p (phase.AtCell r) c n d at found = found
 found_at_cell k p (phase.Linking l y) c n d at found = absurd at

@@ -44,19 +44,22 @@ use Rattle.ruledwords.specs.declared.pass.Live.{Live}
 use Rattle.ruledwords.specs.declared.step.End.{End}
 use Rattle.ruledwords.specs.declared.step.End.TheVariants as end
 use Rattle.ruledwords.specs.declared.uncrossed.Crossed.{Crossed}
+use Rattle.ruledwords.specs.declared.uncrossed.Crossed.TheVariants as crossed
 use Rattle.ruledwords.specs.declared.uncrossed.Line.{Line}
 use Rattle.ruledwords.specs.Fates.{Heeds}
 use Rattle.ruledwords.specs.Calls.{count_after, standing_of, IsOnMutex}
 use Rattle.ruledwords.specs.Lists.{IsInCall, IsMortal}
 use Rattle.ruledwords.specs.Passes.{card, layout_of, IsLive, IsPassOf}
+use Rattle.ruledwords.specs.Releases.{IsReleasing}
 use Rattle.ruledwords.specs.Rules.{card_of}
 use Rattle.ruledwords.specs.Straight.{crossed_answer, crossed_call, crossed_phase, ComesAcross}
 use Rattle.ruledwords.specs.Stretches.{ComesOn, ComesToEnd, StepsOn}
-use Rattle.ruledwords.specs.Turns.{running_of, Advances, FindsWord, HasDied, IsCallOf, IsIn, IsOneStep, stops_with, stops_within}
+use Rattle.ruledwords.specs.Turns.{running_of, Advances, FindsWord, HasDied, IsAtCell, IsCallOf, IsIn, IsOneStep, stops_with, stops_within}
 use Rattle.ruledwords.specs.InLine.{announcing_lock, announcing_release, is_free, line_of, is_held, linking, loading_lock, loading_unlock, releasing, stands, taking, led_to, told_in, unlinking, Leads}
-use Rattle.ruledwords.proofs.Advancing.{goes as advances, lives as returns}
+use Rattle.ruledwords.proofs.Advancing.{found_at_cell, goes as advances, lives as returns}
 use Rattle.ruledwords.proofs.Fates.{heeds_on}
 use Rattle.ruledwords.proofs.Listing.{call_begins, mortal}
+use Rattle.ruledwords.proofs.ReleaseSteps.{ends_alone, releases_begun, stays_on}
 use Rattle.ruledwords.proofs.Turning.{begun, begun_ready, begun_room, begun_under_way, died_in, starts_so}
 use Rattle.ruledwords.proofs.Stepping.{after, comes_further, Went}
 
@@ -71,11 +74,11 @@ told point (phase.Ended x) = refl
 
 -- ---- an access that a call comes to
 
-pub comes_on : (w : Words) (a : Pass Live) (p : Whole) (b : Pass Live) (q : Whole) → IsCallOf w a p → Advances w a p b q None → ComesOn w a p b q
-comes_on w a p b q of adv = ((adv of).0, (λ x call is. let t = adv is.0 in (t.0, t.1.2 x call is.1)), (λ m e y is. let t = adv is.0 in (t.0, t.1.3 m e y is.1)))
+pub comes_on : (w : Words) (a : Pass Live) (p : Whole) (b : Pass Live) (q : Whole) → IsCallOf w a p → IsOneStep (whole_access p) → Advances w a p b q None → ComesOn w a p b q
+comes_on w a p b q of one adv = ((adv of).0, (λ x call is. let t = adv is.0 in (t.0, t.1.2 x call is.1)), (λ m e y is. let t = adv is.0 in (t.0, t.1.3 m e y is.1)), (λ x m is. stays_on w x m a p one is b q adv))
 
-pub comes_to_end : (w : Words) (a : Pass Live) (p : Whole) (b : Pass Live) (q : Whole) (x : Reply) → Advances w a p b q (Some x) → ComesToEnd w a p b (end.Replied x)
-comes_to_end w a p b q x adv = ((λ y call is. (adv is.0).2 y call is.1), (λ m e y is. (adv is.0).3 m e y is.1))
+pub comes_to_end : (w : Words) (a : Pass Live) (p : Whole) (b : Pass Live) (q : Whole) (x : Reply) → IsOneStep (whole_access p) → Advances w a p b q (Some x) → ComesToEnd w a p b (end.Replied x)
+comes_to_end w a p b q x one adv = ((λ y call is. (adv is.0).2 y call is.1), (λ m e y is. (adv is.0).3 m e y is.1), (λ y m is. ends_alone w y m a p one is b x q adv))
 
 -- one was made, and found this word
 pub leads : (w : Words) (a : Pass Live) (p : Whole) → IsCallOf w a p → IsOneStep (whole_access p) → (s : Seat (Unit {0}) (List Card)) (n : ℕ) → FindsWord w a.seat s p n → (point : Option Point) → point ≡ whole_point p (whole_led p (answer_at (whole_access p) n)).point → (h : ℕ) → h ≡ count_after a.held point
@@ -84,8 +87,9 @@ leads w a p of one s n finds point counted h had b table is holds =
     let q : Whole = led_to p n in
     let x : Answer = answer_at (whole_access p) n in
     record {
-      goes = λ under. comes_on w a p b q of (λ at. advances w a p at one s n finds (whole_access p) refl x refl q refl point counted h had b table is holds under);
-      ends = λ y ended. comes_to_end w a p b q y (λ at. returns w a p at one s n finds (whole_access p) refl x refl q refl point counted h had b table is holds y ended);
+      goes = λ under. comes_on w a p b q of one (λ at. advances w a p at one s n finds (whole_access p) refl x refl q refl point counted h had b table is holds under);
+      ends = λ y ended. comes_to_end w a p b q y one (λ at. returns w a p at one s n finds (whole_access p) refl x refl q refl point counted h had b table is holds y ended);
+      found = λ at. ap (λ (z : Card). z.last) is ∙ (found_at_cell (layout_of w) p p.phase (card a) n (card_of s.me.0) at finds.2).1.2.last;
     }
 
 -- ---- what an access in the line needs
@@ -113,6 +117,13 @@ leads_out {w} {a} {p} {q} l f x {b} {d} {n} so_far is to found =
     let there = subst (λ (z : Whole). Leads w b z d n) is found.leads in
     record { steps = after w a p b (stands l f) d (end.Replied x) so_far.came (there.ends x to); fate = heeds_on _ _ _ _ _ _ _ so_far.fate found.fate }
 
+-- it leaves its line at the cell
+crosses_at_cell : (x : Crossed) → IsAtCell (crossed_phase x)
+crosses_at_cell (crossed.Locking n) = tt
+crosses_at_cell (crossed.Meeting c n) = tt
+crosses_at_cell (crossed.Unlocking n) = tt
+crosses_at_cell (crossed.Releasing n) = tt
+
 -- there it left its line
 pub leads_across : {w : Words} {a : Pass Live} {p : Whole} {q : Whole} (l : Line) (x : Crossed) {b d : Pass Live} {n s s' s'' t t' t'' : ℕ} → Went w a p b (stands l (crossed_phase x)) s s' t t' → q ≡ stands l (crossed_phase x) → PhaseKnows (crossed_phase x) → answer_at (whole_access (stands l (crossed_phase x))) n ≡ crossed_answer x → record { leads : Leads w b q d n; fate : Heeds s' s'' t' t'' 0 }
     → record { steps : ComesAcross w a p d l (Ok x); fate : Heeds s s'' t t'' 0 }
@@ -123,6 +134,7 @@ leads_across {w} {a} {p} {q} l x {b} {d} {n} so_far is knows answered found =
     record {
       steps = record {
         knows = knows;
+        found = sym answered ∙ ap (answer_at (whole_access (stands l f))) (sym (there.found (crosses_at_cell x)));
         goes = λ under. comes_further w a p b (stands l f) d (crossed_call l x) so_far.came (subst (ComesOn w b (stands l f) d) to (there.goes (subst (λ (z : Whole). IsInProgress z.phase) (sym to) under)));
         ends = λ y ended. after w a p b (stands l f) d (end.Replied y) so_far.came (there.ends y (ap (λ (z : Whole). z.phase) to ∙ ended));
       };
@@ -156,6 +168,7 @@ pub behind : {w : Words} {a : Pass Live} {p : Whole} {b : Pass Live} {q : Whole}
 behind {w} {a} {p} {b} {q} l d (Ok x) so_far more = record {
   steps = record {
     knows = more.steps.knows;
+    found = more.steps.found;
     goes = λ under. comes_further w a p b q d (crossed_call l x) so_far.came (more.steps.goes under);
     ends = λ y ended. after w a p b q d (end.Replied y) so_far.came (more.steps.ends y ended);
   };
@@ -311,6 +324,14 @@ unlock_begins_in w a m l live inside is =
     let k : Layout' = layout_of w in
     let same : stands l loading_unlock ≡ begins k (card a).thread (call.Unlock m) = ap (λ (z : Line). stands z loading_unlock) is ∙ ap (λ (t : ℕ). begins k t (call.Unlock m)) (sym a.own) in
     subst (IsIn w a (call.Unlock m) a) (sym same) (begins_in w a (call.Unlock m) live inside refl)
+
+-- an unlock that begins so tells of no word yet
+pub unlock_begins_releasing : (w : Words) (a : Pass Live) (m : ℕ) (l : Line) → IsLive w a → m < (layout_of w).mutexes → l ≡ line_of (layout_of w) a.thread operation.Unlock m → IsReleasing w a m a (stands l loading_unlock)
+unlock_begins_releasing w a m l live inside is =
+    let k : Layout' = layout_of w in
+    let t = unlock_begins_in w a m l live inside is in
+    let same : stands l loading_unlock ≡ begins k (card a).thread (call.Unlock m) = ap (λ (z : Line). stands z loading_unlock) is ∙ ap (λ (t : ℕ). begins k t (call.Unlock m)) (sym a.own) in
+    releases_begun w a m (running_of w a (stands l loading_unlock) t.0) (ap Ok (sym same)) refl t.1
 
 pub dies_in : (w : Words) (a : Pass Live) (call : Call) (b : Pass Live) (d : Pass Dead) → (q : Whole) × IsIn w a call b q → card d ≡ card b → (IsPassOf w b → IsPassOf w d) → HasDied w a call d
 dies_in w a call b d t same of =

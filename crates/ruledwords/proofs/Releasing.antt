@@ -41,7 +41,7 @@ use Rattle.ruledwords.specs.declared.pass.Live.{Live}
 use Rattle.ruledwords.specs.declared.turn.Running.{Running}
 use Rattle.ruledwords.specs.Calls.{row_in, standing_of}
 use Rattle.ruledwords.specs.Lists.{known}
-use Rattle.ruledwords.specs.Outcomes.{wakes_of}
+use Rattle.ruledwords.specs.Outcomes.{wakes_of, FreesAlone}
 use Rattle.ruledwords.specs.Owing.{owing_at, OwesThere}
 use Rattle.ruledwords.specs.Passes.{card, layout_of}
 use Rattle.ruledwords.specs.Seen.{Called}
@@ -139,6 +139,19 @@ module _ (w : Words) (a : Pass Live) (m : ℕ) (r : Running) (u : IsUnderWay w a
     (once_there v p.phase (card a) (cell_place k m) c is so).0,
     (once_there v p.phase (card a) (cell_place k m) c is so).1,
   )
+
+  -- where its entry is cleared, nobody was to be woken
+  pub cleared : p.phase ≡ Clearing OK → (d : Card) (x : Answer) → Answers k p p.phase c d x → FreesAlone (card a) (cell_place k m) d
+  cleared is d x answers =
+      let told = own_told k p p.phase c d x (subst IsOwnAccess (sym is) tt) answers in
+      let same = told.0 ∙ own_same k c (whole_access p) in
+      let last : d.last ≡ c.last = ap (λ (z : Card). z.last) same in
+      let so = freed Nobody is in
+      record {
+        owner = ap (λ (n : ℕ). (fields_of n).owner) last ∙ so.1;
+        nobody = ap wakes_of last ∙ sym so.2;
+        once = subst (ChangedOnce (card a) (cell_place k m)) (sym same) (still_once (card a) (cell_place k m) c _ so.3);
+      }
 
   module _ (owing_not : (v : Wakes) → p.phase ≢ owing_at v) where
     -- its access is a step

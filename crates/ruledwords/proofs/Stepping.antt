@@ -22,15 +22,15 @@ use Rattle.ruledwords.proofs.StepsOfCalls.{try_step, consistent_step}
 
 -- no access was made
 pub stays : (w : Words) (a : Pass Live) (p : Whole) → IsCallOf w a p → ComesOn w a p a p
-stays w a p of = (of, (λ x call is. is), (λ m c y is. is))
+stays w a p of = (of, (λ x call is. is), (λ m c y is. is), (λ x m is. is))
 
 pub comes_further : (w : Words) (a : Pass Live) (p : Whole) (b : Pass Live) (q : Whole) (d : Pass Live) (r : Whole) → ComesOn w a p b q → ComesOn w b q d r → ComesOn w a p d r
-comes_further w a p b q d r first more = (more.0, (λ x call is. more.1 x call (first.1 x call is)), (λ m c y is. more.2 m c y (first.2 m c y is)))
+comes_further w a p b q d r first more = (more.0, (λ x call is. more.1 x call (first.1 x call is)), (λ m c y is. more.2 m c y (first.2 m c y is)), (λ x m is. more.3 x m (first.3 x m is)))
 
 -- what ends after accesses ends since before them
 pub after : (w : Words) (a : Pass Live) (p : Whole) (b : Pass Live) (q : Whole) (d : Pass Live) (e : End) → ComesOn w a p b q → ComesToEnd w b q d e → ComesToEnd w a p d e
 after w a p b q d end.Stopped first ends = (ends.0, comes_further w a p b q d ends.0 first ends.1)
-after w a p b q d (end.Replied y) first ends = ((λ x call is. ends.0 x call (first.1 x call is)), (λ m c z is. ends.1 m c z (first.2 m c z is)))
+after w a p b q d (end.Replied y) first ends = ((λ x call is. ends.0 x call (first.1 x call is)), (λ m c z is. ends.1 m c z (first.2 m c z is)), (λ x m is. ends.2 x m (first.3 x m is)))
 
 -- a `?` hands on how the call ended
 handed_on : (w : Words) (a : Pass Live) (p : Whole) (b : Pass Live) (r : Result Whole End) (e : End) → IsErrAnd r (λ y. y ≡ e) → ComesToEnd w a p b e → StepsTo w a p b r

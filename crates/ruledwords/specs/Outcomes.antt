@@ -131,6 +131,14 @@ Frees w m a (released.Refused b r) =
     IsLive w b × (r ≡ EPERM) × Called (card a) (cell_place (layout_of w) m) ((Unlock, EPERM) ∷ []) (card b)
 Frees w m a (released.Dead d) = IsDying w d × Died (card a) (cell_place (layout_of w) m) Unlock (card d)
 
+-- an unlock by the thread whose card was c has freed the mutex whose cell is at q, and its card is d now. The word that
+-- its release found, the last that it met, of which its thread was the owner, was the cell's right before the one change
+-- that the thread has made of it; and it said that nobody waits, so nobody was to be woken
+pub record FreesAlone (c : Card) (q : ℕ) (d : Card) : Type 0 where
+  pub owner : (fields_of d.last).owner ≡ c.thread
+  pub nobody : wakes_of d.last ≡ Nobody
+  pub once : ChangedOnce c q d
+
 -- an unlock that stands at p with the pass a frees its mutex so, wherever it began
 abbrev pub FreesFrom : Words → Pass Live → Whole → Released → Type 0
 FreesFrom w a p o = (x : Pass Live) (m : ℕ) → IsReleasing w x m a p → Frees w m x o

@@ -2,9 +2,11 @@
 --
 -- *Stretches.* Accesses of a call that are made one after the other, where it stands: wherever it began, and whatever
 -- it was decided, it is under way still, or has replied, or its thread died in it, as an access by itself would have
--- it.
-use Rattle.std.specs.Prelude.{ℕ, Result, Ok, Err}
+-- it. An unlock that goes on still tells of the word that its release found; and it ends with OK only where that word
+-- said that nobody waits: whoever waits is owed a wake, which is no such access.
+use Rattle.std.specs.Prelude.{◌≡◌, ℕ, Result, Ok, Err}
 use Rattle.lockword.specs.declared.reply.Reply.{Reply}
+use Rattle.lockword.specs.declared.reply.Reply.TheVariants.{OK}
 use Rattle.mutex.specs.declared.call.Call.{Call}
 use Rattle.mutex.specs.Standings.{Whole}
 use Rattle.mutex.specs.Whole.{whole_access}
@@ -19,7 +21,9 @@ use Rattle.ruledwords.specs.declared.turn.Running.{Running}
 use Rattle.ruledwords.specs.declared.turn.Stretch.{Stretch}
 use Rattle.ruledwords.specs.declared.turn.Stretch.TheVariants as stretch
 use Rattle.ruledwords.specs.declared.turn.Turn.TheVariants.{Goes, Lives}
+use Rattle.ruledwords.specs.Outcomes.{FreesAlone}
 use Rattle.ruledwords.specs.Passes.{card, layout_of, IsDying}
+use Rattle.ruledwords.specs.Releases.{IsReleasing, StaysReleasing}
 use Rattle.ruledwords.specs.Turns.{running_of, EndsIn, GoesOn, GoesOnDecided, HasDied, HasSeenTheSame}
 use Rattle.ruledwords.specs.Turns.{IsCallOf, IsDecided, IsOneStep, IsRunningOf, IsUnderWay, StaysIn, Turned}
 
@@ -31,15 +35,21 @@ abbrev pub StaysDecided : Words → Pass Live → Whole → Pass Live → Whole 
 StaysDecided w a p b q = (m : ℕ) (c : Card) (x : Reply) → IsDecidedIn w m c x a p → IsDecidedIn w m c x b q
 
 -- a call that stood at p with the pass a stands at q now, with the pass b: wherever it began, and whatever it was
--- decided
+-- decided; and an unlock tells of the word that its release found
 abbrev pub ComesOn : Words → Pass Live → Whole → Pass Live → Whole → Type 0
-ComesOn w a p b q = IsCallOf w b q × StaysIn w a p b q × StaysDecided w a p b q
+ComesOn w a p b q = IsCallOf w b q × StaysIn w a p b q × StaysDecided w a p b q × StaysReleasing w a p b q
+
+-- an unlock that stood at p with the pass a has replied so, and its pass is b: with OK only where nobody was to be woken
+abbrev pub EndsAlone : Words → Pass Live → Whole → Pass Live → Reply → Type 0
+EndsAlone w a p b y = (x : Pass Live) (m : ℕ) → IsReleasing w x m a p → y ≡ OK
+    → FreesAlone (card x) (cell_place (layout_of w) m) (card b)
 
 -- its thread died in it, or it replied
 abbrev pub ComesToEnd : Words → Pass Live → Whole → Pass Live → End → Type 0
 ComesToEnd w a p b end.Stopped = (q : Whole) × ComesOn w a p b q
 ComesToEnd w a p b (end.Replied y) = EndsIn w a p b (end.Replied y)
     × ((m : ℕ) (c : Card) (x : Reply) → IsDecidedIn w m c x a p → GoesOnDecided w m c x (Lives b y))
+    × EndsAlone w a p b y
 
 -- an access was made, or the call stays at its section, or it ended
 abbrev pub StepsOn : Words → Pass Live → Whole → Pass Live → Whole → Result Unit End → Type 0

@@ -22,7 +22,8 @@ ghost use Rattle.ruledwords.specs.declared.pass.Words.{Words};
 ghost use Rattle.ruledwords.specs.InLine.{announcing_lock, is_free, is_held, line_of, linking, loading_unlock};
 ghost use Rattle.ruledwords.specs.InLine.{releasing, stands, told_in, unlinking, Leads, LeadsOn};
 ghost use Rattle.ruledwords.specs.Straight.{crossed_answer, crossed_phase, stops_straight, ComesAcross, CrossedFrom};
-ghost use Rattle.ruledwords.specs.Straight.{IsCrossingOf, LocksStraight, StraightFrom};
+ghost use Rattle.ruledwords.specs.Straight.{FreesStraight, IsCrossingOf, LocksStraight};
+ghost use Rattle.ruledwords.specs.Straight.{StandsWhereLed, StraightFrom};
 
 use crate::fate::{Fate, either_stops};
 use crate::pass::{Dead, Live, Pass, Words};
@@ -394,10 +395,12 @@ impl Crossed {
 }
 
 impl Crossing {
-    /// What the call comes to by the answer of the access at which it left its line. No access is made.
+    /// What the call comes to by the answer of the access at which it left its line, and by that answer alone. No access
+    /// is made.
     pub fn go_on(self) -> Turn
         requires { (w : Words) × IsCrossingOf w self }
-        ensures { (w : Words) (a : Pass Live) (call : Call) → CrossedFrom w a call self → GoesOn w a call result }
+        ensures stands { StandsWhereLed self result }
+        ensures goes { (w : Words) (a : Pass Live) (call : Call) → CrossedFrom w a call self → GoesOn w a call result }
     {
         let Crossing { pass, line, at } = self;
         let mut program = line.at(at.phase());
@@ -451,8 +454,9 @@ impl Running {
         }
     }
 
-    /// Begins an unlock, and makes accesses of it one after the other, while nobody crosses it: mostly all. The fate is
-    /// asked before each access, and then the note, by which others can tell the thread to stop.
+    /// Begins an unlock, and makes accesses of it one after the other, while nobody crosses it: mostly all. It is
+    /// answered OK there only where nobody is to be woken. The fate is asked before each access, and then the note, by
+    /// which others can tell the thread to stop.
     #[inline(always)]
     pub fn unlock<F: Fate, N: Fate>(
         words: &Words,
@@ -464,6 +468,7 @@ impl Running {
         requires pass { IsLive words.now pass }
         requires mutex { mutex < (layout_of words.now).mutexes }
         ensures unlocks { StraightFrom words.now pass (UnlockCall mutex) result }
+        ensures frees { FreesStraight words.now mutex pass result }
         ensures fate { Heeds (F.stopped fate.old) (F.stopped fate.new) (N.stopped note.old) (N.stopped note.new)
             (stops_straight result) }
     {

@@ -22,7 +22,7 @@ returns-in-Ok-clause-locks g c =
     let not_many = c.if-pass-ge-HELD_LIMIT.false in
     let low : a.held < 2048 = omega arith in
     let begun = lock_begins_in c.args.words.now a c.args.mutex c.line-line.result c.requires.pass c.requires.mutex (few a.held low) c.line-line.ensures in
-    picks_false (nat_le 2048 (held (card a))) _ _ (ap (nat_le 2048) (sym a.count) ∙ few a.held low) (record { knows = c.in-Ok.ensures.steps.knows; goes = λ under. (c.in-Ok.ensures.steps.goes under).1 a (Lock c.args.mutex) begun; ends = λ y ended. (c.in-Ok.ensures.steps.ends y ended).0 a (Lock c.args.mutex) begun })
+    picks_false (nat_le 2048 (held (card a))) _ _ (ap (nat_le 2048) (sym a.count) ∙ few a.held low) (record { knows = c.in-Ok.ensures.steps.knows; found = c.in-Ok.ensures.steps.found; goes = λ under. (c.in-Ok.ensures.steps.goes under).1 a (Lock c.args.mutex) begun; ends = λ y ended. (c.in-Ok.ensures.steps.ends y ended).0 a (Lock c.args.mutex) begun })
 
 pub returns-in-Replied-clause-locks : goal.returns-in-Replied-clause-locks
 returns-in-Replied-clause-locks g c =

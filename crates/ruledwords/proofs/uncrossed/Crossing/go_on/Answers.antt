@@ -7,8 +7,8 @@ use Rattle.ruledwords.specs.Straight.{crossed_answer}
 use Rattle.ruledwords.proofs.Phases.{returns_ended}
 use Rattle.ruledwords.proofs.uncrossed.Crossing.go_on.Goals as goal
 
-pub returns-in-Returns : goal.returns-in-Returns
-returns-in-Returns c = λ w a call so.
+pub returns-in-Returns-clause-goes : goal.returns-in-Returns-clause-goes
+returns-in-Returns-clause-goes c = λ w a call so.
     let x = c.args.self in
     let p : Whole = c.at-program.result in
     let led = whole_led p c.answer.result in
