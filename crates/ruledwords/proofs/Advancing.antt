@@ -52,6 +52,10 @@ found_own k p (phase.Unlinking u e) c n d own found = found
 found_own k p (phase.Clearing y) c n d own found = found
 found_own k p (phase.Ended y) c n d own found = absurd own
 
+pub found_untrimmed : (k : Layout') (p : Whole) (f : Phase) (c : Card) (n : ℕ) (d : Card) → Found k p f c n d → d.trims ≡ c.trims
+found_untrimmed k p (phase.AtCell r) c n d found = found.1.2.trims
+found_untrimmed k p f c n d found = ap (λ (z : Card). z.trims) (found.0 ∙ own_same k c (whole_access p))
+
 -- an access of an own word is no point
 stored_point : (f : Phase) (x : Answer) → (once_stored f x).point ≡ None
 stored_point f Stored = refl

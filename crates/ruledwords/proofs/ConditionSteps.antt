@@ -93,7 +93,7 @@ meets {o} k slots id c q low p runs countless =
     (λ n. told_count (cond_led_at p n).decided ∙ countless n)
     (λ n known. none_where_same c.thread z (op_in (cond_led_at p n).decided) (reply_in (cond_led_at p n).decided) (object_of (fields_of n)) (told_runs n known))
     told_runs
-    (λ ws n d known sees writes misses last counted mark values. turns c d (λ c d. Meets k q p c n d) record {
+    (λ ws n d known sees writes misses last counted trims mark values. turns c d (λ c d. Meets k q p c n d) record {
       sees = subst (λ (xs : List Point). Sees c z xs (object_of (fields_of n)) d) (told_decided c.thread z (cond_led_at p n).decided) sees;
       misses = misses;
       last = last;

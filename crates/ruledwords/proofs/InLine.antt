@@ -56,9 +56,10 @@ use Rattle.ruledwords.specs.Straight.{crossed_answer, crossed_call, crossed_phas
 use Rattle.ruledwords.specs.Stretches.{ComesOn, ComesToEnd, StepsOn}
 use Rattle.ruledwords.specs.Turns.{running_of, Advances, FindsWord, HasDied, IsAtCell, IsCallOf, IsIn, IsOneStep, stops_with, stops_within}
 use Rattle.ruledwords.specs.InLine.{announcing_lock, announcing_release, is_free, line_of, is_held, linking, loading_lock, loading_unlock, releasing, stands, taking, led_to, told_in, unlinking, Leads}
-use Rattle.ruledwords.proofs.Advancing.{found_at_cell, goes as advances, lives as returns}
+use Rattle.ruledwords.proofs.Advancing.{found_at_cell, found_untrimmed, goes as advances, lives as returns}
 use Rattle.ruledwords.proofs.Fates.{heeds_on}
 use Rattle.ruledwords.proofs.Listing.{call_begins, mortal}
+use Rattle.ruledwords.proofs.OwnTurns.{answered_untrimmed}
 use Rattle.ruledwords.proofs.ReleaseSteps.{ends_alone, releases_begun, stays_on}
 use Rattle.ruledwords.proofs.Turning.{begun, begun_ready, begun_room, begun_under_way, died_in, starts_so}
 use Rattle.ruledwords.proofs.Stepping.{after, comes_further, Went}
@@ -75,10 +76,10 @@ told point (phase.Ended x) = refl
 -- ---- an access that a call comes to
 
 pub comes_on : (w : Words) (a : Pass Live) (p : Whole) (b : Pass Live) (q : Whole) → IsCallOf w a p → IsOneStep (whole_access p) → Advances w a p b q None → ComesOn w a p b q
-comes_on w a p b q of one adv = ((adv of).0, (λ x call is. let t = adv is.0 in (t.0, t.1.2 x call is.1)), (λ m e y is. let t = adv is.0 in (t.0, t.1.3 m e y is.1)), (λ x m is. stays_on w x m a p one is b q adv))
+comes_on w a p b q of one adv = ((adv of).0, (λ x call is. let t = adv is.0 in (t.0, t.1.2 x call is.1)), (λ m e y is. let t = adv is.0 in (t.0, t.1.3 m e y is.1)), (λ x m is. stays_on w x m a p one is b q adv), let t = adv of in let turned = t.1.1 in answered_untrimmed (layout_of w) p p.phase (card a) (card b) turned.0 turned.1)
 
-pub comes_to_end : (w : Words) (a : Pass Live) (p : Whole) (b : Pass Live) (q : Whole) (x : Reply) → IsOneStep (whole_access p) → Advances w a p b q (Some x) → ComesToEnd w a p b (end.Replied x)
-comes_to_end w a p b q x one adv = ((λ y call is. (adv is.0).2 y call is.1), (λ m e y is. (adv is.0).3 m e y is.1), (λ y m is. ends_alone w y m a p one is b x q adv))
+pub comes_to_end : (w : Words) (a : Pass Live) (p : Whole) (b : Pass Live) (q : Whole) (x : Reply) → IsCallOf w a p → IsOneStep (whole_access p) → Advances w a p b q (Some x) → ComesToEnd w a p b (end.Replied x)
+comes_to_end w a p b q x of one adv = ((λ y call is. (adv is.0).2 y call is.1), (λ m e y is. (adv is.0).3 m e y is.1), (λ y m is. ends_alone w y m a p one is b x q adv), let t = adv of in let turned = t.1 in answered_untrimmed (layout_of w) p p.phase (card a) (card b) turned.0 turned.1)
 
 -- one was made, and found this word
 pub leads : (w : Words) (a : Pass Live) (p : Whole) → IsCallOf w a p → IsOneStep (whole_access p) → (s : Seat (Unit {0}) (List Card)) (n : ℕ) → FindsWord w a.seat s p n → (point : Option Point) → point ≡ whole_point p (whole_led p (answer_at (whole_access p) n)).point → (h : ℕ) → h ≡ count_after a.held point
@@ -88,8 +89,9 @@ leads w a p of one s n finds point counted h had b table is holds =
     let x : Answer = answer_at (whole_access p) n in
     record {
       goes = λ under. comes_on w a p b q of one (λ at. advances w a p at one s n finds (whole_access p) refl x refl q refl point counted h had b table is holds under);
-      ends = λ y ended. comes_to_end w a p b q y one (λ at. returns w a p at one s n finds (whole_access p) refl x refl q refl point counted h had b table is holds y ended);
+      ends = λ y ended. comes_to_end w a p b q y of one (λ at. returns w a p at one s n finds (whole_access p) refl x refl q refl point counted h had b table is holds y ended);
       found = λ at. ap (λ (z : Card). z.last) is ∙ (found_at_cell (layout_of w) p p.phase (card a) n (card_of s.me.0) at finds.2).1.2.last;
+      trims = ap (λ (z : Card). z.trims) is ∙ found_untrimmed (layout_of w) p p.phase (card a) n (card_of s.me.0) finds.2;
     }
 
 -- ---- what an access in the line needs
@@ -135,6 +137,7 @@ leads_across {w} {a} {p} {q} l x {b} {d} {n} so_far is knows answered found =
       steps = record {
         knows = knows;
         found = sym answered ∙ ap (answer_at (whole_access (stands l f))) (sym (there.found (crosses_at_cell x)));
+        trims = there.trims ∙ so_far.came.4;
         goes = λ under. comes_further w a p b (stands l f) d (crossed_call l x) so_far.came (subst (ComesOn w b (stands l f) d) to (there.goes (subst (λ (z : Whole). IsInProgress z.phase) (sym to) under)));
         ends = λ y ended. after w a p b (stands l f) d (end.Replied y) so_far.came (there.ends y (ap (λ (z : Whole). z.phase) to ∙ ended));
       };
@@ -169,6 +172,7 @@ behind {w} {a} {p} {b} {q} l d (Ok x) so_far more = record {
   steps = record {
     knows = more.steps.knows;
     found = more.steps.found;
+    trims = more.steps.trims ∙ so_far.came.4;
     goes = λ under. comes_further w a p b q d (crossed_call l x) so_far.came (more.steps.goes under);
     ends = λ y ended. after w a p b q d (end.Replied y) so_far.came (more.steps.ends y ended);
   };

@@ -135,7 +135,7 @@ marks_cell {o} k slots id c m old new low thread mine is = subst (λ (f : ℕ �
     (λ n. deathless (n == old))
     (λ n known. reinitless (n == old))
     (λ n known. subst (λ (xs : List Point). Run (object_of (fields_of n)) xs (object_of (fields_of (left_by_mark old n)))) (sym (told_death c.thread q (n == old))) (runs c.thread old thread.0 mine n q))
-    (λ ws n d known sees writes misses last counted mark values. turns c d (λ c d. Marks k q old c n d) record {
+    (λ ws n d known sees writes misses last counted trims mark values. turns c d (λ c d. Marks k q old c n d) record {
       sees = subst (λ (xs : List Point). Sees c q xs (object_of (fields_of (left_by_mark old n))) d) (told_death c.thread q (n == old)) sees;
       misses = misses;
       last = last;

@@ -284,7 +284,7 @@ pub allows : {o : List ℕ} (k : Layout') (slots id : ℕ) (c : Card) (m : ℕ) 
     → ((n : ℕ) → told_counts (op n) (r n) ≡ 0)
     → ((n : ℕ) → Knowing k c (cell_place k m) n → NoReinit (op n) (r n))
     → ((n : ℕ) → Knowing k c (cell_place k m) n → Run (object_of (fields_of n)) (told c.thread (cell_place k m) (op n) (r n)) (object_of (fields_of (f n))))
-    → ((ws : List ℕ) (n : ℕ) (d : Card) → Knowing k c (cell_place k m) n → Sees c (cell_place k m) (told c.thread (cell_place k m) (op n) (r n)) (object_of (fields_of (f n))) d → Writes c (cell_place k m) n (f n) d → d.misses ≡ misses n → d.last ≡ last n → d.counted ≡ c.counted → mark_at d.marks (cell_place k m) ≡ (fields_of (f n)).waiters → d.values ≡ vs ws n → tells n (d ∷ [], []))
+    → ((ws : List ℕ) (n : ℕ) (d : Card) → Knowing k c (cell_place k m) n → Sees c (cell_place k m) (told c.thread (cell_place k m) (op n) (r n)) (object_of (fields_of (f n))) d → Writes c (cell_place k m) n (f n) d → d.misses ≡ misses n → d.last ≡ last n → d.counted ≡ c.counted → d.trims ≡ c.trims → mark_at d.marks (cell_place k m) ≡ (fields_of (f n)).waiters → d.values ≡ vs ws n → tells n (d ∷ [], []))
     → Allows (Kept k o) slots id (c ∷ [], []) (cell_place k m) f tells
 allows {o} k slots id c m op f r misses last vs tells low keeps_values steadies countless none_reinits runs says_of s h deep is small =
     let p : ℕ = cell_place k m in
@@ -298,5 +298,5 @@ allows {o} k slots id c m op f r misses last vs tells low keeps_values steadies 
       keeps,
       tt,
       kept_step o k s h id c m (op n) (r n) (f n) (misses n) (last n) (vs s.words n) is low keep steady (countless n) (none_reinits n knows) run,
-      says_of s.words n _ knows (sees_step k s h id c m (op n) (r n) (f n) (misses n) (last n) (vs s.words n) is low (none_reinits n knows) run) (writes_there k s.words s.views h.recorded id c _ p (f n) fit.thread fit.threads (h.recorded.leave m low) is refl) refl refl refl (mark_put c.marks p (fields_of (f n)).waiters) refl,
+      says_of s.words n _ knows (sees_step k s h id c m (op n) (r n) (f n) (misses n) (last n) (vs s.words n) is low (none_reinits n knows) run) (writes_there k s.words s.views h.recorded id c _ p (f n) fit.thread fit.threads (h.recorded.leave m low) is refl) refl refl refl refl (mark_put c.marks p (fields_of (f n)).waiters) refl,
     )

@@ -44,6 +44,11 @@ own_same k c a = refl
 pub card_own : (k : Layout') (c : Card) (a : Access) → IsCardOf k c → IsCardOf k (own_after k c a)
 card_own k c a is = subst (IsCardOf k) (sym (own_same k c a)) record { layout = is.layout; threads = is.threads; first = is.first; thread = is.thread; base = is.base; legal = is.legal }
 
+-- no access of a call trims but a section
+pub answered_untrimmed : (k : Layout') (p : Whole) (f : Phase) (c d : Card) (x : Answer) → Answers k p f c d x → d.trims ≡ c.trims
+answered_untrimmed k p (phase.AtCell r) c d x told = told.3.trims
+answered_untrimmed k p f c d x told = ap (λ (z : Card). z.trims) (told.0 ∙ own_same k c (whole_access p))
+
 pub own_answers : (k : Layout') (p : Whole) (f : Phase) (c d : Card) (x : Answer) → IsOwnAccess f → d ≡ own_after k c (whole_access p) → x ≡ answer_on (whole_access p) (known k c) → Answers k p f c d x
 own_answers k p (phase.Announcing r) c d x own is at = (is, at)
 own_answers k p (phase.AtCell r) c d x own is at = absurd own

@@ -35,6 +35,7 @@ use Rattle.ruledwords.specs.Turns.{running_call, running_of, running_pass, stops
 use Rattle.mutex.specs.Whole.{once_stored, phase_access, phase_led, whole_access, whole_started, IsUnderWay as IsInProgress}
 use Rattle.ruledwords.proofs.Beginnings.{unlock_begins}
 use Rattle.ruledwords.proofs.Changes.{nothing_yet}
+use Rattle.ruledwords.proofs.OwnTurns.{answered_untrimmed}
 use Rattle.ruledwords.proofs.Ranks.{rank_in, turn_falls}
 use Rattle.ruledwords.proofs.Releasing.{cleared, steps, told_on, refused_on}
 use Rattle.ruledwords.proofs.Stepping.{counts_on}
@@ -61,6 +62,7 @@ module _ (w : Words) (x : Pass Live) (m : ℕ) (a : Pass Live) (p : Whole) (rel 
           subst (λ (z : Whole). Tells operation.Unlock (row_in z.phase) (fields_of (card b).last)) (sym turned.2) told.0,
           subst (λ (z : Whole). FoundOwn (row_in z.phase) z.thread (card b).last) (sym turned.2) told.1,
           subst (λ (z : Whole). ChangesThere (row_in z.phase) (card x) (cell_place (layout_of w) m) (card b)) (sym turned.2) told.2,
+          answered_untrimmed (layout_of w) p p.phase (card a) (card b) turned.0 turned.1 ∙ rel.5,
         )
 
     pub is_refused : (y : Reply) (q : Whole) → Advances w a p b q (Some y) → Refuses w x m b y
@@ -68,7 +70,7 @@ module _ (w : Words) (x : Pass Live) (m : ℕ) (a : Pass Live) (p : Whole) (rel 
         let t = adv rel.0 in
         let end = t.2 x (call.Unlock m) rel.1 in
         let is = refused_on w x m r rel.1 rel.2 rel.3 rel.4 not (card b) t.1.0 y t.1.1 t.1.2 in
-        (end.0, is, subst (λ (z : Reply). Called (card x) (cell_place (layout_of w) m) ((operation.Unlock, z) ∷ []) (card b)) is end.1)
+        (end.0, is, subst (λ (z : Reply). Called (card x) (cell_place (layout_of w) m) ((operation.Unlock, z) ∷ []) (card b)) is end.1, answered_untrimmed (layout_of w) p p.phase (card a) (card b) t.1.0 t.1.1 ∙ rel.5)
 
 -- ---- an access that is one step, wherever the unlock stands
 
@@ -186,4 +188,5 @@ releases_begun w x m r started same u =
       subst (λ (p : Whole). FoundOwn (row_in p.phase) p.thread last) (sym begun) tt,
       subst (λ (p : Whole). ChangesThere (row_in p.phase) (card x) (cell_place (layout_of w) m) (card (running_pass r))) (sym begun)
           (subst (λ (a : Pass Live). ChangedNothing (card x) (cell_place (layout_of w) m) (card a)) (sym same) (nothing_yet (card x) (cell_place (layout_of w) m))),
+      ap (λ (a : Pass Live). (card a).trims) same,
     )

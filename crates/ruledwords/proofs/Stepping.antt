@@ -1,5 +1,5 @@
 -- Accesses of a call, one after the other.
-use Rattle.std.proofs.Common.{◌≡◌, ℕ, ◌+◌, ◌<◌, Result, Ok, Err, sym, ap, ◌∙◌, subst}
+use Rattle.std.proofs.Common.{◌≡◌, ℕ, ◌+◌, ◌<◌, Result, Ok, Err, refl, sym, ap, ◌∙◌, subst}
 use Rattle.posixmutex.specs.declared.point.Operation.TheVariants as operation
 use Rattle.std.specs.Result.{IsErrAnd}
 use Rattle.mutex.specs.Standings.{Whole}
@@ -13,24 +13,24 @@ use Rattle.ruledwords.specs.declared.step.End.TheVariants as end
 use Rattle.ruledwords.specs.declared.turn.Running.{Running}
 use Rattle.ruledwords.specs.declared.turn.Turn.TheVariants.{Goes}
 use Rattle.ruledwords.specs.Fates.{Heeds}
-use Rattle.ruledwords.specs.Passes.{layout_of}
+use Rattle.ruledwords.specs.Passes.{card, layout_of}
 use Rattle.ruledwords.specs.Stretches.{ComesOn, ComesToEnd, StepsTo}
-use Rattle.ruledwords.specs.Turns.{access_in, running_call, running_pass, EndsIn, IsCallOf, IsInNonblocking, IsOneStep, IsUnderWay, Turned, IsNonblocking, stops_with, stops_within}
+use Rattle.ruledwords.specs.Turns.{access_in, running_call, running_pass, EndsIn, IsCallOf, IsInNonblocking, IsOneStep, IsUnderWay, TrimsNone, Turned, IsNonblocking, stops_with, stops_within}
 use Rattle.ruledwords.proofs.Fates.{heeds_nothing, heeds_on}
 use Rattle.ruledwords.proofs.Ranks.{rank_in, turn_falls}
 use Rattle.ruledwords.proofs.StepsOfCalls.{try_step, consistent_step}
 
 -- no access was made
 pub stays : (w : Words) (a : Pass Live) (p : Whole) → IsCallOf w a p → ComesOn w a p a p
-stays w a p of = (of, (λ x call is. is), (λ m c y is. is), (λ x m is. is))
+stays w a p of = (of, (λ x call is. is), (λ m c y is. is), (λ x m is. is), refl)
 
 pub comes_further : (w : Words) (a : Pass Live) (p : Whole) (b : Pass Live) (q : Whole) (d : Pass Live) (r : Whole) → ComesOn w a p b q → ComesOn w b q d r → ComesOn w a p d r
-comes_further w a p b q d r first more = (more.0, (λ x call is. more.1 x call (first.1 x call is)), (λ m c y is. more.2 m c y (first.2 m c y is)), (λ x m is. more.3 x m (first.3 x m is)))
+comes_further w a p b q d r first more = (more.0, (λ x call is. more.1 x call (first.1 x call is)), (λ m c y is. more.2 m c y (first.2 m c y is)), (λ x m is. more.3 x m (first.3 x m is)), more.4 ∙ first.4)
 
 -- what ends after accesses ends since before them
 pub after : (w : Words) (a : Pass Live) (p : Whole) (b : Pass Live) (q : Whole) (d : Pass Live) (e : End) → ComesOn w a p b q → ComesToEnd w b q d e → ComesToEnd w a p d e
 after w a p b q d end.Stopped first ends = (ends.0, comes_further w a p b q d ends.0 first ends.1)
-after w a p b q d (end.Replied y) first ends = ((λ x call is. ends.0 x call (first.1 x call is)), (λ m c z is. ends.1 m c z (first.2 m c z is)), (λ x m is. ends.2 x m (first.3 x m is)))
+after w a p b q d (end.Replied y) first ends = ((λ x call is. ends.0 x call (first.1 x call is)), (λ m c z is. ends.1 m c z (first.2 m c z is)), (λ x m is. ends.2 x m (first.3 x m is)), ends.3 ∙ first.4)
 
 -- a `?` hands on how the call ended
 handed_on : (w : Words) (a : Pass Live) (p : Whole) (b : Pass Live) (r : Result Whole End) (e : End) → IsErrAnd r (λ y. y ≡ e) → ComesToEnd w a p b e → StepsTo w a p b r
@@ -70,6 +70,11 @@ pub ended : {w : Words} {a : Pass Live} {p : Whole} {b : Pass Live} {q : Whole} 
     → Went w a p b q f f' n n' → record { steps : ComesToEnd w b q d e; once : O; fate : Heeds f' f'' n' n'' (stops_with e) } → IsErrAnd r (λ y. y ≡ e)
     → record { steps : StepsTo w a p d r; fate : Heeds f f'' n n'' (stops_within r) }
 ended {w} {a} {p} {b} {q} d e r first last is = record { steps = handed_on w a p d r e is (after w a p b q d e first.came last.steps); fate = heeds_out r e _ _ _ _ is (heeds_on _ _ _ _ _ _ _ first.fate last.fate) }
+
+-- none of them was a trim
+pub untrimmed : (w : Words) (a : Pass Live) (p : Whole) (b : Pass Live) (e : End) → ComesToEnd w a p b e → TrimsNone (card a) (card b)
+untrimmed w a p b end.Stopped ends = ends.1.4
+untrimmed w a p b (end.Replied y) ends = ends.3
 
 -- ---- calls that wait for nobody
 

@@ -227,12 +227,13 @@ makes k slots id c m low few p a is there going stepping ready x y =
     (λ n known. unreinited p.row (led_at p n).point)
     (λ n known. subst (λ (z : Access). Run (object_of (fields_of n)) (told c.thread q (row_operation p.row) (led_at p n).point) (object_of (fields_of (changed z n)))) is
     (run_at (object_of (fields_of n)) (object_of (fields_of (changed (access_of p) n))) c.thread p.cell q (row_operation p.row) (led_at p n).point (rights n known).runs))
-    (λ ws n d known sees writes misses last counted mark values. turns c d (λ c d. Made p q c n d × OwnKept k c d) (
+    (λ ws n d known sees writes misses last counted trims mark values. turns c d (λ c d. Made p q c n d × OwnKept k c d) (
       record {
         sees = subst (λ (z : Access). Sees c q (told c.thread q (row_operation p.row) (led_at p n).point) (object_of (fields_of (changed z n))) d) (sym is) sees;
         misses = misses;
         last = last;
         counted = counted;
+        trims = trims;
         writes = subst (λ (z : Access). Writes c q n (changed z n) d) (sym is) writes;
         sound = sound k c q n known;
         met = met n known;

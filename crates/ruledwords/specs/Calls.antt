@@ -82,6 +82,7 @@ pub record Made (p : Standing) (q : ℕ) (c : Card) (n : ℕ) (d : Card) : Type 
   pub misses : d.misses ≡ c.misses + fails (access_of p) n
   pub last : d.last ≡ n
   pub counted : d.counted ≡ c.counted
+  pub trims : d.trims ≡ c.trims
   pub writes : Writes c q n (changed (access_of p) n) d
   pub sound : Sound (object_of (fields_of n))
   pub met : Expects c.thread p.row (object_of (fields_of n))

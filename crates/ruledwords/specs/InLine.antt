@@ -34,7 +34,7 @@ use Rattle.ruledwords.specs.declared.uncrossed.Line.{Line}
 use Rattle.ruledwords.specs.Passes.{card}
 use Rattle.ruledwords.specs.Seen.{held}
 use Rattle.ruledwords.specs.Stretches.{ComesOn, ComesToEnd, StretchesFrom}
-use Rattle.ruledwords.specs.Turns.{IsAtCell}
+use Rattle.ruledwords.specs.Turns.{IsAtCell, TrimsNone}
 
 -- the call where it stands at a phase
 abbrev pub stands : Line → Phase → Whole
@@ -94,11 +94,12 @@ abbrev pub led_to : Whole → ℕ → Whole
 led_to p n = whole_moved p (whole_led p (answer_at (whole_access p) n))
 
 -- it was made in the call p: that goes on where it leads, or has replied. At the cell its word is the last that the thread
--- has found
+-- has found; and that has made no trim
 pub record Leads (w : Words) (a : Pass Live) (p : Whole) (b : Pass Live) (n : ℕ) : Type 0 where
   pub goes : IsInProgress (led_to p n).phase → ComesOn w a p b (led_to p n)
   pub ends : (x : Reply) → (led_to p n).phase ≡ phase.Ended x → ComesToEnd w a p b (end.Replied x)
   pub found : IsAtCell p.phase → (card b).last ≡ n
+  pub trims : TrimsNone (card a) (card b)
 
 -- or the thread died before it
 abbrev pub LeadsOn : Words → Pass Live → Whole → Pass Live → Result ℕ End → Type 0

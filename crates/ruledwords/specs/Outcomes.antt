@@ -45,7 +45,7 @@ use Rattle.ruledwords.specs.Calls.{IsOnMutex}
 use Rattle.ruledwords.specs.Cards.{at}
 use Rattle.ruledwords.specs.Changes.{ChangedOnce, OthersChanged}
 use Rattle.ruledwords.specs.Releases.{IsReleasing}
-use Rattle.ruledwords.specs.Turns.{running_program, GoesOn, HasDied, HasSeenTheSame, IsIn, IsRunningOf}
+use Rattle.ruledwords.specs.Turns.{running_program, GoesOn, HasDied, HasSeenTheSame, IsIn, IsRunningOf, TrimsNone}
 
 -- a call that may take mutex m replied so: by a thread that holds 2,048 mutexes it is refused, with nothing seen anew.
 -- Otherwise it is decided by one point, whose reply it is
@@ -58,24 +58,32 @@ abbrev pub DiesTaking : Layout' → ℕ → Operation → Card → Card → Type
 DiesTaking k m op c d = (nat_le held_limit (held c) ≡ false) × Died c (cell_place k m) op d
 
 -- a trylock of mutex m gives up only after four exchanges that each found a changed cell, as the pass counts them, and
--- as often others have changed it
+-- as often others have changed it. Its thread has made no trim
 abbrev pub Tried : Words → ℕ → Pass Live → Outcome → Type 0
 Tried w m a (outcome.Lives b r) = IsLive w b × Takes (layout_of w) m TryLock (card a) r (card b)
     × (r ≡ XRACED
     → ((card a).misses + 4 ≤ (card b).misses) × OthersChanged 4 (card a) (cell_place (layout_of w) m) (card b))
-Tried w m a (outcome.Dead d) = IsDying w d × DiesTaking (layout_of w) m TryLock (card a) (card d)
+    × TrimsNone (card a) (card b)
+Tried w m a (outcome.Dead d) =
+    IsDying w d × DiesTaking (layout_of w) m TryLock (card a) (card d) × TrimsNone (card a) (card d)
 
 -- a declaration that mutex m is consistent: the reply is that of its point. So it is OK, EINVAL or EPERM, as the thread
--- owned the mutex and found it inconsistent, owned it, or didn't own it
+-- owned the mutex and found it inconsistent, owned it, or didn't own it. Its thread has made no trim
 abbrev pub Declared : Words → ℕ → Pass Live → Outcome → Type 0
 Declared w m a (outcome.Lives b r) =
-    IsLive w b × Called (card a) (cell_place (layout_of w) m) ((Consistent, r) ∷ []) (card b)
-Declared w m a (outcome.Dead d) = IsDying w d × Died (card a) (cell_place (layout_of w) m) Consistent (card d)
+    IsLive w b × Called (card a) (cell_place (layout_of w) m) ((Consistent, r) ∷ []) (card b) × TrimsNone (card a) (card b)
+Declared w m a (outcome.Dead d) =
+    IsDying w d × Died (card a) (cell_place (layout_of w) m) Consistent (card d) × TrimsNone (card a) (card d)
 
 -- a call that stands at p with the pass a ends so, wherever it began
 abbrev pub Finishes : Words → Pass Live → Whole → Outcome → Type 0
 Finishes w a p (outcome.Lives b y) = (x : Pass Live) (call : Call) → IsIn w x call a p → GoesOn w x call (Lives b y)
 Finishes w a p (outcome.Dead d) = (x : Pass Live) (call : Call) → IsIn w x call a p → HasDied w x call d
+
+-- what the thread of a call knows that ended so
+abbrev pub card_after : Outcome → Card
+card_after (outcome.Lives b r) = card b
+card_after (outcome.Dead d) = card d
 
 -- how often its thread was told to stop, in a call that ends so: once where it died, and else never
 abbrev pub stops_in : Outcome → ℕ
@@ -116,7 +124,7 @@ IsOwedOf w o = IsRunningOf w (owed_running o)
 -- a release of mutex m: its point is an unlock with OK where the mutex is freed, and with EPERM where it is refused.
 -- Whom it has to wake is told by the word that it found, the last that the pass met, of which its thread was the owner:
 -- the cell's right before the one change that the thread has made of it. So it is those who wait for the mutex as the
--- history leaves it
+-- history leaves it. Its thread has made no trim
 abbrev pub Frees : Words → ℕ → Pass Live → Released → Type 0
 Frees w m a (released.Owes o) =
     IsOwedOf w o × Called (card a) (cell_place (layout_of w) m) ((Unlock, OK) ∷ []) (card (owed_pass o))
@@ -127,9 +135,12 @@ Frees w m a (released.Owes o) =
     ×
     ((x : Object) → Run fresh (at (card (owed_pass o)).seen (cell_place (layout_of w) m)) x
     → OwesAsLeft (owed_wakes o) (fields_of (card (owed_pass o)).last).waiters x)
+    × TrimsNone (card a) (card (owed_pass o))
 Frees w m a (released.Refused b r) =
     IsLive w b × (r ≡ EPERM) × Called (card a) (cell_place (layout_of w) m) ((Unlock, EPERM) ∷ []) (card b)
-Frees w m a (released.Dead d) = IsDying w d × Died (card a) (cell_place (layout_of w) m) Unlock (card d)
+    × TrimsNone (card a) (card b)
+Frees w m a (released.Dead d) =
+    IsDying w d × Died (card a) (cell_place (layout_of w) m) Unlock (card d) × TrimsNone (card a) (card d)
 
 -- an unlock by the thread whose card was c has freed the mutex whose cell is at q, and its card is d now. The word that
 -- its release found, the last that it met, of which its thread was the owner, was the cell's right before the one change

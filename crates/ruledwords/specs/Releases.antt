@@ -19,16 +19,16 @@ use Rattle.ruledwords.specs.Calls.{row_in}
 use Rattle.ruledwords.specs.Owing.{ChangesThere, FoundOwn, owing_at}
 use Rattle.ruledwords.specs.Passes.{card, layout_of, IsLive}
 use Rattle.ruledwords.specs.Seen.{Called}
-use Rattle.ruledwords.specs.Turns.{running_of, IsCallOf, IsUnderWay, Turned}
+use Rattle.ruledwords.specs.Turns.{running_of, IsCallOf, IsUnderWay, TrimsNone, Turned}
 
 -- an unlock of mutex m that began at the pass x stands at p, with the pass a, whose last word it tells of: where it has
 -- released the mutex, that word said its thread was the owner, and was the cell's right before the one change that the
--- thread has made of it
+-- thread has made of it. The thread has made no trim
 abbrev pub IsReleasing : Words → Pass Live → ℕ → Pass Live → Whole → Type 0
 IsReleasing w x m a p =
     (of : IsCallOf w a p) × IsUnderWay w x (call.Unlock m) (running_of w a p of)
     × Tells Unlock (row_in p.phase) (fields_of (card a).last) × FoundOwn (row_in p.phase) p.thread (card a).last
-    × ChangesThere (row_in p.phase) (card x) (cell_place (layout_of w) m) (card a)
+    × ChangesThere (row_in p.phase) (card x) (cell_place (layout_of w) m) (card a) × TrimsNone (card x) (card a)
 
 abbrev pub IsInRelease : Words → Pass Live → Whole → Type 0
 IsInRelease w a p = (x : Pass Live) × (m : ℕ) × IsReleasing w x m a p
@@ -41,6 +41,7 @@ StaysReleasing w a p b q = (x : Pass Live) (m : ℕ) → IsReleasing w x m a p �
 abbrev pub Refuses : Words → Pass Live → ℕ → Pass Live → Reply → Type 0
 Refuses w x m b y =
     IsLive w b × (y ≡ EPERM) × Called (card x) (cell_place (layout_of w) m) ((Unlock, EPERM) ∷ []) (card b)
+    × TrimsNone (card x) (card b)
 
 -- its thread died in it, or it was refused
 abbrev pub ReleaseEnds : Words → Pass Live → Whole → Pass Live → End → Type 0

@@ -37,7 +37,7 @@ use Rattle.ruledwords.specs.Outcomes.{FreesAlone}
 use Rattle.ruledwords.specs.Passes.{card, layout_of}
 use Rattle.ruledwords.specs.Seen.{held}
 use Rattle.ruledwords.specs.Stretches.{ComesOn, ComesToEnd}
-use Rattle.ruledwords.specs.Turns.{GoesOn, HasDied, IsIn, Onward}
+use Rattle.ruledwords.specs.Turns.{GoesOn, HasDied, IsIn, Onward, TrimsNone}
 
 -- where it stood that left its line
 abbrev pub crossed_phase : Crossed → Phase
@@ -66,6 +66,7 @@ IsAnswered l x n = crossed_answer x ≡ answer_at (whole_access (stands l (cross
 pub record Crosses (w : Words) (a : Pass Live) (p : Whole) (b : Pass Live) (l : Line) (x : Crossed) : Type 0 where
   pub knows : PhaseKnows (crossed_phase x)
   pub found : IsAnswered l x (card b).last
+  pub trims : TrimsNone (card a) (card b)
   pub goes : IsInProgress (crossed_call l x).phase → ComesOn w a p b (crossed_call l x)
   pub ends : (y : Reply) → (crossed_call l x).phase ≡ phase.Ended y → ComesToEnd w a p b (end.Replied y)
 
@@ -80,10 +81,11 @@ abbrev pub crossing_call : Crossing → Whole
 crossing_call x = crossed_call x.line x.at
 
 -- a call that began at the pass a has left its line: it is under way, or has replied. What it was answered last tells the
--- last word that its thread has found
+-- last word that its thread has found, which has made no trim
 pub record CrossedFrom (w : Words) (a : Pass Live) (call : Call) (x : Crossing) : Type 0 where
   pub knows : PhaseKnows (crossed_phase x.at)
   pub found : IsAnswered x.line x.at (card x.pass).last
+  pub trims : TrimsNone (card a) (card x.pass)
   pub goes : IsInProgress (crossing_call x).phase → IsIn w a call x.pass (crossing_call x)
   pub ends : (y : Reply) → (crossing_call x).phase ≡ phase.Ended y → GoesOn w a call (Lives x.pass y)
 
@@ -94,11 +96,11 @@ IsCrossingOf w x = (a : Pass Live) × (call : Call) × CrossedFrom w a call x
 abbrev pub StandsWhereLed : Crossing → Turn → Type 0
 StandsWhereLed x turn = Onward (stands x.line (crossed_phase x.at)) (crossed_answer x.at) x.pass turn
 
--- one that began at the pass a has come to this
+-- one that began at the pass a has come to this. Its thread has made no trim: that is a section
 abbrev pub StraightFrom : Words → Pass Live → Call → Straight → Type 0
 StraightFrom w a call (straight.Crossed x) = CrossedFrom w a call x
-StraightFrom w a call (straight.Lives b y) = GoesOn w a call (Lives b y)
-StraightFrom w a call (straight.Dead d) = HasDied w a call d
+StraightFrom w a call (straight.Lives b y) = GoesOn w a call (Lives b y) × TrimsNone (card a) (card b)
+StraightFrom w a call (straight.Dead d) = HasDied w a call d × TrimsNone (card a) (card d)
 
 -- a lock of mutex m by a thread whose pass was a: it was refused where the thread holds 2,048 mutexes
 abbrev pub LocksStraight : Words → ℕ → Pass Live → Straight → Type 0

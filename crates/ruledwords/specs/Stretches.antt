@@ -25,7 +25,7 @@ use Rattle.ruledwords.specs.Outcomes.{FreesAlone}
 use Rattle.ruledwords.specs.Passes.{card, layout_of, IsDying}
 use Rattle.ruledwords.specs.Releases.{IsReleasing, StaysReleasing}
 use Rattle.ruledwords.specs.Turns.{running_of, EndsIn, GoesOn, GoesOnDecided, HasDied, HasSeenTheSame}
-use Rattle.ruledwords.specs.Turns.{IsCallOf, IsDecided, IsOneStep, IsRunningOf, IsUnderWay, StaysIn, Turned}
+use Rattle.ruledwords.specs.Turns.{IsCallOf, IsDecided, IsOneStep, IsRunningOf, IsUnderWay, StaysIn, TrimsNone, Turned}
 
 -- a call on mutex m that was decided, with the reply x at the card c, stands at p, with the pass a
 abbrev pub IsDecidedIn : Words → ℕ → Card → Reply → Pass Live → Whole → Type 0
@@ -35,9 +35,10 @@ abbrev pub StaysDecided : Words → Pass Live → Whole → Pass Live → Whole 
 StaysDecided w a p b q = (m : ℕ) (c : Card) (x : Reply) → IsDecidedIn w m c x a p → IsDecidedIn w m c x b q
 
 -- a call that stood at p with the pass a stands at q now, with the pass b: wherever it began, and whatever it was
--- decided; and an unlock tells of the word that its release found
+-- decided; and an unlock tells of the word that its release found. Its thread has made no trim
 abbrev pub ComesOn : Words → Pass Live → Whole → Pass Live → Whole → Type 0
 ComesOn w a p b q = IsCallOf w b q × StaysIn w a p b q × StaysDecided w a p b q × StaysReleasing w a p b q
+    × TrimsNone (card a) (card b)
 
 -- an unlock that stood at p with the pass a has replied so, and its pass is b: with OK only where nobody was to be woken
 abbrev pub EndsAlone : Words → Pass Live → Whole → Pass Live → Reply → Type 0
@@ -49,7 +50,7 @@ abbrev pub ComesToEnd : Words → Pass Live → Whole → Pass Live → End → 
 ComesToEnd w a p b end.Stopped = (q : Whole) × ComesOn w a p b q
 ComesToEnd w a p b (end.Replied y) = EndsIn w a p b (end.Replied y)
     × ((m : ℕ) (c : Card) (x : Reply) → IsDecidedIn w m c x a p → GoesOnDecided w m c x (Lives b y))
-    × EndsAlone w a p b y
+    × EndsAlone w a p b y × TrimsNone (card a) (card b)
 
 -- an access was made, or the call stays at its section, or it ended
 abbrev pub StepsOn : Words → Pass Live → Whole → Pass Live → Whole → Result Unit End → Type 0

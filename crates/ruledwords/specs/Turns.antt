@@ -144,6 +144,10 @@ Answers k p (phase.AtCell r) c d x = (m : ℕ) × (n : ℕ) × IsOnMutex k (stan
     × Made (standing_of p) (cell_place k m) c n d × (x ≡ answer_at (whole_access p) n)
 Answers k p f c d x = (d ≡ own_after k c (whole_access p)) × (x ≡ answer_on (whole_access p) (known k c))
 
+-- its thread, whose card was c, has made no trim since
+abbrev pub TrimsNone : Card → Card → Type 0
+TrimsNone c d = d.trims ≡ c.trims
+
 -- the access was made, and the call went on with its answer
 abbrev pub Turned : Layout' → Whole → Pass Live → Turn → Type 0
 Turned k p a (Goes r) = (x : Answer) × Answers k p p.phase (card a) (card (running_pass r)) x

@@ -4,10 +4,11 @@ ghost use Rattle.mutex.specs.declared.call.Call.{Call};
 ghost use Rattle.ruledwords.specs.declared.pass.Live.{Live};
 ghost use Rattle.ruledwords.specs.declared.pass.Pass.{Pass};
 ghost use Rattle.ruledwords.specs.Fates.{Heeds};
-ghost use Rattle.ruledwords.specs.Outcomes.{Finishes, stops_in};
+ghost use Rattle.ruledwords.specs.Outcomes.{card_after, Finishes, stops_in};
+ghost use Rattle.ruledwords.specs.Passes.{card};
 ghost use Rattle.ruledwords.specs.Stretches.{StepsOn, StepsOnce, StepsTo, Stretches, stops_stretching};
 ghost use Rattle.ruledwords.specs.Turns.{EndsIn, IsCallOf, IsInNonblocking, IsOneStep, IsRunningOf};
-ghost use Rattle.ruledwords.specs.Turns.{running_call, running_pass, stops_with, stops_within};
+ghost use Rattle.ruledwords.specs.Turns.{running_call, running_pass, stops_with, stops_within, TrimsNone};
 
 use crate::fate::{Fate, Never, either_stops};
 use crate::pass::{Live, Pass, Words};
@@ -105,6 +106,7 @@ impl Words {
     ) -> End
         requires { IsInNonblocking self.now pass.old begun }
         ensures ends { EndsIn self.now pass.old begun pass.new result }
+        ensures trims { TrimsNone (card pass.old) (card pass.new) }
         ensures fate { F.stopped fate.new ≡ F.stopped fate.old + stops_with result }
     {
         let mut program = begun;
@@ -120,6 +122,7 @@ impl Words {
     fn all_steps<F: Fate>(&self, pass: &mut Pass<Live>, program: Program, fate: &mut F) -> End
         requires { IsInNonblocking self.now pass.old program }
         ensures ends { EndsIn self.now pass.old program pass.new result }
+        ensures trims { TrimsNone (card pass.old) (card pass.new) }
         ensures fate { F.stopped fate.new ≡ F.stopped fate.old + stops_with result }
     {
         match self.first_steps(pass, program, fate, &mut Never) {
@@ -133,6 +136,7 @@ impl Words {
     pub(crate) fn finish<F: Fate>(&self, running: Running, fate: &mut F) -> Outcome
         requires { IsInNonblocking self.now (running_pass running) (running_call running) }
         ensures finishes { Finishes self.now (running_pass running) (running_call running) result }
+        ensures trims { TrimsNone (card (running_pass running)) (card_after result) }
         ensures fate { F.stopped fate.new ≡ F.stopped fate.old + stops_in result }
     {
         let Running { mut pass, program } = running;

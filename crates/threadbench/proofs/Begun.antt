@@ -14,6 +14,7 @@ use Rattle.ruledwords.specs.declared.turn.Outcome.TheVariants as outcome
 use Rattle.ruledwords.specs.declared.uncrossed.Crossing.{Crossing}
 use Rattle.ruledwords.specs.declared.uncrossed.Straight.TheVariants as straight
 use Rattle.ruledwords.specs.Fates.{Heeds}
+use Rattle.ruledwords.specs.Outcomes.{Declared, Tried}
 use Rattle.ruledwords.specs.Passes.{card, IsLive}
 use Rattle.ruledwords.specs.Seen.{held}
 use Rattle.ruledwords.specs.Straight.{CrossedFrom, IsCrossingOf, LocksStraight, StraightFrom}
@@ -58,17 +59,27 @@ lock_lives w m a b x live so = go (nat_le 2048 (held (card a))) refl so
         let same : b ≡ a = cc in
         let told : x ≡ XHELD = cc in
         (subst (λ (z : Pass Live). IsLive w z) (sym same) live, picks_true (nat_le 2048 (held (card a))) _ _ many (told, ap (λ (z : Pass Live). card z) same))
-    go false few so = ran_locked w a m (outcome.Lives b x) few so
+    go false few so = ran_locked w a m (outcome.Lives b x) few so.0
 
 pub lock_dies : (w : Words) (m : ℕ) (a : Pass Live) (d : Pass Dead) → LocksStraight w m a (straight.Dead d) → Locked w m a (outcome.Dead d)
 lock_dies w m a d so = go (nat_le 2048 (held (card a))) refl so
   where
     go : (b : Bool) → nat_le 2048 (held (card a)) ≡ b → MatchBool b (straight.Dead d ≡ straight.Lives a XHELD) (StraightFrom w a (call.Lock m) (straight.Dead d)) → Locked w m a (outcome.Dead d)
     go true many is = absurd (cc is)
-    go false few so = ran_locked w a m (outcome.Dead d) few so
+    go false few so = ran_locked w a m (outcome.Dead d) few so.0
 
 -- ---- an unlock
 
 pub unlocked : (w : Words) (m : ℕ) (a : Pass Live) (end : Outcome) → RanOut w a (call.Unlock m) end → CallEnds w a (OnMutex (call.Unlock m)) end
 unlocked w m a (outcome.Lives b r) ran = (ran.0, ran.1)
 unlocked w m a (outcome.Dead d) ran = (ran.0, ran.1)
+
+-- ---- calls that wait for nobody
+
+pub tried : (w : Words) (m : ℕ) (a : Pass Live) (end : Outcome) → Tried w m a end → CallEnds w a (OnMutex (call.TryLock m)) end
+tried w m a (outcome.Lives b r) so = (so.0, (so.1, so.2))
+tried w m a (outcome.Dead d) so = (so.0, so.1)
+
+pub declared : (w : Words) (m : ℕ) (a : Pass Live) (end : Outcome) → Declared w m a end → CallEnds w a (OnMutex (call.Consistent m)) end
+declared w m a (outcome.Lives b r) so = (so.0, so.1)
+declared w m a (outcome.Dead d) so = (so.0, so.1)

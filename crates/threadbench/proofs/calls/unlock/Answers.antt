@@ -24,13 +24,13 @@ pub returns-in-Lives-clause-ends : goal.returns-in-Lives-clause-ends
 returns-in-Lives-clause-ends g c =
     let a = c.args.pass in
     let so = subst (λ (w : Words). StraightFrom w a (call.Unlock c.args.mutex) (straight.Lives c.in-Lives.pass c.in-Lives.reply)) c.words.ensures c.in-Lives.ensures.unlocks in
-    unlocked c.args.bench.now c.args.mutex a (outcome.Lives c.in-Lives.pass c.in-Lives.reply) so
+    unlocked c.args.bench.now c.args.mutex a (outcome.Lives c.in-Lives.pass c.in-Lives.reply) so.0
 
 pub returns-in-Dead-clause-ends : goal.returns-in-Dead-clause-ends
 returns-in-Dead-clause-ends g c =
     let a = c.args.pass in
     let so = subst (λ (w : Words). StraightFrom w a (call.Unlock c.args.mutex) (straight.Dead c.in-Dead.pass)) c.words.ensures c.in-Dead.ensures.unlocks in
-    unlocked c.args.bench.now c.args.mutex a (outcome.Dead c.in-Dead.pass) so
+    unlocked c.args.bench.now c.args.mutex a (outcome.Dead c.in-Dead.pass) so.0
 
 pub returns-in-Crossed-clause-fate : goal.returns-in-Crossed-clause-fate
 returns-in-Crossed-clause-fate g c = heeded_on _ _ _ _ _ c.run_crossed.result c.in-Crossed.ensures.fate c.run_crossed.ensures.fate

@@ -1,6 +1,6 @@
-use Rattle.std.proofs.Common.{arith}
+use Rattle.std.proofs.Common.{◌∙◌, arith}
 use Rattle.ruledwords.specs.Turns.{running_of}
-use Rattle.ruledwords.proofs.Stepping.{after, comes_further, ends_in, falls, is_step, still_nonblocking}
+use Rattle.ruledwords.proofs.Stepping.{after, comes_further, ends_in, falls, is_step, still_nonblocking, untrimmed}
 use Rattle.ruledwords.proofs.pass.Words.last_steps.Goals as goal
 
 pub returns-in-Err-clause-ends : goal.returns-in-Err-clause-ends
@@ -9,6 +9,9 @@ returns-in-Err-clause-ends g c =
     let a = c.args.pass.now in
     let p = c.args.begun in
     ends_in w a p c.step.new.pass c.in-Err.end (after w a p c.loop-end.pass c.loop-end.program c.step.new.pass c.in-Err.end c.loop-end.invariant.came c.in-Err.ensures.steps)
+
+pub returns-in-Err-clause-trims : goal.returns-in-Err-clause-trims
+returns-in-Err-clause-trims g c = untrimmed c.args.self.now c.loop-end.pass c.loop-end.program c.step.new.pass c.in-Err.end c.in-Err.ensures.steps ∙ c.loop-end.invariant.came.4
 
 pub loop-end-smaller : goal.loop-end-smaller
 loop-end-smaller g c =

@@ -3,6 +3,7 @@ use Rattle.std.specs.Prelude.{if◌then◌else◌}
 use Rattle.lockword.specs.Cells.{fields_of}
 use Rattle.posixmutex.specs.declared.object.Object.{Object}
 use Rattle.mutex.specs.declared.call.Call.TheVariants as call
+use Rattle.ruledwords.specs.declared.pass.Card.{Card}
 use Rattle.ruledwords.specs.declared.turn.Wakes.{Wakes}
 use Rattle.ruledwords.specs.declared.turn.Wakes.TheVariants.{Nobody, One, All}
 use Rattle.ruledwords.specs.Lists.{IsMortal}
@@ -29,7 +30,7 @@ returns-in-Ok-clause-frees g c = λ x m is.
     let told = c.in-Ok.ensures.steps in
     let rel = told.1 x m is in
     let f = freed w x m (running_of w c.release_steps.new.pass c.in-Ok.freed.0 rel.0) rel.1 rel.2 rel.3 rel.4 c.in-Ok.freed.1 told.2 in
-    (rel.1.0, f.0, f.1, f.2, rel.1.1, f.3, λ o run. owes_as_left (card c.release_steps.new.pass).last c.in-Ok.freed.1 o f.2 (f.4 o run))
+    (rel.1.0, f.0, f.1, f.2, rel.1.1, f.3, λ o run. owes_as_left (card c.release_steps.new.pass).last c.in-Ok.freed.1 o f.2 (f.4 o run), rel.5)
 
 pub returns-in-Replied-clause-frees : goal.returns-in-Replied-clause-frees
 returns-in-Replied-clause-frees g c = λ x m is. (subst (ReleaseEnds c.args.self.now c.args.running.pass c.args.running.program c.release_steps.new.pass) c.in-Replied.is c.in-Err.ensures.steps) x m is
@@ -41,4 +42,4 @@ returns-in-Stopped-clause-frees g c = λ x m is.
     let t = (subst (ReleaseEnds c.args.self.now c.args.running.pass c.args.running.program c.release_steps.new.pass) c.in-Stopped.is c.in-Err.ensures.steps) x m is in
     let u = t.1.1 in
     let found = mortal (layout_of w) (card b) u.0.0.1 u.0.1.0 t.0 u.0.1.1 in
-    ((c.died.ensures.words w u.0.0, subst (IsMortal (layout_of w)) (sym c.died.ensures.card) found), (died_in w x (call.Unlock m) (running_of w b t.0 t.1.0) (card c.died.result) u c.died.ensures.card).0)
+    ((c.died.ensures.words w u.0.0, subst (IsMortal (layout_of w)) (sym c.died.ensures.card) found), (died_in w x (call.Unlock m) (running_of w b t.0 t.1.0) (card c.died.result) u c.died.ensures.card).0, ap (λ (z : Card). z.trims) c.died.ensures.card ∙ t.1.5)
