@@ -8,7 +8,7 @@ use Rattle.lockword.specs.Cells.{Fields, fields_of, word_of}
 use Rattle.lockword.specs.declared.reply.Reply.{Reply}
 use Rattle.lockword.specs.declared.reply.Reply.TheVariants.{OK, EDEADLK, EOWNERDEAD, ENOTRECOVERABLE, EPERM, XHELD}
 use Rattle.stepprograms.specs.declared.access.Answer.{Answer}
-use Rattle.stepprograms.specs.declared.access.Answer.TheVariants.{Value, Exchanged, Changed}
+use Rattle.stepprograms.specs.declared.access.Answer.TheVariants.{Exchanged, Changed}
 use Rattle.stepprograms.specs.Accesses.{answer_at}
 use Rattle.posixmutex.specs.declared.point.Point.{Point}
 use Rattle.posixmutex.specs.declared.point.Operation.{Operation}

@@ -6,7 +6,7 @@ use Rattle.lockword.specs.Cells.{fields_of, word_of}
 use Rattle.lockword.specs.Coding.{word_of-fields_of}
 use Rattle.posixmutex.specs.declared.object.Object.{Object}
 use Rattle.posixmutex.specs.declared.point.Point.{Point}
-use Rattle.memorymap.specs.Chains.{AreDifferent, IsAmong, IsApart, address_sum, without}
+use Rattle.memorymap.specs.Chains.{AreDifferent, IsAmong, address_sum, without}
 use Rattle.memorymap.proofs.Entries.{length_without, different_without, is_there}
 use Rattle.posixmutex.specs.Histories.{is_thread}
 use Rattle.memorymap.specs.Layouts.{Layout', cell_place, place_in}

@@ -1,21 +1,18 @@
 -- Locks and unlocks that nobody crosses, each in one straight line.
-use Rattle.std.specs.Prelude.{◌≡◌, ℕ, ◌==◌, ◌&&◌, Bool, not, Option, Result, Ok, Err, MatchBool, nat_le, false}
+use Rattle.std.specs.Prelude.{◌≡◌, ℕ, ◌==◌, ◌&&◌, Bool, not, Option, Result, Ok, Err, false}
 use Rattle.lockword.specs.Cells.{Fields}
 use Rattle.lockword.specs.declared.reply.Reply.{Reply}
-use Rattle.lockword.specs.declared.reply.Reply.TheVariants.{OK, XHELD}
-use Rattle.stepprograms.specs.declared.access.Answer.{Answer}
+use Rattle.lockword.specs.declared.reply.Reply.TheVariants.{OK}
 use Rattle.stepprograms.specs.declared.program.Progress.{Progress}
 use Rattle.stepprograms.specs.declared.program.Progress.TheVariants.{Goes, Returns}
 use Rattle.stepprograms.specs.Accesses.{answer_at}
 use Rattle.posixmutex.specs.declared.point.Operation.{Operation}
 use Rattle.posixmutex.specs.declared.point.Point.{Point}
-use Rattle.posixmutex.specs.Objects.{held_limit}
 use Rattle.memorymap.specs.Layouts.{Layout', address_in, cell_place, entry_place, head_place}
 use Rattle.robustlist.specs.declared.link.LinkRow.{LinkRow}
 use Rattle.robustlist.specs.declared.unlink.UnlinkRow.{UnlinkRow}
 use Rattle.robustlist.specs.Link.{link_at}
 use Rattle.robustlist.specs.Unlink.{unlink_at}
-use Rattle.mutex.specs.declared.call.Call.TheVariants as call
 use Rattle.mutex.specs.declared.phase.Phase.{Phase}
 use Rattle.mutex.specs.declared.phase.Phase.TheVariants as phase
 use Rattle.mutex.specs.declared.row.Row.TheVariants as row
@@ -28,12 +25,9 @@ use Rattle.ruledwords.specs.declared.pass.Pass.{Pass}
 use Rattle.ruledwords.specs.declared.pass.Live.{Live}
 use Rattle.ruledwords.specs.declared.step.End.{End}
 use Rattle.ruledwords.specs.declared.step.End.TheVariants as end
-use Rattle.ruledwords.specs.declared.turn.Stretch.{Stretch}
-use Rattle.ruledwords.specs.declared.turn.Stretch.TheVariants as stretch
 use Rattle.ruledwords.specs.declared.uncrossed.Line.{Line}
 use Rattle.ruledwords.specs.Passes.{card}
-use Rattle.ruledwords.specs.Seen.{held}
-use Rattle.ruledwords.specs.Stretches.{ComesOn, ComesToEnd, StretchesFrom}
+use Rattle.ruledwords.specs.Stretches.{ComesOn, ComesToEnd}
 use Rattle.ruledwords.specs.Turns.{IsAtCell, TrimsNone}
 
 -- the call where it stands at a phase

@@ -5,7 +5,7 @@
 -- from there, by its rows. That answer is the last word that its thread has found; and the call stands where this one
 -- answer leads and no further, so a wake that is owed then is still to be made. An unlock replies OK in its line only
 -- where its release found that nobody waits.
-use Rattle.std.specs.Prelude.{◌≡◌, ℕ, Result, Ok, Err, MatchBool, nat_le, false}
+use Rattle.std.specs.Prelude.{◌≡◌, ℕ, Result, Ok, Err, MatchBool, nat_le}
 use Rattle.lockword.specs.declared.reply.Reply.{Reply}
 use Rattle.lockword.specs.declared.reply.Reply.TheVariants.{OK, XHELD}
 use Rattle.stepprograms.specs.declared.access.Answer.{Answer}
