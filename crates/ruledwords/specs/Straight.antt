@@ -35,6 +35,7 @@ use Rattle.ruledwords.specs.declared.uncrossed.Straight.TheVariants as straight
 use Rattle.ruledwords.specs.InLine.{loading_lock, loading_unlock, releasing, stands, taking}
 use Rattle.ruledwords.specs.Outcomes.{FreesAlone}
 use Rattle.ruledwords.specs.Passes.{card, layout_of}
+use Rattle.ruledwords.specs.Releases.{IsReleasing}
 use Rattle.ruledwords.specs.Seen.{held}
 use Rattle.ruledwords.specs.Stretches.{ComesOn, ComesToEnd}
 use Rattle.ruledwords.specs.Turns.{GoesOn, HasDied, IsIn, Onward, TrimsNone}
@@ -107,9 +108,11 @@ abbrev pub LocksStraight : Words → ℕ → Pass Live → Straight → Type 0
 LocksStraight w m a s =
     MatchBool (nat_le held_limit (held (card a))) (s ≡ straight.Lives a XHELD) (StraightFrom w a (call.Lock m) s)
 
--- an unlock of mutex m by a thread whose pass was a: where it replied OK in its line, nobody was to be woken
+-- an unlock of mutex m by a thread whose pass was a: where it replied OK in its line, nobody was to be woken; and where
+-- it left its line, and has released the mutex, it tells of the word that its release found, by which it owes a wake
 abbrev pub FreesStraight : Words → ℕ → Pass Live → Straight → Type 0
-FreesStraight w m a (straight.Crossed x) = Unit {0}
+FreesStraight w m a (straight.Crossed x) =
+    IsInProgress (crossing_call x).phase → IsReleasing w a m x.pass (crossing_call x)
 FreesStraight w m a (straight.Lives b y) = y ≡ OK → FreesAlone (card a) (cell_place (layout_of w) m) (card b)
 FreesStraight w m a (straight.Dead d) = Unit {0}
 

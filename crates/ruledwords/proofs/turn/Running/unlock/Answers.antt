@@ -23,6 +23,11 @@ returns-in-Replied-clause-unlocks g c =
     let ends = subst (ComesToEnd w a (stands c.line-line.result loading_unlock) c.unlock_in_line.new.pass) c.in-Replied.is c.in-Err.ensures.steps in
     (ends.0 a (Unlock c.args.mutex) begun, ends.3)
 
+pub returns-in-Ok-clause-frees : goal.returns-in-Ok-clause-frees
+returns-in-Ok-clause-frees g c = λ under.
+    let a = c.args.pass in
+    (c.in-Ok.ensures.steps.goes under).3 a c.args.mutex (unlock_begins_releasing c.args.words.now a c.args.mutex c.line-line.result c.requires.pass c.requires.mutex c.line-line.ensures)
+
 pub returns-in-Replied-clause-frees : goal.returns-in-Replied-clause-frees
 returns-in-Replied-clause-frees g c =
     let w = c.args.words.now in
