@@ -33,10 +33,9 @@ fn unlock<R: Wait, F: Fate>(
     ensures ends { CallEnds bench.now pass (OnMutexOf (UnlockOf mutex)) result }
     ensures fate { IsHeeded (F.stopped fate.old) (F.stopped fate.new) result }
 {
-    let thread = pass.thread();
-    let mut note = bench.note(thread).fate();
+    let mut note = bench.note(pass.thread()).fate();
     match Running::unlock(bench.words(), pass, mutex, fate, &mut note) {
-        Straight::Crossed(crossing) => bench.run_crossed(rt, thread, crossing, fate),
+        Straight::Crossed(crossing) => bench.run_crossed(rt, crossing, fate),
         Straight::Lives(pass, reply) => Outcome::Lives(pass, reply),
         Straight::Dead(pass) => Outcome::Dead(pass),
     }

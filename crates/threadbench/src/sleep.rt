@@ -46,10 +46,9 @@ impl Bench {
         ensures locked { Locked self.now mutex pass result }
         ensures fate { IsHeeded (F.stopped fate.old) (F.stopped fate.new) result }
     {
-        let thread = pass.thread();
-        let mut note = self.note(thread).fate();
+        let mut note = self.note(pass.thread()).fate();
         match Running::lock(&self.words, pass, mutex, fate, &mut note) {
-            Straight::Crossed(crossing) => self.run_crossed(rt, thread, crossing, fate),
+            Straight::Crossed(crossing) => self.run_crossed(rt, crossing, fate),
             Straight::Lives(pass, reply) => Outcome::Lives(pass, reply),
             Straight::Dead(pass) => Outcome::Dead(pass),
         }
@@ -99,12 +98,12 @@ impl Bench {
     }
 
     /// Runs a lock or an unlock to its end that left its line, or until one of its thread's fates ends it. It asks the
-    /// note anew, and is compiled apart: so what it keeps in memory costs a call nothing that stays in its line.
+    /// note of the call's own thread anew, and is compiled apart: so what it keeps in memory costs a call nothing that
+    /// stays in its line.
     #[inline(never)]
     pub(crate) fn run_crossed<R: Wait, F: Fate>(
         &self,
         rt: &R,
-        thread: Tid,
         crossing: Crossing,
         fate: &mut F,
     ) -> Outcome
@@ -115,7 +114,7 @@ impl Bench {
     {
         match crossing.go_on() {
             Turn::Goes(running) => {
-                let mut note = self.note(thread).fate();
+                let mut note = self.note(running.thread()).fate();
                 self.run_on(rt, running, fate, &mut note)
             }
             Turn::Lives(pass, reply) => Outcome::Lives(pass, reply),
