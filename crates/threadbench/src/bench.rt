@@ -3,7 +3,7 @@ ghost use Rattle.std.specs.Prelude.{◌≡◌, ◌<◌, ◌≤◌, ◌+◌, ℕ,
 ghost use Rattle.lockword.specs.Threads.{most_threads};
 ghost use Rattle.ruledwords.specs.Passes.{card, layout_of, presets_of, last_layout, last_words, IsLive, IsPassOf};
 ghost use Rattle.ruledwords.specs.Rules.{first_card, Ends};
-ghost use Rattle.threadbench.specs.Buckets.{AreNumbered};
+ghost use Rattle.threadbench.specs.Buckets.{AreNumbered, HaveRoomFor};
 ghost use Rattle.threadbench.specs.Jobs.{IsJobOf, AreDone};
 
 use crate::gate::Gate;
@@ -44,7 +44,7 @@ impl Model for Bench {
     ghost use Rattle.std.specs.Prelude.{◌≡◌, length};
     ghost use Rattle.lockword.specs.Threads.{most_threads};
     ghost use Rattle.ruledwords.specs.declared.pass.Words.{Words};
-    ghost use Rattle.threadbench.specs.Buckets.{AreNumbered};
+    ghost use Rattle.threadbench.specs.Buckets.{AreNumbered, HaveRoomFor};
     ghost use Rattle.threadbench.specs.Notes.{AreNotes};
     ghost use Rattle.threadbench.specs.Parkers.{AreParkers};
 
@@ -54,7 +54,8 @@ impl Model for Bench {
 
     ghost invariant = { λ b. (length b.buckets.items ≡ 256) × AreNumbered b.buckets.items
         × (length b.notes.items ≡ most_threads) × AreNotes b.notes.items
-        × (length b.parkers.items ≡ most_threads) × AreParkers b.parkers.items };
+        × (length b.parkers.items ≡ most_threads) × AreParkers b.parkers.items
+        × HaveRoomFor b.words.layout.threads b.buckets.items };
 }
 
 impl Bench {
@@ -175,6 +176,7 @@ fn buckets(alloc: Global, threads: u8) -> Result<Vec<Numbered>, NoMem>
     requires last { threads ≤ most_threads }
     ensures count { IfOk result (λ v. length v.items ≡ 256) }
     ensures numbers { IfOk result (λ v. AreNumbered v.items) }
+    ensures room { IfOk result (λ v. HaveRoomFor threads v.items) }
 {
     let mut buckets = Vec::with_capacity(alloc, BUCKETS)?;
     for number in 0..BUCKETS {

@@ -8,10 +8,12 @@ use crossbeam_utils::CachePadded;
 use lockword::Tid;
 use std::sync::{Mutex, MutexGuard, Wait};
 
-/// A futex hash bucket behind a lock of its own, and its number among all.
+/// A futex hash bucket behind a lock of its own, its number among all, and how many threads it was made for.
 #[derive(Drop)]
 pub(crate) struct Numbered {
     number: usize,
+    /// How many threads it has room for.
+    threads: u8,
     bucket: CachePadded<Mutex<Bucket>>,
 }
 
@@ -44,11 +46,12 @@ impl Numbered {
     /// One where nobody stands, which has room for so many threads.
     pub(crate) fn new(number: usize, bucket: Bucket, threads: u8) -> Numbered
         requires { IsEmptied bucket threads }
-        ensures { result.number ≡ number }
+        ensures number { result.number ≡ number }
+        ensures threads { result.threads ≡ threads }
     {
-        let _threads = threads;
         Numbered {
             number,
+            threads,
             bucket: CachePadded::new(Mutex::new(bucket)),
         }
     }
