@@ -7,3 +7,6 @@ run_on-requires g c =
 
 pub returns-in-Goes-clause-runs : goal.returns-in-Goes-clause-runs
 returns-in-Goes-clause-runs g c = λ a call so. c.run_on.ensures.runs.0 a call (c.in-Goes.ensures.goes c.args.self.now a call so)
+
+pub returns-in-Lives-clause-runs : goal.returns-in-Lives-clause-runs
+returns-in-Lives-clause-runs g c = λ a call so. c.in-Lives.ensures.goes c.args.self.now a call so
