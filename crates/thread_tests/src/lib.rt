@@ -1,5 +1,6 @@
 //! The tests of running threads, by public names alone: of passes and their calls, of phases of work at a bench, of gates,
-//! of sleepers and of trims, and of threads that wait on condition variables and of those that wake them.
+//! of sleepers and of trims, of threads that wait on condition variables and of those that wake them, and of threads that
+//! die and are killed.
 #![tactic(auto)]
 
 #[cfg(test)]
@@ -18,6 +19,8 @@ mod fates;
 mod gates;
 #[cfg(test)]
 mod jobs;
+#[cfg(test)]
+mod kills;
 #[cfg(test)]
 mod meetings;
 #[cfg(test)]

@@ -1,5 +1,5 @@
 use Rattle.ruledwords.specs.Passes.{IsLive}
-use Rattle.kill_tests.proofs.kills.run_until_killed.Given as goal
+use Rattle.thread_tests.proofs.kills.between.run_until_killed.Given as goal
 
 abbrev pub invariant-loop-turn : goal.invariant-loop-turn
 invariant-loop-turn g l = IsLive l.bench l.pass

@@ -1,0 +1,7 @@
+//! Threads that die and are killed at a bench: before an access, between their calls, asleep, and living anew.
+
+mod accesses;
+mod between;
+mod pairs;
+mod renewals;
+mod sleepers;
