@@ -1,4 +1,4 @@
-//! Workers whose threads die before an access.
+//! Workers whose threads die before an access, or of a kill.
 ghost use Rattle.std.specs.Prelude.{None};
 
 use crate::jobs::{fresh, phase};
@@ -14,7 +14,7 @@ use std::sync::atomic::{AtomicU64, Ordering};
 use std::test::Fail;
 use std::thread::Threads;
 use thread_fixtures::{Left, makes, team};
-use threadbench::{Gate, Open, WorkerCall, WorkerPass};
+use threadbench::{Bench, Gate, Open, WorkerCall, WorkerPass};
 
 /// What came of a thread that locks a mutex in one phase and unlocks it in the next, and dies before its access with a
 /// number.
@@ -136,5 +136,46 @@ fn accesses_are_counted_over_phases(rt: HostRuntime) -> Result<(), Fail> {
     assert!(rt; two_phases(&rt, rt.alloc(), 8)?.told == [0, 0]);
     assert!(rt; two_phases(&rt, rt.alloc(), 9)?.told == [1, 0]);
     assert!(rt; two_phases(&rt, rt.alloc(), 16)?.told == [1, 1]);
+    Ok(())
+}
+
+/// Kills a worker right before each of its unlocks.
+struct KillsBeforeUnlocks<'a, R: Wait> {
+    rt: &'a R,
+    bench: &'a Bench,
+}
+
+impl<R: Wait> Gate for KillsBeforeUnlocks<'_, R> {
+    ghost says = { λ g t i c. None };
+
+    fn before(&self, thread: Tid, call: WorkerCall) -> bool {
+        match call.op {
+            OnMutex(Unlock(_)) => self.bench.kill(self.rt, thread.get()) == Ok(()),
+            _ => true,
+        }
+    }
+
+    fn after(&self, _thread: Tid, _call: WorkerCall) {}
+}
+
+/// A worker that was killed dies in its unlock, before it has freed the mutex.
+#[test]
+fn a_killed_worker_frees_no_mutex(rt: HostRuntime) -> Result<(), Fail> {
+    let (bench, first, second, third, fourth, _) = team(rt.alloc(), Layout::new(5, 1, &[])?, &[])?;
+    let first = fresh(rt.alloc(), &bench, first, None);
+    let second = fresh(rt.alloc(), &bench, second, None);
+    let gate = KillsBeforeUnlocks {
+        rt: &rt,
+        bench: &bench,
+    };
+    let calls: [&[Op]; 2] = [&[OnMutex(Lock(0)), OnMutex(Unlock(0))], &[]];
+    let worked = phase(&rt, rt.alloc(), &bench, first, second, calls, &gate);
+    let KillsBeforeUnlocks { rt: _, bench: _ } = gate;
+    let (first, _second) = worked?;
+    let dead = matches!(first.pass, WorkerPass::Reaped(_));
+    assert!(rt; dead && first.replies.as_slice() == [OK].as_slice());
+    let next = makes(&rt, &bench, third, OnMutex(TryLock(0)), &mut Never).map(|made| made.1);
+    let cell = Left::of(bench, fourth).cells[0];
+    assert!(rt; next == Some(EOWNERDEAD) && cell == 0x4000_0003);
     Ok(())
 }
