@@ -1,10 +1,9 @@
 /* Each case of an edge once: who dies, forks, execs or asks for what isn't there, and what the next one is told. */
 #include "driver.h"
-#include "try.h"
+#include "no_memory.h"
 #include <fcntl.h>
 #include <pthread.h>
 #include <sched.h>
-#include <sys/resource.h>
 #include <sys/stat.h>
 
 static pz *open_new(const char *name, unsigned mutexes, unsigned conds)
@@ -626,27 +625,6 @@ static void no_key_is_left(void)
     CHECK(waitpid(child, &status, 0) == child && status == 0);
 }
 
-/* All that there is, but for what is mapped already. */
-static struct chunk {
-    struct chunk *next;
-} * taken;
-static struct rlimit memory;
-static void take_all_memory(void)
-{
-    CHECK(!getrlimit(RLIMIT_AS, &memory) && !setrlimit(RLIMIT_AS, &(struct rlimit){0, memory.rlim_max}));
-    for (size_t size = 1 << 20; size >= sizeof *taken; size /= 2)
-        for (struct chunk *c; (c = malloc(size)); taken = c)
-            c->next = taken;
-}
-static void give_it_back(void)
-{
-    CHECK(!setrlimit(RLIMIT_AS, &memory));
-    for (struct chunk *next; taken; taken = next) {
-        next = taken->next;
-        free(taken);
-    }
-}
-
 /* No call finds room for what tells of the thread's end: nothing is taken then, and the next one goes on. */
 static void is_without_memory(pz *p)
 {
@@ -671,8 +649,7 @@ static void is_without_memory(pz *p)
     CHECK(msync(at, 1, MS_ASYNC) != 0);
 }
 
-/* Each thread has room for so many keys. (A sanitizer ends a process that has no memory left.) */
-extern void __asan_init(void) __attribute__((weak));
+/* Each thread has room for so many keys. */
 static void no_memory_is_left(void)
 {
     enum { WITH_ROOM = 32 };

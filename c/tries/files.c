@@ -1,6 +1,6 @@
 /* Each case of a file once: which are opened, made and refused, and what becomes of those who have it open. */
 #include "driver.h"
-#include "try.h"
+#include "no_memory.h"
 #include <dirent.h>
 #include <fcntl.h>
 #include <malloc.h>
@@ -8,7 +8,6 @@
 #include <sched.h>
 #include <sys/file.h>
 #include <sys/mount.h>
-#include <sys/resource.h>
 #include <sys/stat.h>
 #include <sys/statvfs.h>
 #include <sys/syscall.h>
@@ -205,6 +204,73 @@ static void nothing_is_lost(void)
         opens_and_refusals(path);
     CHECK(descriptors() == n);
     CHECK(mallinfo2().uordblks == memory);
+}
+
+/* Whether a malloc(3) goes well. (A compiler may leave out one that nobody looks at.) */
+static int is_memory(size_t size)
+{
+    void *volatile room = malloc(size);
+    int is = room != NULL;
+    free(room);
+    return is;
+}
+
+/* There is memory to ask for, and no room to map a file. */
+static void has_no_room_to_map(void)
+{
+    CHECK(is_memory(1 << 16));
+    map_no_more();
+}
+
+/* However often: more often than a process may have files open. */
+static void opens_in_vain(const char *path, void (*has_none)(void), int is_room)
+{
+    int n = descriptors(), told[FILES + 1];
+    size_t was = mallinfo2().uordblks;
+    pz *p;
+    has_none();
+    CHECK(is_memory(sizeof *p) == is_room);
+    for (int i = 0; i <= FILES; i++)
+        told[i] = pz_open(path, 0600, 1, 0, NULL, 0, &p);
+    give_it_back();
+    for (int i = 0; i <= FILES; i++)
+        SAME(told[i], ENOMEM);
+    CHECK(descriptors() == n && (!is_room || mallinfo2().uordblks == was));
+    int fd = open(path, O_RDWR);
+    CHECK(fd >= 0 && flock(fd, LOCK_EX | LOCK_NB) == 0 && close(fd) == 0);
+}
+
+/* Of one that isn't there no room is taken; one that is there stays as it is, and those who have it go on. */
+static void has_no_memory(void (*has_none)(void), int is_room)
+{
+    const char *path = a_file("memory");
+    struct stat st;
+    pz *p, *q;
+    opens_in_vain(path, has_none, is_room);
+    CHECK(!is_mapped(path) && stat(path, &st) == 0 && st.st_size == 0);
+    SAME(pz_open(path, 0600, 1, 0, NULL, 0, &p), 0);
+    SAME(pz_mutex_lock(p, 0), 0);
+    opens_in_vain(path, has_none, is_room);
+    SAME(pz_open(path, 0600, 1, 0, NULL, 0, &q), 0);
+    SAME(pz_mutex_trylock(q, 0), EBUSY);
+    SAME(pz_mutex_unlock(p, 0), 0);
+    pz_close(q);
+    pz_close(p);
+    CHECK(!is_mapped(path));
+    unlink(path);
+}
+
+static void no_memory(void)
+{
+    static void (*const none[])(void) = {take_all_memory, has_no_room_to_map};
+    for (int is_room = 0; is_room < 2 && !__asan_init; is_room++) {
+        pid_t child = a_child();
+        if (!child) {
+            has_no_memory(none[is_room], is_room);
+            _exit(0);
+        }
+        ends_well(child);
+    }
 }
 
 static void a_file_that_cannot_be_written(void)
@@ -646,6 +712,61 @@ static void sixteen_files(void)
     unlink(path);
 }
 
+/* As many as a process may have are closed, and a thread takes part in each: none of their places is free before it has
+ * left one. What is opened in vain isn't mapped. */
+struct sixteen {
+    pz *file[FILES];
+    pthread_barrier_t both;
+};
+static void *leaves_one(void *of)
+{
+    struct sixteen *its = of;
+    for (unsigned i = 0; i < FILES; i++)
+        SAME(pz_mutex_lock(its->file[i], i), 0);
+    pthread_barrier_wait(&its->both); /* they are closed from here on */
+    pthread_barrier_wait(&its->both);
+    SAME(pz_thread_end(its->file[5]), 0);
+    pthread_barrier_wait(&its->both);
+    pthread_barrier_wait(&its->both);
+    return NULL;
+}
+
+static void is_one_too_many(const char *path)
+{
+    int n = descriptors();
+    pz *p;
+    SAME(pz_open(path, 0600, 1, 0, NULL, 0, &p), EMFILE);
+    CHECK(!is_mapped(path) && descriptors() == n);
+}
+
+static void sixteen_closed_files(void)
+{
+    const char *path = a_file("many"), *another = a_file("another"), *third = a_file("third");
+    struct sixteen its;
+    pthread_t thread;
+    pz *p[FILES];
+    CHECK(!pthread_barrier_init(&its.both, NULL, 2));
+    for (unsigned i = 0; i < FILES; i++)
+        SAME(pz_open(path, 0600, FILES, 0, NULL, 0, &its.file[i]), 0);
+    CHECK(!pthread_create(&thread, NULL, leaves_one, &its));
+    pthread_barrier_wait(&its.both);
+    for (unsigned i = 0; i < FILES; i++)
+        pz_close(its.file[i]);
+    is_one_too_many(another);
+    pthread_barrier_wait(&its.both);
+    pthread_barrier_wait(&its.both);
+    SAME(pz_open(another, 0600, 1, 0, NULL, 0, &p[0]), 0);
+    is_one_too_many(third);
+    pthread_barrier_wait(&its.both);
+    CHECK(!pthread_join(thread, NULL) && !is_mapped(path));
+    for (unsigned i = 1; i < FILES; i++)
+        SAME(pz_open(another, 0600, 1, 0, NULL, 0, &p[i]), 0);
+    is_one_too_many(third);
+    for (unsigned i = 0; i < FILES; i++)
+        pz_close(p[i]);
+    CHECK(!unlink(path) && !unlink(another) && (!unlink(third) || errno == ENOENT));
+}
+
 /* A thread of a pool, which takes part in each file that it is given. It owns a mutex of the first one all the time. */
 static pz *_Atomic given;
 static _Atomic int works_on, is_done;
@@ -880,6 +1001,7 @@ int main(void)
     the_numbers_of_a_file();
     whose_file_it_is();
     nothing_is_lost();
+    no_memory();
     a_file_that_cannot_be_written();
     a_lease();
     a_handler_that_forks();
@@ -895,6 +1017,7 @@ int main(void)
     many_open_at_once();
     makers_are_killed();
     sixteen_files();
+    sixteen_closed_files();
     a_pool();
     a_closed_file();
     a_child_closes();
