@@ -57,6 +57,49 @@ static void calls_and_refusals(void)
     pz_close(p);
 }
 
+/* A number that no mutex, or no condition variable, has. */
+static void are_refused(pz *p, unsigned m, unsigned c)
+{
+    static const struct timespec past, far_away = {INT64_MAX, 0};
+    SAME(pz_mutex_trylock(p, m), EINVAL);
+    SAME(pz_mutex_lock(p, m), EINVAL);
+    SAME(pz_mutex_timedlock(p, m, &far_away), EINVAL);
+    SAME(pz_mutex_clocklock(p, m, CLOCK_MONOTONIC, &past), EINVAL);
+    SAME(pz_mutex_unlock(p, m), EINVAL);
+    SAME(pz_mutex_consistent(p, m), EINVAL);
+    SAME(pz_mutex_reinit(p, m), EINVAL);
+    SAME((int)pz_mutex_owner(p, m), 0);
+    SAME(pz_cond_signal(p, c), EINVAL);
+    SAME(pz_cond_broadcast(p, c), EINVAL);
+    SAME(pz_cond_wait(p, c), EINVAL);
+    SAME(pz_cond_timedwait(p, c, &far_away), EINVAL);
+    SAME(pz_cond_clockwait(p, c, CLOCK_MONOTONIC, &past), EINVAL);
+}
+
+/* Nothing in the file changes, nor what the thread is and holds: whether it takes no part, does, or owns all mutexes.
+ */
+static void what_is_not_there(void)
+{
+    enum { MUTEXES = 2, CONDS = 1 };
+    static const unsigned beyond[] = {0, 1, 2, MOST_MUTEXES, UINT32_MAX - MUTEXES};
+    static char before[1 << 17];
+    pz *p = open_new("nowhere", MUTEXES, CONDS);
+    for (int state = 0; state < 3; state++) {
+        SAME(state == 1 ? pz_thread_begin(p) : 0, 0);
+        for (unsigned m = 0; state == 2 && m < MUTEXES; m++)
+            SAME(pz_mutex_lock(p, m), 0);
+        struct self self = pz_self[p->number];
+        CHECK(p->size <= sizeof before && memcpy(before, p->header, p->size) == before);
+        for (unsigned i = 0; i < sizeof beyond / sizeof *beyond; i++)
+            are_refused(p, MUTEXES + beyond[i], CONDS + beyond[i]);
+        CHECK(!memcmp(before, p->header, p->size));
+        CHECK(pz_thread_id(p) == self.id && (self.id != 0) == (state > 0) && pz_self[p->number].held == self.held);
+    }
+    for (unsigned m = 0; m < MUTEXES; m++)
+        SAME(pz_mutex_unlock(p, m), 0);
+    pz_close(p);
+}
+
 static void an_owner_dies(void)
 {
     pz *p = open_new("death", 1, 1);
@@ -674,6 +717,7 @@ int main(void)
     no_key_is_left();
     no_memory_is_left();
     calls_and_refusals();
+    what_is_not_there();
     an_owner_dies();
     who_owns_and_who_lives();
     what_answers_mean();

@@ -3,12 +3,14 @@
  * off, so one that isn't told of an id sleeps for good, and makes no system call meanwhile. */
 #include "driver.h"
 #include "times.h"
+#include <fcntl.h>
 #include <linux/futex.h>
 #include <pthread.h>
+#include <sys/file.h>
 #include <sys/syscall.h>
 
 enum { IDS = PZ_THREADS, HUNDRED = 100, ALL = IDS + HUNDRED, MUTEXES = 2, WAS = 77 };
-enum order { STAY, BEGIN, LOCK, UNTIL_FAR, TRYLOCK, UNLOCK, WAIT, SIGNAL, LEAVE };
+enum order { STAY, BEGIN, LOCK, UNTIL_FAR, STEADY_UNTIL_FAR, TRYLOCK, UNLOCK, WAIT, SIGNAL, LEAVE };
 
 /* One process: what it is told to do, with which mutex, and how often it has done that; what it was answered last, and
  * its id. */
@@ -38,6 +40,8 @@ static int does(enum order order, unsigned m)
         return pz_mutex_lock(p, m);
     case UNTIL_FAR:
         return pz_mutex_timedlock(p, m, &far_away);
+    case STEADY_UNTIL_FAR:
+        return pz_mutex_clocklock(p, m, CLOCK_MONOTONIC, &far_away);
     case TRYLOCK:
         return pz_mutex_trylock(p, m);
     case UNLOCK:
@@ -163,6 +167,38 @@ static void it_waits(enum order first_call, int dies)
     end();
 }
 
+/* Mutexes of its process alone, one of which has its death told, and a file's lock: what it owns isn't of another file
+ * of mutexes, so it waits all the same. */
+static void owns_something_else(void)
+{
+    static pthread_mutex_t plain = PTHREAD_MUTEX_INITIALIZER, robust;
+    const char *path = a_file("lock");
+    int fd = open(path, O_RDWR | O_CREAT, 0600);
+    pthread_mutexattr_t a;
+    CHECK(fd >= 0 && unlink(path) == 0 && flock(fd, LOCK_EX) == 0);
+    CHECK(!pthread_mutexattr_init(&a) && !pthread_mutexattr_setrobust(&a, PTHREAD_MUTEX_ROBUST));
+    CHECK(!pthread_mutex_init(&robust, &a) && !pthread_mutex_lock(&robust) && !pthread_mutex_lock(&plain));
+}
+static void who_owns_something_else_waits(void)
+{
+    enum { TWO = IDS + 2 };
+    begin();
+    for (int i = IDS; i < TWO; i++) {
+        if (!(process[i] = a_child())) {
+            owns_something_else();
+            work(&part[i]);
+        }
+        sleeps_in(i, i == IDS ? BEGIN : LOCK, 1);
+    }
+    for (int i = IDS; i < TWO; i++)
+        SAME(tell(i - IDS, LEAVE, 0), 0);
+    for (int i = IDS; i < TWO; i++) {
+        until_done(i, 1);
+        SAME(atomic_load(&part[i].told), 0);
+    }
+    end();
+}
+
 /* Those who sleep on a mutex of its owner watch its token, and came before: so they are told by that, and one that
  * waits for an id by who leaves, or by who reaps. */
 static void beside_sleepers(int dies)
@@ -217,6 +253,10 @@ static void who_does_not_wait(void)
     SAME(pz_cond_timedwait(p, 0, &far_away), EPERM);
     SAME(pz_cond_signal(p, 0), EPERM);
     SAME(pz_cond_broadcast(p, 0), EPERM);
+    SAME(pz_mutex_trylock(p, MUTEXES), EINVAL);
+    SAME(pz_mutex_timedlock(p, MUTEXES, &past[0]), EINVAL);
+    SAME(pz_mutex_unlock(p, MUTEXES), EINVAL);
+    SAME(pz_cond_signal(p, 1), EINVAL);
     SAME((int)pz_thread_id(p), 0);
     end();
 }
@@ -479,9 +519,10 @@ static void one_gives_up_in_a_closed_file(void)
 
 int main(void)
 {
-    for (enum order call = BEGIN; call <= UNTIL_FAR; call++)
+    for (enum order call = BEGIN; call <= STEADY_UNTIL_FAR; call++)
         for (int dies = 0; dies < 2; dies++)
             it_waits(call, dies);
+    who_owns_something_else_waits();
     beside_sleepers(0);
     beside_sleepers(1);
     a_waiter_keeps_its_id();
