@@ -420,6 +420,28 @@ static void naps_end_there(void)
     CHECK(clock_ns >= limit_ns && clock_ns < limit_ns + NAP / 10);
 }
 
+/* The clock is set past it amid a nap, which is the last one: so it gives up. */
+static int naps;
+static void is_set_past_it(void)
+{
+    CHECK(asked.operation == FUTEX_WAIT && asked.on == (uint32_t *)heir(&file, cell) && asked.ns <= NAP);
+    naps++;
+    ahead_ns += 7200l * SECOND;
+    clock_ns += asked.ns;
+}
+static void a_clock_that_is_set_amid_a_nap(void)
+{
+    begin(OTHER | WAITERS, 0);
+    struct limit limit = until_then(CLOCK_REALTIME, 3600l * SECOND);
+    long since = clock_ns;
+    refuses = ETIMEDOUT;
+    meanwhile = is_set_past_it;
+    SAME((int)pz_sleep(&file, SELF, cell, (uint32_t)(OTHER | WAITERS), &limit), EXPIRED);
+    CHECK(naps == 1 && sleeps_asked == 0 && wakes == 0 && !*heir(&file, cell) && !*sleepers(&file, cell));
+    CHECK(clock_ns - since < LONGEST_PAUSE + LAST_LOOK + 2 * NAP);
+    ahead_ns = 3600l * SECOND;
+}
+
 /* It comes as it sleeps. */
 static void time_passes(void)
 {
@@ -660,6 +682,7 @@ int main(void)
     who_waits_for_an_id_looks();
     a_pause_ends_there();
     naps_end_there();
+    a_clock_that_is_set_amid_a_nap();
     for (no_waitv = 0; no_waitv < 2; no_waitv++) {
         with_a_limit(CLOCK_MONOTONIC);
         with_a_limit(CLOCK_REALTIME);
