@@ -119,9 +119,10 @@ static const struct {
     {"pz_mutex_reinit", 0, "the mutex is free: an unusable one is usable again, and what a dead owner left is "
      "declared consistent"},
     {"pz_mutex_reinit", EBUSY, "a living thread owns it, sleeps on it, or is the next to get it; or it became "
-     "unusable just now, or another thread is cleaning up after one that died asleep on it: try again; or rarely "
-     "though nobody sleeps on it: a waiter was killed in the middle of a broadcast, and its id was used again. That "
-     "ends once the id's new thread sleeps on this mutex, waits on a condition variable of it, or leaves"},
+     "unusable just now, or another thread is cleaning up after one that died asleep on it or as the next to get it: "
+     "try again; or rarely though nobody sleeps on it: a waiter was killed in the middle of a broadcast, and its id "
+     "was used again. That ends once the id's new thread sleeps on this mutex, waits on a condition variable of it, "
+     "or leaves"},
     {"pz_mutex_reinit", EAGAIN, "it isn't unusable, and the thread holds 2,048 mutexes of this file; or this is its "
      "first call, and no id is free"},
     {"pz_mutex_reinit", EINVAL, "there is no such mutex or condition variable; nothing was done; or somebody wrote "

@@ -20,10 +20,12 @@ static pz *p;
 static struct seen *seen;
 static long dies_before, dies_in_walk; /* counts down to 0; -1 for never */
 static int is_marked, is_counted;
-static long stops_in_walk;
+static long stops_before, stops_in_walk;
 
 void pz_between(void)
 {
+    if (stops_before > 0 && --stops_before == 0)
+        raise(SIGSTOP);
     if (is_counted)
         atomic_fetch_add(&seen->made, 1);
     if ((dies_before > 0 && --dies_before == 0) || (is_marked && atomic_load(&seen->woken_dies)))
@@ -198,6 +200,24 @@ static void locks_beside_a_reaper(void)
     CHECK(info.thread[dead].life == PZ_ID_DIED && info.thread[dead].tid == 0);
 }
 
+/* Before its first instruction, or so far in its walk. */
+static pid_t a_reaper_that_stops(long in_walk)
+{
+    pid_t reaper = a_child();
+    if (!reaper) {
+        stops_before = in_walk == 0;
+        stops_in_walk = in_walk;
+        _exit(pz_reap(p) != 1);
+    }
+    until_stopped(reaper);
+    return reaper;
+}
+static void goes_on(pid_t is)
+{
+    kill(is, SIGCONT);
+    ends_well(is);
+}
+
 /* While a reaper stands still amid its walk, a trylock of what the dead thread owned waits for it: nobody alive owns
  * it.
  */
@@ -211,12 +231,7 @@ static void a_trylock_beside_a_reaper(void)
         kill(getpid(), SIGKILL);
     }
     CHECK(waitpid(owner, &status, 0) == owner && WIFSIGNALED(status));
-    pid_t reaper = a_child();
-    if (!reaper) {
-        stops_in_walk = 6;
-        _exit(pz_reap(p) != 1);
-    }
-    CHECK(waitpid(reaper, &status, WUNTRACED) == reaper && WIFSTOPPED(status));
+    pid_t reaper = a_reaper_that_stops(6);
     locks_beside_a_reaper();
     pid_t tries = a_child();
     if (!tries) {
@@ -225,10 +240,45 @@ static void a_trylock_beside_a_reaper(void)
     }
     while (atomic_load(&seen->made) < 1000)
         CHECK(waitpid(tries, &status, WNOHANG) == 0);
-    kill(reaper, SIGCONT);
-    CHECK(waitpid(reaper, &status, 0) == reaper && status == 0);
+    goes_on(reaper);
     CHECK(waitpid(tries, &status, 0) == tries);
     SAME(WEXITSTATUS(status), EOWNERDEAD);
+}
+
+/* Who waits for the mutex dies asleep; or as its heir, before the first instruction behind which it is named. */
+static void one_dies_asleep(void)
+{
+    pid_t sleeper = a_sleeper();
+    until_asleep(sleeper);
+    kill_and_wait(sleeper);
+    CHECK(any_noted(sleepers(p, cell_place(0))));
+}
+static void an_heir_dies(void)
+{
+    for (long n = 1; !(atomic_load(heir(p, cell_place(0))) & WHO); n++) {
+        pz_reap(p);
+        pid_t next = child(n, 0);
+        if (!next)
+            _exit(pz_mutex_lock(p, 0));
+        int status;
+        CHECK(waitpid(next, &status, 0) == next && WIFSIGNALED(status));
+    }
+    CHECK(!any_noted(sleepers(p, cell_place(0))));
+}
+
+/* While one stands still that cleans up after it, the mutex, which is unusable, isn't made anew. */
+static void a_reinit_beside_a_reaper(void (*dies)(void), long in_walk)
+{
+    an_owner_is_killed(p, 0);
+    SAME(pz_mutex_lock(p, 0), EOWNERDEAD);
+    dies();
+    SAME(pz_mutex_unlock(p, 0), 0);
+    pid_t reaper = a_reaper_that_stops(in_walk);
+    SAME(pz_mutex_reinit(p, 0), EBUSY);
+    goes_on(reaper);
+    SAME(pz_mutex_reinit(p, 0), 0);
+    SAME(pz_mutex_lock(p, 0), 0);
+    SAME(pz_mutex_unlock(p, 0), 0);
 }
 
 /* Each mutex is a dead owner's. (Its walk is ended here, and in no child that is to die amid its own.) */
@@ -246,6 +296,78 @@ static void lock_all(pz *of)
 {
     for (unsigned m = 0; m < MUTEXES; m++)
         SAME(pz_mutex_lock(of, m), 0);
+}
+
+/* ---- No id is free but that of a dead thread, and the one that cleans up after it stands still. */
+
+/* All that are free, by one thread, which forgets each. */
+static pid_t has_the_others(void)
+{
+    atomic_store(&seen->is_there, 0);
+    pid_t is = child(0, 0);
+    if (!is) {
+        int r;
+        while (!(r = pz_begin_now(p)))
+            pz_self[p->number].id = 0;
+        SAME(r, EAGAIN);
+        for (atomic_store(&seen->is_there, 1);;)
+            pause();
+    }
+    while (!atomic_load(&seen->is_there))
+        rest(20);
+    return is;
+}
+static pid_t owns_all(void)
+{
+    pid_t is = child(0, 0);
+    if (!is) {
+        lock_all(p);
+        for (;;)
+            pause();
+    }
+    while (!pz_mutex_owner(p, MUTEXES - 1))
+        rest(20);
+    return is;
+}
+
+/* It is told at once that there is none; and has one, once it goes on. */
+static _Noreturn void takes_part_elsewhere(void)
+{
+    const char *path = a_file("elsewhere");
+    pz *other;
+    SAME(pz_open(path, 0600, 1, 0, NULL, 0, &other), 0);
+    CHECK(unlink(path) == 0);
+    SAME(pz_thread_begin(other), 0);
+    SAME(pz_thread_begin(p), EAGAIN);
+    SAME(pz_mutex_lock(p, 0), EAGAIN);
+    SAME(pz_mutex_trylock(p, 0), EAGAIN);
+    raise(SIGSTOP);
+    _exit(pz_thread_begin(p));
+}
+
+/* Another one waits for it. */
+static void an_id_beside_a_reaper(void)
+{
+    pid_t owner = owns_all(), others = has_the_others();
+    kill_and_wait(owner);
+    pid_t reaper = a_reaper_that_stops(6), elsewhere = child(0, 0);
+    if (!elsewhere)
+        takes_part_elsewhere();
+    until_stopped(elsewhere);
+    pid_t waits = a_sleeper();
+    until_asleep(waits);
+    goes_on(reaper);
+    ends_well(waits);
+    goes_on(elsewhere);
+    kill_and_wait(others);
+    SAME(pz_mutex_lock(p, 0), 0);
+    SAME(pz_mutex_unlock(p, 0), 0);
+    for (unsigned m = 1; m < MUTEXES; m++) {
+        SAME(pz_mutex_lock(p, m), EOWNERDEAD);
+        SAME(pz_mutex_consistent(p, m), 0);
+        SAME(pz_mutex_unlock(p, m), 0);
+    }
+    pz_reap(p);
 }
 
 /* Whether it was killed, or came to its end. */
@@ -559,6 +681,10 @@ int main(void)
         }
     long waits = heirs_die(0), timed = heirs_die(1), told = with_waits_up_to_a_time();
     a_trylock_beside_a_reaper();
+    all_are_told(p);
+    a_reinit_beside_a_reaper(one_dies_asleep, 1);
+    a_reinit_beside_a_reaper(an_heir_dies, 0);
+    an_id_beside_a_reaper();
     leavers_die();
     a_leaver();
     openers_die_after_a_reboot();
