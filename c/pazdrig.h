@@ -69,7 +69,7 @@ unsigned pz_mutex_owner(pz *, unsigned m);  /* its owner's id; 0: nobody's, or t
 /* Of an id. A dead thread's stays PZ_ID_DIED until somebody has cleaned up after it. */
 enum pz_life { PZ_ID_FREE, PZ_ID_LIVES, PZ_ID_DIED };
 struct pz_thread {
-    pid_t tid; /* in the thread's own PID namespace; 0 of a free id, and while somebody cleans up */
+    pid_t tid; /* in the thread's own PID namespace; 0 of a free id, while somebody cleans up, and before it is had */
     enum pz_life life;
 };
 struct pz_info {

@@ -9,6 +9,7 @@ static int tried(pthread_mutex_t *token);
 #define pthread_mutex_trylock tried
 #include "../reap.c"
 #undef pthread_mutex_trylock
+#include "../info.c"
 #include "try.h"
 
 enum { DEAD = 7, MUTEXES = 4, NEVER = 1 << 20 };
@@ -113,16 +114,41 @@ static void look(void)
     CHECK(lives[DEAD].valid == WALK_ENDED);
 }
 
-/* The token of a thread that lives is never tried, neither by who reaps nor by who wants an id: the kernel might take
- * who is killed in that for its holder. */
-static int tries;
+static int tries, may_be_had;
+static struct pz_thread told; /* of the first id, as soon as its token is had */
+static struct pz_thread is_told(void)
+{
+    struct pz_info info;
+    CHECK(pz_info(&file, &info) == 0);
+    return info.thread[1];
+}
 static int tried(pthread_mutex_t *token)
 {
-    (void)token;
     tries++;
-    return EBUSY;
+    if (!may_be_had)
+        return EBUSY;
+    *(uint32_t *)token = (uint32_t)getpid();
+    told = is_told();
+    return 0;
 }
 
+/* One that a thread takes is told as a dead one's, by no number, until the thread lives by it. */
+static void an_id_that_is_taken(void)
+{
+    begin();
+    CHECK(is_told().life == PZ_ID_FREE);
+    may_be_had = 1;
+    SAME(pz_take_part(&file), 0);
+    may_be_had = 0;
+    CHECK(pz_self[file.number].id == 1 && told.life == PZ_ID_DIED && told.tid == 0);
+    told = is_told();
+    CHECK(told.life == PZ_ID_LIVES && told.tid == getpid());
+    pz_self[file.number] = (struct self){0};
+    tries = 0;
+}
+
+/* The token of a thread that lives is never tried, neither by who reaps nor by who wants an id: the kernel might take
+ * who is killed in that for its holder. */
 static void tokens_of_the_living(void)
 {
     enum { ITS_TID = 4711 };
@@ -139,6 +165,7 @@ static void tokens_of_the_living(void)
 int main(void)
 {
     int deaths = 0;
+    an_id_that_is_taken();
     tokens_of_the_living();
     for (int first = 1;; first++) {
         begin();
