@@ -356,16 +356,17 @@ static void *opens_it(void *p)
     SAME(pz_open(its_file, 0600, 1, 0, NULL, 0, p), 0);
     return NULL;
 }
-static pthread_t an_opener(const char *path, pz **out)
+static pthread_t begin_opener(void *(*opens)(void *), const char *path, pz **out)
 {
     pthread_t thread;
     its_file = path;
     atomic_store(&opener, 0);
-    CHECK(!pthread_create(&thread, NULL, opens_it, out));
+    CHECK(!pthread_create(&thread, NULL, opens, out));
     while (!atomic_load(&opener))
         rest(1000);
     return thread;
 }
+static pthread_t an_opener(const char *path, pz **out) { return begin_opener(opens_it, path, out); }
 
 static void a_lease(void)
 {
@@ -461,6 +462,29 @@ static void a_reader_with_the_lock(void)
     pz_close(again);
     pz_close(p);
     close(fd);
+    unlink(path);
+}
+
+/* One that isn't as large as is asked for is refused behind that lock: it may be in the making. */
+static void *is_refused(void *p)
+{
+    atomic_store(&opener, gettid());
+    SAME(pz_open(its_file, 0600, 1, 0, NULL, 1 << 20, p), EINVAL);
+    return NULL;
+}
+static void a_refusal_waits(void)
+{
+    const char *path = a_file("refused");
+    pz *p, *none;
+    SAME(pz_open(path, 0600, 1, 0, NULL, 0, &p), 0);
+    int fd = open(path, O_RDONLY);
+    CHECK(fd >= 0 && flock(fd, LOCK_EX) == 0);
+    pthread_t t = begin_opener(is_refused, path, &none);
+    while (!sleeps(atomic_load(&opener)))
+        CHECK(pthread_tryjoin_np(t, NULL) == EBUSY);
+    until_asleep(atomic_load(&opener));
+    CHECK(flock(fd, LOCK_UN) == 0 && !pthread_join(t, NULL) && close(fd) == 0);
+    pz_close(p);
     unlink(path);
 }
 
@@ -1007,6 +1031,7 @@ int main(void)
     a_handler_that_forks();
     an_interrupted_open();
     a_reader_with_the_lock();
+    a_refusal_waits();
     a_child_of_an_opener();
     no_room();
     a_full_disk();
