@@ -123,8 +123,8 @@ static const struct {
      "try again; or rarely though nobody sleeps on it: a waiter was killed in the middle of a broadcast, and its id "
      "was used again. That ends once the id's new thread sleeps on this mutex, waits on a condition variable of it, "
      "or leaves"},
-    {"pz_mutex_reinit", EAGAIN, "it isn't unusable, and the thread holds 2,048 mutexes of this file; or this is its "
-     "first call, and no id is free"},
+    {"pz_mutex_reinit", EAGAIN, "it is neither free nor unusable, and the thread holds 2,048 mutexes of this file; "
+     "or this is its first call, and no id is free"},
     {"pz_mutex_reinit", EINVAL, "there is no such mutex or condition variable; nothing was done; or somebody wrote "
      "stray values into the library's words, and the call was stopped there: nobody knows who owns what, so end all "
      "who use the file and delete it"},

@@ -510,6 +510,8 @@ static void the_2049th_mutex(void)
     SAME(pz_mutex_trylock(p, 2048), EAGAIN);
     SAME(pz_mutex_lock(p, 5), EAGAIN);
     SAME(pz_mutex_trylock(p, 5), EAGAIN);
+    SAME(pz_mutex_reinit(p, 5), EAGAIN);
+    SAME(pz_mutex_reinit(p, 2048), 0); /* which is free */
     SAME(pz_mutex_unlock(p, 5), 0);
     SAME(pz_mutex_lock(p, 2048), 0);
     pid_t child = fork();

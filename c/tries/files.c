@@ -32,6 +32,8 @@ static void a_file_of_another_layout(void)
     uint16_t other[1] = {1}, of_none[1] = {2};
     unlink(path);
     SAME(pz_open(path, 0600, 2, 1, of_none, 8, &q), EINVAL);
+    SAME(pz_open(path, 0600, 2, 1, NULL, SIZE_MAX, &q), EINVAL);
+    CHECK(access(path, F_OK) < 0 && errno == ENOENT);
     SAME(pz_open(path, 0600, 2, 1, NULL, 8, &p), 0);
     SAME(pz_open(path, 0600, 3, 1, NULL, 8, &q), EINVAL);
     SAME(pz_open(path, 0600, 2, 1, NULL, 9, &q), EINVAL);
