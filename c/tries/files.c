@@ -118,6 +118,26 @@ static void a_file_of_other_ids(void)
     unlink(path);
 }
 
+/* The program's own bytes are zeros, and stay what they are made while all calls go as ever. */
+static void the_data_of_one(pz *p, unsigned mutexes, unsigned conds, size_t data)
+{
+    unsigned char *own = pz_data(p);
+    CHECK((uintptr_t)own % 64 == 0);
+    for (size_t i = 0; i < data; i++)
+        CHECK(own[i] == 0);
+    memset(own, 0xff, data);
+    for (unsigned m = 0; m < mutexes; m++) {
+        SAME(pz_mutex_lock(p, m), 0);
+        for (unsigned c = m; c < conds; c += mutexes) {
+            SAME(pz_cond_signal(p, c), 0);
+            SAME(pz_cond_clockwait(p, c, CLOCK_MONOTONIC, &(struct timespec){0}), ETIMEDOUT);
+        }
+        SAME(pz_mutex_unlock(p, m), 0);
+    }
+    for (size_t i = 0; i < data; i++)
+        CHECK(own[i] == 0xff);
+}
+
 /* What a file says of itself, and how much it takes. */
 static void the_numbers_of_one(unsigned mutexes, unsigned conds, size_t data)
 {
@@ -131,7 +151,7 @@ static void the_numbers_of_one(unsigned mutexes, unsigned conds, size_t data)
     CHECK(stat(path, &st) == 0 && (size_t)st.st_size == info.size);
     CHECK(info.format == 3 && info.mutexes == mutexes && info.conds == conds && info.data == data);
     CHECK(info.size == (size + page - 1) / page * page);
-    SAME(pz_mutex_lock(p, mutexes - 1), 0);
+    the_data_of_one(p, mutexes, conds, data);
     pz_close(p);
     unlink(path);
 }
@@ -281,15 +301,18 @@ static void a_file_that_cannot_be_written(void)
     pz *p;
     SAME(pz_open(path, 0400, 1, 0, NULL, 0, &p), 0);
     pz_close(p);
+    int status, fd = open(path, O_RDWR); /* by who may: a child has it, and may not */
     pid_t child = a_child();
     if (!child) {
         if (setuid(65534))
             _exit(1);
-        _exit(pz_open(path, 0600, 1, 0, NULL, 0, &p) != EACCES);
+        SAME(pz_open(path, 0600, 1, 0, NULL, 0, &p), EACCES);
+        SAME(pz_open_fd(fd, 1, 0, NULL, 0, &p), EACCES);
+        _exit(0);
     }
-    int status;
     CHECK(waitpid(child, &status, 0) == child);
-    CHECK(geteuid() != 0 || status == 0);
+    CHECK(geteuid() != 0 || (status == 0 && fd >= 0));
+    close(fd);
     unlink(path);
 }
 
