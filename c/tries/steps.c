@@ -4,6 +4,7 @@
  * left asleep. */
 #include "driver.h"
 #include "try.h"
+#include <linux/futex.h>
 
 enum { MUTEXES = 3, ANOTHERS = MUTEXES, FREE = 0, UNSURE = 1, HELD_BY_IT = 2 };
 
@@ -423,7 +424,16 @@ static int waits_as_heir(int is_timed)
         return 0;
     return r || pz_mutex_unlock(p, 0);
 }
-static long heirs_die(int is_timed)
+/* It has slept so long that it watches the heir too, or has found that one dead; or there is none any more. */
+static void until_it_watches(pid_t is)
+{
+    unsigned next;
+    until_it_rests(is);
+    while ((next = atomic_load(heir(p, cell_place(0))) & WHO) && !(*pz_token_word(p, next) & FUTEX_WAITERS))
+        rest(20);
+}
+/* The owner frees the mutex then. */
+static long heirs_die(int is_timed, void (*until)(pid_t))
 {
     long n = 0;
     for (int died = 1, status; died; n++) {
@@ -433,7 +443,7 @@ static long heirs_die(int is_timed)
             _exit(waits_as_heir(is_timed));
         until_it_rests(first);
         atomic_store(&seen->may_lock, 1);
-        until_it_rests(second);
+        until(second);
         SAME(pz_mutex_unlock(p, 0), 0);
         died = was_killed(first);
         CHECK(waitpid(second, &status, 0) == second && status == 0);
@@ -679,7 +689,8 @@ int main(void)
             if (atomic_load(&seen->walked) - before < k)
                 break; /* it had ended before */
         }
-    long waits = heirs_die(0), timed = heirs_die(1), told = with_waits_up_to_a_time();
+    long waits = heirs_die(0, until_it_rests), watched = heirs_die(0, until_it_watches);
+    long timed = heirs_die(1, until_it_rests), told = with_waits_up_to_a_time();
     a_trylock_beside_a_reaper();
     all_are_told(p);
     a_reinit_beside_a_reaper(one_dies_asleep, 1);
@@ -693,7 +704,7 @@ int main(void)
     printf("steps: dead before each of %ld instructions, of %ld of a wait and %ld of a timed one, and %ld times amid "
            "the walk; %ld times in waits on a condition variable up to a time, or telling of it\n",
            instructions, waits, timed, walks, told);
-    CHECK(instructions >= 50 && waits >= 20 && timed >= 20 && walks > 500 && told > 100);
+    CHECK(instructions >= 50 && waits >= 20 && watched >= 20 && timed >= 20 && walks > 500 && told > 100);
     pz_close(p);
     unlink(path);
     return 0;
