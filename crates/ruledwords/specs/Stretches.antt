@@ -24,8 +24,9 @@ use Rattle.ruledwords.specs.declared.turn.Turn.TheVariants.{Goes, Lives}
 use Rattle.ruledwords.specs.Outcomes.{FreesAlone}
 use Rattle.ruledwords.specs.Passes.{card, layout_of, IsDying}
 use Rattle.ruledwords.specs.Releases.{IsReleasing, StaysReleasing}
-use Rattle.ruledwords.specs.Turns.{running_of, EndsIn, GoesOn, GoesOnDecided, HasDied, HasSeenTheSame}
-use Rattle.ruledwords.specs.Turns.{IsCallOf, IsDecided, IsOneStep, IsRunningOf, IsUnderWay, StaysIn, TrimsNone, Turned}
+use Rattle.ruledwords.specs.Turns.{running_call, running_of, running_pass, EndsIn, GoesOn, GoesOnDecided, HasDied}
+use Rattle.ruledwords.specs.Turns.{HasSeenTheSame, IsCallOf, IsDecided, IsOneStep, IsRunningOf, IsUnderWay, StaysIn}
+use Rattle.ruledwords.specs.Turns.{TrimsNone, Turned}
 
 -- a call on mutex m that was decided, with the reply x at the card c, stands at p, with the pass a
 abbrev pub IsDecidedIn : Words → ℕ → Card → Reply → Pass Live → Whole → Type 0
@@ -93,6 +94,14 @@ abbrev pub Stretches : Words → Running → Stretch → Type 0
 Stretches w r s =
     GoesOnThere w s × ((a : Pass Live) (call : Call) → IsUnderWay w a call r → StretchesFrom w a call s)
     × ((m : ℕ) (c : Card) (x : Reply) → IsDecided w m c x r → StretchesDecided w m c x s)
+
+-- what the call knows besides, that stood at p with the pass a: an unlock that goes on tells of the word that its release
+-- found, by which it owes a wake; where it replied OK, nobody was to be woken. Its thread has made no trim
+abbrev pub StretchesAlone : Words → Pass Live → Whole → Stretch → Type 0
+StretchesAlone w a p (stretch.Goes r) =
+    StaysReleasing w a p (running_pass r) (running_call r) × TrimsNone (card a) (card (running_pass r))
+StretchesAlone w a p (stretch.Lives b y) = EndsAlone w a p b y × TrimsNone (card a) (card b)
+StretchesAlone w a p (stretch.Dead d) = TrimsNone (card a) (card d)
 
 -- how often its thread was told to stop
 abbrev pub stops_stretching : Stretch → ℕ

@@ -6,7 +6,7 @@ ghost use Rattle.ruledwords.specs.declared.pass.Pass.{Pass};
 ghost use Rattle.ruledwords.specs.Fates.{Heeds};
 ghost use Rattle.ruledwords.specs.Outcomes.{card_after, Finishes, stops_in};
 ghost use Rattle.ruledwords.specs.Passes.{card};
-ghost use Rattle.ruledwords.specs.Stretches.{StepsOn, StepsOnce, StepsTo, Stretches, stops_stretching};
+ghost use Rattle.ruledwords.specs.Stretches.{StepsOn, StepsOnce, StepsTo, Stretches, StretchesAlone, stops_stretching};
 ghost use Rattle.ruledwords.specs.Turns.{EndsIn, IsCallOf, IsInNonblocking, IsOneStep, IsRunningOf};
 ghost use Rattle.ruledwords.specs.Turns.{running_call, running_pass, stops_with, stops_within, TrimsNone};
 
@@ -179,6 +179,7 @@ impl Running {
     pub fn more<F: Fate, N: Fate>(self, words: &Words, fate: &mut F, note: &mut N) -> Stretch
         requires words { IsRunningOf words.now self }
         ensures stretches { Stretches words.now self result }
+        ensures alone { StretchesAlone words.now (running_pass self) (running_call self) result }
         ensures fate { Heeds (F.stopped fate.old) (F.stopped fate.new) (N.stopped note.old) (N.stopped note.new)
             (stops_stretching result) }
     {
