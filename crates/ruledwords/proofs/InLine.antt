@@ -53,9 +53,9 @@ use Rattle.ruledwords.specs.Passes.{card, layout_of, IsLive, IsPassOf}
 use Rattle.ruledwords.specs.Releases.{IsReleasing}
 use Rattle.ruledwords.specs.Rules.{card_of}
 use Rattle.ruledwords.specs.Straight.{crossed_answer, crossed_call, crossed_phase, ComesAcross}
-use Rattle.ruledwords.specs.Stretches.{ComesOn, ComesToEnd, StepsOn}
+use Rattle.ruledwords.specs.Stretches.{ComesOn, ComesToEnd}
 use Rattle.ruledwords.specs.Turns.{running_of, Advances, FindsWord, HasDied, IsAtCell, IsCallOf, IsIn, IsOneStep, stops_with, stops_within}
-use Rattle.ruledwords.specs.InLine.{announcing_lock, announcing_release, is_free, line_of, is_held, linking, loading_lock, loading_unlock, releasing, stands, taking, led_to, told_in, unlinking, Leads}
+use Rattle.ruledwords.specs.InLine.{announcing_lock, announcing_release, is_free, line_of, is_held, linking, loading_lock, loading_unlock, releasing, stands, taking, led_to, told_in, unlinking, Leads, LeadsTo, RepliesOk}
 use Rattle.ruledwords.proofs.Advancing.{found_at_cell, found_untrimmed, goes as advances, lives as returns}
 use Rattle.ruledwords.proofs.Fates.{heeds_on}
 use Rattle.ruledwords.proofs.Listing.{call_begins, mortal}
@@ -113,11 +113,11 @@ leads_on {w} {a} l f g {p} {b} {n} is to going found =
     record { came = subst (ComesOn w a (stands l f) b) to came; fate = found.fate }
 
 -- it was the call's last
-pub leads_out : {w : Words} {a : Pass Live} {p : Whole} {q : Whole} (l : Line) (f : Phase) (x : Reply) {b d : Pass Live} {n s s' s'' t t' t'' : ℕ} → Went w a p b (stands l f) s s' t t' → q ≡ stands l f → (led_to (stands l f) n).phase ≡ phase.Ended x → record { leads : Leads w b q d n; fate : Heeds s' s'' t' t'' 0 }
+pub leads_out : {w : Words} {a : Pass Live} {p : Whole} {q : Whole} (l : Line) (f : Phase) (x : Reply) {b d : Pass Live} {n s s' s'' t t' t'' : ℕ} → Went w a p b (stands l f) s s' t t' → q ≡ stands l f → (led_to (stands l f) n).phase ≡ phase.Ended x → x ≡ OK → record { leads : Leads w b q d n; fate : Heeds s' s'' t' t'' 0 }
     → record { steps : ComesAcross w a p d l (Err (end.Replied x)); fate : Heeds s s'' t t'' 0 }
-leads_out {w} {a} {p} {q} l f x {b} {d} {n} so_far is to found =
+leads_out {w} {a} {p} {q} l f x {b} {d} {n} so_far is to ok found =
     let there = subst (λ (z : Whole). Leads w b z d n) is found.leads in
-    record { steps = after w a p b (stands l f) d (end.Replied x) so_far.came (there.ends x to); fate = heeds_on _ _ _ _ _ _ _ so_far.fate found.fate }
+    record { steps = (after w a p b (stands l f) d (end.Replied x) so_far.came (there.ends x to), ok); fate = heeds_on _ _ _ _ _ _ _ so_far.fate found.fate }
 
 -- it leaves its line at the cell
 crosses_at_cell : (x : Crossed) → IsAtCell (crossed_phase x)
@@ -145,23 +145,23 @@ leads_across {w} {a} {p} {q} l x {b} {d} {n} so_far is knows answered found =
     }
 
 -- the thread was told to stop before an access, or an end is handed on by a `?`
-pub stopped : {w : Words} {a : Pass Live} {p : Whole} {q : Whole} (l : Line) (f : Phase) {b : Pass Live} {s s' s'' t t' t'' : ℕ} (d : Pass Live) (e : End) (r : Result Crossed End) → Went w a p b (stands l f) s s' t t' → q ≡ stands l f → record { leads : ComesToEnd w b q d e; fate : Heeds s' s'' t' t'' (stops_with e) } → IsErrAnd r (λ y. y ≡ e)
+pub stopped : {w : Words} {a : Pass Live} {p : Whole} {q : Whole} (l : Line) (f : Phase) {b : Pass Live} {s s' s'' t t' t'' : ℕ} (d : Pass Live) (e : End) (r : Result Crossed End) → Went w a p b (stands l f) s s' t t' → q ≡ stands l f → record { leads : ComesToEnd w b q d e × (e ≡ end.Stopped); fate : Heeds s' s'' t' t'' (stops_with e) } → IsErrAnd r (λ y. y ≡ e)
     → record { steps : ComesAcross w a p d l r; fate : Heeds s s'' t t'' (stops_within r) }
 stopped l f d e (Ok z) so_far is found told = absurd told
 stopped {w} {a} {p} {q} l f {b} {s} {s'} {s''} {t} {t'} {t''} d e (Err y) so_far is found told =
-    let ends = after w a p b (stands l f) d e so_far.came (subst (λ (z : Whole). ComesToEnd w b z d e) is found.leads) in
+    let ends = after w a p b (stands l f) d e so_far.came (subst (λ (z : Whole). ComesToEnd w b z d e) is found.leads.0) in
     record {
-      steps = subst (ComesToEnd w a p d) (sym told) ends;
+      steps = subst (λ (z : End). ComesToEnd w a p d z × RepliesOk z) (sym told) (ends, subst RepliesOk (sym found.leads.1) tt);
       fate = subst (λ (z : End). Heeds s s'' t t'' (stops_with z)) (sym told) (heeds_on _ _ _ _ _ _ _ so_far.fate found.fate);
     }
 
-pub stopped_within : {w : Words} {a : Pass Live} {p : Whole} {q : Whole} (l : Line) (f : Phase) {b : Pass Live} {s s' s'' t t' t'' : ℕ} (d : Pass Live) (z : Whole) (e : End) (r : Result Unit End) → Went w a p b (stands l f) s s' t t' → q ≡ stands l f → record { leads : ComesToEnd w b q d e; fate : Heeds s' s'' t' t'' (stops_with e) } → IsErrAnd r (λ y. y ≡ e)
-    → record { steps : StepsOn w a p d z r; fate : Heeds s s'' t t'' (stops_within r) }
+pub stopped_within : {w : Words} {a : Pass Live} {p : Whole} {q : Whole} (l : Line) (f : Phase) {b : Pass Live} {s s' s'' t t' t'' : ℕ} (d : Pass Live) (z : Whole) (e : End) (r : Result Unit End) → Went w a p b (stands l f) s s' t t' → q ≡ stands l f → record { leads : ComesToEnd w b q d e × (e ≡ end.Stopped); fate : Heeds s' s'' t' t'' (stops_with e) } → IsErrAnd r (λ y. y ≡ e)
+    → record { steps : LeadsTo w a p d z r; fate : Heeds s s'' t t'' (stops_within r) }
 stopped_within l f d z e (Ok u) so_far is found told = absurd told
 stopped_within {w} {a} {p} {q} l f {b} {s} {s'} {s''} {t} {t'} {t''} d z e (Err y) so_far is found told =
-    let ends = after w a p b (stands l f) d e so_far.came (subst (λ (z : Whole). ComesToEnd w b z d e) is found.leads) in
+    let ends = after w a p b (stands l f) d e so_far.came (subst (λ (z : Whole). ComesToEnd w b z d e) is found.leads.0) in
     record {
-      steps = subst (ComesToEnd w a p d) (sym told) ends;
+      steps = subst (λ (z : End). ComesToEnd w a p d z × (z ≡ end.Stopped)) (sym told) (ends, found.leads.1);
       fate = subst (λ (z : End). Heeds s s'' t t'' (stops_with z)) (sym told) (heeds_on _ _ _ _ _ _ _ so_far.fate found.fate);
     }
 
@@ -178,18 +178,18 @@ behind {w} {a} {p} {b} {q} l d (Ok x) so_far more = record {
   };
   fate = heeds_on _ _ _ _ _ _ _ so_far.fate more.fate;
 }
-behind {w} {a} {p} {b} {q} l d (Err e) so_far more = record { steps = after w a p b q d e so_far.came more.steps; fate = heeds_on _ _ _ _ _ _ _ so_far.fate more.fate }
+behind {w} {a} {p} {b} {q} l d (Err e) so_far more = record { steps = (after w a p b q d e so_far.came more.steps.0, more.steps.1); fate = heeds_on _ _ _ _ _ _ _ so_far.fate more.fate }
 
 -- so many accesses were made
 pub came_on : {w : Words} {a : Pass Live} {p : Whole} {b : Pass Live} {q : Whole} {s s' t t' : ℕ} → record { steps : ComesOn w a p b q; fate : Heeds s s' t t' 0 } → Went w a p b q s s' t t'
 came_on so = record { came = so.steps; fate = so.fate }
 
 -- or it ended in them
-pub ended_so : {w : Words} {a : Pass Live} {p : Whole} {b : Pass Live} {q : Whole} {s s' s'' t t' t'' : ℕ} (l : Line) (d : Pass Live) (e : End) (r : Result Crossed End) → Went w a p b q s s' t t' → record { steps : ComesToEnd w b q d e; fate : Heeds s' s'' t' t'' (stops_with e) } → IsErrAnd r (λ y. y ≡ e)
+pub ended_so : {w : Words} {a : Pass Live} {p : Whole} {b : Pass Live} {q : Whole} {s s' s'' t t' t'' : ℕ} (l : Line) (d : Pass Live) (e : End) (r : Result Crossed End) → Went w a p b q s s' t t' → record { steps : ComesToEnd w b q d e × (e ≡ end.Stopped); fate : Heeds s' s'' t' t'' (stops_with e) } → IsErrAnd r (λ y. y ≡ e)
     → record { steps : ComesAcross w a p d l r; fate : Heeds s s'' t t'' (stops_within r) }
 ended_so l d e (Ok z) so_far so told = absurd told
 ended_so {w} {a} {p} {b} {q} {s} {s'} {s''} {t} {t'} {t''} l d e (Err y) so_far so told = record {
-  steps = subst (ComesToEnd w a p d) (sym told) (after w a p b q d e so_far.came so.steps);
+  steps = subst (λ (z : End). ComesToEnd w a p d z × RepliesOk z) (sym told) (after w a p b q d e so_far.came so.steps.0, subst RepliesOk (sym so.steps.1) tt);
   fate = subst (λ (z : End). Heeds s s'' t t'' (stops_with z)) (sym told) (heeds_on _ _ _ _ _ _ _ so_far.fate so.fate);
 }
 

@@ -98,7 +98,17 @@ pub record Leads (w : Words) (a : Pass Live) (p : Whole) (b : Pass Live) (n : �
 -- or the thread died before it
 abbrev pub LeadsOn : Words → Pass Live → Whole → Pass Live → Result ℕ End → Type 0
 LeadsOn w a p b (Ok n) = Leads w a p b n
-LeadsOn w a p b (Err e) = ComesToEnd w a p b e
+LeadsOn w a p b (Err e) = ComesToEnd w a p b e × (e ≡ end.Stopped)
+
+-- accesses were made in the call p, which stands at q then, or the thread died in them
+abbrev pub LeadsTo : Words → Pass Live → Whole → Pass Live → Whole → Result Unit End → Type 0
+LeadsTo w a p b q (Ok u) = ComesOn w a p b q
+LeadsTo w a p b q (Err e) = ComesToEnd w a p b e × (e ≡ end.Stopped)
+
+-- where it replied it was OK
+abbrev pub RepliesOk : End → Type 0
+RepliesOk (end.Replied x) = x ≡ OK
+RepliesOk end.Stopped = Unit {0}
 
 abbrev pub told_in : Progress → Option Point
 told_in (Goes point) = point

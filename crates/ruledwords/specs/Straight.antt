@@ -5,7 +5,7 @@
 -- from there, by its rows. That answer is the last word that its thread has found; and the call stands where this one
 -- answer leads and no further, so a wake that is owed then is still to be made. An unlock replies OK in its line only
 -- where its release found that nobody waits.
-use Rattle.std.specs.Prelude.{◌≡◌, ℕ, Result, Ok, Err, MatchBool, nat_le}
+use Rattle.std.specs.Prelude.{◌≡◌, ◌⊎◌, ℕ, Result, Ok, Err, MatchBool, nat_le}
 use Rattle.lockword.specs.declared.reply.Reply.{Reply}
 use Rattle.lockword.specs.declared.reply.Reply.TheVariants.{OK, XHELD}
 use Rattle.stepprograms.specs.declared.access.Answer.{Answer}
@@ -32,7 +32,7 @@ use Rattle.ruledwords.specs.declared.uncrossed.Crossed.TheVariants as crossed
 use Rattle.ruledwords.specs.declared.uncrossed.Crossing.{Crossing}
 use Rattle.ruledwords.specs.declared.uncrossed.Straight.{Straight}
 use Rattle.ruledwords.specs.declared.uncrossed.Straight.TheVariants as straight
-use Rattle.ruledwords.specs.InLine.{loading_lock, loading_unlock, releasing, stands, taking}
+use Rattle.ruledwords.specs.InLine.{loading_lock, loading_unlock, releasing, stands, taking, RepliesOk}
 use Rattle.ruledwords.specs.Outcomes.{FreesAlone}
 use Rattle.ruledwords.specs.Passes.{card, layout_of}
 use Rattle.ruledwords.specs.Releases.{IsReleasing}
@@ -71,10 +71,10 @@ pub record Crosses (w : Words) (a : Pass Live) (p : Whole) (b : Pass Live) (l : 
   pub goes : IsInProgress (crossed_call l x).phase → ComesOn w a p b (crossed_call l x)
   pub ends : (y : Reply) → (crossed_call l x).phase ≡ phase.Ended y → ComesToEnd w a p b (end.Replied y)
 
--- or it ended in them
+-- or it ended in them, with OK where it replied
 abbrev pub ComesAcross : Words → Pass Live → Whole → Pass Live → Line → Result Crossed End → Type 0
 ComesAcross w a p b l (Ok x) = Crosses w a p b l x
-ComesAcross w a p b l (Err e) = ComesToEnd w a p b e
+ComesAcross w a p b l (Err e) = ComesToEnd w a p b e × RepliesOk e
 
 -- ---- as the crates above see it
 
@@ -107,6 +107,13 @@ StraightFrom w a call (straight.Dead d) = HasDied w a call d × TrimsNone (card 
 abbrev pub LocksStraight : Words → ℕ → Pass Live → Straight → Type 0
 LocksStraight w m a s =
     MatchBool (nat_le held_limit (held (card a))) (s ≡ straight.Lives a XHELD) (StraightFrom w a (call.Lock m) s)
+
+-- a lock that replied in its line has taken its mutex with OK, or was refused. What finds another's mutex, or one that
+-- isn't consistent, has left its line: so a wake that an unusable one asks for is still to be made
+abbrev pub RepliesStraight : Straight → Type 0
+RepliesStraight (straight.Crossed x) = Unit {0}
+RepliesStraight (straight.Lives b y) = (y ≡ OK) ⊎ (y ≡ XHELD)
+RepliesStraight (straight.Dead d) = Unit {0}
 
 -- an unlock of mutex m by a thread whose pass was a: where it replied OK in its line, nobody was to be woken; and where
 -- it left its line, and has released the mutex, it tells of the word that its release found, by which it owes a wake

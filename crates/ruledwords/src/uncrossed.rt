@@ -13,16 +13,15 @@ ghost use Rattle.ruledwords.specs.Passes.{layout_of, IsLive};
 ghost use Rattle.robustlist.specs.declared.link.LinkRow.TheVariants.{LoadFirst, StoreFirst};
 ghost use Rattle.robustlist.specs.declared.unlink.UnlinkRow.TheVariants.{LoadNext};
 ghost use Rattle.mutex.specs.declared.call.Call.TheVariants.{Unlock as UnlockCall};
-ghost use Rattle.ruledwords.specs.Stretches.{StepsOn};
 ghost use Rattle.ruledwords.specs.Turns.{GoesOn, IsCallOf, IsOneStep, stops_within};
 ghost use Rattle.mutex.specs.declared.call.Call.{Call};
 ghost use Rattle.ruledwords.specs.declared.pass.Live.{Live};
 ghost use Rattle.ruledwords.specs.declared.pass.Pass.{Pass};
 ghost use Rattle.ruledwords.specs.declared.pass.Words.{Words};
 ghost use Rattle.ruledwords.specs.InLine.{announcing_lock, is_free, is_held, line_of, linking, loading_unlock};
-ghost use Rattle.ruledwords.specs.InLine.{releasing, stands, told_in, unlinking, Leads, LeadsOn};
+ghost use Rattle.ruledwords.specs.InLine.{releasing, stands, told_in, unlinking, Leads, LeadsOn, LeadsTo};
 ghost use Rattle.ruledwords.specs.Straight.{crossed_answer, crossed_phase, stops_straight, ComesAcross, CrossedFrom};
-ghost use Rattle.ruledwords.specs.Straight.{FreesStraight, IsCrossingOf, LocksStraight};
+ghost use Rattle.ruledwords.specs.Straight.{FreesStraight, IsCrossingOf, LocksStraight, RepliesStraight};
 ghost use Rattle.ruledwords.specs.Straight.{StandsWhereLed, StraightFrom};
 
 use crate::fate::{Fate, either_stops};
@@ -292,7 +291,7 @@ impl Words {
     ) -> Result<(), End>
         requires call { IsCallOf self.now pass.old (stands line.now (unlinking line.now LoadNext)) }
         requires base { base ≡ base_of self.now.layout line.now.thread }
-        ensures steps { StepsOn self.now pass.old (stands line.now (unlinking line.now LoadNext)) pass.new
+        ensures steps { LeadsTo self.now pass.old (stands line.now (unlinking line.now LoadNext)) pass.new
             (stands line.now releasing) result }
         ensures fate { Heeds (F.stopped fate.old) (F.stopped fate.new) (N.stopped note.old) (N.stopped note.new)
             (stops_within result) }
@@ -422,9 +421,9 @@ fn point_in(progress: Progress) -> Option<Point>
 }
 
 impl Running {
-    /// Begins a lock, and makes accesses of it one after the other, while nobody crosses it: mostly all. Without an
-    /// access it is refused with `XHELD` where the thread holds 2,048 mutexes. The fate is asked before each access,
-    /// and then the note, by which others can tell the thread to stop.
+    /// Begins a lock, and makes accesses of it one after the other, while nobody crosses it: mostly all. It is answered
+    /// there with OK alone; or, without an access, with `XHELD` where the thread holds 2,048 mutexes. The fate is asked
+    /// before each access, and then the note, by which others can tell the thread to stop.
     #[inline(always)]
     pub fn lock<F: Fate, N: Fate>(
         words: &Words,
@@ -436,6 +435,7 @@ impl Running {
         requires pass { IsLive words.now pass }
         requires mutex { mutex < (layout_of words.now).mutexes }
         ensures locks { LocksStraight words.now mutex pass result }
+        ensures replies { RepliesStraight result }
         ensures fate { Heeds (F.stopped fate.old) (F.stopped fate.new) (N.stopped note.old) (N.stopped note.new)
             (stops_straight result) }
     {

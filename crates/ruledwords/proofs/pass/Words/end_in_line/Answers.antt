@@ -22,4 +22,4 @@ pub returns : goal.returns
 returns g c =
     let l = c.args.line.now in
     let one = leads_on l (linking l StoreFirst) (Clearing OK) c.linking.ensures refl tt c.in_ok-find.ensures in
-    leads_out l (Clearing OK) OK one c.at-clearing.ensures refl c.in_ok-find-2.ensures
+    leads_out l (Clearing OK) OK one c.at-clearing.ensures refl refl c.in_ok-find-2.ensures

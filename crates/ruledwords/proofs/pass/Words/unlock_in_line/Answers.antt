@@ -72,4 +72,4 @@ returns g c =
     let two = one ⨾ leads_on l announcing_release (unlinking l LoadNext) c.at-announcing.ensures refl tt c.in_ok-find.ensures in
     let three = two ⨾ came_on c.in_ok-unlink_in_line.ensures in
     let four = three ⨾ leads_on l releasing (Clearing OK) c.at-releasing.ensures (to_clear l c.in_ok-found.found c.requires.operation none) tt c.in_ok-found.ensures in
-    leads_out l (Clearing OK) OK four c.at-clearing.ensures refl c.in_ok-find-2.ensures
+    leads_out l (Clearing OK) OK four c.at-clearing.ensures refl refl c.in_ok-find-2.ensures

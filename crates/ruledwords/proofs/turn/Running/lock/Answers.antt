@@ -1,8 +1,8 @@
-use Rattle.std.proofs.Common.{◌<◌, ap, arith, subst, sym, ◌∙◌}
+use Rattle.std.proofs.Common.{◌<◌, ap, arith, inl, subst, sym, ◌∙◌}
 use Rattle.std.specs.Prelude.{nat_le}
 use Rattle.mutex.specs.declared.call.Call.TheVariants.{Lock}
 use Rattle.ruledwords.specs.declared.pass.Card.{Card}
-use Rattle.ruledwords.specs.InLine.{announcing_lock, stands}
+use Rattle.ruledwords.specs.InLine.{announcing_lock, stands, RepliesOk}
 use Rattle.ruledwords.specs.Passes.{card}
 use Rattle.ruledwords.specs.Seen.{held}
 use Rattle.ruledwords.specs.Stretches.{ComesToEnd}
@@ -32,7 +32,7 @@ returns-in-Replied-clause-locks g c =
     let not_many = c.if-pass-ge-HELD_LIMIT.false in
     let low : a.held < 2048 = omega arith in
     let begun = lock_begins_in w a c.args.mutex c.line-line.result c.requires.pass c.requires.mutex (few a.held low) c.line-line.ensures in
-    let ends = subst (ComesToEnd w a (stands c.line-line.result announcing_lock) c.lock_in_line.new.pass) c.in-Replied.is c.in-Err.ensures.steps in
+    let ends = subst (ComesToEnd w a (stands c.line-line.result announcing_lock) c.lock_in_line.new.pass) c.in-Replied.is c.in-Err.ensures.steps.0 in
     picks_false (nat_le 2048 (held (card a))) _ _ (ap (nat_le 2048) (sym a.count) ∙ few a.held low) (ends.0 a (Lock c.args.mutex) begun, ends.3)
 
 pub returns-in-Stopped-clause-locks : goal.returns-in-Stopped-clause-locks
@@ -42,6 +42,9 @@ returns-in-Stopped-clause-locks g c =
     let not_many = c.if-pass-ge-HELD_LIMIT.false in
     let low : a.held < 2048 = omega arith in
     let begun = lock_begins_in w a c.args.mutex c.line-line.result c.requires.pass c.requires.mutex (few a.held low) c.line-line.ensures in
-    let ends = subst (ComesToEnd w a (stands c.line-line.result announcing_lock) c.lock_in_line.new.pass) c.in-Stopped.is c.in-Err.ensures.steps in
+    let ends = subst (ComesToEnd w a (stands c.line-line.result announcing_lock) c.lock_in_line.new.pass) c.in-Stopped.is c.in-Err.ensures.steps.0 in
     let died = dies_in w a (Lock c.args.mutex) c.lock_in_line.new.pass c.died.result (ends.0, ends.1.1 a (Lock c.args.mutex) begun) c.died.ensures.card (c.died.ensures.words w) in
     picks_false (nat_le 2048 (held (card a))) _ _ (ap (nat_le 2048) (sym a.count) ∙ few a.held low) (died, ap (λ (z : Card). z.trims) c.died.ensures.card ∙ ends.1.4)
+
+pub returns-in-Replied-clause-replies : goal.returns-in-Replied-clause-replies
+returns-in-Replied-clause-replies g c = inl (subst RepliesOk c.in-Replied.is c.in-Err.ensures.steps.1)

@@ -20,7 +20,7 @@ returns-in-Replied-clause-unlocks g c =
     let w = c.args.words.now in
     let a = c.args.pass in
     let begun = unlock_begins_in w a c.args.mutex c.line-line.result c.requires.pass c.requires.mutex c.line-line.ensures in
-    let ends = subst (ComesToEnd w a (stands c.line-line.result loading_unlock) c.unlock_in_line.new.pass) c.in-Replied.is c.in-Err.ensures.steps in
+    let ends = subst (ComesToEnd w a (stands c.line-line.result loading_unlock) c.unlock_in_line.new.pass) c.in-Replied.is c.in-Err.ensures.steps.0 in
     (ends.0 a (Unlock c.args.mutex) begun, ends.3)
 
 pub returns-in-Ok-clause-frees : goal.returns-in-Ok-clause-frees
@@ -33,7 +33,7 @@ returns-in-Replied-clause-frees g c =
     let w = c.args.words.now in
     let a = c.args.pass in
     let begun = unlock_begins_releasing w a c.args.mutex c.line-line.result c.requires.pass c.requires.mutex c.line-line.ensures in
-    let ends = subst (ComesToEnd w a (stands c.line-line.result loading_unlock) c.unlock_in_line.new.pass) c.in-Replied.is c.in-Err.ensures.steps in
+    let ends = subst (ComesToEnd w a (stands c.line-line.result loading_unlock) c.unlock_in_line.new.pass) c.in-Replied.is c.in-Err.ensures.steps.0 in
     ends.2 a c.args.mutex begun
 
 pub returns-in-Stopped-clause-unlocks : goal.returns-in-Stopped-clause-unlocks
@@ -41,5 +41,5 @@ returns-in-Stopped-clause-unlocks g c =
     let w = c.args.words.now in
     let a = c.args.pass in
     let begun = unlock_begins_in w a c.args.mutex c.line-line.result c.requires.pass c.requires.mutex c.line-line.ensures in
-    let ends = subst (ComesToEnd w a (stands c.line-line.result loading_unlock) c.unlock_in_line.new.pass) c.in-Stopped.is c.in-Err.ensures.steps in
+    let ends = subst (ComesToEnd w a (stands c.line-line.result loading_unlock) c.unlock_in_line.new.pass) c.in-Stopped.is c.in-Err.ensures.steps.0 in
     (dies_in w a (Unlock c.args.mutex) c.unlock_in_line.new.pass c.died.result (ends.0, ends.1.1 a (Unlock c.args.mutex) begun) c.died.ensures.card (c.died.ensures.words w), ap (λ (z : Card). z.trims) c.died.ensures.card ∙ ends.1.4)
