@@ -36,11 +36,16 @@ static void look_at(uint64_t at)
     made[changes].at = at;
     made[changes++].value = was[at] = is[at];
 }
+/* A block that is as it was is passed by: mostly all are. */
 static void pz_look(void)
 {
+    enum { BLOCK = 8 * LINE };
     unsigned before = changes;
-    for (uint64_t at = 0; at < PLACES; at++)
-        look_at(at);
+    for (uint64_t at = 0, end; at < PLACES; at = end) {
+        end = at + BLOCK < PLACES ? at + BLOCK : PLACES;
+        for (uint64_t here = at; memcmp(is + here, was + here, (end - here) * sizeof *is); here++)
+            look_at(here);
+    }
     CHECK(changes <= before + 1); /* one instruction each */
     if (changes_meanwhile && ++looks == 2)
         is[cell] = was[cell] = changed_to;
@@ -73,10 +78,17 @@ static uint64_t any(void)
     return state ^= state << 17;
 }
 
-static void begin(unsigned t, unsigned m)
+/* Others for each cell. */
+static uint64_t unlike[PLACES];
+static void make_unlike(void)
 {
     for (uint64_t at = 0; at < PLACES; at++)
-        is[at] = any() | 1ull << 63;
+        unlike[at] = any() | 1ull << 63;
+}
+
+static void begin(unsigned t, unsigned m)
+{
+    memcpy(is, unlike, sizeof is);
     cell = cell_place(m);
     counter = counter_place(&file, 0);
     file.cell_of[0] = cell;
@@ -375,6 +387,7 @@ int main(void)
         for (unsigned m = 0; m < MUTEXES; m++)
             for (unsigned k = 0; k < CELLS; k++) {
                 uint64_t seen = cell_of_case(k, t);
+                make_unlike();
                 takes_and_gives(t, m, seen);
                 a_declaration(t, m, seen);
                 counts(t, m, seen);
