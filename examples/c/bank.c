@@ -1,11 +1,11 @@
-/* A bank in a file that processes share. Tellers move money from one account to another and are killed, half of them
- * while the money is in no account at all. Whoever has the mutex next undoes what its dead owner had begun, so the sum
- * stays.
+/* A bank in a file that processes share. Tellers move money from one account to another. They are killed, half of them
+ * while the money is in no account at all. The next owner of the mutex undoes what a dead owner had begun, so the sum
+ * stays the same.
  *
- *     bank FILE DEATHS              exits with 0: the sum is what it was
- *     bank FILE DEATHS careless     exits with 1: nobody undoes anything, and money is lost with each second teller
+ *     bank FILE DEATHS              ends with status 0: the sum is what it was
+ *     bank FILE DEATHS careless     ends with status 1: nobody undoes anything, and every second death loses money
  *
- * To build: make -C c, then cc -pthread -Ic examples/c/bank.c c/libpazdrig.a -o bank
+ * To build: make, then cc -pthread -Ilib examples/c/bank.c out/libpazdrig.a -o bank
  */
 #define _GNU_SOURCE
 #include "pazdrig.h"
@@ -24,22 +24,23 @@
 
 enum { ACCOUNTS = 64, TELLERS = 4, FIRST_BALANCE = 1000, MOST_MOVED = 100 };
 
-/* What is undone after a death: the accounts that are being changed, and what was in them before. */
+/* What to undo after a death: the accounts that are being changed, and what was in them before. */
 struct undo_log {
     bool is_open;
     int from, to;
     long was_from, was_to;
 };
 
-/* What the bank's one mutex guards. A new file is all zeros, so a bank that isn't open is a new one. */
+/* What the mutex guards. A new file is all zeros, so a bank that isn't open is a new one. */
 struct bank {
     bool is_open;
     long cents[ACCOUNTS];
     struct undo_log log;
-    long transfers, undone; /* not in the log: a death between may leave one uncounted */
+    long transfers, undone; /* not in the log: a death may leave one uncounted */
 };
 
 static bool careless;
+static pz_mutex *mutex;
 
 static void end(int error)
 {
@@ -47,18 +48,18 @@ static void end(int error)
     _exit(2);
 }
 
-/* A death leaves the stores that stand before it and none of those behind. So the compiler has to keep their order; the
- * processor needs to be told nothing, since the kernel stops it between two instructions. */
+/* Keeps the compiler from moving stores across this place. The processor needs no fence, since the kernel ends a thread
+ * between two instructions. */
 static void before_the_next(void) { atomic_signal_fence(memory_order_seq_cst); }
 
 /* ---- Recovery. */
 
-/* It sets what was there, so it can be begun again where the one who undoes is killed too. */
+/* Restores what was there, so it can be started again if its thread is killed too. */
 static void undo(struct bank *b)
 {
     struct undo_log *log = &b->log;
     if (!log->is_open)
-        return; /* its owner was killed before its change, or behind it */
+        return; /* the owner was killed before its change, or after it */
     b->cents[log->from] = log->was_from;
     b->cents[log->to] = log->was_to;
     before_the_next();
@@ -66,23 +67,23 @@ static void undo(struct bank *b)
     b->undone++;
 }
 
-/* EOWNERDEAD: the mutex is this thread's, and what it guards is as its dead owner left it. Only pz_mutex_consistent,
- * behind the repair, makes it a mutex like any other; an unlock without it makes it unusable, until pz_mutex_reinit. */
-static void lock(pz *p, struct bank *b)
+/* After EOWNERDEAD this thread owns the mutex, and the data is as the dead owner left it. An unlock without
+ * pz_mutex_consistent would make the mutex unusable. */
+static void lock(struct bank *b)
 {
-    int r = pz_mutex_lock(p, 0);
+    int r = pz_mutex_lock(mutex);
     if (r == EOWNERDEAD) {
         if (!careless)
             undo(b);
-        r = pz_mutex_consistent(p, 0);
+        r = pz_mutex_consistent(mutex);
     }
     if (r)
         end(r);
 }
 
-static void unlock(pz *p)
+static void unlock(void)
 {
-    int r = pz_mutex_unlock(p, 0);
+    int r = pz_mutex_unlock(mutex);
     if (r)
         end(r);
 }
@@ -96,7 +97,7 @@ static void open_log(struct bank *b, int from, int to)
     log->to = to;
     log->was_from = b->cents[from];
     log->was_to = b->cents[to];
-    before_the_next(); /* the log is open once it is whole, */
+    before_the_next(); /* the log is whole before it is open, */
     log->is_open = true;
     before_the_next(); /* and nothing is changed before it is open */
 }
@@ -119,29 +120,28 @@ static void transfer(struct bank *b, int from, int to, long cents, bool dies)
     b->transfers++;
 }
 
-/* Works until it is killed; `last`: dies by itself amid this transfer, or never (-1). */
-static _Noreturn void work(pz *p, struct bank *b, int last)
+/* Works until it is killed, or kills itself in the middle of transfer `last` (-1: never). */
+static _Noreturn void work(struct bank *b, int last)
 {
     srand((unsigned)getpid());
     for (int i = 0;; i++) {
         int from = rand() % ACCOUNTS, to = rand() % ACCOUNTS;
         long cents = 1 + rand() % MOST_MOVED;
-        lock(p, b);
+        lock(b);
         transfer(b, from, to, cents, i == last);
-        unlock(p);
+        unlock();
     }
 }
 
-/* A child is none of its parent's threads: its first call on a mutex takes part by itself. */
-static pid_t hire(pz *p, struct bank *b, int last)
+static pid_t hire(struct bank *b, int last)
 {
     pid_t bank = getpid(), teller = fork();
     if (teller < 0)
         end(errno);
     if (teller == 0) {
-        prctl(PR_SET_PDEATHSIG, SIGKILL); /* without its bank it ends too */
+        prctl(PR_SET_PDEATHSIG, SIGKILL); /* it ends with its bank */
         if (getppid() == bank)
-            work(p, b, last);
+            work(b, last);
         _exit(2);
     }
     return teller;
@@ -153,7 +153,7 @@ static void bury(pid_t teller)
     if (waitpid(teller, &status, 0) != teller)
         end(errno);
     if (!WIFSIGNALED(status))
-        _exit(2); /* it has said why */
+        _exit(2); /* it has printed why */
 }
 
 static void fire(pid_t teller)
@@ -164,35 +164,35 @@ static void fire(pid_t teller)
 
 /* ---- The bank. */
 
-/* Who opens a bank may be killed as well: it is open once each account is. */
-static void open_accounts(pz *p, struct bank *b)
+/* A process that opens a bank may be killed as well, so the bank is open last. */
+static void open_accounts(struct bank *b)
 {
-    lock(p, b);
+    lock(b);
     for (int i = 0; i < ACCOUNTS && !b->is_open; i++)
         b->cents[i] = FIRST_BALANCE;
     before_the_next();
     b->is_open = true;
-    unlock(p);
+    unlock();
 }
 
-static long sum_of(pz *p, struct bank *b)
+static long sum_of(struct bank *b)
 {
     long sum = 0;
-    lock(p, b);
+    lock(b);
     for (int i = 0; i < ACCOUNTS; i++)
         sum += b->cents[i];
-    unlock(p);
+    unlock();
     return sum;
 }
 
-/* Tellers 1 and 3 die by themselves, 0 and 2 at any moment by the bank's hand; another is hired for each. */
+/* Tellers 1 and 3 kill themselves, and the bank kills 0 and 2 at any moment. Each is replaced. */
 static int last_of(int death) { return death % 2 ? rand() % 50 : -1; }
 
-static void run(pz *p, struct bank *b, int deaths)
+static void run(struct bank *b, int deaths)
 {
     pid_t tellers[TELLERS];
     for (int i = 0; i < TELLERS; i++)
-        tellers[i] = hire(p, b, last_of(i));
+        tellers[i] = hire(b, last_of(i));
     for (int death = 0; death < deaths; death++) {
         pid_t *teller = &tellers[death % TELLERS];
         if (death % 2) {
@@ -201,7 +201,7 @@ static void run(pz *p, struct bank *b, int deaths)
             nanosleep(&(struct timespec){.tv_nsec = rand() % 2000000}, NULL);
             fire(*teller);
         }
-        *teller = hire(p, b, last_of(death));
+        *teller = hire(b, last_of(death));
     }
     for (int i = 0; i < TELLERS; i++)
         fire(tellers[i]);
@@ -214,16 +214,17 @@ int main(int argc, char **argv)
         return 2;
     }
     careless = argc > 3;
-    pz *p;
-    int r = pz_open(argv[1], 0600, 1, 0, NULL, sizeof(struct bank), &p);
+    pz_file *file;
+    int r = pz_open(argv[1], 0600, &(struct pz_layout){.mutexes = 1, .data = sizeof(struct bank)}, &file);
     if (r)
         end(r);
-    struct bank *b = pz_data(p);
-    open_accounts(p, b);
-    run(p, b, atoi(argv[2]));
-    long sum = sum_of(p, b), wanted = (long)ACCOUNTS * FIRST_BALANCE;
+    struct bank *b = pz_data(file);
+    mutex = pz_mutex_at(file, 0);
+    open_accounts(b);
+    run(b, atoi(argv[2]));
+    long sum = sum_of(b), wanted = (long)ACCOUNTS * FIRST_BALANCE;
     printf("%s deaths, %ld transfers, %ld undone: ", argv[2], b->transfers, b->undone);
     printf("the sum is %ld of %ld\n", sum, wanted);
-    pz_close(p);
+    pz_close(file);
     return sum != wanted;
 }

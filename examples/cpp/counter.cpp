@@ -4,13 +4,13 @@
 #include <pazdrig.hpp>
 #include <unistd.h>
 
-struct counter { volatile long count, copy; };  /* mutex 0 guards them: they are the same */
+struct counter { volatile long count, copy; };  /* the same, except in the middle of a change */
 
 int main(int argc, char **argv)
 try {
-    pazdrig::file file(argc > 1 ? argv[1] : "counter.pz", 1, 0, sizeof(counter));
+    pazdrig::file file(argc > 1 ? argv[1] : "counter.pz", {1, 0, sizeof(counter), 1});
     counter &c = file.as<counter>();
-    pazdrig::mutex mutex(file, 0, [&] { c.copy = c.count; });  /* an owner was killed, perhaps between the two */
+    pazdrig::mutex mutex(file.mutex_at(0), [&] { c.copy = c.count; });  /* its owner was killed: repair */
     std::lock_guard<pazdrig::mutex> guard(mutex);
     c.count = c.count + 1;
     if (argc > 2) pause();                      /* ./counter FILE pause & sleep 1; kill -9 $! */

@@ -1,4 +1,4 @@
-"""Mutexes and condition variables that processes share by a file, and whose owners may die: libpazdrig, by ctypes.
+"""Robust mutexes and condition variables in memory that processes share: libpazdrig, through ctypes.
 
     import pazdrig
 
@@ -12,12 +12,18 @@
             count[0] += 1
             count[1] += 1
 
-A mutex is made with what repairs its data. Where an owner was killed, the next one to have it repairs them and declares
-them consistent before the block begins, so that nobody uses them unrepaired. A repair that raises says that they can't be
-repaired: the mutex becomes unusable, as by an unlock in C, and the exception goes on. An exception amid the block unlocks.
+A mutex is created with a function that repairs what it guards. If an owner was killed, the next thread to lock the mutex
+calls that function and declares the mutex consistent before its block begins, so nobody uses unrepaired data. If the data
+can't be repaired, the function raises an exception: the mutex becomes unusable, and the exception goes on. An exception
+inside the block unlocks the mutex.
 
-The library is the one that PAZDRIG_LIBRARY names, else libpazdrig.so.0 where the system finds it. A thread that waits
-lets other threads run; signals are handled once it has the mutex, or its time is over.
+A mutex can be in a file of the library, or anywhere in a shared memory map:
+
+    memory = mmap.mmap(-1, 4096)
+    mutex = pazdrig.Mutex(memory, repair, offset=64)
+
+The environment variable PAZDRIG_LIBRARY names the library; without it, this is libpazdrig.so.0 in the system's
+directories. A thread that waits lets other threads run. Python handles signals when it has the mutex, or timed out.
 """
 
 import ctypes
@@ -28,52 +34,40 @@ import threading
 import time
 import weakref
 
-__all__ = ["Condition", "Error", "File", "Info", "Mutex", "Thread", "nothing_to_repair", "version"]
+__all__ = ["Condition", "Error", "File", "Mutex", "nothing_to_repair", "version"]
 
-MOST_THREADS = 255  # as many as struct pz_info has room for
-_FREE, _LIVES, _DIED = range(3)
-
-
-class _Thread(ctypes.Structure):
-    _fields_ = [("tid", ctypes.c_int), ("life", ctypes.c_int)]
+MUTEX_SIZE, CONDITION_SIZE = 64, 16
 
 
 class _Timespec(ctypes.Structure):
     _fields_ = [("tv_sec", ctypes.c_long), ("tv_nsec", ctypes.c_long)]
 
 
-class _Info(ctypes.Structure):
+class _Layout(ctypes.Structure):
     _fields_ = [
-        ("format", ctypes.c_uint),
         ("mutexes", ctypes.c_uint),
-        ("conditions", ctypes.c_uint),
-        ("threads", ctypes.c_uint),
+        ("conds", ctypes.c_uint),
         ("data", ctypes.c_size_t),
-        ("size", ctypes.c_size_t),
-        ("thread", _Thread * (MOST_THREADS + 1)),
+        ("version", ctypes.c_uint32),
     ]
 
 
 def _load():
-    """Its functions, with what they take."""
+    """Loads the library and declares its functions."""
     library = ctypes.CDLL(os.environ.get("PAZDRIG_LIBRARY", "libpazdrig.so.0"))
-    p, number, size = ctypes.c_void_p, ctypes.c_uint, ctypes.c_size_t
-    rest = [number, number, ctypes.POINTER(ctypes.c_uint16), size, ctypes.POINTER(p)]
-    library.pz_open.argtypes = [ctypes.c_char_p, number, *rest]
-    library.pz_open_fd.argtypes = [ctypes.c_int, *rest]
-    library.pz_info.argtypes = [p, ctypes.POINTER(_Info)]
+    p, number, time_at = ctypes.c_void_p, ctypes.c_uint, ctypes.POINTER(_Timespec)
+    library.pz_open.argtypes = [ctypes.c_char_p, number, ctypes.POINTER(_Layout), ctypes.POINTER(p)]
+    library.pz_close.argtypes = library.pz_data.argtypes = [p]
+    library.pz_mutex_at.argtypes = library.pz_cond_at.argtypes = [p, number]
     library.pz_strerror.argtypes = [ctypes.c_char_p, ctypes.c_int]
-    for call in "close", "data", "reap", "thread_begin", "thread_end", "thread_id":
-        getattr(library, f"pz_{call}").argtypes = [p]
     for call in "lock", "trylock", "unlock", "consistent", "reinit", "owner":
-        getattr(library, f"pz_mutex_{call}").argtypes = [p, number]
+        getattr(library, f"pz_mutex_{call}").argtypes = [p]
     for call in "wait", "signal", "broadcast":
-        getattr(library, f"pz_cond_{call}").argtypes = [p, number]
-    for call in "mutex_clocklock", "cond_clockwait":
-        getattr(library, f"pz_{call}").argtypes = [p, number, ctypes.c_int, ctypes.POINTER(_Timespec)]
+        getattr(library, f"pz_cond_{call}").argtypes = [p, p]
+    library.pz_mutex_clocklock.argtypes = [p, ctypes.c_int, time_at]
+    library.pz_cond_clockwait.argtypes = [p, p, ctypes.c_int, time_at]
     library.pz_close.restype = None
-    library.pz_data.restype = p
-    library.pz_thread_id.restype = library.pz_mutex_owner.restype = number
+    library.pz_data.restype = library.pz_mutex_at.restype = library.pz_cond_at.restype = p
     library.pz_strerror.restype = library.pz_version.restype = ctypes.c_char_p
     return library
 
@@ -82,16 +76,16 @@ _library = _load()
 
 
 class Error(OSError):
-    """An answer of the library: a number of the module errno, and what it means."""
+    """A return value of the library: a number of the module errno, and what it means."""
 
 
-def _check(call, answer):
-    if answer:
-        raise Error(answer, f"{call}: {_library.pz_strerror(call.encode(), answer).decode()}")
+def _check(call, error):
+    if error:
+        raise Error(error, f"{call}: {_library.pz_strerror(call.encode(), error).decode()}")
 
 
-def _by(timeout):
-    """The clock that nobody sets, and the time by it so many seconds from now."""
+def _until(timeout):
+    """The clock that nobody sets, and the time by it that is so many seconds from now."""
     if not timeout >= 0:
         raise ValueError("a timeout isn't negative")
     if timeout > threading.TIMEOUT_MAX:
@@ -102,53 +96,44 @@ def _by(timeout):
 
 
 def version():
-    """That of the library."""
+    """The version of the library."""
     return _library.pz_version().decode()
 
 
 def nothing_to_repair():
-    """For data that one store changes, and which a death so leaves whole."""
+    """For data that a single store changes."""
 
 
-class Thread:
-    """One that takes part in a file: its id, from 1 on; its number in the system, 0 once somebody cleans up after it;
-    and whether it lives, or died and isn't cleaned up after yet."""
+class _Place:
+    """The address of a part of shared memory, and what keeps that memory mapped."""
 
-    def __init__(self, number, tid, lives):
-        self.id, self.tid, self.lives = number, tid, lives
+    def __init__(self, memory, size, offset=0):
+        self._keeps = (ctypes.c_ubyte * size).from_buffer(memory, offset)
+        self._at = ctypes.addressof(self._keeps)
+        if self._at % size:
+            raise ValueError(f"it has to be at a multiple of {size}")
 
-
-class Info:
-    """What a file has, and who takes part in it."""
-
-    def __init__(self, info):
-        self.format, self.mutexes, self.conditions = info.format, info.mutexes, info.conditions
-        self.data, self.size = info.data, info.size
-        self.threads = [Thread(n, t.tid, t.life == _LIVES) for n, t in enumerate(info.thread) if n and t.life != _FREE]
+    def _set(self, at, keeps):
+        if at is None:
+            raise IndexError("the file has none with that number")
+        self._at, self._keeps = at, keeps
+        return self
 
 
 class File:
-    """A file of mutexes, opened, or made where it isn't there: a path, or the descriptor of an open file.
+    """A file of mutexes, condition variables and data, which is created if it doesn't exist.
 
-    All who open it ask for the same numbers. mutex_of tells the mutex of each condition variable: c % mutexes without
-    it."""
+    All processes that open it ask for the same numbers. `version` is a number of the program's own, for its data."""
 
-    def __init__(self, file, mutexes=1, conditions=0, mutex_of=None, data=0, mode=0o600):
-        if mutex_of is not None and len(mutex_of) != conditions:
-            raise ValueError("mutex_of has a mutex for each condition variable")
-        of = (ctypes.c_uint16 * conditions)(*mutex_of) if mutex_of else None
+    def __init__(self, path, mutexes=1, conditions=0, data=0, version=0, mode=0o600):
+        layout = _Layout(mutexes, conditions, data, version)
         opened = ctypes.c_void_p()
-        rest = mutexes, conditions, of, data, ctypes.byref(opened)
-        if isinstance(file, int):
-            _check("pz_open_fd", _library.pz_open_fd(file, *rest))
-        else:
-            _check("pz_open", _library.pz_open(os.fsencode(file), mode, *rest))
+        _check("pz_open", _library.pz_open(os.fsencode(path), mode, ctypes.byref(layout), ctypes.byref(opened)))
         self._opened = opened
         self._bytes = (ctypes.c_ubyte * data).from_address(_library.pz_data(opened))
-        # the file stays mapped until the last view of its data has gone
+        # the file stays mapped until the last view of its data and its last mutex have gone
         weakref.finalize(self._bytes, _library.pz_close, opened).atexit = False
 
-    @property
     def _file(self):
         if self._opened is None:
             raise ValueError("the file is closed")
@@ -157,41 +142,24 @@ class File:
     @property
     def data(self):
         """The program's own bytes, as a memoryview: zeros in a new file."""
-        return memoryview(self._bytes).cast("B") if self._file else None
+        return memoryview(self._bytes).cast("B") if self._file() else None
 
     def mutex(self, number, repair):
-        """One of its mutexes. repair is called where a dead owner left its data, and nothing_to_repair says that a death
-        leaves them whole."""
-        return Mutex(self, number, repair)
+        """One of the file's mutexes. `repair` is called if a dead owner left what it guards; it can be
+        nothing_to_repair."""
+        mutex = Mutex.__new__(Mutex)._set(_library.pz_mutex_at(self._file(), number), self._bytes)
+        mutex.repair = repair
+        return mutex
 
-    def info(self):
-        """What it has, and who takes part."""
-        info = _Info()
-        _check("pz_info", _library.pz_info(self._file, ctypes.byref(info)))
-        return Info(info)
-
-    def reap(self):
-        """Cleans up after threads that died, without waiting for anything: how many."""
-        return _library.pz_reap(self._file)
-
-    def begin_thread(self):
-        """The calling thread takes part from here: it waits while there is no id. Its first call does this by itself."""
-        _check("pz_thread_begin", _library.pz_thread_begin(self._file))
-
-    def end_thread(self):
-        """The calling thread leaves, and what it owns is left as by a death. Its end does this by itself."""
-        _check("pz_thread_end", _library.pz_thread_end(self._file))
-
-    @property
-    def thread_id(self):
-        """The calling thread's, 0 where it doesn't take part."""
-        return _library.pz_thread_id(self._file)
+    def condition(self, number, mutex):
+        """One of the file's condition variables. Threads wait there with that mutex."""
+        condition = Condition.__new__(Condition)._set(_library.pz_cond_at(self._file(), number), self._bytes)
+        condition.mutex = mutex
+        return condition
 
     def close(self):
-        """The calling thread leaves; the file is closed once the last view of its data has gone."""
-        if self._opened is not None:
-            _library.pz_thread_end(self._opened)
-            self._opened = self._bytes = None
+        """Closes the file once the last view of its data, mutex and condition variable has gone."""
+        self._opened = self._bytes = None
 
     def __enter__(self):
         return self
@@ -200,107 +168,104 @@ class File:
         self.close()
 
 
-class Mutex:
-    """A mutex of a file, for a with statement."""
+class Mutex(_Place):
+    """A mutex for a with statement: 64 bytes at a multiple of 64 in writable shared memory, zeros at first."""
 
-    def __init__(self, file, number, repair):
-        self.file, self.number, self.repair = file, number, repair
+    def __init__(self, memory, repair, offset=0):
+        super().__init__(memory, MUTEX_SIZE, offset)
+        self.repair = repair
 
-    def _had(self, call, answer):
-        """What an answer that gives the mutex brings along."""
-        if answer != errno.EOWNERDEAD:
-            return _check(call, answer)
+    def _locked(self, call, error):
+        """Repairs what a dead owner left, if the call says so."""
+        if error != errno.EOWNERDEAD:
+            return _check(call, error)
         try:
             self.repair()
         except BaseException:
-            _library.pz_mutex_unlock(self.file._file, self.number)
+            _library.pz_mutex_unlock(self._at)
             raise
-        _check("pz_mutex_consistent", _library.pz_mutex_consistent(self.file._file, self.number))
+        _check("pz_mutex_consistent", _library.pz_mutex_consistent(self._at))
 
     def _lock(self, blocking, timeout):
-        """The call of an acquire, its answer, and the one that says that another thread has the mutex."""
+        """The call of an acquire, its return value, and the one that says that another thread owns the mutex."""
         if not blocking:
-            return "pz_mutex_trylock", _library.pz_mutex_trylock(self.file._file, self.number), errno.EBUSY
+            return "pz_mutex_trylock", _library.pz_mutex_trylock(self._at), errno.EBUSY
         if timeout == -1:
-            return "pz_mutex_lock", _library.pz_mutex_lock(self.file._file, self.number), None
-        answer = _library.pz_mutex_clocklock(self.file._file, self.number, *_by(timeout))
-        return "pz_mutex_clocklock", answer, errno.ETIMEDOUT
+            return "pz_mutex_lock", _library.pz_mutex_lock(self._at), None
+        error = _library.pz_mutex_clocklock(self._at, *_until(timeout))
+        return "pz_mutex_clocklock", error, errno.ETIMEDOUT
 
     def acquire(self, blocking=True, timeout=-1):
-        """Whether the mutex is the thread's: where it doesn't wait, or only for so many seconds, another may have it.
-
-        Nor is it where no id was free by then. A repair takes its time, and has no limit."""
+        """Returns whether the thread owns the mutex: if it doesn't wait, or only for `timeout` seconds, another thread may
+        own it. No timeout applies to a repair."""
         if not blocking and timeout != -1:
             raise ValueError("an acquire that doesn't wait has no timeout")
-        call, answer, otherwise = self._lock(blocking, timeout)
-        if answer == otherwise:
+        call, error, otherwise = self._lock(blocking, timeout)
+        if error == otherwise:
             return False
-        self._had(call, answer)
+        self._locked(call, error)
         return True
 
     def release(self):
-        _check("pz_mutex_unlock", _library.pz_mutex_unlock(self.file._file, self.number))
+        _check("pz_mutex_unlock", _library.pz_mutex_unlock(self._at))
 
     def reinit(self):
-        """An unusable one is usable again: whoever calls it has made anew what it guards."""
-        _check("pz_mutex_reinit", _library.pz_mutex_reinit(self.file._file, self.number))
+        """Makes an unusable mutex free. The caller has rebuilt what it guards."""
+        _check("pz_mutex_reinit", _library.pz_mutex_reinit(self._at))
 
     @property
     def owner(self):
-        """The id of the thread that has it, 0 where nobody has."""
-        return _library.pz_mutex_owner(self.file._file, self.number)
+        """The TID of the thread that owns it (threading.get_native_id), or 0."""
+        return _library.pz_mutex_owner(self._at)
 
     @property
     def is_mine(self):
-        """Whether the calling thread has it."""
-        return self.owner != 0 and self.owner == self.file.thread_id
-
-    def condition(self, number):
-        """One of the file's condition variables, which is of this mutex."""
-        return Condition(self, number)
+        """Whether the calling thread owns it."""
+        return self.owner == threading.get_native_id()
 
     def __enter__(self):
         self.acquire()
         return self
 
     def __exit__(self, *_):
-        if self.is_mine:  # a wait that raised may have lost it
+        if self.is_mine:  # a wait that raised an exception may have lost it
             self.release()
 
 
-class Condition:
-    """A condition variable: its mutex's owner waits, and notifies."""
+class Condition(_Place):
+    """A condition variable: 16 bytes at a multiple of 16 in writable shared memory, zeros at first. The mutex's owner
+    waits and notifies."""
 
-    def __init__(self, mutex, number):
-        self.mutex, self.number = mutex, number
+    def __init__(self, memory, mutex, offset=0):
+        super().__init__(memory, CONDITION_SIZE, offset)
+        self.mutex = mutex
 
     def wait(self, timeout=None):
-        """Whether it was notified within so many seconds. It may also return without a notify.
+        """Returns False if `timeout` seconds passed without a notify. It may also return without a notify.
 
-        The thread has the mutex then, too: it waits for that as long as it takes."""
-        of = self.mutex.file._file, self.number
+        The thread owns the mutex afterwards, for which it waits as long as it takes."""
         if timeout is None:
-            self.mutex._had("pz_cond_wait", _library.pz_cond_wait(*of))
+            self.mutex._locked("pz_cond_wait", _library.pz_cond_wait(self._at, self.mutex._at))
             return True
-        answer = _library.pz_cond_clockwait(*of, *_by(max(timeout, 0)))
-        if answer == errno.ETIMEDOUT:
+        error = _library.pz_cond_clockwait(self._at, self.mutex._at, *_until(max(timeout, 0)))
+        if error == errno.ETIMEDOUT:
             return False
-        self.mutex._had("pz_cond_clockwait", answer)
+        self.mutex._locked("pz_cond_clockwait", error)
         return True
 
     def wait_for(self, is_so, timeout=None):
-        """What is_so() says in the end: where the time has come it may be that it isn't."""
+        """Waits until is_so() is true, or `timeout` seconds have passed. Returns what is_so() does at the end."""
         until = None if timeout is None else time.monotonic() + timeout
         so = is_so()
         while not so:
-            was_told = self.wait(None if until is None else until - time.monotonic())
+            is_notified = self.wait(None if until is None else until - time.monotonic())
             so = is_so()
-            if not was_told:
+            if not is_notified:
                 break
         return so
 
     def notify(self):
-        _check("pz_cond_signal", _library.pz_cond_signal(self.mutex.file._file, self.number))
+        _check("pz_cond_signal", _library.pz_cond_signal(self._at, self.mutex._at))
 
     def notify_all(self):
-        _check("pz_cond_broadcast", _library.pz_cond_broadcast(self.mutex.file._file, self.number))
+        _check("pz_cond_broadcast", _library.pz_cond_broadcast(self._at, self.mutex._at))

@@ -1,5 +1,6 @@
-"""Owners are killed, and whoever comes next has data that are repaired. Run over the library that PAZDRIG_LIBRARY names."""
+"""Owners are killed, and the next thread gets repaired data. Uses the library that PAZDRIG_LIBRARY names."""
 import errno
+import mmap
 import os
 import signal
 import tempfile
@@ -11,7 +12,7 @@ import pazdrig
 
 
 def state_of(stat):
-    """A thread's, as the kernel tells it."""
+    """A thread's state, as the kernel says."""
     with open(stat, encoding="ascii") as it:
         return it.read().rsplit(")", 1)[1].split()[0]
 
@@ -24,7 +25,7 @@ def until_asleep(thread, process="self"):
 
 
 class Beyond(Exception):
-    """It can't be repaired."""
+    """The data can't be repaired."""
 
 
 class Owners(unittest.TestCase):
@@ -35,9 +36,10 @@ class Owners(unittest.TestCase):
         self.repairs, self.children = 0, set()
         self.addCleanup(self.kill_children)
         self.mutex = self.file.mutex(0, self.repair)
-        signal.alarm(120)
+        self.came = self.file.condition(0, self.mutex)
+        signal.alarm(300)
 
-    def enterContext(self, context):  # unittest has it from 3.11 on
+    def enterContext(self, context):  # unittest has this since Python 3.11
         self.addCleanup(context.__exit__, None, None, None)
         return context.__enter__()
 
@@ -49,11 +51,11 @@ class Owners(unittest.TestCase):
         self.repairs += 1
 
     def child(self, does):
-        """Told on a pipe what it writes there; it ends by itself, or is killed."""
+        """Starts a child that ends on its own or is killed. Returns its PID, and a call that waits until it tells."""
         reader, writer = os.pipe()
         pid = os.fork()
         if pid == 0:
-            signal.alarm(120)  # it ends though its parent can't kill it any more
+            signal.alarm(300)  # it ends even if its parent can't kill it
             status = 1
             try:
                 does(lambda: os.write(writer, b"!"))
@@ -74,7 +76,7 @@ class Owners(unittest.TestCase):
         self.ended(pid)
 
     def kill_children(self):
-        """Those that a test which failed has left."""
+        """Kills those that a test left when it failed."""
         for pid in list(self.children):
             self.kill(pid)
 
@@ -82,7 +84,7 @@ class Owners(unittest.TestCase):
         self.assertEqual(self.ended(pid), 0)
 
     def held(self):
-        """A child that has the mutex amid a change."""
+        """Starts a child that owns the mutex, in the middle of a change."""
 
         def hold(tell):
             with self.mutex:
@@ -94,40 +96,39 @@ class Owners(unittest.TestCase):
         told()
         return pid
 
-    def kill_amid_a_change(self):
+    def kill_in_a_change(self):
         self.kill(self.held())
 
-    def assertAnswers(self, number, call):
+    def assertFails(self, number, call):
         with self.assertRaises(pazdrig.Error) as it:
             call()
         self.assertEqual(it.exception.errno, number)
         return str(it.exception)
 
-    def test_what_a_killed_owner_left_is_repaired_first(self):
-        self.kill_amid_a_change()
+    def test_killed_owners(self):
+        self.kill_in_a_change()
         with self.mutex:
             self.assertEqual((self.repairs, *self.count[:2]), (1, 1, 1))
-        self.kill_amid_a_change()
+        self.kill_in_a_change()
         self.assertTrue(self.mutex.acquire(blocking=False))
         self.assertEqual((self.repairs, *self.count[:2]), (2, 2, 2))
         self.mutex.release()
         with self.mutex:
             self.assertEqual(self.repairs, 2)
 
-    def test_one_that_lives_is_told(self):
+    def test_living_owners(self):
         pid = self.held()
         self.assertFalse(self.mutex.acquire(blocking=False))
-        self.assertEqual([t.tid for t in self.file.info().threads if t.lives and t.id == self.mutex.owner], [pid])
+        self.assertEqual(self.mutex.owner, pid)
+        self.assertFalse(self.mutex.is_mine)
         self.kill(pid)
-        self.assertEqual([(t.tid, t.lives) for t in self.file.info().threads if t.tid == pid], [(pid, False)])
-        self.assertEqual(self.file.reap(), 1)
         self.assertEqual(self.mutex.owner, 0)
         with self.mutex:
-            self.assertEqual(self.mutex.owner, self.file.thread_id)
-            self.assertIn("owns the mutex already", self.assertAnswers(errno.EDEADLK, self.mutex.acquire))
-        self.assertAnswers(errno.EPERM, self.mutex.release)
+            self.assertEqual(self.mutex.owner, threading.get_native_id())
+            self.assertIn("owns it already", self.assertFails(errno.EDEADLK, self.mutex.acquire))
+        self.assertFails(errno.EPERM, self.mutex.release)
 
-    def test_a_time_comes(self):
+    def test_timeouts(self):
         owner = self.held()
         for timeout in 0, 0.02:
             since = time.monotonic()
@@ -139,13 +140,13 @@ class Owners(unittest.TestCase):
         self.assertRaises(OverflowError, self.mutex.acquire, timeout=float("inf"))
         self.kill(owner)
 
-    def test_before_a_time_a_dead_ones_is_repaired(self):
+    def test_a_death_before_a_timeout(self):
         owner = self.held()
 
         def wait(_):
             self.assertTrue(self.mutex.acquire(timeout=threading.TIMEOUT_MAX))
             self.assertEqual((self.repairs, *self.count[:2]), (1, 1, 1))
-            self.assertAnswers(errno.EDEADLK, lambda: self.mutex.acquire(timeout=1))
+            self.assertFails(errno.EDEADLK, lambda: self.mutex.acquire(timeout=1))
             self.mutex.release()
 
         pid, _ = self.child(wait)
@@ -155,148 +156,105 @@ class Owners(unittest.TestCase):
         self.assertTrue(self.mutex.acquire(timeout=0))
         self.mutex.release()
 
-    def test_what_cant_be_repaired_is_lost(self):
+    def test_failed_repairs(self):
         def fail():
             raise Beyond
 
         mutex = self.file.mutex(0, fail)
-        self.kill_amid_a_change()
+        self.kill_in_a_change()
         with self.assertRaises(Beyond):
             mutex.acquire()
         self.assertFalse(mutex.is_mine)
-        self.assertAnswers(errno.ENOTRECOVERABLE, mutex.acquire)
-        self.assertAnswers(errno.ENOTRECOVERABLE, lambda: mutex.acquire(blocking=False))
+        self.assertFails(errno.ENOTRECOVERABLE, mutex.acquire)
+        self.assertFails(errno.ENOTRECOVERABLE, lambda: mutex.acquire(blocking=False))
         mutex.reinit()
         with mutex:
             pass
 
-    def test_who_waits_is_told(self):
-        came = self.mutex.condition(0)
-
+    def test_notified(self):
         def wait(_):
             with self.mutex:
-                came.wait_for(lambda: self.count[2] == 1)
+                self.came.wait_for(lambda: self.count[2] == 1)
                 self.count[2] = 2
-                came.notify()
+                self.came.notify()
 
         pid, _ = self.child(wait)
         until_asleep(pid, pid)
-        self.assertAnswers(errno.EPERM, came.notify_all)
+        self.assertFails(errno.EPERM, self.came.notify_all)
         with self.mutex:
             self.count[2] = 1
-            came.notify_all()
-            came.wait_for(lambda: self.count[2] == 2)
+            self.came.notify_all()
+            self.came.wait_for(lambda: self.count[2] == 2)
         self.ends_well(pid)
 
-    def test_a_waits_time_comes(self):
-        came = self.mutex.condition(0)
+    def test_timeouts_of_waits(self):
         with self.mutex:
             for timeout in -1, 0, 0.02:
                 since = time.monotonic()
-                self.assertFalse(came.wait(timeout))
+                while self.came.wait(timeout):  # a wait may return without a notify
+                    pass
                 self.assertGreaterEqual(time.monotonic() - since, timeout)
                 self.assertTrue(self.mutex.is_mine)
-                self.assertFalse(came.wait_for(lambda: False, timeout))
-            self.assertEqual(came.wait_for(lambda: 7, 0), 7)
+                self.assertFalse(self.came.wait_for(lambda: False, timeout))
+            self.assertEqual(self.came.wait_for(lambda: 7, 0), 7)
             looks = iter((0, 8))
-            self.assertEqual(came.wait_for(lambda: next(looks), -1), 8)
-            self.assertRaises(ValueError, came.wait, float("nan"))
-            self.assertRaises(OverflowError, came.wait, float("inf"))
-        self.assertAnswers(errno.EPERM, lambda: came.wait(0))
+            self.assertEqual(self.came.wait_for(lambda: next(looks), -1), 8)
+            self.assertRaises(ValueError, self.came.wait, float("nan"))
+            self.assertRaises(OverflowError, self.came.wait, float("inf"))
+        self.assertFails(errno.EPERM, lambda: self.came.wait(0))
 
-    def test_before_a_time_who_waits_is_told(self):
-        came = self.mutex.condition(0)
-
+    def test_notified_before_a_timeout(self):
         def wait(_):
             with self.mutex:
-                self.assertTrue(came.wait_for(lambda: self.count[2] == 1, threading.TIMEOUT_MAX / 2))
+                self.assertTrue(self.came.wait_for(lambda: self.count[2] == 1, threading.TIMEOUT_MAX / 2))
 
         pid, _ = self.child(wait)
         until_asleep(pid, pid)
         with self.mutex:
             self.count[2] = 1
-            came.notify()
+            self.came.notify()
         self.ends_well(pid)
 
-    def test_who_waits_repairs_or_is_told_that_it_is_lost(self):
+    def test_deaths_in_waits(self):
         for is_lost in False, True:
             for timeout in None, threading.TIMEOUT_MAX / 2:
                 with self.subTest(is_lost=is_lost, timeout=timeout):
-                    self.waits_under_a_death(is_lost, timeout)
+                    self.waits_during_a_death(is_lost, timeout)
 
-    def waits_under_a_death(self, is_lost, timeout):
-        came = self.mutex.condition(0)
+    def waits_during_a_death(self, is_lost, timeout):
+        """A thread broadcasts in its repair, and then dies, or gives up. The waiter repairs, or loses the mutex."""
 
         def wait(_):
             with self.mutex:
                 if is_lost:
-                    self.assertAnswers(errno.ENOTRECOVERABLE, lambda: came.wait(timeout))
+                    self.assertFails(errno.ENOTRECOVERABLE, lambda: self.came.wait(timeout))
                     self.assertFalse(self.mutex.is_mine)
                 else:
-                    came.wait_for(lambda: self.repairs, timeout)
+                    self.came.wait_for(lambda: self.repairs, timeout)
                     self.assertEqual(*self.count[:2])
 
-        def tell_and_die(tell):
-            with self.file.mutex(0, lambda: self.end(came, is_lost, tell)):
-                pass
+        def end(tell):
+            self.came.notify_all()
+            tell()
+            if is_lost:
+                raise Beyond
+            signal.pause()
 
-        pid, _ = self.child(wait)
-        until_asleep(pid, pid)
-        self.kill_amid_a_change()
-        last, told = self.child(tell_and_die)
+        def lock(tell):
+            self.file.mutex(0, lambda: end(tell)).acquire()
+
+        waiter, _ = self.child(wait)
+        until_asleep(waiter, waiter)
+        self.kill_in_a_change()
+        last, told = self.child(lock)
         told()
-        if not is_lost:
-            self.kill(last)
-        else:
+        if is_lost:
             self.ended(last)
-        self.ends_well(pid)
+        else:
+            self.kill(last)
+        self.ends_well(waiter)
         if is_lost:
             self.mutex.reinit()
-
-    def test_who_is_late_repairs_or_is_told_that_it_is_lost(self):
-        """An owner dies, or spoils the mutex, in one of its waits, each of which is over soon."""
-        for is_lost in False, True:
-            with self.subTest(is_lost=is_lost):
-                self.is_late_behind_a_death(is_lost)
-
-    def is_late_behind_a_death(self, is_lost):
-        came = self.mutex.condition(0)
-        before = self.count[0]
-
-        def wait(tell):
-            with self.mutex:
-                tell()
-                if is_lost:
-                    self.assertAnswers(errno.ENOTRECOVERABLE, lambda: [came.wait(0.001) for _ in iter(int, 1)])
-                    self.assertFalse(self.mutex.is_mine)
-                while not is_lost and self.count[0] == before:
-                    came.wait(0.001)
-                self.assertTrue(is_lost or (self.repairs == 1 and self.mutex.is_mine))
-
-        def spoil():
-            raise Beyond
-
-        pid, told = self.child(wait)
-        told()
-        if not is_lost:
-            self.kill_amid_a_change()
-        while is_lost:  # until this process is told of the death, and not the other one
-            self.file.mutex(0, pazdrig.nothing_to_repair).acquire()
-            self.file.end_thread()
-            try:
-                self.file.mutex(0, spoil).acquire()
-                self.mutex.release()
-            except Beyond:
-                break
-        self.ends_well(pid)
-
-    def end(self, came, is_lost, tell):
-        """In a repair: waiters are told, and then it dies, or gives up."""
-        came.notify_all()
-        tell()
-        if is_lost:
-            raise Beyond
-        signal.pause()
 
     def test_other_threads_run_while_one_waits(self):
         thread = threading.Thread(target=self.mutex.__enter__)
@@ -305,27 +263,47 @@ class Owners(unittest.TestCase):
             until_asleep(thread.native_id)
         thread.join()
         with self.mutex:
-            self.assertEqual(self.repairs, 1)  # the thread ended as its owner
+            self.assertEqual(self.repairs, 1)  # the thread ended while it owned the mutex
 
     def test_a_view_outlives_its_file(self):
-        for n in range(40):  # more than a process has open at once
+        for n in range(40):
             with self.open() as file:
                 view = file.data[8:16].cast("q")
                 view[0] = n
+                mutex = file.mutex(1, pazdrig.nothing_to_repair)
             self.assertRaises(ValueError, lambda: file.data)
-            self.assertEqual(view[0], n)
+            with mutex:
+                self.assertEqual(view[0], n)
         self.assertEqual(self.count[1], 39)
 
+    def test_shared_memory(self):
+        memory = mmap.mmap(-1, 4096)
+        mutex = pazdrig.Mutex(memory, pazdrig.nothing_to_repair, offset=64)
+        came = pazdrig.Condition(memory, mutex, offset=128)
+
+        def wait(tell):
+            with mutex:
+                tell()
+                came.wait_for(lambda: memory[200] == 7)
+
+        pid, told = self.child(wait)
+        told()
+        with mutex:
+            memory[200] = 7
+            came.notify()
+        self.ends_well(pid)
+        self.assertRaises(ValueError, pazdrig.Mutex, memory, pazdrig.nothing_to_repair, 8)
+        self.assertRaises(ValueError, pazdrig.Mutex, memory, pazdrig.nothing_to_repair, 4096)
+        self.assertRaises(ValueError, pazdrig.Condition, memory, mutex, 8)
+        self.assertRaises(BufferError, memory.close)
+
     def test_numbers(self):
-        info = self.file.info()
-        self.assertEqual((info.format, info.mutexes, info.conditions, info.data), (3, 2, 1, 32))
-        self.assertEqual(info.size, os.stat(self.path).st_size)
-        self.assertIn("other numbers", self.assertAnswers(errno.EINVAL, lambda: self.open(mutexes=3)))
-        self.assertAnswers(errno.EINVAL, lambda: self.open(mutex_of=[1]))
-        self.assertRaises(ValueError, lambda: self.open(mutex_of=[]))
-        with open(self.path, "rb+") as it, pazdrig.File(it.fileno(), 2, 1, [0], 32) as same:
-            self.assertEqual(same.info().size, info.size)
-        self.assertAnswers(errno.ENOENT, lambda: pazdrig.File(os.path.dirname(self.path) + "/none/file"))
+        self.assertIn("other numbers", self.assertFails(errno.EEXIST, lambda: self.open(mutexes=3)))
+        self.assertFails(errno.ESTALE, lambda: self.open(version=1))
+        self.assertRaises(IndexError, lambda: self.file.mutex(2, self.repair))
+        self.assertRaises(IndexError, lambda: self.file.condition(1, self.mutex))
+        self.assertFails(errno.ENOENT, lambda: pazdrig.File(os.path.dirname(self.path) + "/none/file"))
+        self.assertEqual(pazdrig.version().count("."), 1)
 
 
 if __name__ == "__main__":

@@ -1,4 +1,5 @@
-//! What `c/pazdrig.h` declares, as far as it is used here.
+//! What `pazdrig.h` declares, as far as this crate uses it.
+use std::cell::UnsafeCell;
 use std::ffi::{c_char, c_int, c_long, c_uint, c_void};
 
 /// A time by a clock.
@@ -11,35 +12,41 @@ pub struct Timespec {
 pub const CLOCK_REALTIME: c_int = 0;
 pub const CLOCK_MONOTONIC: c_int = 1;
 
+/// A mutex; only the library changes it.
+#[repr(C, align(64))]
+pub struct PzMutex {
+    words: UnsafeCell<[u64; 8]>,
+}
+
 /// An open file.
 #[repr(C)]
-pub struct Pz {
+pub struct PzFile {
     hidden: [u8; 0],
+}
+
+#[repr(C)]
+pub struct PzLayout {
+    pub mutexes: c_uint,
+    pub conds: c_uint,
+    pub data: usize,
+    pub version: u32,
 }
 
 extern "C" {
     pub fn pz_open(
         path: *const c_char,
         mode: c_uint,
-        mutexes: c_uint,
-        conds: c_uint,
-        mutex_of: *const u16,
-        data: usize,
-        out: *mut *mut Pz,
+        layout: *const PzLayout,
+        out: *mut *mut PzFile,
     ) -> c_int;
-    pub fn pz_close(file: *mut Pz);
-    pub fn pz_data(file: *mut Pz) -> *mut c_void;
-    pub fn pz_thread_end(file: *mut Pz) -> c_int;
-    pub fn pz_mutex_lock(file: *mut Pz, mutex: c_uint) -> c_int;
-    pub fn pz_mutex_trylock(file: *mut Pz, mutex: c_uint) -> c_int;
-    pub fn pz_mutex_clocklock(
-        file: *mut Pz,
-        mutex: c_uint,
-        clock: c_int,
-        until: *const Timespec,
-    ) -> c_int;
-    pub fn pz_mutex_unlock(file: *mut Pz, mutex: c_uint) -> c_int;
-    pub fn pz_mutex_consistent(file: *mut Pz, mutex: c_uint) -> c_int;
-    /// The C library's.
+    pub fn pz_close(file: *mut PzFile);
+    pub fn pz_mutex_at(file: *mut PzFile, number: c_uint) -> *mut PzMutex;
+    pub fn pz_data(file: *mut PzFile) -> *mut c_void;
+    pub fn pz_mutex_lock(mutex: *mut PzMutex) -> c_int;
+    pub fn pz_mutex_trylock(mutex: *mut PzMutex) -> c_int;
+    pub fn pz_mutex_clocklock(mutex: *mut PzMutex, clock: c_int, until: *const Timespec) -> c_int;
+    pub fn pz_mutex_unlock(mutex: *mut PzMutex) -> c_int;
+    pub fn pz_mutex_consistent(mutex: *mut PzMutex) -> c_int;
+    /// From the C library.
     pub fn clock_gettime(clock: c_int, now: *mut Timespec) -> c_int;
 }

@@ -1,4 +1,4 @@
-//! Locks the pair of a file, changes one half of it, says so, and waits to be killed: holder FILE
+//! Locks the pair of a file, changes one half of it, prints a line, and waits to be killed: holder FILE
 use pazdrig::{store, Locked, Shared};
 use std::io::{self, Read};
 

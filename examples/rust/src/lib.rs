@@ -1,7 +1,7 @@
-//! A value in a file that processes share, behind a mutex whose owners may die.
+//! A value that processes share, guarded by a mutex whose owners may die.
 //!
-//! Whoever locks has the value [`Locked::Whole`], or [`Locked::OwnerDied`]: as an owner left it that died. Nobody
-//! can use the second before it is repaired, since only [`Broken::repair`] makes a guard of it.
+//! A lock returns the value as [`Locked::Whole`], or as [`Locked::OwnerDied`] if an owner died and left it in the middle of
+//! a change. Nobody can use the latter before it is repaired, since only [`Broken::repair`] makes a guard of it.
 //!
 //! ```no_run
 //! use pazdrig::{store, Locked, Plain, Shared};
@@ -25,7 +25,9 @@
 //! # Ok::<(), std::io::Error>(())
 //! ```
 //!
-//! A broken value can't be read, and a guard can't go to another thread:
+//! A program with shared memory of its own puts a [`Robust`] there, and uses it through [`Shared::in_memory`].
+//!
+//! A broken value can't be read, and a guard can't be sent to another thread:
 //!
 //! ```compile_fail
 //! fn read(broken: pazdrig::Broken<'_, u64>) -> u64 {
@@ -37,6 +39,7 @@
 //! fn is_send<T: Send>() {}
 //! is_send::<pazdrig::Guard<'static, u64>>();
 //! ```
+use std::cell::UnsafeCell;
 use std::ffi::CString;
 use std::io;
 use std::marker::PhantomData;
@@ -44,70 +47,88 @@ use std::ops::{Deref, DerefMut};
 use std::os::unix::ffi::OsStrExt;
 use std::path::Path;
 use std::ptr::{self, NonNull};
+use std::sync::atomic::{AtomicU64, Ordering};
 use std::thread;
 use std::time::{Duration, SystemTime};
 
 mod ffi;
-use ffi::Timespec;
+use ffi::{PzMutex, Timespec};
 
-/// The only mutex of the file.
-const MUTEX: u32 = 0;
 const EOWNERDEAD: i32 = 130;
-/// Where the library lays a file's data: at a multiple of so many bytes.
-const ALIGNED: usize = 64;
+/// A file's data is at a multiple of this.
+const ALIGNMENT: usize = 64;
 
-/// Values that any bytes are: a new file has zeros, and a dead owner leaves any part of what it wrote.
+/// Values that any bytes are: new memory has zeros, and a dead owner leaves any part of what it wrote.
 ///
 /// # Safety
 ///
-/// Each pattern of bytes is a value of the type (so no `bool`, `char`, enum or reference), and no value has an address in
-/// it, since each process has the file elsewhere.
+/// Each pattern of bytes is a value of the type (so no `bool`, `char`, enum or reference), and no value contains an address,
+/// since each process has the memory elsewhere.
 pub unsafe trait Plain: Copy + Send + 'static {}
 
-// SAFETY: any bytes are one of these.
+// SAFETY: any bytes are a u64.
 unsafe impl Plain for u64 {}
-// SAFETY: likewise.
+// SAFETY: any bytes are an i64.
 unsafe impl Plain for i64 {}
 // SAFETY: an array has nothing but its elements.
 unsafe impl<T: Plain, const N: usize> Plain for [T; N] {}
 
-/// Stores now: of a thread that is killed, the stores before this one stand in the file, and none behind it.
+/// Stores now. If the thread is killed, the stores before this one are in memory, and none after it.
 pub fn store<V: Plain>(to: &mut V, value: V) {
     // SAFETY: a reference can be written through.
     unsafe { ptr::write_volatile(to, value) }
 }
 
-/// A value in a file. Each process that opens the file, and each thread, locks it in turn.
-pub struct Shared<T: Plain> {
-    file: NonNull<ffi::Pz>,
-    value: PhantomData<T>,
+/// What a mutex guards: the value, and whether a thread panicked in the middle of a change.
+#[repr(C)]
+struct Guarded<T: Plain> {
+    has_panicked: AtomicU64,
+    value: UnsafeCell<T>,
 }
 
-// SAFETY: each thread that calls takes part by itself, and no two have a guard at once.
+/// A value with its mutex, for shared memory of the program's own. Zeros are one that is free.
+#[repr(C)]
+pub struct Robust<T: Plain> {
+    mutex: PzMutex,
+    guarded: Guarded<T>,
+}
+
+/// A value in a file or in other shared memory. Each process that has it, and each thread, locks it in turn.
+pub struct Shared<T: Plain> {
+    mutex: NonNull<PzMutex>,
+    guarded: NonNull<Guarded<T>>,
+    file: Option<NonNull<ffi::PzFile>>,
+}
+
+// SAFETY: any thread may lock, and no two have a guard at the same time.
 unsafe impl<T: Plain> Send for Shared<T> {}
-// SAFETY: likewise.
+// SAFETY: as for Send.
 unsafe impl<T: Plain> Sync for Shared<T> {}
 
-/// What a lock gives.
+/// What a lock returns.
 pub enum Locked<'a, T: Plain> {
-    /// Its last owner unlocked it.
+    /// The last owner unlocked the value.
     Whole(Guard<'a, T>),
-    /// Its last owner died: the value is as that left it.
+    /// An owner died, or panicked: the value is as it left it.
     OwnerDied(Broken<'a, T>),
 }
 
-/// The value, while this thread owns its mutex. It belongs to this thread: another can't unlock what this one locked.
+/// The value, while this thread owns its mutex. Only this thread can unlock it.
 ///
-/// A panic while it is there leaves the value as a death would: the next owner has to repair it.
+/// A panic while there is a guard leaves the value as a death would: the next owner has to repair it.
 pub struct Guard<'a, T: Plain> {
     shared: &'a Shared<T>,
     was_panicking: bool,
     of_this_thread: PhantomData<*mut T>,
 }
 
-/// A value that is to be repaired. Dropped without that, nobody can lock it any more (ENOTRECOVERABLE).
-#[must_use = "an unrepaired value is lost for good"]
-pub struct Broken<'a, T: Plain>(Guard<'a, T>);
+/// A value that has to be repaired. If it is dropped after a death, nobody can lock it any more (ENOTRECOVERABLE); after a
+/// panic, it stays to be repaired.
+#[must_use = "an unrepaired value may be lost"]
+pub struct Broken<'a, T: Plain> {
+    guard: Guard<'a, T>,
+    has_died: bool,
+}
 
 impl Timespec {
     const ZERO: Self = Timespec {
@@ -117,14 +138,14 @@ impl Timespec {
 
     fn now(clock: i32) -> io::Result<Self> {
         let mut now = Self::ZERO;
-        // SAFETY: `now` is there to be written to.
+        // SAFETY: `now` can be written to.
         match unsafe { ffi::clock_gettime(clock, &mut now) } {
             0 => Ok(now),
             _ => Err(io::Error::last_os_error()),
         }
     }
 
-    /// So much later; where that is too late for a time, the last one.
+    /// Adds a duration, up to the last time that there is.
     fn later(self, time: Duration) -> Self {
         const SECOND: i64 = 1_000_000_000;
         let nanoseconds = self.nanoseconds + i64::from(time.subsec_nanos());
@@ -147,97 +168,133 @@ fn checked(error: i32) -> io::Result<()> {
 }
 
 impl<T: Plain> Shared<T> {
-    const FITS: () = assert!(align_of::<T>() <= ALIGNED);
+    const FITS: () = assert!(align_of::<T>() <= ALIGNMENT);
 
-    /// Opens the file, or makes it: then the value's bytes are zeros.
+    /// Opens the file, or creates it: then the value's bytes are zeros.
     pub fn open(path: impl AsRef<Path>) -> io::Result<Self> {
         let () = Self::FITS;
         let path = CString::new(path.as_ref().as_os_str().as_bytes())?;
+        let layout = ffi::PzLayout {
+            mutexes: 1,
+            conds: 0,
+            data: size_of::<Guarded<T>>(),
+            version: 0,
+        };
         let mut file = ptr::null_mut();
-        // SAFETY: the path ends with a zero, a file without condition variables needs no table, and `file` is there.
-        checked(unsafe {
-            ffi::pz_open(
-                path.as_ptr(),
-                0o600,
-                1,
-                0,
-                ptr::null(),
-                size_of::<T>(),
-                &mut file,
-            )
-        })?;
-        let file = NonNull::new(file).ok_or(io::ErrorKind::Other)?;
+        // SAFETY: the path ends with a zero, and `layout` and `file` are there as long as the call lasts.
+        checked(unsafe { ffi::pz_open(path.as_ptr(), 0o600, &layout, &mut file) })?;
+        // SAFETY: the file is open, and has one mutex.
+        let (mutex, data) = unsafe { (ffi::pz_mutex_at(file, 0), ffi::pz_data(file)) };
         Ok(Shared {
-            file,
-            value: PhantomData,
+            mutex: NonNull::new(mutex).ok_or(io::ErrorKind::Other)?,
+            guarded: NonNull::new(data.cast()).ok_or(io::ErrorKind::Other)?,
+            file: NonNull::new(file),
         })
     }
 
-    /// Waits until it is this thread's. EDEADLK: it is already; ENOTRECOVERABLE: a broken value wasn't repaired.
+    /// Uses a value in shared memory of the program's own.
+    ///
+    /// # Safety
+    ///
+    /// The memory is a [`Robust`] that was zeros at first, is aligned as such, stays mapped as long as the result is there,
+    /// and is changed by nothing else.
+    pub unsafe fn in_memory(value: NonNull<Robust<T>>) -> Self {
+        let it = value.as_ptr();
+        // SAFETY: the caller says that a Robust is there.
+        let (mutex, guarded) = unsafe {
+            (
+                ptr::addr_of_mut!((*it).mutex),
+                ptr::addr_of_mut!((*it).guarded),
+            )
+        };
+        Shared {
+            // SAFETY: both are inside a Robust that isn't at 0.
+            mutex: unsafe { NonNull::new_unchecked(mutex) },
+            // SAFETY: as above.
+            guarded: unsafe { NonNull::new_unchecked(guarded) },
+            file: None,
+        }
+    }
+
+    /// Waits until this thread owns the value. EDEADLK: it does already; ENOTRECOVERABLE: nobody repaired a broken value.
     pub fn lock(&self) -> io::Result<Locked<'_, T>> {
-        // SAFETY: the file is open as long as `self` is there.
-        self.locked(unsafe { ffi::pz_mutex_lock(self.file.as_ptr(), MUTEX) })
+        // SAFETY: the mutex is there as long as `self`.
+        self.locked(unsafe { ffi::pz_mutex_lock(self.mutex.as_ptr()) })
     }
 
-    /// The same without waiting: EBUSY where another thread, which lives, has it.
+    /// Doesn't wait. EBUSY: a thread owns the value.
     pub fn try_lock(&self) -> io::Result<Locked<'_, T>> {
-        // SAFETY: the file is open as long as `self` is there.
-        self.locked(unsafe { ffi::pz_mutex_trylock(self.file.as_ptr(), MUTEX) })
+        // SAFETY: the mutex is there as long as `self`.
+        self.locked(unsafe { ffi::pz_mutex_trylock(self.mutex.as_ptr()) })
     }
 
-    /// Waits for so long at most, by the clock that nobody sets (ETIMEDOUT, of [`io::ErrorKind::TimedOut`]). One that is
-    /// [`Duration::MAX`] never comes.
+    /// Waits at most that long, by the clock that nobody sets (ETIMEDOUT, which is [`io::ErrorKind::TimedOut`]).
+    /// [`Duration::MAX`] never passes.
     pub fn try_lock_for(&self, time: Duration) -> io::Result<Locked<'_, T>> {
         let now = Timespec::now(ffi::CLOCK_MONOTONIC)?;
-        self.lock_by(ffi::CLOCK_MONOTONIC, now.later(time))
+        self.lock_until(ffi::CLOCK_MONOTONIC, now.later(time))
     }
 
-    /// Waits up to that time at most, by the clock that tells it (ETIMEDOUT).
+    /// Waits at most until that time, by the system's clock (ETIMEDOUT).
     pub fn try_lock_until(&self, time: SystemTime) -> io::Result<Locked<'_, T>> {
         let since_1970 = time.duration_since(SystemTime::UNIX_EPOCH);
         let until = Timespec::ZERO.later(since_1970.unwrap_or_default());
-        self.lock_by(ffi::CLOCK_REALTIME, until)
+        self.lock_until(ffi::CLOCK_REALTIME, until)
     }
 
-    fn lock_by(&self, clock: i32, until: Timespec) -> io::Result<Locked<'_, T>> {
-        let file = self.file.as_ptr();
-        // SAFETY: the file is open as long as `self` is there, and `until` as long as the call lasts.
-        self.locked(unsafe { ffi::pz_mutex_clocklock(file, MUTEX, clock, &until) })
+    fn lock_until(&self, clock: i32, until: Timespec) -> io::Result<Locked<'_, T>> {
+        // SAFETY: the mutex is there as long as `self`, and `until` as long as the call lasts.
+        self.locked(unsafe { ffi::pz_mutex_clocklock(self.mutex.as_ptr(), clock, &until) })
     }
 
     fn locked(&self, reply: i32) -> io::Result<Locked<'_, T>> {
-        let guard = || Guard {
+        if reply != 0 && reply != EOWNERDEAD {
+            return Err(io::Error::from_raw_os_error(reply));
+        }
+        let guard = Guard {
             shared: self,
             was_panicking: thread::panicking(),
             of_this_thread: PhantomData,
         };
-        match reply {
-            0 => Ok(Locked::Whole(guard())),
-            EOWNERDEAD => Ok(Locked::OwnerDied(Broken(guard()))),
-            error => Err(io::Error::from_raw_os_error(error)),
+        let has_died = reply == EOWNERDEAD;
+        if has_died || self.has_panicked().load(Ordering::Relaxed) != 0 {
+            return Ok(Locked::OwnerDied(Broken { guard, has_died }));
         }
+        Ok(Locked::Whole(guard))
     }
 
-    fn data(&self) -> *mut T {
-        // SAFETY: the file is open as long as `self` is there.
-        unsafe { ffi::pz_data(self.file.as_ptr()) }.cast()
+    fn has_panicked(&self) -> &AtomicU64 {
+        // SAFETY: it is there as long as `self`, and any bytes are an AtomicU64.
+        unsafe { &(*self.guarded.as_ptr()).has_panicked }
+    }
+
+    fn value(&self) -> *mut T {
+        // SAFETY: it is there as long as `self`.
+        unsafe { (*self.guarded.as_ptr()).value.get() }
     }
 }
 
 impl<T: Plain> Drop for Shared<T> {
     fn drop(&mut self) {
-        // SAFETY: no guard is left, and nobody calls with it any more.
-        unsafe { ffi::pz_close(self.file.as_ptr()) }
+        if let Some(file) = self.file {
+            // SAFETY: no guard is left, and nobody calls with the file any more.
+            unsafe { ffi::pz_close(file.as_ptr()) }
+        }
     }
 }
 
 impl<'a, T: Plain> Broken<'a, T> {
-    /// Repairs the value and declares its mutex consistent. A repair that panics is left to the next owner.
+    /// Repairs the value and declares it consistent. If the repair panics, the next owner has to repair it.
     pub fn repair(mut self, repair: impl FnOnce(&mut T)) -> io::Result<Guard<'a, T>> {
-        repair(&mut self.0);
-        // SAFETY: the file is open as long as the guard's `Shared` is there.
-        checked(unsafe { ffi::pz_mutex_consistent(self.0.shared.file.as_ptr(), MUTEX) })?;
-        Ok(self.0)
+        if self.has_died {
+            // Otherwise a panic of the repair would make the mutex unusable.
+            self.guard.shared.has_panicked().store(1, Ordering::Release);
+            // SAFETY: the mutex is there as long as the guard's `Shared`.
+            checked(unsafe { ffi::pz_mutex_consistent(self.guard.shared.mutex.as_ptr()) })?;
+        }
+        repair(&mut self.guard);
+        self.guard.shared.has_panicked().store(0, Ordering::Release);
+        Ok(self.guard)
     }
 }
 
@@ -245,29 +302,25 @@ impl<T: Plain> Deref for Guard<'_, T> {
     type Target = T;
 
     fn deref(&self) -> &T {
-        // SAFETY: the data are as large as T, any bytes are one, and whoever has the guard owns the mutex.
-        unsafe { &*self.shared.data() }
+        // SAFETY: any bytes are a T, and the thread with the guard owns the mutex.
+        unsafe { &*self.shared.value() }
     }
 }
 
 impl<T: Plain> DerefMut for Guard<'_, T> {
     fn deref_mut(&mut self) -> &mut T {
-        // SAFETY: likewise, and the guard is borrowed by nobody else.
-        unsafe { &mut *self.shared.data() }
+        // SAFETY: as for Deref, and nobody else borrows the guard.
+        unsafe { &mut *self.shared.value() }
     }
 }
 
 impl<T: Plain> Drop for Guard<'_, T> {
-    /// Who unwinds leaves the file: what it owns there is left as by a death.
+    /// A panic is noted next to the value.
     fn drop(&mut self) {
-        let file = self.shared.file.as_ptr();
-        // SAFETY: the file is open as long as `shared` is there, and this thread owns the mutex.
-        unsafe {
-            if thread::panicking() && !self.was_panicking {
-                ffi::pz_thread_end(file);
-            } else {
-                ffi::pz_mutex_unlock(file, MUTEX);
-            }
+        if thread::panicking() && !self.was_panicking {
+            self.shared.has_panicked().store(1, Ordering::Release);
         }
+        // SAFETY: the mutex is there as long as `shared`, and this thread owns it.
+        unsafe { ffi::pz_mutex_unlock(self.shared.mutex.as_ptr()) };
     }
 }

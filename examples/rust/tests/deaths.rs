@@ -1,9 +1,10 @@
-//! Owners die, by SIGKILL and by a panic, and the next one can't use what they left before it is repaired.
-use pazdrig::{Locked, Shared};
+//! Owners die, with SIGKILL and in a panic, and the next owner can't use what they left before it is repaired.
+use pazdrig::{store, Locked, Robust, Shared};
 use std::fs;
 use std::io::{self, BufRead, BufReader, ErrorKind};
 use std::path::PathBuf;
 use std::process::{id, Child, Command, Stdio};
+use std::ptr::NonNull;
 use std::thread;
 use std::time::{Duration, Instant, SystemTime};
 
@@ -12,7 +13,7 @@ const ENOTRECOVERABLE: i32 = 131;
 
 type Pair = [u64; 2];
 
-/// A file of a test's own.
+/// A file that one test uses.
 struct Scratch(PathBuf);
 
 impl Scratch {
@@ -31,8 +32,8 @@ impl Drop for Scratch {
     }
 }
 
-/// A process that has changed one half of the pair, and waits.
-fn amid_a_change(file: &Scratch) -> Child {
+/// Starts a process that has changed one half of the pair, and waits.
+fn in_a_change(file: &Scratch) -> Child {
     let mut child = Command::new(env!("CARGO_BIN_EXE_holder"))
         .arg(&file.0)
         .stdin(Stdio::piped())
@@ -43,7 +44,7 @@ fn amid_a_change(file: &Scratch) -> Child {
     let out = child.stdout.take().expect("it is piped");
     BufReader::new(out)
         .read_line(&mut line)
-        .expect("it says what it did");
+        .expect("it prints what it did");
     assert_eq!(line, "half\n");
     child
 }
@@ -53,8 +54,8 @@ fn killed(mut child: Child) {
     child.wait().expect("it is a child");
 }
 
-fn kill_amid_a_change(file: &Scratch) {
-    killed(amid_a_change(file));
+fn kill_in_a_change(file: &Scratch) {
+    killed(in_a_change(file));
 }
 
 fn whole(pair: &Shared<Pair>) -> Pair {
@@ -84,26 +85,26 @@ fn refused(pair: &Shared<Pair>) -> Option<i32> {
 }
 
 #[test]
-fn what_a_killed_owner_left_is_repaired_first() {
+fn killed_owners() {
     let file = Scratch::new("killed");
     let pair = file.open();
     assert_eq!(whole(&pair), [0, 0]);
-    kill_amid_a_change(&file);
+    kill_in_a_change(&file);
     assert_eq!(repaired(&pair), [1, 1]);
     assert_eq!(whole(&pair), [1, 1]);
 }
 
 #[test]
-fn what_nobody_repairs_is_lost() {
+fn no_repair() {
     let file = Scratch::new("lost");
     let pair = file.open();
-    kill_amid_a_change(&file);
+    kill_in_a_change(&file);
     drop(pair.lock());
     assert_eq!(refused(&pair), Some(ENOTRECOVERABLE));
 }
 
 #[test]
-fn a_panic_leaves_it_as_a_death() {
+fn panics() {
     let file = Scratch::new("panic");
     let pair = file.open();
     thread::scope(|s| {
@@ -112,7 +113,7 @@ fn a_panic_leaves_it_as_a_death() {
                 return;
             };
             both[0] = 7;
-            panic!("amid a change");
+            panic!("in a change");
         });
         assert!(panicked.join().is_err());
     });
@@ -120,13 +121,13 @@ fn a_panic_leaves_it_as_a_death() {
 }
 
 #[test]
-fn a_repair_that_panics_is_left_to_the_next() {
+fn panics_in_repairs() {
     let file = Scratch::new("again");
     let pair = file.open();
-    kill_amid_a_change(&file);
+    kill_in_a_change(&file);
     thread::scope(|s| {
         let panicked = s.spawn(|| match pair.lock() {
-            Ok(Locked::OwnerDied(broken)) => drop(broken.repair(|_| panic!("amid the repair"))),
+            Ok(Locked::OwnerDied(broken)) => drop(broken.repair(|_| panic!("in the repair"))),
             _ => (),
         });
         assert!(panicked.join().is_err());
@@ -135,7 +136,7 @@ fn a_repair_that_panics_is_left_to_the_next() {
 }
 
 #[test]
-fn its_owner_cant_lock_it_twice() {
+fn no_second_lock() {
     let file = Scratch::new("twice");
     let pair = file.open();
     let both = pair.lock();
@@ -144,34 +145,32 @@ fn its_owner_cant_lock_it_twice() {
     assert_eq!(whole(&pair), [0, 0]);
 }
 
-fn is_too_late(locked: io::Result<Locked<'_, Pair>>) -> bool {
+fn is_late(locked: io::Result<Locked<'_, Pair>>) -> bool {
     locked.is_err_and(|error| error.kind() == ErrorKind::TimedOut)
 }
 
 #[test]
-fn a_time_comes() {
+fn deadlines() {
     let file = Scratch::new("late");
     let pair = file.open();
-    let owner = amid_a_change(&file);
+    let owner = in_a_change(&file);
     let (time, since) = (Duration::from_millis(20), Instant::now());
-    assert!(is_too_late(pair.try_lock_for(time)) && since.elapsed() >= time);
+    assert!(is_late(pair.try_lock_for(time)) && since.elapsed() >= time);
     let until = SystemTime::now() + time;
-    assert!(is_too_late(pair.try_lock_until(until)) && SystemTime::now() >= until);
+    assert!(is_late(pair.try_lock_until(until)) && SystemTime::now() >= until);
     let past = [SystemTime::UNIX_EPOCH, SystemTime::UNIX_EPOCH - time];
-    assert!(past
-        .into_iter()
-        .all(|at| is_too_late(pair.try_lock_until(at))));
-    assert!(is_too_late(pair.try_lock_for(Duration::ZERO)));
+    assert!(past.into_iter().all(|at| is_late(pair.try_lock_until(at))));
+    assert!(is_late(pair.try_lock_for(Duration::ZERO)));
     killed(owner);
     assert_eq!(repaired_by(pair.try_lock_until(past[0])), [1, 1]);
 }
 
 #[test]
-fn before_a_time_a_dead_ones_is_repaired() {
+fn deaths_before_a_deadline() {
     let file = Scratch::new("early");
     let pair = file.open();
     for count in 1..=2 {
-        let owner = amid_a_change(&file);
+        let owner = in_a_change(&file);
         let locks = thread::scope(|s| {
             let locks = s.spawn(|| match count {
                 1 => repaired_by(pair.try_lock_for(Duration::MAX)),
@@ -192,4 +191,30 @@ fn before_a_time_a_dead_ones_is_repaired() {
         Some(EDEADLK)
     );
     drop(both);
+}
+
+#[test]
+fn in_memory() {
+    // SAFETY: any bytes are a Robust, and zeros are one that is free.
+    let memory = Box::leak(Box::new(unsafe { std::mem::zeroed::<Robust<Pair>>() }));
+    // SAFETY: the memory is never freed, and nothing else changes it.
+    let pair = unsafe { Shared::in_memory(NonNull::from(memory)) };
+    thread::scope(|s| {
+        for _ in 0..4 {
+            s.spawn(|| {
+                for _ in 0..1000 {
+                    match pair.lock() {
+                        Ok(Locked::Whole(mut both)) => {
+                            assert_eq!(both[0], both[1]);
+                            let next = both[0] + 1;
+                            store(&mut both[0], next);
+                            store(&mut both[1], next);
+                        }
+                        _ => panic!("nobody died"),
+                    }
+                }
+            });
+        }
+    });
+    assert_eq!(whole(&pair), [4000, 4000]);
 }

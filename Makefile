@@ -1,0 +1,158 @@
+# Builds the libraries, the recorder, and rfx and its siblings with cc, make and binutils. `make help` lists the targets.
+CC ?= cc
+OBJCOPY ?= objcopy
+CFLAGS ?= -O2 -g
+PREFIX ?= /usr/local
+BINDIR ?= $(PREFIX)/bin
+LIBDIR ?= $(PREFIX)/lib
+INCLUDEDIR ?= $(PREFIX)/include
+MANDIR ?= $(PREFIX)/share/man
+ifneq ($(filter-out /%,$(PREFIX)),)
+$(error PREFIX must be an absolute path)
+endif
+Q = $(if $(V),,@)
+say = $(if $(V),,@printf '  %-4s %s\n' $1 $2)
+
+VERSION := $(shell sed -n 's/^.define PZ_VERSION "\(.*\)"/\1/p' lib/pazdrig.h)
+SONAME = libpazdrig.so.$(firstword $(subst ., ,$(VERSION)))
+
+# A jump that crosses 32 bytes costs some processors up to 7% of a lock and an unlock, so the assembler places jumps if it
+# knows how.
+FIT = -Wa,-mbranches-within-32B-boundaries
+JUMPS := $(shell $(CC) $(FIT) -c -x assembler /dev/null -o /dev/null 2>/dev/null && echo $(FIT))
+# No LTO: names are taken out of objects.
+FLAGS = -std=c11 -D_GNU_SOURCE -Wall -Wextra $(WERROR) -fPIC -fvisibility=hidden -pthread $(CPPFLAGS) $(CFLAGS) -fno-lto $(JUMPS)
+SHARED = $(CC) -shared -pthread -Wl,-Bsymbolic-functions $(CFLAGS) $(LDFLAGS) -Wl,-z,nodelete -Wl,-z,defs
+
+LIBRARY := $(patsubst lib/%.c,out/lib/%.o,$(wildcard lib/*.c))
+PRELOAD := $(patsubst lib/preload/%.c,out/preload/%.o,$(wildcard lib/preload/*.c)) out/lib/caller.o
+RECORDER := $(patsubst record/preloaded/%.c,out/record/preloaded/%.o,$(wildcard record/preloaded/*.c))
+RECORD := $(patsubst record/%.c,out/record/%.o,$(wildcard record/*.c))
+# rfx and its siblings are linked from the objects that Rattle's compiler made of the proved crates.
+MACHINE := $(firstword $(subst -, ,$(shell $(CC) -dumpmachine)))
+NAMES = rfx rfx-draw rfx-explain rfx-judge
+PROGRAMS = $(if $(wildcard programs/$(MACHINE)/made),$(NAMES:%=bin/%))
+PRODUCTS = $(PROGRAMS) out/libpazdrig.a out/libpazdrig.so out/pazdrig.pc $(if $(wildcard lib/preload/*.c),out/libpazdrig_pthread.so) \
+    $(if $(RECORD),bin/pz-record out/libpz_record.so)
+
+all: $(PRODUCTS)
+	$(if $(PROGRAMS),,@echo 'no rfx: programs/ has no objects for $(MACHINE)')
+
+help:
+	@sed -n 's/^#: *//p' Makefile
+
+#: make                  builds rfx, rfx-draw, rfx-explain, rfx-judge and pz-record in bin/, and the libraries in out/
+#: make check            runs all tests, within three and a half minutes
+#: make check-all        runs longer ones: 130,000 deaths, about an hour
+#: make install          installs in PREFIX=/usr/local (also BINDIR, LIBDIR, INCLUDEDIR, MANDIR, DESTDIR)
+#: make uninstall        removes what was installed with the same variables
+#: make dist             packs programs, libraries, pages and examples: out/pazdrig-VERSION-MACHINE.tar.gz
+#: make speed            measures next to the C library; wants an idle machine
+#: make clean            removes out/ and bin/
+#: Variables: CC, CFLAGS, CPPFLAGS, LDFLAGS; V=1 shows the commands
+
+# What everything is built with, written only if that has changed.
+out/with: FORCE
+	@mkdir -p out/lib out/preload out/record/preloaded
+	@echo '$(CC) $(FLAGS) $(SHARED)' | cmp -s - $@ || echo '$(CC) $(FLAGS) $(SHARED)' >$@
+
+-include $(wildcard out/*/*.d out/*/*/*.d)
+
+out/lib/%.o: lib/%.c out/with
+	$(call say,CC,$<)
+	$(Q)$(CC) $(FLAGS) -Ilib -MMD -MP -c $< -o $@
+
+out/preload/%.o: lib/preload/%.c out/with
+	$(call say,CC,$<)
+	$(Q)$(CC) $(FLAGS) -Ilib -MMD -MP -c $< -o $@
+
+out/record/%.o: record/%.c out/with
+	$(call say,CC,$<)
+	$(Q)$(CC) $(FLAGS) -Ilib -Irecord -MMD -MP -c $< -o $@
+
+.SECONDEXPANSION:
+$(PROGRAMS): bin/%: programs/$(MACHINE)/$$(subst -,_,$$*).o programs/system.c out/with
+	$(call say,LD,$@)
+	@mkdir -p bin
+	$(Q)$(CC) -std=gnu11 $(CPPFLAGS) $(CFLAGS) $(LDFLAGS) -pthread -o $@ programs/system.c $<
+
+# One object, in which only the library's calls can be seen.
+out/pazdrig.o: $(LIBRARY) lib/pazdrig.map
+	$(Q)sed -n 's/^ *\(pz_[a-z_]*\);$$/\1/p' lib/pazdrig.map >out/shown
+	$(Q)$(LD) -r -o out/whole.o $(LIBRARY)
+	$(Q)$(OBJCOPY) --keep-global-symbols=out/shown out/whole.o $@
+
+out/libpazdrig.a: out/pazdrig.o
+	$(call say,AR,$@)
+	$(Q)rm -f $@
+	$(Q)$(AR) rcs $@ $<
+
+out/libpazdrig.so.$(VERSION): out/pazdrig.o
+	$(call say,LD,$@)
+	$(Q)$(SHARED) -Wl,-soname,$(SONAME) -Wl,--version-script=lib/pazdrig.map -o $@ $<
+
+out/libpazdrig.so: out/libpazdrig.so.$(VERSION)
+	$(Q)ln -sf $(<F) out/$(SONAME)
+	$(Q)ln -sf $(SONAME) $@
+
+out/libpazdrig_pthread.so: $(PRELOAD) lib/preload/shown.map
+	$(call say,LD,$@)
+	$(Q)$(SHARED) -Wl,-z,now -Wl,-soname,$(@F) -Wl,--version-script=lib/preload/shown.map -o $@ $(PRELOAD)
+
+out/libpz_record.so: $(RECORDER) record/preloaded/shown.map
+	$(call say,LD,$@)
+	$(Q)$(SHARED) -Wl,-soname,$(@F) -Wl,--version-script=record/preloaded/shown.map -o $@ $(RECORDER)
+
+bin/pz-record: $(RECORD)
+	$(call say,LD,$@)
+	@mkdir -p bin
+	$(Q)$(CC) -pthread $(CFLAGS) $(LDFLAGS) -o $@ $^
+
+# Written each time, as PREFIX may have changed.
+out/pazdrig.pc: FORCE
+	@mkdir -p out
+	@printf '%s\n' 'prefix=$(PREFIX)' \
+	    'libdir=$(patsubst $(PREFIX)/%,$${prefix}/%,$(LIBDIR))' \
+	    'includedir=$(patsubst $(PREFIX)/%,$${prefix}/%,$(INCLUDEDIR))' \
+	    'Name: pazdrig' 'Description: robust mutexes and condition variables in shared memory' \
+	    'Version: $(VERSION)' 'Cflags: -I$${includedir}' 'Libs: -L$${libdir} -lpazdrig -pthread' >$@
+
+check: all
+	CC='$(CC)' tests/run --quick
+
+check-all: all
+	CC='$(CC)' tests/run --long
+
+speed:
+	tests/speed/run speed
+	tests/speed/run load
+
+TO = $(DESTDIR)$(BINDIR) $(DESTDIR)$(LIBDIR)/pkgconfig $(DESTDIR)$(INCLUDEDIR) \
+    $(DESTDIR)$(MANDIR)/man3 $(DESTDIR)$(MANDIR)/man7
+install: all
+	install -d $(TO)
+	install -m 644 lib/pazdrig.h lib/pazdrig.hpp $(DESTDIR)$(INCLUDEDIR)
+	install -m 644 out/libpazdrig.a $(DESTDIR)$(LIBDIR)
+	install -m 755 out/libpazdrig.so.$(VERSION) out/libpazdrig_pthread.so out/libpz_record.so $(DESTDIR)$(LIBDIR)
+	install -m 755 bin/pz-record $(PROGRAMS) $(DESTDIR)$(BINDIR)
+	ln -sf libpazdrig.so.$(VERSION) $(DESTDIR)$(LIBDIR)/$(SONAME)
+	ln -sf $(SONAME) $(DESTDIR)$(LIBDIR)/libpazdrig.so
+	install -m 644 out/pazdrig.pc $(DESTDIR)$(LIBDIR)/pkgconfig
+	install -m 644 lib/man/*.3 $(DESTDIR)$(MANDIR)/man3
+	install -m 644 lib/man/*.7 $(DESTDIR)$(MANDIR)/man7
+
+uninstall:
+	rm -f $(addprefix $(DESTDIR)$(INCLUDEDIR)/,pazdrig.h pazdrig.hpp) \
+	    $(addprefix $(DESTDIR)$(LIBDIR)/,libpazdrig.a libpazdrig.so $(SONAME) libpazdrig.so.$(VERSION) \
+	        libpazdrig_pthread.so libpz_record.so pkgconfig/pazdrig.pc) $(addprefix $(DESTDIR)$(BINDIR)/,pz-record $(NAMES)) \
+	    $(addprefix $(DESTDIR)$(MANDIR)/man3/,$(notdir $(wildcard lib/man/*.3))) \
+	    $(addprefix $(DESTDIR)$(MANDIR)/man7/,$(notdir $(wildcard lib/man/*.7)))
+
+dist:
+	programs/dist $(VERSION) $(MACHINE)
+
+clean:
+	rm -rf out bin
+
+FORCE:
+.PHONY: all help check check-all speed install uninstall dist clean FORCE

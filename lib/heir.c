@@ -1,0 +1,347 @@
+/* Waiting for a mutex, and handing it on.
+ *
+ * A lock that finds the cell owned tries the slot. The thread that gets it waits awake: with AWAKE set it is the
+ * *heir*. All other threads sleep on the cell. An unlock wakes one sleeper, unless it finds an heir: then it leaves the
+ * wake to that one. Why no wake is lost: the unlock changes the cell and then looks at the slot, once; owner, AWAKE and
+ * OWNER_DIED are one word. The heir sets AWAKE after `pending` is the cell, and clears it before it looks at the cell
+ * for the last time, with `pending` still the same: so it finds the cell free. If the heir is killed, the kernel walks
+ * its list, where the slot is, before it looks at what was pending. So if an unlock finds the slot not yet marked, the
+ * kernel looks at the cell later and wakes a sleeper. */
+#include "mutex.h"
+
+/* Times in ns. How long a thread waits awake at most, and at least if that didn't pay; its first and last interval
+ * between two looks; and both if the mutex is *hot*, that is, taken more than HOT times between two looks. A hot mutex
+ * is left to the thread that takes it again and again until the heir is due. */
+enum {
+    LONGEST = 20000,
+    SHORTEST = 2000,
+    FIRST_LOOK = 500,
+    LAST_LOOK = 10000,
+    HOT_LONGEST = 150000,
+    HOT_LOOK = 5000,
+    HOT = 3,
+    VERY_HOT = 12
+};
+/* When an heir is due, and how long others give way to it; how long a woken thread is waited for; after how long
+ * without a wake a sleeper gets one in spite of an heir, which is asked at each TRY_ALL-th unlock. */
+enum { FAIR = 100000, WAY = 20000, COMING = 20000, LATE = 150000, LATE_BUSY = 600000, TRY_ALL = 16 };
+/* How often a thread looks again at a slot that is about to change hands. */
+enum { MOST_LOOKS = 60, MOST_LOOKS_INSIDE = 40 };
+
+/* A flag of the slot. Above it is when the slot's owner last said that it is awake. */
+#define AWAKE (1ull << 32)
+#define SINCE (1ull << 33)
+
+/* Flags of the hints. Above them is a time in us: when a sleeper was last woken. */
+#define COMES 2ull /* an unlock has woken a sleeper, which is on its way */
+#define BUSY  4ull /* the mutex changes hands so often that a woken sleeper would only be in the way */
+
+/* ---- The heir's clock. An unlock leaves its wake only to an heir that said less than ALIVE ago that it is awake: a
+ * stopped one would keep the mutex from all sleepers. A wrong clock costs a wake, and nothing else. */
+enum { ALIVE = 250000 >> 10 }; /* in ticks: 250 us at most */
+
+/* The caller has the slot, so nobody else changes it. An exchange, and before each look, as this takes the cache line
+ * from the mutex's owner once, and not twice. */
+static inline void say_awake(pz_mutex *m, const struct caller *s)
+{
+    exchange(slot(m), ticks() * SINCE | AWAKE | s->tid);
+}
+
+static inline int is_heir(uint64_t slot) { return (slot & AWAKE) && (slot & OWNER) && !(slot & OWNER_DIED); }
+static inline int answers(uint64_t slot)
+{
+    return is_heir(slot) && (ticks() + ALIVE) * SINCE - (slot & ~(SINCE - 1)) < 2 * ALIVE * SINCE;
+}
+
+/* ---- Hints. */
+
+static inline uint64_t hint_time(uint64_t ns) { return (uint64_t)(uint32_t)(ns / 1000) << 32; }
+static inline int is_older(uint64_t hint, uint64_t ns) { return (hint_time(now_ns()) - hint) >> 32 > ns / 1000; }
+
+static inline void clear_hint(pz_mutex *m, uint64_t which)
+{
+    if (load_acquire(hint(m)) & which)
+        fetch_and(hint(m), ~which);
+}
+static inline void set_hint(pz_mutex *m, uint64_t which)
+{
+    if (!(load_acquire(hint(m)) & which))
+        fetch_or(hint(m), which);
+}
+
+/* ---- The slot. */
+
+/* Returns whether the calling thread has it; `found` is what the slot's word was. A thread that takes a marked slot
+ * clears the dead heir's AWAKE before it declares the slot consistent. */
+static int take_slot(pz_mutex *m, struct caller *s, uint64_t found)
+{
+    while (!compare_exchange(slot(m), &found, taken(found, s)))
+        if (found & OWNER)
+            return 0;
+    put_on_list(s, slot_entry(m));
+    if (found & OWNER_DIED) {
+        set_pending(s, NULL);
+        fetch_and(slot(m), ~AWAKE);
+        fetch_and(slot(m), ~OWNER_DIED);
+    }
+    return 1;
+}
+
+/* If another process has written over the links, the slot stays taken, without AWAKE: then nobody is heir until this
+ * thread ends, and unlocks make their wakes. */
+static void free_slot(pz_mutex *m, struct caller *s)
+{
+    set_pending(s, slot_entry(m));
+    if (LIKELY(take_off_list(s, slot_entry(m))))
+        fetch_sub(slot(m), s->tid);
+}
+
+/* ---- The end of a lock. */
+
+enum { WAITS = -1 }; /* no reply yet */
+
+/* `seen` was found in the cell by a look that decides. Returns the call's reply, or WAITS: another thread owns it. */
+static int decide(pz_mutex *m, struct caller *s, uint64_t *seen)
+{
+    while (is_free(*seen))
+        if (compare_exchange(cell(m), seen, taken(*seen, s)))
+            return acquired(s, m, *seen);
+    if (*seen & UNUSABLE) {
+        if (*seen & WAITERS)
+            wake(cell(m), INT_MAX);
+        return reply_with(s, ENOTRECOVERABLE);
+    }
+    return is_own(*seen, s) ? reply_with(s, EDEADLK) : WAITS;
+}
+
+/* Sets WAITERS, and sleeps until a wake. Returns 0 for a wake, or an errno: EAGAIN if the cell has changed. */
+static int sleep_on_cell(pz_mutex *m, struct caller *s, uint64_t *seen, const struct deadline *d)
+{
+    if (!(*seen & WAITERS)) {
+        if (!compare_exchange(cell(m), seen, *seen | WAITERS))
+            return EAGAIN;
+        *seen |= WAITERS;
+    }
+    int r = sleep_on(cell(m), *seen, d);
+    if (r == EAGAIN)
+        yield(); /* as the mutex is changing hands: often its owner, or the heir, waits for a processor */
+    set_pending(s, cell_entry(m)); /* again: a signal handler may have locked another robust mutex */
+    *seen = load_acquire(cell(m));
+    return r;
+}
+
+/* ---- The heir. */
+
+static void pause_until(uint64_t ns)
+{
+    do
+        relax();
+    while (now_ns() < ns);
+}
+
+static uint32_t longer(uint32_t pause) { return 2 * pause < LONGEST ? 2 * pause : LONGEST; }
+static uint32_t shorter(uint32_t pause) { return pause / 2 > SHORTEST ? pause / 2 : SHORTEST; }
+
+/* Looks at the cell, each time after twice as long, until it is free or unusable: 1. Returns 0 if waiting awake doesn't
+ * pay any more, or the deadline has passed. */
+static int watch(pz_mutex *m, struct caller *s, uint64_t *seen, const struct deadline *d, uint64_t began)
+{
+    uint64_t most = s->waits++ % TRY_ALL ? s->pause : LONGEST, first = now_ns(), step = FIRST_LOOK;
+    int is_due = 0;
+    for (uint64_t was = *seen, now = first; now - first < most; was = *seen, now = now_ns()) {
+        pause_until(is_due ? 0 : now + step);
+        say_awake(m, s);
+        *seen = load_acquire(cell(m));
+        uint64_t turns = *seen / TURN - was / TURN;
+        int is_hot = turns > HOT;
+        if ((*seen & UNUSABLE) || (!(*seen & OWNER) && (!is_hot || now - began >= FAIR))) {
+            s->pause = longer(s->pause);
+            return 1;
+        }
+        if (turns > VERY_HOT)
+            set_hint(m, BUSY);
+        else
+            clear_hint(m, BUSY);
+        step = is_hot ? HOT_LOOK : step < LAST_LOOK ? 2 * step : step;
+        most = is_hot ? HOT_LONGEST : most;
+        if (!is_due && now - began >= FAIR) {
+            is_due = 1;
+            most += WAY;
+            set_hint(m, DUE);
+        }
+        if (d && has_passed(d))
+            return 0;
+    }
+    s->pause = shorter(s->pause);
+    return 0;
+}
+
+/* Takes the cell if it is free. */
+static int take_as_heir(pz_mutex *m, struct caller *s, uint64_t *seen)
+{
+    while (is_free(*seen))
+        if (compare_exchange(cell(m), seen, taken(*seen, s))) {
+            clear_hint(m, DUE);
+            fetch_and(slot(m), ~AWAKE);
+            put_on(s, m);
+            s->was_heir = 1;
+            free_slot(m, s);
+            return reply_with(s, *seen & OWNER_DIED ? EOWNERDEAD : 0);
+        }
+    return WAITS;
+}
+
+/* The heir's last look, after it has cleared AWAKE. Returns 1 if it finds the cell unusable, or owned and with WAITERS:
+ * an unlock from then on makes its wake. */
+static int is_last_look(pz_mutex *m, uint64_t *seen)
+{
+    fetch_and(slot(m), ~AWAKE);
+    *seen = load_in_order(cell(m));
+    if (is_free(*seen))
+        return 0;
+    return (*seen & (WAITERS | UNUSABLE)) || compare_exchange(cell(m), seen, *seen | WAITERS);
+}
+
+/* Gives the slot up. */
+static int leave_slot(pz_mutex *m, struct caller *s, uint64_t *seen, const struct deadline *d)
+{
+    int reply = *seen & UNUSABLE ? ENOTRECOVERABLE : d && has_passed(d) ? ETIMEDOUT : WAITS;
+    if ((*seen & UNUSABLE) && (*seen & WAITERS))
+        wake(cell(m), INT_MAX);
+    if (reply != WAITS)
+        clear_hint(m, DUE);
+    free_slot(m, s);
+    if (reply != WAITS)
+        return reply_with(s, reply);
+    set_pending(s, cell_entry(m));
+    *seen = load_acquire(cell(m));
+    return WAITS;
+}
+
+/* Waits awake, as the slot's owner, for the cell, the deadline, or until that doesn't pay any more: WAITS. */
+static int wait_awake(pz_mutex *m, struct caller *s, uint64_t *seen, const struct deadline *d)
+{
+    uint64_t began = now_ns();
+    if (!(*seen & WAITERS))
+        store_release(hint(m), hint_time(began));
+    for (;;) {
+        set_pending(s, cell_entry(m));
+        say_awake(m, s);
+        *seen = load_in_order(cell(m));
+        int is_over = is_free(*seen) || (*seen & UNUSABLE) || watch(m, s, seen, d, began);
+        set_pending(s, cell_entry(m)); /* again: a signal handler may have locked another robust mutex */
+        int reply = is_over ? take_as_heir(m, s, seen) : WAITS;
+        if (reply != WAITS)
+            return reply;
+        if (is_over && !(*seen & UNUSABLE))
+            continue; /* another thread was faster */
+        if (is_last_look(m, seen))
+            return leave_slot(m, s, seen, d);
+    }
+}
+
+/* ---- Lock. Its steps are those of calls of the specification: a trylock of the cell; a trylock of the slot, a lock of
+ * the cell whose deadline may pass, and an unlock of the slot; a lock of the cell, asleep. So a thread that comes to
+ * the slot from a lock has set WAITERS. */
+
+/* Whether the slot is worth a trylock: nobody has it, and no woken thread is on its way to it. */
+static int is_slot_open(pz_mutex *m, uint64_t seen, uint64_t slot, enum arrival how)
+{
+    if (how == WAITED || (slot & OWNER))
+        return 0;
+    uint64_t hints = load_acquire(hint(m));
+    return how == WOKEN || !(hints & COMES) || !(seen & WAITERS) || is_older(hints, COMING);
+}
+
+/* Whether its owner is about to free it, as it has just taken the cell, or about to say that it is awake. */
+static inline int is_moving(uint64_t slot) { return (slot & OWNER) && !(slot & (AWAKE | OWNER_DIED)); }
+
+/* Tries the slot, and waits awake if it has it. */
+static int try_slot(pz_mutex *m, struct caller *s, uint64_t *seen, const struct deadline *d, enum arrival *how,
+                    uint64_t found)
+{
+    *how = LATER;
+    set_pending(s, slot_entry(m));
+    if (take_slot(m, s, found)) {
+        clear_hint(m, COMES);
+        return wait_awake(m, s, seen, d);
+    }
+    set_pending(s, cell_entry(m));
+    *seen = load_acquire(cell(m));
+    return WAITS;
+}
+
+__attribute__((noinline)) int pz_wait_for(pz_mutex *m, struct caller *s, uint64_t seen, const struct deadline *d,
+                                          enum arrival how)
+{
+    int reply, looks = 0;
+    while ((reply = decide(m, s, &seen)) == WAITS) {
+        if (how == TRIED && d && !is_time(d->at))
+            return reply_with(s, EINVAL);
+        uint64_t found = load_acquire(slot(m));
+        if (how != WAITED && is_moving(found) && looks++ < MOST_LOOKS) {
+            relax();
+            seen = load_acquire(cell(m));
+            continue;
+        }
+        if (is_slot_open(m, seen, found, how)) {
+            if (how != TRIED && !(seen & WAITERS) && !compare_exchange(cell(m), &seen, seen | WAITERS))
+                continue;
+            if ((reply = try_slot(m, s, &seen, d, &how, found)) != WAITS)
+                return reply;
+            if (is_free(seen) || (seen & UNUSABLE))
+                continue;
+        }
+        int r = sleep_on_cell(m, s, &seen, d);
+        if (r == ETIMEDOUT)
+            return reply_with(s, ETIMEDOUT);
+        how = how == WAITED ? WAITED : r == 0 ? WOKEN : LATER;
+    }
+    if (how == WOKEN)
+        clear_hint(m, COMES);
+    return reply;
+}
+
+__attribute__((noinline, cold)) void pz_give_way(pz_mutex *m, struct caller *s)
+{
+    s->owes = NULL;
+    for (uint64_t began = now_ns(); (load_acquire(hint(m)) & DUE) && now_ns() - began < WAY;)
+        relax();
+    clear_hint(m, DUE);
+}
+
+/* ---- Unlock. */
+
+/* Whether there is an heir. A thread that got the mutex as the heir waits a moment for the next one: mostly the mutex's
+ * former owner is about to be that. */
+static int find_heir(pz_mutex *m, struct caller *s)
+{
+    int has_heir = is_heir(load_acquire(slot(m)));
+    for (int i = 0; s->was_heir && !has_heir && i < MOST_LOOKS_INSIDE; i++) {
+        relax();
+        has_heir = is_heir(load_acquire(slot(m)));
+    }
+    s->was_heir = 0;
+    return has_heir;
+}
+
+__attribute__((noinline)) int pz_announce_wake(pz_mutex *m, struct caller *s)
+{
+    int has_heir = find_heir(m, s);
+    if (has_heir && ++s->spares % TRY_ALL)
+        return 0;
+    uint64_t hints = load_acquire(hint(m));
+    if (has_heir && !is_older(hints, hints & BUSY ? LATE_BUSY : LATE))
+        return 0;
+    store_release(hint(m), (has_heir ? hints & (DUE | BUSY) : 0) | COMES | hint_time(now_ns()));
+    return 1;
+}
+
+void pz_unannounce_wake(pz_mutex *m) { clear_hint(m, COMES); }
+
+__attribute__((noinline)) int pz_hand_on(pz_mutex *m, int is_announced)
+{
+    if (!is_announced && answers(load_in_order(slot(m))))
+        return 1;
+    return wake(cell(m), 1);
+}

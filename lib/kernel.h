@@ -1,0 +1,81 @@
+/* The calls to Linux. None of them changes errno. */
+#ifndef PZ_KERNEL_H
+#define PZ_KERNEL_H
+#include "word.h"
+#include <errno.h>
+#include <limits.h>
+#include <linux/futex.h>
+#include <sys/syscall.h>
+#include <time.h>
+#include <unistd.h>
+
+/* A time until which a call waits. */
+struct deadline {
+    clockid_t clock;
+    const struct timespec *at;
+};
+
+static inline int is_clock(clockid_t clock) { return clock == CLOCK_REALTIME || clock == CLOCK_MONOTONIC; }
+static inline int is_time(const struct timespec *t) { return t->tv_nsec >= 0 && t->tv_nsec < 1000000000; }
+
+/* futex(2) refuses times before 1970, which have passed. */
+static inline const struct timespec *since_1970(const struct timespec *t)
+{
+    static const struct timespec then;
+    return t->tv_sec < 0 ? &then : t;
+}
+
+static inline uint64_t now_ns(void)
+{
+    struct timespec t;
+    clock_gettime(CLOCK_MONOTONIC, &t);
+    return (uint64_t)t.tv_sec * 1000000000 + (uint64_t)t.tv_nsec;
+}
+
+/* A cheap clock: it counts at least 1,000,000 in a second, and need not agree with other clocks. */
+static inline uint64_t ticks(void)
+{
+#if defined __x86_64__
+    return __builtin_ia32_rdtsc() >> 10; /* costs a third of clock_gettime(2) */
+#else
+    return now_ns() >> 10;
+#endif
+}
+
+static inline int has_passed(const struct deadline *d)
+{
+    struct timespec t;
+    clock_gettime(d->clock, &t);
+    return t.tv_sec > d->at->tv_sec || (t.tv_sec == d->at->tv_sec && t.tv_nsec >= d->at->tv_nsec);
+}
+
+/* Sleeps if the futex word of w is still that of `is`. Returns 0 if a wake came, or an errno. */
+static inline int sleep_on(pz_word *w, uint64_t is, const struct deadline *d)
+{
+    int realtime = d && d->clock == CLOCK_REALTIME ? FUTEX_CLOCK_REALTIME : 0, saved = errno;
+    long r = syscall(SYS_futex, w, FUTEX_WAIT_BITSET | realtime, (uint32_t)is, d ? since_1970(d->at) : NULL, NULL,
+                     FUTEX_BITSET_MATCH_ANY);
+    int error = r ? errno : 0;
+    errno = saved;
+    return error;
+}
+
+/* Wakes up to `most` sleepers, and returns how many it woke. */
+static inline int wake(pz_word *w, int most)
+{
+    int saved = errno;
+    long woken = syscall(SYS_futex, w, FUTEX_WAKE, most, NULL, NULL, 0);
+    errno = saved;
+    return (int)woken;
+}
+
+static inline void yield(void) { syscall(SYS_sched_yield); } /* it doesn't fail */
+
+/* Moves all sleepers to another word if the futex word of w is still that of `is`. Nobody wakes. */
+static inline void move_sleepers(pz_word *w, uint64_t is, pz_word *to)
+{
+    int saved = errno;
+    syscall(SYS_futex, w, FUTEX_CMP_REQUEUE, 0, (void *)(uintptr_t)INT_MAX, to, (uint32_t)is);
+    errno = saved;
+}
+#endif

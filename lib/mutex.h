@@ -1,0 +1,82 @@
+/* A mutex's eight words, and what mutex.c, heir.c and cond.c share.
+ *
+ *   0     cell: owner's TID, OWNER_DIED, WAITERS; UNUSABLE; the turn (cell.h)
+ *   1     hints: who is due, who comes, and since when. No promise depends on them
+ *   2     slot: the cell of a second robust mutex, on which nobody sleeps. Its owner waits awake for the first one
+ *   3, 4  the cell's links, and 5, 6 the slot's: previous and next entry, where pthread_mutex_t has them
+ *
+ * A thread that is about to take or to free a cell has the cell's entry pending until its call ends. So whenever it
+ * dies, the kernel marks what it owned and wakes a sleeper, and also wakes one that sleeps on a pending cell without an
+ * owner. */
+#ifndef PZ_MUTEX_H
+#define PZ_MUTEX_H
+#include "caller.h"
+#include "cell.h"
+#include "list.h"
+#include "pazdrig.h"
+
+/* A flag of the hints: an heir has waited long, and the thread that frees the mutex gives way to it. */
+#define DUE 1ull
+
+#define HIDDEN __attribute__((visibility("hidden")))
+
+static inline pz_word *cell(const pz_mutex *m) { return (pz_word *)&m->words[0]; }
+static inline pz_word *hint(pz_mutex *m) { return (pz_word *)&m->words[1]; }
+static inline pz_word *slot(pz_mutex *m) { return (pz_word *)&m->words[2]; }
+static inline pz_word *cell_entry(pz_mutex *m) { return (pz_word *)&m->words[4]; }
+static inline pz_word *slot_entry(pz_mutex *m) { return (pz_word *)&m->words[6]; }
+
+static inline int is_aligned(const pz_mutex *m) { return (uintptr_t)m % sizeof *m == 0; }
+static inline int is_free(uint64_t cell) { return !(cell & (OWNER | UNUSABLE)); }
+static inline int is_own(uint64_t cell, const struct caller *s) { return (cell & OWNER) == s->tid; }
+static inline uint64_t taken(uint64_t cell, const struct caller *s) { return (cell + TURN) | s->tid; }
+
+/* Ends a call. */
+static inline int reply_with(struct caller *s, int reply)
+{
+    set_pending(s, NULL);
+    return reply;
+}
+
+/* After the exchange that took a cell, which was `seen` before. */
+static inline void put_on(struct caller *s, pz_mutex *m)
+{
+    put_on_list(s, cell_entry(m));
+    s->owned++;
+}
+static inline int acquired(struct caller *s, pz_mutex *m, uint64_t seen)
+{
+    put_on(s, m);
+    return reply_with(s, seen & OWNER_DIED ? EOWNERDEAD : 0);
+}
+
+/* Before the release of a cell. Returns 0 if the links aren't those of an entry of this thread. */
+static inline int take_off(struct caller *s, pz_mutex *m)
+{
+    if (!take_off_list(s, cell_entry(m)))
+        return 0;
+    s->owned--;
+    return 1;
+}
+
+/* ---- heir.c */
+
+/* How a lock comes to pz_wait_for: it has tried the cell; it was woken on the cell, or slept there without a wake; or
+ * it is the end of a wait on a condition variable, which doesn't use the slot. */
+enum arrival { TRIED, WOKEN, LATER, WAITED };
+
+/* Locks a mutex that another thread may own. The cell's entry is pending, and `seen` was loaded after that. */
+int pz_wait_for(pz_mutex *, struct caller *, uint64_t seen, const struct deadline *, enum arrival) HIDDEN;
+
+/* Lets a thread go first that was due when the caller freed the mutex. */
+void pz_give_way(pz_mutex *, struct caller *) HIDDEN;
+
+/* Before the release of a cell with WAITERS. Returns 1 if the caller is to wake a sleeper whether there is an heir or
+ * not; that one is announced in the hints. */
+int pz_announce_wake(pz_mutex *, struct caller *) HIDDEN;
+/* Takes that announcement back, for a caller that is a user of the mutex still. */
+void pz_unannounce_wake(pz_mutex *) HIDDEN;
+
+/* After a release that left WAITERS. Returns 0 if nobody was woken, and no heir answers for the mutex. */
+int pz_hand_on(pz_mutex *, int is_announced) HIDDEN;
+#endif

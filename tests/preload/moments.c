@@ -1,0 +1,267 @@
+/* Moments that chance doesn't reach: a thread is stopped in the middle of a call, memory is used again right after the
+ * release, a handler runs during a wait. The library is loaded in front.
+ * usage: moments [EACH]: memory is used again after each EACH-th instruction */
+#include "robust.h"
+#include <sys/ptrace.h>
+#include <sys/uio.h>
+
+enum { PAGE = 4096, SLEEPERS = 2 };
+static struct shared {
+    union {
+        pthread_mutex_t m;
+        unsigned char bytes[PAGE];
+    };
+    pthread_mutex_t other;
+    _Atomic int ready, go, had, handled, done;
+} * s;
+
+static void start_over(void)
+{
+    memset((void *)s, 0, sizeof *s);
+    init_robust(&s->m, PTHREAD_MUTEX_NORMAL);
+    init_robust(&s->other, PTHREAD_MUTEX_NORMAL);
+}
+
+/* A child that owns the mutex until `go` is 1; and if it is to take the mutex again, until `go` is 2. */
+static pid_t an_owner(int again)
+{
+    pid_t p = start_child();
+    if (p) {
+        until(&s->ready, 1);
+        return p;
+    }
+    pthread_mutex_lock(&s->m);
+    atomic_store(&s->ready, 1);
+    until(&s->go, 1);
+    pthread_mutex_unlock(&s->m);
+    if (again) {
+        pthread_mutex_lock(&s->m);
+        atomic_store(&s->ready, 2);
+        until(&s->go, 2);
+        pthread_mutex_unlock(&s->m);
+    }
+    atomic_store(&s->done, 1);
+    for (;;)
+        pause();
+}
+
+static pid_t a_sleeper(void)
+{
+    pid_t p = start_child();
+    if (p) {
+        until_it_sleeps(p);
+        return p;
+    }
+    pthread_mutex_lock(&s->m);
+    atomic_fetch_add(&s->had, 1);
+    pthread_mutex_unlock(&s->m);
+    _exit(0);
+}
+
+/* A child that stops before its lock, to be traced. */
+static pid_t a_traced_locker(void)
+{
+    int status;
+    pid_t p = start_child();
+    if (!p) {
+        pass(&s->other);
+        ptrace(PTRACE_TRACEME, 0, 0, 0);
+        raise(SIGSTOP);
+        pthread_mutex_lock(&s->m);
+        _exit(0);
+    }
+    waitpid(p, &status, 0);
+    return p;
+}
+
+/* An heir stops as soon as it is one. It isn't left a wake for longer than an heir waits awake. */
+static void an_heir_is_stopped(void)
+{
+    int status;
+    start_over();
+    if (is_plain(&s->m))
+        return;
+    pid_t owner = an_owner(0), sleeper[SLEEPERS];
+    for (int i = 0; i < SLEEPERS; i++)
+        sleeper[i] = a_sleeper();
+    pid_t heir = a_traced_locker();
+    for (int i = 0; i < 10000 && (pid_t)(bell_of(&s->m) & 0x3fffffff) != heir; i++) {
+        ptrace(PTRACE_SINGLESTEP, heir, 0, 0);
+        waitpid(heir, &status, 0);
+    }
+    EQUAL(bell_of(&s->m) & 0x3fffffff, heir);
+    nap(1000);
+    atomic_store(&s->go, 1);
+    CHECK(until(&s->had, SLEEPERS));
+    kill_child(heir);
+    for (int i = 0; i < SLEEPERS; i++)
+        kill_child(sleeper[i]);
+    kill_child(owner);
+}
+
+/* A thread that was woken stops before it does anything. The owner takes the mutex again; once it has had it for long,
+ * its unlock wakes another one. */
+static void a_woken_thread_is_stopped(void)
+{
+    int status;
+    start_over();
+    pid_t owner = an_owner(1), first = a_traced_locker();
+    ptrace(PTRACE_CONT, first, 0, 0);
+    until_it_sleeps(first);
+    kill(first, SIGSTOP); /* from here on, the tracer learns of each system call */
+    waitpid(first, &status, 0);
+    ptrace(PTRACE_SYSCALL, first, 0, 0);
+    waitpid(first, &status, 0);
+    ptrace(PTRACE_SYSCALL, first, 0, 0);
+    until_it_sleeps(first);
+    pid_t second = a_sleeper();
+    atomic_store(&s->go, 1);
+    until(&s->ready, 2);
+    nap(20000);
+    atomic_store(&s->go, 2);
+    CHECK(until(&s->had, 1));
+    kill_child(first);
+    kill_child(second);
+    kill_child(owner);
+}
+
+/* ---- The memory of a mutex is another's as soon as it is released. */
+
+enum { NOBODY_SLEEPS, ONE_SLEEPS, ONE_COMES, AN_HEIR, CASES };
+
+/* Not a thread of the library: it sleeps on the cell, and doesn't touch the memory when it is woken. */
+static pid_t a_plain_sleeper(void)
+{
+    pid_t p = start_child();
+    if (p) {
+        until_it_sleeps(p);
+        return p;
+    }
+    syscall(SYS_futex, &s->m, 0, (uint32_t)cell_of(&s->m), NULL, NULL, 0);
+    for (;;)
+        pause();
+}
+
+static pid_t an_unlocker(void)
+{
+    int status;
+    pid_t p = start_child();
+    if (!p) {
+        pass(&s->other);
+        pthread_mutex_lock(&s->m);
+        ptrace(PTRACE_TRACEME, 0, 0, 0);
+        raise(SIGSTOP);
+        pthread_mutex_unlock(&s->m);
+        atomic_store(&s->done, 1);
+        raise(SIGSTOP);
+        _exit(0);
+    }
+    waitpid(p, &status, 0);
+    return p;
+}
+
+static void prepare(int which, pid_t heir)
+{
+    struct timespec t;
+    clock_gettime(CLOCK_MONOTONIC, &t);
+    *(volatile uint64_t *)&s->m |= 1u << 31;
+    if (which == ONE_COMES || which == AN_HEIR) {
+        ((volatile uint32_t *)&s->m)[3] = (uint32_t)(t.tv_sec * 1000000 + t.tv_nsec / 1000);
+        ((volatile uint32_t *)&s->m)[2] = 1u << 31 | (which == AN_HEIR ? (uint32_t)heir : 0);
+    }
+}
+
+/* Writes a pattern over the mutex `more` instructions after its release. Returns 0 if the unlock had ended before. */
+static int use_again_after(int which, int more, unsigned char pattern)
+{
+    int status, changed = 0;
+    start_over();
+    pid_t p = an_unlocker(), sleeper = 0;
+    prepare(which, getpid());
+    if (which == ONE_SLEEPS)
+        sleeper = a_plain_sleeper();
+    for (int left = more; left >= 0 && !atomic_load(&s->done);) {
+        ptrace(PTRACE_SINGLESTEP, p, 0, 0);
+        waitpid(p, &status, 0);
+        left -= owner_of(&s->m) != p;
+    }
+    int ended = atomic_load(&s->done);
+    memset(s->bytes, pattern, PAGE);
+    if (pattern == 1) { /* the bell's COMES alone */
+        memset(s->bytes, 0, PAGE);
+        s->bytes[11] = 0x80;
+    }
+    ptrace(PTRACE_CONT, p, 0, 0);
+    waitpid(p, &status, 0);
+    for (int i = 0; i < PAGE; i++)
+        changed += s->bytes[i] != (pattern == 1 ? (i == 11 ? 0x80 : 0) : pattern);
+    check_that(WIFSTOPPED(status) && changed == 0, __FILE__, __LINE__,
+               "case %d: %d instructions after: %d bytes changed", which, more, changed);
+    kill_child(p);
+    if (sleeper)
+        kill_child(sleeper);
+    return !ended;
+}
+
+static void memory_is_used_again(int each)
+{
+    static const unsigned char patterns[] = {0, 1, 0xff};
+    for (int which = 0; which < CASES; which++)
+        for (size_t i = 0; i < sizeof patterns; i++) {
+            int failed = checks_failed;
+            for (int more = 0; more < 5000 && failed == checks_failed && use_again_after(which, more, patterns[i]);
+                 more += each)
+                ;
+        }
+}
+
+/* ---- A handler uses another robust mutex during a wait. */
+
+static void use_other(int number)
+{
+    (void)number;
+    pass(&s->other);
+    atomic_fetch_add(&s->handled, 1);
+}
+
+/* What the kernel would look at if the thread died now. */
+static uint64_t pending_of(pid_t p)
+{
+    uint64_t head = 0, pending = 0;
+    size_t size;
+    if (syscall(SYS_get_robust_list, p, &head, &size))
+        return 1;
+    struct iovec here = {&pending, sizeof pending}, there = {(void *)(uintptr_t)(head + 16), sizeof pending};
+    return process_vm_readv(p, &here, 1, &there, 1, 0) == sizeof pending ? pending : 1;
+}
+
+static void a_handler_comes(void)
+{
+    start_over();
+    pid_t owner = an_owner(0), p = start_child();
+    if (!p) {
+        sigaction(SIGUSR1, &(struct sigaction){.sa_handler = use_other}, NULL);
+        pthread_mutex_lock(&s->m);
+        _exit(0);
+    }
+    until_it_sleeps(p);
+    uint64_t wanted = (uint64_t)&s->m + (is_plain(&s->m) ? 32 : 40);
+    EQUAL(pending_of(p), wanted);
+    kill(p, SIGUSR1);
+    CHECK(until(&s->handled, 1));
+    until_it_sleeps(p);
+    EQUAL(pending_of(p), wanted);
+    kill_child(p);
+    kill_child(owner);
+}
+
+int main(int argc, char **argv)
+{
+    begin_checks(900);
+    s = shared_memory(sizeof *s);
+    a_handler_comes();
+    an_heir_is_stopped();
+    a_woken_thread_is_stopped();
+    memory_is_used_again(argc > 1 ? atoi(argv[1]) : 1);
+    return end_checks();
+}
