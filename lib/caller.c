@@ -49,10 +49,10 @@ __attribute__((cold)) struct caller *pz_ask(void)
     int saved = errno;
     pz_word *page = life_page(), *head = page ? list_head(s->list) : NULL;
     if (head) {
-        uint64_t none = 0, life = now_ns() + NO_LIFE + 1;
+        uint64_t tid = (uint64_t)syscall(SYS_gettid), none = 0, life = (now_ns() ^ tid << 40) + NO_LIFE + 1;
         if (!compare_exchange(page, &none, life))
             life = none;
-        *s = (struct caller){.life = life, .tid = (uint64_t)syscall(SYS_gettid), .list = head, .pause = FIRST_PAUSE};
+        *s = (struct caller){.life = life, .tid = tid, .list = head, .pause = FIRST_PAUSE};
     }
     errno = saved;
     return head ? s : NULL;

@@ -48,7 +48,7 @@ static int lay_out(const struct pz_layout *l, struct pz_parts *p)
 static int compare(const struct pz_header *h, const struct asked *a, off_t size)
 {
     uint64_t magic = load_relaxed(&h->magic);
-    if ((magic ^ LETTERS) << 8)
+    if ((magic ^ LETTERS) << 8 || size < (off_t)sizeof *h)
         return EMEDIUMTYPE;
     if (magic != WHOLE || h->futex_offset != FUTEX_OFFSET)
         return EPROTO;

@@ -26,6 +26,7 @@ struct pz_header {
 
 /* Where the parts of a file are, in bytes. The mutexes follow the header. */
 enum { PZ_MUTEXES_AT = 128 };
+_Static_assert(sizeof(struct pz_header) <= PZ_MUTEXES_AT, "the header ends before the mutexes");
 struct pz_parts {
     size_t conds, data, size;
 };

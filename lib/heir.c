@@ -27,6 +27,8 @@ enum {
 enum { FAIR = 100000, WAY = 20000, COMING = 20000, LATE = 150000, LATE_BUSY = 600000, TRY_ALL = 16 };
 /* How often a thread looks again at a slot that is about to change hands. */
 enum { MOST_LOOKS = 60, MOST_LOOKS_INSIDE = 40 };
+/* How often an heir looks at the cell, and how often it relaxes between two looks, if a clock stands still. */
+enum { MOST_LOOKS_AWAKE = 1000, MOST_PAUSES = 2000 };
 
 /* A flag of the slot. Above it is when the slot's owner last said that it is awake. */
 #define AWAKE (1ull << 32)
@@ -132,11 +134,13 @@ static int sleep_on_cell(pz_mutex *m, struct caller *s, uint64_t *seen, const st
 
 /* ---- The heir. */
 
+/* Ends by a count, too, as a clock may stand still. */
 static void pause_until(uint64_t ns)
 {
+    int pauses = 0;
     do
         relax();
-    while (now_ns() < ns);
+    while (now_ns() < ns && ++pauses < MOST_PAUSES);
 }
 
 static uint32_t longer(uint32_t pause) { return 2 * pause < LONGEST ? 2 * pause : LONGEST; }
@@ -147,9 +151,11 @@ static uint32_t shorter(uint32_t pause) { return pause / 2 > SHORTEST ? pause / 
 static int watch(pz_mutex *m, struct caller *s, uint64_t *seen, const struct deadline *d, uint64_t began)
 {
     uint64_t most = s->waits++ % TRY_ALL ? s->pause : LONGEST, first = now_ns(), step = FIRST_LOOK;
-    int is_due = 0;
-    for (uint64_t was = *seen, now = first; now - first < most; was = *seen, now = now_ns()) {
+    int is_due = 0, looks = 0;
+    for (uint64_t was = *seen, now = first; now - first < most && looks < MOST_LOOKS_AWAKE;
+         was = *seen, now = now_ns(), looks++) {
         pause_until(is_due ? 0 : now + step);
+        set_pending(s, cell_entry(m)); /* again: a signal handler may have locked another robust mutex */
         say_awake(m, s);
         *seen = load_acquire(cell(m));
         uint64_t turns = *seen / TURN - was / TURN;
@@ -162,7 +168,7 @@ static int watch(pz_mutex *m, struct caller *s, uint64_t *seen, const struct dea
             set_hint(m, BUSY);
         else
             clear_hint(m, BUSY);
-        step = is_hot ? HOT_LOOK : step < LAST_LOOK ? 2 * step : step;
+        step = is_hot ? HOT_LOOK : 2 * step < LAST_LOOK ? 2 * step : LAST_LOOK;
         most = is_hot ? HOT_LONGEST : most;
         if (!is_due && now - began >= FAIR) {
             is_due = 1;
@@ -233,7 +239,7 @@ static int wait_awake(pz_mutex *m, struct caller *s, uint64_t *seen, const struc
         int reply = is_over ? take_as_heir(m, s, seen) : WAITS;
         if (reply != WAITS)
             return reply;
-        if (is_over && !(*seen & UNUSABLE))
+        if (is_over && !(*seen & UNUSABLE) && !(d && has_passed(d)))
             continue; /* another thread was faster */
         if (is_last_look(m, seen))
             return leave_slot(m, s, seen, d);
@@ -305,7 +311,8 @@ __attribute__((noinline)) int pz_wait_for(pz_mutex *m, struct caller *s, uint64_
 __attribute__((noinline, cold)) void pz_give_way(pz_mutex *m, struct caller *s)
 {
     s->owes = NULL;
-    for (uint64_t began = now_ns(); (load_acquire(hint(m)) & DUE) && now_ns() - began < WAY;)
+    uint64_t began = now_ns();
+    for (int n = 0; (load_acquire(hint(m)) & DUE) && now_ns() - began < WAY && n < MOST_PAUSES; n++)
         relax();
     clear_hint(m, DUE);
 }

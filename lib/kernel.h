@@ -49,11 +49,13 @@ static inline int has_passed(const struct deadline *d)
     return t.tv_sec > d->at->tv_sec || (t.tv_sec == d->at->tv_sec && t.tv_nsec >= d->at->tv_nsec);
 }
 
-/* Sleeps if the futex word of w is still that of `is`. Returns 0 if a wake came, or an errno. */
+/* Sleeps if the futex word of w is still that of `is`. Returns 0 if a wake came, or an errno. A sleep without a
+ * deadline has one that never comes: only then does a signal handler that was installed with SA_RESTART end it, too. */
 static inline int sleep_on(pz_word *w, uint64_t is, const struct deadline *d)
 {
+    static const struct timespec never = {.tv_sec = INT64_MAX};
     int realtime = d && d->clock == CLOCK_REALTIME ? FUTEX_CLOCK_REALTIME : 0, saved = errno;
-    long r = syscall(SYS_futex, w, FUTEX_WAIT_BITSET | realtime, (uint32_t)is, d ? since_1970(d->at) : NULL, NULL,
+    long r = syscall(SYS_futex, w, FUTEX_WAIT_BITSET | realtime, (uint32_t)is, d ? since_1970(d->at) : &never, NULL,
                      FUTEX_BITSET_MATCH_ANY);
     int error = r ? errno : 0;
     errno = saved;

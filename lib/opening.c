@@ -72,7 +72,11 @@ static int open_or_create(const char *path, mode_t mode)
     if (fd >= 0 || errno != ENOENT)
         return fd;
     fd = open_uninterrupted(path, O_CREAT, mode);
-    return fd < 0 && errno == EACCES ? open_uninterrupted(path, 0, 0) : fd; /* another user has just created it */
+    if (fd < 0 && errno == EACCES) { /* another user may just have created it */
+        fd = open_uninterrupted(path, 0, 0);
+        errno = fd < 0 && errno == ENOENT ? EACCES : errno;
+    }
+    return fd;
 }
 
 /* Returns another description of the file, and closes fd; or returns fd if the caller may not open the file again. */
@@ -122,8 +126,12 @@ void pz_end_opening(struct pz_opening *o, int is_opened)
     struct pz_opening **at = &openings;
     sigset_t signals;
     lock_table(&signals);
-    while (*at != o)
+    while (*at && *at != o)
         at = &(*at)->next;
+    if (!*at) { /* a handler has forked, and this is the child, which has let go of all openings */
+        unlock_table(&signals);
+        return;
+    }
     *at = o->next;
     if (o->mapped && !is_opened)
         munmap(o->mapped, o->size);

@@ -1,4 +1,4 @@
-/* Whether the time stamp counters of all processors are one clock. */
+/* Whether the time stamp counters of all processors can serve as one clock. */
 #include "program.h"
 #include <sched.h>
 #include <stdio.h>
@@ -12,7 +12,7 @@ static int has(const char *line, const char *flag)
     return at && at[-1] == ' ' && strchr(" \n", at[strlen(flag)]);
 }
 
-/* They tick alike at each speed, and in sleep: each processor says so. */
+/* Whether each processor says that its counter has one rate at all speeds, and while it sleeps. */
 static int all_tick_alike(void)
 {
     FILE *f = fopen("/proc/cpuinfo", "re");
@@ -30,7 +30,7 @@ static int all_tick_alike(void)
     return seen > 0 && good == seen;
 }
 
-/* Where Linux has seen two that differ it keeps time by something else. */
+/* Linux drops this clock if it has seen two counters differ. */
 static int linux_trusts_them(void)
 {
     char names[128] = "", *rest = NULL;
@@ -44,7 +44,7 @@ static int linux_trusts_them(void)
     return 0;
 }
 
-/* A thread that goes round all processors sees no step back. */
+/* Whether a thread that visits all processors sees no step back. */
 static int none_is_behind(void)
 {
     struct head h = {.clock = BY_TSC};
@@ -57,7 +57,7 @@ static int none_is_behind(void)
         CPU_ZERO(&one);
         CPU_SET(i % CPU_SETSIZE, &one);
         good = !sched_setaffinity(0, sizeof one, &one) && stamp_before(&h) > last;
-        last = stamp_behind(&h);
+        last = stamp_after(&h);
     }
     sched_setaffinity(0, sizeof may, &may);
     return good;

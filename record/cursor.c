@@ -1,12 +1,12 @@
-/* The lines of one life, in their order: of each call a begin and a return, and at last a doom and a reaping. What a
- * thread has is known from its own calls' replies: so it is known here too how often it has a recursive mutex, of which
- * a history knows nothing. */
+/* The lines of one life, in their order: a begin and a return of each call, and finally a doom and a reaping. The
+ * replies of a thread's calls say which mutexes it owns, and how often it has locked a recursive one, which isn't in
+ * histories. */
 #include "view.h"
 #include <errno.h>
 #include <stdlib.h>
 #include <string.h>
 
-/* ---- What it holds. */
+/* ---- What the thread owns. */
 
 static struct held *held_in(struct cursor *c, uint32_t mutex)
 {
@@ -36,7 +36,7 @@ static void lose(struct cursor *c, uint32_t mutex)
         *h = c->held[--c->helds];
 }
 
-/* ---- Replies, as the rules of histories spell them; NULL: the call changed nothing and isn't told. */
+/* ---- Replies, as histories spell them. NULL: the call changed nothing and has no line. */
 
 static const struct {
     int number;
@@ -45,7 +45,7 @@ static const struct {
     {0, "OK"},
     {EPERM, "EPERM"},
     {ESRCH, "ESRCH"},
-    {EAGAIN, "X_HELD"}, /* of libpazdrig: the thread holds as many as it may */
+    {EAGAIN, "X_HELD"}, /* libpazdrig's: the thread owns as many as it may */
     {ENOMEM, "X_NOMEM"},
     {EFAULT, "EFAULT"},
     {EBUSY, "EBUSY"},
@@ -65,18 +65,18 @@ static const char *name_of(struct cursor *c, int reply)
     return NULL;
 }
 
-/* A deadline that is no time; or one that passed for a thread which waited for itself, as the owner of a normal mutex.
- */
-static int says_nothing(struct cursor *c, const struct seen *s)
+/* Whether a reply is about the deadline alone: it is no time, or it passed while the owner of a normal mutex waited for
+ * itself. */
+static int is_of_the_deadline(struct cursor *c, const struct seen *s)
 {
     return s->call == TIMEDLOCK && (s->reply == EINVAL || (s->reply == ETIMEDOUT && held_in(c, s->mutex)));
 }
 
-/* Of a recursive mutex its owner has it once more, or as often as can be. */
+/* The owner of a recursive mutex locks it again, or gets EAGAIN at the limit. */
 static const char *reply_to_lock(struct cursor *c, const struct seen *s)
 {
     struct held *h = held_in(c, s->mutex);
-    if (says_nothing(c, s))
+    if (is_of_the_deadline(c, s))
         return NULL;
     if (s->flags & RECURSIVE && h && (s->reply == 0 || s->reply == EAGAIN)) {
         h->depth += s->reply == 0;
@@ -99,7 +99,7 @@ static const char *reply_to_unlock(struct cursor *c, const struct seen *s)
     return name_of(c, s->reply);
 }
 
-/* POSIX has one answer for who doesn't own the mutex and for a mutex that is consistent. */
+/* POSIX returns EINVAL both to a thread that doesn't own the mutex and for a consistent mutex. */
 static const char *reply_to_consistent(struct cursor *c, const struct seen *s)
 {
     struct held *h = held_in(c, s->mutex);
@@ -108,8 +108,8 @@ static const char *reply_to_consistent(struct cursor *c, const struct seen *s)
     return !h && s->reply == EINVAL ? "EPERM" : name_of(c, s->reply);
 }
 
-/* Of one that its thread has twice a wait releases nothing; a refused one says nothing, but where the mutex is to be
- * declared consistent first. */
+/* A wait with a mutex that its thread has locked twice releases nothing. A refused wait has no line unless the mutex is
+ * inconsistent. */
 static const char *reply_to_wait(struct cursor *c, const struct seen *s)
 {
     struct held *h = held_in(c, s->mutex);
@@ -137,19 +137,19 @@ static const char *reply_to(struct cursor *c, const struct seen *s)
         return reply_to_consistent(c, s);
     case WAIT:
         return reply_to_wait(c, s);
-    default: /* a signal: the rules want that its thread owns the mutex, POSIX doesn't */
+    default: /* a signal: in histories, unlike in POSIX, its thread owns the mutex */
         return held_in(c, s->mutex) && s->reply == 0 ? "OK" : NULL;
     }
 }
 
-/* ---- Which calls are told. */
+/* ---- Which calls have lines. */
 
 static int is_signal(int call) { return call == SIGNAL || call == BROADCAST; }
 
-/* Whether it is a call that a history has; of a signal the mutex is that of its variable's waiters. */
+/* Whether histories have the call. A signal of the C library gets the mutex with which threads wait on its variable. */
 static int is_of_a_history(const struct view *v, struct seen *s)
 {
-    if (is_signal(s->call))
+    if (is_signal(s->call) && !s->mutex)
         s->mutex = v->name[s->cond].mutex;
     if (!s->mutex || s->call > BROADCAST || (s->call == WAIT && !s->cond))
         return 0;
@@ -163,9 +163,9 @@ static int is_start(const struct cursor *c, const struct seen *s)
     return !m->is_made && s->end == m->start && m->starter == (uint32_t)(c->life - c->view->life);
 }
 
-/* Who has begun before the mutex is told, and returns later, is told where it takes it then, or may: it finds it owned
- * by the starter. What else it can have done was before. */
-static int is_told(const struct cursor *c, const struct seen *s)
+/* Whether a call is late enough. A mutex that wasn't initialised in the recording begins when the starter takes it. A
+ * call that began before and returned after that has lines only if it took the mutex then, or may have taken it. */
+static int is_in_time(const struct cursor *c, const struct seen *s)
 {
     const struct view_name *m = &c->view->name[s->mutex];
     if (m->is_made || s->begin > m->start || is_start(c, s))
@@ -186,7 +186,7 @@ static void put(struct cursor *c, uint64_t stamp, enum kind kind, const struct s
     c->line[c->lines++] = l;
 }
 
-/* A wait that had released its mutex when that is told at first: it did so before the starter took it. */
+/* A wait that began before the starter took its mutex had released the mutex by then, so a lock comes before it. */
 static void put_begin(struct cursor *c, const struct seen *s)
 {
     const struct view_name *m = &c->view->name[s->mutex];
@@ -200,7 +200,7 @@ static void put_begin(struct cursor *c, const struct seen *s)
     put(c, s->begin, BEGINS, s, NULL);
 }
 
-/* A mutex that is inconsistent when it is told at first: somebody took it, and died. */
+/* If a mutex is inconsistent at its start, an unknown thread took it and died. */
 static void put_return(struct cursor *c, const struct seen *s, const char *reply)
 {
     if (is_start(c, s) && s->reply == EOWNERDEAD)
@@ -227,7 +227,7 @@ static void put_call(struct cursor *c, struct seen *s)
     if (s->begin > v->to)
         return;
     c->last = s->end ? s->end : s->begin;
-    if ((s->end && s->end < v->from) || !is_of_a_history(v, s) || !is_told(c, s))
+    if ((s->end && s->end < v->from) || !is_of_a_history(v, s) || !is_in_time(c, s))
         return;
     if (!s->end) {
         put_open(c, s);
@@ -243,7 +243,8 @@ static void put_call(struct cursor *c, struct seen *s)
         c->lines = before;
 }
 
-/* Where it died in a call, or owning: at some moment behind its last line. Who isn't seen to live may be dead. */
+/* A doom, if the thread died in a call or while it owned a mutex: at some moment after its last line. A thread that
+ * can't be seen to live may be dead. */
 static void put_end(struct cursor *c)
 {
     const struct view_life *l = c->life;
@@ -273,7 +274,7 @@ void rec_begin_lines(struct cursor *c, struct view *v, uint32_t life)
     fill(c);
 }
 
-/* NULL: there is none any more. */
+/* The next line. NULL: there are no more. */
 const struct line *rec_line(struct cursor *c) { return c->next < c->lines ? &c->line[c->next] : NULL; }
 
 void rec_next_line(struct cursor *c)

@@ -1,10 +1,10 @@
-/* What is known of each mutex before its lines are told. */
+/* Finds out about each mutex what its lines depend on. */
 #include "view.h"
 #include <errno.h>
 
 int rec_may_take(int call) { return call == LOCK || call == TRYLOCK || call == TIMEDLOCK || call == WAIT; }
 
-/* Whether its thread has the mutex then. */
+/* Whether the thread has the mutex after the call. */
 int rec_takes(const struct seen *c)
 {
     int is_taken = c->reply == 0 || c->reply == EOWNERDEAD || (c->call == WAIT && c->reply == ETIMEDOUT);
@@ -22,16 +22,16 @@ static void note_taken(struct view_name *m, uint32_t life, const struct seen *c)
     m->reply = c->reply;
 }
 
-/* A call that was left by a longjmp, or whose wait was cancelled, has no reply, and a wait in private memory has no
- * condition variable: so its mutex isn't told. */
+/* Notes what a call says about its mutex. The mutex is left out if the call has no reply, because it was left by a
+ * longjmp or cancelled, or if a wait's condition variable has no name, because it is in private memory. */
 static void note(struct view *v, uint32_t life, const struct seen *c, int is_last)
 {
     struct view_name *m = &v->name[c->mutex];
     m->is_called |= c->call <= WAIT;
     if (c->call == INIT && c->end && c->reply == 0 && is_within(v, c->begin) && is_within(v, c->end))
         m->is_made = 1;
-    int is_untold_wait = c->call == WAIT && (!c->cond || (c->end && c->reply == CANCELLED));
-    if (is_untold_wait || (!c->end && !is_last))
+    int is_unusual_wait = c->call == WAIT && (!c->cond || (c->end && c->reply == CANCELLED));
+    if (is_unusual_wait || (!c->end && !is_last))
         m->is_left_out = 1;
     if (rec_takes(c) && is_within(v, c->end))
         note_taken(m, life, c);
@@ -39,7 +39,7 @@ static void note(struct view *v, uint32_t life, const struct seen *c, int is_las
         v->name[c->cond].mutex = c->mutex;
 }
 
-/* How often its owner has a recursive one that wasn't made in what is told isn't known. */
+/* Nobody knows how often the owner has locked a recursive mutex that wasn't initialised in the recording. */
 static void leave_out_recursive(struct view *v, const struct seen *c)
 {
     if (c->flags & RECURSIVE && !v->name[c->mutex].is_made)

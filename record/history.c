@@ -1,4 +1,4 @@
-/* A history of a recording: the lines of all lives, in the order of the clock. */
+/* Prints a recording as a history: the lines of all lives, in the order of the clock. */
 #include "view.h"
 #include <errno.h>
 #include <inttypes.h>
@@ -10,7 +10,7 @@ static const char *const call_word[] = {
     [WAIT] = "wait", [SIGNAL] = "signal",   [BROADCAST] = "broadcast",
 };
 
-/* ---- Whose line comes next: a heap of cursors. */
+/* ---- Which life's line comes next: a heap of cursors. */
 
 struct heap {
     struct cursor **at;
@@ -76,7 +76,7 @@ static void say_begin(const struct view *v, uint32_t id, const struct line *l)
         printf("%" PRIu64 " begin t%" PRIu32 " %s m%" PRIu32 "\n", ++event, id, call_word[l->call], m);
 }
 
-/* The ghost takes the mutex and dies. */
+/* An unknown thread takes the mutex and is killed. */
 static void say_ghost(const struct view *v, const struct line *l)
 {
     static int is_reaped;
@@ -113,9 +113,9 @@ static void say_line(const struct view *v, struct view_life *life, const struct 
     }
 }
 
-/* ---- What isn't told, on standard error. */
+/* ---- What is missing from the history, on standard error. */
 
-static void say_what_lacks(const struct view *v)
+static void say_what_is_missing(const struct view *v)
 {
     uint32_t left_out = 0, late = 0;
     for (uint32_t n = 1; n <= v->names; n++) {
@@ -123,14 +123,18 @@ static void say_what_lacks(const struct view *v)
         left_out += m->is_called && (m->is_left_out || (!m->is_made && !m->start));
         late += m->is_called && !m->is_left_out && !m->is_made && m->start;
     }
-    if (atomic_load(&((struct recording *)(uintptr_t)v->file)->head.ended))
-        fprintf(stderr, "pz-record: the recording was full: this is its beginning\n");
+    struct recording *file = (void *)(uintptr_t)v->file;
+    if (!event && !left_out && !v->unknown)
+        fputs("pz-record: " REC_EMPTY "\n", stderr);
+    if (atomic_load(&file->head.ended))
+        fputs("pz-record: the recording was full: the history is its beginning\n", stderr);
     if (late)
-        fprintf(stderr, "pz-record: %" PRIu32 " mutexes are told from when they were taken first\n", late);
+        fprintf(stderr, "pz-record: mutexes that begin only when a thread took them first: %" PRIu32 "\n", late);
     if (left_out)
-        fprintf(stderr, "pz-record: %" PRIu32 " mutexes are not told\n", left_out);
+        fprintf(stderr, "pz-record: mutexes that are missing from the history: %" PRIu32 "\n", left_out);
     if (v->unknown)
-        fprintf(stderr, "pz-record: %" PRIu64 " calls aren't told: their replies have no name\n", v->unknown);
+        fprintf(stderr, "pz-record: calls that are missing because histories don't have their replies: %" PRIu64 "\n",
+                v->unknown);
 }
 
 static void read_all(struct view *v, const char *path)
@@ -144,10 +148,10 @@ static int is_written(void)
 {
     if (!fflush(stdout) && !ferror(stdout))
         return 0;
-    rec_fail("can't write", strerror(errno));
+    rec_fail("standard output", strerror(errno));
 }
 
-int rec_tell_history(const char *path)
+int rec_print_history(const char *path)
 {
     struct view v;
     struct heap h = {0};
@@ -159,11 +163,11 @@ int rec_tell_history(const char *path)
     for (fill(&h, &v, all); h.count; go_on(&h))
         say_line(&v, h.at[0]->life, rec_line(h.at[0]));
     printf("end %" PRIu64 "\n", event);
-    say_what_lacks(&v);
+    say_what_is_missing(&v);
     return is_written();
 }
 
-/* ---- Names: which mutex and which thread a history's numbers mean. */
+/* ---- Which mutexes and threads the history's numbers mean. */
 
 static void say_name(const struct view *v, uint32_t n)
 {
@@ -173,7 +177,7 @@ static void say_name(const struct view *v, uint32_t n)
            it->offset, o->dev, o->ino, o->path);
 }
 
-int rec_tell_names(const char *path)
+int rec_print_names(const char *path)
 {
     struct view v;
     read_all(&v, path);

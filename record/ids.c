@@ -1,4 +1,4 @@
-/* Which number each thread has in a history, of at most 64 at a time, and each mutex and condition variable. */
+/* The numbers of threads (at most 64 at a time), mutexes and condition variables in a history. */
 #include "view.h"
 #include <stdlib.h>
 
@@ -13,7 +13,7 @@ static void note_line(struct view *v, struct view_life *l, const struct line *it
     v->name[it->cond].is_used = 1;
 }
 
-/* All its lines, once: what is known behind the last one. */
+/* Reads all lines of a life, and notes what is known after the last one. */
 static void go_through(struct view *v, uint32_t life)
 {
     struct view_life *l = &v->life[life];
@@ -46,7 +46,7 @@ static struct view_life **in_order(struct view *v, size_t *count)
     return all;
 }
 
-/* The first id that nobody has any more; a new one; or none. */
+/* Gives a life the first id that is free, or a new one. */
 static void give_id(struct view *v, struct view_life *l, struct view_life *last[IDS])
 {
     uint32_t id = 0, most = IDS - (uint32_t)v->has_ghost;
@@ -76,7 +76,7 @@ void rec_give_ids(struct view *v)
     size_t count;
     for (uint32_t i = 0; i < v->lives; i++)
         go_through(v, i);
-    v->unknown = 0; /* counted once more as lines are told */
+    v->unknown = 0; /* counted again when the lines are printed */
     struct view_life **all = in_order(v, &count);
     for (size_t i = 0; i < count; i++)
         give_id(v, all[i], last);

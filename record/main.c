@@ -1,30 +1,46 @@
-/* pz-record: the words of its command line. */
+/* pz-record: the command line. */
 #include "program.h"
+#include "pazdrig.h"
 #include <stdlib.h>
 #include <string.h>
+#include <unistd.h>
 
 static const char usage[] =
     "usage: pz-record [--over LIBRARY] [--last CALLS] [--limit MIB] [--clock tsc|counter] -o FILE PROGRAM [WORD..]\n"
     "       pz-record --history FILE\n"
     "       pz-record --names FILE\n"
-    "The first runs PROGRAM, with LIBRARY preloaded, and records in FILE what it and all that it begins call of "
-    "robust\n"
-    "mutexes: all calls, or the last CALLS of each thread, at most MIB of them. The others print FILE's history, "
-    "which\n"
-    "rfx-judge judges, and what its numbers mean.\n";
+    "       pz-record -h | --help | --version\n";
+static const char help[] =
+    "The first form runs PROGRAM and records in FILE each call that it and its children make on robust, "
+    "process-shared\n"
+    "mutexes. The second prints FILE's history, which rfx-judge judges, and the third what the history's numbers "
+    "mean.\n"
+    "  --over LIBRARY  preloads another implementation of the pthread calls\n"
+    "  --last CALLS    keeps only the last CALLS calls of each thread (2 to 16777216)\n"
+    "  --limit MIB     the most that FILE may take (64 or more; 8192 if it isn't given)\n"
+    "  --clock CLOCK   what orders calls: the processors' time stamp counters, or a counter in FILE\n"
+    "  -o FILE         the recording; an older file of this name is replaced\n"
+    "Example: pz-record -o recording ./program && pz-record --history recording >history && rfx-judge history\n"
+    "The exit status is the program's, 128 and the signal's number if a signal killed it, 127 if it can't be run, or\n"
+    "125 if pz-record itself fails.\n";
 
 enum { MIB = 1 << 20, LEAST_MIB = 64, USUAL_MIB = 8192, MOST_CALLS = 1 << 24 };
 
-_Noreturn void rec_fail(const char *what, const char *why)
+const char *rec_unused_file;
+
+_Noreturn void rec_fail_with(int exit_status, const char *what, const char *why)
 {
     fprintf(stderr, "pz-record: %s: %s\n", what, why);
-    exit(125);
+    if (rec_unused_file)
+        unlink(rec_unused_file);
+    exit(exit_status);
 }
+_Noreturn void rec_fail(const char *what, const char *why) { rec_fail_with(FAILED, what, why); }
 
 static _Noreturn void misused(void)
 {
     fputs(usage, stderr);
-    exit(125);
+    exit(FAILED);
 }
 
 static uint64_t number(const char *word, uint64_t least, uint64_t most)
@@ -76,18 +92,31 @@ static void read_words(struct asked *a, char **word)
         misused();
 }
 
+/* Prints what -h, --help or --version ask for, if the word is one of these, and exits. */
+static void give_help(const char *word)
+{
+    int is_version = !strcmp(word, "--version");
+    if (strcmp(word, "-h") && strcmp(word, "--help") && !is_version)
+        return;
+    fputs(is_version ? "pz-record " PZ_VERSION "\n" : usage, stdout);
+    if (!is_version)
+        fputs(help, stdout);
+    if (fflush(stdout) || ferror(stdout))
+        rec_fail("standard output", "can't write");
+    exit(0);
+}
+
 int main(int argc, char **argv)
 {
     struct asked a = {.clock = NO_CLOCK, .size = (uint64_t)USUAL_MIB * MIB};
-    (void)argc;
-    if (argv[1] && !strcmp(argv[1], "--help"))
-        return fputs(usage, stdout) < 0;
-    read_words(&a, argv + 1);
+    if (argc > 1)
+        give_help(argv[1]);
+    read_words(&a, argv + (argc > 0));
     if (a.history)
-        return rec_tell_history(a.history);
+        return rec_print_history(a.history);
     if (a.names)
-        return rec_tell_names(a.names);
+        return rec_print_names(a.names);
     if (a.clock == BY_TSC && !rec_clocks_agree())
-        rec_fail("--clock tsc", "the processors' clocks don't agree here");
+        rec_fail("--clock tsc", "the processors' time stamp counters don't agree on this machine");
     return rec_run(&a, rec_make_file(&a));
 }

@@ -1,4 +1,4 @@
-/* A new recording. */
+/* Creates a recording. */
 #include "program.h"
 #include <errno.h>
 #include <fcntl.h>
@@ -28,13 +28,16 @@ static void fill(struct recording *r, const struct asked *a)
     h->magic = MAGIC;
 }
 
-/* What stands before the chunks has its room now, as programs write there at any time. An older recording of this name
- * that goes on keeps its file. */
+/* Everything before the chunks gets its disk space now, because programs write there at any time. An older recording of
+ * this name may still be in use, so it is unlinked instead of truncated. */
 struct recording *rec_make_file(const struct asked *a)
 {
     unlink(a->file);
     int fd = open(a->file, O_RDWR | O_CREAT | O_EXCL | O_CLOEXEC, 0666);
-    if (fd < 0 || ftruncate(fd, (off_t)a->size))
+    if (fd < 0)
+        rec_fail(a->file, strerror(errno));
+    rec_unused_file = a->file;
+    if (ftruncate(fd, (off_t)a->size))
         rec_fail(a->file, strerror(errno));
     int r = posix_fallocate(fd, 0, sizeof(struct recording));
     if (r)
@@ -44,7 +47,7 @@ struct recording *rec_make_file(const struct asked *a)
         rec_fail(a->file, strerror(errno));
     close(fd);
     if (madvise(at, sizeof(struct recording), MADV_POPULATE_WRITE))
-        rec_fail(a->file, errno == EINVAL ? "it takes Linux 5.14" : strerror(errno));
+        rec_fail(a->file, errno == EINVAL ? "can't allocate it: needs Linux 5.14 or later" : strerror(errno));
     fill(at, a);
     return at;
 }

@@ -1,21 +1,26 @@
-/* What the rooms of pz-record share: it makes a recording, runs a program, stamps deaths, and tells what was recorded.
- */
+/* What the modules of pz-record share: it creates a recording, runs a program, stamps deaths, and prints histories. */
 #ifndef PROGRAM_H
 #define PROGRAM_H
 #include "recording.h"
 #include <stdio.h>
 
-/* What the words of the command line ask for. */
+/* What the command line asks for. */
 struct asked {
     const char *file, *over, *history, *names;
-    uint32_t last; /* calls kept of each thread; 0: all */
+    uint32_t last; /* how many calls of each thread to keep; 0: all */
     uint64_t size;
-    int clock; /* BY_TSC, BY_COUNTER, or NO_CLOCK: as the machine is */
+    int clock; /* BY_TSC, BY_COUNTER, or NO_CLOCK: whatever the machine has */
     char **program;
 };
 enum { NO_CLOCK = -1 };
 
+/* Exit statuses, as of env(1). */
+enum { FAILED = 125, CANT_RUN = 127 };
+
+/* ---- main.c: the ends of a pz-record that can't continue. */
 _Noreturn void rec_fail(const char *what, const char *why);
+_Noreturn void rec_fail_with(int exit_status, const char *what, const char *why);
+extern const char *rec_unused_file; /* a recording without a program: a failure removes it. NULL: there is none */
 void rec_read_boot(char boot[40]);
 
 /* ---- clock.c */
@@ -24,7 +29,7 @@ int rec_clocks_agree(void);
 /* ---- make.c: a new recording, mapped. */
 struct recording *rec_make_file(const struct asked *a);
 
-/* ---- run.c: 0 to 255, as a shell has a program's end. */
+/* ---- run.c: the exit status, as a shell reports a program's end. */
 int rec_run(const struct asked *a, struct recording *file);
 
 /* ---- threads.c */
@@ -36,7 +41,18 @@ int rec_watch(struct recording *file);
 void rec_take_deaths(void);
 void rec_end_watch(void);
 
-/* ---- history.c, names.c: on standard output. */
-int rec_tell_history(const char *path);
-int rec_tell_names(const char *path);
+/* ---- history.c: on standard output. */
+int rec_print_history(const char *path);
+int rec_print_names(const char *path);
+
+/* Whether a recording has no mutex. */
+static inline int rec_is_empty(struct recording *r)
+{
+    uint32_t n = rows(&r->head.names, NAMES);
+    for (uint32_t i = 0; i < n; i++)
+        if (r->name[i].object && !r->name[i].is_cond)
+            return 0;
+    return 1;
+}
+#define REC_EMPTY "no robust mutex was used, so there is nothing to judge"
 #endif

@@ -1,4 +1,4 @@
-/* Runs the program, recorded, until it and all that it began have ended. */
+/* Runs the program, recorded, until it and everything that it started have ended. */
 #include "program.h"
 #include <errno.h>
 #include <limits.h>
@@ -12,8 +12,8 @@
 #include <unistd.h>
 
 static pid_t child;
-static int status, is_here = 1; /* of the program itself; whether it hasn't ended */
-static struct sigaction chld;   /* as it was before: where it is ignored, nobody is told that a child ended */
+static int status, is_here = 1; /* the program's wait status; whether it hasn't ended */
+static struct sigaction chld;   /* the caller's: if it ignores SIGCHLD, the kernel reports no child's end */
 
 /* Finds the preloaded part: next to this program, in the directory of libraries next to its own, installed or in a
  * source tree, or where ld.so(8) looks. */
@@ -34,7 +34,7 @@ static void recorder(char path[PATH_MAX])
     strcpy(path, "libpz_record.so");
 }
 
-/* In front of what is preloaded anyway. */
+/* The recorder comes before everything else that is preloaded. */
 static void set_environment(const struct asked *a)
 {
     char first[PATH_MAX], file[PATH_MAX], over[PATH_MAX], *all;
@@ -55,17 +55,19 @@ static void begin(const struct asked *a, const sigset_t *before)
     child = fork();
     if (child < 0)
         rec_fail(a->program[0], strerror(errno));
-    if (child)
+    if (child) {
+        rec_unused_file = NULL;
         return;
+    }
     sigaction(SIGCHLD, &chld, NULL);
     sigprocmask(SIG_SETMASK, before, NULL);
     set_environment(a);
     execvp(a->program[0], a->program);
-    fprintf(stderr, "pz-record: %s: %s\n", a->program[0], strerror(errno));
-    _exit(127);
+    rec_fail_with(CANT_RUN, a->program[0], strerror(errno));
 }
 
-/* Those whose parents have ended are ours now. 0: there is nobody left. */
+/* Waits for children that have ended. Orphans are this process's children too, because it is a subreaper. Returns 0 if
+ * no child is left. */
 static int take_children(void)
 {
     pid_t it;
@@ -78,8 +80,8 @@ static int take_children(void)
     return it == 0;
 }
 
-/* What a terminal sends goes to the program too; what is sent to us alone is handed on to it, or ends the watch where
- * it has ended. */
+/* A terminal's signal goes to the program too, so only a signal that was sent to this process is handed on. If the
+ * program has ended, the signal ends the watch. Returns whether the watch continues. */
 static int hand_on(const struct signalfd_siginfo *s)
 {
     int is_sent = s->ssi_code <= 0;
@@ -96,7 +98,7 @@ static int next_signal(int signals)
     return read(signals, &s, sizeof s) != sizeof s || hand_on(&s);
 }
 
-/* Where it may not poll, as by a limit that came later, it waits for signals alone. */
+/* If poll(2) is refused, for example because a limit was lowered later, it waits for signals alone. */
 static void until_all_ended(int deaths, int signals)
 {
     struct pollfd p[] = {{.fd = deaths, .events = POLLIN}, {.fd = signals, .events = POLLIN}};
@@ -107,8 +109,8 @@ static void until_all_ended(int deaths, int signals)
     } while (!has_signal || next_signal(signals));
 }
 
-/* A shell that becomes its last command leaves it the children that it has, which the program hasn't begun: then a
- * child of this process, which has none, goes on in its place. Whether that is so. */
+/* A shell that executes its last command leaves its own children to this process, although the program didn't start
+ * them. Then a child of this process does the work, because it has no children yet. Returns whether that was so. */
 static int is_done_by_a_child(int signals)
 {
     siginfo_t is;
@@ -123,6 +125,15 @@ static int is_done_by_a_child(int signals)
 }
 
 static int end_of_program(void) { return WIFEXITED(status) ? WEXITSTATUS(status) : 128 + WTERMSIG(status); }
+
+static void report(const struct asked *a, struct recording *file)
+{
+    int is_left = access(a->file, F_OK) == 0; /* a program that can't be run leaves no recording */
+    if (atomic_load(&file->head.ended))
+        fprintf(stderr, "pz-record: %s is full: what came later isn't recorded\n", a->file);
+    else if (is_left && rec_is_empty(file))
+        fprintf(stderr, "pz-record: %s: " REC_EMPTY "\n", a->file);
+}
 
 int rec_run(const struct asked *a, struct recording *file)
 {
@@ -142,7 +153,6 @@ int rec_run(const struct asked *a, struct recording *file)
     begin(a, &before);
     until_all_ended(rec_watch(file), signals);
     rec_end_watch();
-    if (atomic_load(&file->head.ended))
-        fprintf(stderr, "pz-record: %s is full: what came later isn't recorded\n", a->file);
+    report(a, file);
     return end_of_program();
 }

@@ -1,4 +1,4 @@
-/* Whether a recorded thread lives. */
+/* Whether a recorded thread lives, by proc(5). */
 #include "program.h"
 #include <errno.h>
 #include <string.h>
@@ -7,8 +7,8 @@
 
 enum { SECOND_NS = 1000000000, STATE = 3, START = 22 /* fields of proc(5)'s stat */ };
 
-/* When the thread with this id began, in nanoseconds since boot, rounded down; UINT64_MAX: none has it, or it ended.
- * One that can't be looked at lives. */
+/* When the thread with this id started, in nanoseconds since boot, rounded down. UINT64_MAX: there is no such thread,
+ * or it has ended. 0: it can't be inspected, so it counts as alive. */
 static uint64_t began(uint32_t thread)
 {
     char path[64], line[1024] = "", *at;
@@ -18,7 +18,7 @@ static uint64_t began(uint32_t thread)
         return errno == ENOENT ? UINT64_MAX : 0;
     line[fread(line, 1, sizeof line - 1, f)] = 0;
     fclose(f);
-    at = strrchr(line, ')'); /* behind the name, which may have anything */
+    at = strrchr(line, ')'); /* after the name, which may contain anything */
     for (int field = STATE - 1; at && field < START; field++) {
         at = strchr(at, ' ');
         at = at ? at + 1 : NULL;
@@ -29,10 +29,10 @@ static uint64_t began(uint32_t thread)
     return at && sscanf(at, "%llu", &ticks) == 1 ? ticks * (SECOND_NS / (uint64_t)sysconf(_SC_CLK_TCK)) : UINT64_MAX;
 }
 
-/* Its id may be another's by now, which began behind it. */
+/* Another thread may have the id by now. It started later. */
 int rec_lives(const struct life *l) { return began(l->thread) <= l->since; }
 
-/* Whether ids of the process mean here what they mean there. */
+/* Whether this process has the same PID namespace. */
 int rec_is_in_sight(const struct process *p)
 {
     struct stat st;

@@ -1,4 +1,4 @@
-/* Opens a recording, which may go on meanwhile: what is there now is told. */
+/* Opens a recording, as it is now: the program may still be running. */
 #include "view.h"
 #include <errno.h>
 #include <fcntl.h>
@@ -26,7 +26,7 @@ static const struct recording *map(const char *path)
         r = mmap(NULL, (size_t)st.st_size, PROT_READ, MAP_SHARED, fd, 0);
     close(fd);
     if (r == MAP_FAILED || r->head.magic != MAGIC || r->head.size != (uint64_t)st.st_size)
-        rec_fail(path, "it is no recording");
+        rec_fail(path, "not a recording of pz-record");
     return r;
 }
 
@@ -35,7 +35,7 @@ static const struct chunk *chunk_at(const struct view *v, uint64_t at)
     return at ? (const void *)((const char *)v->file + at) : NULL;
 }
 
-/* ---- Rings are copied, since they are written again: what is overwritten just now is the oldest. */
+/* ---- Rings are copied, since their records are overwritten, the oldest first. */
 
 static uint64_t begin_of(const struct record *r) { return atomic_load_explicit(&r->begin, memory_order_acquire); }
 
@@ -54,7 +54,7 @@ static int by_begin(const void *a, const void *b)
     return x < y ? -1 : x > y;
 }
 
-/* From its first call that is kept on nothing is missing of this thread. */
+/* Reads a ring. Nothing of this thread is missing since the first call that is still there. */
 static void read_ring(struct view *v, struct view_life *l, const struct chunk *c)
 {
     struct record *copy = rec_room(c->records, sizeof *copy);
@@ -109,11 +109,11 @@ static void read_life(struct view *v, uint32_t row, int is_here)
     to->gone = sooner(atomic_load(&l->gone), atomic_load(&p->gone));
 }
 
-/* What is stamped later than this isn't told: it may be missing. */
+/* The stamp after which calls may be missing. */
 static uint64_t end_of(const struct head *h, int is_here)
 {
     struct head clock = {.clock = h->clock};
-    uint64_t now = !is_here ? UINT64_MAX : h->clock == BY_COUNTER ? atomic_load(&h->count) : stamp_behind(&clock);
+    uint64_t now = !is_here ? UINT64_MAX : h->clock == BY_COUNTER ? atomic_load(&h->count) : stamp_after(&clock);
     uint64_t ended = atomic_load(&h->ended);
     return ended && ended < now ? ended - 1 : now;
 }
@@ -130,11 +130,11 @@ void rec_open_view(struct view *v, const char *path)
     v->life = rec_room(v->lives, sizeof *v->life);
     for (uint32_t i = 0; i < v->lives; i++)
         read_life(v, i, is_here);
-    v->names = rows(&r->head.names, NAMES); /* all that those calls name have come before them */
+    v->names = rows(&r->head.names, NAMES); /* read after the calls, so that all their names are there */
     v->name = rec_room(v->names + 1, sizeof *v->name);
 }
 
-/* 0: that was its last. */
+/* Returns 0 if the life has no more calls. */
 int rec_next_call(struct reader *r, struct seen *c)
 {
     const struct view_life *l = r->life;

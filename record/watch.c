@@ -1,5 +1,5 @@
-/* Who stamps the deaths that no recorded process sees: a pidfd of each thread, or of its process before Linux 6.9, says
- * when it has ended; the kernel's walk is over then. */
+/* Stamps the deaths that no recorded process sees. A pidfd of each thread, or of its process before Linux 6.9, becomes
+ * ready when it has ended, after the kernel's walk over the robust list. */
 #include "program.h"
 #include <errno.h>
 #include <fcntl.h>
@@ -18,7 +18,7 @@
 
 static struct recording *file;
 static int deaths, fd_of[LIVES];
-static char is_known[LIVES]; /* it is watched, or dead, or can't be watched */
+static char is_known[LIVES]; /* the thread is watched, or dead, or can't be watched */
 static pthread_t looker;
 static _Atomic int is_over;
 
@@ -28,7 +28,7 @@ static int open_pidfd(const struct life *l)
     return fd < 0 && errno == EINVAL ? (int)syscall(SYS_pidfd_open, file->process[l->process].pid, 0) : fd;
 }
 
-/* What isn't watched any more, or can't be, is dead where no thread has its id. */
+/* Watches a thread. One that ended before, or can't be watched, is dead if no thread has its id. */
 static void watch(uint32_t row)
 {
     struct life *l = &file->life[row];
@@ -45,7 +45,7 @@ static void watch(uint32_t row)
     }
 }
 
-/* Rows from the first on that isn't known yet: somebody may be filling one, or was killed as he did. */
+/* Watches all new lives. A row that isn't shown is being filled, or its thread was killed before it was. */
 static void look(void)
 {
     static uint32_t first;
@@ -57,7 +57,7 @@ static void look(void)
         first++;
 }
 
-/* That it is over is news too: who has seen none since doesn't sleep past it. */
+/* The end counts as news too, so this thread never sleeps through it. */
 static void *look_for_news(void *unused)
 {
     for (;;) {
@@ -72,7 +72,7 @@ static void *look_for_news(void *unused)
 
 /* ---- What run.c calls. */
 
-/* Descriptors that are ready once somebody watched has died. */
+/* Returns a descriptor that is ready once a watched thread has died. */
 int rec_watch(struct recording *r)
 {
     struct rlimit most;
@@ -99,7 +99,7 @@ void rec_take_deaths(void)
         }
 }
 
-/* Those that couldn't be watched, for want of descriptors. */
+/* Threads that couldn't be watched, because there were no descriptors left. */
 static void look_once_more(void)
 {
     uint32_t n = rows(&file->head.lives, LIVES);
@@ -109,7 +109,7 @@ static void look_once_more(void)
             stamp_gone(&file->head, &l->gone);
 }
 
-/* All that came, and all deaths, until now. */
+/* Stamps everything until now. */
 void rec_end_watch(void)
 {
     atomic_store(&is_over, 1);

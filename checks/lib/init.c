@@ -1,5 +1,5 @@
 /* The first process of a booted kernel: mounts what programs need, runs the lines of /lines one after the other, and
- * prints how each ended. */
+ * prints how each ended. A line may begin with assignments, as in a shell. */
 #define _GNU_SOURCE
 #include <stdio.h>
 #include <stdlib.h>
@@ -24,8 +24,11 @@ static void run(char *line)
         return;
     pid_t child = fork();
     if (!child) {
-        execv(words[0], words);
-        perror(words[0]);
+        char **program = words;
+        while (*program && strchr(*program, '='))
+            putenv(*program++);
+        execv(*program, program);
+        perror(*program);
         _exit(127);
     }
     while (waitpid(-1, &status, 0) != child)

@@ -17,8 +17,10 @@ static __attribute__((cold)) int lock_again(struct mutex *m, const struct deadli
         return EBUSY;
     if (!is_time(d->at))
         return EINVAL;
-    while (syscall(SYS_clock_nanosleep, d->clock, TIMER_ABSTIME, since_1970(d->at), NULL) > 0)
+    int saved = errno;
+    while (syscall(SYS_clock_nanosleep, d->clock, TIMER_ABSTIME, since_1970(d->at), NULL) < 0 && errno == EINTR)
         ;
+    errno = saved;
     return ETIMEDOUT;
 }
 
@@ -78,7 +80,8 @@ static __attribute__((cold)) void make_unusable(struct mutex *m, struct caller *
         wake(&m->cell, INT_MAX);
 }
 
-static inline __attribute__((always_inline)) int unlock(struct mutex *m)
+/* Not inlined, so that the unlock of a private mutex saves no registers. */
+__attribute__((noinline)) int pre_unlock(struct mutex *m)
 {
     struct caller *s = here();
     uint64_t v = load_acquire(&m->cell);
@@ -103,12 +106,10 @@ static inline __attribute__((always_inline)) int unlock(struct mutex *m)
     return 0;
 }
 
-int pre_unlock(struct mutex *m) { return unlock(m); }
-
 SHOWN int pthread_mutex_unlock(pthread_mutex_t *mutex)
 {
     struct mutex *m = ours(mutex);
-    return m ? unlock(m) : pre_real.pthread_mutex_unlock(mutex);
+    return m ? pre_unlock(m) : pre_real.pthread_mutex_unlock(mutex);
 }
 
 SHOWN int pthread_mutex_consistent(pthread_mutex_t *mutex)

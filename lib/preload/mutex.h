@@ -37,7 +37,7 @@ static inline struct mutex *ours(pthread_mutex_t *mutex)
 {
     struct mutex *m = (struct mutex *)mutex;
     uint32_t kind = atomic_load_explicit(&m->kind, memory_order_acquire);
-    return UNLIKELY((kind & KIND_MASK) == MARK) ? m : NULL;
+    return UNLIKELY(is_marked(kind)) ? m : NULL;
 }
 static inline int is_plain(struct mutex *m)
 {

@@ -62,7 +62,7 @@ __attribute__((cold)) int pre_refuse(struct mutex *m, struct caller *s)
                    " that initialised the mutex; set PAZDRIG_PLAIN=1 for that process\n");
         return ENOTSUP;
     }
-    return s->owned >= PZ_MOST_OWNED ? EAGAIN : 0;
+    return s->owned >= PZ_MOST_OWNED && !is_owner(m, s) ? EAGAIN : 0;
 }
 
 /* A filter that came later refused futex_waitv(2). Returns what a lock returns. */

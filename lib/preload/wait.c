@@ -109,9 +109,9 @@ static int sleep_on_both(struct mutex *m, uint32_t b, uint64_t v, const struct d
  */
 static int end_of(int error, struct mutex *m, struct caller *s)
 {
-    if (error == ENOSYS || error == EPERM)
-        return pre_lose_two_word_sleep(m, s);
-    return error == ETIMEDOUT ? error : 0;
+    if (error == 0 || error == EAGAIN || error == EINTR)
+        return 0;
+    return error == ETIMEDOUT ? error : pre_lose_two_word_sleep(m, s);
 }
 
 static void take_comes_away(struct mutex *m)

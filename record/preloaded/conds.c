@@ -1,8 +1,8 @@
-/* The functions on condition variables: a wait is recorded where its mutex is, another call where processes share the
+/* The calls on condition variables. A wait is recorded if its mutex is, and another call if processes share the
  * variable. */
 #include "recorder.h"
 
-static struct record *begin(enum call call, pthread_cond_t *c)
+static struct record *begin(enum call_kind call, pthread_cond_t *c)
 {
     struct name *place = rec_is_on() ? rec_place(c, A_COND) : NULL;
     return place ? rec_begin(call, 0, rec_number(place), 0) : NULL;
@@ -48,14 +48,16 @@ static int by_clock(const struct wait *w)
     return rec_real()->pthread_cond_clockwait(w->cond, w->mutex, w->clock, w->until);
 }
 
-static struct record *begin_wait(const struct wait *w)
+/* Not inlined: locals of a function with a cancellation handler might be clobbered. */
+static __attribute__((noinline)) struct record *begin_wait(const struct wait *w)
 {
-    struct name *m = rec_is_on() && rec_is_robust(w->mutex) ? rec_place(w->mutex, A_MUTEX) : NULL;
+    struct name *m = rec_mutex(w->mutex);
     struct name *c = m ? rec_place(w->cond, A_COND) : NULL;
     return m ? rec_begin(WAIT, rec_number(m), c ? rec_number(c) : 0, 0) : NULL;
 }
 
-/* Its thread owns the mutex again, if that isn't unusable, and runs its handlers: their calls are the program's. */
+/* The thread's cancellation ends its wait. It owns the mutex again unless that is unusable, and runs its handlers,
+ * whose calls are recorded. */
 static void cancelled(void *r) { rec_end(r, CANCELLED); }
 
 static int wait_on(const struct wait *w)

@@ -1,10 +1,10 @@
-/* Deaths, as far as a recorded process sees them: at the return of wait4(2) and its like, and of pthread_join, the
- * kernel's walk over the dead thread's robust list is over. pz-record stamps the others. */
+/* Stamps the deaths that a recorded process sees. When wait4(2) or a similar call returns, or pthread_join, the
+ * kernel's walk over the dead thread's robust list has ended. pz-record stamps the other deaths. */
 #include "recorder.h"
 #include <errno.h>
 #include <unistd.h>
 
-/* ---- Processes. An id belongs to nobody else before its process was waited for. */
+/* ---- Processes. No other process gets the id before this one was waited for. */
 
 static void is_gone(pid_t pid)
 {
@@ -38,7 +38,7 @@ SHOWN int waitid(idtype_t type, id_t id, siginfo_t *info, int options)
     return r;
 }
 
-/* ---- Threads. A new one may have the pthread_t of one that was joined, but it hasn't ended yet. */
+/* ---- Threads. A new thread may have the pthread_t of the joined one, but hasn't ended yet. */
 
 static int joined(int r, pthread_t thread)
 {

@@ -1,5 +1,5 @@
-/* This process and this thread in the recording, and where the thread's next call goes. What can't be recorded any more
- * ends the recording, for all, before the call that would be missing; the program goes on. */
+/* This process and this thread in the recording, and the place for the thread's next call. If a call can't be recorded,
+ * the recording ends before it, for all threads, and the program continues. */
 #include "recorder.h"
 #include <errno.h>
 #include <fcntl.h>
@@ -15,7 +15,7 @@ enum { FIRST_CHUNK = PAGE, CHUNK = 16 * PAGE };
 struct recording *rec_file;
 __thread struct mine rec_mine;
 
-/* A page that is zeros again in a forked child, however it was forked: then the child and its thread are new ones. */
+/* A page that the kernel wipes in a forked child, which so learns that it and its thread are new. */
 static struct {
     _Atomic uint32_t process; /* a number, from 1 */
 } * own;
@@ -42,7 +42,8 @@ static void fill_process(struct process *p)
     atomic_store(&p->is_shown, 1);
 }
 
-/* This process's number; 0: there is no room. (Of two threads that come first one leaves a row that nobody has.) */
+/* Returns this process's number, or 0 if there is no space. If two threads are first, one of their rows stays unused.
+ */
 static RARE uint32_t number_of_process(void)
 {
     uint32_t is = atomic_load(&own->process), row;
@@ -55,7 +56,8 @@ static RARE uint32_t number_of_process(void)
     return atomic_compare_exchange_strong(&own->process, &is, row + 1) ? row + 1 : is;
 }
 
-/* It was waited for; or an image of it by exec, which ends all threads that were there, and walks their lists. */
+/* Stamps the end of a process that was waited for, or that executed another program: exec ends all its threads and
+ * walks their lists. */
 RARE void rec_process_is_gone(uint32_t pid)
 {
     uint32_t n = rows(&rec_file->head.processes, PROCESSES);
@@ -71,7 +73,7 @@ static uint64_t since_boot(void)
     return (uint64_t)t.tv_sec * 1000000000 + (uint64_t)t.tv_nsec;
 }
 
-/* The watcher waits for it. */
+/* Wakes pz-record's watcher. */
 static void tell_news(struct head *h)
 {
     atomic_fetch_add(&h->news, 1);
@@ -96,7 +98,7 @@ static RARE int begin_life(struct mine *me)
     return 1;
 }
 
-/* The thread's last destructors may still call. */
+/* A destructor of thread-specific data. Later destructors may still make calls. */
 static void ends(void *mine)
 {
     const struct mine *me = mine;
@@ -106,7 +108,7 @@ static void ends(void *mine)
 
 /* ---- Chunks. */
 
-/* So many bytes, with room on the disk: a store there is no SIGBUS. */
+/* Returns a chunk with disk space, so that a store there is no SIGBUS. */
 static struct chunk *room_of(uint64_t size)
 {
     struct head *h = &rec_file->head;
@@ -157,8 +159,9 @@ static RARE int prepare(struct mine *me)
     return r;
 }
 
-/* A call begins; NULL: it isn't recorded. Whatever a place had before, it is no record while its begin is 0. */
-struct record *rec_begin(enum call call, uint32_t mutex, uint32_t cond, int flags)
+/* Begins a call's record, or returns NULL if it can't be recorded. Whatever was in its place, it is no record while its
+ * begin is 0. */
+struct record *rec_begin(enum call_kind call, uint32_t mutex, uint32_t cond, int flags)
 {
     struct mine *me = &rec_mine;
     struct head *h = &rec_file->head;
@@ -182,7 +185,7 @@ struct record *rec_begin(enum call call, uint32_t mutex, uint32_t cond, int flag
 
 /* ---- The beginning. */
 
-/* What this process calls would be missing: so the recording ends. */
+/* Ends the recording, because this process's calls would be missing. */
 static void end_it(int fd)
 {
     void *at = mmap(NULL, PAGE, PROT_READ | PROT_WRITE, MAP_SHARED, fd, 0);

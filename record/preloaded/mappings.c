@@ -1,4 +1,4 @@
-/* What changes which object an address is of: what threads have looked up is forgotten. */
+/* The calls that change what is mapped at an address. After them, what threads have looked up isn't valid. */
 #include "recorder.h"
 #include <stdarg.h>
 #include <sys/mman.h>
@@ -10,7 +10,7 @@ SHOWN int munmap(void *at, size_t size)
     return rec_real()->munmap(at, size);
 }
 
-/* Private memory comes and goes within the C library too: what becomes shared is told. */
+/* The C library maps private memory by itself, which isn't seen here and does no harm. */
 SHOWN void *mmap(void *at, size_t size, int protection, int flags, int fd, off_t offset)
 {
     int matters = (flags & MAP_TYPE) != MAP_PRIVATE || flags & MAP_FIXED;

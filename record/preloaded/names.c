@@ -1,12 +1,12 @@
-/* Which mutex or condition variable it is, for all processes: the object that it lies in, and its offset there. What
- * lies in memory of this process alone has no name. */
+/* The names of mutexes and condition variables, in all processes: the object in whose memory they are, and the offset
+ * there. In private memory they have no name. */
 #include "region.h"
 #include "recorder.h"
 #include <errno.h>
 #include <stdio.h>
 #include <sys/sysmacros.h>
 
-/* What a thread has looked up, good until something is unmapped. */
+/* What a thread has looked up. It is valid until something is unmapped. */
 enum { CACHED_BITS = 7, REGIONS = 8 };
 struct cached {
     uintptr_t key;
@@ -16,7 +16,7 @@ struct cached {
 struct known {
     uintptr_t begin, end;
     uint64_t offset;
-    uint32_t object; /* a number; 0: nobody shares it */
+    uint32_t object; /* a number; 0: it is private */
     uint32_t mappings;
 };
 static __thread struct {
@@ -26,7 +26,7 @@ static __thread struct {
 } mine __attribute__((tls_model("initial-exec")));
 static _Atomic uint32_t mappings = 1;
 
-/* Before it: who looks up meanwhile what is unmapped doesn't use it. */
+/* Comes before the change, so that a concurrent look-up of the old mapping isn't used. */
 void rec_forget_mappings(void) { atomic_fetch_add(&mappings, 1); }
 
 static uint64_t mixed(uint64_t a, uint64_t b)
@@ -35,7 +35,7 @@ static uint64_t mixed(uint64_t a, uint64_t b)
     return (h ^ h >> 32) * 0xd6e8feb86659fd93 >> 20;
 }
 
-/* ---- Objects. A row is filled before its slot has it: killed between, somebody leaves a row that nobody finds. */
+/* ---- Objects. A row is filled before a slot names it. A thread that is killed between leaves an unused row. */
 
 static uint32_t new_object(const struct region *r, uint64_t dev)
 {
@@ -49,7 +49,7 @@ static uint32_t new_object(const struct region *r, uint64_t dev)
     return row + 1;
 }
 
-/* A number; 0: there is no room. */
+/* Returns the object's number, or 0 if there is no space for it. */
 static uint32_t object_of(const struct region *r)
 {
     uint64_t dev = makedev(r->dev_major, r->dev_minor);
@@ -82,13 +82,14 @@ static uint32_t new_name(uint32_t object, uint64_t offset, enum what what)
     return row + 1;
 }
 
-static struct name *place_of(uint32_t object, uint64_t offset, enum what what)
+/* Returns the place's first row, which it adds if is_new_too. */
+static struct name *place_of(uint32_t object, uint64_t offset, enum what what, int is_new_too)
 {
     uint32_t fresh = 0;
     for (uint64_t i = mixed(object, offset * 2 + what);; i++) {
         _Atomic uint32_t *slot = &rec_file->name_slot[i % NAME_SLOTS];
         uint32_t is = atomic_load(slot);
-        if (!is && !fresh && !(fresh = new_name(object, offset, what)))
+        if (!is && !fresh && (!is_new_too || !(fresh = new_name(object, offset, what))))
             return NULL;
         if (!is && atomic_compare_exchange_strong(slot, &is, fresh))
             is = fresh;
@@ -98,12 +99,15 @@ static struct name *place_of(uint32_t object, uint64_t offset, enum what what)
     }
 }
 
-/* Another one from here on, by an init: its number. 0: there is no room. */
-uint32_t rec_make(struct name *place)
+/* Gives a place a new number, because it is initialised: or reinitialised, and then `before` is the old one. Returns 0
+ * if there is no space. */
+uint32_t rec_make(struct name *place, uint32_t before)
 {
     uint32_t number = new_name(place->object, place->offset, place->is_cond ? A_COND : A_MUTEX);
-    if (number)
-        atomic_store(&place->last, number);
+    if (!number)
+        return 0;
+    atomic_store(&rec_file->name[number - 1].before, before);
+    atomic_store(&place->last, number);
     return number;
 }
 
@@ -115,7 +119,7 @@ static RARE struct known *look_up(uintptr_t at, uint32_t now)
     struct known *k = &mine.region[mine.next++ % REGIONS];
     *k = (struct known){0};
     int why = rec_region_of((void *)at, &r);
-    if (why) { /* nothing is there; or it can't look */
+    if (why) { /* nothing is mapped there, or it can't be found out */
         if (why != ENOENT)
             rec_stop();
         return NULL;
@@ -135,28 +139,32 @@ static const struct known *region_at(uintptr_t at, uint32_t now)
     return look_up(at, now);
 }
 
-/* What is opened meanwhile may be cancelled, and these functions aren't. */
-static RARE struct name *find_place(uintptr_t at, enum what what, struct cached *c)
+/* The calls that are recorded are no cancellation points, but what is called here is. */
+static RARE struct name *find_place(uintptr_t at, enum what what, struct cached *c, int is_new_too)
 {
     int saved = errno, state;
     pthread_setcancelstate(PTHREAD_CANCEL_DISABLE, &state);
     uint32_t now = atomic_load(&mappings);
     rec_mine.is_inside = 1;
     const struct known *k = region_at(at, now);
-    struct name *place = k && k->object ? place_of(k->object, k->offset + (at - k->begin), what) : NULL;
+    struct name *place = k && k->object ? place_of(k->object, k->offset + (at - k->begin), what, is_new_too) : NULL;
     rec_mine.is_inside = 0;
-    *c = (struct cached){at + what, now, place};
+    if (place || is_new_too || (k && !k->object)) /* another process may add a shared one */
+        *c = (struct cached){at + what, now, place};
     pthread_setcancelstate(state, NULL);
     errno = saved;
     return place;
 }
 
-/* The place's first row; NULL: it has none. (Mutexes and condition variables lie at even addresses.) */
-struct name *rec_place(const void *at, enum what what)
+static inline struct name *place_at(const void *at, enum what what, int is_new_too)
 {
     uintptr_t key = (uintptr_t)at + what;
     struct cached *c = &mine.cached[(uint32_t)(key >> 3) * 0x9e3779b1u >> (32 - CACHED_BITS)];
     if (__builtin_expect(c->key == key && c->mappings == atomic_load_explicit(&mappings, memory_order_acquire), 1))
         return c->place;
-    return find_place((uintptr_t)at, what, c);
+    return find_place((uintptr_t)at, what, c, is_new_too);
 }
+
+/* Return the place's first row. NULL: it has none. (The addresses are even, so a key has space for `what`.) */
+struct name *rec_place(const void *at, enum what what) { return place_at(at, what, 1); }
+struct name *rec_find(const void *at, enum what what) { return place_at(at, what, 0); }

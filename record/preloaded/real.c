@@ -2,6 +2,8 @@
  * it, and libpazdrig's. */
 #include "recorder.h"
 #include <dlfcn.h>
+#include <stdio.h>
+#include <stdlib.h>
 
 _Atomic(const struct real *) rec_found;
 static struct real found;
@@ -16,5 +18,22 @@ RARE const struct real *rec_resolve(void)
     PZ_LIBRARY_FUNCTIONS(FIND)
 #undef FIND
     atomic_store_explicit(&rec_found, &found, memory_order_release);
+    return &found;
+}
+
+/* A library that was loaded later, by dlopen(3), isn't after this one: it is found by its name. */
+RARE const struct real *rec_resolve_library(void)
+{
+    char name[64];
+    snprintf(name, sizeof name, "libpazdrig.so.%d", atoi(PZ_VERSION));
+    void *library = dlopen(name, RTLD_NOW | RTLD_NOLOAD);
+    if (!library) {
+        fprintf(stderr, "libpz_record.so: %s isn't loaded, but a program calls it\n", name);
+        abort();
+    }
+#define FIND(result, name, parameters, arguments) *(void **)&found.name = dlsym(library, #name);
+    PZ_LIBRARY_FUNCTIONS(FIND)
+#undef FIND
+    dlclose(library);
     return &found;
 }

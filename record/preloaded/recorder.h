@@ -1,4 +1,5 @@
-/* What the modules of libpz_record.so share. */
+/* What the modules of libpz_record.so share. It is loaded in front of the library whose calls it records, and maps the
+ * recording. */
 #ifndef RECORDER_H
 #define RECORDER_H
 #include "pazdrig.h"
@@ -43,6 +44,13 @@ static inline const struct real *rec_real(void)
     const struct real *it = atomic_load_explicit(&rec_found, memory_order_acquire);
     return __builtin_expect(it != NULL, 1) ? it : rec_resolve();
 }
+/* The same, with libpazdrig's functions. */
+const struct real *rec_resolve_library(void);
+static inline const struct real *rec_library(void)
+{
+    const struct real *it = rec_real();
+    return __builtin_expect(it->pz_mutex_lock != NULL, 1) ? it : rec_resolve_library();
+}
 
 /* ---- lives.c: this process, this thread, and where its next call goes. */
 extern struct recording *rec_file; /* NULL: nothing is recorded */
@@ -50,30 +58,31 @@ extern __thread struct mine {
     struct record *next, *end;
     struct chunk *chunk;
     uint32_t life, process;
-    int is_inside; /* a call of the library beneath: what that calls isn't the program's */
+    int is_inside; /* in a call of the library beneath, whose own calls aren't recorded */
 } rec_mine __attribute__((tls_model("initial-exec")));
-struct record *rec_begin(enum call call, uint32_t mutex, uint32_t cond, int flags);
+struct record *rec_begin(enum call_kind call, uint32_t mutex, uint32_t cond, int flags);
 void rec_stop(void);
 void rec_process_is_gone(uint32_t pid);
 
 static inline int rec_is_on(void) { return rec_file && !rec_mine.is_inside; }
 
-/* A call's end; NULL: it isn't recorded. */
+/* Ends a call, which isn't recorded if r is NULL. Returns the reply. */
 static inline int rec_end(struct record *r, int reply)
 {
     if (!r)
         return reply;
     r->reply = reply;
     atomic_signal_fence(memory_order_seq_cst);
-    atomic_store_explicit(&r->end, stamp_behind(&rec_file->head), memory_order_release);
+    atomic_store_explicit(&r->end, stamp_after(&rec_file->head), memory_order_release);
     rec_mine.is_inside = 0;
     return reply;
 }
 
-/* ---- names.c: which mutex or condition variable it is, for all processes. */
+/* ---- names.c: what mutexes and condition variables are called, in all processes. */
 enum what { A_MUTEX, A_COND };
 struct name *rec_place(const void *at, enum what what);
-uint32_t rec_make(struct name *place);
+struct name *rec_find(const void *at, enum what what);
+uint32_t rec_make(struct name *place, uint32_t before);
 void rec_forget_mappings(void);
 
 static inline uint32_t rec_number(struct name *place)
@@ -82,6 +91,6 @@ static inline uint32_t rec_number(struct name *place)
     return last ? last : (uint32_t)(place - rec_file->name) + 1;
 }
 
-/* ---- calls.c */
-int rec_is_robust(pthread_mutex_t *m);
+/* ---- calls.c: the place of a mutex whose calls are recorded, or NULL. */
+struct name *rec_mutex(pthread_mutex_t *m);
 #endif

@@ -21,7 +21,7 @@ static const char *const names[] = {"asleep in a lock", "awake in a lock", "asle
 
 _Noreturn static void be_victim(enum how how)
 {
-    struct sigaction a = {.sa_handler = handle};
+    struct sigaction a = {.sa_handler = handle, .sa_flags = SA_RESTART};
     sigaction(SIGUSR1, &a, NULL);
     if (how == ASLEEP_IN_WAIT)
         pz_mutex_lock(&all->mutex);

@@ -81,6 +81,30 @@ static void signals(void)
         EQUAL(reply_of(i), 0);
 }
 
+/* The owner dies after the deadline of a waiter, which gets EOWNERDEAD. Again with more time, if the owner came too
+ * late. */
+static void death_after_the_deadline(void)
+{
+    int came_late = 1;
+    for (long us = 100000; came_late; us *= 4) {
+        struct timespec soon = after_us(CLOCK_REALTIME, us), now;
+        a_waiter(0, &soon);
+        pid_t p = start_child();
+        if (!p) {
+            pthread_mutex_lock(&s->m);
+            clock_gettime(CLOCK_REALTIME, &now);
+            if (now.tv_sec > soon.tv_sec || (now.tv_sec == soon.tv_sec && now.tv_nsec > soon.tv_nsec))
+                _exit(pthread_mutex_unlock(&s->m) ? 1 : 3);
+            nap(2 * us);
+            kill(getpid(), SIGKILL);
+        }
+        came_late = status_of(p) == 3;
+        int reply = reply_of(0);
+        if (!came_late)
+            EQUAL(reply, EOWNERDEAD);
+    }
+}
+
 static void deaths(void)
 {
     start_over(PTHREAD_MUTEX_NORMAL);
@@ -94,16 +118,7 @@ static void deaths(void)
         EQUAL(pthread_cond_signal(&s->c), 0);
         EQUAL(reply_of(0), 0);
     }
-    struct timespec soon = after_us(CLOCK_REALTIME, 100000);
-    a_waiter(0, &soon);
-    pid_t p = start_child();
-    if (!p) {
-        pthread_mutex_lock(&s->m);
-        nap(200000); /* past the deadline; still, the death comes first */
-        kill(getpid(), SIGKILL);
-    }
-    status_of(p);
-    EQUAL(reply_of(0), EOWNERDEAD);
+    death_after_the_deadline();
 }
 
 static void deadlines(void)

@@ -1,4 +1,4 @@
-/* Faults that the C library has, a mutex each. usage: faults NAME FILE [HISTORY] */
+/* The C library's faults. usage: faults NAME FILE [HISTORY] */
 #include "shared.h"
 #include <sys/syscall.h>
 #include <time.h>
@@ -6,7 +6,7 @@
 enum { MOST = 2049 };
 static pthread_mutex_t *m;
 static pthread_cond_t *c;
-static const char *told;
+static const char *history;
 
 static void second_trylock(void)
 {
@@ -15,7 +15,7 @@ static void second_trylock(void)
     pthread_mutex_trylock(m);
 }
 
-/* The trylock that is told leaves it taken, so another one's limit comes as if somebody owned it. */
+/* The trylock that returns ENOTRECOVERABLE leaves the mutex locked, so another thread's deadline passes. */
 static void timedlock_of_an_unusable(void)
 {
     make_unusable(m);
@@ -36,7 +36,7 @@ static void consistent_by_another(void)
     until_dead(it);
 }
 
-/* Each call's end is recorded: what the kernel leaves isn't needed. */
+/* The kernel doesn't walk over all of these: each call's end is in the recording anyway. */
 static void many_held(void)
 {
     for (int i = 1; i < MOST; i++)
@@ -51,7 +51,7 @@ static void many_held(void)
     pthread_mutex_trylock(m);
 }
 
-/* It makes the mutex unusable as it sleeps. */
+/* The wait makes the mutex unusable. */
 static void wait_of_an_inconsistent(void)
 {
     owner_dies(m);
@@ -59,7 +59,7 @@ static void wait_of_an_inconsistent(void)
     if (!it) {
         pthread_mutex_lock(m);
         pthread_cond_wait(c, m);
-        pthread_mutex_lock(m); /* its wait was refused */
+        pthread_mutex_lock(m); /* if its wait was refused */
         die();
     }
     until_in_call(it, SYS_futex);
@@ -67,7 +67,7 @@ static void wait_of_an_inconsistent(void)
     until_killed(it);
 }
 
-/* One is told, the others sleep on. */
+/* One sleeper gets ENOTRECOVERABLE, and the others sleep on. */
 static void sleepers(void)
 {
     char command[4096];
@@ -82,13 +82,13 @@ static void sleepers(void)
     }
     pthread_mutex_unlock(m);
     CHECK(waitpid(it[0], NULL, 0) == it[0]);
-    snprintf(command, sizeof command, "./pz-record --history \"$PZ_RECORDING\" >%s", told);
+    snprintf(command, sizeof command, "bin/pz-record --history \"$PZ_RECORDING\" >%s", history);
     CHECK(system(command) == 0);
     until_killed(it[1]);
     until_killed(it[2]);
 }
 
-/* One is killed before each instruction of its lock, until somebody is told that an owner died: there was none. */
+/* A thread is killed before each instruction of its lock of an unusable mutex, until another one gets EOWNERDEAD. */
 static void lock_again(void) { pthread_mutex_lock(m); }
 
 static void usable_again(void)
@@ -119,7 +119,7 @@ static const struct {
 int main(int argc, char **argv)
 {
     CHECK(argc > 2);
-    told = argv[3];
+    history = argv[3];
     char *at = mapped(argv[2], MOST * sizeof *m + 4096, NULL);
     c = (void *)at;
     m = (void *)(at + 256);

@@ -1,4 +1,4 @@
-/* Two processes that lock and unlock so often that a small recording is full long before. usage: fill FILE PAIRS */
+/* Two processes that lock and unlock until long after a small recording is full. usage: fill FILE PAIRS */
 #include "shared.h"
 
 int main(int argc, char **argv)

@@ -1,15 +1,15 @@
-/* What a try has the recorder do at a moment: that is built with `-include record/tries/hooks.h`, and calls these of
- * the program over it, where it has them. */
-#ifndef PZ_RECORD_HOOKS_H
-#define PZ_RECORD_HOOKS_H
-#define PZ_AT(moment)  (try_##moment ? try_##moment() : (void)0)
-#define MOMENT(moment) void try_##moment(void) __attribute__((weak))
-MOMENT(filled_process); /* a row is filled, and not yet shown */
+/* What a test has the recorder do at a moment. A recorder that is built with `-include tests/record/hooks.h` calls the
+ * program's functions of these names, if it has them. */
+#ifndef HOOKS_H
+#define HOOKS_H
+#define PZ_AT(moment)  (at_##moment ? at_##moment() : (void)0)
+#define MOMENT(moment) void at_##moment(void) __attribute__((weak))
+MOMENT(filled_process); /* a row is filled, and isn't shown yet */
 MOMENT(filled_life);
 MOMENT(filled_name);
-MOMENT(filled_chunk);  /* its life hasn't it yet */
-MOMENT(filled_record); /* but for its begin */
-MOMENT(numbered);      /* a mutex that is made has its new number */
-MOMENT(called);        /* the call is made, and its end isn't stamped */
-MOMENT(looking);       /* the watcher has seen the last news, or whether it is over, and not yet the other */
+MOMENT(filled_chunk);  /* the life doesn't have it yet */
+MOMENT(filled_record); /* except for its begin */
+MOMENT(numbered);      /* a mutex that is initialised has its new number */
+MOMENT(called);        /* the call was made, and its end isn't stamped */
+MOMENT(looking);       /* the watcher has seen one of the last news and the end, and not yet the other */
 #endif

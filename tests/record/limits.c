@@ -1,10 +1,9 @@
-/* Locks with a time limit: that get the mutex, or find it owned, by their own thread, by one that ends, or by one that
- * has ended and another is cleaning up after. usage: limits NAME FILE */
-#include "hooks.h"
+/* Locks with a deadline that get the mutex, or find it owned: by their own thread, by one that ends, or by one that has
+ * ended. usage: limits NAME FILE */
 #include "shared.h"
 #include <time.h>
 
-enum { TRY_S = 300 }; /* so long at most it stays whom nobody ends */
+enum { MOST_S = 600 }; /* how long an owner stays if the test doesn't kill it */
 static pthread_mutex_t *m;
 static const struct timespec past = {0}, none = {.tv_nsec = -1};
 
@@ -29,7 +28,7 @@ static int after_a_while(void)
     return pthread_mutex_clocklock(m, CLOCK_MONOTONIC, &t);
 }
 
-/* What somebody else's are told, all three. */
+/* Whether three locks of another process return this. */
 static int others_are_told(int reply)
 {
     int status;
@@ -49,7 +48,7 @@ static void owner_lives(void)
     unlock(m + 1);
 }
 
-/* It waits for itself, has it once more, or is refused. */
+/* Locks by the owner, which waits for itself, locks again, or is refused, by the mutex's type. */
 static void its_own(void)
 {
     make(m + 2, PTHREAD_MUTEX_RECURSIVE);
@@ -64,7 +63,7 @@ static void its_own(void)
     CHECK(pthread_mutex_unlock(m + 2) == EPERM);
 }
 
-/* It stands still as it ends, before the kernel looks at what it owns. */
+/* The owner is stopped while it ends, before the kernel walks over its list. */
 static void owner_ends(void)
 {
     int status;
@@ -85,7 +84,7 @@ static void owner_ends(void)
     unlock(m);
 }
 
-/* Who comes next is told; and whose time is over then, that somebody lives who owns it. */
+/* The next thread gets EOWNERDEAD. After that the deadlines of others pass, because a living thread owns the mutex. */
 static void owner_has_ended(void)
 {
     owner_dies(m);
@@ -95,12 +94,12 @@ static void owner_has_ended(void)
     CHECK(others_are_told(ENOTRECOVERABLE));
 }
 
-/* ---- Of before the recording: who made it and owns it isn't seen. */
+/* ---- A mutex that was initialised and locked before the recording. */
 
 static void early(void)
 {
     _Atomic pid_t *owner = (void *)(m + 4);
-    alarm(TRY_S);
+    alarm(MOST_S);
     CHECK(pthread_mutex_lock(m) == 0);
     atomic_store(owner, getpid());
     for (;;)
@@ -119,78 +118,15 @@ static void late(void)
     unlock(m);
 }
 
-/* ---- Somebody who wants the second of two mutexes cleans up after the owner of both, and stands still amid that. */
-
-static int came_too_late, were_told, dies_in_a_call, is_dying;
-
-/* It has what it called for, and hasn't returned. */
-void try_called(void)
-{
-    if (is_dying)
-        die();
-}
-static void own_both(void)
-{
-    int status;
-    pid_t it = a_child();
-    if (!it) {
-        CHECK(pthread_mutex_lock(m + 1) == 0);
-        is_dying = dies_in_a_call;
-        CHECK(pthread_mutex_lock(m) == 0);
-        die();
-    }
-    CHECK(waitpid(it, &status, 0) == it && WIFSIGNALED(status));
-}
-static void repair(pthread_mutex_t *k, int r)
-{
-    CHECK(r == 0 || (r == EOWNERDEAD && pthread_mutex_consistent(k) == 0));
-    unlock(k);
-}
-static void lock_second(void) { pthread_mutex_lock(m + 1); }
-static void come(void)
-{
-    lock_second();
-    unlock(m + 1);
-    own_both();
-}
-static void try_first(void)
-{
-    int r = timedlock(m);
-    came_too_late += r == ETIMEDOUT;
-    were_told += r == EOWNERDEAD;
-    if (r != ETIMEDOUT)
-        repair(m, r);
-}
-
-static void cleaned_up(void)
-{
-    enum { STRIDE = 797 };
-    for (int n = 1; stands_within(come, lock_second, n, try_first); n += STRIDE)
-        for (int i = 0; i < 2; i++)
-            repair(m + i, pthread_mutex_lock(m + i));
-    CHECK(came_too_late && were_told);
-    printf("beside who cleans up %d came too late, %d were told\n", came_too_late, were_told);
-}
-static void cleaned_up_amid_a_call(void)
-{
-    dies_in_a_call = 1;
-    cleaned_up();
-}
-
 static const struct {
     const char *name;
     void (*go)(void);
     int is_made; /* before */
 } limits[] = {
-    {"in_time", in_time, 0},
-    {"owner_lives", owner_lives, 0},
-    {"its_own", its_own, 0},
-    {"owner_ends", owner_ends, 0},
-    {"early", early, 0},
-    {"owner_has_ended", owner_has_ended, 0},
+    {"in_time", in_time, 0}, {"owner_lives", owner_lives, 0},
+    {"its_own", its_own, 0}, {"owner_ends", owner_ends, 0},
+    {"early", early, 0},     {"owner_has_ended", owner_has_ended, 0},
     {"late", late, 1},
-    {"cleaned_up", cleaned_up, 0},
-    {"cleaned_up_amid_a_call", cleaned_up_amid_a_call, 0},
 };
 
 int main(int argc, char **argv)

@@ -1,18 +1,19 @@
-/* LMDB as it is: processes that change a database, read it and look for dead readers, and are killed, now and then all
- * at once, so that who opens it next makes its two mutexes anew. usage: lmdb FOLDER KILLS EACH PROCESSES; between two
- * kills there are EACH transactions of each process at most, and some more of who is killed. */
+/* LMDB, unmodified. Processes change a database, read it, look for dead readers, and are killed. Now and then all are
+ * killed at the same time, so that the next process to open the database initialises its two mutexes again.
+ * usage: lmdb DIRECTORY KILLS EACH PROCESSES; between two kills, each process makes at most EACH transactions, and the
+ * one that is killed some more. */
 #include "shared.h"
 #include <lmdb.h>
 #include <sched.h>
 #include <sys/stat.h>
 
 enum { MOST = 32, KEYS = 64, SIZE = 512 << 20, READERS = 1000, FILES_MODE = 0600 };
-static const char *folder;
+static const char *directory;
 static long each;
 static int n;
 static pid_t it[MOST];
 static struct {
-    _Atomic long done, may; /* transactions: who has had as many as it may rests */
+    _Atomic long done, may; /* transactions; a process that has made as many as it may rests */
     _Atomic int rests;
 } * of;
 
@@ -31,11 +32,11 @@ static MDB_env *open_it(void)
     GOOD(mdb_env_create(&env));
     GOOD(mdb_env_set_mapsize(env, SIZE));
     GOOD(mdb_env_set_maxreaders(env, READERS));
-    GOOD(mdb_env_open(env, folder, MDB_NOSYNC, FILES_MODE));
+    GOOD(mdb_env_open(env, directory, MDB_NOSYNC, FILES_MODE));
     return env;
 }
 
-/* What a killed reader keeps has no room until it is looked for. */
+/* Frees what killed readers keep. */
 static void look_for_dead_readers(MDB_env *env)
 {
     int dead;
@@ -110,7 +111,8 @@ static pid_t begin(int i)
     return child;
 }
 
-/* One has had so many, or sleeps on (storm.c). A process that ends by itself has failed. */
+/* Waits until a process has made that many transactions, or sleeps on (storm.c). A process that ends on its own has
+ * failed. */
 static void until_done(int i, long until)
 {
     while (atomic_load(&of[i].done) < until && !none_gets_on(it, n, rests)) {
@@ -119,7 +121,7 @@ static void until_done(int i, long until)
     }
 }
 
-/* One of them, or all, amid what it does. How many. */
+/* Kills one process, or all, during its work. Returns how many. */
 static int kill_some(void)
 {
     int i = rand() % n, all = rand() % 50 == 0, killed = 0;
@@ -145,10 +147,10 @@ static int kill_some(void)
 int main(int argc, char **argv)
 {
     CHECK(argc == 5);
-    folder = argv[1];
+    directory = argv[1];
     each = atol(argv[3]);
     n = atoi(argv[4]);
-    CHECK(each >= 2 && n >= 1 && n <= MOST && mkdir(folder, 0700) == 0);
+    CHECK(each >= 2 && n >= 1 && n <= MOST && mkdir(directory, 0700) == 0);
     of = mmap(NULL, MOST * sizeof *of, PROT_READ | PROT_WRITE, MAP_SHARED | MAP_ANONYMOUS, -1, 0);
     CHECK(of != MAP_FAILED);
     for (int i = 0; i < n; i++)

@@ -1,5 +1,5 @@
-/* A process is killed at each moment of its first calls that matters to others (hooks.h): they go on, and so does their
- * recording. usage: moments FILE */
+/* A process is killed at each moment of its first calls that matters to other processes (hooks.h). These continue, and
+ * so does their recording. usage: moments FILE */
 #include "shared.h"
 
 #define EACH_MOMENT(DO)                                                                                                \
@@ -16,10 +16,10 @@ enum moment {
 #define NAME(moment) AT_##moment,
     EACH_MOMENT(NAME)
 };
-static enum moment last; /* of this process's life */
+static enum moment last; /* the moment at which this process is killed */
 #define DIES(moment)                                                                                                   \
-    void try_##moment(void);                                                                                           \
-    void try_##moment(void)                                                                                            \
+    void at_##moment(void);                                                                                            \
+    void at_##moment(void)                                                                                             \
     {                                                                                                                  \
         if (last == AT_##moment)                                                                                       \
             die();                                                                                                     \
@@ -28,7 +28,7 @@ EACH_MOMENT(DIES)
 
 static pthread_mutex_t *m;
 
-/* Whoever comes next. */
+/* A lock and an unlock, after a repair if the owner died. */
 static void use(pthread_mutex_t *k)
 {
     int r = pthread_mutex_lock(k);
@@ -36,7 +36,7 @@ static void use(pthread_mutex_t *k)
     CHECK(pthread_mutex_unlock(k) == 0);
 }
 
-/* It uses one, and makes another. */
+/* A child uses one mutex and initialises another one, and is killed at a moment of that. */
 static void dies_at(enum moment moment)
 {
     pid_t it = a_child();

@@ -1,7 +1,6 @@
-/* What tries share: mutexes in a file, children that are killed, and replies that have to be these. */
+/* What the tests of pz-record share: mutexes in a file, children that are killed, and how to see that one sleeps. */
 #ifndef SHARED_H
 #define SHARED_H
-#include "../../tries/state.h"
 #include <errno.h>
 #include <fcntl.h>
 #include <pthread.h>
@@ -13,8 +12,11 @@
 #include <sys/mman.h>
 #include <sys/prctl.h>
 #include <sys/ptrace.h>
+#include <sys/syscall.h>
 #include <sys/wait.h>
 #include <unistd.h>
+
+enum { FUTEX_WAITV = 449 };
 
 #define CHECK(what) ((what) ? (void)0 : fail(__FILE__, __LINE__, #what))
 
@@ -24,7 +26,7 @@ static inline _Noreturn void fail(const char *file, int line, const char *what)
     exit(1);
 }
 
-/* A file, at an address, or anywhere. */
+/* Maps a file, at an address or, with NULL, anywhere. */
 static inline void *mapped(const char *path, size_t size, void *at)
 {
     int fd = open(path, O_RDWR | O_CREAT, 0600);
@@ -53,7 +55,7 @@ static inline void make_cond(pthread_cond_t *c)
     CHECK(pthread_cond_init(c, &a) == 0);
 }
 
-/* A child that is killed where this process ends: so a try that fails leaves none. */
+/* Forks a child that is killed when this process ends, so that a test that fails leaves none. */
 static inline pid_t a_child(void)
 {
     pid_t parent = getpid(), child = fork();
@@ -76,7 +78,7 @@ static inline void die(void)
         pause();
 }
 
-/* Somebody locks it, and is killed. */
+/* A child locks m, and is killed. */
 static inline void owner_dies(pthread_mutex_t *m)
 {
     pid_t it = a_child();
@@ -94,9 +96,8 @@ static inline void make_unusable(pthread_mutex_t *m)
     CHECK(pthread_mutex_lock(m) == EOWNERDEAD && pthread_mutex_unlock(m) == 0);
 }
 
-/* A child does something once, stands still after so many instructions of the second time, and is killed. 0: that had
- * ended. */
-static inline int stands_within(void (*first)(void), void (*again)(void), int instructions, void (*meanwhile)(void))
+/* A child calls first, and is killed after some instructions of again. Returns 0 if again had ended by then. */
+static inline int dies_within(void (*first)(void), void (*again)(void), int instructions)
 {
     int status, is_within = 1;
     pid_t it = a_child();
@@ -113,17 +114,25 @@ static inline int stands_within(void (*first)(void), void (*again)(void), int in
         CHECK(waitpid(it, &status, 0) == it && WIFSTOPPED(status));
         is_within = WSTOPSIG(status) == SIGTRAP;
     }
-    meanwhile();
     until_killed(it);
     return is_within;
 }
-static inline void nothing(void) {}
-static inline int dies_within(void (*first)(void), void (*again)(void), int instructions)
+
+/* The thread's state of proc(5), or 0 if there is no such thread. */
+static inline char state_of(pid_t thread)
 {
-    return stands_within(first, again, instructions, nothing);
+    char path[64], line[512] = "";
+    snprintf(path, sizeof path, "/proc/%d/stat", (int)thread);
+    FILE *f = fopen(path, "r");
+    if (f) {
+        line[fread(line, 1, sizeof line - 1, f)] = 0;
+        fclose(f);
+    }
+    const char *name_ends = strrchr(line, ')');
+    return name_ends ? name_ends[2] : 0;
 }
 
-/* Whether all of them but those who rest, as they say, sleep or have ended, however often that is looked at. */
+/* Whether all processes, except those that say that they rest, sleep or have ended, at each of many looks. */
 static inline int none_gets_on(const pid_t *it, int n, int (*rests)(int))
 {
     for (int looks = 0; looks < 100; looks++)
@@ -133,13 +142,13 @@ static inline int none_gets_on(const pid_t *it, int n, int (*rests)(int))
     return 1;
 }
 
-/* Which system call it sleeps in: what a try waits for, in place of a time. */
+/* Waits until a thread sleeps in a system call. futex_waitv counts as futex. */
 static inline void until_in_call(pid_t it, long number)
 {
     char path[64];
     long is = -1;
     snprintf(path, sizeof path, "/proc/%d/syscall", (int)it);
-    while (is != number || state_of(it) != 'S') {
+    while ((is != number && !(number == SYS_futex && is == FUTEX_WAITV)) || state_of(it) != 'S') {
         FILE *f = fopen(path, "r");
         is = -1;
         if (f && fscanf(f, "%ld", &is) != 1)

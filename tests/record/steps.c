@@ -1,5 +1,5 @@
-/* A thread is killed before each instruction of its calls: of the recorder, and of the library beneath. What is
- * recorded of it is what happened. usage: steps FILE CALL [STRIDE]; so many instructions lie between two deaths. */
+/* A thread is killed before each instruction of its calls, in the recorder and in the library beneath. The recording
+ * has what happened. usage: steps FILE CALL [STRIDE]; with STRIDE, before every STRIDEth instruction. */
 #include "shared.h"
 #include <time.h>
 
@@ -20,7 +20,7 @@ static void trylock_and_unlock(void)
     trylock();
     unlock();
 }
-/* Its limit has come already. */
+/* A lock whose deadline has passed. */
 static void timedlock(void) { pthread_mutex_timedlock(m, &(struct timespec){0}); }
 static void timedlock_and_unlock(void)
 {
@@ -62,7 +62,7 @@ static void take_and_signal(void)
     take();
     signal_one();
 }
-/* Somebody owns it, and is killed once this one is. */
+/* Another process owns the mutex, and is killed together with this one. */
 static void be_too_late(void)
 {
     both();
@@ -119,7 +119,7 @@ int main(int argc, char **argv)
     for (; dies_within(calls[k].first, calls[k].again, n); n += stride)
         use();
     use();
-    CHECK(n > 100); /* so many instructions at least */
+    CHECK(n > 100); /* a call has at least that many instructions */
     printf("%s: deaths within %d instructions, each %d\n", argv[2], n, stride);
     return 0;
 }

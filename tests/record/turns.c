@@ -1,12 +1,12 @@
-/* Calls one after the other, by processes in turn, whatever they answer: what a wrong library (wrong.c) does wrong is
- * told by one of them. usage: turns FILE */
+/* Calls one after the other, by processes in turn. The reply of one of them shows what a wrong library (wrong.c) does
+ * wrong. usage: turns FILE */
 #include "shared.h"
 #include <time.h>
 
 static pthread_mutex_t *m;
 static const struct timespec past = {0};
 
-static void a_try(int has_limit, int then_dies)
+static void another_tries(int has_limit, int then_dies)
 {
     pid_t it = a_child();
     if (!it) {
@@ -24,16 +24,16 @@ int main(int argc, char **argv)
     m = mapped(argv[1], 4096, NULL);
     make(m, PTHREAD_MUTEX_ERRORCHECK);
     pthread_mutex_lock(m);
-    a_try(0, 0);
+    another_tries(0, 0);
     pthread_mutex_unlock(m);
-    a_try(0, 1);
+    another_tries(0, 1);
     pthread_mutex_lock(m);
     pthread_mutex_consistent(m);
     pthread_mutex_unlock(m);
     pthread_mutex_lock(m);
-    a_try(1, 0);
+    another_tries(1, 0);
     pthread_mutex_unlock(m);
-    a_try(0, 1);
+    another_tries(0, 1);
     pthread_mutex_timedlock(m, &past);
     pthread_mutex_consistent(m);
     pthread_mutex_unlock(m);

@@ -1,4 +1,5 @@
-/* Ways in which threads and processes come and go, and what is no call of a history. usage: ways NAME FILE */
+/* Ways in which threads, processes and mutexes come and go, and calls that histories don't have. usage: ways NAME FILE
+ */
 #include "shared.h"
 #include <dirent.h>
 #include <sys/resource.h>
@@ -16,7 +17,7 @@ static void repair(void)
     CHECK(pthread_mutex_lock(m) == EOWNERDEAD && pthread_mutex_consistent(m) == 0);
     unlock();
 }
-/* It may not own it yet. */
+/* The owner may not have locked it yet. */
 static void until_owner_died(void)
 {
     int r;
@@ -24,16 +25,16 @@ static void until_owner_died(void)
         CHECK(r == EBUSY || (r == 0 && pthread_mutex_unlock(m) == 0));
 }
 
-/* The image of before is gone with all its threads. */
+/* A process executes itself while it owns the mutex. */
 static void by_exec(void)
 {
     lock();
-    words[1] = "behind_exec";
+    words[1] = "after_exec";
     execv("/proc/self/exe", words);
     CHECK(0);
 }
 
-/* Its parent has ended: nobody of the program's waits for it. */
+/* The owner's parent has ended, so no process of the program waits for the owner. */
 static void orphan(void)
 {
     pid_t it = a_child();
@@ -68,7 +69,7 @@ static void detached(void)
     until_owner_died();
 }
 
-/* A fork that runs no handlers. */
+/* _Fork(3) runs no fork handlers. */
 static void bare_fork(void)
 {
     lock();
@@ -121,7 +122,7 @@ static void *waits(void *unused)
     return unused;
 }
 
-/* Its handler's calls are recorded, but what the wait would have answered nobody knows. */
+/* The handler's calls are recorded, but the wait has no reply. */
 static void cancelled(void)
 {
     pthread_t t;
@@ -131,7 +132,7 @@ static void cancelled(void)
     lock();
 }
 
-/* Who has the mutex while that wait has released it, the history couldn't explain. */
+/* A history couldn't explain that another thread takes the mutex during the wait. */
 static void private_cond(void)
 {
     static pthread_cond_t plain = PTHREAD_COND_INITIALIZER;
@@ -143,7 +144,7 @@ static void private_cond(void)
     lock();
 }
 
-/* A thread can't look where its first mutex lies: what it calls would be missing, and so the recording ends. */
+/* A thread can't find out in what object its first mutex is. Its calls would be missing, so the recording ends. */
 static void cannot_look(void)
 {
     struct rlimit before;
@@ -156,7 +157,7 @@ static void cannot_look(void)
     repair();
 }
 
-/* It has a thread beside its first, and all of those sleep. */
+/* Whether the process has more threads than its first, and all of these sleep. */
 static int its_others_sleep(pid_t process)
 {
     char path[64];
@@ -178,7 +179,7 @@ static void until_watcher_sleeps(void)
         usleep(100);
 }
 
-/* Some that pz-record watches. */
+/* Starts some processes that pz-record watches. */
 static void begin_watched(pid_t *it, int n)
 {
     _Atomic int *begun = (void *)(at + 2048);
@@ -196,8 +197,8 @@ static void begin_watched(pid_t *it, int n)
     until_watcher_sleeps();
 }
 
-/* pz-record has no descriptors any more: it can neither watch who has the mutex, nor look whether he lives, which is no
- * end, nor poll those that it has. */
+/* pz-record has no descriptors left. It can't watch the owner, nor find out whether it lives, nor poll the descriptors
+ * that it has. */
 static void cannot_watch(void)
 {
     enum { WATCHED = 8 };
@@ -220,12 +221,12 @@ static void cannot_watch(void)
     repair();
     for (int i = 0; i < WATCHED; i++)
         until_killed(watched[i]);
-    /* it has been told of their ends, and waits again before ours */
+    /* it has learned of their ends, and waits again before ours */
     while (state_of(getppid()) != 'S')
         usleep(100);
 }
 
-/* At one address two files, one after the other. */
+/* Two files at one address, one after the other. */
 static void another_file(void)
 {
     char path[4096];
@@ -246,7 +247,7 @@ static void made_anew(void)
     lock();
 }
 
-/* Of before this recording (`late` finds it so). */
+/* Before the recording: what `late` finds. */
 static void early(void)
 {
     owner_dies(m);
@@ -261,7 +262,16 @@ static void late(void)
     CHECK(pthread_mutex_unlock(m) == EPERM);
 }
 
-static void behind_exec(void) { repair(); }
+/* A copy of an initialised mutex, which is robust by its own bytes, and has no init that was recorded. */
+static void copied(void)
+{
+    memcpy(m + 1, m, sizeof *m);
+    m++;
+    lock();
+    unlock();
+}
+
+static void after_exec(void) { repair(); }
 
 static const struct {
     const char *name;
@@ -269,7 +279,7 @@ static const struct {
     int is_made; /* before */
 } ways[] = {
     {"by_exec", by_exec, 0},
-    {"behind_exec", behind_exec, 1},
+    {"after_exec", after_exec, 1},
     {"orphan", orphan, 0},
     {"joined", joined, 0},
     {"detached", detached, 0},
@@ -285,6 +295,7 @@ static const struct {
     {"made_anew", made_anew, 0},
     {"early", early, 0},
     {"late", late, 1},
+    {"copied", copied, 0},
 };
 
 int main(int argc, char **argv)

@@ -1,4 +1,4 @@
-/* A library between the recorder and the C library that is wrong in one way: PZ_WRONG names which. */
+/* A library between the recorder and the C library that is wrong in the way that PZ_WRONG names. */
 #include <dlfcn.h>
 #include <errno.h>
 #include <pthread.h>
@@ -52,7 +52,8 @@ int pthread_mutex_timedlock(pthread_mutex_t *m, const struct timespec *until)
 
 int pthread_mutex_trylock(pthread_mutex_t *m) { return is("trylock_does_not_look") ? EBUSY : trylock(m); }
 
-/* Who has let another in and comes back can be told by nobody who was told nothing meanwhile. */
+/* An unlock that releases the mutex, takes it again and releases it can't be seen by threads that get no reply
+ * in between. */
 int pthread_mutex_unlock(pthread_mutex_t *m)
 {
     if (is("unlock_keeps"))

@@ -284,10 +284,35 @@ static void check_access(enum played kind, const uint64_t *w, uint64_t was, uint
     int remakes = kind == COMPARE_EXCHANGE && (was & UNUSABLE) && !(value & UNUSABLE);
     if (w == cell_word && (takes || remakes) && value / TURN != was / TURN + 1)
         fail("the turn isn't incremented");
+    if (w == counter_word && library_call == LIB_WAIT && kind == STORE &&
+        cond.words[1] != (uint64_t)&mutex - (uint64_t)&cond)
+        fail("SLEPT is set before the distance");
     if (w != cell_word || kind != SUB || library_call != LIB_WAIT)
         return;
     if (!(*counter_word & SLEPT_BIT) || cond.words[1] != (uint64_t)&mutex - (uint64_t)&cond)
         fail("a wait releases the mutex before it says that it may sleep");
+}
+
+/* The heir's rules (lib/heir.c): AWAKE only with the cell pending; after it goes, one more look with the cell pending.
+ */
+static int owes_look;
+static int is_self_heir(uint64_t slot)
+{
+    return (slot & AWAKE_BIT) && (slot & OWNER) == self_id && !(slot & OWNER_DIED);
+}
+static void check_heir(const uint64_t *w, uint64_t was, uint64_t is)
+{
+    int cell_is_pending = head.word[2] == (uint64_t)&mutex.words[4], is_owner = (*cell_word & OWNER) == self_id;
+    if (w == slot_word && is_self_heir(was) && !is_self_heir(is))
+        owes_look = !is_owner;
+    if (is_self_heir(*slot_word) && !cell_is_pending && !is_owner)
+        fail("a thread is heir, and the cell isn't pending");
+    if (w == slot_word && (was & OWNER) == self_id && !(is & OWNER) && (is & AWAKE_BIT))
+        fail("the slot is freed with AWAKE");
+    if (owes_look && w == cell_word && cell_is_pending)
+        owes_look = 0;
+    if (owes_look && !cell_is_pending)
+        fail("an heir doesn't look after AWAKE is cleared");
 }
 
 uint64_t play(enum played kind, const pz_word *word, uint64_t is, uint64_t value)
@@ -298,6 +323,7 @@ uint64_t play(enum played kind, const pz_word *word, uint64_t is, uint64_t value
     *w = changed(kind, was, is, value);
     if (kind != COMPARE_EXCHANGE || was == is)
         check_access(kind, w, was, value);
+    check_heir(w, was, *w);
     if (w == cell_word && kind == COMPARE_EXCHANGE && was == is) {
         moment.is_trim = value == (is & ~WAITERS) && value != is && !(is & OWNER);
         moment.is_remake = (is & UNUSABLE) && !(value & UNUSABLE);
