@@ -33,7 +33,7 @@ use Rattle.protocol.specs.declared.thread.Stage.{Stage}
 use Rattle.protocol.specs.declared.thread.Stage.TheVariants.{Idle, Calling, AtCondition, Dying, Reaped}
 use Rattle.protocol.specs.declared.note.Note.{Note}
 use Rattle.protocol.specs.Machine.{State, After, put, idle, start, is_valid, has_thread, may_begin, may_reinit, may_remake, waiters_of, first_stage, begun, nothing, is_alive, is_gone, killed, renewed, reinited, departed, declined, expired, is_timed, lapsed, overslept, waits_on, spared, is_asleep, is_trim, sleeps, led, went, stepped, answer_of, happens, run, notes}
-use Rattle.protocol.specs.Machine.{Led, led_at, another_answers, is_mark, may_recount, recounted, repeated, repeating, resleeping, reslept, sparing, stands_in, wakes_next, wakes_one}
+use Rattle.protocol.specs.Machine.{Led, led_at, is_left_to, is_mark, may_recount, recounted, repeated, repeating, resleeping, reslept, sparing, stands_in, wakes_next, wakes_one}
 use Rattle.stepprograms.specs.declared.access.Answer.TheVariants.{Count}
 use Rattle.condvar.specs.Calls.{condition_of}
 use Rattle.condvar.specs.Whole.{cond_led}
@@ -210,15 +210,15 @@ stays s (Recount k) = go (may_recount s k)
     go : (b : Bool) → is_nothing (if b then recounted s k else nothing s).note ≡ true → (if b then recounted s k else nothing s).state ≡ s
     go true h = absurd cc
     go false h = refl
-stays s (Spare t) = go (has_thread s t) (s.threads t).stage
+stays s (Spare t by) = go (has_thread s t) (s.threads t).stage
   where
     spares : (m : ℕ) (g : Led) (a : Bool) → is_nothing (if a then spared s t (s.threads t).held m g else nothing s).note ≡ true → (if a then spared s t (s.threads t).held m g else nothing s).state ≡ s
     spares m g true h = absurd cc
     spares m g false h = refl
 
-    go : (b : Bool) (g : Stage) → is_nothing (if b then sparing s t (s.threads t).held g else nothing s).note ≡ true → (if b then sparing s t (s.threads t).held g else nothing s).state ≡ s
-    go true (Calling o p) h = spares (mutex_of s.layout o) (led o p (whole_led p (Count 1))) (wakes_one p.phase && another_answers s t (mutex_of s.layout o) s.layout.threads) h
-    go true (AtCondition c p) h = spares (mutex_of s.layout (OnCondition c)) (led_at c p (cond_led p (Count 1))) (wakes_next p.phase && another_answers s t (mutex_of s.layout (OnCondition c)) s.layout.threads) h
+    go : (b : Bool) (g : Stage) → is_nothing (if b then sparing s t by (s.threads t).held g else nothing s).note ≡ true → (if b then sparing s t by (s.threads t).held g else nothing s).state ≡ s
+    go true (Calling o p) h = spares (mutex_of s.layout o) (led o p (whole_led p (Count 1))) (wakes_one p.phase && is_left_to s t (mutex_of s.layout o) by) h
+    go true (AtCondition c p) h = spares (mutex_of s.layout (OnCondition c)) (led_at c p (cond_led p (Count 1))) (wakes_next p.phase && is_left_to s t (mutex_of s.layout (OnCondition c)) by) h
     go true g h = refl
     go false g h = refl
 stays s (Resleep t) = go (has_thread s t) (s.threads t).stage

@@ -12,13 +12,14 @@ use Rattle.facts.specs.declared.fact.Queue.{Queue}
 use Rattle.syscalls.specs.Kernels.{Kernel'}
 use Rattle.protocol.specs.declared.event.Event.{Event}
 use Rattle.protocol.specs.declared.event.Event.TheVariants.{Spare}
+use Rattle.protocol.specs.declared.event.LeftTo.{LeftTo}
 use Rattle.protocol.specs.declared.note.Note.{Note}
 use Rattle.protocol.specs.declared.note.Note.TheVariants.{Nothing, Stepped}
 use Rattle.protocol.specs.declared.thread.Thread.{Thread}
 use Rattle.protocol.specs.declared.thread.Stage.{Stage}
-use Rattle.protocol.specs.Machine.{State, After, has_thread, nothing, idle, spared, sparing, slept_in, wakes_one, wakes_next, another_answers, answers, is_asleep, Led, put, held_after, happens}
+use Rattle.protocol.specs.Machine.{State, After, has_thread, nothing, idle, spared, sparing, slept_in, wakes_one, wakes_next, a_walk_minds, another_answers, answers, is_left_to, walk_minds, is_asleep, Led, put, held_after, happens}
 use Rattle.std.proofs.lemmas.Bool.{eqb-false}
-use Rattle.protocol.proofs.Sparing.{another_again}
+use Rattle.protocol.proofs.Sparing.{a_walk_again, another_again}
 use Rattle.interleave.specs.declared.accesses.Performed.{Performed}
 use Rattle.interleave.specs.declared.calls.InCall.{InCall}
 use Rattle.interleave.specs.declared.calls.InCall.TheVariants as in_call
@@ -33,31 +34,31 @@ abbrev pub wakes_by : InCall → Bool
 wakes_by (in_call.Calling o p) = wakes_one p.phase
 wakes_by (in_call.AtCondition c p) = wakes_next p.phase
 
-sparing_by : (s : State) (t held : ℕ) (call : InCall)
-    → sparing s t held (stage_of call) ≡ (if wakes_by call && another_answers s t (mutex_of s.layout (op_of call)) s.layout.threads then spared s t held (mutex_of s.layout (op_of call)) (led_by call (Count 1)) else nothing s)
-sparing_by s t held (in_call.Calling o p) = refl
-sparing_by s t held (in_call.AtCondition c p) = refl
+sparing_by : (s : State) (t : ℕ) (by : LeftTo) (held : ℕ) (call : InCall)
+    → sparing s t by held (stage_of call) ≡ (if wakes_by call && is_left_to s t (mutex_of s.layout (op_of call)) by then spared s t held (mutex_of s.layout (op_of call)) (led_by call (Count 1)) else nothing s)
+sparing_by s t by held (in_call.Calling o p) = refl
+sparing_by s t by held (in_call.AtCondition c p) = refl
 
 -- a thread in a call
-module _ (s : State) (t : ℕ) (call : InCall) (is : (s.threads t).stage ≡ stage_of call) where
+module _ (s : State) (t : ℕ) (by : LeftTo) (call : InCall) (is : (s.threads t).stage ≡ stage_of call) where
   abbrev spares : After
   spares = spared s t (s.threads t).held (mutex_of s.layout (op_of call)) (led_by call (Count 1))
 
-  ran : (b x : Bool) → has_thread s t ≡ b → (wakes_by call && another_answers s t (mutex_of s.layout (op_of call)) s.layout.threads) ≡ x → happens s (Spare t) ≡ (if b then (if x then spares else nothing s) else nothing s)
+  ran : (b x : Bool) → has_thread s t ≡ b → (wakes_by call && is_left_to s t (mutex_of s.layout (op_of call)) by) ≡ x → happens s (Spare t by) ≡ (if b then (if x then spares else nothing s) else nothing s)
   ran b x there told =
-      ap (λ (g : Stage). if has_thread s t then sparing s t (s.threads t).held g else nothing s) is
-      ∙ ap (λ (a : After). if has_thread s t then a else nothing s) (sparing_by s t (s.threads t).held call)
+      ap (λ (g : Stage). if has_thread s t then sparing s t by (s.threads t).held g else nothing s) is
+      ∙ ap (λ (a : After). if has_thread s t then a else nothing s) (sparing_by s t by (s.threads t).held call)
       ∙ (λ i. if there i then (if told i then spares else nothing s) else nothing s)
 
   -- where it isn't about to wake one, or no other answers, nothing happens
-  pub rests : (wakes_by call && another_answers s t (mutex_of s.layout (op_of call)) s.layout.threads) ≡ false → (s ≡ (happens s (Spare t)).state) × (Nothing ≡ (happens s (Spare t)).note)
+  pub rests : (wakes_by call && is_left_to s t (mutex_of s.layout (op_of call)) by) ≡ false → (s ≡ (happens s (Spare t by)).state) × (Nothing ≡ (happens s (Spare t by)).note)
   rests never = (sym (ap (λ (a : After). a.state) stays), sym (ap (λ (a : After). a.note) stays))
     where
       go : (b : Bool) → (if b then nothing s else nothing s) ≡ nothing s
       go true = refl
       go false = refl
 
-      stays : happens s (Spare t) ≡ nothing s
+      stays : happens s (Spare t by) ≡ nothing s
       stays = ran (has_thread s t) false refl never ∙ go (has_thread s t)
 
 -- ---- as the code reads the thread in its list
@@ -66,12 +67,12 @@ pub is_there : (s : State) (k t : ℕ) → k + 1 ≡ t → t ≤ s.layout.thread
 is_there s k t at known = grind (arith, nat_tests)
 
 -- its wake is spared
-pub spares_there : (l : Layout') (ts : List Thread) (k t : ℕ) (call : InCall) (th : Thread) → k + 1 ≡ t → t ≤ l.threads → thread_at ts t ≡ th → (thread_at ts t).stage ≡ stage_of call → wakes_by call ≡ true
-    → (ws : List ℕ) (kernel : Kernel') → another_answers (state_at l ws kernel ts) t (mutex_of l (op_of call)) l.threads ≡ true
-    → happens (state_at l ws kernel ts) (Spare t) ≡ spared (state_at l ws kernel ts) t th.held (mutex_of l (op_of call)) (led_by call (Count 1))
-spares_there l ts k t call th at known e is wakes ws kernel another =
+pub spares_there : (l : Layout') (ts : List Thread) (k t : ℕ) (by : LeftTo) (call : InCall) (th : Thread) → k + 1 ≡ t → t ≤ l.threads → thread_at ts t ≡ th → (thread_at ts t).stage ≡ stage_of call → wakes_by call ≡ true
+    → (ws : List ℕ) (kernel : Kernel') → is_left_to (state_at l ws kernel ts) t (mutex_of l (op_of call)) by ≡ true
+    → happens (state_at l ws kernel ts) (Spare t by) ≡ spared (state_at l ws kernel ts) t th.held (mutex_of l (op_of call)) (led_by call (Count 1))
+spares_there l ts k t by call th at known e is wakes ws kernel left =
     let s : State = state_at l ws kernel ts in
-    ran s t call is true true (is_there s k t at known) (ap (λ (b : Bool). b && another_answers s t (mutex_of l (op_of call)) l.threads) wakes ∙ another)
+    ran s t by call is true true (is_there s k t at known) (ap (λ (b : Bool). b && is_left_to s t (mutex_of l (op_of call)) by) wakes ∙ left)
     ∙ ap (λ (z : Thread). spared s t z.held (mutex_of l (op_of call)) (led_by call (Count 1))) e
 
 -- where it stands
@@ -161,3 +162,16 @@ differs t u x y is other apart = go (t == u) refl
 -- the thread with one more than this index
 pub its_own : (r : Option ℕ) (i t : ℕ) → SomeIff r ((1 ≤ i + 1) × (i + 1 ≤ most_threads)) (i + 1) → r ≡ Some t → t ≡ suc i
 its_own r i t h is = grind (arith)
+
+-- ---- a walk that does
+
+-- none of one thread more
+pub no_walk_more : (s : State) (m i : ℕ) → a_walk_minds s m i ≡ false → walk_minds s.layout s.words m (suc i) (s.threads (suc i)).stage ≡ false → a_walk_minds s m (i + 1) ≡ false
+no_walk_more s m i none here = subst (λ (n : ℕ). a_walk_minds s m n ≡ false) (one_suc i) (ap (λ (b : Bool). b || a_walk_minds s m i) here ∙ none)
+  where
+    one_suc : (i : ℕ) → suc i ≡ i + 1
+    one_suc i = omega arith
+
+-- one does
+pub one_walk_does : (s : State) (m i n : ℕ) → i < n → walk_minds s.layout s.words m (suc i) (s.threads (suc i)).stage ≡ true → true ≡ a_walk_minds s m n
+one_walk_does s m i n below here = sym (a_walk_again s m n (suc i) (omega arith) (omega arith) here)

@@ -1,4 +1,4 @@
-//! Wakes that are spared, since another thread answers for the mutex.
+//! Wakes that are spared, since another answers for the mutex: a thread, its owner or a walk.
 ghost use Rattle.std.specs.Prelude.{◌≡◌, ◌≤◌, ◌<◌, ◌==◌, ◌&&◌, not, ℕ, List, length, slice_index, true};
 ghost use Rattle.memorymap.specs.Layouts.{words_of};
 ghost use Rattle.mutex.specs.Whole.{IsUnderWay, PhaseKnows};
@@ -9,7 +9,8 @@ ghost use Rattle.protocol.specs.declared.event.Event.TheVariants.{Spare};
 ghost use Rattle.protocol.specs.declared.thread.Thread.{Thread};
 ghost use Rattle.protocol.specs.declared.thread.Stage.TheVariants.{AtCondition, Calling};
 ghost use Rattle.protocol.specs.Machine.{happens, answers_at, wakes_next, wakes_one, answers};
-ghost use Rattle.protocol.specs.Machine.{another_answers, is_asleep, is_first, is_pending};
+ghost use Rattle.protocol.specs.Machine.{a_walk_minds, another_answers, is_asleep, is_first, is_left_to};
+ghost use Rattle.protocol.specs.Machine.{is_owned, is_pending, minds, walk_minds};
 ghost use Rattle.syscalls.specs.Kernels.{Kernel'};
 ghost use Rattle.interleave.specs.Shown.{state_at, thread_at};
 ghost use Rattle.interleave.specs.Steps.{IsOnItsWay, MayStep, SleepsInItsCall};
@@ -18,12 +19,12 @@ use crate::accesses::{quiet, word_at};
 use crate::ops::mutex_of;
 use crate::threads::{held_after, point, replied, stage_after, stage_at, stepped};
 use condvar::{CondCall, CondPhase, CondProgram, CondRow, Op, WaitRow};
-use exitwalk::{Row as WalkRow, Walk};
+use exitwalk::{Part, Row as WalkRow, Walk};
 use facts::Queue;
-use lockword::Tid;
+use lockword::{Cell, Tid};
 use memorymap::Layout;
 use mutex::{Phase, Program, Row, UnlockRow};
-use protocol::{Note, Stage, Thread};
+use protocol::{LeftTo, Note, Stage, Thread};
 use stepprograms::{Answer, StepProgram};
 use syscalls::{Kernel, PlainMemory};
 
@@ -186,6 +187,105 @@ fn another_answers(
     false
 }
 
+/// Whether somebody owns the mutex.
+fn is_owned(layout: &Layout, memory: &PlainMemory, mutex: u16) -> bool
+    requires words { length memory.now ≡ words_of layout.now }
+    requires inside { mutex < layout.now.mutexes }
+    ensures { (kernel : Kernel') (ts : List Thread)
+        → result ≡ is_owned (state_at layout.now memory.now kernel ts) mutex }
+{
+    Cell::new(word_at(memory, layout.cell(mutex))).owner() != 0
+}
+
+/// Whether the thread's walk, which stands there, will look at the mutex's word, as it has the mutex pending, or is about
+/// to wake on it.
+fn minds(layout: &Layout, memory: &PlainMemory, mutex: u16, thread: Tid, row: WalkRow) -> bool
+    requires words { length memory.now ≡ words_of layout.now }
+    requires inside { mutex < layout.now.mutexes }
+    requires known { thread ≤ layout.now.threads }
+    ensures { result ≡ minds layout.now (λ p. slice_index memory.now p) mutex thread row }
+{
+    let entry = layout.address(thread, layout.entry(mutex));
+    let cell = layout.address(thread, layout.cell(mutex));
+    match row {
+        WalkRow::LoadFirst | WalkRow::LoadOffset { .. } | WalkRow::LoadPending { .. } => {
+            is_pending(layout, memory, mutex, thread)
+        }
+        WalkRow::LoadNext(rest) => rest.pending == entry,
+        WalkRow::LoadWord { at, part } => match part {
+            Part::List(rest) => rest.pending == entry,
+            Part::Pending => at == cell,
+        },
+        WalkRow::Mark { part, .. } => match part {
+            Part::List(rest) => rest.pending == entry,
+            Part::Pending => false,
+        },
+        WalkRow::WakeOne { at, part } => match part {
+            Part::List(rest) => at == cell || rest.pending == entry,
+            Part::Pending => at == cell,
+        },
+        WalkRow::Ended => false,
+    }
+}
+
+/// Whether the thread is dead, and its walk does.
+fn walk_minds(layout: &Layout, memory: &PlainMemory, mutex: u16, thread: Tid, stage: &Stage) -> bool
+    requires words { length memory.now ≡ words_of layout.now }
+    requires inside { mutex < layout.now.mutexes }
+    requires known { thread ≤ layout.now.threads }
+    ensures { result ≡ walk_minds layout.now (λ p. slice_index memory.now p) mutex thread stage.now }
+{
+    match *stage {
+        Stage::Dying(ref walk) => minds(layout, memory, mutex, thread, walk.row()),
+        Stage::Calling(_, _) | Stage::AtCondition(_, _) | Stage::Idle | Stage::Reaped => false,
+    }
+}
+
+/// Whether a walk does.
+fn a_walk_minds(layout: &Layout, memory: &PlainMemory, threads: &Vec<Thread>, mutex: u16) -> bool
+    requires words { length memory.now ≡ words_of layout.now }
+    requires inside { mutex < layout.now.mutexes }
+    requires threads { length threads.now.items ≡ layout.now.threads }
+    ensures { (kernel : Kernel')
+        → result
+        ≡ a_walk_minds (state_at layout.now memory.now kernel threads.now.items) mutex layout.now.threads }
+{
+    for index in 0..layout.threads() {
+        let Some(other) = Tid::new(index + 1) else {
+            unreachable!()
+        };
+        let stage = &threads[usize::from(index)].stage;
+        if walk_minds(layout, memory, mutex, other, stage) {
+            return true;
+        }
+    }
+    false
+}
+
+/// Whether the one to whom the thread leaves the mutex answers for it.
+fn is_left_to(
+    layout: &Layout,
+    memory: &PlainMemory,
+    kernel: &Kernel,
+    threads: &Vec<Thread>,
+    thread: Tid,
+    mutex: u16,
+    by: LeftTo,
+) -> bool
+    requires words { length memory.now ≡ words_of layout.now }
+    requires inside { mutex < layout.now.mutexes }
+    requires threads { length threads.now.items ≡ layout.now.threads }
+    requires goes { (t : ℕ) → 1 ≤ t → t ≤ layout.now.threads → MayStep layout.now (thread_at threads.now.items t) }
+    ensures { ((t : ℕ) → SleepsInItsCall (state_at layout.now memory.now kernel.now threads.now.items) t)
+        → result ≡ is_left_to (state_at layout.now memory.now kernel.now threads.now.items) thread mutex by }
+{
+    match by {
+        LeftTo::Thread => another_answers(layout, memory, kernel, threads, thread, mutex),
+        LeftTo::Owner => is_owned(layout, memory, mutex),
+        LeftTo::Walk => a_walk_minds(layout, memory, threads, mutex),
+    }
+}
+
 /// An unlock goes on as one that woke a sleeper.
 fn spare_unlock(
     layout: &Layout,
@@ -193,6 +293,7 @@ fn spare_unlock(
     thread: Tid,
     op: Op,
     program: Program,
+    by: LeftTo,
 ) -> Note
     requires threads { length threads.old.items ≡ layout.now.threads }
     requires known { thread ≤ layout.now.threads }
@@ -200,14 +301,12 @@ fn spare_unlock(
     requires goes { MayStep layout.now (thread_at threads.old.items thread) }
     requires wakes { wakes_one program.phase ≡ true }
     ensures state { (ws : List ℕ) (kernel : Kernel')
-        → another_answers (state_at layout.now ws kernel threads.old.items) thread (mutex_of layout.now op)
-        layout.now.threads ≡ true
+        → is_left_to (state_at layout.now ws kernel threads.old.items) thread (mutex_of layout.now op) by ≡ true
         → state_at layout.now ws kernel threads.new.items
-        ≡ (happens (state_at layout.now ws kernel threads.old.items) (Spare thread)).state }
+        ≡ (happens (state_at layout.now ws kernel threads.old.items) (Spare thread by)).state }
     ensures note { (ws : List ℕ) (kernel : Kernel')
-        → another_answers (state_at layout.now ws kernel threads.old.items) thread (mutex_of layout.now op)
-        layout.now.threads ≡ true
-        → result ≡ (happens (state_at layout.now ws kernel threads.old.items) (Spare thread)).note }
+        → is_left_to (state_at layout.now ws kernel threads.old.items) thread (mutex_of layout.now op) by ≡ true
+        → result ≡ (happens (state_at layout.now ws kernel threads.old.items) (Spare thread by)).note }
     ensures threads { length threads.new.items ≡ length threads.old.items }
 {
     let mut program = program;
@@ -231,6 +330,7 @@ fn spare_wait(
     thread: Tid,
     call: CondCall,
     program: CondProgram,
+    by: LeftTo,
 ) -> Note
     requires threads { length threads.old.items ≡ layout.now.threads }
     requires known { thread ≤ layout.now.threads }
@@ -238,14 +338,14 @@ fn spare_wait(
     requires goes { MayStep layout.now (thread_at threads.old.items thread) }
     requires wakes { wakes_next program.phase ≡ true }
     ensures state { (ws : List ℕ) (kernel : Kernel')
-        → another_answers (state_at layout.now ws kernel threads.old.items) thread
-        (mutex_of layout.now (OnCondition call)) layout.now.threads ≡ true
+        → is_left_to (state_at layout.now ws kernel threads.old.items) thread (mutex_of layout.now (OnCondition call)) by
+        ≡ true
         → state_at layout.now ws kernel threads.new.items
-        ≡ (happens (state_at layout.now ws kernel threads.old.items) (Spare thread)).state }
+        ≡ (happens (state_at layout.now ws kernel threads.old.items) (Spare thread by)).state }
     ensures note { (ws : List ℕ) (kernel : Kernel')
-        → another_answers (state_at layout.now ws kernel threads.old.items) thread
-        (mutex_of layout.now (OnCondition call)) layout.now.threads ≡ true
-        → result ≡ (happens (state_at layout.now ws kernel threads.old.items) (Spare thread)).note }
+        → is_left_to (state_at layout.now ws kernel threads.old.items) thread (mutex_of layout.now (OnCondition call)) by
+        ≡ true
+        → result ≡ (happens (state_at layout.now ws kernel threads.old.items) (Spare thread by)).note }
     ensures threads { length threads.new.items ≡ length threads.old.items }
 {
     let mut program = program;
@@ -262,23 +362,24 @@ fn spare_wait(
     stepped(thread, mutex, queue, &done, &progress)
 }
 
-/// The next access of the thread's call, where that is the wake of one sleeper of its mutex, is spared, if another
-/// thread answers for the mutex.
+/// The next access of the thread's call, where that is the wake of one sleeper of its mutex, is spared, if the one to
+/// whom that is left answers for the mutex.
 pub(crate) fn spare(
     layout: &Layout,
     memory: &PlainMemory,
     kernel: &Kernel,
     threads: &mut Vec<Thread>,
     thread: Tid,
+    by: LeftTo,
 ) -> Note
     requires words { length memory.now ≡ words_of layout.now }
     requires threads { length threads.old.items ≡ layout.now.threads }
     requires goes { (t : ℕ) → 1 ≤ t → t ≤ layout.now.threads → MayStep layout.now (thread_at threads.old.items t) }
     requires sleeps { (t : ℕ) → SleepsInItsCall (state_at layout.now memory.now kernel.now threads.old.items) t }
     ensures state { state_at layout.now memory.now kernel.now threads.new.items
-        ≡ (happens (state_at layout.now memory.now kernel.now threads.old.items) (Spare thread)).state }
+        ≡ (happens (state_at layout.now memory.now kernel.now threads.old.items) (Spare thread by)).state }
     ensures note { result
-        ≡ (happens (state_at layout.now memory.now kernel.now threads.old.items) (Spare thread)).note }
+        ≡ (happens (state_at layout.now memory.now kernel.now threads.old.items) (Spare thread by)).note }
     ensures threads { length threads.new.items ≡ length threads.old.items }
 {
     if layout.threads() < thread.get() {
@@ -290,20 +391,20 @@ pub(crate) fn spare(
                 return Note::Nothing;
             }
             let mutex = mutex_of(layout, op);
-            if !another_answers(layout, memory, kernel, threads, thread, mutex) {
+            if !is_left_to(layout, memory, kernel, threads, thread, mutex, by) {
                 return Note::Nothing;
             }
-            spare_unlock(layout, threads, thread, op, program)
+            spare_unlock(layout, threads, thread, op, program, by)
         }
         Stage::AtCondition(call, program) => {
             if !wakes_next(&program.phase()) {
                 return Note::Nothing;
             }
             let mutex = mutex_of(layout, Op::OnCondition(call));
-            if !another_answers(layout, memory, kernel, threads, thread, mutex) {
+            if !is_left_to(layout, memory, kernel, threads, thread, mutex, by) {
                 return Note::Nothing;
             }
-            spare_wait(layout, threads, thread, call, program)
+            spare_wait(layout, threads, thread, call, program, by)
         }
         Stage::Idle | Stage::Dying(_) | Stage::Reaped => Note::Nothing,
     }

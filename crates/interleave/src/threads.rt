@@ -365,7 +365,7 @@ pub(crate) fn apply(
         Event::Reinit(thread, mutex) => reinit(layout, memory, kernel, threads, thread, mutex),
         Event::Remake(thread, mutex) => remake(layout, memory, threads, thread, mutex),
         Event::Recount(condition) => recount(layout, memory, kernel, threads, condition),
-        Event::Spare(thread) => spare(layout, memory, kernel, threads, thread),
+        Event::Spare(thread, by) => spare(layout, memory, kernel, threads, thread, by),
         Event::Resleep(thread) => resleep(layout, memory, kernel, threads, thread),
         Event::Repeat(thread) => repeat(layout, memory, kernel, threads, thread),
     }

@@ -9,7 +9,7 @@ use facts::Queue;
 use interleave::Machine;
 use lockword::{Reply, Tid};
 use posixmutex::Operation;
-use protocol::{Event, Note};
+use protocol::{Event, LeftTo, Note};
 use std::alloc::Global;
 use std::test::Fail;
 
@@ -94,7 +94,7 @@ fn event_of(thread: Tid, rare: Rare) -> Event {
     match rare {
         Rare::Resleeps(_) => Event::Resleep(thread),
         Rare::Recounts(condition) => Event::Recount(condition),
-        Rare::Spares(_) => Event::Spare(thread),
+        Rare::Spares(_) => Event::Spare(thread, LeftTo::Thread),
         Rare::Remakes(_, mutex) => Event::Remake(thread, mutex),
         Rare::Reinits(_, mutex) => Event::Reinit(thread, mutex),
         Rare::Expires(_) | Rare::WaitExpires(_) => Event::Expire(thread),

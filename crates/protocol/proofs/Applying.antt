@@ -1,6 +1,6 @@
 -- Which events apply.
 use Rattle.std.proofs.Common.{◌≡◌, ◌≢◌, ℕ, ◌≤◌, ◌==◌, Bool, true, false, ◌&&◌, Option, None, Ok, Err, List, [], ◌∷◌, ◌++◌, refl, sym, ap, ◌∙◌, subst, arith, eq-eqb}
-use Rattle.protocol.proofs.Vocabulary.{Left, Renewed, Reinited, Trimmed, spared, departed, renewed, reinited, waiters_of, MayRemake, Whole, cell_place}
+use Rattle.protocol.proofs.Vocabulary.{LeftTo, Left, Renewed, Reinited, Trimmed, spared, departed, renewed, reinited, waiters_of, MayRemake, Whole, cell_place}
 use Rattle.protocol.proofs.Vocabulary.{Past, Limit}
 use Rattle.protocol.specs.Machine.{is_gone, may_reinit, may_remake}
 use Rattle.protocol.proofs.Departures.{asleep_where}
@@ -406,8 +406,8 @@ module _ (s : State) (ns : List Note) (inv : Kept s) (queued : Queued s) (agrees
   not_both : (o : Op) (c : CondCall) (p : Whole) (q : CondWhole) → Calling o p ≡ AtCondition c q → ⊥
   not_both o c p q e = cc
 
-  spares_so : (t : ℕ) → Applies s.layout s ns (Event.Spare t) → IsSparedAccessOf s.layout s t (happens s (Event.Spare t)).note
-  spares_so t ((first, last), (m, g, wakes, another)) = subst (λ (z : After). IsSparedAccessOf s.layout s t z.note) (sym (spare_goes s t m g inv queued first last wakes another)) (go wakes)
+  spares_so : (t : ℕ) (by : LeftTo) → Applies s.layout s ns (Event.Spare t by) → IsSparedAccessOf s.layout s t (happens s (Event.Spare t by)).note
+  spares_so t by ((first, last), (m, g, wakes, left)) = subst (λ (z : After). IsSparedAccessOf s.layout s t z.note) (sym (spare_goes s t m by g inv queued first last wakes left)) (go wakes)
     where
       go : WakesOneOf s t m g → IsSparedAccessOf s.layout s t (unwoken t m)
       go (In_unlock o p is mutex at goes) = (
@@ -419,8 +419,8 @@ module _ (s : State) (ns : List Note) (inv : Kept s) (queued : Queued s) (agrees
         (λ d q stands. ap (λ (y : ℕ). Stepped t y None None [] [] None) (mutex ∙ ap (λ (x : CondCall). mutex_of s.layout (OnCondition x)) (same_wait c d p q (sym is ∙ stands)))),
       )
 
-  spares_else : (t : ℕ) → ¬ Applies s.layout s ns (Event.Spare t) → happens s (Event.Spare t) ≡ nothing s
-  spares_else t never = spare_rests s t queued (λ first last may. never ((first, last), may))
+  spares_else : (t : ℕ) (by : LeftTo) → ¬ Applies s.layout s ns (Event.Spare t by) → happens s (Event.Spare t by) ≡ nothing s
+  spares_else t by never = spare_rests s t by queued (λ first last may. never ((first, last), may))
 
   -- ---- resleeps
   resleeps_so : (t : ℕ) → Applies s.layout s ns (Event.Resleep t) → (k : ℕ) → StandsIn s t (Condition k) → (happens s (Event.Resleep t)).note ≡ Reslept t k
@@ -449,7 +449,7 @@ module _ (s : State) (ns : List Note) (inv : Kept s) (queued : Queued s) (agrees
   so (Event.Reinit t m) on = reinits_so t m on
   so (Event.Remake t m) on = remakes_so t m on
   so (Event.Recount k) on = recounts_so k on
-  so (Event.Spare t) on = spares_so t on
+  so (Event.Spare t by) on = spares_so t by on
   so (Event.Resleep t) on = resleeps_so t on
   so (Event.Repeat t) on = repeats_so t on
 
@@ -464,7 +464,7 @@ module _ (s : State) (ns : List Note) (inv : Kept s) (queued : Queued s) (agrees
   idles (Event.Reinit t m) never = reinits_else t m never
   idles (Event.Remake t m) never = remakes_else t m never
   idles (Event.Recount k) never = recounts_else k never
-  idles (Event.Spare t) never = spares_else t never
+  idles (Event.Spare t by) never = spares_else t by never
   idles (Event.Resleep t) never = resleeps_else t never
   idles (Event.Repeat t) never = repeats_else t never
 

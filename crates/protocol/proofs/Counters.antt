@@ -290,7 +290,7 @@ recount_or (Event.Decline t) = inl tt
 recount_or (Event.Renew t) = inl tt
 recount_or (Event.Reinit t m) = inl tt
 recount_or (Event.Remake t m) = inl tt
-recount_or (Event.Spare t) = inl tt
+recount_or (Event.Spare t by) = inl tt
 recount_or (Event.Resleep t) = inl tt
 recount_or (Event.Repeat t) = inl tt
 

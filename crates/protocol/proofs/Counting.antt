@@ -153,7 +153,7 @@ first_none k (Event.Decline t) es none = (tt, none)
 first_none k (Event.Renew t) es none = (tt, none)
 first_none k (Event.Reinit t m) es none = (tt, none)
 first_none k (Event.Remake t m) es none = (tt, none)
-first_none k (Event.Spare t) es none = (tt, none)
+first_none k (Event.Spare t by) es none = (tt, none)
 first_none k (Event.Resleep t) es none = (tt, none)
 first_none k (Event.Repeat t) es none = (tt, none)
 

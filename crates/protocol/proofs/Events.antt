@@ -10,7 +10,7 @@ use Rattle.exitwalk.specs.Standings as walks
 use Rattle.protocol.specs.declared.event.Event.TheVariants.{Begin, Kill, Leave, Expire, Decline, Renew, Reinit, Remake, Recount, Spare, Resleep, Repeat}
 use Rattle.mutex.specs.declared.row.Row.TheVariants.{Unlock}
 use Rattle.protocol.proofs.Vocabulary.{Call, departed, lapsed, renewed, reinited, spared, sleeps, sleepers, Reaped, Trimmed, Phase, AtCell, UnlockRow, not, nat_lt, Object, MayReinit, MayRemake, waiters_of, cell_place}
-use Rattle.protocol.proofs.Vocabulary.{CondPhase, CondRow, WaitRow, cond_led, Count, Thread, eqb-false, is_calling, counter_place, stands_in, Led, another_answers, holds_count, none_counts, may_recount, recounted, MayRecount, sparing, wakes_one}
+use Rattle.protocol.proofs.Vocabulary.{CondPhase, CondRow, WaitRow, cond_led, Count, Thread, eqb-false, is_calling, counter_place, stands_in, Led, is_left_to, LeftTo, holds_count, none_counts, may_recount, recounted, MayRecount, sparing, wakes_one}
 use Rattle.protocol.proofs.Vocabulary.{resleeping, reslept, is_mark, repeating, repeated}
 use Rattle.protocol.proofs.Stepping.{wakes_next}
 use Rattle.protocol.proofs.Endings.{EndsOrGoes, call_ends, cond_ends}
@@ -177,7 +177,8 @@ pub record Sparing (s : State) (t m : ℕ) (g : Led) : Type 0 where
   pub first : 1 ≤ t
   pub last : t ≤ s.layout.threads
   pub how : HowSpared s t m g
-  pub another : another_answers s t m s.layout.threads ≡ true
+  pub by : LeftTo
+  pub left : is_left_to s t m by ≡ true
 
 pub spared_calls : (s : State) (t m : ℕ) (g : Led) → HowSpared s t m g → is_calling (s.threads t).stage ≡ true
 spared_calls s t m g (Of_unlock o p is mutex at leads) = ap is_calling is
@@ -215,7 +216,7 @@ pub by_event : (s : State) (P : Event → After → Type 0) → ((e : Event) →
     → ((t m : ℕ) → MayReinit s t m → P (Reinit t m) (reinited s t m 0))
     → ((t m : ℕ) → MayRemake s t m → P (Remake t m) (reinited s t m (waiters_of (s.words (cell_place s.layout m)))))
     → ((k : ℕ) → MayRecount s k → P (Recount k) (recounted s k))
-    → ((t m : ℕ) (g : Led) → Sparing s t m g → P (Spare t) (spared s t (s.threads t).held m g))
+    → ((t m : ℕ) (g : Led) (sp : Sparing s t m g) → P (Spare t sp.by) (spared s t (s.threads t).held m g))
     → ((t : ℕ) (c : CondCall) (p : Whole) → 1 ≤ t → t ≤ s.layout.threads → (s.threads t).stage ≡ Calling (OnCondition c) p → stands_in t (s.queues (counter_place s.layout (condition_of c))) ≡ true → P (Resleep t) (reslept s t (condition_of c)))
     → ((t : ℕ) (w : walks.Standing) → 1 ≤ t → t ≤ s.layout.threads → (s.threads t).stage ≡ Dying w → is_mark w.row ≡ false → P (Repeat t) (repeated s t w))
     → (e : Event) → P e (happens s e)
@@ -298,31 +299,31 @@ by_event s P none begins_so steps_so kills_so leaves_so expires_so oversleeps_so
     go : (b : Bool) → may_recount s k ≡ b → P (Recount k) (if b then recounted s k else nothing s)
     go true e = recounts_so k (recount_so s k e)
     go false e = none (Recount k)
-by_event s P none begins_so steps_so kills_so leaves_so expires_so oversleeps_so declines_so renews_so reinits_so remakes_so recounts_so spares_so resleeps_so repeats_so (Spare t) = go (has_thread s t) refl
+by_event s P none begins_so steps_so kills_so leaves_so expires_so oversleeps_so declines_so renews_so reinits_so remakes_so recounts_so spares_so resleeps_so repeats_so (Spare t by) = go (has_thread s t) refl
   where
-    calls : (o : Op) (p : Whole) → has_thread s t ≡ true → (s.threads t).stage ≡ Calling o p → (a : Bool) → wakes_one p.phase ≡ a → (b : Bool) → another_answers s t (mutex_of s.layout o) s.layout.threads ≡ b
-        → P (Spare t) (if a && b then spared s t (s.threads t).held (mutex_of s.layout o) (led o p (whole_led p (Count 1))) else nothing s)
-    calls o p there is true wakes true another =
-        spares_so t (mutex_of s.layout o) (led o p (whole_led p (Count 1))) record { first = grind (arith, nat_tests); last = grind (arith, nat_tests); how = Of_unlock o p is refl (wakes_at p.phase wakes) refl; another = another }
-    calls o p there is true wakes false alone = none (Spare t)
-    calls o p there is false other b e = none (Spare t)
+    calls : (o : Op) (p : Whole) → has_thread s t ≡ true → (s.threads t).stage ≡ Calling o p → (a : Bool) → wakes_one p.phase ≡ a → (b : Bool) → is_left_to s t (mutex_of s.layout o) by ≡ b
+        → P (Spare t by) (if a && b then spared s t (s.threads t).held (mutex_of s.layout o) (led o p (whole_led p (Count 1))) else nothing s)
+    calls o p there is true wakes true left =
+        spares_so t (mutex_of s.layout o) (led o p (whole_led p (Count 1))) record { first = grind (arith, nat_tests); last = grind (arith, nat_tests); how = Of_unlock o p is refl (wakes_at p.phase wakes) refl; by = by; left = left }
+    calls o p there is true wakes false none_left = none (Spare t by)
+    calls o p there is false other b e = none (Spare t by)
 
-    waits : (c : CondCall) (p : CondWhole) → has_thread s t ≡ true → (s.threads t).stage ≡ AtCondition c p → (a : Bool) → wakes_next p.phase ≡ a → (b : Bool) → another_answers s t (mutex_of s.layout (OnCondition c)) s.layout.threads ≡ b
-        → P (Spare t) (if a && b then spared s t (s.threads t).held (mutex_of s.layout (OnCondition c)) (led_at c p (cond_led p (Count 1))) else nothing s)
-    waits c p there is true wakes true another =
+    waits : (c : CondCall) (p : CondWhole) → has_thread s t ≡ true → (s.threads t).stage ≡ AtCondition c p → (a : Bool) → wakes_next p.phase ≡ a → (b : Bool) → is_left_to s t (mutex_of s.layout (OnCondition c)) by ≡ b
+        → P (Spare t by) (if a && b then spared s t (s.threads t).held (mutex_of s.layout (OnCondition c)) (led_at c p (cond_led p (Count 1))) else nothing s)
+    waits c p there is true wakes true left =
         let at = waits_at p.phase wakes in
-        spares_so t (mutex_of s.layout (OnCondition c)) (led_at c p (cond_led p (Count 1))) record { first = grind (arith, nat_tests); last = grind (arith, nat_tests); how = Of_wait c p at.0 is refl at.1 refl; another = another }
-    waits c p there is true wakes false alone = none (Spare t)
-    waits c p there is false other b e = none (Spare t)
+        spares_so t (mutex_of s.layout (OnCondition c)) (led_at c p (cond_led p (Count 1))) record { first = grind (arith, nat_tests); last = grind (arith, nat_tests); how = Of_wait c p at.0 is refl at.1 refl; by = by; left = left }
+    waits c p there is true wakes false none_left = none (Spare t by)
+    waits c p there is false other b e = none (Spare t by)
 
-    at : has_thread s t ≡ true → (g : Stage) → (s.threads t).stage ≡ g → P (Spare t) (sparing s t (s.threads t).held g)
-    at there (Calling o p) is = calls o p there is (wakes_one p.phase) refl (another_answers s t (mutex_of s.layout o) s.layout.threads) refl
-    at there (AtCondition c p) is = waits c p there is (wakes_next p.phase) refl (another_answers s t (mutex_of s.layout (OnCondition c)) s.layout.threads) refl
-    at there g is = none (Spare t)
+    at : has_thread s t ≡ true → (g : Stage) → (s.threads t).stage ≡ g → P (Spare t by) (sparing s t by (s.threads t).held g)
+    at there (Calling o p) is = calls o p there is (wakes_one p.phase) refl (is_left_to s t (mutex_of s.layout o) by) refl
+    at there (AtCondition c p) is = waits c p there is (wakes_next p.phase) refl (is_left_to s t (mutex_of s.layout (OnCondition c)) by) refl
+    at there g is = none (Spare t by)
 
-    go : (b : Bool) → has_thread s t ≡ b → P (Spare t) (if b then sparing s t (s.threads t).held (s.threads t).stage else nothing s)
+    go : (b : Bool) → has_thread s t ≡ b → P (Spare t by) (if b then sparing s t by (s.threads t).held (s.threads t).stage else nothing s)
     go true there = at there (s.threads t).stage refl
-    go false e = none (Spare t)
+    go false e = none (Spare t by)
 by_event s P none begins_so steps_so kills_so leaves_so expires_so oversleeps_so declines_so renews_so reinits_so remakes_so recounts_so spares_so resleeps_so repeats_so (Resleep t) = go (has_thread s t) refl
   where
     sleeps_on : (c : CondCall) (p : Whole) → has_thread s t ≡ true → (s.threads t).stage ≡ Calling (OnCondition c) p → (a : Bool) → stands_in t (s.queues (counter_place s.layout (condition_of c))) ≡ a

@@ -1,13 +1,12 @@
 -- A wait with a time limit returns ETIMEDOUT only where its limit came, and OK only where it didn't.
-use Rattle.std.proofs.Common.{◌≡◌, ◌≢◌, ⊎_elim, inl, inr, ℕ, ◌≤◌, ◌==◌, Bool, true, false, not, Option, Some, None, Ok, Err, List, [], ◌∷◌, refl, sym, ap, ◌∙◌, subst, arith, eq-eqb}
-use Rattle.protocol.proofs.Vocabulary.{Answer, answer_of, Reply, OK, XHELD, Trimmed, Return, Fact, facts_of, Note, Began, Call, CondCall, Limit, Past, Ahead, CondWhole, CondPhase, Phase, Whole, Fields, Op, OnMutex, OnCondition, Stage, Idle, Calling, AtCondition, Dying, Thread}
-use Rattle.protocol.proofs.Vocabulary.{State, After, Event, Begun, Operation, Condition, Mutex, Joins, begun, begun_of, first_stage, happens, nothing, notes, run, start, stepped, went, led, led_at, stage_after, stage_at, returned, returned_at, mutex_of, condition_of, overslept, lapsed, may_begin}
-use Rattle.protocol.proofs.Vocabulary.{whole_access, whole_led, cond_access, cond_led, put, if◌then◌else◌, nat_tests, has_ended}
+use Rattle.std.proofs.Common.{◌≡◌, ◌≢◌, ⊎_elim, ℕ, ◌≤◌, ◌==◌, Bool, true, false, not, Option, Some, None, Ok, Err, List, [], ◌∷◌, refl, sym, ap, ◌∙◌, subst, arith, eq-eqb}
+use Rattle.protocol.proofs.Vocabulary.{Answer, answer_of, Reply, OK, XHELD, Return, facts_of, Call, CondCall, Limit, Past, Ahead, CondWhole, CondPhase, Phase, Whole, Fields, Op, OnMutex, OnCondition, Stage, Idle, Calling, AtCondition, Thread}
+use Rattle.protocol.proofs.Vocabulary.{State, After, Event, Begun, Operation, Joins, begun, begun_of, first_stage, happens, nothing, notes, run, start, stepped, stage_after, stage_at, returned, returned_at, mutex_of, overslept, may_begin}
+use Rattle.protocol.proofs.Vocabulary.{whole_access, whole_led, cond_access, cond_led, put, if◌then◌else◌, nat_tests}
 use Rattle.lockword.specs.declared.reply.Reply.TheVariants.{ETIMEDOUT}
 use Rattle.condvar.specs.Calls.{is_ahead, reply_of}
 use Rattle.condvar.specs.Whole as condition
 use Rattle.mutex.specs.Calls as mutex
-use Rattle.exitwalk.specs.Walks as exit
 use Rattle.protocol.specs.Applies.{IsTold}
 use Rattle.protocol.specs.Machine.{Led, has_thread}
 use Rattle.protocol.specs.Sleepers.{IsAmong}
@@ -20,10 +19,10 @@ use Rattle.protocol.proofs.Kept.{Kept, AtPhase}
 use Rattle.protocol.proofs.Steps.{met_no_move, answer-is, onto}
 use Rattle.protocol.proofs.CallSteps.{CallStep}
 use Rattle.protocol.proofs.Accesses.{goes, fits_in}
-use Rattle.protocol.proofs.CondAccesses.{cond_stepping, fits_at}
+use Rattle.protocol.proofs.CondAccesses.{fits_at}
 use Rattle.protocol.proofs.Declines.{spared_is}
 use Rattle.protocol.proofs.Sparing.{spare_is, next_of}
-use Rattle.protocol.proofs.Events.{begins_at, by_event, by_stage, first_is, may_so, HowSpared, Of_unlock, Of_wait, IsTrimming}
+use Rattle.protocol.proofs.Events.{begins_at, by_event, by_stage, first_is, may_so, HowSpared, Of_unlock, Of_wait}
 use Rattle.protocol.proofs.Renewals.{renewed_thread, renewed_other}
 use Rattle.protocol.proofs.Emptied.{returned_noted}
 use Rattle.protocol.proofs.Lives.{timed_is, timely}
@@ -211,7 +210,7 @@ module _ (s : State) (t : ℕ) (late : Bool) (h : IsLateAt (s.threads t).stage l
   late_on (Event.Reinit u m) inv = others (Event.Reinit u m) inv tt
   late_on (Event.Remake u m) inv = others (Event.Remake u m) inv tt
   late_on (Event.Recount k) inv = others (Event.Recount k) inv tt
-  late_on (Event.Spare u) inv = others (Event.Spare u) inv tt
+  late_on (Event.Spare u by) inv = others (Event.Spare u by) inv tt
   late_on (Event.Resleep u) inv = others (Event.Resleep u) inv tt
   late_on (Event.Repeat u) inv = others (Event.Repeat u) inv tt
 

@@ -15,7 +15,7 @@ use Rattle.protocol.proofs.Events.{is_known, trims_at}
 use Rattle.protocol.proofs.Runs.{start_kept, run_kept, run_layout}
 use Rattle.protocol.proofs.QueueRuns.{run_queued}
 use Rattle.std.proofs.Common.{List, map, append-nil}
-use Rattle.protocol.proofs.Vocabulary.{Event, Step, Thread, Condition, IsLayout, counter_place, stepped, walked, recounted, repeated, woken}
+use Rattle.protocol.proofs.Vocabulary.{Event, LeftTo, Step, Thread, Condition, IsLayout, counter_place, stepped, walked, recounted, repeated, woken}
 use Rattle.facts.specs.declared.fact.Fact.TheVariants.{Sleep}
 use Rattle.exitwalk.specs.Walks as exit
 use Rattle.protocol.specs.declared.event.Event.TheVariants.{Repeat}
@@ -106,10 +106,10 @@ module _ (s : State) (t : ℕ) (inv : Kept s) (queued : Queued s) (pos : 1 ≤ t
   abbrev Spares : Stage → After → Type 0
   Spares g a = OnlySpares s a.state t g × (facts_of a.note ≡ [])
 
-  spares : SparesSo s t
-  spares = record {
-    spared = λ m g wakes another.
-        subst (Spares g) (sym (spare_goes s t m g inv queued pos known wakes another)) (
+  spares : (by : LeftTo) → SparesSo s t by
+  spares by = record {
+    spared = λ m g wakes left.
+        subst (Spares g) (sym (spare_goes s t m by g inv queued pos known wakes left)) (
           record {
             words = λ p. refl;
             queues = λ key. refl;
@@ -119,7 +119,7 @@ module _ (s : State) (t : ℕ) (inv : Kept s) (queued : Queued s) (pos : 1 ≤ t
           },
           refl,
         );
-    else_nothing = λ never. spare_rests s t queued (λ first last may. never may);
+    else_nothing = λ never. spare_rests s t by queued (λ first last may. never may);
   }
 
   -- ---- resleeps
@@ -158,8 +158,8 @@ module _ (l : Layout') (counters : ℕ → ℕ) (events : List Event) (is : IsLa
   inv_then : Kept (run s0 events)
   inv_then = run_kept s0 events (start_kept l counters is)
 
-  pub spares_then : (t : ℕ) → 1 ≤ t → t ≤ l.threads → SparesSo (run s0 events) t
-  spares_then t pos known = spares (run s0 events) t inv_then (run_queued l counters events is) pos (known_then t known)
+  pub spares_then : (t : ℕ) → 1 ≤ t → t ≤ l.threads → (by : LeftTo) → SparesSo (run s0 events) t by
+  spares_then t pos known by = spares (run s0 events) t inv_then (run_queued l counters events is) pos (known_then t known) by
 
   pub again_then : ResleepsAndRepeats l (run s0 events)
   again_then = record {
@@ -168,7 +168,7 @@ module _ (l : Layout') (counters : ℕ → ℕ) (events : List Event) (is : IsLa
   }
 
 pub spares_lone : SparesAreLone
-spares_lone l counters events is t pos known = spares_then l counters events is t pos known
+spares_lone l counters events is t pos known by = spares_then l counters events is t pos known by
 
 pub resleeps_and_repeats_lone : ResleepsAndRepeatsAreLone
 resleeps_and_repeats_lone l counters events is = again_then l counters events is

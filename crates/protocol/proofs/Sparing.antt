@@ -1,8 +1,8 @@
 -- Wakes that are spared.
-use Rattle.std.proofs.Common.{◌≡◌, ◌≢◌, ℕ, zero, suc, ◌+◌, ◌≤◌, ◌==◌, ◌&&◌, Bool, true, false, None, List, [], ◌∷◌, refl, sym, ap, ◌∙◌, subst, arith, eqb-true}
+use Rattle.std.proofs.Common.{◌≡◌, ◌≢◌, ◌⊎◌, inl, inr, ℕ, zero, suc, ◌+◌, ◌<◌, ◌≤◌, ◌==◌, ◌&&◌, Bool, true, false, None, List, [], ◌∷◌, refl, sym, ap, ◌∙◌, subst, arith, eqb-true}
 use Rattle.protocol.proofs.Vocabulary.{CondCall, CondPhase, CondRow, WaitRow, CondWhole, cond_led, Operation, OK, Count, Phase, AtCell, Clearing, UnlockRow, Whole, whole_led, leaving, Op, OnCondition, mutex_of}
 use Rattle.protocol.proofs.Vocabulary.{Event, Thread, Stage, Idle, Calling, AtCondition, Dying, Reaped, Note, Stepped, State, After, Layout', put, place_met, nothing, is_asleep, Led, led, led_at, spared, stage_after, held_after, happens}
-use Rattle.protocol.proofs.Vocabulary.{Access, stands_in, if◌then◌else◌, not, ◌||◌, eqb-false, another_answers, answers, sparing, wakes_one, AnotherAnswers, In_unlock, In_wait, WakesOneOf, MaySpare, head_place}
+use Rattle.protocol.proofs.Vocabulary.{Access, nat_tests, sleeps, stands_in, if◌then◌else◌, not, ◌||◌, eqb-false, a_walk_minds, another_answers, answers, cell_place, is_calling, is_left_to, is_owned, IsUnowned, LeftTo, minds, sparing, walk_minds, wakes_one, In_unlock, In_wait, IsLeftTo, WakesOneOf, MaySpare, head_place}
 use mathlib.Core.Path.{fun_ext}
 use Rattle.mutex.specs.Whole.{phase_led}
 use Rattle.mutex.specs.declared.row.Row.TheVariants.{Unlock}
@@ -16,13 +16,16 @@ use Rattle.protocol.proofs.Steps.{after, unmoved, call_step, cond_step}
 use Rattle.protocol.proofs.Stepping.{SleepsAs, Minds, AnswersAs, wakes_next}
 use Rattle.exitwalk.specs.declared.row.Row as walk_row
 use Rattle.exitwalk.specs.declared.row.Row.TheVariants as walk
+use Rattle.exitwalk.specs.declared.row.Part.TheVariants as part
+use Rattle.exitwalk.specs.Standings as walks
+use Rattle.lockword.specs.Cells.{fields_of}
 use Rattle.protocol.specs.Machine.{is_first, is_pending}
-use Rattle.protocol.proofs.Seeing.{entry_in}
+use Rattle.protocol.proofs.Seeing.{entry_in, cell_in}
 use Rattle.protocol.proofs.Phases.{answers_at}
 use Rattle.protocol.proofs.Accesses.{fits_in, goes}
 use Rattle.protocol.proofs.CondAccesses.{cond_stepping}
 use Rattle.protocol.proofs.Queued.{Queued, Answering, in_none, out_awake}
-use Rattle.protocol.proofs.Events.{is_known, by_event, HowSpared, Of_unlock, Of_wait, Sparing}
+use Rattle.protocol.proofs.Events.{is_known, by_event, spared_calls, HowSpared, Of_unlock, Of_wait, Sparing}
 use Rattle.protocol.proofs.Departures.{queues_kept, asleep_where}
 use Rattle.protocol.proofs.Queues.{not_true}
 use Rattle.protocol.proofs.Cases.{at_or_else}
@@ -94,6 +97,65 @@ answers_as l words m u (Dying w) e = go w.row e
     go walk.LoadFirst e = eqb-true (words (head_place u + 2)) (entry_in l u m) e
     go r e = absurd cc
 answers_as l words m u Reaped e = absurd cc
+
+-- ---- a walk that answers
+
+record AWalk (s : State) (m n : ℕ) : Type 0 where
+  dead : ℕ
+  first : 1 ≤ dead
+  last : dead ≤ n
+  looks : walk_minds s.layout s.words m dead (s.threads dead).stage ≡ true
+
+a_walk_is : (s : State) (m n : ℕ) → a_walk_minds s m n ≡ true → AWalk s m n
+a_walk_is s m zero e = absurd cc
+a_walk_is s m (suc n) e = go (walk_minds s.layout s.words m (suc n) (s.threads (suc n)).stage) refl e (a_walk_is s m n)
+  where
+    go : (a : Bool) → walk_minds s.layout s.words m (suc n) (s.threads (suc n)).stage ≡ a → (a || a_walk_minds s m n) ≡ true → (a_walk_minds s m n ≡ true → AWalk s m n) → AWalk s m (suc n)
+    go true looks e rest = record { dead = suc n; first = omega arith; last = omega arith; looks = looks }
+    go false looks e rest = let a = rest e in record { dead = a.dead; first = a.first; last = (let most = a.last in omega arith); looks = a.looks }
+
+pub a_walk_again : (s : State) (m n u : ℕ) → 1 ≤ u → u ≤ n → walk_minds s.layout s.words m u (s.threads u).stage ≡ true → a_walk_minds s m n ≡ true
+a_walk_again s m zero u first last looks = absurd (omega arith)
+a_walk_again s m (suc n) u first last looks = go (suc n == u) refl (a_walk_again s m n u first)
+  where
+    or_else : (b : Bool) → (b || true) ≡ true
+    or_else true = refl
+    or_else false = refl
+
+    go : (b : Bool) → (suc n == u) ≡ b → (u ≤ n → walk_minds s.layout s.words m u (s.threads u).stage ≡ true → a_walk_minds s m n ≡ true) → (walk_minds s.layout s.words m (suc n) (s.threads (suc n)).stage || a_walk_minds s m n) ≡ true
+    go true is rest =
+        let here : walk_minds s.layout s.words m (suc n) (s.threads (suc n)).stage ≡ true = subst (λ (v : ℕ). walk_minds s.layout s.words m v (s.threads v).stage ≡ true) (sym (eqb-true (suc n) u is)) looks in
+        ap (λ (x : Bool). x || a_walk_minds s m n) here
+    go false off rest = let apart = eqb-false (suc n) u off in ap (λ (x : Bool). walk_minds s.layout s.words m (suc n) (s.threads (suc n)).stage || x) (rest (omega arith) looks) ∙ or_else (walk_minds s.layout s.words m (suc n) (s.threads (suc n)).stage)
+
+either_is : (a b x : ℕ) (c : ℕ) → ((a == b) || (x == c)) ≡ true → (a ≡ b) ⊎ (x ≡ c)
+either_is a b x c e = go (a == b) refl e
+  where
+    go : (y : Bool) → (a == b) ≡ y → (y || (x == c)) ≡ true → (a ≡ b) ⊎ (x ≡ c)
+    go true is e = inl (eqb-true a b is)
+    go false is e = inr (eqb-true x c e)
+
+-- as the test says, and as the invariant does
+minds_as : (l : Layout') (words : ℕ → ℕ) (m u : ℕ) (r : walk_row.Row) → minds l words m u r ≡ true → Minds l words m u r
+minds_as l words m u walk.LoadFirst e = eqb-true (words (head_place u + 2)) (entry_in l u m) e
+minds_as l words m u (walk.LoadOffset f) e = eqb-true (words (head_place u + 2)) (entry_in l u m) e
+minds_as l words m u (walk.LoadPending f o) e = eqb-true (words (head_place u + 2)) (entry_in l u m) e
+minds_as l words m u (walk.LoadNext r) e = eqb-true r.pending (entry_in l u m) e
+minds_as l words m u (walk.LoadWord at (part.List r)) e = eqb-true r.pending (entry_in l u m) e
+minds_as l words m u (walk.LoadWord at part.Pending) e = eqb-true at (cell_in l u m) e
+minds_as l words m u (walk.Mark at v again (part.List r)) e = eqb-true r.pending (entry_in l u m) e
+minds_as l words m u (walk.WakeOne at (part.List r)) e = either_is at (cell_in l u m) r.pending (entry_in l u m) e
+minds_as l words m u (walk.WakeOne at part.Pending) e = eqb-true at (cell_in l u m) e
+minds_as l words m u (walk.Mark at v again part.Pending) e = absurd cc
+minds_as l words m u walk.Ended e = absurd cc
+
+-- whose stage it is
+walks_as : (l : Layout') (words : ℕ → ℕ) (m u : ℕ) (g : Stage) → walk_minds l words m u g ≡ true → (w : walks.Standing) × (g ≡ Dying w) × (minds l words m u w.row ≡ true)
+walks_as l words m u (Dying w) e = (w, refl, e)
+walks_as l words m u (Calling o p) e = absurd cc
+walks_as l words m u (AtCondition c p) e = absurd cc
+walks_as l words m u Idle e = absurd cc
+walks_as l words m u Reaped e = absurd cc
 
 -- ---- where the thread goes on
 
@@ -224,12 +286,13 @@ spare_kept s t m g sp inv = go sp.how
     go (Of_unlock o p is mutex at leads) = unlock_kept s t o p is at inv sp.first sp.last
     go (Of_wait c p seen is mutex at leads) = wait_kept s t c p seen is at inv sp.first sp.last
 
+-- a mutex that nobody owns has no owner in its word
+owned_not : (s : State) (m : ℕ) → m < s.layout.mutexes → IsUnowned s m → is_owned s m ≡ true → ⊥
+owned_not s m inside free e = grind (arith, nat_tests)
+
 module _ (s : State) (t m : ℕ) (g : Led) (sp : Sparing s t m g) (queued : Queued s) where
   abbrev s' : State
   s' = spared_state s t m g sp.how
-
-  other_one : Another s t m s.layout.threads
-  other_one = another_is s t m s.layout.threads sp.another
 
   pub spared_awake : is_asleep s t ≡ false
   spared_awake = not_true (is_asleep s t) (λ asleep. let there = asleep_where s t asleep in never there.0 (queued.sleeps there.0 t there.1).2 sp.how)
@@ -255,18 +318,39 @@ module _ (s : State) (t m : ℕ) (g : Led) (sp : Sparing s t m g) (queued : Queu
   still_answers : (k x : ℕ) → x ≢ t → Answering s k x → Answering s' k x
   still_answers k x apart a = record { first = a.first; last = a.last; answers = subst (AnswersAs s.layout s.words k x) (sym (stage_stays x apart)) a.answers; awake = a.awake }
 
-  another_answering : Answering s m other_one.other
-  another_answering = record {
-    first = other_one.first;
-    last = other_one.last;
-    answers = answers_as s.layout s.words m other_one.other (s.threads other_one.other).stage other_one.looks;
-    awake = in_none s other_one.other queued other_one.awake;
+  another_answering : (a : Another s t m s.layout.threads) → Answering s m a.other
+  another_answering a = record {
+    first = a.first;
+    last = a.last;
+    answers = answers_as s.layout s.words m a.other (s.threads a.other).stage a.looks;
+    awake = in_none s a.other queued a.awake;
   }
 
-  answered_then : (k x : ℕ) → Answering s k x → (y : ℕ) × Answering s' k y
-  answered_then k x =
+  walk_answering : (a : AWalk s m s.layout.threads) → (a.dead ≢ t) × Answering s m a.dead
+  walk_answering a =
+      let there = walks_as s.layout s.words m a.dead (s.threads a.dead).stage a.looks in (
+        (λ me. cc (spared_calls s t m g sp.how, ap (λ (v : ℕ). is_calling (s.threads v).stage) (sym me) ∙ ap is_calling there.1)),
+        record {
+          first = a.first;
+          last = a.last;
+          answers = subst (AnswersAs s.layout s.words m a.dead) (sym there.1) (minds_as s.layout s.words m a.dead there.0.row there.2);
+          awake = in_none s a.dead queued (ap (sleeps s a.dead) there.1);
+        },
+      )
+
+  -- who answers for the mutex where nobody owns it, but this thread
+  left_answering : m < s.layout.mutexes → IsUnowned s m → (by : LeftTo) → is_left_to s t m by ≡ true → (x : ℕ) × (x ≢ t) × Answering s m x
+  left_answering inside free LeftTo.Thread e = let a = another_is s t m s.layout.threads e in (a.other, a.apart, another_answering a)
+  left_answering inside free LeftTo.Owner e = absurd (owned_not s m inside free e)
+  left_answering inside free LeftTo.Walk e = let a = a_walk_is s m s.layout.threads e in let b = walk_answering a in (a.dead, b.0, b.1)
+
+  answered_then : (k x : ℕ) → k < s.layout.mutexes → IsUnowned s k → Answering s k x → (y : ℕ) × Answering s' k y
+  answered_then k x inside free =
       at_or_else (λ (y : ℕ). Answering s k y → (z : ℕ) × Answering s' k z) t x
-      (λ a. (other_one.other, subst (λ (j : ℕ). Answering s' j other_one.other) (sym (its_mutex k a.answers)) (still_answers m other_one.other other_one.apart another_answering)))
+      (λ a.
+      let same = its_mutex k a.answers in
+      let other = left_answering (subst (λ (j : ℕ). j < s.layout.mutexes) same inside) (subst (IsUnowned s) same free) sp.by sp.left in
+      (other.0, subst (λ (j : ℕ). Answering s' j other.0) (sym same) (still_answers m other.0 other.1 other.2)))
       (λ apart a. (x, still_answers k x apart a))
 
   pub spare_queued : Queued s'
@@ -275,57 +359,82 @@ module _ (s : State) (t m : ℕ) (g : Led) (sp : Sparing s t m g) (queued : Queu
     one = queued.one;
     once = queued.once;
     bits = queued.bits;
-    answered = λ k u inside none there. let old = queued.answered k u inside none there in answered_then k old.0 old.1;
+    answered = λ k u inside none there. let old = queued.answered k u inside none there in answered_then k old.0 inside none old.1;
   }
 
 -- ---- the event
 
--- where it may be spared it is
-pub spare_goes : (s : State) (t m : ℕ) (g : Stage) → Kept s → Queued s → 1 ≤ t → t ≤ s.layout.threads → WakesOneOf s t m g → AnotherAnswers s t m
-    → happens s (Spare t) ≡ record { state = record s { threads = put s.threads t (record { stage = g; held = (s.threads t).held }) }; note = unwoken t m }
-spare_goes s t m g inv queued pos known wakes another = ap (λ (b : Bool). if b then sparing s t (s.threads t).held (s.threads t).stage else nothing s) (is_known s t pos known) ∙ go wakes
+-- the test says who answers, and the other way round
+pub left_again : (s : State) (t m : ℕ) (by : LeftTo) → IsLeftTo s t m by → is_left_to s t m by ≡ true
+left_again s t m LeftTo.Thread a = another_again s t m s.layout.threads a.other a.first a.last a.apart (out_awake s a.other a.awake) a.looks
+left_again s t m LeftTo.Owner some = go ((fields_of (s.words (cell_place s.layout m))).owner == 0) refl
   where
-    answered : (k : ℕ) → m ≡ k → another_answers s t k s.layout.threads ≡ true
-    answered k same = another_again s t k s.layout.threads another.other another.first another.last another.apart (out_awake s another.other another.awake) (subst (λ (j : ℕ). answers s.layout s.words j another.other (s.threads another.other).stage ≡ true) same another.looks)
+    go : (b : Bool) → ((fields_of (s.words (cell_place s.layout m))).owner == 0) ≡ b → not b ≡ true
+    go true is = absurd (some (eqb-true (fields_of (s.words (cell_place s.layout m))).owner 0 is))
+    go false is = refl
+left_again s t m LeftTo.Walk a = a_walk_again s m s.layout.threads a.dead a.first a.last (ap (walk_minds s.layout s.words m a.dead) a.dies ∙ a.looks)
+
+pub left_so : (s : State) (t m : ℕ) → Queued s → (by : LeftTo) → is_left_to s t m by ≡ true → IsLeftTo s t m by
+left_so s t m queued LeftTo.Thread e = let a = another_is s t m s.layout.threads e in record { other = a.other; first = a.first; last = a.last; apart = a.apart; awake = in_none s a.other queued a.awake; looks = a.looks }
+left_so s t m queued LeftTo.Owner e = go ((fields_of (s.words (cell_place s.layout m))).owner == 0) refl e
+  where
+    go : (b : Bool) → ((fields_of (s.words (cell_place s.layout m))).owner == 0) ≡ b → not b ≡ true → (fields_of (s.words (cell_place s.layout m))).owner ≢ 0
+    go false is e = eqb-false (fields_of (s.words (cell_place s.layout m))).owner 0 is
+    go true is e = absurd cc
+left_so s t m queued LeftTo.Walk e =
+    let a = a_walk_is s m s.layout.threads e in
+    let there = walks_as s.layout s.words m a.dead (s.threads a.dead).stage a.looks in
+    record { dead = a.dead; first = a.first; last = a.last; at = there.0; dies = there.1; looks = there.2 }
+
+-- where it may be spared it is
+pub spare_goes : (s : State) (t m : ℕ) (by : LeftTo) (g : Stage) → Kept s → Queued s → 1 ≤ t → t ≤ s.layout.threads → WakesOneOf s t m g → IsLeftTo s t m by
+    → happens s (Spare t by) ≡ record { state = record s { threads = put s.threads t (record { stage = g; held = (s.threads t).held }) }; note = unwoken t m }
+spare_goes s t m by g inv queued pos known wakes left = ap (λ (b : Bool). if b then sparing s t by (s.threads t).held (s.threads t).stage else nothing s) (is_known s t pos known) ∙ go wakes
+  where
+    answered : (k : ℕ) → m ≡ k → is_left_to s t k by ≡ true
+    answered k same = subst (λ (j : ℕ). is_left_to s t j by ≡ true) same (left_again s t m by left)
 
     To : Stage → ℕ → After
     To z k = record { state = record s { threads = put s.threads t (record { stage = z; held = (s.threads t).held }) }; note = unwoken t k }
 
-    go : WakesOneOf s t m g → sparing s t (s.threads t).held (s.threads t).stage ≡ To g m
+    go : WakesOneOf s t m g → sparing s t by (s.threads t).held (s.threads t).stage ≡ To g m
     go (In_unlock o p is mutex at goes) =
-        ap (sparing s t (s.threads t).held) is
-        ∙ ap (λ (f : Phase). if wakes_one f && another_answers s t (mutex_of s.layout o) s.layout.threads then spared s t (s.threads t).held (mutex_of s.layout o) (led o p (whole_led p (Count 1))) else nothing s) at
+        ap (sparing s t by (s.threads t).held) is
+        ∙ ap (λ (f : Phase). if wakes_one f && is_left_to s t (mutex_of s.layout o) by then spared s t (s.threads t).held (mutex_of s.layout o) (led o p (whole_led p (Count 1))) else nothing s) at
         ∙ ap (λ (b : Bool). if b then spared s t (s.threads t).held (mutex_of s.layout o) (led o p (whole_led p (Count 1))) else nothing s) (answered (mutex_of s.layout o) mutex)
         ∙ unlock_is s t o p is at inv pos known (mutex_of s.layout o)
         ∙ (λ i. To (sym goes i) (sym mutex i))
     go (In_wait c p seen is mutex at goes) =
-        ap (sparing s t (s.threads t).held) is
-        ∙ ap (λ (f : CondPhase). if wakes_next f && another_answers s t (mutex_of s.layout (OnCondition c)) s.layout.threads then spared s t (s.threads t).held (mutex_of s.layout (OnCondition c)) (led_at c p (cond_led p (Count 1))) else nothing s) at
+        ap (sparing s t by (s.threads t).held) is
+        ∙ ap (λ (f : CondPhase). if wakes_next f && is_left_to s t (mutex_of s.layout (OnCondition c)) by then spared s t (s.threads t).held (mutex_of s.layout (OnCondition c)) (led_at c p (cond_led p (Count 1))) else nothing s) at
         ∙ ap (λ (b : Bool). if b then spared s t (s.threads t).held (mutex_of s.layout (OnCondition c)) (led_at c p (cond_led p (Count 1))) else nothing s) (answered (mutex_of s.layout (OnCondition c)) mutex)
         ∙ wait_is s t c p seen is at (mutex_of s.layout (OnCondition c))
         ∙ (λ i. To (sym goes i) (sym mutex i))
 
 -- what the test says
-pub spare_so : (s : State) (t m : ℕ) (g : Led) → Queued s → Sparing s t m g → MaySpare s t
-spare_so s t m g queued sp = (m, next_of s t m g sp.how, go sp.how, record { other = a.other; first = a.first; last = a.last; apart = a.apart; awake = in_none s a.other queued a.awake; looks = a.looks })
+pub spare_so : (s : State) (t m : ℕ) (g : Led) → Queued s → (sp : Sparing s t m g) → MaySpare s t sp.by
+spare_so s t m g queued sp = (m, next_of s t m g sp.how, go sp.how, left_so s t m queued sp.by sp.left)
   where
-    a : Another s t m s.layout.threads
-    a = another_is s t m s.layout.threads sp.another
-
     go : (how : HowSpared s t m g) → WakesOneOf s t m (next_of s t m g how)
     go (Of_unlock o p is mutex at leads) = In_unlock o p is mutex at refl
     go (Of_wait c p seen is mutex at leads) = In_wait c p seen is mutex at refl
 
 -- where it may not, nothing happens
-pub spare_rests : (s : State) (t : ℕ) → Queued s → (1 ≤ t → t ≤ s.layout.threads → MaySpare s t → ⊥) → happens s (Spare t) ≡ nothing s
-spare_rests s t queued never =
-    by_event s (λ (x : Event) (a : After). x ≡ Spare t → a ≡ nothing s) (λ x same. refl) (λ u o pos known named idle b full same. absurd cc) (λ u pos known same. absurd cc) (λ u pos known alive same. absurd cc) (λ u pos known asleep same. absurd cc)
+pub spare_rests : (s : State) (t : ℕ) (by : LeftTo) → Queued s → (1 ≤ t → t ≤ s.layout.threads → MaySpare s t by → ⊥) → happens s (Spare t by) ≡ nothing s
+spare_rests s t by queued never =
+    by_event s (λ (x : Event) (a : After). x ≡ Spare t by → a ≡ nothing s) (λ x same. refl) (λ u o pos known named idle b full same. absurd cc) (λ u pos known same. absurd cc) (λ u pos known alive same. absurd cc) (λ u pos known asleep same. absurd cc)
     (λ u m p pos known is asleep may same. absurd cc)
     (λ u k x p pos known is there same. absurd cc)
     (λ u o p pos known is awake trims same. absurd cc) (λ u pos known gone same. absurd cc) (λ u m may same. absurd cc) (λ u m may same. absurd cc) (λ k may same. absurd cc)
-    (λ u m g sp same. absurd (subst (λ (v : ℕ). 1 ≤ v → v ≤ s.layout.threads → MaySpare s v → ⊥) (sym (thread_is u t same)) never sp.first sp.last (spare_so s u m g queued sp)))
+    (λ u m g sp same. absurd (never_so u sp.by (thread_is u t sp.by by same) (left_is u t sp.by by same) sp.first sp.last (spare_so s u m g queued sp)))
     (λ u c p pos known is there same. absurd cc) (λ u w pos known is reads same. absurd cc)
-    (Spare t) refl
+    (Spare t by) refl
   where
-    thread_is : (u v : ℕ) → Spare u ≡ Spare v → u ≡ v
-    thread_is u v e = cc
+    thread_is : (u v : ℕ) (a b : LeftTo) → Spare u a ≡ Spare v b → u ≡ v
+    thread_is u v a b e = cc
+
+    left_is : (u v : ℕ) (a b : LeftTo) → Spare u a ≡ Spare v b → a ≡ b
+    left_is u v a b e = cc
+
+    never_so : (u : ℕ) (a : LeftTo) → u ≡ t → a ≡ by → 1 ≤ u → u ≤ s.layout.threads → MaySpare s u a → ⊥
+    never_so u a same left = subst (λ (z : ℕ × LeftTo). 1 ≤ z.0 → z.0 ≤ s.layout.threads → MaySpare s z.0 z.1 → ⊥) (λ i. (sym same i, sym left i)) never

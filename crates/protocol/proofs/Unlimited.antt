@@ -1,10 +1,10 @@
 -- Where no time limit comes, locks and waits with a limit are as those without one.
-use Rattle.std.proofs.Common.{◌≡◌, ℕ, zero, suc, ◌==◌, ◌&&◌, Bool, true, false, Some, None, Result, Ok, Err, List, [], ◌∷◌, length, map, refl, sym, ap, ◌∙◌, arith}
+use Rattle.std.proofs.Common.{◌≡◌, ℕ, zero, suc, ◌==◌, ◌&&◌, Bool, true, false, Some, None, Result, Ok, Err, List, [], ◌∷◌, length, map, refl, sym, ap, ◌∙◌}
 use mathlib.Core.Path.{fun_ext}
 use Rattle.protocol.proofs.Vocabulary.{Operation, address_in, head_place, Begun, CondCall, CondPhase, CondOnward, CondWhole, Layout', Mutex, Condition, Queue, Access, Reply, XHELD, Phase, Onward, Whole, Call, Op, OnMutex, OnCondition, whole_access, whole_led, cond_access, cond_led, Trimmed, Count}
 use Rattle.protocol.proofs.Vocabulary.{mutex_of, begun_of, condition_of, Thread, Stage, Calling, AtCondition, Dying, Event, Note, Began, State, After, begun, departed, killed, walked, renewed, reinited, recounted, repeated, spared, went, nothing, put, waiters_of}
 use Rattle.protocol.proofs.Vocabulary.{cell_place, answer_of, is_alive, is_asleep, sleeps, stage_after, stage_at, stage_walked, led, led_at, happens, stepped, run, notes, held_after, if◌then◌else◌, not, ◌||◌, nat_lt, nat_le, stands_at, stands_in, counter_place, first_stage}
-use Rattle.protocol.proofs.Vocabulary.{another_answers, answers, has_count, holds_count, is_mark, none_counts, repeating, resleeping, reslept, sparing, wakes_one}
+use Rattle.protocol.proofs.Vocabulary.{LeftTo, a_walk_minds, another_answers, answers, is_left_to, walk_minds, has_count, holds_count, is_mark, none_counts, repeating, resleeping, reslept, sparing, wakes_one}
 use Rattle.exitwalk.specs.Standings as walks
 use Rattle.exitwalk.specs.Walks as exit
 use Rattle.exitwalk.specs.declared.row.Row as walk_row
@@ -14,10 +14,10 @@ use Rattle.mutex.specs.Whole.{begins}
 use Rattle.condvar.specs.Ops.{may_call, reply_of}
 use Rattle.condvar.specs.Calls as condition
 use Rattle.condvar.specs.declared.call.Limit.TheVariants.{Ahead, Past}
-use Rattle.std.specs.Prelude.{Option, slice_index}
+use Rattle.std.specs.Prelude.{slice_index}
 use Rattle.protocol.specs.Machine as machine
 use Rattle.protocol.specs.Machine.{Led, decided_at, declined, death_at, has_thread, is_gone, is_idle, is_in_head, is_trim, is_unusable, places_of, stage_begun, words_after, queues_after, wakes_next, told_of, idle}
-use Rattle.protocol.specs.TimeLimits.{IsNoLimit, NoLimitComes, untimed, unlimited, unlimited_event, unlimited_note, unlimited_lock, unlimited_wait}
+use Rattle.protocol.specs.TimeLimits.{IsNoLimit, NoLimitComes, untimed, unlimited, unlimited_event, unlimited_note, unlimited_wait}
 use Rattle.protocol.proofs.Events.{may_so}
 use Rattle.protocol.specs.Applies.{BeginsAhead}
 
@@ -130,6 +130,21 @@ none_same s k (suc n) = λ i. not (holds_same k (s.threads (suc n)).stage i) && 
 another_same : (s : State) (t m n : ℕ) → another_answers (unlimited_state s) t m n ≡ another_answers s t m n
 another_same s t m zero = refl
 another_same s t m (suc n) = λ i. (not (suc n == t) && not (sleeps_same s (suc n) (s.threads (suc n)).stage i) && answers_same s.layout s.words m (suc n) (s.threads (suc n)).stage i) || another_same s t m n i
+
+minds_same : (l : Layout') (words : ℕ → ℕ) (m t : ℕ) (g : Stage) → walk_minds l words m t (unlimited_stage g) ≡ walk_minds l words m t g
+minds_same l words m t (Dying w) = refl
+minds_same l words m t (Calling o p) = refl
+minds_same l words m t (AtCondition c p) = refl
+minds_same l words m t g = refl
+
+walks_same : (s : State) (m n : ℕ) → a_walk_minds (unlimited_state s) m n ≡ a_walk_minds s m n
+walks_same s m zero = refl
+walks_same s m (suc n) = λ i. minds_same s.layout s.words m (suc n) (s.threads (suc n)).stage i || walks_same s m n i
+
+left_same : (s : State) (t m : ℕ) (by : LeftTo) → is_left_to (unlimited_state s) t m by ≡ is_left_to s t m by
+left_same s t m LeftTo.Thread = another_same s t m s.layout.threads
+left_same s t m LeftTo.Owner = refl
+left_same s t m LeftTo.Walk = walks_same s m s.layout.threads
 
 -- ---- and so is where it leads
 
@@ -275,16 +290,16 @@ module _ (s : State) (t held : ℕ) where
   declines (AtCondition c p) = refl
   declines g = refl
 
-  spares : (g : Stage) → sparing s1 t held (unlimited_stage g) ≡ unlimited_after (sparing s t held g)
-  spares (Calling o p) =
-      choose (wakes_one p.phase && another_answers s t (mutex_of s.layout o) s.layout.threads) _ (spared s t held (mutex_of s.layout o) (led o p (whole_led p (Count 1)))) _ (nothing s) _
-      (ap (λ (b : Bool). wakes_one p.phase && b) (ap (λ (k : ℕ). another_answers s1 t k s.layout.threads) (mutex_same s.layout o) ∙ another_same s t (mutex_of s.layout o) s.layout.threads))
+  spares : (by : LeftTo) (g : Stage) → sparing s1 t by held (unlimited_stage g) ≡ unlimited_after (sparing s t by held g)
+  spares by (Calling o p) =
+      choose (wakes_one p.phase && is_left_to s t (mutex_of s.layout o) by) _ (spared s t held (mutex_of s.layout o) (led o p (whole_led p (Count 1)))) _ (nothing s) _
+      (ap (λ (b : Bool). wakes_one p.phase && b) (ap (λ (k : ℕ). is_left_to s1 t k by) (mutex_same s.layout o) ∙ left_same s t (mutex_of s.layout o) by))
       ((λ i. spared s1 t held (mutex_same s.layout o i) (led_same o p (whole_led p (Count 1)) i)) ∙ spared_same s t held (mutex_of s.layout o) (led o p (whole_led p (Count 1)))) refl
-  spares (AtCondition c p) =
-      choose (wakes_next p.phase && another_answers s t (mutex_of s.layout (OnCondition c)) s.layout.threads) _ (spared s t held (mutex_of s.layout (OnCondition c)) (led_at c p (cond_led p (Count 1)))) _ (nothing s) _
-      (ap (λ (b : Bool). wakes_next p.phase && b) (ap (λ (k : ℕ). another_answers s1 t k s.layout.threads) (mutex_same s.layout (OnCondition c)) ∙ another_same s t (mutex_of s.layout (OnCondition c)) s.layout.threads))
+  spares by (AtCondition c p) =
+      choose (wakes_next p.phase && is_left_to s t (mutex_of s.layout (OnCondition c)) by) _ (spared s t held (mutex_of s.layout (OnCondition c)) (led_at c p (cond_led p (Count 1)))) _ (nothing s) _
+      (ap (λ (b : Bool). wakes_next p.phase && b) (ap (λ (k : ℕ). is_left_to s1 t k by) (mutex_same s.layout (OnCondition c)) ∙ left_same s t (mutex_of s.layout (OnCondition c)) by))
       ((λ i. spared s1 t held (mutex_same s.layout (OnCondition c) i) (led_at_same c p (cond_led p (Count 1)) i)) ∙ spared_same s t held (mutex_of s.layout (OnCondition c)) (led_at c p (cond_led p (Count 1)))) refl
-  spares g = refl
+  spares by g = refl
 
   resleeps : (g : Stage) → resleeping s1 t (unlimited_stage g) ≡ unlimited_after (resleeping s t g)
   resleeps (Calling (OnCondition c) p) = choose (stands_in t (s.queues (counter_place s.layout (condition_of c)))) _ (reslept s t (condition_of c)) _ (nothing s) _ (ap (λ (k : ℕ). stands_in t (s.queues (counter_place s.layout k))) (condition_same c)) (ap (reslept s1 t) (condition_same c)) refl
@@ -318,7 +333,7 @@ happens_same s (Event.Remake t m) none =
     choose (machine.may_remake s t m) _ (reinited s t m (waiters_of (s.words (cell_place s.layout m)))) _ (nothing s) _ (ap (λ (b : Bool). has_thread s t && b && nat_lt m s.layout.mutexes && is_unusable s m) (idle_same (s.threads t).stage)) refl refl
 happens_same s (Event.Recount k) none =
     choose (machine.may_recount s k) _ (recounted s k) _ (nothing s) _ (λ i. nat_lt k (length s.layout.conditions) && is_nobody (s.queues (counter_place s.layout k)) && none_same s k s.layout.threads i) refl refl
-happens_same s (Event.Spare t) none = choose (has_thread s t) _ (sparing s t (s.threads t).held (s.threads t).stage) _ (nothing s) _ refl (spares s t (s.threads t).held (s.threads t).stage) refl
+happens_same s (Event.Spare t by) none = choose (has_thread s t) _ (sparing s t by (s.threads t).held (s.threads t).stage) _ (nothing s) _ refl (spares s t (s.threads t).held by (s.threads t).stage) refl
 happens_same s (Event.Resleep t) none = choose (has_thread s t) _ (resleeping s t (s.threads t).stage) _ (nothing s) _ refl (resleeps s t (s.threads t).held (s.threads t).stage) refl
 happens_same s (Event.Repeat t) none = choose (has_thread s t) _ (repeating s t (s.threads t).stage) _ (nothing s) _ refl (repeats s t (s.threads t).held (s.threads t).stage) refl
 

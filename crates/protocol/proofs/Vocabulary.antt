@@ -78,9 +78,9 @@ pub use Rattle.protocol.specs.Machine.{is_calling, is_met, is_valid, joined, kil
 pub use Rattle.protocol.specs.Machine.{returned, returned_at, run, sleepers, sleeps, slept_in, stage_after, stage_at, stage_walked, stands_in, start, stepped, told_of, walked}
 pub use Rattle.protocol.specs.Machine.{death_at, decided_at, departed, lapsed, mutex_at, reinited, renewed, spared, waiters_of, stands_at, went, woken, woken_by}
 pub use Rattle.protocol.specs.Machine.{another_answers, answers, counts_on, has_count, holds_count, is_mark, may_recount, none_counts, recounted, repeated, repeating, resleeping, reslept, sparing, wakes_one}
-pub use Rattle.protocol.specs.Machine.{overslept, waits_on}
+pub use Rattle.protocol.specs.Machine.{a_walk_minds, is_left_to, is_owned, minds, overslept, waits_on, walk_minds}
 pub use Rattle.protocol.specs.Recounts.{MayRecount}
-pub use Rattle.protocol.specs.Spares.{AnotherAnswers, In_unlock, In_wait, MaySpare, WakesOneOf}
+pub use Rattle.protocol.specs.Spares.{AnotherAnswers, AWalkAnswers, IsLeftTo, In_unlock, In_wait, MaySpare, WakesOneOf}
 pub use Rattle.protocol.specs.Reinits.{MayReinit, MayRemake}
 pub use Rattle.protocol.specs.Notes.{death_facts, facts_of, line_of, lines_from, moves_to, point_facts, reap_facts, reinit_of, return_facts, sleep_facts}
 pub use Rattle.condvar.specs.Ops.{mutex_of}
@@ -88,6 +88,7 @@ pub use Rattle.protocol.specs.Ops.{begun_of, queue_place}
 pub use Rattle.protocol.specs.PassedBy.{ArePresets, BeginsNone, NobodyIsPassedBy, last_begun}
 pub use Rattle.protocol.specs.Sleepers.{IsUnowned, IsWaiting, Sleeps}
 pub use Rattle.protocol.specs.declared.event.Event.{Event}
+pub use Rattle.protocol.specs.declared.event.LeftTo.{LeftTo}
 pub use Rattle.protocol.specs.declared.event.Event.TheVariants.{Step}
 pub use Rattle.condvar.specs.declared.op.Op.{Op}
 pub use Rattle.condvar.specs.declared.op.Op.TheVariants.{OnCondition, OnMutex}

@@ -286,7 +286,7 @@ turn s e inv queued t =
     (λ u m may. Stays refl (λ key. refl))
     (λ u m may. Stays refl (λ key. refl))
     (λ k may. Stays refl (λ key. refl))
-    (λ u m g sp. subst (TurnOf s t (Event.Spare u)) (sym (spare_is s u m g sp inv)) (Stays refl (λ key. refl)))
+    (λ u m g sp. subst (TurnOf s t (Event.Spare u sp.by)) (sym (spare_is s u m g sp inv)) (Stays refl (λ key. refl)))
     (λ u c p pos known is there. resleep_turn s u (condition_of c) t (fits_in s u (OnCondition c) p inv pos known is).1.2 there)
     (λ u x pos known is reads. subst (TurnOf s t (Event.Repeat u)) (sym (repeated_is s u x inv pos known is))
     (step_turn s u t (again_v s u x) (again_step s u x inv pos known is) pos known (walk_from s u x inv pos known is) queued (walk_out s u x inv pos known is) (Event.Repeat u) (λ same. cc same) _ (again_noted s u x reads)))

@@ -112,7 +112,7 @@ module _ (s : State) (t : ℕ) (r : Row) (inv : Kept s) (pos : 1 ≤ t) (known :
       law = steps.right t (head_in s.layout t) (s.words at_place) r pos going knows
 
   -- and every pending word
-  pending_stays : (u : ℕ) → 1 ≤ u → u ≤ s.layout.threads → s'.words (head_place u + 2) ≡ s.words (head_place u + 2)
+  pub pending_stays : (u : ℕ) → 1 ≤ u → u ≤ s.layout.threads → s'.words (head_place u + 2) ≡ s.words (head_place u + 2)
   pending_stays u first most = go (death_then s t r) refl
     where
       go : (d : Option ℕ) → death_then s t r ≡ d → s'.words (head_place u + 2) ≡ s.words (head_place u + 2)

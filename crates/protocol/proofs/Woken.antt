@@ -350,7 +350,7 @@ module _ (s : State) (inv : Kept s) (queued : Queued s) (told : ℕ → Told) (b
   nothing_whom (Event.Reinit t m) = (refl, refl)
   nothing_whom (Event.Remake t m) = (refl, refl)
   nothing_whom (Event.Recount k) = (refl, refl)
-  nothing_whom (Event.Spare t) = (refl, refl)
+  nothing_whom (Event.Spare t by) = (refl, refl)
   nothing_whom (Event.Resleep t) = (inl refl, refl)
   nothing_whom (Event.Repeat t) = (inl refl, refl)
 
@@ -397,7 +397,7 @@ module _ (s : State) (inv : Kept s) (queued : Queued s) (told : ℕ → Told) (b
       (λ t m may. (refl, refl))
       (λ t m may. (refl, refl))
       (λ k may. (refl, refl))
-      (λ t m g sp. subst (WhomAt (Event.Spare t)) (sym (spare_is s t m g sp inv)) (refl, refl))
+      (λ t m g sp. subst (WhomAt (Event.Spare t sp.by)) (sym (spare_is s t m g sp inv)) (refl, refl))
       (λ t c p pos known is there. (inr refl, refl))
       (λ t w pos known is reads. again_whom s t w inv pos known is)
       e
@@ -420,7 +420,7 @@ woken_right l counters events is e = go e (next_whom (run s0 events) (run_kept s
     go (Event.Kill t) h = h
     go (Event.Leave t) h = h
     go (Event.Recount t) h = h
-    go (Event.Spare t) h = h
+    go (Event.Spare t by) h = h
     go (Event.Resleep t) h = h
     go (Event.Repeat t) h = h
     go (Event.Expire t) h = h

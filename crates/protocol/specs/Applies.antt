@@ -167,7 +167,7 @@ Applies l s ns (event.Reinit t m) =
 Applies l s ns (event.Remake t m) =
     IsThread l t × (last_told t ns ≡ AtRest) × (m < l.mutexes) × ((seen s m).unusable ≡ true)
 Applies l s ns (event.Recount k) = MayRecount s k
-Applies l s ns (event.Spare t) = IsThread l t × MaySpare s t
+Applies l s ns (event.Spare t by) = IsThread l t × MaySpare s t by
 Applies l s ns (event.Resleep t) = (k : ℕ) × (k < length l.conditions) × StandsIn s t (Condition k)
 Applies l s ns (event.Repeat t) = IsThread l t × IsAboutToRead s t
 
@@ -207,7 +207,7 @@ IsNotedAs l s (event.Renew t) n = n ≡ Renewed t
 IsNotedAs l s (event.Reinit t m) n = n ≡ Reinited t m
 IsNotedAs l s (event.Remake t m) n = n ≡ Reinited t m
 IsNotedAs l s (event.Recount k) n = n ≡ Recounted k
-IsNotedAs l s (event.Spare t) n = IsSparedAccessOf l s t n
+IsNotedAs l s (event.Spare t by) n = IsSparedAccessOf l s t n
 IsNotedAs l s (event.Resleep t) n = (k : ℕ) → StandsIn s t (Condition k) → n ≡ Reslept t k
 IsNotedAs l s (event.Repeat t) n = IsAccessOf t n
 

@@ -35,7 +35,7 @@ caller (event.Renew t) = t
 caller (event.Reinit t m) = t
 caller (event.Remake t m) = t
 caller (event.Recount k) = 0
-caller (event.Spare t) = t
+caller (event.Spare t by) = t
 caller (event.Resleep t) = t
 caller (event.Repeat t) = t
 

@@ -8,7 +8,7 @@
 -- doesn't sleep, or of a dying thread's walk; a kill takes a thread out of its queue and ends its call; a leave takes a
 -- sleeper out of its queue, and so does an expiry of one whose lock or wait has a time limit; a decline is the step of a thread
 -- whose next access is a trim, answered that this cleared nothing; a renewal lets a reaped thread live anew; a reinit
--- makes an unusable mutex anew. A recount puts a counter back to 0, a spare leaves a wake out for which another thread
+-- makes an unusable mutex anew. A recount puts a counter back to 0, a spare leaves a wake out for which another
 -- answers, a resleep takes a sleeper to the end of its queue, and a repeat makes an access of a walk that is made once
 -- more behind it. An event that can't apply notes nothing and changes nothing.
 --
@@ -86,6 +86,7 @@ use Rattle.condvar.specs.declared.wait.WaitRow.TheVariants as wait
 use Rattle.condvar.specs.declared.broadcast.BroadcastRow.TheVariants as broadcast
 use Rattle.facts.specs.declared.fact.Queue.{Queue}
 use Rattle.facts.specs.declared.fact.Queue.TheVariants.{Mutex, Condition}
+use Rattle.exitwalk.specs.declared.row.Part.TheVariants as part
 use Rattle.exitwalk.specs.declared.row.Row as walk_row
 use Rattle.exitwalk.specs.declared.row.Row.TheVariants as walk
 use Rattle.exitwalk.specs.Standings as walks
@@ -98,6 +99,8 @@ use Rattle.condvar.specs.declared.op.Op.TheVariants.{OnMutex, OnCondition}
 use Rattle.protocol.specs.declared.event.Event.{Event}
 use Rattle.protocol.specs.declared.event.Event.TheVariants.{Begin, Step, Kill, Leave, Expire, Decline, Renew, Reinit}
 use Rattle.protocol.specs.declared.event.Event.TheVariants.{Remake, Recount, Spare, Resleep, Repeat}
+use Rattle.protocol.specs.declared.event.LeftTo.{LeftTo}
+use Rattle.protocol.specs.declared.event.LeftTo.TheVariants as left_to
 use Rattle.protocol.specs.declared.thread.Thread.{Thread}
 use Rattle.protocol.specs.declared.thread.Stage.{Stage}
 use Rattle.protocol.specs.declared.thread.Stage.TheVariants.{Idle, Calling, AtCondition, Dying, Reaped}
@@ -628,6 +631,39 @@ another_answers s t m (suc n) =
     (not (suc n == t) && not (is_asleep s (suc n)) && answers s.layout s.words m (suc n) (s.threads (suc n)).stage)
     || another_answers s t m n
 
+-- somebody owns mutex m
+abbrev pub is_owned : State → ℕ → Bool
+is_owned s m = not ((fields_of (s.words (cell_place s.layout m))).owner == 0)
+
+-- thread t's walk, that stands there, has mutex m pending and will look at its word; or it is about to wake on it
+abbrev pub minds : Layout' → (ℕ → ℕ) → ℕ → ℕ → walk_row.Row → Bool
+minds l words m t walk.LoadFirst = is_pending l words m t
+minds l words m t (walk.LoadOffset f) = is_pending l words m t
+minds l words m t (walk.LoadPending f o) = is_pending l words m t
+minds l words m t (walk.LoadNext r) = r.pending == address_in l t (entry_place l m)
+minds l words m t (walk.LoadWord at (part.List r)) = r.pending == address_in l t (entry_place l m)
+minds l words m t (walk.LoadWord at part.Pending) = at == address_in l t (cell_place l m)
+minds l words m t (walk.Mark at v again (part.List r)) = r.pending == address_in l t (entry_place l m)
+minds l words m t (walk.WakeOne at (part.List r)) =
+    (at == address_in l t (cell_place l m)) || (r.pending == address_in l t (entry_place l m))
+minds l words m t (walk.WakeOne at part.Pending) = at == address_in l t (cell_place l m)
+minds l words m t r = false
+
+abbrev pub walk_minds : Layout' → (ℕ → ℕ) → ℕ → ℕ → Stage → Bool
+walk_minds l words m t (Dying w) = minds l words m t w.row
+walk_minds l words m t g = false
+
+-- the walk of one of the first n threads does
+abbrev pub a_walk_minds : State → ℕ → ℕ → Bool
+a_walk_minds s m zero = false
+a_walk_minds s m (suc n) = walk_minds s.layout s.words m (suc n) (s.threads (suc n)).stage || a_walk_minds s m n
+
+-- the one to whom thread t leaves mutex m answers for it
+abbrev pub is_left_to : State → ℕ → ℕ → LeftTo → Bool
+is_left_to s t m left_to.Thread = another_answers s t m s.layout.threads
+is_left_to s t m left_to.Owner = is_owned s m
+is_left_to s t m left_to.Walk = a_walk_minds s m s.layout.threads
+
 -- an unlock that is about to wake one sleeper
 abbrev pub wakes_one : Phase → Bool
 wakes_one (AtCell (Unlock (Wake all))) = not all
@@ -681,18 +717,18 @@ declined s t held (Calling o p) =
     else nothing s
 declined s t held g = nothing s
 
--- where a call is about to wake one sleeper of its mutex, for which another thread answers, that is spared: it is
--- answered as if one had been woken
-abbrev pub sparing : State → ℕ → ℕ → Stage → After
-sparing s t held (Calling o p) =
-    if wakes_one p.phase && another_answers s t (mutex_of s.layout o) s.layout.threads
+-- where a call is about to wake one sleeper of its mutex, and the one to whom that is left answers for the mutex, it is
+-- spared: it is answered as if one had been woken
+abbrev pub sparing : State → ℕ → LeftTo → ℕ → Stage → After
+sparing s t by held (Calling o p) =
+    if wakes_one p.phase && is_left_to s t (mutex_of s.layout o) by
     then spared s t held (mutex_of s.layout o) (led o p (whole_led p (Count 1)))
     else nothing s
-sparing s t held (AtCondition c p) =
-    if wakes_next p.phase && another_answers s t (mutex_of s.layout (OnCondition c)) s.layout.threads
+sparing s t by held (AtCondition c p) =
+    if wakes_next p.phase && is_left_to s t (mutex_of s.layout (OnCondition c)) by
     then spared s t held (mutex_of s.layout (OnCondition c)) (led_at c p (condition.cond_led p (Count 1)))
     else nothing s
-sparing s t held g = nothing s
+sparing s t by held g = nothing s
 
 -- where a thread sleeps on its condition variable's counter
 abbrev pub resleeping : State → ℕ → Stage → After
@@ -712,8 +748,8 @@ repeating s t g = nothing s
 -- sleep, an expiry of one that doesn't sleep in a lock with a time limit or on the condition variable of a wait with
 -- one, a decline of one that isn't about to trim, a renewal of one that wasn't reaped, a reinit by one that isn't idle,
 -- or of a mutex that is usable or slept on, a remake by one that isn't idle, or of a mutex that is usable, a recount of
--- a counter that somebody sleeps on or knows, a spare of a thread that isn't about to wake one of a mutex, or is alone
--- to answer for it, a resleep of one that doesn't sleep on a counter, and a repeat of one whose walk isn't about to
+-- a counter that somebody sleeps on or knows, a spare of a thread that isn't about to wake one of a mutex, or leaves it
+-- to one who doesn't answer for it, a resleep of one that doesn't sleep on a counter, and a repeat of one whose walk isn't about to
 -- load or to wake, do nothing
 abbrev pub happens : State → Event → After
 happens s (Begin t o) = if may_begin s t o then begun s t o (first_stage s.layout t (s.threads t).held o) else nothing s
@@ -727,7 +763,7 @@ happens s (Reinit t m) = if may_reinit s t m then reinited s t m 0 else nothing 
 happens s (Remake t m) =
     if may_remake s t m then reinited s t m (waiters_of (s.words (cell_place s.layout m))) else nothing s
 happens s (Recount k) = if may_recount s k then recounted s k else nothing s
-happens s (Spare t) = if has_thread s t then sparing s t (s.threads t).held (s.threads t).stage else nothing s
+happens s (Spare t by) = if has_thread s t then sparing s t by (s.threads t).held (s.threads t).stage else nothing s
 happens s (Resleep t) = if has_thread s t then resleeping s t (s.threads t).stage else nothing s
 happens s (Repeat t) = if has_thread s t then repeating s t (s.threads t).stage else nothing s
 

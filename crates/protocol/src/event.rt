@@ -4,6 +4,18 @@
 use condvar::Op;
 use lockword::Tid;
 
+/// To whom a wake is left that is spared.
+#[derive(Clone, Copy, Debug, PartialEq, Eq)]
+pub enum LeftTo {
+    /// Another thread, which is awake: it will look at the mutex's word, or is about to wake one itself; or it was
+    /// killed with the mutex pending, and its walk, which hasn't begun, will look. So the scripts of `rfx` have it.
+    Thread,
+    /// The mutex's owner: it has taken the mutex, and releases it with WAITERS set.
+    Owner,
+    /// A walk, which may be under way: it has the mutex pending and will look at its word, or is about to wake one.
+    Walk,
+}
+
 /// One event of a schedule.
 #[derive(Clone, Copy, Debug, PartialEq, Eq)]
 pub enum Event {
@@ -37,9 +49,8 @@ pub enum Event {
     /// loaded it that is still to compare or to change it.
     Recount(u16),
     /// The next access of the thread's call, the wake of one sleeper of its mutex, is spared: nobody is woken, and the
-    /// thread is answered as if one had been. Another thread, which is awake, answers for the mutex: it will look at
-    /// its word, or is about to wake one itself; or it was killed with the mutex pending, and its walk will look.
-    Spare(Tid),
+    /// thread is answered as if one had been. The mutex is left to another, who answers for it.
+    Spare(Tid, LeftTo),
     /// The thread, which sleeps on a condition variable, goes to the end of that queue: it looked by itself, or a
     /// signal handler ran (futex(2), EINTR), and it sleeps again.
     Resleep(Tid),

@@ -236,10 +236,12 @@ pub fn recounts_are_lone()
     ensures { RecountsAreLone }
 {}
 
-/// Whatever happened before: the wake of one sleeper of a mutex, by an unlock or a wait, is spared exactly where
-/// another thread is awake that is in a lock of that mutex and has still to look at its word, or is about to wake on
-/// it; or was killed with the mutex pending, and its walk hasn't begun. Nobody is woken, no word changes, no queue and
-/// no other thread, and nothing is told; the thread goes on as one that woke a sleeper.
+/// Whatever happened before: the wake of one sleeper of a mutex, by an unlock or a wait, is spared exactly where the one
+/// to whom it is left answers for that mutex. That is another thread where one is awake that is in a lock of the mutex
+/// and has still to look at its word, or is about to wake on it, or was killed with the mutex pending, and its walk
+/// hasn't begun; its owner where somebody owns it; a walk where one has still to look at its word, as it has the mutex
+/// pending, or is about to wake on it. Nobody is woken, no word changes, no queue and no other thread, and nothing is
+/// told; the thread goes on as one that woke a sleeper.
 pub fn spares_are_lone()
     ensures { SparesAreLone }
 {}

@@ -54,7 +54,7 @@ mod laws;
 mod note;
 mod thread;
 
-pub use event::Event;
+pub use event::{Event, LeftTo};
 pub use laws::{
     counters_count_up, deaths_are_told, events_apply, events_leave_the_rest, expiries_are_lone,
     history_is_legal, late_waits_time_out, leaves_and_declines_are_lone, lists_are_kept,

@@ -11,11 +11,12 @@ use Rattle.mutex.specs.Whole.{may_expire, whole_access, whole_led}
 use Rattle.condvar.specs.Ops.{mutex_of}
 use Rattle.condvar.specs.declared.op.Op.{Op}
 use Rattle.protocol.specs.declared.event.Event.{Event}
+use Rattle.protocol.specs.declared.event.LeftTo.{LeftTo}
 use Rattle.protocol.specs.declared.event.Event.TheVariants.{Begin, Step, Kill, Leave, Decline, Expire, Renew, Reinit, Remake, Recount, Spare, Resleep, Repeat}
 use Rattle.protocol.specs.declared.thread.Stage.{Stage}
 use Rattle.protocol.specs.declared.thread.Stage.TheVariants.{Idle, Calling, AtCondition, Dying, Reaped}
 use Rattle.memorymap.specs.Layouts.{cell_place}
-use Rattle.protocol.specs.Machine.{State, After, nothing, has_thread, is_alive, is_gone, may_begin, may_reinit, may_remake, waiters_of, first_stage, begun, killed, renewed, reinited, departed, declined, expired, is_timed, lapsed, overslept, waits_on, spared, may_recount, recounted, wakes_one, wakes_next, another_answers, sparing, stands_in, reslept, resleeping, is_mark, repeated, repeating, is_asleep, is_trim, sleeps, led, led_at, went, answer_of, stepped, happens, run}
+use Rattle.protocol.specs.Machine.{State, After, nothing, has_thread, is_alive, is_gone, may_begin, may_reinit, may_remake, waiters_of, first_stage, begun, killed, renewed, reinited, departed, declined, expired, is_timed, lapsed, overslept, waits_on, spared, may_recount, recounted, wakes_one, wakes_next, is_left_to, sparing, stands_in, reslept, resleeping, is_mark, repeated, repeating, is_asleep, is_trim, sleeps, led, led_at, went, answer_of, stepped, happens, run}
 
 -- whichever of two states comes, both have the layout
 either : (s : State) (b : Bool) (a : After) → a.state.layout ≡ s.layout → (if b then a else nothing s).state.layout ≡ s.layout
@@ -48,14 +49,14 @@ expired_layout s t held (Calling (OnMutex c) p) = either s (is_timed (OnMutex c)
 expired_layout s t held (Calling (OnCondition c) p) = either s (is_timed (OnCondition c) && waits_on s t (condition_of c)) (overslept s t held (condition_of c) p) refl
 expired_layout s t held g = refl
 
-spare_layout : (s : State) (t held : ℕ) (g : Stage) → (sparing s t held g).state.layout ≡ s.layout
-spare_layout s t held (Calling o p) =
-    either s (wakes_one p.phase && another_answers s t (mutex_of s.layout o) s.layout.threads) (spared s t held (mutex_of s.layout o) (led o p (whole_led p (Count 1)))) refl
-spare_layout s t held (AtCondition c p) =
-    either s (wakes_next p.phase && another_answers s t (mutex_of s.layout (OnCondition c)) s.layout.threads) (spared s t held (mutex_of s.layout (OnCondition c)) (led_at c p (cond_led p (Count 1)))) refl
-spare_layout s t held Idle = refl
-spare_layout s t held (Dying w) = refl
-spare_layout s t held Reaped = refl
+spare_layout : (s : State) (t : ℕ) (by : LeftTo) (held : ℕ) (g : Stage) → (sparing s t by held g).state.layout ≡ s.layout
+spare_layout s t by held (Calling o p) =
+    either s (wakes_one p.phase && is_left_to s t (mutex_of s.layout o) by) (spared s t held (mutex_of s.layout o) (led o p (whole_led p (Count 1)))) refl
+spare_layout s t by held (AtCondition c p) =
+    either s (wakes_next p.phase && is_left_to s t (mutex_of s.layout (OnCondition c)) by) (spared s t held (mutex_of s.layout (OnCondition c)) (led_at c p (cond_led p (Count 1)))) refl
+spare_layout s t by held Idle = refl
+spare_layout s t by held (Dying w) = refl
+spare_layout s t by held Reaped = refl
 
 resleep_layout : (s : State) (t : ℕ) (g : Stage) → (resleeping s t g).state.layout ≡ s.layout
 resleep_layout s t (Calling (OnCondition c) p) = either s (stands_in t (s.queues (counter_place s.layout (condition_of c)))) (reslept s t (condition_of c)) refl
@@ -80,7 +81,7 @@ happens_layout s (Renew t) = either s (has_thread s t && is_gone (s.threads t).s
 happens_layout s (Reinit t m) = either s (may_reinit s t m) (reinited s t m 0) refl
 happens_layout s (Remake t m) = either s (may_remake s t m) (reinited s t m (waiters_of (s.words (cell_place s.layout m)))) refl
 happens_layout s (Recount k) = either s (may_recount s k) (recounted s k) refl
-happens_layout s (Spare t) = either s (has_thread s t) (sparing s t (s.threads t).held (s.threads t).stage) (spare_layout s t (s.threads t).held (s.threads t).stage)
+happens_layout s (Spare t by) = either s (has_thread s t) (sparing s t by (s.threads t).held (s.threads t).stage) (spare_layout s t by (s.threads t).held (s.threads t).stage)
 happens_layout s (Resleep t) = either s (has_thread s t) (resleeping s t (s.threads t).stage) (resleep_layout s t (s.threads t).stage)
 happens_layout s (Repeat t) = either s (has_thread s t) (repeating s t (s.threads t).stage) (repeat_layout s t (s.threads t).stage)
 

@@ -26,6 +26,7 @@ use Rattle.condvar.specs.declared.op.Op.TheVariants.{OnMutex}
 use Rattle.mutex.specs.declared.call.Call.TheVariants.{Lock}
 use Rattle.protocol.specs.declared.event.Event.{Event}
 use Rattle.protocol.specs.declared.event.Event.TheVariants as event
+use Rattle.protocol.specs.declared.event.LeftTo.TheVariants as left_to
 use Rattle.protocol.specs.declared.note.Note.{Note}
 use Rattle.protocol.specs.Machine.{State, start, happens, run, notes, is_busy, is_dying, is_asleep}
 use Rattle.script.specs.declared.command.Action.{Action}
@@ -105,7 +106,7 @@ events_of s (Renew t) = event.Renew t ∷ []
 events_of s (Reinit t m) = event.Reinit t m ∷ []
 events_of s (Remake t m) = event.Remake t m ∷ []
 events_of s (Recount k) = event.Recount k ∷ []
-events_of s (Spare t) = event.Spare t ∷ []
+events_of s (Spare t) = event.Spare t left_to.Thread ∷ []
 events_of s (Resleep t) = event.Resleep t ∷ []
 events_of s (Repeat t) = event.Repeat t ∷ []
 events_of s (Go t) = going_on s t

@@ -17,7 +17,7 @@ use interleave::{Machine, Trace};
 use lockword::Tid;
 use memorymap::NoMem;
 use mutex::Call;
-use protocol::{Event, Note};
+use protocol::{Event, LeftTo, Note};
 use std::alloc::Global;
 
 /// Adds a copy to a list.
@@ -151,7 +151,7 @@ fn play_action(machine: &mut Machine, notes: &mut Vec<Note>, action: Action) -> 
             play_event(machine, notes, Event::Remake(thread, mutex))
         }
         Action::Recount(condition) => play_event(machine, notes, Event::Recount(condition)),
-        Action::Spare(thread) => play_event(machine, notes, Event::Spare(thread)),
+        Action::Spare(thread) => play_event(machine, notes, Event::Spare(thread, LeftTo::Thread)),
         Action::Resleep(thread) => play_event(machine, notes, Event::Resleep(thread)),
         Action::Repeat(thread) => play_event(machine, notes, Event::Repeat(thread)),
         Action::Go(thread) => play_to_rest(machine, notes, thread),

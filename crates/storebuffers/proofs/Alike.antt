@@ -21,17 +21,21 @@ use Rattle.condvar.specs.declared.op.Op.TheVariants.{OnMutex, OnCondition}
 use Rattle.condvar.specs.Whole.{cond_access, cond_led}
 use Rattle.exitwalk.specs.Standings as walks
 use Rattle.exitwalk.specs.Walks as exit
+use Rattle.exitwalk.specs.declared.row.Part.TheVariants as part
+use Rattle.exitwalk.specs.declared.row.Row as walk_row
+use Rattle.exitwalk.specs.declared.row.Row.TheVariants as walk
 use Rattle.protocol.specs.declared.event.Event.{Event}
 use Rattle.protocol.specs.declared.event.Event.TheVariants.{Begin, Step, Kill, Leave, Expire, Decline, Renew, Reinit, Remake, Recount, Spare, Resleep, Repeat}
+use Rattle.protocol.specs.declared.event.LeftTo.{LeftTo}
 use Rattle.protocol.specs.declared.thread.Stage.{Stage}
 use Rattle.protocol.specs.declared.thread.Stage.TheVariants.{Idle, Calling, AtCondition, Dying, Reaped}
 use Rattle.protocol.specs.declared.note.Note.TheVariants.{Stepped, Walked}
 use Rattle.protocol.specs.Machine.{State, After, put, place_met, is_met, words_after, answer_of, joined, moved_by, woken_by, queue_after, happens, nothing, begun, first_stage, went, walked}
 use Rattle.protocol.specs.Machine.{Led, led, led_at, held_after, decision, slept_in, stepped, declined, spared, killed, departed, renewed, reinited, has_thread, is_alive, is_asleep, is_gone, is_trim, sleeps}
 use Rattle.protocol.specs.Machine.{may_begin, may_reinit, may_remake, waiters_of, is_first, is_idle, sleepers, death_at, told_of, has_ended, stage_walked}
-use Rattle.protocol.specs.Machine.{expired, is_timed, lapsed, overslept, waits_on, may_recount, recounted, another_answers, answers, wakes_one, wakes_next, sparing, stands_in, reslept, resleeping, is_mark, repeated, repeating}
+use Rattle.protocol.specs.Machine.{expired, is_timed, lapsed, overslept, waits_on, may_recount, recounted, another_answers, answers, a_walk_minds, is_left_to, minds, walk_minds, wakes_one, wakes_next, sparing, stands_in, reslept, resleeping, is_mark, repeated, repeating}
 use Rattle.protocol.proofs.Puts.{by_put, put-same, put-other}
-use Rattle.protocol.proofs.Kept.{Kept}
+use Rattle.protocol.proofs.Kept.{Kept, Sits}
 use Rattle.protocol.proofs.Renewals.{renewed_word, renewed_elsewhere}
 use Rattle.protocol.specs.Explained.{caller}
 use Rattle.storebuffers.specs.Buffers.{stored, with_words, Way, way, way_at, way_of, head_stores, Waits}
@@ -271,22 +275,69 @@ module _ (s : State) (v : ℕ → ℕ) where
       let later : another_answers (with_words s v) t m n ≡ another_answers s t m n = another_same t m n (omega arith) pending in
       λ i. (not (suc n == t) && not (is_asleep s (suc n)) && here i) || later i
 
-  sparing_alike : Pending_as s v → (t held : ℕ) (g : Stage) → Comes s v (Spare t) (sparing (with_words s v) t held g) (sparing s t held g)
-  sparing_alike pending t held (Calling o p) =
-      chosen_alike (Spare t) (wakes_one p.phase && another_answers (with_words s v) t (mutex_of s.layout o) s.layout.threads) (wakes_one p.phase && another_answers s t (mutex_of s.layout o) s.layout.threads)
-      (ap (λ (b : Bool). wakes_one p.phase && b) (another_same t (mutex_of s.layout o) s.layout.threads (omega arith) pending))
+  -- so it is of walks
+  minds_same : (m u : ℕ) → v (head_place u + 2) ≡ s.words (head_place u + 2) → (r : walk_row.Row) → minds s.layout v m u r ≡ minds s.layout s.words m u r
+  minds_same m u same walk.LoadFirst = ap (λ (x : ℕ). x == address_in s.layout u (entry_place s.layout m)) same
+  minds_same m u same (walk.LoadOffset f) = ap (λ (x : ℕ). x == address_in s.layout u (entry_place s.layout m)) same
+  minds_same m u same (walk.LoadPending f o) = ap (λ (x : ℕ). x == address_in s.layout u (entry_place s.layout m)) same
+  minds_same m u same (walk.LoadNext r) = refl
+  minds_same m u same (walk.LoadWord at (part.List r)) = refl
+  minds_same m u same (walk.LoadWord at part.Pending) = refl
+  minds_same m u same (walk.Mark at x twice (part.List r)) = refl
+  minds_same m u same (walk.Mark at x twice part.Pending) = refl
+  minds_same m u same (walk.WakeOne at (part.List r)) = refl
+  minds_same m u same (walk.WakeOne at part.Pending) = refl
+  minds_same m u same walk.Ended = refl
+
+  walk_same : (m u : ℕ) → 1 ≤ u → u ≤ s.layout.threads → Pending_as s v → (g : Stage) → (s.threads u).stage ≡ g → walk_minds s.layout v m u g ≡ walk_minds s.layout s.words m u g
+  walk_same m u first last pending (Dying w) is = minds_same m u (pending u first last (ap is_alive is)) w.row
+  walk_same m u first last pending (Calling o p) is = refl
+  walk_same m u first last pending (AtCondition c p) is = refl
+  walk_same m u first last pending Idle is = refl
+  walk_same m u first last pending Reaped is = refl
+
+  a_walk_same : (m n : ℕ) → n ≤ s.layout.threads → Pending_as s v → a_walk_minds (with_words s v) m n ≡ a_walk_minds s m n
+  a_walk_same m zero few pending = refl
+  a_walk_same m (suc n) few pending =
+      let here : walk_minds s.layout v m (suc n) (s.threads (suc n)).stage ≡ walk_minds s.layout s.words m (suc n) (s.threads (suc n)).stage = walk_same m (suc n) (omega arith) few pending (s.threads (suc n)).stage refl in
+      let later : a_walk_minds (with_words s v) m n ≡ a_walk_minds s m n = a_walk_same m n (omega arith) pending in
+      λ i. here i || later i
+
+  -- and that somebody owns it is one of its cell
+  left_same : Pending_as s v → ((m : ℕ) → m < s.layout.mutexes → v (cell_place s.layout m) ≡ s.words (cell_place s.layout m)) → (t m : ℕ) → m < s.layout.mutexes → (by : LeftTo) → is_left_to (with_words s v) t m by ≡ is_left_to s t m by
+  left_same pending cells t m inside LeftTo.Thread = another_same t m s.layout.threads (omega arith) pending
+  left_same pending cells t m inside LeftTo.Owner = ap (λ (x : ℕ). not ((fields_of x).owner == 0)) (cells m inside)
+  left_same pending cells t m inside LeftTo.Walk = a_walk_same m s.layout.threads (omega arith) pending
+
+  abbrev Inside : Stage → Type 0
+  Inside (Calling o p) = mutex_of s.layout o < s.layout.mutexes
+  Inside (AtCondition c p) = mutex_of s.layout (OnCondition c) < s.layout.mutexes
+  Inside g = Unit {0}
+
+  inside_of : (t held : ℕ) (g : Stage) → Sits s t held g → Inside g
+  inside_of t held (Calling o p) fits = fits.0.inside
+  inside_of t held (AtCondition c p) fits = fits.inside
+  inside_of t held Idle fits = tt
+  inside_of t held (Dying w) fits = tt
+  inside_of t held Reaped fits = tt
+
+  sparing_alike : Pending_as s v → ((m : ℕ) → m < s.layout.mutexes → v (cell_place s.layout m) ≡ s.words (cell_place s.layout m)) → (t : ℕ) (by : LeftTo) (held : ℕ) (g : Stage) → Inside g
+      → Comes s v (Spare t by) (sparing (with_words s v) t by held g) (sparing s t by held g)
+  sparing_alike pending cells t by held (Calling o p) inside =
+      chosen_alike (Spare t by) (wakes_one p.phase && is_left_to (with_words s v) t (mutex_of s.layout o) by) (wakes_one p.phase && is_left_to s t (mutex_of s.layout o) by)
+      (ap (λ (b : Bool). wakes_one p.phase && b) (left_same pending cells t (mutex_of s.layout o) inside by))
       (spared (with_words s v) t held (mutex_of s.layout o) (led o p (whole_led p (Count 1))))
       (spared s t held (mutex_of s.layout o) (led o p (whole_led p (Count 1))))
       (λ on. record { note = refl; rest = refl; does = λ p. refl })
-  sparing_alike pending t held (AtCondition c p) =
-      chosen_alike (Spare t) (wakes_next p.phase && another_answers (with_words s v) t (mutex_of s.layout (OnCondition c)) s.layout.threads) (wakes_next p.phase && another_answers s t (mutex_of s.layout (OnCondition c)) s.layout.threads)
-      (ap (λ (b : Bool). wakes_next p.phase && b) (another_same t (mutex_of s.layout (OnCondition c)) s.layout.threads (omega arith) pending))
+  sparing_alike pending cells t by held (AtCondition c p) inside =
+      chosen_alike (Spare t by) (wakes_next p.phase && is_left_to (with_words s v) t (mutex_of s.layout (OnCondition c)) by) (wakes_next p.phase && is_left_to s t (mutex_of s.layout (OnCondition c)) by)
+      (ap (λ (b : Bool). wakes_next p.phase && b) (left_same pending cells t (mutex_of s.layout (OnCondition c)) inside by))
       (spared (with_words s v) t held (mutex_of s.layout (OnCondition c)) (led_at c p (cond_led p (Count 1))))
       (spared s t held (mutex_of s.layout (OnCondition c)) (led_at c p (cond_led p (Count 1))))
       (λ on. record { note = refl; rest = refl; does = λ p. refl })
-  sparing_alike pending t held Idle = record { note = refl; rest = refl; does = λ p. refl }
-  sparing_alike pending t held (Dying w) = record { note = refl; rest = refl; does = λ p. refl }
-  sparing_alike pending t held Reaped = record { note = refl; rest = refl; does = λ p. refl }
+  sparing_alike pending cells t by held Idle inside = record { note = refl; rest = refl; does = λ p. refl }
+  sparing_alike pending cells t by held (Dying w) inside = record { note = refl; rest = refl; does = λ p. refl }
+  sparing_alike pending cells t by held Reaped inside = record { note = refl; rest = refl; does = λ p. refl }
 
   resleeping_alike : (t : ℕ) (g : Stage) → Comes s v (Resleep t) (resleeping (with_words s v) t g) (resleeping s t g)
   resleeping_alike t (Calling (OnCondition c) p) =
@@ -436,9 +487,12 @@ events_alike s v (Reinit t m) inv views cells pending = reinit_alike s v t m (ce
 events_alike s v (Remake t m) inv views cells pending = remake_alike s v t m (cells m)
 events_alike s v (Recount k) inv views cells pending =
     chosen s v (Recount k) (may_recount s k) (recounted (with_words s v) k) (recounted s k) (λ on. recounted_alike s v k)
-events_alike s v (Spare t) inv views cells pending =
-    chosen s v (Spare t) (has_thread s t) (sparing (with_words s v) t (s.threads t).held (s.threads t).stage) (sparing s t (s.threads t).held (s.threads t).stage)
-    (λ on. sparing_alike s v pending t (s.threads t).held (s.threads t).stage)
+events_alike s v (Spare t by) inv views cells pending =
+    chosen s v (Spare t by) (has_thread s t) (sparing (with_words s v) t by (s.threads t).held (s.threads t).stage) (sparing s t by (s.threads t).held (s.threads t).stage)
+    (λ on. sparing_alike s v pending cells t by (s.threads t).held (s.threads t).stage (inside_of s v t (s.threads t).held (s.threads t).stage (sits on)))
+  where
+    sits : has_thread s t ≡ true → Sits s t (s.threads t).held (s.threads t).stage
+    sits on = inv.sits t (grind (arith, nat_tests)) (grind (arith, nat_tests))
 events_alike s v (Resleep t) inv views cells pending =
     chosen s v (Resleep t) (has_thread s t) (resleeping (with_words s v) t (s.threads t).stage) (resleeping s t (s.threads t).stage)
     (λ on. resleeping_alike s v t (s.threads t).stage)

@@ -17,7 +17,7 @@ use Rattle.storebuffers.proofs.Alike.{Does, events_alike}
 use Rattle.storebuffers.proofs.Holding.{own_moves}
 
 -- as the machine's laws have it, and back
-head_again : (s : State) (t p k : ℕ) → k < 3 → p ≡ head_place t + k → IsOwn s t p
+pub head_again : (s : State) (t p k : ℕ) → k < 3 → p ≡ head_place t + k → IsOwn s t p
 head_again s t p k small is = grind (arith)
 
 its_is_own : (s : State) (t p : ℕ) → IsItsOwn s t p → IsOwn s t p
@@ -35,7 +35,7 @@ left_alone s t u p Flushes a b (at, met, same, elsewhere) apart first most own =
     (elsewhere p (λ e. met_apart s t u at first most apart met (subst (IsOwn s u) e own))).1
 
 module _ (u p : ℕ) (first : 1 ≤ u) where
-  one_stays : (s : State) (e : Event) → Kept s → u ≤ s.layout.threads → caller e ≢ u → IsOwn s u p → ((happens s e).state.words p ≡ s.words p) × IsOwn (happens s e).state u p
+  pub one_stays : (s : State) (e : Event) → Kept s → u ≤ s.layout.threads → caller e ≢ u → IsOwn s u p → ((happens s e).state.words p ≡ s.words p) × IsOwn (happens s e).state u p
   one_stays s e inv most apart own = (
     left_alone s (caller e) u p (way s e (happens s e).note) _ _ (events_alike s s.words e inv (λ q met. refl) (λ m inside. refl) (λ u first last dead. refl)).does apart first most own,
     own_moves s (happens s e).state u p (sound s e inv).same (λ k owns. owner_stays s e inv u k apart owns) own,

@@ -23,8 +23,8 @@ returns c =
     let resumed = c.resume-progress.ensures in
     let shows = answered_shows l ts k t call (Count 1) th at c.requires.known c.requires.threads c.quiet-done.result c.quiet-done.ensures c.resume-progress.result resumed.progress
     c.stage_at.result c.held_after.result (c.stage_at.ensures ∙ (λ i. stage_at_in c.args.call (resumed.moved i) (resumed.progress i))) (c.held_after.ensures ∙ ap (held_with th.held) c.point.ensures)
-    c.mutex-mutex.result (Condition c.condition.result) c.stepped.result c.mutex-mutex.ensures c.stepped.ensures (Spare t) in
-    let goes = spares_there l ts k t call th at c.requires.known (thread_at-index ts k t at ∙ sym read) c.requires.stands c.requires.wakes in
+    c.mutex-mutex.result (Condition c.condition.result) c.stepped.result c.mutex-mutex.ensures c.stepped.ensures (Spare t c.args.by) in
+    let goes = spares_there l ts k t c.args.by call th at c.requires.known (thread_at-index ts k t at ∙ sym read) c.requires.stands c.requires.wakes in
     record {
       state = λ ws kernel another. (shows ws kernel (goes ws kernel another)).0;
       note = λ ws kernel another. (shows ws kernel (goes ws kernel another)).1;
