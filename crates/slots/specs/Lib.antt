@@ -1,0 +1,11 @@
+pub mod Accesses
+pub mod Heirs
+pub mod Invariant
+pub mod Laws
+pub mod Moments
+pub mod Places
+pub mod Rows
+pub mod Runs
+pub mod Shown
+pub mod Stands
+pub mod Table

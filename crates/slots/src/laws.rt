@@ -1,0 +1,182 @@
+//! Laws of the layer. Each is the contract of a function without a body.
+ghost use Rattle.slots.specs.Accesses.{AwakeIsCleared, AwakeIsSet, ClearingRowsAreEvents, ListRowsAreEvents};
+ghost use Rattle.slots.specs.Accesses.{LooksAreEvents, PendingAgainIsNoEvent, WakesAreEvents};
+ghost use Rattle.slots.specs.Heirs.{DeathsLeaveAll, DeathsLeaveHeirs, OthersAnswerStill, OthersLeaveHeirs};
+ghost use Rattle.slots.specs.Heirs.{OthersLeaveWhatIsOwned, WalksLeaveAll, WalksLeaveHeirs};
+ghost use Rattle.slots.specs.Laws.{HeirsLetSpare, NobodyJoinsAFreeMutex, ReleasesTell, SlotsRunTheMachine};
+ghost use Rattle.slots.specs.Laws.{StandingHeirsAnswer, TrimsAreTheMachines, TurnsStayKnown};
+ghost use Rattle.slots.specs.Laws.{TurnsStayKnownByAll, WakesOfNobodyTell};
+ghost use Rattle.slots.specs.Moments.{AnnouncingIsOneStore, GivingUpIsALook, GivingUpLeavesNothing};
+ghost use Rattle.slots.specs.Moments.{HeirTakesAreEvents, HeirsGoOn, LastLooksAreEvents, TakesAreOneExchange};
+ghost use Rattle.slots.specs.Moments.{TakesAreTheExchange};
+
+/// Everything that happens in the layer is events of the machine, in their order. So each law of `protocol` holds of the
+/// layer's states, and of the history that they leave.
+pub fn slots_run_the_machine()
+    ensures { SlotsRunTheMachine }
+{}
+
+/// Whatever happened before, and whatever happens next: a thread that sleeps afterwards on a mutex that nobody owned slept
+/// there before.
+pub fn nobody_joins_a_free_mutex()
+    ensures { NobodyJoinsAFreeMutex }
+{}
+
+/// A call that has released a mutex knows the mutex's turn after every event. Either the mutex was taken or reinitialised
+/// since, and its turn is higher. Or nobody owns it, and nobody sleeps there if the call's wake woke nobody.
+pub fn turns_stay_known()
+    ensures { TurnsStayKnown }
+{}
+
+/// What a call knows of a turn stays known after any number of events.
+pub fn turns_stay_known_by_all()
+    ensures { TurnsStayKnownByAll }
+{}
+
+/// After a release, nobody owns the mutex, and the word that the release left has the mutex's current turn.
+pub fn releases_tell()
+    ensures { ReleasesTell }
+{}
+
+/// If a wake of one finds nobody asleep, then nobody sleeps there as long as the turn stays.
+pub fn wakes_of_nobody_tell()
+    ensures { WakesOfNobodyTell }
+{}
+
+/// If the exchange that is to clear WAITERS finds the word that the call's release left, then nobody owns the mutex and
+/// nobody sleeps on it. So this exchange is the machine's trim, which clears the word.
+pub fn trims_are_the_machines()
+    ensures { TrimsAreTheMachines }
+{}
+
+/// A call is about to wake one sleeper, and finds a slot with AWAKE and an owner, without OWNER_DIED. If heirs are as the
+/// layer's invariant says, the machine lets the call leave its wake to that owner: it will look at the cell's word, or
+/// owns the cell, or was killed, and its walk will look.
+pub fn heirs_let_spare()
+    ensures { HeirsLetSpare }
+{}
+
+/// A living thread that is where its row says is the heir of each mutex whose slot it owns with AWAKE and without
+/// OWNER_DIED. So an invariant has to speak of dead heirs only.
+pub fn standing_heirs_answer()
+    ensures { StandingHeirsAnswer }
+{}
+
+/// Whatever other threads do, an heir stays an heir.
+pub fn others_leave_heirs()
+    ensures { OthersLeaveHeirs }
+{}
+
+/// What a mutex says of its owner stays after an event of another thread. So only its owner changes a slot that is owned.
+pub fn others_leave_what_is_owned()
+    ensures { OthersLeaveWhatIsOwned }
+{}
+
+/// Whatever events a thread makes at one moment, the slots of all other threads that have AWAKE still have heirs.
+pub fn others_answer_still()
+    ensures { OthersAnswerStill }
+{}
+
+/// An heir that is killed is still an heir, since the cell was pending.
+pub fn deaths_leave_heirs()
+    ensures { DeathsLeaveHeirs }
+{}
+
+/// After a death, all slots that have AWAKE still have heirs.
+pub fn deaths_leave_all()
+    ensures { DeathsLeaveAll }
+{}
+
+/// A dead heir stays an heir after each access of its walk while it owns its slot: the slot is on its list, and Linux looks
+/// at what was pending after the list.
+pub fn walks_leave_heirs()
+    ensures { WalksLeaveHeirs }
+{}
+
+/// After each access of a dead thread's walk, all slots that have AWAKE still have heirs.
+pub fn walks_leave_all()
+    ensures { WalksLeaveAll }
+{}
+
+/// An heir that has AWAKE set, or is setting it, and hasn't taken the cell is the cell's heir after its next access, whatever
+/// that finds: the heir still looks, or it has taken the cell.
+pub fn heirs_go_on()
+    ensures { HeirsGoOn }
+{}
+
+/// The machine's lock gives up a mutex that another thread owns, with WAITERS, by a load, a sleep and a timeout at one moment.
+/// Then its own call is decided, and nothing else has changed: no word, no queue and no other thread.
+pub fn giving_up_leaves_nothing()
+    ensures { GivingUpLeavesNothing }
+{}
+
+/// A look after which a lock gives up changes nothing in memory as it is shown: it is a load.
+pub fn giving_up_is_a_look()
+    ensures { GivingUpIsALook }
+{}
+
+/// Load and exchange of the machine's lock at one moment, if nobody owns the mutex, change the mutex's word alone, as one
+/// exchange does.
+pub fn takes_are_one_exchange()
+    ensures { TakesAreOneExchange }
+{}
+
+/// Load and exchange of the machine's lock are the one exchange that the C library makes: of the cell's word as memory shows
+/// it, with its turn, for the same word, taken, with one turn more.
+pub fn takes_are_the_exchange()
+    ensures { TakesAreTheExchange }
+{}
+
+/// A call that has still to clear what it had pending, and a lock that begins then and announces its mutex, change one word
+/// at one moment: the pending one. So the C library's one store is these three events.
+pub fn announcing_is_one_store()
+    ensures { AnnouncingIsOneStore }
+{}
+
+/// An heir's exchange that takes the cell is the events that the table has: they leave memory, as it is shown, and the queues
+/// as that access does.
+pub fn heir_takes_are_events()
+    ensures { HeirTakesAreEvents }
+{}
+
+/// An heir's last look is the events that the table has, if it finds that another thread owns the cell, with WAITERS.
+pub fn last_looks_are_events()
+    ensures { LastLooksAreEvents }
+{}
+
+/// A load for which the table has no events changes nothing, whatever it finds and wherever the call continues.
+pub fn looks_are_events()
+    ensures { LooksAreEvents }
+{}
+
+/// Each load and each store by which a call puts an entry on its thread's list, or takes it off, is one Step of the machine.
+pub fn list_rows_are_events()
+    ensures { ListRowsAreEvents }
+{}
+
+/// The store that clears the pending word at the end of a call is one Step of the machine.
+pub fn clearing_rows_are_events()
+    ensures { ClearingRowsAreEvents }
+{}
+
+/// A store of the entry that is pending already changes nothing: after a sleep, and while an heir waits awake.
+pub fn pending_again_is_no_event()
+    ensures { PendingAgainIsNoEvent }
+{}
+
+/// A wake of one or of all that sleep on a cell is one Step of the machine: by an unlock, by a wait's release, and by a call
+/// that has found the mutex unusable.
+pub fn wakes_are_events()
+    ensures { WakesAreEvents }
+{}
+
+/// An heir's exchange that says when it is awake sets AWAKE, and is no event of the machine.
+pub fn awake_is_set()
+    ensures { AwakeIsSet }
+{}
+
+/// Clearing AWAKE is no event of the machine: by an heir that has taken the cell or gives up, and by a thread that has taken
+/// a marked slot.
+pub fn awake_is_cleared()
+    ensures { AwakeIsCleared }
+{}
