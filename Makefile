@@ -1,4 +1,4 @@
-# Builds the libraries, the recorder, and rfx and its siblings with cc, make and binutils. `make help` lists the targets.
+# Builds the libraries and the recorder with cc, make and binutils. `make help` lists the targets.
 CC ?= cc
 OBJCOPY ?= objcopy
 CFLAGS ?= -O2 -g
@@ -28,25 +28,20 @@ LIBRARY := $(patsubst lib/%.c,out/lib/%.o,$(wildcard lib/*.c))
 PRELOAD := $(patsubst lib/preload/%.c,out/preload/%.o,$(wildcard lib/preload/*.c)) out/lib/caller.o
 RECORDER := $(patsubst record/preloaded/%.c,out/record/preloaded/%.o,$(wildcard record/preloaded/*.c))
 RECORD := $(patsubst record/%.c,out/record/%.o,$(wildcard record/*.c))
-# rfx and its siblings are linked from the objects that Rattle's compiler made of the proved crates.
-MACHINE := $(firstword $(subst -, ,$(shell $(CC) -dumpmachine)))
-NAMES = rfx rfx-draw rfx-explain rfx-judge
-PROGRAMS = $(if $(wildcard programs/$(MACHINE)/made),$(NAMES:%=bin/%))
-PRODUCTS = $(PROGRAMS) out/libpazdrig.a out/libpazdrig.so out/pazdrig.pc $(if $(wildcard lib/preload/*.c),out/libpazdrig_pthread.so) \
+PRODUCTS = out/libpazdrig.a out/libpazdrig.so out/pazdrig.pc $(if $(wildcard lib/preload/*.c),out/libpazdrig_pthread.so) \
     $(if $(RECORD),bin/pz-record out/libpz_record.so)
 
 all: $(PRODUCTS)
-	$(if $(PROGRAMS),,@echo 'no rfx: programs/ has no objects for $(MACHINE)')
 
 help:
 	@sed -n 's/^#: *//p' Makefile
 
-#: make                  builds rfx, rfx-draw, rfx-explain, rfx-judge and pz-record in bin/, and the libraries in out/
-#: make check            runs all tests, within three and a half minutes
+#: make                  builds the libraries in out/ and pz-record in bin/
+#: make check            runs all tests, within three minutes on four processors
 #: make check-all        runs longer ones: 130,000 deaths, about an hour
 #: make install          installs in PREFIX=/usr/local (also BINDIR, LIBDIR, INCLUDEDIR, MANDIR, DESTDIR)
 #: make uninstall        removes what was installed with the same variables
-#: make dist             packs programs, libraries, pages and examples: out/pazdrig-VERSION-MACHINE.tar.gz
+#: make dist             packs programs, libraries, pages and examples: out/pazdrig-VERSION-x86_64.tar.gz
 #: make speed            measures next to the C library; wants an idle machine
 #: make clean            removes out/ and bin/
 #: Variables: CC, CFLAGS, CPPFLAGS, LDFLAGS; V=1 shows the commands
@@ -69,12 +64,6 @@ out/preload/%.o: lib/preload/%.c out/with
 out/record/%.o: record/%.c out/with
 	$(call say,CC,$<)
 	$(Q)$(CC) $(FLAGS) -Ilib -Irecord -MMD -MP -c $< -o $@
-
-.SECONDEXPANSION:
-$(PROGRAMS): bin/%: programs/$(MACHINE)/$$(subst -,_,$$*).o programs/system.c out/with
-	$(call say,LD,$@)
-	@mkdir -p bin
-	$(Q)$(CC) -std=gnu11 $(CPPFLAGS) $(CFLAGS) $(LDFLAGS) -pthread -o $@ programs/system.c $<
 
 # One object, in which only the library's calls can be seen.
 out/pazdrig.o: $(LIBRARY) lib/pazdrig.map
@@ -134,7 +123,7 @@ install: all
 	install -m 644 lib/pazdrig.h lib/pazdrig.hpp $(DESTDIR)$(INCLUDEDIR)
 	install -m 644 out/libpazdrig.a $(DESTDIR)$(LIBDIR)
 	install -m 755 out/libpazdrig.so.$(VERSION) out/libpazdrig_pthread.so out/libpz_record.so $(DESTDIR)$(LIBDIR)
-	install -m 755 bin/pz-record $(PROGRAMS) $(DESTDIR)$(BINDIR)
+	install -m 755 bin/pz-record $(DESTDIR)$(BINDIR)
 	ln -sf libpazdrig.so.$(VERSION) $(DESTDIR)$(LIBDIR)/$(SONAME)
 	ln -sf $(SONAME) $(DESTDIR)$(LIBDIR)/libpazdrig.so
 	install -m 644 out/pazdrig.pc $(DESTDIR)$(LIBDIR)/pkgconfig
@@ -144,12 +133,12 @@ install: all
 uninstall:
 	rm -f $(addprefix $(DESTDIR)$(INCLUDEDIR)/,pazdrig.h pazdrig.hpp) \
 	    $(addprefix $(DESTDIR)$(LIBDIR)/,libpazdrig.a libpazdrig.so $(SONAME) libpazdrig.so.$(VERSION) \
-	        libpazdrig_pthread.so libpz_record.so pkgconfig/pazdrig.pc) $(addprefix $(DESTDIR)$(BINDIR)/,pz-record $(NAMES)) \
+	        libpazdrig_pthread.so libpz_record.so pkgconfig/pazdrig.pc) $(DESTDIR)$(BINDIR)/pz-record \
 	    $(addprefix $(DESTDIR)$(MANDIR)/man3/,$(notdir $(wildcard lib/man/*.3))) \
 	    $(addprefix $(DESTDIR)$(MANDIR)/man7/,$(notdir $(wildcard lib/man/*.7)))
 
 dist:
-	programs/dist $(VERSION) $(MACHINE)
+	lib/dist $(VERSION)
 
 clean:
 	rm -rf out bin
