@@ -140,7 +140,8 @@ UNUSED static int is_in_futex(pid_t tid)
     if (!fgets(line, sizeof line, f))
         line[0] = 0;
     fclose(f);
-    return atoi(line) == SYS_futex || atoi(line) == SYS_futex_waitv || line[0] == 0;
+    int call = atoi(line); /* a sleep with a deadline goes on as restart_syscall(2) after a stop */
+    return call == SYS_futex || call == SYS_futex_waitv || call == SYS_restart_syscall || line[0] == 0;
 }
 /* Waits until a thread sleeps in futex(2). A thread that ends is as good. */
 UNUSED static void until_asleep(pid_t tid)
