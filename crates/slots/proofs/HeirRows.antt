@@ -1,4 +1,4 @@
--- The heir's own rows: it is the heir behind each of its accesses, as long as AWAKE is set.
+-- The heir's own rows: an heir is an heir after each of its accesses, as long as AWAKE is set.
 use Rattle.std.proofs.Common.{◌≡◌, ℕ, ◌+◌, ◌<◌, ◌≤◌, ◌==◌, Bool, true, false, Some, List, [], ◌∷◌, refl, sym, ap, ◌∙◌, subst, arith, eqb-true}
 use Rattle.std.proofs.lemmas.Bool.Decides.{nat_tests}
 use Rattle.std.specs.Prelude.{if◌then◌else◌, not, ◌&&◌, ◌*◌, ◌/◌, ◌%◌}

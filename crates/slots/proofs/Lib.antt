@@ -16,3 +16,7 @@ pub mod OneStep
 pub mod Again
 pub mod Wakes
 pub mod Flags
+pub mod Takes
+pub mod TakeRows
+pub mod GiveRows
+pub mod Announcing

@@ -1,4 +1,4 @@
--- Who stands as its row says is an heir where it has AWAKE set.
+-- A thread that is where its row says is an heir if it has AWAKE set.
 use Rattle.std.proofs.Common.{◌≡◌, ℕ, ◌≤◌, true, false, Some, subst}
 use Rattle.lockword.specs.declared.reply.Reply.{Reply}
 use Rattle.mutex.specs.declared.call.Call.TheVariants.{TimedLock}

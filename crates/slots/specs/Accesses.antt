@@ -1,8 +1,8 @@
 -- Rows whose access is the events that the table has, family by family.
-use Rattle.std.specs.Prelude.{ℕ, ◌≡◌, ◌≤◌, ◌<◌, false, []}
+use Rattle.std.specs.Prelude.{ℕ, ◌≡◌, ◌≢◌, ◌≤◌, ◌<◌, true, false, []}
 use Rattle.stepprograms.specs.declared.access.Access.{Access}
 use Rattle.stepprograms.specs.declared.access.Access.TheVariants as access
-use Rattle.memorymap.specs.Layouts.{Layout', cell_place}
+use Rattle.memorymap.specs.Layouts.{Layout', cell_place, place_in}
 use Rattle.condvar.specs.Ops.{mutex_of}
 use Rattle.condvar.specs.declared.op.Op.TheVariants.{OnCondition}
 use Rattle.protocol.specs.declared.thread.Stage.{Stage}
@@ -10,10 +10,12 @@ use Rattle.protocol.specs.declared.thread.Stage.TheVariants.{Calling, AtConditio
 use Rattle.protocol.specs.Machine.{State, stands_in}
 use Rattle.slots.specs.Places.{cell_of, slot_of}
 use Rattle.slots.specs.Rows.{Choice, Taking, Row}
-use Rattle.slots.specs.Rows.Before.{Again}
-use Rattle.slots.specs.Shown.{Slots}
+use Rattle.slots.specs.Rows.Before.{Linked, Mended, Again}
+use Rattle.slots.specs.Rows.Giving.{OfUnlock, OfWait}
+use Rattle.slots.specs.Shown.{Slots, shown}
 use Rattle.slots.specs.Table.{made}
 use Rattle.slots.specs.Stands.{StandsAs}
+use Rattle.slots.specs.Invariant.{fields_at, HasRoom}
 use Rattle.slots.specs.Laws.{IsEvents, IsReached}
 
 -- the machine's call is about mutex m's cell
@@ -24,6 +26,7 @@ IsAbout l m g = Unit {0}
 
 -- at these rows, it is about the row's mutex
 abbrev pub IsAboutIt : Layout' → Row → Stage → Type 0
+IsAboutIt l (Row.Takes k v) g = IsAbout l k.mutex g
 IsAboutIt l (Row.Asleep k) g = IsAbout l k.mutex g
 IsAboutIt l (Row.WaitAsleep m k timed) g = IsAbout l m g
 IsAboutIt l (Row.WakesAll m r) g = IsAbout l m g
@@ -49,6 +52,16 @@ IsLoad a = ⊥
 -- a load for which the table has no events
 abbrev pub LooksAreEvents : Type 0
 LooksAreEvents = (x : Slots) (t : ℕ) (c : Choice) → IsLoad (made x t c (x.rows t)).access
+    → (made x t c (x.rows t)).events ≡ [] → IsEvents x t c
+
+-- an exchange that finds another word than it expects
+abbrev pub IsMiss : Slots → ℕ → Access → Type 0
+IsMiss x t (access.Exchange at e n) = shown x (place_in x.machine.layout t at) ≢ e
+IsMiss x t a = ⊥
+
+-- one for which the table has no events
+abbrev pub MissesAreNoEvents : Type 0
+MissesAreNoEvents = (x : Slots) (t : ℕ) (c : Choice) → IsMiss x t (made x t c (x.rows t)).access
     → (made x t c (x.rows t)).events ≡ [] → IsEvents x t c
 
 -- ---- along the thread's list
@@ -125,3 +138,60 @@ abbrev pub AwakeIsCleared : Type 0
 AwakeIsCleared = (x : Slots) (t : ℕ) (c : Choice) (m : ℕ) → IsInLayout x.machine t (slot_of m) → IsQuieting (x.rows t) m
     → x.machine.words (cell_place x.machine.layout (slot_of m)) < 0x1_0000_0000 → x.turns (slot_of m) < 0x8000_0000
     → IsEvents x t c
+
+-- ---- an exchange that takes
+
+-- memory shows the word v of mutex k of the machine, which nobody owns and which is usable
+pub record Finds (x : Slots) (k v : ℕ) : Type 0 where
+  pub found : shown x (cell_place x.machine.layout k) ≡ v
+  pub free : (fields_at x.machine k).owner ≡ 0
+  pub usable : (fields_at x.machine k).unusable ≡ false
+  pub room : HasRoom x.machine k
+
+-- the row's exchange finds the word that it expects
+abbrev pub IsFound : Slots → Row → Type 0
+IsFound x (Row.Takes k v) = Finds x (cell_of k.mutex) v
+IsFound x (Row.HeirTakes k v) = Finds x (cell_of k.mutex) v
+IsFound x (Row.TryTakes m v) = Finds x (cell_of m) v
+IsFound x (Row.SlotTakes k g) = Finds x (slot_of k.mutex) g
+IsFound x r = ⊥
+
+-- it takes the mutex by load and exchange of the machine's trylock, or of its lock
+abbrev pub TakesAreEvents : Type 0
+TakesAreEvents = (x : Slots) (t : ℕ) (c : Choice) → IsAtRow x t → IsFound x (x.rows t) → IsEvents x t c
+
+-- ---- a release
+
+-- thread t owns mutex k of the machine, which is usable
+pub record Owns (s : State) (t k : ℕ) : Type 0 where
+  pub owner : (fields_at s k).owner ≡ t
+  pub usable : (fields_at s k).unusable ≡ false
+
+-- at these rows it releases the slot, or the cell; if it makes the mutex unusable, OWNER_DIED is set
+abbrev pub IsGiven : Slots → ℕ → Row → Type 0
+IsGiven x t (Row.FreeGives k f) = Owns x.machine t (slot_of k.mutex)
+IsGiven x t (Row.Gives m (OfUnlock false)) = Owns x.machine t (cell_of m)
+IsGiven x t (Row.Gives m (OfUnlock true)) = Owns x.machine t (cell_of m) × ((fields_at x.machine (cell_of m)).died ≡ true)
+IsGiven x t (Row.Gives m (OfWait k n slept timed)) = Owns x.machine t (cell_of m)
+IsGiven x t r = ⊥
+
+-- a release is one Step: with the turn and AWAKE above it, the word changes as the machine's does
+abbrev pub ReleasesAreEvents : Type 0
+ReleasesAreEvents = (x : Slots) (t : ℕ) (c : Choice) → IsAtRow x t → IsGiven x t (x.rows t) → IsEvents x t c
+
+-- ---- an announcement
+
+-- at these rows a call of the machine begins, on a mutex of the layout, and announces it
+abbrev pub IsAnnouncing : Slots → Row → Type 0
+IsAnnouncing x (Row.Pends k v) = cell_of k.mutex < x.machine.layout.mutexes
+IsAnnouncing x (Row.TryPends m v) = cell_of m < x.machine.layout.mutexes
+IsAnnouncing x (Row.SlotPends k g) = slot_of k.mutex < x.machine.layout.mutexes
+IsAnnouncing x (Row.SlotLeft k) = cell_of k.mutex < x.machine.layout.mutexes
+IsAnnouncing x (Row.HeirPends k Linked) = cell_of k.mutex < x.machine.layout.mutexes
+IsAnnouncing x (Row.HeirPends k Mended) = cell_of k.mutex < x.machine.layout.mutexes
+IsAnnouncing x r = ⊥
+
+-- the store is the end of the last call, if that has still to clear what it had pending, and the beginning of the next
+abbrev pub AnnouncingRowsAreEvents : Type 0
+AnnouncingRowsAreEvents = (x : Slots) (t : ℕ) (c : Choice) → IsAtRow x t → (x.machine.threads t).held < 2048
+    → IsAnnouncing x (x.rows t) → IsEvents x t c

@@ -30,8 +30,8 @@ pub record IsAtLock (s : State) (t k : ℕ) : Type 0 where
   pub there : IsIn (TimedLock k) at_load (s.threads t).stage
   pub out : (key : ℕ) → stands_in t (s.queues key) ≡ false
 
--- It gives up a mutex that another thread owns, with WAITERS: it loads the word, falls asleep, and times out. Then its call
--- is decided, and no word, no queue and no other thread has changed; and it owns as many mutexes as before
+-- A lock gives up a mutex that another thread owns, with WAITERS, by a load, a sleep and a timeout. Then the lock's call is
+-- decided, and no word, no queue and no other thread has changed; and it owns as many mutexes as before
 pub record HasExpired (s s' : State) (t k : ℕ) : Type 0 where
   pub words : (p : ℕ) → s'.words p ≡ s.words p
   pub queues : (key : ℕ) → s'.queues key ≡ s.queues key
@@ -43,7 +43,7 @@ abbrev pub GivingUpLeavesNothing : Type 0
 GivingUpLeavesNothing = (s : State) (t k : ℕ) → IsAtLock s t k → (fields_at s k).owner ≢ 0 → (fields_at s k).owner ≢ t
     → (fields_at s k).unusable ≡ false → (fields_at s k).waiters ≡ true → HasExpired s (run s (expires t)) t k
 
--- It takes a mutex that nobody owns, by load and exchange. One word has changed, that of the mutex, and the thread is about
+-- A lock takes a mutex that nobody owns, by load and exchange. One word has changed, that of the mutex, and the thread is about
 -- to put the mutex on its list
 pub record HasTakenIt (s s' : State) (t k : ℕ) : Type 0 where
   pub word : s'.words (cell_place s.layout k) ≡ word_of (taken (fields_at s k) t)
@@ -107,7 +107,7 @@ pub record IsAtClear (s : State) (t : ℕ) : Type 0 where
   pub out : (key : ℕ) → stands_in t (s.queues key) ≡ false
   pub room : (s.threads t).held < 2048
 
--- It clears that, begins a lock, and announces the lock's mutex. One word has changed: the pending one is that mutex's entry.
+-- The thread clears that, begins a lock, and announces the lock's mutex. One word has changed: the pending one is that mutex's entry.
 -- And the thread is at the lock's load
 pub record HasAnnounced (s s' : State) (t k : ℕ) : Type 0 where
   pub words : (p : ℕ) → s'.words p ≡ put s.words (head_place t + 2) (address_in s.layout t (entry_place s.layout k)) p

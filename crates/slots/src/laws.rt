@@ -1,6 +1,8 @@
 //! Laws of the layer. Each is the contract of a function without a body.
-ghost use Rattle.slots.specs.Accesses.{AwakeIsCleared, AwakeIsSet, ClearingRowsAreEvents, ListRowsAreEvents};
-ghost use Rattle.slots.specs.Accesses.{LooksAreEvents, PendingAgainIsNoEvent, WakesAreEvents};
+ghost use Rattle.slots.specs.Accesses.{AnnouncingRowsAreEvents, AwakeIsCleared, AwakeIsSet};
+ghost use Rattle.slots.specs.Accesses.{ClearingRowsAreEvents, ListRowsAreEvents, LooksAreEvents};
+ghost use Rattle.slots.specs.Accesses.{MissesAreNoEvents, PendingAgainIsNoEvent, ReleasesAreEvents};
+ghost use Rattle.slots.specs.Accesses.{TakesAreEvents, WakesAreEvents};
 ghost use Rattle.slots.specs.Heirs.{DeathsLeaveAll, DeathsLeaveHeirs, OthersAnswerStill, OthersLeaveHeirs};
 ghost use Rattle.slots.specs.Heirs.{OthersLeaveWhatIsOwned, WalksLeaveAll, WalksLeaveHeirs};
 ghost use Rattle.slots.specs.Laws.{HeirsLetSpare, NobodyJoinsAFreeMutex, ReleasesTell, SlotsRunTheMachine};
@@ -149,6 +151,11 @@ pub fn looks_are_events()
     ensures { LooksAreEvents }
 {}
 
+/// An exchange that finds another word than it expects, and for which the table has no events, changes nothing.
+pub fn misses_are_no_events()
+    ensures { MissesAreNoEvents }
+{}
+
 /// Each load and each store by which a call puts an entry on its thread's list, or takes it off, is one Step of the machine.
 pub fn list_rows_are_events()
     ensures { ListRowsAreEvents }
@@ -179,4 +186,22 @@ pub fn awake_is_set()
 /// a marked slot.
 pub fn awake_is_cleared()
     ensures { AwakeIsCleared }
+{}
+
+/// An exchange that finds the word that it expects, of a free mutex, is load and exchange of the machine's trylock or lock.
+/// So the cell is taken by a lock, a trylock, an heir or the lock that ends a wait, and the slot by a lock.
+pub fn takes_are_events()
+    ensures { TakesAreEvents }
+{}
+
+/// The release of a cell or of a slot is one Step of the machine: it changes the word that memory shows, with its turn and
+/// AWAKE, as it changes the machine's word. So does a release that makes the mutex unusable, and that of a wait.
+pub fn releases_are_events()
+    ensures { ReleasesAreEvents }
+{}
+
+/// The store that makes an entry pending is the beginning of a trylock or of a lock of the machine, which announces its mutex;
+/// and before that the end of the last call, if that has still to clear what it had pending.
+pub fn announcing_rows_are_events()
+    ensures { AnnouncingRowsAreEvents }
 {}
