@@ -56,7 +56,7 @@ UNUSED static long system_call_of(pid_t tid)
 UNUSED static int is_in_sleep(pid_t tid)
 {
     long n = state_of(tid) == 'S' ? system_call_of(tid) : -1;
-    return n == SYS_futex || n == SYS_futex_waitv;
+    return n == SYS_futex || n == SYS_futex_waitv || n == SYS_restart_syscall; /* the last after a stop */
 }
 /* Waits until a thread sleeps on a mutex or a condition variable, or has ended. */
 UNUSED static void until_it_sleeps(pid_t tid)
