@@ -9,7 +9,7 @@
 
 enum { LIMIT = PZ_MOST_OWNED };
 
-/* One more mutex than a thread can own, in memory that processes share. */
+/* There is one more mutex than a thread can own, and processes share them all. */
 static struct {
     pz_mutex mutex[LIMIT + 1];
     pz_cond cond;

@@ -26,7 +26,7 @@ WALK |= {"loaded": (48, 2), "kind": (50, 1), "again": (51, 1), "of_pending": (52
 ACCESS = {"at": (0, 8), "a": (8, 8), "b": (16, 8), "kind": (24, 4), "most": (28, 4), "wakes": (32, 4)}
 ACCESS |= {"point": (36, 2), "operation": (38, 1)}
 STRUCTS = {"call": (72, CALL), "walk": (64, WALK), "access": (40, ACCESS)}
-# What each function is given: structs, and numbers of so many bits.
+# What each function takes: structs by name, and numbers by their width in bits.
 FUNCTIONS = {
     "pz_begin": ["call", "access", 32],
     "pz_expire": ["call", "access"],

@@ -415,7 +415,9 @@ static void lost_in_waits()
 
 static void files()
 {
-    char path[] = "/tmp/pazdrig-cpp-XXXXXX";
+    const char *room = std::getenv("TMPDIR");
+    std::string name = std::string(room ? room : P_tmpdir) + "/pazdrig-cpp-XXXXXX";
+    char *path = name.data();
     close(mkstemp(path));
     pazdrig::file f(path, {2, 1, sizeof(counter), 7}), moved = std::move(f);
     f = std::move(moved);
