@@ -11,12 +11,10 @@
  *
  * Else the mutex has a second futex word, the bell, which saves nearly all of these calls. It says who is awake:
  *
- *   bell                 means                                                        an unlock that finds WAITERS
- *   0                    nobody                                                       calls
- *   COMES                an unlock has woken a thread, which is on its way,           leaves the wake to that thread
- *                        or is about to wake one
- *   a TID + COMES        that thread waits awake: it is the heir                      leaves the wake to the heir
- *   OWNER_DIED + COMES   the heir died, and Linux has woken a thread                  calls
+ *   0: nobody. An unlock that finds WAITERS makes its system call.
+ *   COMES: an unlock has woken a thread, or is about to. Other unlocks leave their wakes to that thread.
+ *   A TID and COMES: that thread waits awake: it is the heir. Unlocks leave their wakes to it.
+ *   OWNER_DIED and COMES: the heir died, and Linux has woken a thread. An unlock makes its system call.
  *
  *   lock     Finds the cell owned: pending := bell. Then, until the thread has the mutex:
  *            - awake, once a call: bell := its TID if there is none; looks at the cell; bell := 0

@@ -28,7 +28,7 @@ use protocol::{LeftTo, Note, Stage, Thread};
 use stepprograms::{Answer, StepProgram};
 use syscalls::{Kernel, PlainMemory};
 
-/// Whether a call that stands there takes its mutex, or wakes one that sleeps on it, unless it finds it owned.
+/// Whether a call at this point takes its mutex, or wakes one that sleeps on it, unless it finds it owned.
 fn answers_at(phase: &Phase) -> bool
     ensures { result ≡ answers_at phase.now }
 {
@@ -197,8 +197,8 @@ fn is_owned(layout: &Layout, memory: &PlainMemory, mutex: u16) -> bool
     Cell::new(word_at(memory, layout.cell(mutex))).owner() != 0
 }
 
-/// Whether the thread's walk, which stands there, will look at the mutex's word, as it has the mutex pending, or is about
-/// to wake on it.
+/// Whether the thread's walk, at this row, will look at the mutex's word, as it has the mutex pending, or is about to wake
+/// a sleeper on it.
 fn minds(layout: &Layout, memory: &PlainMemory, mutex: u16, thread: Tid, row: WalkRow) -> bool
     requires words { length memory.now ≡ words_of layout.now }
     requires inside { mutex < layout.now.mutexes }

@@ -11,7 +11,7 @@
 
 enum pz_state { PZ_GOES, PZ_RETURNED, PZ_NO_SUCH };
 
-/* The ids of threads are 1 to this. The archive is proved for so many. (tests/steps/programs.c has the same programs in C.) */
+/* The ids of threads are 1 to this. The archive is proved for that many. (tests/steps/programs.c has the same programs in C.) */
 #ifndef PZ_MOST_THREADS
 #define PZ_MOST_THREADS 250
 #endif

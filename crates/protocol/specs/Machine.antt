@@ -7,10 +7,10 @@
 -- *Step.* A begin begins a call of an idle thread; a step makes the next access of a thread that is in a call and
 -- doesn't sleep, or of a dying thread's walk; a kill takes a thread out of its queue and ends its call; a leave takes a
 -- sleeper out of its queue, and so does an expiry of one whose lock or wait has a time limit; a decline is the step of a thread
--- whose next access is a trim, answered that this cleared nothing; a renewal lets a reaped thread live anew; a reinit
--- makes an unusable mutex anew. A recount puts a counter back to 0, a spare leaves a wake out for which another
--- answers, a resleep takes a sleeper to the end of its queue, and a repeat makes an access of a walk that is made once
--- more behind it. An event that can't apply notes nothing and changes nothing.
+-- whose next access is a trim, answered that this cleared nothing; a renewal lets a reaped thread live again; a reinit
+-- makes an unusable mutex usable again. A recount puts a counter back to 0. A spare leaves out a wake for which another
+-- thread answers. A resleep moves a sleeper to the end of its queue. A repeat makes an access of a walk which the walk
+-- then makes once more. An event that can't apply notes nothing and changes nothing.
 --
 -- *A leave and a declined trim.* A thread that sleeps stands where it goes on when it is woken; so a leave only takes
 -- it out of its queue: no word changes, no thread, and no place of another in a queue, and its wake is told. A declined
@@ -597,7 +597,7 @@ recounted s k = record { state = record s { words = put s.words (counter_place s
 
 -- ---- wakes that are spared
 
--- whoever stands there, in a call on a mutex, takes it or wakes one that sleeps on it, unless it finds it owned
+-- a call on a mutex, at this point, takes it or wakes one that sleeps on it, unless it finds it owned
 abbrev pub answers_at : Phase → Bool
 answers_at (AtCell r) = answers_for r
 answers_at f = false
@@ -635,7 +635,7 @@ another_answers s t m (suc n) =
 abbrev pub is_owned : State → ℕ → Bool
 is_owned s m = not ((fields_of (s.words (cell_place s.layout m))).owner == 0)
 
--- thread t's walk, that stands there, has mutex m pending and will look at its word; or it is about to wake on it
+-- thread t's walk, at this row, has mutex m pending and will look at its word; or it is about to wake on it
 abbrev pub minds : Layout' → (ℕ → ℕ) → ℕ → ℕ → walk_row.Row → Bool
 minds l words m t walk.LoadFirst = is_pending l words m t
 minds l words m t (walk.LoadOffset f) = is_pending l words m t

@@ -74,7 +74,7 @@ pub record OnlySpares (s s' : State) (t : ℕ) (then : Stage) : Type 0 where
   pub goes_on : (s'.threads t).stage ≡ then
   pub held : (s'.threads t).held ≡ (s.threads t).held
 
--- so it is where that one answers, and nothing is told; else nothing happens
+-- a spare happens if that one answers, and the trace records no fact of it; else nothing happens
 pub record SparesSo (s : State) (t : ℕ) (by : LeftTo) : Type 0 where
   pub spared : (m : ℕ) (then : Stage) → WakesOneOf s t m then → IsLeftTo s t m by
       → OnlySpares s (happens s (Spare t by)).state t then × (facts_of (happens s (Spare t by)).note ≡ [])

@@ -4,7 +4,7 @@
 use condvar::Op;
 use lockword::Tid;
 
-/// To whom a wake is left that is spared.
+/// Who answers for a mutex when its wake is spared.
 #[derive(Clone, Copy, Debug, PartialEq, Eq)]
 pub enum LeftTo {
     /// Another thread, which is awake: it will look at the mutex's word, or is about to wake one itself; or it was

@@ -237,11 +237,11 @@ pub fn recounts_are_lone()
 {}
 
 /// Whatever happened before: the wake of one sleeper of a mutex, by an unlock or a wait, is spared exactly where the one
-/// to whom it is left answers for that mutex. That is another thread where one is awake that is in a lock of the mutex
-/// and has still to look at its word, or is about to wake on it, or was killed with the mutex pending, and its walk
-/// hasn't begun; its owner where somebody owns it; a walk where one has still to look at its word, as it has the mutex
-/// pending, or is about to wake on it. Nobody is woken, no word changes, no queue and no other thread, and nothing is
-/// told; the thread goes on as one that woke a sleeper.
+/// to whom it is left answers for that mutex. Another thread answers if it is awake and in a lock of the mutex, and has
+/// still to look at its word or is about to wake a sleeper; so does one that was killed with the mutex pending, until
+/// its walk begins. The owner answers if there is one. A walk answers if it has the mutex pending and has still to look
+/// at its word, or is about to wake a sleeper. No thread is woken, no word, queue or other thread changes, and the
+/// trace records nothing; the thread goes on like one that woke a sleeper.
 pub fn spares_are_lone()
     ensures { SparesAreLone }
 {}
