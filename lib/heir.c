@@ -6,22 +6,18 @@
  * OWNER_DIED are one word. The heir sets AWAKE after `pending` is the cell, and clears it before it looks at the cell
  * for the last time, with `pending` still the same: so it finds the cell free. If the heir is killed, the kernel walks
  * its list, where the slot is, before it looks at what was pending. So if an unlock finds the slot not yet marked, the
- * kernel looks at the cell later and wakes a sleeper. */
+ * kernel looks at the cell later and wakes a sleeper. An unlock also leaves its wake to the cell's new owner, whose
+ * unlock finds WAITERS. */
 #include "mutex.h"
 
 /* Times in ns. How long a thread waits awake at most, and at least if that didn't pay; its first and last interval
- * between two looks; and both if the mutex is *hot*, that is, taken more than HOT times between two looks. A hot mutex
- * is left to the thread that takes it again and again until the heir is due. */
-enum {
-    LONGEST = 20000,
-    SHORTEST = 2000,
-    FIRST_LOOK = 500,
-    LAST_LOOK = 10000,
-    HOT_LONGEST = 150000,
-    HOT_LOOK = 5000,
-    HOT = 3,
-    VERY_HOT = 12
-};
+ * between two looks. */
+enum { LONGEST = 20000, SHORTEST = 2000, FIRST_LOOK = 500, LAST_LOOK = 10000 };
+/* The same if the mutex is *hot*, that is, if others took it more than HOT times between two looks. A hot mutex is left
+ * to the thread that takes it again and again until the heir is due. If others took it that often since the first look,
+ * the heir also waits for as long as that, and sleeps through one interval, NAP and what Linux adds to it: by default
+ * 50 us. That would cost a VERY_HOT mutex too many rounds. */
+enum { HOT = 3, VERY_HOT = 12, HOT_LONGEST = 150000, HOT_LOOK = 5000, NAP = 25000 };
 /* When an heir is due, and how long others give way to it; how long a woken thread is waited for; after how long
  * without a wake a sleeper gets one in spite of an heir, which is asked at each TRY_ALL-th unlock. */
 enum { FAIR = 100000, WAY = 20000, COMING = 20000, LATE = 150000, LATE_BUSY = 600000, TRY_ALL = 16 };
@@ -143,6 +139,37 @@ static void pause_until(uint64_t ns)
     while (now_ns() < ns && ++pauses < MOST_PAUSES);
 }
 
+/* How an heir waits: for how long at most, and until its next look, which it may sleep through once; and whether others
+ * have been told to give way to it. */
+struct pace {
+    uint64_t most, step;
+    int sleeps, has_slept, is_due;
+};
+
+static void wait_for_look(const struct pace *p)
+{
+    if (p->is_due)
+        relax();
+    else if (p->sleeps)
+        sleep_for(NAP);
+    else
+        pause_until(now_ns() + p->step);
+}
+
+/* Others took the mutex `turns` times since the last look, and `all` times since the first one. */
+static void set_pace(pz_mutex *m, struct pace *p, uint64_t turns, uint64_t all)
+{
+    if (turns > VERY_HOT)
+        set_hint(m, BUSY);
+    else
+        clear_hint(m, BUSY);
+    if (all > HOT && !p->is_due)
+        p->most = HOT_LONGEST;
+    p->step = turns > HOT ? HOT_LOOK : 2 * p->step < LAST_LOOK ? 2 * p->step : LAST_LOOK;
+    p->sleeps = all > HOT && turns <= VERY_HOT && !p->has_slept;
+    p->has_slept |= p->sleeps;
+}
+
 static uint32_t longer(uint32_t pause) { return 2 * pause < LONGEST ? 2 * pause : LONGEST; }
 static uint32_t shorter(uint32_t pause) { return pause / 2 > SHORTEST ? pause / 2 : SHORTEST; }
 
@@ -150,29 +177,23 @@ static uint32_t shorter(uint32_t pause) { return pause / 2 > SHORTEST ? pause / 
  * pay any more, or the deadline has passed. */
 static int watch(pz_mutex *m, struct caller *s, uint64_t *seen, const struct deadline *d, uint64_t began)
 {
-    uint64_t most = s->waits++ % TRY_ALL ? s->pause : LONGEST, first = now_ns(), step = FIRST_LOOK;
-    int is_due = 0, looks = 0;
-    for (uint64_t was = *seen, now = first; now - first < most && looks < MOST_LOOKS_AWAKE;
-         was = *seen, now = now_ns(), looks++) {
-        pause_until(is_due ? 0 : now + step);
+    struct pace pace = {.most = s->waits++ % TRY_ALL ? s->pause : LONGEST, .step = FIRST_LOOK};
+    uint64_t first = now_ns(), now = first, at_first = *seen, was = *seen;
+    for (int looks = 0; now - first < pace.most && looks < MOST_LOOKS_AWAKE; was = *seen, looks++) {
+        wait_for_look(&pace);
+        now = now_ns();
         set_pending(s, cell_entry(m)); /* again: a signal handler may have locked another robust mutex */
         say_awake(m, s);
         *seen = load_acquire(cell(m));
         uint64_t turns = *seen / TURN - was / TURN;
-        int is_hot = turns > HOT;
-        if ((*seen & UNUSABLE) || (!(*seen & OWNER) && (!is_hot || now - began >= FAIR))) {
+        if ((*seen & UNUSABLE) || (!(*seen & OWNER) && (turns <= HOT || now - began >= FAIR))) {
             s->pause = longer(s->pause);
             return 1;
         }
-        if (turns > VERY_HOT)
-            set_hint(m, BUSY);
-        else
-            clear_hint(m, BUSY);
-        step = is_hot ? HOT_LOOK : 2 * step < LAST_LOOK ? 2 * step : LAST_LOOK;
-        most = is_hot ? HOT_LONGEST : most;
-        if (!is_due && now - began >= FAIR) {
-            is_due = 1;
-            most += WAY;
+        set_pace(m, &pace, turns, *seen / TURN - at_first / TURN);
+        if (!pace.is_due && now - began >= FAIR) {
+            pace.is_due = 1;
+            pace.most = pace.most > now - first + WAY ? pace.most : now - first + WAY;
             set_hint(m, DUE);
         }
         if (d && has_passed(d))
@@ -348,7 +369,7 @@ void pz_unannounce_wake(pz_mutex *m) { clear_hint(m, COMES); }
 
 __attribute__((noinline)) int pz_hand_on(pz_mutex *m, int is_announced)
 {
-    if (!is_announced && answers(load_in_order(slot(m))))
+    if (!is_announced && (answers(load_in_order(slot(m))) || (load_in_order(cell(m)) & OWNER)))
         return 1;
     return wake(cell(m), 1);
 }

@@ -73,6 +73,14 @@ static inline int wake(pz_word *w, int most)
 
 static inline void yield(void) { syscall(SYS_sched_yield); } /* it doesn't fail */
 
+/* Sleeps for less than a second, or until a signal handler has run. */
+static inline void sleep_for(long ns)
+{
+    int saved = errno;
+    syscall(SYS_clock_nanosleep, CLOCK_MONOTONIC, 0, &(struct timespec){.tv_nsec = ns}, NULL);
+    errno = saved;
+}
+
 /* Moves all sleepers to another word if the futex word of w is still that of `is`. Nobody wakes. */
 static inline void move_sleepers(pz_word *w, uint64_t is, pz_word *to)
 {

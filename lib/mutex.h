@@ -77,6 +77,7 @@ int pz_announce_wake(pz_mutex *, struct caller *) HIDDEN;
 /* Takes that announcement back, for a caller that is a user of the mutex still. */
 void pz_unannounce_wake(pz_mutex *) HIDDEN;
 
-/* After a release that left WAITERS. Returns 0 if nobody was woken, and no heir answers for the mutex. */
+/* After a release that left WAITERS. Returns 0 if nobody was woken, and neither an heir nor an owner answers for the
+ * mutex. */
 int pz_hand_on(pz_mutex *, int is_announced) HIDDEN;
 #endif

@@ -69,8 +69,10 @@ inline bool will_look(const State &s, int u, int m)
     case HEIR_MARK:
     case HEIR_WAKE_ALL:
     case UNLOCK_SLOT:
+    case UNLOCK_OWNER:
     case UNLOCK_WAKE:
     case WAIT_SLOT:
+    case WAIT_OWNER:
     case WAIT_WAKE:
         return true;
     default:
@@ -103,7 +105,8 @@ inline void law_of_spares(const State &s, int t)
 // ---- Condition variables.
 inline bool has_released(const Thread &x)
 {
-    return x.at == WAIT_SLOT || x.at == WAIT_WAKE || x.at == WAIT_SLEEP || (x.at == WAIT_COUNT && x.pending);
+    return x.at == WAIT_SLOT || x.at == WAIT_OWNER || x.at == WAIT_WAKE || x.at == WAIT_SLEEP ||
+           (x.at == WAIT_COUNT && x.pending);
 }
 inline void law_of_quiet_signals(const State &s)
 {

@@ -45,20 +45,40 @@ inline void release_cell(State &s, int t)
     if (waits && mutated(wait_counts_after_release))
         to(x, WAIT_COUNT);
 }
-// heir.c, hand_on: an unlock may make its wake even if an heir answers.
+// heir.c, hand_on: a wake is left to an heir, or to the cell's new owner. An unlock may also look further, or make its
+// wake, in spite of them: it has announced the wake, or the heir may be stopped.
+inline void spare(State &s, int t)
+{
+    Thread &x = s.thread[t];
+    law_of_spares(s, t);
+    to(x, x.at == WAIT_SLOT || x.at == WAIT_OWNER ? WAIT_SLEEP : UNLOCK_END);
+}
 inline bool look_at_slot(State &s, int t, int choice)
 {
     Thread &x = s.thread[t];
     bool waits = x.at == WAIT_SLOT;
-    bool spares = heir_answers(load(s, t, slot_of(x.m)));
+    bool answers = heir_answers(load(s, t, slot_of(x.m)));
     if (mutated(unlock_looks_at_slot_before_release))
-        spares = x.flags & SPARES;
-    if (choice > (spares ? 1 : 0))
+        answers = x.flags & SPARES;
+    if (choice > (answers ? 1 : 0))
         return false;
-    if (spares && !choice) {
-        law_of_spares(s, t);
-        to(x, waits ? WAIT_SLEEP : UNLOCK_END);
-    } else
+    if (answers && !choice)
+        spare(s, t);
+    else
+        to(x, waits ? WAIT_OWNER : UNLOCK_OWNER);
+    return true;
+}
+inline bool look_at_owner(State &s, int t, int choice)
+{
+    Thread &x = s.thread[t];
+    bool waits = x.at == WAIT_OWNER;
+    u16 v = load(s, t, cell_of(x.m));
+    bool answers = (v & OWNER) || (mutated(unlock_trusts_waiters_alone) && (v & WAITERS));
+    if (choice > (answers ? 1 : 0))
+        return false;
+    if (answers && !choice)
+        spare(s, t);
+    else
         to(x, waits ? WAIT_WAKE : UNLOCK_WAKE);
     return true;
 }
@@ -107,6 +127,8 @@ inline bool unlock_step(State &s, int t, int choice, Seen &seen)
         return begin_unlock(s, t, choice);
     if (x.at == UNLOCK_SLOT)
         return look_at_slot(s, t, choice);
+    if (x.at == UNLOCK_OWNER)
+        return look_at_owner(s, t, choice);
     if (choice)
         return false;
     switch (x.at) {
@@ -245,6 +267,8 @@ inline bool wait_step(State &s, int t, int choice, Seen &seen)
     u8 entry = entry_of(cell_of(x.m));
     if (x.at == WAIT_SLOT)
         return look_at_slot(s, t, choice);
+    if (x.at == WAIT_OWNER)
+        return look_at_owner(s, t, choice);
     if (choice)
         return false;
     switch (x.at) {

@@ -88,6 +88,7 @@ const Mutant mutants[] = {
     {trim_without_compare, "three", "WAITERS was cleared", false},
     {unlock_looks_at_slot_before_release, "two", "nobody answers", false},
     {unlock_trusts_awake_alone, "two", "nobody answers", false},
+    {unlock_trusts_waiters_alone, "two", "nobody answers", false},
     {unlock_wakes_before_release, "two", "nobody answers", false},
     {unlock_releases_without_pending, "two", "nobody answers", false},
     {lock_takes_without_pending, "two", "neither on the list nor pending", false},

@@ -49,6 +49,7 @@
     X(UNLOCK_UNLINK)                                                                                                   \
     X(UNLOCK_RELEASE)                                                                                                  \
     X(UNLOCK_SLOT)                                                                                                     \
+    X(UNLOCK_OWNER)                                                                                                    \
     X(UNLOCK_WAKE)                                                                                                     \
     X(UNLOCK_TRIM)                                                                                                     \
     X(UNLOCK_END)                                                                                                      \
@@ -61,6 +62,7 @@
     X(WAIT_SAY)                                                                                                        \
     X(WAIT_RELEASE)                                                                                                    \
     X(WAIT_SLOT)                                                                                                       \
+    X(WAIT_OWNER)                                                                                                      \
     X(WAIT_WAKE)                                                                                                       \
     X(WAIT_SLEEP)                                                                                                      \
     X(WAITING)                                                                                                         \
@@ -104,6 +106,7 @@ enum Step : uint8_t { STEPS(NAME) };
     X(trim_without_compare)                                                                                            \
     X(unlock_looks_at_slot_before_release)                                                                             \
     X(unlock_trusts_awake_alone)                                                                                       \
+    X(unlock_trusts_waiters_alone)                                                                                     \
     X(unlock_wakes_before_release)                                                                                     \
     X(unlock_releases_without_pending)                                                                                 \
     X(lock_takes_without_pending)                                                                                      \

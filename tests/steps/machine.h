@@ -58,6 +58,7 @@ struct moment {
     uint64_t woken_place; /* a wake there, and how many it woke; or 0 */
     int woken;
     int sees_heir;    /* it looks at the slot, and finds an heir */
+    int sees_owner;   /* it looks at the cell, and finds another thread's */
     int is_trim;      /* its exchange of the cell clears WAITERS */
     int is_remake;    /* its exchange of the cell clears UNUSABLE */
     int is_move;      /* a broadcast moves sleepers */
@@ -192,7 +193,7 @@ static void on_sleep(struct machine *m, states *then)
     }
 }
 
-/* A wake as the library makes it; one of nobody, which it leaves out; or one that it leaves to an heir. */
+/* A wake as the library makes it; one of nobody, which it leaves out; or one that it leaves to an heir or an owner. */
 static void on_wake(struct machine *m, states *then)
 {
     struct machine other = *m;
@@ -203,7 +204,7 @@ static void on_wake(struct machine *m, states *then)
         answer(m, PZ_COUNT, 0);
         then(m);
     }
-    if (moment.sees_heir && other.next.at == CELL_PLACE && other.next.most == 1) {
+    if ((moment.sees_heir || moment.sees_owner) && other.next.at == CELL_PLACE && other.next.most == 1) {
         answer(&other, PZ_COUNT, 1);
         then(&other);
     }

@@ -49,6 +49,7 @@ static inline uint64_t fetch_or(pz_word *w, uint64_t bits) { return play(OR, w, 
 static inline uint64_t fetch_and(pz_word *w, uint64_t bits) { return play(AND, w, 0, bits); }
 static inline void relax(void) {}
 static inline void yield(void) {}
+static inline void sleep_for(long ns) { (void)ns, play_clock(); }
 
 static inline int is_clock(clockid_t clock) { return clock == CLOCK_REALTIME || clock == CLOCK_MONOTONIC; }
 static inline int is_time(const struct timespec *t) { return t->tv_nsec >= 0 && t->tv_nsec < 1000000000; }

@@ -330,6 +330,8 @@ uint64_t play(enum played kind, const pz_word *word, uint64_t is, uint64_t value
     }
     if (w == slot_word && kind == LOAD)
         moment.sees_heir = (was & AWAKE_BIT) && (was & OWNER) && !(was & OWNER_DIED);
+    if (w == cell_word && kind == LOAD)
+        moment.sees_owner = (was & OWNER) && (was & OWNER) != self_id;
     follow(-1);
     return was;
 }
