@@ -22,8 +22,9 @@
  *            - found free: if the bell is COMES, bell := 0; pending := cell; looks again, and this look decides: takes
  *              the cell, or pending := bell and waits again
  *   unlock   Pending := cell. With WAITERS, it looks at the bell. If it has to call: OWED into the cell, bell := COMES.
- *            Releases the cell. If it called, or nobody answers at the bell now: wakes one thread. If one woke, OWED
- *            goes from the cell; if none did, OWED and WAITERS; each only if all 64 bits are as the release left them
+ *            Releases the cell. If it called, or if nobody answers at the bell and nobody owns the cell now: wakes one
+ *            thread. If one woke, OWED goes from the cell; if none did, OWED and WAITERS; each only if all 64 bits are
+ *            as the release left them
  *
  * Why no wake is lost. As a thread dies, Linux marks each listed or pending word that the thread owns, and wakes one
  * that sleeps there if the word has WAITERS or COMES; at a pending word that nobody owns it wakes one; at a pending
@@ -216,7 +217,7 @@ __attribute__((noinline)) int pre_call(struct mutex *m, uint64_t v, uint32_t now
 /* After a release that left the cell as it `is`, with WAITERS. The memory may be another's by now. */
 __attribute__((noinline)) void pre_hand_on(struct mutex *m, uint64_t is, int calls, uint32_t now)
 {
-    if (!calls && is_trusted(m, atomic_load(&m->bell), now))
+    if (!calls && (is_trusted(m, atomic_load(&m->bell), now) || (load_in_order(&m->cell) & OWNER)))
         return;
     int woken = wake(&m->cell, 1);
     if (woken > 0 && (is & OWED))

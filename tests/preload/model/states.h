@@ -42,6 +42,7 @@ enum Place : uint8_t {
     CALL_BELL,
     RELEASE,
     RELEASED,
+    RELEASED_LOOK,
     WAKE,
     CLEAR_OWED,
     TRIM,

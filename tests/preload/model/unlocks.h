@@ -86,8 +86,10 @@ static void hand_on_step(const State &s, int i)
         if (may_trust(s.bell) || is("bell_is_not_looked_at_again"))
             Step(s, i).go(END);
         if (!is("bell_is_not_looked_at_again"))
-            x.go(WAKE);
+            x.go(RELEASED_LOOK);
         return;
+    case RELEASED_LOOK:
+        return x.go(s.cell.owner || (is("waiters_passes_for_an_owner") && s.cell.waiters) ? END : WAKE);
     case WAKE:
         return wake_one(s, CELL, [i](State n, int woken) {
             n.thread[i].at = woken ? CLEAR_OWED : TRIM;
