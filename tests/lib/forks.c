@@ -8,7 +8,7 @@
 #include <stdatomic.h>
 
 static struct {
-    pz_mutex mutex, busy, parents;
+    pz_mutex mutex, busy, parents, many[PZ_MOST_OWNED];
     _Atomic int stop, destroyed;
 } * all;
 static pthread_key_t key;
@@ -127,6 +127,33 @@ static void parent_owns(void)
     EQUAL(status_of(p), 0);
     EQUAL(pz_mutex_unlock(&all->parents), 0);
 }
+/* A child by clone(2) links what it locks to nothing that its parent owns. */
+static void parent_owns_and_clones(void)
+{
+    EQUAL(pz_mutex_lock(&all->parents), 0);
+    pz_mutex before = all->parents;
+    pid_t p = (pid_t)syscall(SYS_clone, SIGCHLD, 0, 0, 0, 0);
+    if (p == 0)
+        _exit(lock_and_keep());
+    EQUAL(status_of(p), 0);
+    CHECK(!memcmp(&before, &all->parents, sizeof before));
+    EQUAL(pz_mutex_unlock(&all->parents), 0);
+    expect(EOWNERDEAD);
+}
+/* What the parent owns doesn't count among what its child may own. */
+static void parent_owns_as_many_as_it_may(void)
+{
+    for (int i = 0; i < PZ_MOST_OWNED; i++)
+        EQUAL(pz_mutex_lock(&all->many[i]), 0);
+    EQUAL(pz_mutex_lock(&all->mutex), EAGAIN);
+    pid_t p = fork();
+    if (p == 0)
+        _exit(lock_and_keep());
+    EQUAL(status_of(p), 0);
+    for (int i = PZ_MOST_OWNED; i-- > 0;)
+        EQUAL(pz_mutex_unlock(&all->many[i]), 0);
+    expect(EOWNERDEAD);
+}
 /* ---- Programs. */
 static void executed(void)
 {
@@ -199,6 +226,8 @@ static void cases(void)
     vforked();
     forked_and_another_thread_first();
     parent_owns();
+    parent_owns_and_clones();
+    parent_owns_as_many_as_it_may();
     executed();
     thread_ends();
     destructor_locks(NULL);
