@@ -33,11 +33,11 @@ _Static_assert(offsetof(struct mutex, kind) == offsetof(pthread_mutex_t, __data.
 #define COMES (1u << 31)
 #define AWAKE 0x3fffffffu
 
+static inline int is_ours(struct mutex *m) { return is_marked(atomic_load_explicit(&m->kind, memory_order_acquire)); }
 static inline struct mutex *ours(pthread_mutex_t *mutex)
 {
     struct mutex *m = (struct mutex *)mutex;
-    uint32_t kind = atomic_load_explicit(&m->kind, memory_order_acquire);
-    return UNLIKELY(is_marked(kind)) ? m : NULL;
+    return UNLIKELY(is_ours(m)) ? m : NULL;
 }
 static inline int is_plain(struct mutex *m)
 {

@@ -167,11 +167,12 @@ static int take_free(struct mutex *m, struct caller *s)
     return ENOTRECOVERABLE;
 }
 
-/* Waits until the thread has the mutex, and returns as lock does. What is pending is set before each look, as a handler
- * that ran during a sleep or a pause may have used another mutex. */
+/* Waits until the thread has the mutex, and returns as lock does, or EINVAL if the mutex was initialised meanwhile as one
+ * of the C library's. What is pending is set before each look, as a handler that ran during a sleep or a pause may have
+ * used another mutex. */
 __attribute__((noinline)) int pre_wait(struct mutex *m, struct caller *s, const struct deadline *d)
 {
-    for (int paused = 0;;) {
+    for (int paused = 0; is_ours(m);) {
         int plain = is_plain(m), end;
         set_pending(s, plain ? cell_entry(m) : bell_entry(m));
         uint64_t v = load_in_order(&m->cell);
@@ -187,6 +188,8 @@ __attribute__((noinline)) int pre_wait(struct mutex *m, struct caller *s, const 
             return end;
         }
     }
+    set_pending(s, NULL);
+    return EINVAL;
 }
 
 /* ---- Unlock. */

@@ -53,6 +53,51 @@ static void initialised_again(void)
     EQUAL(pass(&m[0]), 0);
 }
 
+/* One that sleeps on a mutex learns that this has become one of the C library's. */
+static void initialised_as_another(void)
+{
+    make(0);
+    pthread_mutex_lock(&m[0]);
+    pid_t p = start_child();
+    if (!p)
+        _exit(pthread_mutex_lock(&m[0]));
+    until_it_sleeps(p);
+    EQUAL(pthread_mutex_init(&m[0], NULL), 0);
+    EQUAL(status_of(p), EINVAL);
+    EQUAL(pthread_mutex_lock(&m[0]) + pthread_mutex_unlock(&m[0]), 0);
+}
+
+/* Mutexes that have become unusable, or were initialised again by their owner, don't count among those that a thread
+ * owns. */
+static void forgotten(void)
+{
+    for (int i = 0; i < 2000; i++) {
+        make(0);
+        pthread_mutex_lock(&m[0]);
+    }
+    for (int i = 0; i < 2000; i++) {
+        make(0);
+        in_thread(lock_it, &m[0]);
+        EQUAL(pthread_mutex_lock(&m[0]), EOWNERDEAD);
+        EQUAL(pthread_mutex_unlock(&m[0]), 0);
+    }
+    make(0);
+    EQUAL(pass(&m[0]), 0);
+}
+
+/* A second lock by the owner of a normal mutex waits until its deadline, which is a time and no interval. */
+static void locked_again(void)
+{
+    struct timespec until;
+    make(0);
+    pthread_mutex_lock(&m[0]);
+    clock_gettime(CLOCK_REALTIME, &until);
+    until.tv_sec += 1;
+    EQUAL(pthread_mutex_timedlock(&m[0], &until), ETIMEDOUT);
+    CHECK(time(NULL) >= until.tv_sec);
+    EQUAL(pthread_mutex_unlock(&m[0]), 0);
+}
+
 static void destroyed(void)
 {
     make(0);
@@ -334,6 +379,9 @@ int main(int argc, char **argv)
     directory = strdup(argv[0]);
     *strrchr(directory, '/') = 0;
     initialised_again();
+    initialised_as_another();
+    forgotten();
+    locked_again();
     destroyed();
     copied();
     two_thousand();

@@ -32,7 +32,7 @@ static void see_bell(const State &s, int i)
         trusts.go(RELEASE);
     }
     x.t.calls = 1; // also if an heir or a thread that comes isn't trusted any more
-    x.go(s.bell >= HEIR ? RELEASE : CALL_OWED);
+    x.go(s.bell >= HEIR ? RELEASE : is("comes_is_set_before_owed") ? CALL_BELL : CALL_OWED);
 }
 
 static void release(const State &s, int i)
@@ -67,11 +67,11 @@ static void unlock_step(const State &s, int i)
         return see_bell(s, i);
     case CALL_OWED:
         x.n.cell.owed = !is("owed_is_not_set");
-        return x.go(CALL_BELL);
+        return x.go(is("comes_is_set_before_owed") ? RELEASE : CALL_BELL);
     case CALL_BELL:
         if (s.bell == x.t.bell)
             x.n.bell = COMES;
-        return x.go(RELEASE);
+        return x.go(is("comes_is_set_before_owed") ? CALL_OWED : RELEASE);
     default: // RELEASE
         return release(s, i);
     }
