@@ -15,9 +15,9 @@
 enum { LONGEST = 20000, SHORTEST = 2000, FIRST_LOOK = 500, LAST_LOOK = 10000 };
 /* The same if the mutex is *hot*, that is, if others took it more than HOT times between two looks. A hot mutex is left
  * to the thread that takes it again and again until the heir is due. If others took it that often since the first look,
- * the heir also waits for as long as that, and sleeps through one interval, NAP and what Linux adds to it: by default
- * 50 us. That would cost a VERY_HOT mutex too many rounds. */
-enum { HOT = 3, VERY_HOT = 12, HOT_LONGEST = 150000, HOT_LOOK = 5000, NAP = 25000 };
+ * the heir also waits for as long as that. It sleeps through one interval, NAP and what Linux adds to it, by default
+ * 50 us, unless a round takes less than SHORT_ROUND: then it would lose more than the others gain. */
+enum { HOT = 3, VERY_HOT = 12, HOT_LONGEST = 150000, HOT_LOOK = 5000, NAP = 25000, SHORT_ROUND = 1000 };
 /* When an heir is due, and how long others give way to it; how long a woken thread is waited for; after how long
  * without a wake a sleeper gets one in spite of an heir, which is asked at each TRY_ALL-th unlock. */
 enum { FAIR = 100000, WAY = 20000, COMING = 20000, LATE = 150000, LATE_BUSY = 600000, TRY_ALL = 16 };
@@ -36,7 +36,7 @@ enum { MOST_LOOKS_AWAKE = 1000, MOST_PAUSES = 2000 };
 
 /* ---- The heir's clock. An unlock leaves its wake only to an heir that said less than ALIVE ago that it is awake: a
  * stopped one would keep the mutex from all sleepers. A wrong clock costs a wake, and nothing else. */
-enum { ALIVE = 250000 >> 10 }; /* in ticks: 250 us at most */
+enum { ALIVE = 250000 >> 9 }; /* in ticks: about 250 us at most */
 
 /* The caller has the slot, so nobody else changes it. An exchange, and before each look, as this takes the cache line
  * from the mutex's owner once, and not twice. */
@@ -156,8 +156,8 @@ static void wait_for_look(const struct pace *p)
         pause_until(now_ns() + p->step);
 }
 
-/* Others took the mutex `turns` times since the last look, and `all` times since the first one. */
-static void set_pace(pz_mutex *m, struct pace *p, uint64_t turns, uint64_t all)
+/* Others took the mutex `turns` times since the last look, and `all` times in the `ns` since the first one. */
+static void set_pace(pz_mutex *m, struct pace *p, uint64_t turns, uint64_t all, uint64_t ns)
 {
     if (turns > VERY_HOT)
         set_hint(m, BUSY);
@@ -166,7 +166,7 @@ static void set_pace(pz_mutex *m, struct pace *p, uint64_t turns, uint64_t all)
     if (all > HOT && !p->is_due)
         p->most = HOT_LONGEST;
     p->step = turns > HOT ? HOT_LOOK : 2 * p->step < LAST_LOOK ? 2 * p->step : LAST_LOOK;
-    p->sleeps = all > HOT && turns <= VERY_HOT && !p->has_slept;
+    p->sleeps = all > HOT && ns >= all * SHORT_ROUND && !p->has_slept;
     p->has_slept |= p->sleeps;
 }
 
@@ -190,7 +190,7 @@ static int watch(pz_mutex *m, struct caller *s, uint64_t *seen, const struct dea
             s->pause = longer(s->pause);
             return 1;
         }
-        set_pace(m, &pace, turns, *seen / TURN - at_first / TURN);
+        set_pace(m, &pace, turns, *seen / TURN - at_first / TURN, now - first);
         if (!pace.is_due && now - began >= FAIR) {
             pace.is_due = 1;
             pace.most = pace.most > now - first + WAY ? pace.most : now - first + WAY;
