@@ -18,13 +18,22 @@ static void leave(struct mutex *m)
         }
 }
 
+#ifdef PZ_TEST_ANY_MUTEX /* for suites whose mutexes are private */
+enum { TAKES_ANY = 1 };
+#else
+enum { TAKES_ANY = 0 };
+#endif
+
 /* Whether a mutex with these attributes is this library's. */
 static int is_wanted(const pthread_mutexattr_t *a, int *type)
 {
     int robust, protocol, shared;
-    return a && !pthread_mutexattr_getrobust(a, &robust) && robust == PTHREAD_MUTEX_ROBUST &&
+    *type = PTHREAD_MUTEX_DEFAULT;
+    if (!a)
+        return TAKES_ANY;
+    return !pthread_mutexattr_getrobust(a, &robust) && (TAKES_ANY || robust == PTHREAD_MUTEX_ROBUST) &&
            !pthread_mutexattr_getprotocol(a, &protocol) && protocol == PTHREAD_PRIO_NONE &&
-           !pthread_mutexattr_getpshared(a, &shared) && shared == PTHREAD_PROCESS_SHARED &&
+           !pthread_mutexattr_getpshared(a, &shared) && (TAKES_ANY || shared == PTHREAD_PROCESS_SHARED) &&
            !pthread_mutexattr_gettype(a, type);
 }
 
