@@ -36,13 +36,11 @@ use Rattle.protocol.proofs.Endings.{EndsOrGoes, call_ends, cond_ends}
 use Rattle.protocol.proofs.Queued.{Queued, out_awake, in_none}
 use Rattle.protocol.proofs.QueueRuns.{run_queued}
 use Rattle.protocol.proofs.NoteFacts.{IsOfSleep, of_access, of_walk}
-use Rattle.protocol.proofs.Vocabulary.{Recounted, Reslept, recounted, counter_place, WakesOneOf, In_unlock, In_wait}
-use Rattle.protocol.specs.Sleepers.{StandsIn}
+use Rattle.protocol.proofs.Vocabulary.{Recounted, recounted, WakesOneOf, In_unlock, In_wait}
 use Rattle.protocol.specs.Applies.{IsSparedAccessOf}
 use Rattle.protocol.proofs.Events.{spared_calls, spared_ends, recount_again}
 use Rattle.protocol.proofs.Recounting.{recount_rests}
 use Rattle.protocol.proofs.Sparing.{unwoken, spare_goes, spare_rests}
-use Rattle.protocol.proofs.Repeating.{resleep_goes, resleep_rests, repeat_goes, repeat_rests}
 use Rattle.protocol.proofs.Vocabulary.{CondCall, CondWhole, AtCondition}
 use Rattle.protocol.specs.Machine.{is_idle}
 use Rattle.protocol.proofs.Oversleeping.{oversleep_goes}
@@ -177,8 +175,6 @@ next_agrees s e t w a =
     (λ u m may. refused_agrees s u t w may.resting a)
     (λ k may. a)
     (λ u m g sp. spared_agrees s u t (s.threads u).held m g w (spared_calls s u m g sp.how) (spared_ends s u m g sp.how) a)
-    (λ u c p pos known is there. a)
-    (λ u v pos known is reads. subst (λ (x : Told). Agrees x (s.threads t).stage) (sym (told_walked t w u None (woken s u (exit.access_of v)) false)) a)
     e
 
 pub run_agrees : (s : State) (es : List Event) (t : ℕ) (w : Told) → Agrees w (s.threads t).stage → Agrees (told_after t w (facts_among (notes s es))) ((run s es).threads t).stage
@@ -322,7 +318,7 @@ module _ (s : State) (ns : List Note) (inv : Kept s) (queued : Queued s) (agrees
       (λ u m p pos known is asleep may same. absurd (subst (λ (v : ℕ). ¬ Applies s.layout s ns (Event.Expire v)) (sym (expires_is u t same)) never ((pos, known), inl (asleep_where s u asleep, (m, (p, is))))))
       (λ u k x p pos known is there same. absurd (subst (λ (v : ℕ). ¬ Applies s.layout s ns (Event.Expire v)) (sym (expires_is u t same)) never ((pos, known), inr (k, there, (x, p, is)))))
       (λ u o p pos known is awake trims same. absurd cc) (λ u pos known gone same. absurd cc) (λ u m may same. absurd cc) (λ u m may same. absurd cc)
-      (λ k may same. absurd cc) (λ u m g sp same. absurd cc) (λ u c p pos known is there same. absurd cc) (λ u w pos known is reads same. absurd cc)
+      (λ k may same. absurd cc) (λ u m g sp same. absurd cc)
       (Event.Expire t) refl
     where
       expires_is : (u v : ℕ) → Event.Expire u ≡ Event.Expire v → u ≡ v
@@ -422,22 +418,6 @@ module _ (s : State) (ns : List Note) (inv : Kept s) (queued : Queued s) (agrees
   spares_else : (t : ℕ) (by : LeftTo) → ¬ Applies s.layout s ns (Event.Spare t by) → happens s (Event.Spare t by) ≡ nothing s
   spares_else t by never = spare_rests s t by queued (λ first last may. never ((first, last), may))
 
-  -- ---- resleeps
-  resleeps_so : (t : ℕ) → Applies s.layout s ns (Event.Resleep t) → (k : ℕ) → StandsIn s t (Condition k) → (happens s (Event.Resleep t)).note ≡ Reslept t k
-  resleeps_so t (j, below, there) k here =
-      let same : j ≡ k = let place = queued.one t (counter_place s.layout j) (counter_place s.layout k) there here in omega (arith, place) in
-      ap (λ (a : After). a.note) (resleep_goes s t j inv queued below there) ∙ ap (Reslept t) same
-
-  resleeps_else : (t : ℕ) → ¬ Applies s.layout s ns (Event.Resleep t) → happens s (Event.Resleep t) ≡ nothing s
-  resleeps_else t never = resleep_rests s t inv (λ k below there. never (k, below, there))
-
-  -- ---- repeats
-  repeats_so : (t : ℕ) → Applies s.layout s ns (Event.Repeat t) → IsAccessOf t (happens s (Event.Repeat t)).note
-  repeats_so t ((first, last), (w, is, reads)) = subst (λ (z : After). IsAccessOf t z.note) (sym (repeat_goes s t w first last is reads)) refl
-
-  repeats_else : (t : ℕ) → ¬ Applies s.layout s ns (Event.Repeat t) → happens s (Event.Repeat t) ≡ nothing s
-  repeats_else t never = repeat_rests s t (λ first last may. never ((first, last), may))
-
   so : (e : Event) → Applies s.layout s ns e → IsNotedAs s.layout s e (happens s e).note
   so (Event.Begin t o) on = begins_so t o on
   so (Event.Step t) on = steps_so t on
@@ -450,8 +430,6 @@ module _ (s : State) (ns : List Note) (inv : Kept s) (queued : Queued s) (agrees
   so (Event.Remake t m) on = remakes_so t m on
   so (Event.Recount k) on = recounts_so k on
   so (Event.Spare t by) on = spares_so t by on
-  so (Event.Resleep t) on = resleeps_so t on
-  so (Event.Repeat t) on = repeats_so t on
 
   idles : (e : Event) → ¬ Applies s.layout s ns e → happens s e ≡ nothing s
   idles (Event.Begin t o) never = begins_else t o never
@@ -465,8 +443,6 @@ module _ (s : State) (ns : List Note) (inv : Kept s) (queued : Queued s) (agrees
   idles (Event.Remake t m) never = remakes_else t m never
   idles (Event.Recount k) never = recounts_else k never
   idles (Event.Spare t by) never = spares_else t by never
-  idles (Event.Resleep t) never = resleeps_else t never
-  idles (Event.Repeat t) never = repeats_else t never
 
   next_applies : NextApplies s.layout s ns
   next_applies = record {

@@ -241,8 +241,6 @@ module _ (s : State) (inv : Kept s) (queued : Queued s) where
       (λ t m may is n within. absurd (subst (Within n) may.resting within))
       (λ k may is n within. inr within)
       (λ t m g sp other n within. spares_on t m g sp n within sp.how)
-      (λ t c p pos known is there other n within. inr within)
-      (λ t w pos known is reads other n within. inr within)
       e
     where
       spares_on : (t m : ℕ) (g : Led) → Sparing s t m g → (n : ℕ) → Within n (s.threads t).stage → HowSpared s t m g → GoesOn n t (spared s t (s.threads t).held m g)
@@ -292,8 +290,6 @@ event_on s e t n inv queued pos known lives within = by_same (caller e) t (mine 
     mine (Event.Expire u) alive h me = others (Event.Expire u) refl refl h me
     mine (Event.Recount u) alive h me = others (Event.Recount u) refl refl h me
     mine (Event.Spare u by) alive h me = others (Event.Spare u by) refl refl h me
-    mine (Event.Resleep u) alive h me = others (Event.Resleep u) refl refl h me
-    mine (Event.Repeat u) alive h me = others (Event.Repeat u) refl refl h me
     mine (Event.Decline u) alive h me = others (Event.Decline u) refl refl h me
     mine (Event.Renew u) alive h me = others (Event.Renew u) refl refl h me
     mine (Event.Reinit u m) alive h me = others (Event.Reinit u m) refl refl h me
@@ -312,8 +308,6 @@ first_spared t (Event.Leave u) es h = ((λ is. cc is), h)
 first_spared t (Event.Expire u) es h = ((λ is. cc is), h)
 first_spared t (Event.Recount u) es h = ((λ is. cc is), h)
 first_spared t (Event.Spare u by) es h = ((λ is. cc is), h)
-first_spared t (Event.Resleep u) es h = ((λ is. cc is), h)
-first_spared t (Event.Repeat u) es h = ((λ is. cc is), h)
 first_spared t (Event.Decline u) es h = ((λ is. cc is), h)
 first_spared t (Event.Renew u) es h = ((λ is. cc is), h)
 first_spared t (Event.Reinit u m) es h = ((λ is. cc is), h)
@@ -377,8 +371,6 @@ module _ (s : State) where
       (λ t m may is none quiet. absurd (none.0 refl))
       (λ k may is none quiet. quiet)
       (λ t m g sp is none quiet. put_quiet t _ (spare_quiet t m g sp.how quiet))
-      (λ t c p pos known at there is none quiet. quiet)
-      (λ t w pos known at reads is none quiet. quiet)
       e
     where
       spare_quiet : (t m : ℕ) (g : Led) → HowSpared s t m g → Quiet (s.threads t).stage → Quiet g.stage
@@ -396,8 +388,6 @@ module _ (s : State) where
       alive (Event.Expire u) never me = refl
       alive (Event.Recount u) never me = refl
       alive (Event.Spare u by) never me = refl
-      alive (Event.Resleep u) never me = refl
-      alive (Event.Repeat u) never me = refl
       alive (Event.Decline u) never me = refl
       alive (Event.Renew u) never me = refl
       alive (Event.Reinit u m) never me = refl

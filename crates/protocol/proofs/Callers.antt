@@ -18,9 +18,6 @@ use Rattle.protocol.proofs.Events.{begins_at, by_event, by_stage}
 use Rattle.protocol.proofs.Passing.{sleep_noted, none_walked}
 use Rattle.protocol.proofs.Learnt.{Learnt}
 use Rattle.protocol.proofs.Sparing.{spare_is}
-use Rattle.std.proofs.Common.{None}
-use Rattle.protocol.proofs.Vocabulary.{woken}
-use Rattle.exitwalk.specs.Walks as exit
 use Rattle.std.proofs.Common.{inl, inr}
 
 -- ---- facts that tell no sleep
@@ -114,10 +111,6 @@ module _ (s : State) (inv : Kept s) (calls : ℕ → Option Begun) (left : ℕ �
       (λ u m may t q h. absurd (three_else _ _ _ t q (λ e. cc e) (λ e. cc e) (λ e. cc e) h))
       (λ k may t q h. absurd h)
       (λ u m g sp. subst Tells (sym (spare_is s u m g sp inv)) (λ t q h. absurd h))
-      (λ u c p pos known is there t q h.
-      let again = slept_again u t (condition_of c) q h in
-      told_there u t (Condition (condition_of c)) q _ again.0 again.1 (subst (λ (g : Stage). Learnt s.layout g (calls u) (left u)) is (learnt u)).0 (wait_may s.layout c (fits_in s u (OnCondition c) p inv pos known is).1.1))
-      (λ u w pos known is reads t q h. absurd (none_walked (Sleep t q) u None (woken s u (exit.access_of w)) false refl h))
       e
     where
       slept_again : (u t k : ℕ) (q : Queue) → IsAmong (Sleep t q) (Wake u ∷ (Sleep u (Condition k) ∷ [])) → (u ≡ t) × (Condition k ≡ q)

@@ -2,7 +2,7 @@
 use Rattle.std.proofs.Common.{◌≡◌, ◌≢◌, ⊎_elim, ℕ, ◌==◌, Bool, true, false, Option, Some, None, Ok, Err, List, [], ◌∷◌, refl, sym, ap, ◌∙◌, subst, arith, eq-eqb}
 use Rattle.protocol.proofs.Vocabulary.{Begun, CondCall, CondPhase, CondWhole, cond_access, cond_led, Layout', Mutex, Condition, XHELD, Trimmed, Count, Phase, Whole, whole_access, whole_led, Call, Op, OnMutex, OnCondition}
 use Rattle.protocol.proofs.Vocabulary.{Limit, Past}
-use Rattle.protocol.proofs.Vocabulary.{condition_of, mutex_of, begun_of, Thread, Stage, Idle, Calling, AtCondition, Event, State, After, answer_of, begun, spared, went, walked, repeated, woken, put}
+use Rattle.protocol.proofs.Vocabulary.{condition_of, mutex_of, begun_of, Thread, Stage, Idle, Calling, AtCondition, Event, State, After, answer_of, begun, spared, went, walked, put}
 use Rattle.protocol.proofs.Vocabulary.{stage_after, stage_at, stage_walked, led, led_at, happens, stepped, run, notes, facts_of, facts_among, last_begun, if◌then◌else◌}
 use Rattle.mutex.specs.Whole.{timed_out}
 use Rattle.exitwalk.specs.Standings as walks
@@ -117,8 +117,6 @@ told_on s e t b h =
     (λ u m may. returns s u t b h _ may.resting)
     (λ k may. h)
     (λ u m g sp. still s u t b h (spared s u (s.threads u).held m g) (begins_stepped u m _ None [] [] g.returned) (spared_so s u t b h m _ g sp.how))
-    (λ u c p pos known is there. h)
-    (λ u w pos known is reads. still s u t b h (repeated s u w) (begins_walked u None (woken s u (exit.access_of w)) false) h)
     e
 
 -- ---- runs

@@ -62,8 +62,6 @@ theirs s e t =
     (λ u m may apart. refl)
     (λ k may apart. refl)
     (λ u m g sp apart. put-other s.threads u _ t (λ e. apart (sym e)))
-    (λ u c p pos known is there apart. refl)
-    (λ u w pos known is reads apart. refl)
     e
   where
     begins : (u : ℕ) (o : Op) (b : Bool) → u ≢ t → (begun s u o (if b then Err XHELD else Ok (begins_at s.layout u o))).state.threads t ≡ s.threads t

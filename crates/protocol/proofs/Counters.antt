@@ -291,8 +291,6 @@ recount_or (Event.Renew t) = inl tt
 recount_or (Event.Reinit t m) = inl tt
 recount_or (Event.Remake t m) = inl tt
 recount_or (Event.Spare t by) = inl tt
-recount_or (Event.Resleep t) = inl tt
-recount_or (Event.Repeat t) = inl tt
 
 pub passes : (s : State) (e : Event) → Kept s → Counted s → IsNoRecount e → Passes s (caller e) (happens s e).state
 passes s e inv counted =
@@ -338,8 +336,6 @@ passes s e inv counted =
     (λ t m may other. made_anew t m _ (waiters_say_nothing (s.words (cell_place s.layout m))) may)
     (λ k may other. absurd other)
     (λ t m g sp other. subst (λ (a : After). Passes s t a.state) (sym (spare_is s t m g sp inv)) (spares t m g sp))
-    (λ t c p pos known is there other. record { layout = refl; rises = λ k. inl refl; knows = λ first last. counted.knows t first last; theirs = λ u other. refl })
-    (λ t w pos known is reads other. record { layout = refl; rises = λ k. inl refl; knows = λ first last. counted.knows t first last; theirs = λ u other. refl })
     e
   where
     made_anew : (t m w : ℕ) → Says_nothing w → MayRemake s t m → Passes s t (reinited s t m w).state

@@ -33,8 +33,6 @@ use Rattle.protocol.proofs.NoteFacts.{IsOfSleep, behind_point, of_walk}
 use Rattle.protocol.specs.Applies.{IsTold}
 use Rattle.protocol.proofs.CallsTold.{told_on, told_run}
 use Rattle.protocol.proofs.Runs.{sound, start_kept, run_kept, run_layout}
-use Rattle.protocol.proofs.Vocabulary.{repeated, woken}
-use Rattle.exitwalk.specs.Walks as exit
 use Rattle.protocol.specs.Recounts.{NobodyRecounts}
 use Rattle.protocol.specs.PassedBy.{call_told}
 use Rattle.protocol.proofs.Recounting.{recounted_other}
@@ -154,8 +152,6 @@ first_none k (Event.Renew t) es none = (tt, none)
 first_none k (Event.Reinit t m) es none = (tt, none)
 first_none k (Event.Remake t m) es none = (tt, none)
 first_none k (Event.Spare t by) es none = (tt, none)
-first_none k (Event.Resleep t) es none = (tt, none)
-first_none k (Event.Repeat t) es none = (tt, none)
 
 module _ (s : State) (k : ℕ) (calls : ℕ → Option Begun) (inv : Kept s) (counted : Counted s) (inside : k < length s.layout.conditions) (told : (t : ℕ) → IsTold s.layout (s.threads t).stage (calls t)) where
   abbrev at : ℕ
@@ -259,8 +255,6 @@ module _ (s : State) (k : ℕ) (calls : ℕ → Option Begun) (inv : Kept s) (co
       (λ u m may other. let same = reinited_counter s u m _ (waiters_say_nothing (s.words (cell_place s.layout m))) may k in let none = reinit_none k (if u == u then Some (reinit_of m) else calls u) in omega (arith, same, none))
       (λ j may other. let same = recounted_other s j k (λ is. other (sym is)) in omega (arith, same))
       (λ u m g sp other. subst CountsUp (sym (spare_is s u m g sp inv)) (omega arith))
-      (λ u c p pos known is there other. omega arith)
-      (λ u w pos known is reads other. stays _ (repeated s u w).note refl (walked_noted k calls u None (woken s u (exit.access_of w)) false (repeated s u w).note refl))
       e
 
 -- ---- runs

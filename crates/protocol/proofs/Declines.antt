@@ -154,7 +154,7 @@ decline_rests s t never =
     (λ u pos known gone same. absurd cc)
     (λ u m may same. absurd cc)
     (λ u m may same. absurd cc)
-    (λ k may same. absurd cc) (λ u m g sp same. absurd cc) (λ u c p pos known is there same. absurd cc) (λ u w pos known is reads same. absurd cc)
+    (λ k may same. absurd cc) (λ u m g sp same. absurd cc)
     (Decline t) refl
   where
     thread_is : (u v : ℕ) → Decline u ≡ Decline v → u ≡ v

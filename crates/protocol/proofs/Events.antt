@@ -7,11 +7,10 @@ use Rattle.std.proofs.lemmas.List.Elements.{All-get_or}
 use Rattle.mutex.specs.Whole.{begins, may_expire}
 use Rattle.condvar.specs.Whole as condition
 use Rattle.exitwalk.specs.Standings as walks
-use Rattle.protocol.specs.declared.event.Event.TheVariants.{Begin, Kill, Leave, Expire, Decline, Renew, Reinit, Remake, Recount, Spare, Resleep, Repeat}
+use Rattle.protocol.specs.declared.event.Event.TheVariants.{Begin, Kill, Leave, Expire, Decline, Renew, Reinit, Remake, Recount, Spare}
 use Rattle.mutex.specs.declared.row.Row.TheVariants.{Unlock}
 use Rattle.protocol.proofs.Vocabulary.{Call, departed, lapsed, renewed, reinited, spared, sleeps, sleepers, Reaped, Trimmed, Phase, AtCell, UnlockRow, not, nat_lt, Object, MayReinit, MayRemake, waiters_of, cell_place}
-use Rattle.protocol.proofs.Vocabulary.{CondPhase, CondRow, WaitRow, cond_led, Count, Thread, eqb-false, is_calling, counter_place, stands_in, Led, is_left_to, LeftTo, holds_count, none_counts, may_recount, recounted, MayRecount, sparing, wakes_one}
-use Rattle.protocol.proofs.Vocabulary.{resleeping, reslept, is_mark, repeating, repeated}
+use Rattle.protocol.proofs.Vocabulary.{CondPhase, CondRow, WaitRow, cond_led, Count, Thread, eqb-false, is_calling, counter_place, Led, is_left_to, LeftTo, holds_count, none_counts, may_recount, recounted, MayRecount, sparing, wakes_one}
 use Rattle.protocol.proofs.Stepping.{wakes_next}
 use Rattle.protocol.proofs.Endings.{EndsOrGoes, call_ends, cond_ends}
 use Rattle.stepprograms.specs.Accesses.{is_nobody}
@@ -199,8 +198,8 @@ waits_at f e = absurd cc
 -- ---- events
 
 -- what holds where nothing happens, of a begin that isn't refused and of one that is, of a step, of a death, of a
--- sleeper's leave, of a time limit of a lock and of one of a wait, of a trim that is declined, of a renewal, of a reinit and of a remake, of a recount, of a wake that is spared, of
--- a sleeper that goes to the end of its queue, and of a walk's access that is made once more, holds of each event
+-- sleeper's leave, of a time limit of a lock and of one of a wait, of a trim that is declined, of a renewal, of a reinit and of a remake, of a recount, and of a wake that is spared, holds
+-- of each event
 pub by_event : (s : State) (P : Event → After → Type 0) → ((e : Event) → P e (nothing s))
     → ((t : ℕ) (o : Op) → 1 ≤ t → t ≤ s.layout.threads → Names s.layout o → (s.threads t).stage ≡ Idle → (b : Bool) → (acquires (operation_of o) && nat_le 2048 (s.threads t).held) ≡ b → P (Begin t o) (begun s t o (if b then Err XHELD else Ok (begins_at s.layout t o))))
     → ((t : ℕ) → 1 ≤ t → t ≤ s.layout.threads → P (Step t) (stepped s t (s.threads t).held (s.threads t).stage))
@@ -217,10 +216,8 @@ pub by_event : (s : State) (P : Event → After → Type 0) → ((e : Event) →
     → ((t m : ℕ) → MayRemake s t m → P (Remake t m) (reinited s t m (waiters_of (s.words (cell_place s.layout m)))))
     → ((k : ℕ) → MayRecount s k → P (Recount k) (recounted s k))
     → ((t m : ℕ) (g : Led) (sp : Sparing s t m g) → P (Spare t sp.by) (spared s t (s.threads t).held m g))
-    → ((t : ℕ) (c : CondCall) (p : Whole) → 1 ≤ t → t ≤ s.layout.threads → (s.threads t).stage ≡ Calling (OnCondition c) p → stands_in t (s.queues (counter_place s.layout (condition_of c))) ≡ true → P (Resleep t) (reslept s t (condition_of c)))
-    → ((t : ℕ) (w : walks.Standing) → 1 ≤ t → t ≤ s.layout.threads → (s.threads t).stage ≡ Dying w → is_mark w.row ≡ false → P (Repeat t) (repeated s t w))
     → (e : Event) → P e (happens s e)
-by_event s P none begins_so steps_so kills_so leaves_so expires_so oversleeps_so declines_so renews_so reinits_so remakes_so recounts_so spares_so resleeps_so repeats_so (Begin t o) = go (may_begin s t o) refl
+by_event s P none begins_so steps_so kills_so leaves_so expires_so oversleeps_so declines_so renews_so reinits_so remakes_so recounts_so spares_so (Begin t o) = go (may_begin s t o) refl
   where
     go : (b : Bool) → may_begin s t o ≡ b → P (Begin t o) (if b then begun s t o (first_stage s.layout t (s.threads t).held o) else nothing s)
     go true e =
@@ -231,10 +228,10 @@ by_event s P none begins_so steps_so kills_so leaves_so expires_so oversleeps_so
         subst (λ (r : Result Stage Reply). P (Begin t o) (begun s t o r)) (sym (first_is s.layout t (s.threads t).held o))
         (begins_so t o pos known (names_so s.layout o inside) (at_rest (s.threads t).stage (grind (arith, nat_tests))) (acquires (operation_of o) && nat_le 2048 (s.threads t).held) refl)
     go false e = none (Begin t o)
-by_event s P none begins_so steps_so kills_so leaves_so expires_so oversleeps_so declines_so renews_so reinits_so remakes_so recounts_so spares_so resleeps_so repeats_so (Step t) = grind (arith)
-by_event s P none begins_so steps_so kills_so leaves_so expires_so oversleeps_so declines_so renews_so reinits_so remakes_so recounts_so spares_so resleeps_so repeats_so (Kill t) = grind (arith)
-by_event s P none begins_so steps_so kills_so leaves_so expires_so oversleeps_so declines_so renews_so reinits_so remakes_so recounts_so spares_so resleeps_so repeats_so (Leave t) = grind (arith)
-by_event s P none begins_so steps_so kills_so leaves_so expires_so oversleeps_so declines_so renews_so reinits_so remakes_so recounts_so spares_so resleeps_so repeats_so (Expire t) = go (has_thread s t) refl
+by_event s P none begins_so steps_so kills_so leaves_so expires_so oversleeps_so declines_so renews_so reinits_so remakes_so recounts_so spares_so (Step t) = grind (arith)
+by_event s P none begins_so steps_so kills_so leaves_so expires_so oversleeps_so declines_so renews_so reinits_so remakes_so recounts_so spares_so (Kill t) = grind (arith)
+by_event s P none begins_so steps_so kills_so leaves_so expires_so oversleeps_so declines_so renews_so reinits_so remakes_so recounts_so spares_so (Leave t) = grind (arith)
+by_event s P none begins_so steps_so kills_so leaves_so expires_so oversleeps_so declines_so renews_so reinits_so remakes_so recounts_so spares_so (Expire t) = go (has_thread s t) refl
   where
     lapses : (m : ℕ) (p : Whole) → has_thread s t ≡ true → (s.threads t).stage ≡ Calling (OnMutex (Call.TimedLock m)) p → (a : Bool) → may_expire p.phase ≡ a → (b : Bool) → sleeps s t (Calling (OnMutex (Call.TimedLock m)) p) ≡ b
         → P (Expire t) (if a && b then lapsed s t (s.threads t).held (OnMutex (Call.TimedLock m)) p else nothing s)
@@ -258,7 +255,7 @@ by_event s P none begins_so steps_so kills_so leaves_so expires_so oversleeps_so
     go : (b : Bool) → has_thread s t ≡ b → P (Expire t) (if b then expired s t (s.threads t).held (s.threads t).stage else nothing s)
     go true there = at there (s.threads t).stage refl
     go false e = none (Expire t)
-by_event s P none begins_so steps_so kills_so leaves_so expires_so oversleeps_so declines_so renews_so reinits_so remakes_so recounts_so spares_so resleeps_so repeats_so (Decline t) = go (has_thread s t) refl
+by_event s P none begins_so steps_so kills_so leaves_so expires_so oversleeps_so declines_so renews_so reinits_so remakes_so recounts_so spares_so (Decline t) = go (has_thread s t) refl
   where
     trims : (o : Op) (p : Whole) → has_thread s t ≡ true → (s.threads t).stage ≡ Calling o p → (a : Bool) → is_trim (whole_access p) ≡ a → (b : Bool) → sleeps s t (Calling o p) ≡ b
         → P (Decline t) (if a && not b then spared s t (s.threads t).held (mutex_of s.layout o) (led o p (whole_led p (Trimmed false))) else nothing s)
@@ -276,7 +273,7 @@ by_event s P none begins_so steps_so kills_so leaves_so expires_so oversleeps_so
     go : (b : Bool) → has_thread s t ≡ b → P (Decline t) (if b then declined s t (s.threads t).held (s.threads t).stage else nothing s)
     go true there = at there (s.threads t).stage refl
     go false e = none (Decline t)
-by_event s P none begins_so steps_so kills_so leaves_so expires_so oversleeps_so declines_so renews_so reinits_so remakes_so recounts_so spares_so resleeps_so repeats_so (Renew t) = go (has_thread s t && is_gone (s.threads t).stage) refl
+by_event s P none begins_so steps_so kills_so leaves_so expires_so oversleeps_so declines_so renews_so reinits_so remakes_so recounts_so spares_so (Renew t) = go (has_thread s t && is_gone (s.threads t).stage) refl
   where
     go : (b : Bool) → (has_thread s t && is_gone (s.threads t).stage) ≡ b → P (Renew t) (if b then renewed s t else nothing s)
     go true e =
@@ -284,22 +281,22 @@ by_event s P none begins_so steps_so kills_so leaves_so expires_so oversleeps_so
         let known : t ≤ s.layout.threads = grind (arith, nat_tests) in
         renews_so t pos known (reaped_is (s.threads t).stage (grind (arith, nat_tests)))
     go false e = none (Renew t)
-by_event s P none begins_so steps_so kills_so leaves_so expires_so oversleeps_so declines_so renews_so reinits_so remakes_so recounts_so spares_so resleeps_so repeats_so (Reinit t m) = go (may_reinit s t m) refl
+by_event s P none begins_so steps_so kills_so leaves_so expires_so oversleeps_so declines_so renews_so reinits_so remakes_so recounts_so spares_so (Reinit t m) = go (may_reinit s t m) refl
   where
     go : (b : Bool) → may_reinit s t m ≡ b → P (Reinit t m) (if b then reinited s t m 0 else nothing s)
     go true e = reinits_so t m (reinit_so s t m e)
     go false e = none (Reinit t m)
-by_event s P none begins_so steps_so kills_so leaves_so expires_so oversleeps_so declines_so renews_so reinits_so remakes_so recounts_so spares_so resleeps_so repeats_so (Remake t m) = go (may_remake s t m) refl
+by_event s P none begins_so steps_so kills_so leaves_so expires_so oversleeps_so declines_so renews_so reinits_so remakes_so recounts_so spares_so (Remake t m) = go (may_remake s t m) refl
   where
     go : (b : Bool) → may_remake s t m ≡ b → P (Remake t m) (if b then reinited s t m (waiters_of (s.words (cell_place s.layout m))) else nothing s)
     go true e = remakes_so t m (remake_so s t m e)
     go false e = none (Remake t m)
-by_event s P none begins_so steps_so kills_so leaves_so expires_so oversleeps_so declines_so renews_so reinits_so remakes_so recounts_so spares_so resleeps_so repeats_so (Recount k) = go (may_recount s k) refl
+by_event s P none begins_so steps_so kills_so leaves_so expires_so oversleeps_so declines_so renews_so reinits_so remakes_so recounts_so spares_so (Recount k) = go (may_recount s k) refl
   where
     go : (b : Bool) → may_recount s k ≡ b → P (Recount k) (if b then recounted s k else nothing s)
     go true e = recounts_so k (recount_so s k e)
     go false e = none (Recount k)
-by_event s P none begins_so steps_so kills_so leaves_so expires_so oversleeps_so declines_so renews_so reinits_so remakes_so recounts_so spares_so resleeps_so repeats_so (Spare t by) = go (has_thread s t) refl
+by_event s P none begins_so steps_so kills_so leaves_so expires_so oversleeps_so declines_so renews_so reinits_so remakes_so recounts_so spares_so (Spare t by) = go (has_thread s t) refl
   where
     calls : (o : Op) (p : Whole) → has_thread s t ≡ true → (s.threads t).stage ≡ Calling o p → (a : Bool) → wakes_one p.phase ≡ a → (b : Bool) → is_left_to s t (mutex_of s.layout o) by ≡ b
         → P (Spare t by) (if a && b then spared s t (s.threads t).held (mutex_of s.layout o) (led o p (whole_led p (Count 1))) else nothing s)
@@ -324,33 +321,6 @@ by_event s P none begins_so steps_so kills_so leaves_so expires_so oversleeps_so
     go : (b : Bool) → has_thread s t ≡ b → P (Spare t by) (if b then sparing s t by (s.threads t).held (s.threads t).stage else nothing s)
     go true there = at there (s.threads t).stage refl
     go false e = none (Spare t by)
-by_event s P none begins_so steps_so kills_so leaves_so expires_so oversleeps_so declines_so renews_so reinits_so remakes_so recounts_so spares_so resleeps_so repeats_so (Resleep t) = go (has_thread s t) refl
-  where
-    sleeps_on : (c : CondCall) (p : Whole) → has_thread s t ≡ true → (s.threads t).stage ≡ Calling (OnCondition c) p → (a : Bool) → stands_in t (s.queues (counter_place s.layout (condition_of c))) ≡ a
-        → P (Resleep t) (if a then reslept s t (condition_of c) else nothing s)
-    sleeps_on c p there is true stands = resleeps_so t c p (grind (arith, nat_tests)) (grind (arith, nat_tests)) is stands
-    sleeps_on c p there is false e = none (Resleep t)
-
-    at : has_thread s t ≡ true → (g : Stage) → (s.threads t).stage ≡ g → P (Resleep t) (resleeping s t g)
-    at there (Calling (OnCondition c) p) is = sleeps_on c p there is (stands_in t (s.queues (counter_place s.layout (condition_of c)))) refl
-    at there g is = none (Resleep t)
-
-    go : (b : Bool) → has_thread s t ≡ b → P (Resleep t) (if b then resleeping s t (s.threads t).stage else nothing s)
-    go true there = at there (s.threads t).stage refl
-    go false e = none (Resleep t)
-by_event s P none begins_so steps_so kills_so leaves_so expires_so oversleeps_so declines_so renews_so reinits_so remakes_so recounts_so spares_so resleeps_so repeats_so (Repeat t) = go (has_thread s t) refl
-  where
-    reads : (w : walks.Standing) → has_thread s t ≡ true → (s.threads t).stage ≡ Dying w → (a : Bool) → is_mark w.row ≡ a → P (Repeat t) (if a then nothing s else repeated s t w)
-    reads w there is true marks = none (Repeat t)
-    reads w there is false other = repeats_so t w (grind (arith, nat_tests)) (grind (arith, nat_tests)) is other
-
-    at : has_thread s t ≡ true → (g : Stage) → (s.threads t).stage ≡ g → P (Repeat t) (repeating s t g)
-    at there (Dying w) is = reads w there is (is_mark w.row) refl
-    at there g is = none (Repeat t)
-
-    go : (b : Bool) → has_thread s t ≡ b → P (Repeat t) (if b then repeating s t (s.threads t).stage else nothing s)
-    go true there = at there (s.threads t).stage refl
-    go false e = none (Repeat t)
 
 -- ---- steps
 

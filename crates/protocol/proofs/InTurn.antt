@@ -31,12 +31,10 @@ use Rattle.protocol.proofs.Queued.{Queued}
 use Rattle.protocol.proofs.QueueRuns.{queued_on, start_queued}
 use Rattle.protocol.proofs.Runs.{sound, start_kept}
 use Rattle.protocol.proofs.Seeing.{cell_again, counter_again, cell_in, counter_in}
-use Rattle.protocol.proofs.Vocabulary.{CondCall, Recounted, Reslept, reslept}
+use Rattle.protocol.proofs.Vocabulary.{CondCall, Recounted}
 use Rattle.buckets.specs.Queues.{without}
 use Rattle.protocol.proofs.Sparing.{spare_is}
-use Rattle.protocol.proofs.Repeating.{again_step, again_noted, repeated_is}
-use Rattle.protocol.proofs.Repeating.{v as again_v}
-use Rattle.protocol.proofs.Queues.{not_true, without_same}
+use Rattle.protocol.proofs.Queues.{without_same}
 
 -- ---- queues
 
@@ -491,52 +489,11 @@ event_tells s e w inv queued said =
     (λ u m may. (said, (tt, (tt, (tt, tt)))))
     (λ k may. (said, tt))
     (λ u m g sp. subst (Tells s w) (sym (spare_is s u m g sp inv)) (said, tt))
-    (λ u c p pos known is there. (goes_again u c p pos known is there, ((fits_in s u (OnCondition c) p inv pos known is).1.2, ap (stands_in u) (sym (said (Condition (condition_of c)) (fits_in s u (OnCondition c) p inv pos known is).1.2)) ∙ there)))
-    (λ u x pos known is reads.
-    let step = again_step s u x inv pos known is in
-    let n = Walked u None (woken_by (again_v s u x).access (met s u (again_v s u x)) (met_queue s u (again_v s u x))) false in
-    let noted = again_noted s u x reads in
-    let told = step_tells s u (again_v s u x) step inv queued pos known w said n noted in
-    subst (Tells s w) (sym (repeated_is s u x inv pos known is)) (told.0, note_fronts s u (again_v s u x) w n noted told.1))
     e
   where
     begins_so : (u : ℕ) (o : Op) (b : Bool) → Tells s w (begun s u o (if b then Err XHELD else Ok (begins_at s.layout u o)))
     begins_so u o true = (said, (tt, (tt, (tt, tt))))
     begins_so u o false = (said, (tt, tt))
-
-    -- whoever goes to the end of its queue stands in no other
-    goes_again : (u : ℕ) (c : CondCall) (p : Whole) → 1 ≤ u → u ≤ s.layout.threads → (s.threads u).stage ≡ Calling (OnCondition c) p → stands_in u (s.queues (counter_place s.layout (condition_of c))) ≡ true
-        → AsTold s.layout (reslept s u (condition_of c)).state.queues (queues_after w (Wake u ∷ (Sleep u (Condition (condition_of c)) ∷ [])))
-    goes_again u c p pos known is there q inside = by_queue (qs (queue_place s.layout q) ≡ then_told q) k q here elsewhere
-      where
-        k : Queue
-        k = Condition (condition_of c)
-
-        below : IsQueue s.layout k
-        below = (fits_in s u (OnCondition c) p inv pos known is).1.2
-
-        place : ℕ
-        place = counter_place s.layout (condition_of c)
-
-        qs : ℕ → List ℕ
-        qs = (reslept s u (condition_of c)).state.queues
-
-        then_told : Queue → List ℕ
-        then_told = queues_after w (Wake u ∷ (Sleep u k ∷ []))
-
-        here : q ≡ k → qs (queue_place s.layout q) ≡ then_told q
-        here same =
-            subst (λ (r : Queue). qs (queue_place s.layout r) ≡ then_told r) (sym same)
-            (put-same s.queues place _ ∙ ap (λ (us : List ℕ). without u us ++ u ∷ []) (said k below) ∙ sym (ap (λ (b : Bool). if b then without u (w k) ++ u ∷ [] else without u (w k)) (is_itself k)))
-
-        off_there : q ≢ k → stands_in u (s.queues (queue_place s.layout q)) ≡ false
-        off_there apart = not_true (stands_in u (s.queues (queue_place s.layout q))) (λ stands. apart (same_queue s.layout q k inside below (queued.one u (queue_place s.layout q) place stands there)))
-
-        elsewhere : q ≢ k → is_queue k q ≡ false → qs (queue_place s.layout q) ≡ then_told q
-        elsewhere apart off =
-            put-other s.queues place _ (queue_place s.layout q) (λ e. apart (same_queue s.layout q k inside below e))
-            ∙ sym (without_same u (s.queues (queue_place s.layout q)) (off_there apart)) ∙ ap (without u) (said q inside)
-            ∙ sym (ap (λ (b : Bool). if b then without u (w q) ++ u ∷ [] else without u (w q)) off)
 
     leaves_so : (u : ℕ) → IsInAQueue s u → (q : Queue) × IsQueue s.layout q × (stands_in u (w q) ≡ true)
     leaves_so u (key, stands) =
@@ -575,7 +532,6 @@ told_in_turn l counters events inv = run_tells (start l counters) events nobody 
 
 abbrev IsNoLeave : Note → Type 0
 IsNoLeave (Left t) = ⊥
-IsNoLeave (Reslept t k) = ⊥
 IsNoLeave (Expired t m) = ⊥
 IsNoLeave n = Unit {0}
 
@@ -585,7 +541,6 @@ NoneLeaves (n ∷ ns) = IsNoLeave n × NoneLeaves ns
 
 abbrev IsNoLeaving : Event → Type 0
 IsNoLeaving (Event.Leave t) = ⊥
-IsNoLeaving (Event.Resleep t) = ⊥
 IsNoLeaving (Event.Expire t) = ⊥
 IsNoLeaving e = Unit {0}
 
@@ -594,7 +549,7 @@ no_leave s e =
     by_event s (λ (x : Event) (a : After). IsNoLeaving x → IsNoLeave a.note) (λ x none. tt) (λ u o pos known inside idle b full none. begins_so u o b)
     (λ u pos known none. by_stage s u (λ (a : After). IsNoLeave a.note) (λ rests. tt) (λ o p is awake. tt) (λ c p is awake. tt) (λ v is awake. tt)) (λ u pos known alive none. tt) (λ u pos known asleep none. absurd none) (λ u m p pos known is asleep may none. absurd none) (λ u k x p pos known is there none. absurd none)
     (λ u o p pos known is awake trims none. tt) (λ u pos known gone none. tt) (λ u m may none. tt) (λ u m may none. tt)
-    (λ k may none. tt) (λ u m g sp none. tt) (λ u c p pos known is there none. absurd none) (λ u w pos known is reads none. tt) e
+    (λ k may none. tt) (λ u m g sp none. tt) e
   where
     begins_so : (u : ℕ) (o : Op) (b : Bool) → IsNoLeave (begun s u o (if b then Err XHELD else Ok (begins_at s.layout u o))).note
     begins_so u o true = tt
@@ -608,17 +563,14 @@ noted_none s (Event.Begin t o ∷ es) none = (no_leave s (Event.Begin t o) tt, n
 noted_none s (Event.Step t ∷ es) none = (no_leave s (Event.Step t) tt, noted_none (happens s (Event.Step t)).state es none)
 noted_none s (Event.Kill t ∷ es) none = (no_leave s (Event.Kill t) tt, noted_none (happens s (Event.Kill t)).state es none)
 noted_none s (Event.Decline t ∷ es) none = (no_leave s (Event.Decline t) tt, noted_none (happens s (Event.Decline t)).state es none)
-noted_none s (Event.Resleep t ∷ es) none = absurd none
 noted_none s (Event.Recount t ∷ es) none = (no_leave s (Event.Recount t) tt, noted_none (happens s (Event.Recount t)).state es none)
 noted_none s (Event.Spare t by ∷ es) none = (no_leave s (Event.Spare t by) tt, noted_none (happens s (Event.Spare t by)).state es none)
-noted_none s (Event.Repeat t ∷ es) none = (no_leave s (Event.Repeat t) tt, noted_none (happens s (Event.Repeat t)).state es none)
 noted_none s (Event.Renew t ∷ es) none = (no_leave s (Event.Renew t) tt, noted_none (happens s (Event.Renew t)).state es none)
 noted_none s (Event.Reinit t m ∷ es) none = (no_leave s (Event.Reinit t m) tt, noted_none (happens s (Event.Reinit t m)).state es none)
 noted_none s (Event.Remake t m ∷ es) none = (no_leave s (Event.Remake t m) tt, noted_none (happens s (Event.Remake t m)).state es none)
 
 fronts_of : (l : Layout') (w : Queue → List ℕ) (n : Note) → IsNoLeave n → NotesFronts l w n → NameFronts l w (facts_of n)
 fronts_of l w (Left t) none h = absurd none
-fronts_of l w (Reslept t k) none h = absurd none
 fronts_of l w (Recounted k) none h = h
 fronts_of l w (Expired t m) none h = absurd none
 fronts_of l w Nothing none h = h

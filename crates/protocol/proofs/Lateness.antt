@@ -189,8 +189,6 @@ module _ (s : State) (t : ℕ) (late : Bool) (h : IsLateAt (s.threads t).stage l
       (λ u m may other. h)
       (λ k may other. h)
       (λ u m g sp other. subst Stays (sym (spare_is s u m g sp inv)) (changes u _ (spares u m g sp.how)))
-      (λ u c p pos known is there other. h)
-      (λ u w pos known is reads other. h)
       e
     where
       renewed_on : (u : ℕ) → 1 ≤ u → u ≤ s.layout.threads → IsLateAt ((renewed s u).state.threads t).stage late
@@ -211,8 +209,6 @@ module _ (s : State) (t : ℕ) (late : Bool) (h : IsLateAt (s.threads t).stage l
   late_on (Event.Remake u m) inv = others (Event.Remake u m) inv tt
   late_on (Event.Recount k) inv = others (Event.Recount k) inv tt
   late_on (Event.Spare u by) inv = others (Event.Spare u by) inv tt
-  late_on (Event.Resleep u) inv = others (Event.Resleep u) inv tt
-  late_on (Event.Repeat u) inv = others (Event.Repeat u) inv tt
 
 -- ---- runs
 

@@ -47,7 +47,7 @@ use Rattle.protocol.proofs.Events.{begins_at, by_event, by_stage, IsTrimming}
 use Rattle.protocol.proofs.Runs.{sound}
 use Rattle.protocol.proofs.NoteFacts.{IsOfSleep, behind_point, of_walk}
 use Rattle.protocol.proofs.Passing.{Begins_nothing, begins_stepped, begins_walked, last_begun-append}
-use Rattle.protocol.proofs.Vocabulary.{Led, WaitRow, recounted, reslept, repeated}
+use Rattle.protocol.proofs.Vocabulary.{Led, WaitRow, recounted}
 use Rattle.protocol.proofs.Events.{HowSpared, Of_unlock, Of_wait, Sparing}
 use Rattle.protocol.proofs.Sparing.{spare_is, spared_state, next_of, unwoken}
 use Rattle.lockword.specs.Threads.{most_threads}
@@ -384,17 +384,6 @@ spare_teaches s u m g sp = record {
 recount_teaches : (s : State) (k : ℕ) → Teaches s 0 (recounted s k)
 recount_teaches s k = record { layout = refl; own = λ b o h. h; theirs = λ t apart. refl; others = λ t b o apart. (refl, refl) }
 
-resleep_teaches : (s : State) (u k : ℕ) → Teaches s u (reslept s u k)
-resleep_teaches s u k = record { layout = refl; own = λ b o h. h; theirs = λ t apart. refl; others = λ t b o apart. (refl, refl) }
-
-repeat_teaches : (s : State) (u : ℕ) (w : walks.Standing) → (s.threads u).stage ≡ Stage.Dying w → Teaches s u (repeated s u w)
-repeat_teaches s u w is = record {
-  layout = refl;
-  own = λ b o h. subst (λ (g : Stage). Learnt s.layout g (last_begun u b (facts_of (repeated s u w).note)) (left_next u (repeated s u w).state o (facts_of (repeated s u w).note))) (sym is) tt;
-  theirs = λ t apart. refl;
-  others = λ t b o apart. ((begins_walked u None (woken s u (exit.access_of w)) false).same t b, left_walked t (repeated s u w).state o u None (woken s u (exit.access_of w)) false);
-}
-
 -- a thread that lives anew is in no call
 renew_teaches : (s : State) (u : ℕ) → 1 ≤ u → u ≤ s.layout.threads → Teaches s u (renewed s u)
 renew_teaches s u pos known = record {
@@ -490,8 +479,6 @@ teaches s e inv =
     (λ t m may. reinit_teaches s t m _ may.resting)
     (λ k may. recount_teaches s k)
     (λ t m g sp. subst (Teaches s t) (sym (spare_is s t m g sp inv)) (spare_teaches s t m g sp))
-    (λ t c p pos known is there. resleep_teaches s t (condition_of c))
-    (λ t w pos known is reads. repeat_teaches s t w is)
     e
 
 learnt_on : (s : State) (e : Event) → Kept s → (t : ℕ) (b : Option Begun) (o : Option Object) → Learnt s.layout (s.threads t).stage b o

@@ -35,7 +35,6 @@ mod Departures
 pub mod Declines
 pub mod Recounting
 pub mod Sparing
-pub mod Repeating
 pub mod Expiring
 pub mod Oversleeping
 pub mod Renewals

@@ -42,8 +42,7 @@ use Rattle.exitwalk.specs.declared.row.Row.TheVariants as walk
 use Rattle.exitwalk.specs.Standings as walks
 use Rattle.protocol.proofs.NoteFacts.{IsOfSleep, behind_woken, behind_point}
 use Rattle.protocol.proofs.Cases.{by_same}
-use Rattle.protocol.proofs.Vocabulary.{CondPhase, Recounted, Reslept, recounted, reslept, repeated}
-use Rattle.exitwalk.specs.Walks as exit
+use Rattle.protocol.proofs.Vocabulary.{CondPhase, Recounted, recounted}
 use Rattle.protocol.proofs.Events.{HowSpared, Of_unlock, Of_wait, Sparing}
 use Rattle.protocol.proofs.Sparing.{spare_is, spared_state, next_of, unwoken}
 use Rattle.protocol.proofs.Vocabulary.{CondRow, WaitRow}
@@ -129,7 +128,6 @@ abbrev calls_of : Note → List Fact
 calls_of (Stepped t m point slept woken moved returned) = point_facts point ++ return_facts t returned
 calls_of (Walked t death woken reaped) = death_facts t death ++ reap_facts t reaped
 calls_of (Left t) = []
-calls_of (Reslept t k) = []
 calls_of (Expired t (Mutex m)) = point_by t m Operation.TimedLock ETIMEDOUT ∷ []
 calls_of (Expired t (Condition k)) = []
 calls_of n = facts_of n
@@ -151,7 +149,6 @@ own-calls t i (Began u c x) ls = refl
 own-calls t i (Killed u) ls = refl
 own-calls t i (Left u) ls = refl
 own-calls t i (Recounted k) ls = refl
-own-calls t i (Reslept u k) ls = refl
 own-calls t i (Expired u (Mutex m)) ls = refl
 own-calls t i (Expired u (Condition k)) ls = refl
 own-calls t i (Renewed u) ls = refl
@@ -392,20 +389,6 @@ spares_so s u m g sp = record {
 recounts_so : (s : State) (k : ℕ) → Adds s 0 (recounted s k)
 recounts_so s k = record { fine = tt; alone = tt; says = nothing_new; mine = λ i ls later. later; others = λ t apart. refl }
 
--- a sleeper goes to the end of its queue
-resleeps_so : (s : State) (u k : ℕ) → Adds s u (reslept s u k)
-resleeps_so s u k = record { fine = ((λ e. refl), (λ e. absurd cc), ((λ e. refl), (λ e. tt), tt)); alone = (refl, (refl, tt)); says = nothing_new; mine = λ i ls later. later; others = λ t apart. refl }
-
--- an access of a walk is made, and the walk stays
-repeats_so : (s : State) (u : ℕ) (w : walks.Standing) → Adds s u (repeated s u w)
-repeats_so s u w = record {
-  fine = walked_fine u None (woken s u (exit.access_of w)) false;
-  alone = no_kill_alone _ (walked_no_kill u None (woken s u (exit.access_of w)) false);
-  says = mourned None false;
-  mine = λ i ls later. later;
-  others = λ t apart. refl;
-}
-
 -- its death is told of, and it is reaped
 mourned_on : (l : Layout') (u i : ℕ) (w : walks.Standing) (d : Option ℕ) (r : walk_row.Row) (ls : List Line) → Goes l u (stage_walked w r) (own u ls) → AfterKill u (own u (map (line_of i) (death_facts u d ++ reap_facts u (has_ended r)) ++ ls))
 mourned_on l u i w d r ls later = go d (has_ended r) (at_end r later)
@@ -476,8 +459,6 @@ adds s e inv =
     (λ u m may. reinits_so s u m _ may.resting)
     (λ k may. recounts_so s k)
     (λ u m g sp. subst (Adds s u) (sym (spare_is s u m g sp inv)) (spares_so s u m g sp))
-    (λ u c p pos known is there. resleeps_so s u (condition_of c))
-    (λ u w pos known is reads. repeats_so s u w)
     e
 
 -- ---- whole runs

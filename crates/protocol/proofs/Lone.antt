@@ -1,4 +1,4 @@
--- What a leave and a declined trim do, and a recount, a spare, a resleep and a repeat.
+-- What a leave and a declined trim do, and a recount and a spare.
 use Rattle.std.proofs.Common.{◌≡◌, ℕ, ◌≤◌, Bool, true, false, ◌&&◌, [], ◌∷◌, refl, sym, ap, ◌∙◌, subst}
 use Rattle.protocol.proofs.Vocabulary.{Layout', Op, Whole, whole_access, Stage, Calling, State, After, start, run, departed, nothing, is_asleep, happens, facts_of, if◌then◌else◌}
 use Rattle.facts.specs.declared.fact.Fact.TheVariants.{Wake}
@@ -14,21 +14,13 @@ use Rattle.protocol.proofs.Declines.{behind, decline_goes, decline_rests, goes_o
 use Rattle.protocol.proofs.Events.{is_known, trims_at}
 use Rattle.protocol.proofs.Runs.{start_kept, run_kept, run_layout}
 use Rattle.protocol.proofs.QueueRuns.{run_queued}
-use Rattle.std.proofs.Common.{List, map, append-nil}
-use Rattle.protocol.proofs.Vocabulary.{Event, LeftTo, Step, Thread, Condition, IsLayout, counter_place, stepped, walked, recounted, repeated, woken}
-use Rattle.facts.specs.declared.fact.Fact.TheVariants.{Sleep}
-use Rattle.exitwalk.specs.Walks as exit
-use Rattle.protocol.specs.declared.event.Event.TheVariants.{Repeat}
-use Rattle.protocol.specs.Applies.{IsAboutToRead}
-use Rattle.protocol.specs.Wakes.{wakes_in}
+use Rattle.std.proofs.Common.{List}
+use Rattle.protocol.proofs.Vocabulary.{Event, LeftTo, Thread, IsLayout, recounted}
 use Rattle.protocol.specs.Recounts.{OnlyRecounts, RecountsSo, RecountsAreLone}
 use Rattle.protocol.specs.Spares.{OnlySpares, SparesSo, SparesAreLone}
-use Rattle.protocol.specs.Repeats.{OnlyResleeps, ResleepsSo, OnlyRepeats, RepeatsSo, ResleepsAndRepeats, ResleepsAndRepeatsAreLone}
 use Rattle.protocol.proofs.Events.{recount_again}
 use Rattle.protocol.proofs.Recounting.{recounted_counter, recounted_elsewhere, recount_rests}
 use Rattle.protocol.proofs.Sparing.{spare_goes, spare_rests}
-use Rattle.protocol.proofs.Repeating.{resleep_goes, resleep_rests, repeat_goes, repeat_rests}
-use Rattle.protocol.proofs.Woken.{wakes_walked}
 
 module _ (s : State) (t : ℕ) (inv : Kept s) (queued : Queued s) (pos : 1 ≤ t) (known : t ≤ s.layout.threads) where
   -- ---- a leave
@@ -122,32 +114,6 @@ module _ (s : State) (t : ℕ) (inv : Kept s) (queued : Queued s) (pos : 1 ≤ t
     else_nothing = λ never. spare_rests s t by queued (λ first last may. never may);
   }
 
-  -- ---- resleeps
-  resleeps : ResleepsSo s t
-  resleeps = record {
-    again = λ k below there.
-        subst (λ (a : After). OnlyResleeps s a.state t k × (facts_of a.note ≡ Wake t ∷ (Sleep t (Condition k) ∷ []))) (sym (resleep_goes s t k inv queued below there)) (
-          record { words = λ p. refl; threads = λ u. refl; queue = put-same s.queues (counter_place s.layout k) _; queues = λ key apart. put-other s.queues (counter_place s.layout k) _ key apart },
-          refl,
-        );
-    else_nothing = λ never. resleep_rests s t inv never;
-  }
-
-  -- ---- repeats
-  repeat_made : IsAboutToRead s t → OnlyRepeats s (happens s (Repeat t)).state (happens s (Step t)).state × (facts_of (happens s (Repeat t)).note ≡ wakes_in (facts_of (happens s (Step t)).note))
-  repeat_made (w, is, reads) =
-      subst (λ (a : After). OnlyRepeats s a.state (happens s (Step t)).state × (facts_of a.note ≡ wakes_in (facts_of (happens s (Step t)).note))) (sym (repeat_goes s t w pos known is reads))
-      (subst (λ (a : After). OnlyRepeats s (repeated s t w).state a.state × (facts_of (repeated s t w).note ≡ wakes_in (facts_of a.note))) (sym steps) (
-        record { words = λ p. refl; threads = λ u. refl; queues = λ key. refl },
-        append-nil (map Wake (woken s t (exit.access_of w))) ∙ sym (wakes_walked t _ (woken s t (exit.access_of w)) _),
-      ))
-    where
-      steps : happens s (Step t) ≡ walked s t (s.threads t).held w
-      steps = ap (λ (b : Bool). if b then stepped s t (s.threads t).held (s.threads t).stage else nothing s) (is_known s t pos known) ∙ ap (stepped s t (s.threads t).held) is
-
-  repeats : RepeatsSo s t
-  repeats = record { made = repeat_made; else_nothing = λ never. repeat_rests s t (λ first last may. never may) }
-
 module _ (l : Layout') (counters : ℕ → ℕ) (events : List Event) (is : IsLayout l) where
   abbrev s0 : State
   s0 = start l counters
@@ -161,14 +127,5 @@ module _ (l : Layout') (counters : ℕ → ℕ) (events : List Event) (is : IsLa
   pub spares_then : (t : ℕ) → 1 ≤ t → t ≤ l.threads → (by : LeftTo) → SparesSo (run s0 events) t by
   spares_then t pos known by = spares (run s0 events) t inv_then (run_queued l counters events is) pos (known_then t known) by
 
-  pub again_then : ResleepsAndRepeats l (run s0 events)
-  again_then = record {
-    resleeps = λ t pos known. resleeps (run s0 events) t inv_then (run_queued l counters events is) pos (known_then t known);
-    repeats = λ t pos known. repeats (run s0 events) t inv_then (run_queued l counters events is) pos (known_then t known);
-  }
-
 pub spares_lone : SparesAreLone
 spares_lone l counters events is t pos known by = spares_then l counters events is t pos known by
-
-pub resleeps_and_repeats_lone : ResleepsAndRepeatsAreLone
-resleeps_and_repeats_lone l counters events is = again_then l counters events is

@@ -35,8 +35,7 @@ use Rattle.protocol.proofs.CondSteps.{cond_of}
 use Rattle.protocol.proofs.CondAccesses.{IsBefore, cond_stepping}
 use Rattle.protocol.proofs.Steps.{thread_after, went-is, cond_onto, cond_step, cond_note, its_mutex, its_cell, its_counter, cond_after, cell_at, counter_at}
 use Rattle.protocol.proofs.Splits.{Split, split, facts_among-append}
-use Rattle.protocol.proofs.Vocabulary.{Led, Reslept, recounted, reslept, repeated, may_recount, holds_count, has_count, woken}
-use Rattle.exitwalk.specs.Walks as exit
+use Rattle.protocol.proofs.Vocabulary.{Led, recounted, may_recount, holds_count, has_count}
 use Rattle.protocol.proofs.Cases.{by_same}
 use Rattle.protocol.proofs.Changing.{theirs}
 use Rattle.protocol.proofs.Counters.{recount_or}
@@ -127,7 +126,7 @@ record Makes (s : State) (u : ℕ) (a : After) : Type 0 where
   behind : (k : ℕ) → 1 ≤ u → BeginsNone u (facts_of a.note) → IsBehind s.layout s.words k (s.threads u).stage → IsBehind s.layout a.state.words k (a.state.threads u).stage
   counts : (d : Decision) → IsAmong (Fact.Point d) (facts_of a.note) → Counts d.operation d.reply
       → (c : CondCall) × (p : CondWhole) × ((s.threads u).stage ≡ AtCondition c p) × (a.state.words (counter_place s.layout (condition_of c)) ≡ s.words (counter_place s.layout (condition_of c)) + 1) × ((k : ℕ) → IsBehind s.layout a.state.words k (a.state.threads u).stage)
-  sleeps : (t k : ℕ) → IsAmong (Fact.Sleep t (Condition k)) (facts_of a.note) → a.note ≢ Reslept t k → IsBehind s.layout s.words k (s.threads t).stage → ⊥
+  sleeps : (t k : ℕ) → IsAmong (Fact.Sleep t (Condition k)) (facts_of a.note) → IsBehind s.layout s.words k (s.threads t).stage → ⊥
 
 nothing_makes : (s : State) (u : ℕ) → Makes s u (nothing s)
 nothing_makes s u = grind (arith)
@@ -174,7 +173,7 @@ module _ (s : State) (u : ℕ) (o : Op) (p : Whole) (inv : Kept s) (pos : 1 ≤ 
     past = λ none h. subst IsPast (sym stage_is) (past_call o p _);
     behind = λ k first none h. subst (IsBehind s.layout a.state.words k) (sym stage_is) (behind_call s.layout a.state.words k o p _);
     counts = λ d h c. absurd (never_counts s.layout o p.operation d.reply (fits_in s u o p inv pos known is).1 (subst (λ (z : Operation). Counts z d.reply) (sym (pointed called.point d (point_is d h)).1) c));
-    sleeps = λ t k h fresh b. never (falls_asleep s u (whole_access p)) k (sleep_noted t (Condition k) u m _ _ _ _ _ h).1;
+    sleeps = λ t k h b. never (falls_asleep s u (whole_access p)) k (sleep_noted t (Condition k) u m _ _ _ _ _ h).1;
   }
     where
       never : (b : Bool) (k : ℕ) → slept_in (Mutex m) b ≡ Some (Condition k) → ⊥
@@ -267,7 +266,7 @@ module _ (s : State) (u : ℕ) (c : CondCall) (p : CondWhole) (inv : Kept s) (co
     past = λ none h. past_at (subst IsPast is h) moved.move;
     behind = λ k first none h. behind_at k (subst (IsBehind s.layout s.words k) is h) moved.move;
     counts = λ d h counts. let made = counts_at d (point_told d h) counts moved.move in (c, p, is, made.0, made.1);
-    sleeps = λ t k h fresh b.
+    sleeps = λ t k h b.
         let noted = sleep_noted t (Condition k) u (its_mutex s c) _ _ _ _ _ h in
         sleeps_on k noted.1 (subst (IsBehind s.layout s.words k) (ap (λ (y : ℕ). (s.threads y).stage) (sym noted.0) ∙ is) b) moved.move;
   }
@@ -295,7 +294,7 @@ decline_makes s u o p is trims = record {
   past = λ none h. subst IsPast (sym stage_is) tt;
   behind = λ k first none h. subst (IsBehind s.layout s.words k) (sym stage_is) tt;
   counts = λ d h c. absurd h;
-  sleeps = λ t k h fresh b. h;
+  sleeps = λ t k h b. h;
 }
   where
     stage_is : ((declined_state s u o p is trims).threads u).stage ≡ Calling o (record p { phase = Clearing OK })
@@ -314,7 +313,7 @@ renew_makes s u pos known = record {
   past = λ none h. subst (λ (z : Thread). IsPast z.stage) (sym (renewed_thread s u pos known)) tt;
   behind = λ k first none h. subst (λ (z : Thread). IsBehind s.layout (renewed s u).state.words k z.stage) (sym (renewed_thread s u pos known)) tt;
   counts = λ d h c. absurd (no_point d h);
-  sleeps = λ t k h fresh b. ⊎_elim (λ e. cc e) (λ none. none) h;
+  sleeps = λ t k h b. ⊎_elim (λ e. cc e) (λ none. none) h;
 }
   where
     no_point : (d : Decision) → IsAmong (Fact.Point d) (facts_of (renewed s u).note) → ⊥
@@ -338,7 +337,7 @@ module _ (s : State) (u : ℕ) (v : walks.Standing) where
     past = λ never h. dying IsPast tt (λ y. tt);
     behind = λ k first never h. dying (IsBehind s.layout after_walk.state.words k) tt (λ y. tt);
     counts = λ d h c. absurd (none_walked (Fact.Point d) u _ _ _ refl h);
-    sleeps = λ t k h fresh x. none_walked (Fact.Sleep t (Condition k)) u _ _ _ refl h;
+    sleeps = λ t k h x. none_walked (Fact.Sleep t (Condition k)) u _ _ _ refl h;
   }
 
 recount_makes : (s : State) (k : ℕ) → Makes s 0 (recounted s k)
@@ -348,7 +347,7 @@ recount_makes s k = record {
   past = λ none h. h;
   behind = λ j first none h. absurd (omega (arith, first));
   counts = λ d h c. absurd h;
-  sleeps = λ t j h fresh b. h;
+  sleeps = λ t j h b. h;
 }
 
 spare_makes : (s : State) (u m : ℕ) (g : Led) (sp : Sparing s u m g) → Makes s u (record { state = spared_state s u m g sp.how; note = unwoken u m })
@@ -358,7 +357,7 @@ spare_makes s u m g sp = record {
   past = λ none h. subst IsPast (sym stage_is) (past_on sp.how h);
   behind = λ k first none h. subst (IsBehind s.layout s.words k) (sym stage_is) (behind_on k sp.how h);
   counts = λ d h c. absurd h;
-  sleeps = λ t k h fresh b. h;
+  sleeps = λ t k h b. h;
 }
   where
     stage_is : ((spared_state s u m g sp.how).threads u).stage ≡ next_of s u m g sp.how
@@ -371,32 +370,6 @@ spare_makes s u m g sp = record {
     behind_on : (k : ℕ) (how : HowSpared s u m g) → IsBehind s.layout s.words k (s.threads u).stage → IsBehind s.layout s.words k (next_of s u m g how)
     behind_on k (Of_unlock o p is mutex at leads) h = tt
     behind_on k (Of_wait c p x is mutex at leads) h = λ here. subst (IsBehindIn (s.words (counter_place s.layout k))) at (subst (IsBehind s.layout s.words k) is h here)
-
-resleep_makes : (s : State) (u k : ℕ) → 1 ≤ u → u ≤ s.layout.threads → Makes s u (reslept s u k)
-resleep_makes s u k pos known = record {
-  points = λ d h. absurd (no_point d h);
-  unlocks = λ d h op x. absurd (no_point d h);
-  past = λ none h. h;
-  behind = λ j first none h. h;
-  counts = λ d h c. absurd (no_point d h);
-  sleeps = λ t j h fresh b. ⊎_elim (λ e. cc e) (λ more. ⊎_elim (λ e. fresh (same t j e)) (λ none. none) more) h;
-}
-  where
-    no_point : (d : Decision) → IsAmong (Fact.Point d) (facts_of (reslept s u k).note) → ⊥
-    no_point d h = ⊎_elim (λ e. cc e) (λ more. ⊎_elim (λ e. cc e) (λ none. none) more) h
-
-    same : (t j : ℕ) → Fact.Sleep u (Condition k) ≡ Fact.Sleep t (Condition j) → Reslept u k ≡ Reslept t j
-    same t j e = let thread : u ≡ t = cc in let condition : k ≡ j = cc in λ i. Reslept (thread i) (condition i)
-
-repeat_makes : (s : State) (u : ℕ) (w : walks.Standing) → Makes s u (repeated s u w)
-repeat_makes s u w = record {
-  points = λ d h. absurd (none_walked (Fact.Point d) u None (woken s u (exit.access_of w)) false refl h);
-  unlocks = λ d h op x. absurd (none_walked (Fact.Point d) u None (woken s u (exit.access_of w)) false refl h);
-  past = λ never h. h;
-  behind = λ k first never h. h;
-  counts = λ d h c. absurd (none_walked (Fact.Point d) u None (woken s u (exit.access_of w)) false refl h);
-  sleeps = λ t k h fresh x. none_walked (Fact.Sleep t (Condition k)) u None (woken s u (exit.access_of w)) false refl h;
-}
 
 makes : (s : State) (e : Event) → Kept s → Counted s → Makes s (caller e) (happens s e)
 makes s e inv counted =
@@ -420,8 +393,6 @@ makes s e inv counted =
     (λ t m may. reinit_makes s t m _ may.first may.last may.resting)
     (λ k may. recount_makes s k)
     (λ t m g sp. subst (Makes s t) (sym (spare_is s t m g sp inv)) (spare_makes s t m g sp))
-    (λ t c p pos known is there. resleep_makes s t (condition_of c) pos known)
-    (λ t w pos known is reads. repeat_makes s t w)
     e
 
 -- a counter goes back: whoever saw it hasn't its count any more
@@ -591,6 +562,5 @@ module _ (s0 : State) (events : List Event) (inv : Kept s0) (counted : Counted s
   pub never_passed : ⊥
   never_passed =
       (makes (run s4 sleep_at.first) sleep_at.event (run_kept s4 sleep_at.first good4.0) (run_counted s4 sleep_at.first good4.0 good4.1)).sleeps t k
-      (subst (λ (n : Note). IsAmong (Fact.Sleep t (Condition k)) (facts_of n)) (sym sleep_at.note) h.sleeps.0)
-      (λ again. h.sleeps.1 (sym sleep_at.note ∙ again))
+      (subst (λ (n : Note). IsAmong (Fact.Sleep t (Condition k)) (facts_of n)) (sym sleep_at.note) h.sleeps)
       (behind_run s4 sleep_at.first good4.0 good4.1 t k (subst (λ (x : ℕ). 1 ≤ x) (sym mine.0) mine.1) last4 (subst (λ (ns : List Note). BeginsNone t (facts_among ns)) (sym sleep_at.before) none_later) behind4)

@@ -22,10 +22,8 @@ use Rattle.protocol.proofs.Declines.{spared_is, decline_queued}
 use Rattle.protocol.proofs.Runs.{sound, start_kept}
 use Rattle.protocol.proofs.Cases.{at_or_else}
 use Rattle.protocol.proofs.Seeing.{entry_in}
-use Rattle.protocol.proofs.Vocabulary.{condition_of}
 use Rattle.protocol.proofs.Recounting.{recount_queued}
 use Rattle.protocol.proofs.Sparing.{spare_is, spare_queued}
-use Rattle.protocol.proofs.Repeating.{resleep_queued, repeated_is, repeat_queued}
 
 -- ---- a call that begins
 module _ (s : State) (t : ℕ) (o : Op) (queued : Queued s) (idle : (s.threads t).stage ≡ Idle) where
@@ -104,8 +102,6 @@ queued_on s e inv queued =
     (λ t m may. reinit_queued s t m _ (waiters_say_nothing (s.words (cell_place s.layout m))) may inv (sleepers_kept s m) queued)
     (λ k may. recount_queued s k queued)
     (λ t m g sp. subst (λ (a : After). Queued a.state) (sym (spare_is s t m g sp inv)) (spare_queued s t m g sp queued))
-    (λ t c p pos known is there. resleep_queued s t (condition_of c) there queued)
-    (λ t w pos known is reads. subst (λ (a : After). Queued a.state) (sym (repeated_is s t w inv pos known is)) (repeat_queued s t w inv pos known is queued))
     e
 
 pub start_queued : (l : Layout') (counters : ℕ → ℕ) → Queued (start l counters)

@@ -24,8 +24,6 @@ use Rattle.protocol.proofs.Passing.{point_noted, none_walked}
 use Rattle.protocol.proofs.Runs.{start_kept, run_kept}
 use Rattle.protocol.proofs.Learnt.{Learnt, run_learnt}
 use Rattle.protocol.proofs.Sparing.{spare_is}
-use Rattle.protocol.proofs.Vocabulary.{woken}
-use Rattle.exitwalk.specs.Walks as exit
 
 abbrev unlock_of : ℕ → ℕ → Decision
 unlock_of t m = record { thread = t; mutex = m; operation = Operation.Unlock; reply = OK }
@@ -135,8 +133,6 @@ module _ (s : State) (inv : Kept s) (calls : ℕ → Option Begun) (left : ℕ �
       (λ u k may t m b h told waits. absurd (⊎_elim (λ e. cc e) (λ more. ⊎_elim (λ e. cc (same_decision _ (unlock_of t m) e).1) (λ last. ⊎_elim (λ e. cc e) (λ none. none) last) more) h))
       (λ k may t m b h told waits. absurd h)
       (λ u k g sp. subst Releases (sym (spare_is s u k g sp inv)) (λ t m b h told waits. absurd h))
-      (λ u c p pos known is there t m b h told waits. absurd (⊎_elim (λ e. cc e) (λ more. ⊎_elim (λ e. cc e) (λ none. none) more) h))
-      (λ u w pos known is reads t m b h told waits. absurd (none_walked (Fact.Point (unlock_of t m)) u None (woken s u (exit.access_of w)) false refl h))
       e
 
 pub waits_release : WaitsReleaseConsistentMutexes

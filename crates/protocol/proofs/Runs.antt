@@ -34,13 +34,10 @@ use Rattle.protocol.proofs.Expiring.{expires_at, lapse_kept}
 use Rattle.protocol.proofs.Oversleeping.{overslept_kept}
 use Rattle.protocol.proofs.Declines.{declined_state, quiet, spared_is, decline_kept}
 use Rattle.buckets.specs.Queues.{without}
-use Rattle.protocol.proofs.Vocabulary.{Led, condition_of, recounted, reslept, repeated, woken}
-use Rattle.exitwalk.specs.Standings as walks
-use Rattle.exitwalk.specs.Walks as exit
+use Rattle.protocol.proofs.Vocabulary.{Led, recounted}
 use Rattle.protocol.proofs.Events.{Sparing}
 use Rattle.protocol.proofs.Recounting.{recount_kept, recounted_seen}
 use Rattle.protocol.proofs.Sparing.{spare_is, spare_kept, spared_state, unwoken}
-use Rattle.protocol.proofs.Working.{reaped_points}
 
 -- the decisions take the mutexes from what the one state's cells say to what the other's do
 abbrev pub Told : State → List Decision → State → Type 0
@@ -228,17 +225,6 @@ recount_sound s k inv = record { kept = recount_kept s k inv; same = refl; told 
 spare_sound : (s : State) (t m : ℕ) (g : Led) (sp : Sparing s t m g) → Kept s → Sound' s (record { state = spared_state s t m g sp.how; note = unwoken t m })
 spare_sound s t m g sp inv = record { kept = spare_kept s t m g sp inv; same = refl; told = λ k. refl }
 
--- and whatever changes the queues alone
-resleep_sound : (s : State) (t k : ℕ) → Kept s → Sound' s (reslept s t k)
-resleep_sound s t k inv = record { kept = queues_kept s (reslept s t k).state.queues inv; same = refl; told = λ j. refl }
-
-repeat_sound : (s : State) (t : ℕ) (w : walks.Standing) → Kept s → Sound' s (repeated s t w)
-repeat_sound s t w inv = record {
-  kept = queues_kept s (repeated s t w).state.queues inv;
-  same = refl;
-  told = subst (λ (ds : List Decision). Told s ds (repeated s t w).state) (sym (reaped_points t (woken s t (exit.access_of w)) false)) (λ k. refl);
-}
-
 -- each event is sound
 pub sound : (s : State) (e : Event) → Kept s → Sound' s (happens s e)
 sound s e inv =
@@ -256,8 +242,6 @@ sound s e inv =
     (λ t m may. reinit_sound s t m _ (waiters_say_nothing (s.words (cell_place s.layout m))) inv may)
     (λ k may. recount_sound s k inv)
     (λ t m g sp. subst (Sound' s) (sym (spare_is s t m g sp inv)) (spare_sound s t m g sp inv))
-    (λ t c p pos known is there. resleep_sound s t (condition_of c) inv)
-    (λ t w pos known is reads. repeat_sound s t w inv)
     e
 
 -- ---- the beginning

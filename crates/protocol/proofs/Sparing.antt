@@ -427,7 +427,6 @@ spare_rests s t by queued never =
     (λ u k x p pos known is there same. absurd cc)
     (λ u o p pos known is awake trims same. absurd cc) (λ u pos known gone same. absurd cc) (λ u m may same. absurd cc) (λ u m may same. absurd cc) (λ k may same. absurd cc)
     (λ u m g sp same. absurd (never_so u sp.by (thread_is u t sp.by by same) (left_is u t sp.by by same) sp.first sp.last (spare_so s u m g queued sp)))
-    (λ u c p pos known is there same. absurd cc) (λ u w pos known is reads same. absurd cc)
     (Spare t by) refl
   where
     thread_is : (u v : ℕ) (a b : LeftTo) → Spare u a ≡ Spare v b → u ≡ v

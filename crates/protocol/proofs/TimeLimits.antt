@@ -3,7 +3,7 @@ use Rattle.std.proofs.Common.{◌≡◌, ◌≢◌, ◌⊎◌, ⊎_elim, inl, in
 use Rattle.protocol.proofs.Vocabulary.{Answer, Exchanged, Changed, Object, Operation, Decision, Layout', Fields, fields_of, owner_of, word_of, answer_among, cell_place, place_in, place_met}
 use Rattle.protocol.proofs.Vocabulary.{Limit, Past, overslept}
 use Rattle.protocol.proofs.Vocabulary.{Reply, XHELD, Call, LockRow, UnlockRow, Phase, AtCell, Whole, whole_access, whole_led, after_cell, Op, OnMutex, OnCondition, mutex_of, condition_of, CondCall, CondPhase, CondRow, CondWhole, WaitRow, SignalRow, BroadcastRow, cond_access, cond_led}
-use Rattle.protocol.proofs.Vocabulary.{Event, Fact, Note, Walked, Stage, Idle, Calling, AtCondition, State, After, start, happens, notes, facts_of, facts_among, points_of, begun, departed, killed, lapsed, renewed, reinited, recounted, reslept, stepped, went, Thread, counter_place, seen, put, stands_in, stage_after, stage_at, led, led_at, is_asleep}
+use Rattle.protocol.proofs.Vocabulary.{Event, Fact, Note, Walked, Stage, Idle, Calling, AtCondition, State, After, start, happens, notes, facts_of, facts_among, points_of, begun, departed, killed, lapsed, renewed, reinited, recounted, stepped, went, Thread, counter_place, seen, put, stands_in, stage_after, stage_at, led, led_at, is_asleep}
 use Rattle.protocol.proofs.Vocabulary.{if◌then◌else◌, waiters_of, answer_of, walked, decision, moved_by, sleeps_at, slept_in, woken_by, not, ◌||◌, eqb-false, BeginsNone, Begun, Mutex, Condition}
 use Rattle.lockword.specs.declared.reply.Reply.TheVariants.{ETIMEDOUT}
 use Rattle.posixmutex.specs.Objects.{stepped as object_stepped}
@@ -52,8 +52,6 @@ use Rattle.protocol.proofs.Lives.{timed_is}
 use Rattle.protocol.proofs.Passing.{begins_later, begins_stepped, begins_walked}
 use Rattle.protocol.proofs.Declines.{declined_state, quiet, spared_is}
 use Rattle.protocol.proofs.Sparing.{spare_is, spared_state, next_of, unwoken}
-use Rattle.protocol.proofs.Repeating.{v as again_v}
-use Rattle.protocol.proofs.Repeating.{resleep_stands, repeat_stood, repeated_is}
 use Rattle.protocol.proofs.Runs.{Told, sound, start_kept, seen-start}
 
 -- ---- what lines tell of a mutex
@@ -401,8 +399,6 @@ module _ (s : State) (inv : Kept s) where
       (λ u k may none. ((λ e. cc e), tt))
       (λ k may none. tt)
       (λ u k g sp none. subst UntimedIn (sym (spare_is s u k g sp inv)) tt)
-      (λ u d p pos known is there none. tt)
-      (λ u v pos known is reads none. walked_untimed u None (machine.woken s u (exit.access_of v)) false)
       e
 
 -- ---- one event
@@ -588,9 +584,6 @@ module _ (s : State) (t m : ℕ) (inv : Kept s) (queued : Queued s) where
       goes_on (Of_unlock o p is mutex at leads) same here = ⊎_elim (λ (e : false ≡ true). cc e) (wakes o p is at same) (timed_only behind t m o _ here).1
       goes_on (Of_wait c p seen is mutex at leads) same here = here
 
-  resleeps_where : (u k : ℕ) → stands_in u (s.queues (counter_place s.layout k)) ≡ true → IsInAQueue (reslept s u k).state t → IsInAQueue s t
-  resleeps_where u k there (key, stands) = (key, sym (resleep_stands s u k there t key) ∙ stands)
-
   comes : (e : Event) → Comes (happens s e)
   comes e =
       by_event s (λ (x : Event) (a : After). Comes a)
@@ -610,9 +603,6 @@ module _ (s : State) (t m : ℕ) (inv : Kept s) (queued : Queued s) where
       (λ u k may. reinits u k (waiters_of (s.words (cell_place s.layout k))) may.resting)
       (λ k may h. (tt, inl (waits_where s (recounted s k).state t m (s.threads t).stage (λ q. q) h)))
       (λ u k g sp. subst Comes (sym (spare_is s u k g sp inv)) (spares u k g sp))
-      (λ u c p pos known is there h. (tt, inl (waits_where s (reslept s u (condition_of c)).state t m (s.threads t).stage (resleeps_where u (condition_of c) there) h)))
-      (λ u w pos known is reads. subst Comes (sym (repeated_is s u w inv pos known is))
-      (λ h. ((begins_walked u None (woken_by (again_v s u w).access (met s u (again_v s u w)) (met_queue s u (again_v s u w))) false).none t, inl (waits_where s (record s { queues = (after s u (again_v s u w)).queues }) t m (s.threads t).stage (λ q. (q.0, repeat_stood s u w inv pos known is queued t q.0 q.1)) h))))
       e
 
   -- ---- what an event tells
@@ -643,8 +633,6 @@ module _ (s : State) (t m : ℕ) (inv : Kept s) (queued : Queued s) where
       (λ u k may c w. untimed_reasons t m c (facts_of (reinited s u k 0).note) ((λ e. cc e), tt))
       (λ k may c w. tt)
       (λ u k g sp. subst Reasons (sym (spare_is s u k g sp inv)) (λ c w. tt))
-      (λ u d p pos known is there c w. (tt, (tt, tt)))
-      (λ u v pos known is reads c w. walked_reasons u None _ false c)
       e
 
 -- ---- runs

@@ -2,9 +2,9 @@
 use Rattle.std.proofs.Common.{◌≡◌, ℕ, zero, suc, ◌==◌, ◌&&◌, Bool, true, false, Some, None, Result, Ok, Err, List, [], ◌∷◌, length, map, refl, sym, ap, ◌∙◌}
 use mathlib.Core.Path.{fun_ext}
 use Rattle.protocol.proofs.Vocabulary.{Operation, address_in, head_place, Begun, CondCall, CondPhase, CondOnward, CondWhole, Layout', Mutex, Condition, Queue, Access, Reply, XHELD, Phase, Onward, Whole, Call, Op, OnMutex, OnCondition, whole_access, whole_led, cond_access, cond_led, Trimmed, Count}
-use Rattle.protocol.proofs.Vocabulary.{mutex_of, begun_of, condition_of, Thread, Stage, Calling, AtCondition, Dying, Event, Note, Began, State, After, begun, departed, killed, walked, renewed, reinited, recounted, repeated, spared, went, nothing, put, waiters_of}
-use Rattle.protocol.proofs.Vocabulary.{cell_place, answer_of, is_alive, is_asleep, sleeps, stage_after, stage_at, stage_walked, led, led_at, happens, stepped, run, notes, held_after, if◌then◌else◌, not, ◌||◌, nat_lt, nat_le, stands_at, stands_in, counter_place, first_stage}
-use Rattle.protocol.proofs.Vocabulary.{LeftTo, a_walk_minds, another_answers, answers, is_left_to, walk_minds, has_count, holds_count, is_mark, none_counts, repeating, resleeping, reslept, sparing, wakes_one}
+use Rattle.protocol.proofs.Vocabulary.{mutex_of, begun_of, condition_of, Thread, Stage, Calling, AtCondition, Dying, Event, Note, Began, State, After, begun, departed, killed, walked, renewed, reinited, recounted, spared, went, nothing, put, waiters_of}
+use Rattle.protocol.proofs.Vocabulary.{cell_place, answer_of, is_alive, is_asleep, sleeps, stage_after, stage_at, stage_walked, led, led_at, happens, stepped, run, notes, held_after, if◌then◌else◌, not, ◌||◌, nat_lt, nat_le, stands_at, counter_place, first_stage}
+use Rattle.protocol.proofs.Vocabulary.{LeftTo, a_walk_minds, another_answers, answers, is_left_to, walk_minds, has_count, holds_count, none_counts, sparing, wakes_one}
 use Rattle.exitwalk.specs.Standings as walks
 use Rattle.exitwalk.specs.Walks as exit
 use Rattle.exitwalk.specs.declared.row.Row as walk_row
@@ -301,18 +301,6 @@ module _ (s : State) (t held : ℕ) where
       ((λ i. spared s1 t held (mutex_same s.layout (OnCondition c) i) (led_at_same c p (cond_led p (Count 1)) i)) ∙ spared_same s t held (mutex_of s.layout (OnCondition c)) (led_at c p (cond_led p (Count 1)))) refl
   spares by g = refl
 
-  resleeps : (g : Stage) → resleeping s1 t (unlimited_stage g) ≡ unlimited_after (resleeping s t g)
-  resleeps (Calling (OnCondition c) p) = choose (stands_in t (s.queues (counter_place s.layout (condition_of c)))) _ (reslept s t (condition_of c)) _ (nothing s) _ (ap (λ (k : ℕ). stands_in t (s.queues (counter_place s.layout k))) (condition_same c)) (ap (reslept s1 t) (condition_same c)) refl
-  resleeps (Calling (OnMutex c) p) = refl
-  resleeps (AtCondition c p) = refl
-  resleeps g = refl
-
-  repeats : (g : Stage) → repeating s1 t (unlimited_stage g) ≡ unlimited_after (repeating s t g)
-  repeats (Dying w) = choose (is_mark w.row) _ (nothing s) _ (repeated s t w) _ refl refl refl
-  repeats (Calling o p) = refl
-  repeats (AtCondition c p) = refl
-  repeats g = refl
-
 pub happens_same : (s : State) (e : Event) → IsNoLimit e → happens (unlimited_state s) (unlimited_event e) ≡ unlimited_after (happens s e)
 happens_same s (Event.Begin t o) none =
     choose_so (has_thread s t && is_idle (s.threads t).stage && may_call s.layout o) _ (begun s t o (first_stage s.layout t (s.threads t).held o)) _ (nothing s) _ (λ i. has_thread s t && idle_same (s.threads t).stage i && inside_same s.layout o i)
@@ -334,8 +322,6 @@ happens_same s (Event.Remake t m) none =
 happens_same s (Event.Recount k) none =
     choose (machine.may_recount s k) _ (recounted s k) _ (nothing s) _ (λ i. nat_lt k (length s.layout.conditions) && is_nobody (s.queues (counter_place s.layout k)) && none_same s k s.layout.threads i) refl refl
 happens_same s (Event.Spare t by) none = choose (has_thread s t) _ (sparing s t by (s.threads t).held (s.threads t).stage) _ (nothing s) _ refl (spares s t (s.threads t).held by (s.threads t).stage) refl
-happens_same s (Event.Resleep t) none = choose (has_thread s t) _ (resleeping s t (s.threads t).stage) _ (nothing s) _ refl (resleeps s t (s.threads t).held (s.threads t).stage) refl
-happens_same s (Event.Repeat t) none = choose (has_thread s t) _ (repeating s t (s.threads t).stage) _ (nothing s) _ refl (repeats s t (s.threads t).held (s.threads t).stage) refl
 
 -- ---- runs
 

@@ -27,7 +27,6 @@ use Rattle.protocol.proofs.Renewals.{renewed_seen}
 use Rattle.protocol.proofs.Reinits.{waiters_say_nothing, reinited_word, reinited_elsewhere, reinited_seen, reinited_far}
 use Rattle.protocol.proofs.Cases.{at_or_else}
 use Rattle.protocol.proofs.Recounting.{recounted_seen}
-use Rattle.protocol.proofs.Repeating.{resleep_stands, repeated_is, repeat_stood}
 
 -- ---- a reinit
 
@@ -156,8 +155,6 @@ module _ (s : State) (m : ℕ) (inv : Kept s) (lost : (seen s m).unusable ≡ tr
       (λ t k may other. ap (λ (o : Object). o.unusable) (reinited_far s t k _ (waiters_say_nothing (s.words (cell_place s.layout k))) may m (λ e. other (sym e))) ∙ lost)
       (λ k may other. ap (λ (o : Object). o.unusable) (recounted_seen s k m) ∙ lost)
       (λ t k g sp other. lost)
-      (λ t c p pos known is there other. lost)
-      (λ t w pos known is reads other. lost)
       e
     where
       begins_so : (t : ℕ) (o : Op) (b : Bool) → Stays (begun s t o (if b then Err XHELD else Ok (begins_at s.layout t o)))
@@ -200,8 +197,6 @@ module _ (s : State) (m : ℕ) (inv : Kept s) (lost : (seen s m).unusable ≡ tr
         (λ t k may u there. there)
         (λ k may u there. there)
         (λ t k g sp u there. there)
-        (λ t c p pos known is stands u there. sym (resleep_stands s t (condition_of c) stands u (cell_place s.layout m)) ∙ there)
-        (λ t w pos known is reads. subst Joins_none (sym (repeated_is s t w inv pos known is)) (λ u there. repeat_stood s t w inv pos known is queued u (cell_place s.layout m) there))
         e
       where
         begins_so : (t : ℕ) (o : Op) (b : Bool) → Joins_none (begun s t o (if b then Err XHELD else Ok (begins_at s.layout t o)))
@@ -220,8 +215,6 @@ parted m (Event.Kill t) es none = (tt, none)
 parted m (Event.Leave t) es none = (tt, none)
 parted m (Event.Recount t) es none = (tt, none)
 parted m (Event.Spare t by) es none = (tt, none)
-parted m (Event.Resleep t) es none = (tt, none)
-parted m (Event.Repeat t) es none = (tt, none)
 parted m (Event.Expire t) es none = (tt, none)
 parted m (Event.Decline t) es none = (tt, none)
 parted m (Event.Renew t) es none = (tt, none)

@@ -51,8 +51,6 @@ stay_on s e inv =
     (λ t k may m below on. let says = waiters_say_nothing (s.words (cell_place s.layout k)) in reinit_stays t k _ says may (λ on. inl (ap (λ (w : ℕ). (fields_of w).waiters) (reinited_word s t k _ says may) ∙ (waiters_kept (s.words (cell_place s.layout k)) ∙ on))) m on)
     (λ k may m below on. inl (ap (λ (w : ℕ). (fields_of w).waiters) (recounted_cell s k m below) ∙ on))
     (λ t k g sp m below on. inl on)
-    (λ t c p pos known is there m below on. inl on)
-    (λ t w pos known is reads m below on. inl on)
     e
   where
     reinit_stays : (t k w : ℕ) (says : Says_nothing w) (may : MayRemake s t k) → Stays_in s (reinited s t k w).state k → (m : ℕ) → Stays_in s (reinited s t k w).state m

@@ -1,6 +1,6 @@
 -- Who falls asleep and who is woken, as the trace tells it.
 use Rattle.std.proofs.Common.{◌≡◌, ◌≢◌, ◌⊎◌, ⊎_elim, inl, inr, ℕ, ◌<◌, ◌≤◌, length, ◌==◌, Bool, true, false, Option, Some, None, Ok, Err, List, [], ◌∷◌, ◌++◌, map, refl, sym, ap, ◌∙◌, subst, arith, eq-eqb, eqb-true, append-nil}
-use Rattle.protocol.proofs.Vocabulary.{Queue, Mutex, Condition, Fact, Decision, Layout', cell_place, counter_place, sleeps_at, Reply, XHELD, OnCondition, Op, Event, Note, Stepped}
+use Rattle.protocol.proofs.Vocabulary.{Queue, Mutex, Fact, Decision, Layout', cell_place, counter_place, sleeps_at, Reply, XHELD, OnCondition, Op, Event, Note, Stepped}
 use Rattle.protocol.proofs.Vocabulary.{overslept, waits_on}
 use Rattle.protocol.proofs.Vocabulary.{Walked, facts_of, sleep_facts, moves_to, return_facts, reap_facts, State, After, start, woken_by, moved_by, stands_in, is_asleep, begun}
 use Rattle.protocol.proofs.Vocabulary.{nothing, decision, slept_in, killed, happens, run, notes, facts_among, if◌then◌else◌, slice_index, CondCall, queue_place}
@@ -8,7 +8,7 @@ use Rattle.protocol.proofs.Vocabulary.{place_in, place_met}
 use Rattle.buckets.specs.Queues.{without}
 use Rattle.facts.specs.declared.fact.Fact.TheVariants.{Sleep, Wake, Move, Kill}
 use Rattle.protocol.specs.Sleepers.{StandsIn, IsAmong}
-use Rattle.protocol.specs.Wakings.{asleep_next, asleep_after, told_asleep, Alternates, IsQueue, nobody, FallsAsleep, LeavesQueue, IsMoved, SleepsAgain, TellsTurns, TellsSleepers, SleepsAreTold, MaySleepIn}
+use Rattle.protocol.specs.Wakings.{asleep_next, asleep_after, told_asleep, Alternates, IsQueue, nobody, FallsAsleep, LeavesQueue, IsMoved, TellsTurns, TellsSleepers, SleepsAreTold, MaySleepIn}
 use Rattle.protocol.specs.PassedBy.{call_told}
 use Rattle.protocol.specs.Wakes.{left_by}
 use Rattle.protocol.proofs.Learnt.{run_learnt}
@@ -32,11 +32,7 @@ use Rattle.protocol.specs.Applies.{IsInAQueue}
 use Rattle.protocol.proofs.Vocabulary.{departed}
 use Rattle.protocol.proofs.Cases.{by_equal}
 use Rattle.protocol.proofs.Seeing.{cell_again, counter_again, cell_in}
-use Rattle.protocol.proofs.Vocabulary.{condition_of, reslept}
-use Rattle.protocol.proofs.Accesses.{fits_in}
 use Rattle.protocol.proofs.Sparing.{spare_is}
-use Rattle.protocol.proofs.Repeating.{resleep_stands, resleep_goes, again_step, again_noted, repeated_is, walk_from, walk_out}
-use Rattle.protocol.proofs.Repeating.{v as again_v}
 
 -- ---- the facts of one thread's sleep
 
@@ -149,7 +145,6 @@ data Turn (s : State) (qs : ℕ → List ℕ) (t : ℕ) (e : Event) (told : List
   Is_woken : (key : ℕ) → told ≡ Wake t ∷ [] → stands_in t (s.queues key) ≡ true → IsOut qs t → e ≢ Event.Kill t → Turn s qs t e told
   Is_moved : (k m : ℕ) → told ≡ Move t m ∷ [] → k < length s.layout.conditions → slice_index s.layout.conditions k ≡ m → m < s.layout.mutexes → stands_in t (s.queues (counter_place s.layout k)) ≡ true → stands_in t (qs (cell_place s.layout m)) ≡ true → Turn s qs t e told
   Dies : told ≡ Kill t ∷ [] → e ≡ Event.Kill t → IsOut qs t → Turn s qs t e told
-  Goes_again : (k : ℕ) → told ≡ Wake t ∷ (Sleep t (Condition k) ∷ []) → k < length s.layout.conditions → stands_in t (s.queues (counter_place s.layout k)) ≡ true → ((key : ℕ) → stands_in t (qs key) ≡ stands_in t (s.queues key)) → e ≡ Event.Resleep t → Turn s qs t e told
 
 abbrev TurnOf : State → ℕ → Event → After → Type 0
 TurnOf s t e z = Turn s z.state.queues t e (turns t (facts_of z.note))
@@ -243,18 +238,6 @@ leave_turn s u t asleep =
     Is_woken stood.0 (ap (λ (v : ℕ). Wake v ∷ []) same) stood.1 (λ key. ap (λ (v : ℕ). stands_in v (without u (s.queues key))) (sym same) ∙ without_gone u (s.queues key)) (λ e. cc))
     (λ apart. Stays refl (λ key. stands_without t u (s.queues key) (grind (arith))))
 
-resleep_turn : (s : State) (u k t : ℕ) → k < length s.layout.conditions → stands_in u (s.queues (counter_place s.layout k)) ≡ true → TurnOf s t (Event.Resleep u) (reslept s u k)
-resleep_turn s u k t below there = go (u == t) refl
-  where
-    same_key : (key : ℕ) → stands_in t ((reslept s u k).state.queues key) ≡ stands_in t (s.queues key)
-    same_key key = resleep_stands s u k there t key
-
-    go : (b : Bool) → (u == t) ≡ b → Turn s (reslept s u k).state.queues t (Event.Resleep u) (if b then Wake u ∷ (if b then Sleep u (Condition k) ∷ [] else []) else if b then Sleep u (Condition k) ∷ [] else [])
-    go true e =
-        let same : u ≡ t = eqb-true u t e in
-        Goes_again k (ap (λ (v : ℕ). Wake v ∷ (Sleep v (Condition k) ∷ [])) same) below (subst (λ (v : ℕ). stands_in v (s.queues (counter_place s.layout k)) ≡ true) same there) same_key (ap Event.Resleep same)
-    go false e = Stays refl same_key
-
 expire_turn : (s : State) (u t m : ℕ) (p : Whole) → is_asleep s u ≡ true → TurnOf s t (Event.Expire u) (lapsed s u (s.threads u).held (OnMutex (Call.TimedLock m)) p)
 expire_turn s u t m p asleep =
     by_equal (Turn s (λ key. without u (s.queues key)) t (Event.Expire u)) u t (Wake u ∷ []) []
@@ -287,9 +270,6 @@ turn s e inv queued t =
     (λ u m may. Stays refl (λ key. refl))
     (λ k may. Stays refl (λ key. refl))
     (λ u m g sp. subst (TurnOf s t (Event.Spare u sp.by)) (sym (spare_is s u m g sp inv)) (Stays refl (λ key. refl)))
-    (λ u c p pos known is there. resleep_turn s u (condition_of c) t (fits_in s u (OnCondition c) p inv pos known is).1.2 there)
-    (λ u x pos known is reads. subst (TurnOf s t (Event.Repeat u)) (sym (repeated_is s u x inv pos known is))
-    (step_turn s u t (again_v s u x) (again_step s u x inv pos known is) pos known (walk_from s u x inv pos known is) queued (walk_out s u x inv pos known is) (Event.Repeat u) (λ same. cc same) _ (again_noted s u x reads)))
     e
   where
     begins_so : (u : ℕ) (o : Op) (b : Bool) → TurnOf s t (Event.Begin u o) (begun s u o (if b then Err XHELD else Ok (begins_at s.layout u o)))
@@ -337,19 +317,16 @@ module _ (s : State) (e : Event) (inv : Kept s) (queued : Queued s) (t : ℕ) wh
 
   -- what a fact of its sleep tells
   abbrev Says : Fact → Type 0
-  Says (Sleep u q) = FallsAsleep s s' t q ⊎ SleepsAgain s s' e t q
-  Says (Wake u) = (LeavesQueue s s' t × (e ≢ Event.Kill t)) ⊎ (q : Queue) × SleepsAgain s s' e t q
+  Says (Sleep u q) = FallsAsleep s s' t q
+  Says (Wake u) = LeavesQueue s s' t × (e ≢ Event.Kill t)
   Says (Move u m) = IsMoved s s' t m
   Says f = Unit {0}
 
   says : (f : Fact) → IsAmong f (turns t facts) → Turn s s'.queues t e (turns t facts) → Says f
   says f h (Stays none same) = absurd (subst (IsAmong f) none h)
-  says f h (Falls_asleep q is inside out stands) = subst Says (only f (Sleep t q) (subst (IsAmong f) is h)) (inl (out, inside, stands_then q stands))
-  says f h (Is_woken key is stands out kills) = subst Says (only f (Wake t) (subst (IsAmong f) is h)) (inl (((key, stands), out), kills))
+  says f h (Falls_asleep q is inside out stands) = subst Says (only f (Sleep t q) (subst (IsAmong f) is h)) (out, inside, stands_then q stands)
+  says f h (Is_woken key is stands out kills) = subst Says (only f (Wake t) (subst (IsAmong f) is h)) (((key, stands), out), kills)
   says f h (Is_moved k m is below of inside before stands) = subst Says (only f (Move t m) (subst (IsAmong f) is h)) ((k, below, of, before), stands_then (Mutex m) stands)
-  says f h (Goes_again k is below stood same ev) =
-      let again : SleepsAgain s s' e t (Condition k) = (ev, below, stood, stands_then (Condition k) (same (counter_place s.layout k) ∙ stood)) in
-      ⊎_elim (λ wakes. subst Says wakes (inr (Condition k, again))) (λ more. ⊎_elim (λ sleeps. subst Says sleeps (inr again)) (λ none. absurd none) more) (subst (IsAmong f) is h)
   says f h (Dies is kill out) = subst Says (only f (Kill t) (subst (IsAmong f) is h)) tt
 
   fell : (q : Queue) → FallsAsleep s s' t q → Turn s s'.queues t e (turns t facts) → IsAmong (Sleep t q) facts
@@ -359,14 +336,10 @@ module _ (s : State) (e : Event) (inv : Kept s) (queued : Queued s) (t : ℕ) wh
       turns-among t (Sleep t q) facts (subst (IsAmong (Sleep t q)) (sym is) (inl (ap (Sleep t) same)))
   fell q (was, inside, now) (Is_woken key is stands out kills) = absurd (cc (now, out (queue_place s'.layout q)))
   fell q (was, inside, now) (Is_moved k m is below of there before stands) = absurd (cc (before, was (counter_place s.layout k)))
-  fell q (was, inside, now) (Goes_again k is below stood same ev) = absurd (cc (stood, was (counter_place s.layout k)))
   fell q (was, inside, now) (Dies is kill out) = absurd (cc (now, out (queue_place s'.layout q)))
 
   was_moved : (m : ℕ) → IsMoved s s' t m → Turn s s'.queues t e (turns t facts) → IsAmong (Move t m) facts
   was_moved m ((k, below, of, before), now) (Stays none same) =
-      let inside : m < s.layout.mutexes = subst (λ (x : ℕ). x < s.layout.mutexes) of (names_mutex s.layout (OnCondition (CondCall.Signal k)) inv.layout below) in
-      absurd (counter_is_no_cell s.layout m k inside (queued.one t (counter_place s.layout k) (cell_place s.layout m) before (sym (same (cell_place s.layout m)) ∙ stands_there (Mutex m) now)))
-  was_moved m ((k, below, of, before), now) (Goes_again j is there stood same ev) =
       let inside : m < s.layout.mutexes = subst (λ (x : ℕ). x < s.layout.mutexes) of (names_mutex s.layout (OnCondition (CondCall.Signal k)) inv.layout below) in
       absurd (counter_is_no_cell s.layout m k inside (queued.one t (counter_place s.layout k) (cell_place s.layout m) before (sym (same (cell_place s.layout m)) ∙ stands_there (Mutex m) now)))
   was_moved m ((k, below, of, before), now) (Falls_asleep q is inside out stands) = absurd (cc (before, out (counter_place s.layout k)))
@@ -383,23 +356,12 @@ module _ (s : State) (e : Event) (inv : Kept s) (queued : Queued s) (t : ℕ) wh
   woke (stood, gone) lives (Falls_asleep q is inside out stands) = absurd (cc (stood.1, out stood.0))
   woke (stood, gone) lives (Is_woken key is stands out kills) = turns-among t (Wake t) facts (subst (IsAmong (Wake t)) (sym is) (inl refl))
   woke (stood, gone) lives (Is_moved k m is below of inside before stands) = absurd (cc (stands, gone (cell_place s.layout m)))
-  woke (stood, gone) lives (Goes_again k is below before same ev) = absurd (cc (sym (gone stood.0) ∙ (same stood.0 ∙ stood.1)))
   woke (stood, gone) lives (Dies is kill out) = absurd (lives kill)
-
-  -- whoever goes to the end of its queue is told so
-  slept_again : (q : Queue) → SleepsAgain s s' e t q → (k : ℕ) × (q ≡ Condition k) × (facts ≡ Wake t ∷ (Sleep t (Condition k) ∷ []))
-  slept_again (Mutex m) h = absurd h
-  slept_again (Condition k) (ev, below, before, now) = (k, refl, ap (λ (x : Event). facts_of (happens s x).note) ev ∙ ap (λ (a : After). facts_of a.note) (resleep_goes s t k inv queued below before))
-
-  again_told : (q : Queue) → SleepsAgain s s' e t q → IsAmong (Wake t) facts × IsAmong (Sleep t q) facts
-  again_told q h =
-      let told = slept_again q h in
-      (subst (IsAmong (Wake t)) (sym told.2) (inl refl), subst (λ (r : Queue). IsAmong (Sleep t r) facts) (sym told.1) (subst (IsAmong (Sleep t (Condition told.0))) (sym told.2) (inr (inl refl))))
 
   tells_turns : TellsTurns s e t
   tells_turns = record {
-    sleep = λ q. ((λ among. says (Sleep t q) (among-turns t (Sleep t q) facts (this t) among) (turn s e inv queued t)), (λ fallen. ⊎_elim (λ new. fell q new (turn s e inv queued t)) (λ again. (again_told q again).1) fallen));
-    wake = ((λ among. says (Wake t) (among-turns t (Wake t) facts (this t) among) (turn s e inv queued t)), (λ left. ⊎_elim (λ gone. woke gone.0 gone.1 (turn s e inv queued t)) (λ again. (again_told again.0 again.1).0) left));
+    sleep = λ q. ((λ among. says (Sleep t q) (among-turns t (Sleep t q) facts (this t) among) (turn s e inv queued t)), (λ fallen. fell q fallen (turn s e inv queued t)));
+    wake = ((λ among. says (Wake t) (among-turns t (Wake t) facts (this t) among) (turn s e inv queued t)), (λ gone. woke gone.0 gone.1 (turn s e inv queued t)));
     move = λ m. ((λ among. says (Move t m) (among-turns t (Move t m) facts (this t) among) (turn s e inv queued t)), (λ is. was_moved m is (turn s e inv queued t)));
   }
 

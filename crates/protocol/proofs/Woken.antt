@@ -35,7 +35,6 @@ use Rattle.protocol.specs.Applies.{Agrees}
 use Rattle.protocol.proofs.Applying.{run_agrees}
 use Rattle.protocol.proofs.Emptied.{no_more}
 use Rattle.protocol.proofs.Learnt.{Asks, AsksFor, AsksAt, Learnt, run_learnt}
-use Rattle.protocol.proofs.Vocabulary.{repeated}
 use Rattle.protocol.proofs.Sparing.{spare_is}
 use Rattle.lockword.specs.Threads.{most_threads}
 
@@ -308,14 +307,6 @@ module _ (s : State) (t : ℕ) (w : walks.Standing) (inv : Kept s) (pos : 1 ≤ 
         moves_walked t death (woken s t its_access) ended,
       )
 
-  -- made once more, it wakes the same
-  again_whom : WakesWhom s Dead None None (facts_of (repeated s t w).note)
-  again_whom =
-      let told = wakes_walked t None (woken s t its_access) false in (
-        ⊎_elim (λ none. inl (told ∙ ap (map Fact.Wake) none)) (λ one. inr (one.0, one.1, told ∙ ap (map Fact.Wake) one.2)) woken_walk,
-        moves_walked t None (woken s t its_access) false,
-      )
-
 -- ---- each event
 
 told_in_call : (x : Told) (c : Op) (p : Whole) → Agrees x (Calling c p) → x ≡ InCall
@@ -334,8 +325,6 @@ module _ (s : State) (inv : Kept s) (queued : Queued s) (told : ℕ → Told) (b
   abbrev WhomAt : Event → After → Type 0
   WhomAt (Event.Step t) a = WakesWhom s (told t) (b t) (o t) (facts_of a.note)
   WhomAt (Event.Leave t) a = WakesItself t (facts_of a.note)
-  WhomAt (Event.Resleep t) a = WakesItself t (facts_of a.note)
-  WhomAt (Event.Repeat t) a = WakesWhom s Dead None None (facts_of a.note)
   WhomAt (Event.Expire t) a = WakesItself t (facts_of a.note)
   WhomAt e a = (wakes_in (facts_of a.note) ≡ []) × (moves_in (facts_of a.note) ≡ [])
 
@@ -351,8 +340,6 @@ module _ (s : State) (inv : Kept s) (queued : Queued s) (told : ℕ → Told) (b
   nothing_whom (Event.Remake t m) = (refl, refl)
   nothing_whom (Event.Recount k) = (refl, refl)
   nothing_whom (Event.Spare t by) = (refl, refl)
-  nothing_whom (Event.Resleep t) = (inl refl, refl)
-  nothing_whom (Event.Repeat t) = (inl refl, refl)
 
   begin_whom : (t : ℕ) (c : Op) (full : Bool) → WhomAt (Event.Begin t c) (begun s t c (if full then Err XHELD else Ok (begins_at s.layout t c)))
   begin_whom t c true = (refl, refl)
@@ -398,8 +385,6 @@ module _ (s : State) (inv : Kept s) (queued : Queued s) (told : ℕ → Told) (b
       (λ t m may. (refl, refl))
       (λ k may. (refl, refl))
       (λ t m g sp. subst (WhomAt (Event.Spare t sp.by)) (sym (spare_is s t m g sp inv)) (refl, refl))
-      (λ t c p pos known is there. (inr refl, refl))
-      (λ t w pos known is reads. again_whom s t w inv pos known is)
       e
 
 -- ---- every run
@@ -421,8 +406,6 @@ woken_right l counters events is e = go e (next_whom (run s0 events) (run_kept s
     go (Event.Leave t) h = h
     go (Event.Recount t) h = h
     go (Event.Spare t by) h = h
-    go (Event.Resleep t) h = h
-    go (Event.Repeat t) h = h
     go (Event.Expire t) h = h
     go (Event.Decline t) h = h
     go (Event.Renew t) h = h

@@ -6,8 +6,8 @@
 -- as a lock with a time limit, or in its condition variable's queue in one that was told as a wait with a time limit
 -- (`IsTold`); a decline where its next access is a trim (`IsAboutToTrim`); a renewal where it was reaped, and hasn't been
 -- renewed since; a reinit where it lives and is in no call, and the mutex, one of the layout, is unusable and nobody
--- sleeps on it, and a remake whoever sleeps on it; a recount, a spare (`IsSparedAccessOf`), a resleep and a repeat
--- (`IsAboutToRead`) where they happen. Such an event is noted as what it is, every other as nothing, and that changes
+-- sleeps on it, and a remake whoever sleeps on it; a recount and a spare (`IsSparedAccessOf`) where they
+-- happen. Such an event is noted as what it is, every other as nothing, and that changes
 -- nothing: the law `events_apply`.
 use Rattle.std.specs.Prelude.{ℕ, length, ◌≡◌, ◌⊎◌, ◌<◌, ◌≤◌, ◌==◌, ◌&&◌, nat_le, true}
 use Rattle.std.specs.Prelude.{false, Option, Some, None, List, [], ◌∷◌, if◌then◌else◌}
@@ -30,7 +30,7 @@ use Rattle.protocol.specs.declared.event.Event.{Event}
 use Rattle.protocol.specs.declared.event.Event.TheVariants as event
 use Rattle.protocol.specs.declared.note.Note.{Note}
 use Rattle.protocol.specs.declared.note.Note.TheVariants.{Nothing, Began, Stepped, Killed}
-use Rattle.protocol.specs.declared.note.Note.TheVariants.{Walked, Left, Expired, Renewed, Reinited, Recounted, Reslept}
+use Rattle.protocol.specs.declared.note.Note.TheVariants.{Walked, Left, Expired, Renewed, Reinited, Recounted}
 use Rattle.facts.specs.declared.fact.Begun.{Begun}
 use Rattle.facts.specs.declared.fact.Queue.TheVariants.{Mutex, Condition}
 use Rattle.facts.specs.declared.fact.Fact.{Fact}
@@ -39,11 +39,10 @@ use Rattle.stepprograms.specs.declared.access.Access.TheVariants.{Trim}
 use Rattle.mutex.specs.Standings.{Whole}
 use Rattle.condvar.specs.Standings.{CondWhole}
 use Rattle.condvar.specs.declared.call.CondCall.{CondCall}
-use Rattle.exitwalk.specs.Standings.{Standing}
 use Rattle.mutex.specs.Whole.{whole_access}
 use Rattle.protocol.specs.declared.thread.Stage.{Stage}
 use Rattle.protocol.specs.declared.thread.Stage.TheVariants.{Idle, Calling, AtCondition, Dying, Reaped}
-use Rattle.protocol.specs.Machine.{State, start, happens, run, notes, stands_in, sleepers, is_mark}
+use Rattle.protocol.specs.Machine.{State, start, happens, run, notes, stands_in, sleepers}
 use Rattle.protocol.specs.Headline.{seen, facts_among}
 use Rattle.protocol.specs.Sleepers.{StandsIn}
 use Rattle.protocol.specs.Recounts.{MayRecount}
@@ -142,18 +141,13 @@ SleepsInTimedLock s t = IsInAQueue s t × ((m : ℕ) × IsInTimedLock s t m)
 abbrev pub SleepsInTimedWait : State → ℕ → Type 0
 SleepsInTimedWait s t = (k : ℕ) × StandsIn s t (Condition k) × IsInTimedWait s t k
 
--- the next access of thread t's walk is a load or a wake
-abbrev pub IsAboutToRead : State → ℕ → Type 0
-IsAboutToRead s t = (w : Standing) × ((s.threads t).stage ≡ Dying w) × (is_mark w.row ≡ false)
-
 -- a begin applies where its thread lives, is in no call, and what it calls is in the layout; a step where its thread is
 -- in a call, or was killed and not reaped, and sleeps on nothing; a kill where its thread lives; a leave where it
 -- sleeps; an expiry where it sleeps in a lock with a time limit, or on a condition variable in a wait with one; a
 -- decline where it is about to trim; a renewal where its thread was reaped; a reinit where its thread lives and is in
 -- no call, and its mutex, one of the layout, is unusable and nobody sleeps on it; a remake likewise, whoever sleeps on
 -- it; a recount where nobody may miss a signal by it; a spare where its thread is about to wake one of a mutex, for
--- which another answers; a resleep where its thread sleeps on a condition variable; a repeat where its thread's walk is
--- about to load or to wake
+-- which another answers
 abbrev pub Applies : Layout' → State → List Note → Event → Type 0
 Applies l s ns (event.Begin t o) = IsThread l t × Names l o × BeginsAhead o × (last_told t ns ≡ AtRest)
 Applies l s ns (event.Step t) = IsThread l t × HasAccess (last_told t ns) × IsInNoQueue s t
@@ -168,8 +162,6 @@ Applies l s ns (event.Remake t m) =
     IsThread l t × (last_told t ns ≡ AtRest) × (m < l.mutexes) × ((seen s m).unusable ≡ true)
 Applies l s ns (event.Recount k) = MayRecount s k
 Applies l s ns (event.Spare t by) = IsThread l t × MaySpare s t by
-Applies l s ns (event.Resleep t) = (k : ℕ) × (k < length l.conditions) × StandsIn s t (Condition k)
-Applies l s ns (event.Repeat t) = IsThread l t × IsAboutToRead s t
 
 -- a call that takes a mutex is refused at once where its thread owns 2,048
 abbrev pub refusal : Layout' → State → ℕ → Op → Option Reply
@@ -208,8 +200,6 @@ IsNotedAs l s (event.Reinit t m) n = n ≡ Reinited t m
 IsNotedAs l s (event.Remake t m) n = n ≡ Reinited t m
 IsNotedAs l s (event.Recount k) n = n ≡ Recounted k
 IsNotedAs l s (event.Spare t by) n = IsSparedAccessOf l s t n
-IsNotedAs l s (event.Resleep t) n = (k : ℕ) → StandsIn s t (Condition k) → n ≡ Reslept t k
-IsNotedAs l s (event.Repeat t) n = IsAccessOf t n
 
 -- of a state that events lead to that were noted so: its layout is as it was, and each thread stands where it was told
 -- to stand, and is in the call whose begin was told last; whatever event comes next, it happens where it applies, and

@@ -36,8 +36,6 @@ caller (event.Reinit t m) = t
 caller (event.Remake t m) = t
 caller (event.Recount k) = 0
 caller (event.Spare t by) = t
-caller (event.Resleep t) = t
-caller (event.Repeat t) = t
 
 -- the thread of event n, the first of the events having number i; 0 where there is no such event
 abbrev pub caller_of : ℕ → List Event → ℕ → ℕ

@@ -3,7 +3,7 @@ use Rattle.std.specs.Prelude.{ℕ, ◌≡◌, ◌≢◌, ◌≤◌, List, [], �
 use Rattle.buckets.specs.Queues.{without}
 use Rattle.memorymap.specs.Layouts.{Layout', IsLayout}
 use Rattle.protocol.specs.declared.event.Event.{Event}
-use Rattle.protocol.specs.declared.event.Event.TheVariants.{Step, Leave, Expire, Decline, Resleep}
+use Rattle.protocol.specs.declared.event.Event.TheVariants.{Step, Leave, Expire, Decline}
 use Rattle.facts.specs.declared.fact.Fact.TheVariants.{Wake}
 use Rattle.protocol.specs.Notes.{facts_of}
 use Rattle.protocol.specs.Machine.{State, start, happens, run, notes}
@@ -51,12 +51,11 @@ abbrev pub LeavesAreLone : Type 0
 LeavesAreLone = (l : Layout') (counters : ℕ → ℕ) (events : List Event) → IsLayout l
     → LeavesAndDeclines l (run (start l counters) events)
 
--- nobody leaves by itself, is out of time, or goes to the end of its queue
+-- nobody leaves by itself or is out of time
 abbrev pub NobodyLeaves : List Event → Type 0
 NobodyLeaves [] = Unit {0}
 NobodyLeaves (Leave t ∷ es) = ⊥
 NobodyLeaves (Expire t ∷ es) = ⊥
-NobodyLeaves (Resleep t ∷ es) = ⊥
 NobodyLeaves (e ∷ es) = NobodyLeaves es
 
 -- where nobody does, whoever is told to be woken is the front of a queue

@@ -19,7 +19,6 @@ pub mod WalksOn
 pub mod Leaves
 pub mod Renewals
 pub mod Reinits
-pub mod Repeats
 pub mod Bounded
 pub mod Changes
 pub mod Counting

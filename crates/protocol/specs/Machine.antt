@@ -9,8 +9,7 @@
 -- sleeper out of its queue, and so does an expiry of one whose lock or wait has a time limit; a decline is the step of a thread
 -- whose next access is a trim, answered that this cleared nothing; a renewal lets a reaped thread live again; a reinit
 -- makes an unusable mutex usable again. A recount puts a counter back to 0. A spare leaves out a wake for which another
--- thread answers. A resleep moves a sleeper to the end of its queue. A repeat makes an access of a walk which the walk
--- then makes once more. An event that can't apply notes nothing and changes nothing.
+-- thread answers. An event that can't apply notes nothing and changes nothing.
 --
 -- *A leave and a declined trim.* A thread that sleeps stands where it goes on when it is woken; so a leave only takes
 -- it out of its queue: no word changes, no thread, and no place of another in a queue, and its wake is told. A declined
@@ -98,7 +97,7 @@ use Rattle.condvar.specs.declared.op.Op.{Op}
 use Rattle.condvar.specs.declared.op.Op.TheVariants.{OnMutex, OnCondition}
 use Rattle.protocol.specs.declared.event.Event.{Event}
 use Rattle.protocol.specs.declared.event.Event.TheVariants.{Begin, Step, Kill, Leave, Expire, Decline, Renew, Reinit}
-use Rattle.protocol.specs.declared.event.Event.TheVariants.{Remake, Recount, Spare, Resleep, Repeat}
+use Rattle.protocol.specs.declared.event.Event.TheVariants.{Remake, Recount, Spare}
 use Rattle.protocol.specs.declared.event.LeftTo.{LeftTo}
 use Rattle.protocol.specs.declared.event.LeftTo.TheVariants as left_to
 use Rattle.protocol.specs.declared.thread.Thread.{Thread}
@@ -106,7 +105,7 @@ use Rattle.protocol.specs.declared.thread.Stage.{Stage}
 use Rattle.protocol.specs.declared.thread.Stage.TheVariants.{Idle, Calling, AtCondition, Dying, Reaped}
 use Rattle.protocol.specs.declared.note.Note.{Note}
 use Rattle.protocol.specs.declared.note.Note.TheVariants.{Nothing, Began, Stepped, Killed}
-use Rattle.protocol.specs.declared.note.Note.TheVariants.{Walked, Left, Expired, Renewed, Reinited, Recounted, Reslept}
+use Rattle.protocol.specs.declared.note.Note.TheVariants.{Walked, Left, Expired, Renewed, Reinited, Recounted}
 
 -- the words by place, who sleeps on each, also by place, in the order in which they are to be woken, and the threads by
 -- id
@@ -669,33 +668,6 @@ abbrev pub wakes_one : Phase → Bool
 wakes_one (AtCell (Unlock (Wake all))) = not all
 wakes_one f = false
 
--- ---- sleepers that go to the end
-
--- thread t goes to the end of the queue of condition variable k
-abbrev pub reslept : State → ℕ → ℕ → After
-reslept s t k =
-    record {
-      state = record s {
-        queues = put s.queues (counter_place s.layout k) (without t (s.queues (counter_place s.layout k)) ++ t ∷ []);
-      };
-      note = Reslept t k;
-    }
-
--- ---- accesses of walks that are made once more
-
--- the walk is about to mark a word
-abbrev pub is_mark : walk_row.Row → Bool
-is_mark (walk.Mark at seen again part) = true
-is_mark r = false
-
--- the next access of the walk, a load or a wake, which changes no word; and the walk stays
-abbrev pub repeated : State → ℕ → walks.Standing → After
-repeated s t w =
-    record {
-      state = record s { queues = queues_after s t (exit.access_of w) };
-      note = Walked t None (woken s t (exit.access_of w)) false;
-    }
-
 -- ---- events
 
 abbrev pub stepped : State → ℕ → ℕ → Stage → After
@@ -730,27 +702,13 @@ sparing s t by held (AtCondition c p) =
     else nothing s
 sparing s t by held g = nothing s
 
--- where a thread sleeps on its condition variable's counter
-abbrev pub resleeping : State → ℕ → Stage → After
-resleeping s t (Calling (OnCondition c) p) =
-    if stands_in t (s.queues (counter_place s.layout (conditions.condition_of c)))
-    then reslept s t (conditions.condition_of c)
-    else nothing s
-resleeping s t g = nothing s
-
--- where a walk is about to load or to wake
-abbrev pub repeating : State → ℕ → Stage → After
-repeating s t (Dying w) = if is_mark w.row then nothing s else repeated s t w
-repeating s t g = nothing s
-
 -- a begin of a busy, killed or unknown thread, of a call outside the layout or of a wait that is out of time, a step of
 -- an idle, sleeping, reaped or unknown thread, a kill of a killed or unknown thread, a leave of a thread that doesn't
 -- sleep, an expiry of one that doesn't sleep in a lock with a time limit or on the condition variable of a wait with
 -- one, a decline of one that isn't about to trim, a renewal of one that wasn't reaped, a reinit by one that isn't idle,
 -- or of a mutex that is usable or slept on, a remake by one that isn't idle, or of a mutex that is usable, a recount of
--- a counter that somebody sleeps on or knows, a spare of a thread that isn't about to wake one of a mutex, or leaves it
--- to one who doesn't answer for it, a resleep of one that doesn't sleep on a counter, and a repeat of one whose walk isn't about to
--- load or to wake, do nothing
+-- a counter that somebody sleeps on or knows, and a spare of a thread that isn't about to wake one of a mutex, or
+-- leaves it to one who doesn't answer for it, do nothing
 abbrev pub happens : State → Event → After
 happens s (Begin t o) = if may_begin s t o then begun s t o (first_stage s.layout t (s.threads t).held o) else nothing s
 happens s (Step t) = if has_thread s t then stepped s t (s.threads t).held (s.threads t).stage else nothing s
@@ -764,8 +722,6 @@ happens s (Remake t m) =
     if may_remake s t m then reinited s t m (waiters_of (s.words (cell_place s.layout m))) else nothing s
 happens s (Recount k) = if may_recount s k then recounted s k else nothing s
 happens s (Spare t by) = if has_thread s t then sparing s t by (s.threads t).held (s.threads t).stage else nothing s
-happens s (Resleep t) = if has_thread s t then resleeping s t (s.threads t).stage else nothing s
-happens s (Repeat t) = if has_thread s t then repeating s t (s.threads t).stage else nothing s
 
 -- ---- runs
 

@@ -2,7 +2,7 @@
 --
 -- *Passed by.* A wait is passed by where its thread released its mutex, at a later event a signal or a broadcast
 -- counted on the condition variable, and at a later one still the thread, which had begun no other call, fell asleep
--- there, but by no resleep. No wait is. The event at which a signal returns OK wakes the first of its condition
+-- there. No wait is. The event at which a signal returns OK wakes the first of its condition
 -- variable's queue, and nobody only where that was empty; the one at which a broadcast does moves all of it, in its
 -- order, and leaves nobody there; nothing else is told of these events but the return. The law `nobody_is_passed_by`
 -- states it of every layout and list of events, with counters that are at most 2^32 - 1 at the beginning. Source:
@@ -22,7 +22,6 @@ use Rattle.facts.specs.declared.fact.Fact.TheVariants.{Begin, Point, Sleep, Wake
 use Rattle.protocol.specs.declared.event.Event.{Event}
 use Rattle.protocol.specs.declared.event.Event.TheVariants.{Step}
 use Rattle.protocol.specs.declared.note.Note.{Note}
-use Rattle.protocol.specs.declared.note.Note.TheVariants.{Reslept}
 use Rattle.protocol.specs.Notes.{facts_of, moves_to}
 use Rattle.protocol.specs.Ops.{queue_place}
 use Rattle.protocol.specs.Machine.{State, start, happens, run, notes}
@@ -61,8 +60,7 @@ IsOn k None = ⊥
 IsOn k (Some b) = b.condition ≡ Some k
 
 -- thread t released a mutex; at a later event a signal or a broadcast counted on condition variable k; and at a later
--- one t fell asleep there, where it didn't sleep, and had begun no other call. So its wait was passed by. (Who sleeps
--- there already, and goes to the end of the queue, had fallen asleep before)
+-- one t fell asleep there, where it didn't sleep, and had begun no other call. So its wait was passed by
 pub record IsPassedBy (t k : ℕ) (told : List Note) : Type 0 where
   pub before : List Note
   pub release : Note
@@ -78,7 +76,7 @@ pub record IsPassedBy (t k : ℕ) (told : List Note) : Type 0 where
   pub point : Decision
   pub counts : IsAmong (Point point) (facts_of count) × Counts point.operation point.reply
       × IsOn k (call_told point.thread (before ++ release ∷ between))
-  pub sleeps : IsAmong (Sleep t (Condition k)) (facts_of sleep) × (sleep ≢ Reslept t k)
+  pub sleeps : IsAmong (Sleep t (Condition k)) (facts_of sleep)
   pub same_call : BeginsNone t (facts_among (between ++ count ∷ later))
 
 -- ---- wakes and moves

@@ -9,8 +9,7 @@
 -- a wake or a kill takes out; each wake by another's event and each move names the front (`NameFronts`: of facts in
 -- which nobody leaves by itself, which the law `without_leaves_as_before` has of whole runs). The next event tells its
 -- sleep exactly where it comes to stand in a queue, its wake exactly where it leaves one and stands in none, but by its
--- kill, and its move exactly where it leaves that of a condition variable for its mutex's; but by its resleep its wake
--- and its sleep, where it stays in its queue (`SleepsAgain`). A sleep is told only of a thread whose call is a lock of
+-- kill, and its move exactly where it leaves that of a condition variable for its mutex's. A sleep is told only of a thread whose call is a lock of
 -- that mutex, or a wait on it or on that condition variable. Of every state that events lead to, so of each beginning
 -- of a run: the law `sleeps_are_told`, and `Machine::run` of what the machine did (`TellsAtEachMoment`;
 -- `interleave/specs/Reached.antt`). Source: futex(2).
@@ -23,7 +22,7 @@ use Rattle.facts.specs.Lives.{IsWait}
 use Rattle.protocol.specs.declared.event.Event.{Event}
 use Rattle.protocol.specs.declared.event.Event.TheVariants as event
 use Rattle.protocol.specs.declared.note.Note.{Note}
-use Rattle.protocol.specs.declared.note.Note.TheVariants.{Left, Expired, Reslept}
+use Rattle.protocol.specs.declared.note.Note.TheVariants.{Left, Expired}
 use Rattle.facts.specs.declared.fact.Begun.{Begun}
 use Rattle.facts.specs.declared.fact.Queue.{Queue}
 use Rattle.facts.specs.declared.fact.Queue.TheVariants.{Mutex, Condition}
@@ -120,12 +119,11 @@ abbrev pub NameFronts : Layout' → (Queue → List ℕ) → List Fact → Type 
 NameFronts l w [] = Unit {0}
 NameFronts l w (f ∷ fs) = NamesFront l w f × NameFronts l (queues_next f w) fs
 
--- of what an event tells: who leaves by itself, or goes to the end, stands in a queue, wherever in it; all others who
--- are woken or moved are fronts
+-- of what an event tells: who leaves by itself stands in a queue, wherever in it; all others who are woken or moved are
+-- fronts
 abbrev pub NotesFronts : Layout' → (Queue → List ℕ) → Note → Type 0
 NotesFronts l w (Left t) = (q : Queue) × IsQueue l q × (stands_in t (w q) ≡ true)
 NotesFronts l w (Expired t q) = IsQueue l q × (stands_in t (w q) ≡ true)
-NotesFronts l w (Reslept t k) = (k < length l.conditions) × (stands_in t (w (Condition k)) ≡ true)
 NotesFronts l w n = NameFronts l w (facts_of n)
 
 -- by what the events before it told
@@ -148,21 +146,13 @@ abbrev pub IsMoved : State → State → ℕ → ℕ → Type 0
 IsMoved s s' t m = ((k : ℕ) × (k < length s.layout.conditions) × (slice_index s.layout.conditions k ≡ m)
     × StandsIn s t (Condition k)) × StandsIn s' t (Mutex m)
 
--- this event is its resleep: it stood in the queue of a condition variable, and stands there then
-abbrev pub SleepsAgain : State → State → Event → ℕ → Queue → Type 0
-SleepsAgain s s' e t (Mutex m) = ⊥
-SleepsAgain s s' e t (Condition k) = (e ≡ event.Resleep t) × (k < length s.layout.conditions)
-    × StandsIn s t (Condition k) × StandsIn s' t (Condition k)
-
--- an event tells thread t's sleep exactly where it comes to stand in a queue, which the sleep names, or goes to its end
--- by its resleep; its wake exactly where it leaves one and stands in none, but by its kill, or by its resleep; and its
--- move exactly where it leaves that of a condition variable for its mutex's
+-- an event tells thread t's sleep exactly where it comes to stand in a queue, which the sleep names; its wake exactly
+-- where it leaves one and stands in none, but by its kill; and its move exactly where it leaves that of a condition
+-- variable for its mutex's
 pub record TellsTurns (s : State) (e : Event) (t : ℕ) : Type 0 where
-  pub sleep : (q : Queue) → IsAmong (Sleep t q) (facts_of (happens s e).note)
-      ↔ (FallsAsleep s (happens s e).state t q ⊎ SleepsAgain s (happens s e).state e t q)
+  pub sleep : (q : Queue) → IsAmong (Sleep t q) (facts_of (happens s e).note) ↔ FallsAsleep s (happens s e).state t q
   pub wake : IsAmong (Wake t) (facts_of (happens s e).note)
-      ↔ ((LeavesQueue s (happens s e).state t × (e ≢ event.Kill t))
-      ⊎ (q : Queue) × SleepsAgain s (happens s e).state e t q)
+      ↔ (LeavesQueue s (happens s e).state t × (e ≢ event.Kill t))
   pub move : (m : ℕ) → IsAmong (Move t m) (facts_of (happens s e).note) ↔ IsMoved s (happens s e).state t m
 
 -- ---- whose sleep is told

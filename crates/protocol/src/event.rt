@@ -1,5 +1,5 @@
 //! Events: what a schedule lets happen, one thread's begin, access, death, leave, renewal or reinit at a time, or what
-//! becomes of one access, sleep or counter.
+//! becomes of one access or counter.
 
 use condvar::Op;
 use lockword::Tid;
@@ -51,10 +51,4 @@ pub enum Event {
     /// The next access of the thread's call, the wake of one sleeper of its mutex, is spared: nobody is woken, and the
     /// thread is answered as if one had been. The mutex is left to another, who answers for it.
     Spare(Tid, LeftTo),
-    /// The thread, which sleeps on a condition variable, goes to the end of that queue: it looked by itself, or a
-    /// signal handler ran (futex(2), EINTR), and it sleeps again.
-    Resleep(Tid),
-    /// The next access of the dead thread's walk, a load or a wake, is made, and the walk stays where it stood: who
-    /// made it was killed before that was recorded, so it will be made once more.
-    Repeat(Tid),
 }

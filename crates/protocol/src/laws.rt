@@ -23,7 +23,6 @@ ghost use Rattle.protocol.specs.Reinits.{NobodyJoinsAnUnusableMutex, UnusableSta
 ghost use Rattle.protocol.specs.Reinits.{ReinitsFreeTheMutex, RemakesForgetNobody};
 ghost use Rattle.protocol.specs.Recounts.{RecountsAreLone};
 ghost use Rattle.protocol.specs.Spares.{SparesAreLone};
-ghost use Rattle.protocol.specs.Repeats.{ResleepsAndRepeatsAreLone};
 
 /// Whatever happens, the points are one legal history of POSIX robust mutexes, which says at each moment what every
 /// cell says.
@@ -87,8 +86,8 @@ pub fn lists_are_kept()
 /// with a time limit, or on a condition variable in a wait that was; a decline is an access of its thread's call, and of that call's mutex, that tells nothing, where
 /// the thread's next access is a trim; a renewal is its thread's where that was reaped, and hasn't been renewed since;
 /// and a reinit is that of its mutex where its thread lives and is in no call, and the mutex, one of the layout, is
-/// unusable and nobody sleeps on it, and a remake whoever sleeps on it; a recount, a spare, a resleep and a repeat
-/// where their laws say. Every other event is noted as nothing, and changes nothing.
+/// unusable and nobody sleeps on it, and a remake whoever sleeps on it; a recount and a spare where
+/// their laws say. Every other event is noted as nothing, and changes nothing.
 pub fn events_apply()
     ensures { EventsApply }
 {}
@@ -98,9 +97,8 @@ pub fn events_apply()
 /// sleep is told exactly where it comes to stand in a queue, a wake exactly where it leaves one and stands in none, but
 /// by its kill, and a move exactly where it leaves that of a condition variable for its mutex's. In each queue they
 /// stand in the order in which they came, as it was told, and whoever another's event wakes, or moves, is the front of
-/// a queue (of which one, says [`wakes_are_right`]); who leaves by itself stands anywhere in one. A resleep alone tells
-/// a wake and a sleep of one that stays in its queue, where it stands last then. And a sleep is told only of a thread
-/// whose call is a lock of that mutex, or a wait on it or on that condition variable.
+/// a queue (of which one, says [`wakes_are_right`]); who leaves by itself stands anywhere in one. And a sleep is
+/// told only of a thread whose call is a lock of that mutex, or a wait on it or on that condition variable.
 pub fn sleeps_are_told()
     ensures { SleepsAreTold }
 {}
@@ -109,15 +107,14 @@ pub fn sleeps_are_told()
 /// has had a point, the first of the queue of its mutex, or all of them, in their order, where its last point left that
 /// mutex unusable; where the call is a signal, the first of its condition variable's queue; a broadcast moves all of
 /// its condition variable's, in their order, to its mutex's. The walk of a dead thread's list wakes the first of a
-/// mutex's queue, and so does its repeat. A leave and a resleep wake their own thread or nobody, and move nobody. No
-/// other event wakes or moves anybody.
+/// mutex's queue. A leave wakes its own thread or nobody, and moves nobody. No other event wakes or moves anybody.
 pub fn wakes_are_right()
     ensures { WakesAreRight }
 {}
 
 /// Whatever happens, with counters that are at most 2^32 - 1 at the beginning: a thread that released its mutex in a
-/// wait before a signal or a broadcast counted doesn't fall asleep on that condition variable behind it, but by a
-/// resleep. And the event at which a signal returns OK wakes the first of its condition variable's queue, and nobody
+/// wait before a signal or a broadcast counted doesn't fall asleep on that condition variable behind it. And the
+/// event at which a signal returns OK wakes the first of its condition variable's queue, and nobody
 /// only where that is empty; the one at which a broadcast does moves all of that queue, in its order, and directly
 /// after it nobody stands there.
 pub fn nobody_is_passed_by()
@@ -244,13 +241,6 @@ pub fn recounts_are_lone()
 /// trace records nothing; the thread goes on like one that woke a sleeper.
 pub fn spares_are_lone()
     ensures { SparesAreLone }
-{}
-
-/// Whatever happened before: a thread that sleeps on a condition variable goes to the end of that queue, and is told as
-/// woken and asleep again; no word, no thread and no other queue changes. And a load or a wake of a dead thread's walk
-/// that will be made once more wakes whom the walk's step would, tells just that, and changes no word and no thread.
-pub fn resleeps_and_repeats_are_lone()
-    ensures { ResleepsAndRepeatsAreLone }
 {}
 
 /// A time limit that comes takes its thread out of its mutex's queue, and does nothing else: no word changes, no other

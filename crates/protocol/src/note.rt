@@ -68,11 +68,6 @@ pub enum Note {
     Recounted {
         condition: u16,
     },
-    /// A thread that sleeps on a condition variable went to the end of that queue.
-    Reslept {
-        thread: Tid,
-        condition: u16,
-    },
 }
 
 /// The threads of a batch that are still to be told of, in their order.
@@ -274,11 +269,6 @@ impl Note {
                 Facts::of_begin(thread, call, Some(Reply::OK))
             }
             Note::Recounted { .. } => Facts::of(None, None, None),
-            Note::Reslept { thread, condition } => Facts::of(
-                Some(Fact::Wake(thread)),
-                Some(Fact::Sleep(thread, Queue::Condition(condition))),
-                None,
-            ),
         }
     }
 }
