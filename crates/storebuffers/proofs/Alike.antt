@@ -1,5 +1,5 @@
 -- What an event does where only words differ that its thread doesn't meet.
-use Rattle.std.proofs.Common.{◌≡◌, ◌≢◌, ◌⊎◌, inl, inr, ⊎_elim, ℕ, zero, suc, ◌+◌, ◌<◌, ◌≤◌, ◌==◌, Bool, true, false, ◌&&◌, Result, Ok, Err, None, List, [], ◌∷◌, refl, sym, ap, ◌∙◌, subst, arith}
+use Rattle.std.proofs.Common.{◌≡◌, ◌≢◌, ◌⊎◌, inl, inr, ⊎_elim, ℕ, zero, suc, ◌+◌, ◌<◌, ◌≤◌, ◌==◌, Bool, true, false, ◌&&◌, Result, Ok, Err, List, [], ◌∷◌, refl, sym, ap, ◌∙◌, subst, arith}
 use Rattle.std.specs.Prelude.{if◌then◌else◌, not, nat_lt, ◌||◌}
 use Rattle.std.proofs.lemmas.Bool.Decides.{nat_tests}
 use Rattle.lockword.specs.declared.reply.Reply.{Reply}
@@ -25,7 +25,7 @@ use Rattle.exitwalk.specs.declared.row.Part.TheVariants as part
 use Rattle.exitwalk.specs.declared.row.Row as walk_row
 use Rattle.exitwalk.specs.declared.row.Row.TheVariants as walk
 use Rattle.protocol.specs.declared.event.Event.{Event}
-use Rattle.protocol.specs.declared.event.Event.TheVariants.{Begin, Step, Kill, Leave, Expire, Decline, Renew, Reinit, Remake, Recount, Spare, Resleep, Repeat}
+use Rattle.protocol.specs.declared.event.Event.TheVariants.{Begin, Step, Kill, Leave, Expire, Decline, Renew, Reinit, Remake, Recount, Spare}
 use Rattle.protocol.specs.declared.event.LeftTo.{LeftTo}
 use Rattle.protocol.specs.declared.thread.Stage.{Stage}
 use Rattle.protocol.specs.declared.thread.Stage.TheVariants.{Idle, Calling, AtCondition, Dying, Reaped}
@@ -33,7 +33,7 @@ use Rattle.protocol.specs.declared.note.Note.TheVariants.{Stepped, Walked}
 use Rattle.protocol.specs.Machine.{State, After, put, place_met, is_met, words_after, answer_of, joined, moved_by, woken_by, queue_after, happens, nothing, begun, first_stage, went, walked}
 use Rattle.protocol.specs.Machine.{Led, led, led_at, held_after, decision, slept_in, stepped, declined, spared, killed, departed, renewed, reinited, has_thread, is_alive, is_asleep, is_gone, is_trim, sleeps}
 use Rattle.protocol.specs.Machine.{may_begin, may_reinit, may_remake, waiters_of, is_first, is_idle, sleepers, death_at, told_of, has_ended, stage_walked}
-use Rattle.protocol.specs.Machine.{expired, is_timed, lapsed, overslept, waits_on, may_recount, recounted, another_answers, answers, a_walk_minds, is_left_to, minds, walk_minds, wakes_one, wakes_next, sparing, stands_in, reslept, resleeping, is_mark, repeated, repeating}
+use Rattle.protocol.specs.Machine.{expired, is_timed, lapsed, overslept, waits_on, may_recount, recounted, another_answers, answers, a_walk_minds, is_left_to, minds, walk_minds, wakes_one, wakes_next, sparing}
 use Rattle.protocol.proofs.Puts.{by_put, put-same, put-other}
 use Rattle.protocol.proofs.Kept.{Kept, Sits}
 use Rattle.protocol.proofs.Renewals.{renewed_word, renewed_elsewhere}
@@ -183,29 +183,6 @@ module _ (s : State) (t : ℕ) (pos : 1 ≤ t) (known : t ≤ s.layout.threads) 
 
 -- ---- events
 
--- of a walk, made once more: it leaves the walk, and no word is another one
-module _ (s : State) (t : ℕ) (pos : 1 ≤ t) (known : t ≤ s.layout.threads) (v : ℕ → ℕ) (w : walks.Standing) (meets : Meets s t (exit.access_of w)) (same : v (place_met s.layout t (exit.access_of w)) ≡ s.words (place_met s.layout t (exit.access_of w))) where
-  abbrev again : Access
-  again = exit.access_of w
-
-  abbrev met_at : ℕ
-  met_at = place_met s.layout t again
-
-  abbrev repeat_shape : ℕ → After
-  repeat_shape x =
-      record {
-        state = record {
-          layout = s.layout;
-          words = v;
-          queues = if is_met s.layout t again then joined s.layout t again (moved_by again x (s.queues met_at)) (put s.queues met_at (queue_after t again x (s.queues met_at))) else s.queues;
-          threads = s.threads;
-        };
-        note = Walked t None (if is_met s.layout t again then woken_by again x (s.queues met_at) else []) false;
-      }
-
-  repeat_alike : Alike s t v Keeps (repeated (with_words s v) t w) (repeated s t w)
-  repeat_alike = record { note = ap (λ (x : ℕ). (repeat_shape x).note) same; rest = ap (λ (x : ℕ). (repeat_shape x).state) same; does = λ p. refl }
-
 -- event e on its thread's view v comes to a, and on the machine's words to b
 abbrev pub Comes : State → (ℕ → ℕ) → Event → After → After → Type 0
 Comes s v e a b = Alike s (caller e) v (way s e b.note) a b
@@ -339,16 +316,6 @@ module _ (s : State) (v : ℕ → ℕ) where
   sparing_alike pending cells t by held (Dying w) inside = record { note = refl; rest = refl; does = λ p. refl }
   sparing_alike pending cells t by held Reaped inside = record { note = refl; rest = refl; does = λ p. refl }
 
-  resleeping_alike : (t : ℕ) (g : Stage) → Comes s v (Resleep t) (resleeping (with_words s v) t g) (resleeping s t g)
-  resleeping_alike t (Calling (OnCondition c) p) =
-      chosen (Resleep t) (stands_in t (s.queues (counter_place s.layout (condition_of c)))) (reslept (with_words s v) t (condition_of c)) (reslept s t (condition_of c))
-      (λ on. record { note = refl; rest = refl; does = λ p. refl })
-  resleeping_alike t (Calling (OnMutex c) p) = record { note = refl; rest = refl; does = λ p. refl }
-  resleeping_alike t Idle = record { note = refl; rest = refl; does = λ p. refl }
-  resleeping_alike t (AtCondition c p) = record { note = refl; rest = refl; does = λ p. refl }
-  resleeping_alike t (Dying w) = record { note = refl; rest = refl; does = λ p. refl }
-  resleeping_alike t Reaped = record { note = refl; rest = refl; does = λ p. refl }
-
   module _ (t : ℕ) (inv : Kept s) (pos : 1 ≤ t) (known : t ≤ s.layout.threads) (views : Views s t v) where
     -- an access, by the way of the stage in which its thread stands
     staged : (g : Stage) (a b : After) → (s.threads t).stage ≡ g → Alike s t v (way_at s.layout t g) a b → Alike s t v (way_at s.layout t (s.threads t).stage) a b
@@ -380,20 +347,6 @@ module _ (s : State) (v : ℕ → ℕ) where
         let meets = walks_meet s t inv pos known w is in
         staged (Dying w) (stepped (with_words s v) t held (Dying w)) (stepped s t held (Dying w)) is
         (walk_alike s t pos known v held w meets (views _ (is_met_by s t (exit.access_of w) pos known meets)))
-
-    repeating_alike : (g : Stage) → (s.threads t).stage ≡ g → Comes s v (Repeat t) (repeating (with_words s v) t g) (repeating s t g)
-    repeating_alike (Dying w) is = go (is_mark w.row)
-      where
-        meets : Meets s t (exit.access_of w)
-        meets = walks_meet s t inv pos known w is
-
-        go : (c : Bool) → Comes s v (Repeat t) (if c then nothing (with_words s v) else repeated (with_words s v) t w) (if c then nothing s else repeated s t w)
-        go true = record { note = refl; rest = refl; does = λ p. refl }
-        go false = repeat_alike s t pos known v w meets (views _ (is_met_by s t (exit.access_of w) pos known meets))
-    repeating_alike Idle is = record { note = refl; rest = refl; does = λ p. refl }
-    repeating_alike (Calling o p) is = record { note = refl; rest = refl; does = λ p. refl }
-    repeating_alike (AtCondition c p) is = record { note = refl; rest = refl; does = λ p. refl }
-    repeating_alike Reaped is = record { note = refl; rest = refl; does = λ p. refl }
 
   module _ (t : ℕ) (pos : 1 ≤ t) (known : t ≤ s.layout.threads) where
     abbrev head : ℕ → ℕ
@@ -493,15 +446,3 @@ events_alike s v (Spare t by) inv views cells pending =
   where
     sits : has_thread s t ≡ true → Sits s t (s.threads t).held (s.threads t).stage
     sits on = inv.sits t (grind (arith, nat_tests)) (grind (arith, nat_tests))
-events_alike s v (Resleep t) inv views cells pending =
-    chosen s v (Resleep t) (has_thread s t) (resleeping (with_words s v) t (s.threads t).stage) (resleeping s t (s.threads t).stage)
-    (λ on. resleeping_alike s v t (s.threads t).stage)
-events_alike s v (Repeat t) inv views cells pending = go (has_thread s t) refl
-  where
-    go : (c : Bool) → has_thread s t ≡ c
-        → Comes s v (Repeat t) (if c then repeating (with_words s v) t (s.threads t).stage else nothing (with_words s v)) (if c then repeating s t (s.threads t).stage else nothing s)
-    go true e =
-        let pos : 1 ≤ t = grind (arith, nat_tests) in
-        let known : t ≤ s.layout.threads = grind (arith, nat_tests) in
-        repeating_alike s v t inv pos known views (s.threads t).stage refl
-    go false e = record { note = refl; rest = refl; does = λ p. refl }

@@ -50,8 +50,6 @@ others_stand s e inv u = by_event s (λ e a. caller e ≢ u → a.state.threads 
     (λ t m may apart. refl)
     (λ k may apart. refl)
     (λ t m g is apart. put-other s.threads t _ u (λ e. apart (sym e)))
-    (λ t c p pos known is stands apart. refl)
-    (λ t w pos known is unmarked apart. refl)
     e
 
 -- a call leads nobody to its death
@@ -110,8 +108,6 @@ dies_so s e = by_event s (λ e a. Dies s (caller e) (way s e a.note) a)
     (λ t m may e. inr (e, tt))
     (λ k may e. inr (e, tt))
     (λ t m g is. lives s t _ _ (alive_spared s t m g is.how))
-    (λ t c p pos known is stands e. inr (e, tt))
-    (λ t w pos known is unmarked e. inr (e, tt))
     e
   where
     nothing_dies : (e : Event) → Dies s (caller e) (way s e Nothing) (nothing s)

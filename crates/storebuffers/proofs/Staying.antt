@@ -105,8 +105,6 @@ owner_stays s e inv = by_event s (OwnerStays s)
     (λ t m may u k apart own. anew_stays s inv t m _ (waiters_say_nothing (s.words (cell_place s.layout m))) may k _ own)
     (λ c may u k apart own. ap (λ (o : Object). o.owner) (recounted_seen s c k) ∙ own)
     (λ t m g is u k apart own. own)
-    (λ t c p pos known is stands u k apart own. own)
-    (λ t w pos known is unmarked u k apart own. own)
     e
 
 -- ---- what a thread's own event leaves it
@@ -213,6 +211,4 @@ own_stays s e inv = by_event s (OwnStays s)
     (λ t m may written alive k own. anew_stays s inv t m _ (waiters_say_nothing (s.words (cell_place s.layout m))) may k _ own)
     (λ c may written alive k own. ap (λ (o : Object). o.owner) (recounted_seen s c k) ∙ own)
     (λ t m g is written. absurd written)
-    (λ t c p pos known is stands written. absurd written)
-    (λ t w pos known is unmarked written. absurd written)
     e

@@ -114,7 +114,7 @@ head_stores l t = head_store l t 0 ∷ head_store l t 1 ∷ head_store l t 2 ∷
 -- an event that applies: a thread that dies flushes, since the kernel says by a locked instruction of that very thread
 -- that it is dead (in the C driver it marks the thread's token: robust-futexes), and nobody begins a walk before; a
 -- renewed thread stores its head itself; a reinit, a remake and a recount are exchanges; and a begin, a leave, an
--- expiry, a resleep, a decline and a spare write nothing, nor does a walk's access that is made once more
+-- expiry, a decline and a spare write nothing
 abbrev pub way_by : State → Event → Way
 way_by s (Step t) = way_at s.layout t (s.threads t).stage
 way_by s (Kill t) = Flushes
