@@ -1,7 +1,8 @@
 -- Locks and waits whose time limit comes: a write into the lists is a write into the state.
-use Rattle.std.proofs.Common.{◌≡◌, ◌≢◌, ℕ, ◌+◌, ◌≤◌, ◌&&◌, Bool, true, false, Some, None, List, length, refl, sym, ap, ◌∙◌, arith, slice_set}
-use Rattle.std.specs.Prelude.{if◌then◌else◌}
+use Rattle.std.proofs.Common.{◌≡◌, ◌≢◌, ℕ, zero, suc, ◌+◌, ◌<◌, ◌≤◌, ◌==◌, ◌&&◌, Bool, true, false, Some, None, List, [], ◌∷◌, length, refl, sym, ap, ◌∙◌, arith, slice_set, eqb-true, eq-eqb}
+use Rattle.std.specs.Prelude.{if◌then◌else◌, slice_get}
 use Rattle.std.proofs.lemmas.Bool.Decides.{nat_tests}
+use Rattle.std.proofs.lemmas.Grind.{common_steps}
 use mathlib.Core.Path.{fun_ext}
 use Rattle.memorymap.specs.Layouts.{Layout'}
 use Rattle.mutex.specs.declared.call.Call.{Call}
@@ -22,12 +23,33 @@ use Rattle.protocol.specs.declared.note.Note.TheVariants.{Expired}
 use Rattle.protocol.specs.declared.thread.Thread.{Thread}
 use Rattle.protocol.specs.declared.thread.Stage.TheVariants.{Calling}
 use Rattle.protocol.specs.Machine as machine
-use Rattle.protocol.specs.Machine.{State, After, has_thread, is_timed, nothing, lapsed, overslept, sleeps, waits_on, put, happens}
+use Rattle.protocol.specs.Machine.{State, After, has_thread, is_timed, nothing, lapsed, overslept, sleeps, stands_in, waits_on, put, happens}
 use Rattle.protocol.proofs.Queues.{without_same}
 use Rattle.interleave.specs.Shown.{state_at, thread_at}
 use Rattle.interleave.specs.Steps.{SleepsInItsCall}
 use Rattle.interleave.proofs.Sleeping.{outside, told_asleep}
 use Rattle.interleave.proofs.Views.{threads-set}
+
+-- ---- who stands in a queue
+
+pub got_stands : (t : ℕ) (q : List ℕ) (i : ℕ) → slice_get q i ≡ Some t → stands_in t q ≡ true
+got_stands t [] i e = absurd (grind (arith, common_steps))
+got_stands t (u ∷ us) zero e = let same : u ≡ t = grind (arith, common_steps) in ap (λ (b : Bool). if b then true else stands_in t us) (eq-eqb u t same)
+got_stands t (u ∷ us) (suc i) e = go (u == t) (got_stands t us i (grind (arith, common_steps)))
+  where
+    go : (b : Bool) → stands_in t us ≡ true → (if b then true else stands_in t us) ≡ true
+    go true later = refl
+    go false later = later
+
+pub none_stands : (t : ℕ) (q : List ℕ) → ((i : ℕ) → i < length q → slice_get q i ≢ Some t) → stands_in t q ≡ false
+none_stands t [] none = refl
+none_stands t (u ∷ us) none = go (u == t) refl (none_stands t us (λ i below e. none (suc i) (omega (arith, below)) (grind (arith, common_steps))))
+  where
+    go : (b : Bool) → (u == t) ≡ b → stands_in t us ≡ false → (if b then true else stands_in t us) ≡ false
+    go true is later = let same : u ≡ t = eqb-true u t is in absurd (none 0 (omega arith) (grind (arith, common_steps)))
+    go false is later = later
+
+-- ---- where the limit comes
 
 -- where the call isn't a lock with a time limit, nothing happens
 pub untimed_rests : (s : State) (t : ℕ) (c : Call) (p : Whole) → (s.threads t).stage ≡ Calling (OnMutex c) p → ((m : ℕ) → c ≢ call.TimedLock m) → happens s (Expire t) ≡ nothing s

@@ -12,4 +12,3 @@ mod Renewing
 mod Reiniting
 mod Recounting
 mod Sparing
-mod Repeating

@@ -27,17 +27,16 @@ use Rattle.condvar.specs.declared.op.Op.{Op}
 use Rattle.condvar.specs.declared.op.Op.TheVariants.{OnMutex, OnCondition}
 use Rattle.condvar.specs.Ops.{mutex_of, is_in}
 use Rattle.protocol.specs.declared.event.Event.{Event}
-use Rattle.protocol.specs.declared.event.Event.TheVariants.{Begin, Step, Kill, Leave, Expire, Decline, Renew, Reinit, Remake, Recount, Spare, Resleep, Repeat}
+use Rattle.protocol.specs.declared.event.Event.TheVariants.{Begin, Step, Kill, Leave, Expire, Decline, Renew, Reinit, Remake, Recount, Spare}
 use Rattle.protocol.specs.declared.thread.Thread.{Thread}
 use Rattle.protocol.specs.declared.thread.Stage.{Stage}
 use Rattle.protocol.specs.declared.thread.Stage.TheVariants.{Idle, Calling, AtCondition, Dying, Reaped}
 use Rattle.protocol.specs.declared.note.Note.{Note}
 use Rattle.protocol.specs.Machine.{State, After, put, idle, start, is_valid, has_thread, may_begin, may_reinit, may_remake, waiters_of, first_stage, begun, nothing, is_alive, is_gone, killed, renewed, reinited, departed, declined, expired, is_timed, lapsed, overslept, waits_on, spared, is_asleep, is_trim, sleeps, led, went, stepped, answer_of, happens, run, notes}
-use Rattle.protocol.specs.Machine.{Led, led_at, is_left_to, is_mark, may_recount, recounted, repeated, repeating, resleeping, reslept, sparing, stands_in, wakes_next, wakes_one}
+use Rattle.protocol.specs.Machine.{Led, led_at, is_left_to, may_recount, recounted, sparing, wakes_next, wakes_one}
 use Rattle.stepprograms.specs.declared.access.Answer.TheVariants.{Count}
 use Rattle.condvar.specs.Calls.{condition_of}
 use Rattle.condvar.specs.Whole.{cond_led}
-use Rattle.exitwalk.specs.Standings as walks
 use Rattle.protocol.specs.Sleepers.{alone, RunsAlone}
 use Rattle.protocol.proofs.Queued.{Queued, asleep_there}
 use Rattle.protocol.proofs.QueueRuns.{run_queued}
@@ -219,26 +218,6 @@ stays s (Spare t by) = go (has_thread s t) (s.threads t).stage
     go : (b : Bool) (g : Stage) → is_nothing (if b then sparing s t by (s.threads t).held g else nothing s).note ≡ true → (if b then sparing s t by (s.threads t).held g else nothing s).state ≡ s
     go true (Calling o p) h = spares (mutex_of s.layout o) (led o p (whole_led p (Count 1))) (wakes_one p.phase && is_left_to s t (mutex_of s.layout o) by) h
     go true (AtCondition c p) h = spares (mutex_of s.layout (OnCondition c)) (led_at c p (cond_led p (Count 1))) (wakes_next p.phase && is_left_to s t (mutex_of s.layout (OnCondition c)) by) h
-    go true g h = refl
-    go false g h = refl
-stays s (Resleep t) = go (has_thread s t) (s.threads t).stage
-  where
-    sleeps_on : (k : ℕ) (a : Bool) → is_nothing (if a then reslept s t k else nothing s).note ≡ true → (if a then reslept s t k else nothing s).state ≡ s
-    sleeps_on k true h = absurd cc
-    sleeps_on k false h = refl
-
-    go : (b : Bool) (g : Stage) → is_nothing (if b then resleeping s t g else nothing s).note ≡ true → (if b then resleeping s t g else nothing s).state ≡ s
-    go true (Calling (OnCondition c) p) h = sleeps_on (condition_of c) (stands_in t (s.queues (counter_place s.layout (condition_of c)))) h
-    go true g h = refl
-    go false g h = refl
-stays s (Repeat t) = go (has_thread s t) (s.threads t).stage
-  where
-    reads : (w : walks.Standing) (a : Bool) → is_nothing (if a then nothing s else repeated s t w).note ≡ true → (if a then nothing s else repeated s t w).state ≡ s
-    reads w true h = refl
-    reads w false h = absurd cc
-
-    go : (b : Bool) (g : Stage) → is_nothing (if b then repeating s t g else nothing s).note ≡ true → (if b then repeating s t g else nothing s).state ≡ s
-    go true (Dying w) h = reads w (is_mark w.row) h
     go true g h = refl
     go false g h = refl
 

@@ -5,11 +5,11 @@ ghost use Rattle.condvar.specs.Ops.{is_in};
 ghost use Rattle.condvar.specs.declared.op.Op.TheVariants.{OnCondition, OnMutex};
 ghost use Rattle.protocol.specs.declared.event.Event.TheVariants.{Expire};
 ghost use Rattle.protocol.specs.declared.thread.Stage.TheVariants.{Calling};
-ghost use Rattle.protocol.specs.Machine.{happens};
+ghost use Rattle.protocol.specs.Machine.{happens, stands_in};
 ghost use Rattle.interleave.specs.Shown.{state_at, thread_at};
 ghost use Rattle.interleave.specs.Steps.{MayStep, SleepsInItsCall};
 
-use crate::repeats::stands_in;
+use buckets::Batch;
 use condvar::{CondCall, Op};
 use facts::Queue;
 use lockword::Tid;
@@ -17,6 +17,21 @@ use memorymap::Layout;
 use mutex::{Call, Program};
 use protocol::{Note, Stage, Thread};
 use syscalls::Kernel;
+
+/// Whether the thread is one of those who sleep there.
+fn stands_in(thread: Tid, sleepers: &Batch) -> bool
+    ensures { result ≡ stands_in thread sleepers.now }
+{
+    for place in 0..sleepers.len() {
+        let Some(other) = sleepers.get(place) else {
+            unreachable!()
+        };
+        if other.get() == thread.get() {
+            return true;
+        }
+    }
+    false
+}
 
 /// The mutex of a lock that has a time limit.
 fn timed_lock(call: Call) -> Option<u16>

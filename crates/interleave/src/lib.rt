@@ -38,7 +38,6 @@ mod ops;
 mod recounts;
 mod reinits;
 mod renewals;
-mod repeats;
 mod spares;
 mod threads;
 mod trace;

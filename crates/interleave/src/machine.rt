@@ -158,8 +158,7 @@ impl Machine {
     /// three of its head. A reinit makes an unusable mutex on which nobody sleeps free again, by a thread that is in no
     /// call; it changes no word but the mutex's, which is 0 then. A remake does so whoever sleeps on the mutex, and
     /// keeps WAITERS. A recount makes a counter 0. A spare goes on as if it had woken somebody, where another thread
-    /// answers for the mutex. A resleep takes a thread to the end of its condition variable's queue. A repeat makes a
-    /// walk's load or wake that will be made once more.
+    /// answers for the mutex.
     pub fn step(&mut self, event: Event) -> Note
         ensures state { state_of self.new ≡ (happens (state_of self.old) event).state }
         ensures note { result ≡ (happens (state_of self.old) event).note }
@@ -180,7 +179,7 @@ impl Machine {
 
     /// What the events do, one after the other, and a note of each. Where memory is refused, nothing has happened. The
     /// events are any, in any order: begins of calls, steps, kills, leaves, declined trims, renewals, reinits, remakes,
-    /// recounts, spared wakes, resleeps and repeated accesses of walks.
+    /// recounts and spared wakes.
     ///
     /// Of a machine to which nothing has happened, the notes tell a legal history: after each event, the points so far
     /// take every mutex, as POSIX sees it, from free to what its cell says of its owner, OWNER_DIED and UNUSABLE. And

@@ -20,7 +20,6 @@ use crate::ops::begun;
 use crate::recounts::recount;
 use crate::reinits::{reinit, remake};
 use crate::renewals::renew;
-use crate::repeats::{repeat, resleep};
 use crate::spares::spare;
 use condvar::{CondCall, CondProgram, Op};
 use facts::Queue;
@@ -366,7 +365,5 @@ pub(crate) fn apply(
         Event::Remake(thread, mutex) => remake(layout, memory, threads, thread, mutex),
         Event::Recount(condition) => recount(layout, memory, kernel, threads, condition),
         Event::Spare(thread, by) => spare(layout, memory, kernel, threads, thread, by),
-        Event::Resleep(thread) => resleep(layout, memory, kernel, threads, thread),
-        Event::Repeat(thread) => repeat(layout, memory, kernel, threads, thread),
     }
 }

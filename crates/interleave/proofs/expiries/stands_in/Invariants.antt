@@ -1,6 +1,6 @@
 use Rattle.std.proofs.Common.{◌≢◌, ℕ, ◌<◌, Some}
 use Rattle.std.specs.Prelude.{slice_get}
-use Rattle.interleave.proofs.repeats.stands_in.Given as goal
+use Rattle.interleave.proofs.expiries.stands_in.Given as goal
 
 -- none of those so far is the thread
 abbrev pub invariant-loop-place : goal.invariant-loop-place

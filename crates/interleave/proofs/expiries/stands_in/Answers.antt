@@ -1,6 +1,6 @@
 use Rattle.std.proofs.Common.{Some, sym, ap, ◌∙◌, arith}
-use Rattle.interleave.proofs.Repeating.{got_stands, none_stands}
-use Rattle.interleave.proofs.repeats.stands_in.Goals as goal
+use Rattle.interleave.proofs.Expiring.{got_stands, none_stands}
+use Rattle.interleave.proofs.expiries.stands_in.Goals as goal
 
 pub returns-then-get : goal.returns-then-get
 returns-then-get c =
