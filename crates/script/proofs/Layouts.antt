@@ -2,7 +2,6 @@
 use Rattle.std.proofs.Common.{◌≡◌, ◌&&◌, ℕ, Bool, true, false, List, [], ◌∷◌, refl, ◌∙◌, if◌then◌else◌}
 use Rattle.std.specs.Prelude.{Result, Ok, Err, not}
 use Rattle.stepprograms.specs.declared.access.Answer.TheVariants.{Trimmed, Count}
-use Rattle.memorymap.specs.Layouts.{counter_place}
 use Rattle.condvar.specs.Calls.{condition_of}
 use Rattle.condvar.specs.Whole.{cond_led}
 use Rattle.condvar.specs.declared.op.Op.TheVariants.{OnMutex, OnCondition}
@@ -12,11 +11,11 @@ use Rattle.condvar.specs.Ops.{mutex_of}
 use Rattle.condvar.specs.declared.op.Op.{Op}
 use Rattle.protocol.specs.declared.event.Event.{Event}
 use Rattle.protocol.specs.declared.event.LeftTo.{LeftTo}
-use Rattle.protocol.specs.declared.event.Event.TheVariants.{Begin, Step, Kill, Leave, Decline, Expire, Renew, Reinit, Remake, Recount, Spare, Resleep, Repeat}
+use Rattle.protocol.specs.declared.event.Event.TheVariants.{Begin, Step, Kill, Leave, Decline, Expire, Renew, Reinit, Remake, Recount, Spare}
 use Rattle.protocol.specs.declared.thread.Stage.{Stage}
 use Rattle.protocol.specs.declared.thread.Stage.TheVariants.{Idle, Calling, AtCondition, Dying, Reaped}
 use Rattle.memorymap.specs.Layouts.{cell_place}
-use Rattle.protocol.specs.Machine.{State, After, nothing, has_thread, is_alive, is_gone, may_begin, may_reinit, may_remake, waiters_of, first_stage, begun, killed, renewed, reinited, departed, declined, expired, is_timed, lapsed, overslept, waits_on, spared, may_recount, recounted, wakes_one, wakes_next, is_left_to, sparing, stands_in, reslept, resleeping, is_mark, repeated, repeating, is_asleep, is_trim, sleeps, led, led_at, went, answer_of, stepped, happens, run}
+use Rattle.protocol.specs.Machine.{State, After, nothing, has_thread, is_alive, is_gone, may_begin, may_reinit, may_remake, waiters_of, first_stage, begun, killed, renewed, reinited, departed, declined, expired, is_timed, lapsed, overslept, waits_on, spared, may_recount, recounted, wakes_one, wakes_next, is_left_to, sparing, is_asleep, is_trim, sleeps, led, led_at, went, answer_of, stepped, happens, run}
 
 -- whichever of two states comes, both have the layout
 either : (s : State) (b : Bool) (a : After) → a.state.layout ≡ s.layout → (if b then a else nothing s).state.layout ≡ s.layout
@@ -58,18 +57,6 @@ spare_layout s t by held Idle = refl
 spare_layout s t by held (Dying w) = refl
 spare_layout s t by held Reaped = refl
 
-resleep_layout : (s : State) (t : ℕ) (g : Stage) → (resleeping s t g).state.layout ≡ s.layout
-resleep_layout s t (Calling (OnCondition c) p) = either s (stands_in t (s.queues (counter_place s.layout (condition_of c)))) (reslept s t (condition_of c)) refl
-resleep_layout s t (Calling (OnMutex c) p) = refl
-resleep_layout s t Idle = refl
-resleep_layout s t (AtCondition c p) = refl
-resleep_layout s t (Dying w) = refl
-resleep_layout s t Reaped = refl
-
-repeat_layout : (s : State) (t : ℕ) (g : Stage) → (repeating s t g).state.layout ≡ s.layout
-repeat_layout s t (Dying w) = or_else s (is_mark w.row) (repeated s t w) refl
-repeat_layout s t g = refl
-
 happens_layout : (s : State) (e : Event) → (happens s e).state.layout ≡ s.layout
 happens_layout s (Begin t o) = either s (may_begin s t o) (begun s t o (first_stage s.layout t (s.threads t).held o)) (begun_layout s t o (first_stage s.layout t (s.threads t).held o))
 happens_layout s (Step t) = either s (has_thread s t) (stepped s t (s.threads t).held (s.threads t).stage) (stepped_layout s t (s.threads t).held (s.threads t).stage)
@@ -82,8 +69,6 @@ happens_layout s (Reinit t m) = either s (may_reinit s t m) (reinited s t m 0) r
 happens_layout s (Remake t m) = either s (may_remake s t m) (reinited s t m (waiters_of (s.words (cell_place s.layout m)))) refl
 happens_layout s (Recount k) = either s (may_recount s k) (recounted s k) refl
 happens_layout s (Spare t by) = either s (has_thread s t) (sparing s t by (s.threads t).held (s.threads t).stage) (spare_layout s t by (s.threads t).held (s.threads t).stage)
-happens_layout s (Resleep t) = either s (has_thread s t) (resleeping s t (s.threads t).stage) (resleep_layout s t (s.threads t).stage)
-happens_layout s (Repeat t) = either s (has_thread s t) (repeating s t (s.threads t).stage) (repeat_layout s t (s.threads t).stage)
 
 pub run_layout : (s : State) (es : List Event) → (run s es).layout ≡ s.layout
 run_layout s [] = refl

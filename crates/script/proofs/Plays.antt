@@ -199,8 +199,6 @@ has_mutexes p n m k (action.Reinit t j) few h = tt
 has_mutexes p n m k (action.Remake t j) few h = tt
 has_mutexes p n m k (action.Recount c) few h = tt
 has_mutexes p n m k (action.Spare t) few h = tt
-has_mutexes p n m k (action.Resleep t) few h = tt
-has_mutexes p n m k (action.Repeat t) few h = tt
 has_mutexes p n m k (action.Go t) few h = tt
 has_mutexes p n m k (action.Call t c) few h = tt
 has_mutexes p n m k (action.Locks t j i) few h = let last = h.3 in omega arith

@@ -37,8 +37,6 @@ is_end (action.Reinit t m) = false
 is_end (action.Remake t m) = false
 is_end (action.Recount k) = false
 is_end (action.Spare t) = false
-is_end (action.Resleep t) = false
-is_end (action.Repeat t) = false
 is_end (action.Call t c) = false
 is_end (action.Locks t m n) = false
 is_end (action.Die t n) = false
@@ -63,8 +61,6 @@ call_by t (action.Reinit u m) = []
 call_by t (action.Remake u m) = []
 call_by t (action.Recount k) = []
 call_by t (action.Spare u) = []
-call_by t (action.Resleep u) = []
-call_by t (action.Repeat u) = []
 call_by t (action.Locks u m n) = []
 call_by t (action.Die u n) = []
 

@@ -17,7 +17,7 @@ use Rattle.condvar.specs.declared.op.Op.TheVariants.{OnMutex, OnCondition}
 use Rattle.script.specs.Forms.{CallForm, lock, trylock, timedlock, unlock, consistent, wait, timedwait, signal}
 use Rattle.script.specs.Forms.{broadcast, Form, silent}
 use Rattle.script.specs.Forms.{process, thread, member, mutex, mutexes, cond, begins, steps, kills, kills_all}
-use Rattle.script.specs.Forms.{goes, leaves, declines, expires, renews, reinits, remakes, recounts, spares, resleeps, repeats}
+use Rattle.script.specs.Forms.{goes, leaves, declines, expires, renews, reinits, remakes, recounts, spares}
 use Rattle.script.specs.Forms.{calls, locks, phase, dies, form_of}
 use Rattle.lines.specs.Numbers.{is_number}
 use Rattle.lines.specs.Lines.{lines_of, bad_line}
@@ -186,12 +186,6 @@ recounted s c = place_of c (condition_names s) >>= λ k. Ok (action.Recount k)
 abbrev pub wake_spared : Scope → List ℕ → Result Action Fault
 wake_spared s t = thread_of s t >>= λ i. Ok (action.Spare i)
 
-abbrev pub slept_again : Scope → List ℕ → Result Action Fault
-slept_again s t = thread_of s t >>= λ i. Ok (action.Resleep i)
-
-abbrev pub repeated : Scope → List ℕ → Result Action Fault
-repeated s t = thread_of s t >>= λ i. Ok (action.Repeat i)
-
 abbrev pub gone : Scope → List ℕ → Result Action Fault
 gone s t = thread_of s t >>= λ i. Ok (action.Go i)
 
@@ -238,8 +232,6 @@ enter n s (reinits t m) = asked n s (reinited s t m)
 enter n s (remakes t m) = asked n s (remade s t m)
 enter n s (recounts c) = asked n s (recounted s c)
 enter n s (spares t) = asked n s (wake_spared s t)
-enter n s (resleeps t) = asked n s (slept_again s t)
-enter n s (repeats t) = asked n s (repeated s t)
 enter n s (calls t c) = asked n s (made s t c)
 enter n s (locks t m count) = asked n s (locked s t m count)
 enter n s phase = Ok (with_action n s action.Phase)

@@ -49,10 +49,6 @@ pub enum Action {
     Recount(u16),
     /// One spare event.
     Spare(Tid),
-    /// One resleep event.
-    Resleep(Tid),
-    /// One repeat event.
-    Repeat(Tid),
     /// Step events until the thread rests: until it is in no call and not dying, or sleeps.
     Go(Tid),
     /// A begin event, and then step events until the thread rests; for real threads one call.

@@ -54,8 +54,6 @@ pub enum Line<'a> {
     /// A condition variable.
     Recount(&'a str),
     Spare(&'a str),
-    Resleep(&'a str),
-    Repeat(&'a str),
     Go(&'a str),
     Call(&'a str, NamedCall<'a>),
     Locks(&'a str, &'a str, Option<u32>),
@@ -91,8 +89,6 @@ fn of_a_name<'a>(keyword: &'a str, name: &'a str) -> Option<Line<'a>>
         "renew" => Some(Line::Renew(name)),
         "recount" => Some(Line::Recount(name)),
         "spare" => Some(Line::Spare(name)),
-        "resleep" => Some(Line::Resleep(name)),
-        "repeat" => Some(Line::Repeat(name)),
         "expire" => Some(Line::Expire(name)),
         _ => None,
     }
@@ -309,7 +305,6 @@ fn is_of_threads(line: &Line<'_>) -> bool
         Line::Renew(_) => false,
         Line::Reinit(..) | Line::Remake(..) => false,
         Line::Recount(_) | Line::Spare(_) => false,
-        Line::Resleep(_) | Line::Repeat(_) => false,
     }
 }
 

@@ -152,8 +152,6 @@ fn play_action(machine: &mut Machine, notes: &mut Vec<Note>, action: Action) -> 
         }
         Action::Recount(condition) => play_event(machine, notes, Event::Recount(condition)),
         Action::Spare(thread) => play_event(machine, notes, Event::Spare(thread, LeftTo::Thread)),
-        Action::Resleep(thread) => play_event(machine, notes, Event::Resleep(thread)),
-        Action::Repeat(thread) => play_event(machine, notes, Event::Repeat(thread)),
         Action::Go(thread) => play_to_rest(machine, notes, thread),
         Action::Call(thread, op) => play_call(machine, notes, thread, op),
         Action::Locks {
