@@ -33,7 +33,7 @@ pub fn uses_of(keyword: &str, call: &str) -> &'static [(Things, usize)]
         "reinit" | "remake" => &[(Things::Threads, 1), (Things::Mutexes, 2)],
         "leave" | "expire" | "decline" | "go" | "die" => &[(Things::Threads, 1)],
         "recount" => &[(Things::Conditions, 1)],
-        "spare" | "resleep" | "repeat" => &[(Things::Threads, 1)],
+        "spare" => &[(Things::Threads, 1)],
         "killall" => &[(Things::Processes, 1)],
         "locks" => &[(Things::Mutexes, 2), (Things::Threads, 1)],
         "begin" | "call" => uses_of_call(call),

@@ -74,7 +74,7 @@ fn keywords(mode: Mode) -> &'static [&'static str]
         Mode::Run => &[
             "process", "thread", "mutex", "mutexes", "cond", "call", "begin", "step", "kill",
             "killall", "renew", "reinit", "remake", "leave", "expire", "decline", "recount",
-            "spare", "resleep", "repeat", "go", "locks",
+            "spare", "go", "locks",
         ],
         Mode::Threads => &[
             "process", "thread", "mutex", "mutexes", "cond", "call", "phase", "die",

@@ -182,7 +182,6 @@ fn of_run(word: &str) -> Option<Next>
         "reinit" | "remake" => Some(Next::NameName),
         "leave" | "expire" | "decline" | "go" => Some(Next::Name),
         "recount" | "spare" => Some(Next::Name),
-        "resleep" | "repeat" => Some(Next::Name),
         "locks" => Some(Next::NameNameNumber),
         _ => None,
     }
