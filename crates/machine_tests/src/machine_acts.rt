@@ -19,8 +19,6 @@ pub(crate) const ALL: u32 = 20;
 /// An event that few runs have, and how it is noted where it can happen. Threads have ids.
 #[derive(Clone, Copy)]
 pub(crate) enum Rare {
-    /// A sleeper of condition variable 0 goes to the end of its queue.
-    Resleeps(u8),
     /// A condition variable's counter goes back to 0.
     Recounts(u16),
     /// A wake of mutex 0 is spared.
@@ -77,8 +75,7 @@ pub(crate) enum Act {
 fn id_of(rare: Rare) -> u8 {
     match rare {
         Rare::Recounts(_) => 1,
-        Rare::Resleeps(id)
-        | Rare::Spares(id)
+        Rare::Spares(id)
         | Rare::Remakes(id, _)
         | Rare::Reinits(id, _)
         | Rare::Expires(id)
@@ -92,7 +89,6 @@ fn id_of(rare: Rare) -> u8 {
 
 fn event_of(thread: Tid, rare: Rare) -> Event {
     match rare {
-        Rare::Resleeps(_) => Event::Resleep(thread),
         Rare::Recounts(condition) => Event::Recount(condition),
         Rare::Spares(_) => Event::Spare(thread, LeftTo::Thread),
         Rare::Remakes(_, mutex) => Event::Remake(thread, mutex),
@@ -105,10 +101,6 @@ fn event_of(thread: Tid, rare: Rare) -> Event {
 
 fn note_of(thread: Tid, rare: Rare) -> Note {
     match rare {
-        Rare::Resleeps(_) => Note::Reslept {
-            thread,
-            condition: 0,
-        },
         Rare::Recounts(condition) => Note::Recounted { condition },
         Rare::Spares(_) => stepped(thread, None, None, None),
         Rare::Remakes(_, mutex) | Rare::Reinits(_, mutex) => Note::Reinited { thread, mutex },

@@ -1,20 +1,15 @@
-//! Sleepers that sleep again, counters that go back to 0, wakes that are spared, accesses of walks that are made once
-//! more, mutexes that are made anew late, and time limits that come.
+//! Counters that go back to 0, wakes that are spared, mutexes that are made anew late, and time limits that come.
 
 use crate::machine_acts::Act::{self, Calls, Happens, Is, Refused, RefusedCall, Steps};
 use crate::machine_acts::Look::{Owner, Sleep, Stands, Word};
 use crate::machine_acts::Rare::{
-    Dies, Expires, Recounts, Reinits, Remakes, Resleeps, Returns, Spares, WaitExpires,
+    Dies, Expires, Recounts, Reinits, Remakes, Returns, Spares, WaitExpires,
 };
 use crate::machine_acts::{ALL, Small, first_wrong};
 use crate::machine_rows::Standing::{Asleep, Awake, Dying, Reaped, Resting};
-use crate::machine_rows::{machine, play, thread};
 use condvar::{CondCall, Limit, Op};
-use interleave::Machine;
-use lockword::{OWNER_DIED, Reply, Tid, UNUSABLE, WAITERS};
+use lockword::{OWNER_DIED, Reply, UNUSABLE, WAITERS};
 use mutex::Call;
-use protocol::{Event, Note};
-use std::alloc::Global;
 use std::test::Fail;
 
 const LOCK: Op = Op::OnMutex(Call::Lock(0));
@@ -34,25 +29,20 @@ const BROADCAST: Op = Op::OnCondition(CondCall::Broadcast(0));
 /// Three threads, with a condition variable, whose counter is at 13.
 const THREE_WAIT: Small = (3, 1, &[0]);
 
-/// Two wait. The first goes to the end, so that a signal wakes the second first; and once both are awake the counter
-/// goes back to 0.
-static WAITS_AGAIN: [Act; 20] = [
+/// Two wait. Once both are awake the counter goes back to 0.
+static GOES_BACK: [Act; 16] = [
     Calls(1, LOCK, ALL),
     Calls(1, WAIT, ALL),
     Calls(2, LOCK, ALL),
     Calls(2, WAIT, ALL),
     Is(Sleep(13, &[1, 2])),
     Refused(Recounts(0)),
-    Refused(Resleeps(3)),
-    Happens(Resleeps(1)),
-    Is(Sleep(13, &[2, 1])),
     Calls(3, LOCK, ALL),
     Calls(3, SIGNAL, ALL),
-    Is(Sleep(13, &[1])),
+    Is(Sleep(13, &[2])),
     Calls(3, SIGNAL, ALL),
     Is(Sleep(13, &[])),
     Is(Word(13, 2)),
-    Refused(Resleeps(1)),
     Refused(Recounts(1)),
     Happens(Recounts(0)),
     Is(Word(13, 0)),
@@ -60,8 +50,8 @@ static WAITS_AGAIN: [Act; 20] = [
 ];
 
 #[test]
-fn a_waiter_sleeps_again_and_the_counter_goes_back(rt: HostRuntime) -> Result<(), Fail> {
-    assert_eq!(rt; first_wrong(rt.alloc(), THREE_WAIT, &[&WAITS_AGAIN])?, None);
+fn a_counter_goes_back(rt: HostRuntime) -> Result<(), Fail> {
+    assert_eq!(rt; first_wrong(rt.alloc(), THREE_WAIT, &[&GOES_BACK])?, None);
     Ok(())
 }
 
@@ -190,48 +180,6 @@ static MADE_ANEW: [Act; 21] = [
 #[test]
 fn a_mutex_that_is_slept_on_is_made_anew(rt: HostRuntime) -> Result<(), Fail> {
     assert_eq!(rt; first_wrong(rt.alloc(), (4, 1, &[]), &[&MADE_ANEW])?, None);
-    Ok(())
-}
-
-/// Thread 1 dies owning the mutex on which thread 2 sleeps, and its walk makes each access twice that may be made so. How
-/// many may not, and how often thread 2 was woken.
-fn walked_twice(machine: &mut Machine, one: Tid, two: Tid) -> (u32, u32) {
-    play(machine, one, Call::Lock(0), ALL);
-    play(machine, two, Call::Lock(0), ALL);
-    let _ = machine.step(Event::Kill(one));
-    let (mut once, mut woken) = (0_u32, 0_u32);
-    for _ in 0..12 {
-        if !machine.dying(one) {
-            break;
-        }
-        let slept = machine.asleep(two);
-        if machine.step(Event::Repeat(one)) == Note::Nothing {
-            once = once.wrapping_add(1);
-        }
-        if slept && !machine.asleep(two) {
-            woken = woken.wrapping_add(1);
-        }
-        let _ = machine.step(Event::Step(one));
-    }
-    (once, woken)
-}
-
-/// Whether one access of the walk isn't made twice, which wakes thread 2 once, and then there is none to repeat.
-fn all_but_one_are_repeated(alloc: Global) -> Result<bool, Fail> {
-    let (one, two) = (thread(1)?, thread(2)?);
-    let mut machine = machine(alloc, 2, 1, &[])?;
-    Ok(
-        walked_twice(&mut machine, one, two) == (1, 1)
-            && machine.reaped(one)
-            && !machine.asleep(two)
-            && machine.step(Event::Repeat(one)) == Note::Nothing,
-    )
-}
-
-/// The walk over thread 1's list marks one word, which is made once, and wakes thread 2, by the first of the two.
-#[test]
-fn a_walk_makes_all_but_its_marks_twice(rt: HostRuntime) -> Result<(), Fail> {
-    assert!(rt; all_but_one_are_repeated(rt.alloc())?);
     Ok(())
 }
 

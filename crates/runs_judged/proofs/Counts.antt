@@ -14,15 +14,14 @@ use Rattle.facts.specs.Facts.{thread_of, is_passive}
 use Rattle.condvar.specs.declared.op.Op.{Op}
 use Rattle.protocol.specs.declared.event.Event.{Event}
 use Rattle.protocol.specs.declared.event.Event.TheVariants as event
-use Rattle.condvar.specs.Calls.{condition_of}
 use Rattle.protocol.specs.declared.note.Note.{Note}
-use Rattle.protocol.specs.declared.note.Note.TheVariants.{Nothing, Began, Stepped, Killed, Left, Expired, Walked, Renewed, Reinited, Recounted, Reslept}
+use Rattle.protocol.specs.declared.note.Note.TheVariants.{Nothing, Began, Stepped, Killed, Left, Expired, Walked, Renewed, Reinited, Recounted}
 use Rattle.protocol.specs.Notes.{facts_of, point_facts, sleep_facts, moves_to, return_facts, death_facts, reap_facts}
 use Rattle.protocol.specs.Machine.{State, start, stands_in, begun, happens, run, notes}
 use Rattle.protocol.specs.Headline.{facts_among}
 use Rattle.protocol.specs.Sleepers.{IsAmong}
 use Rattle.protocol.specs.Ops.{queue_place}
-use Rattle.protocol.specs.Wakings.{asleep_next, asleep_after, told_asleep, FallsAsleep, LeavesQueue, SleepsAgain, MayFollow, Alternates, TellsTurns, IsQueue}
+use Rattle.protocol.specs.Wakings.{asleep_next, asleep_after, told_asleep, FallsAsleep, LeavesQueue, MayFollow, Alternates, TellsTurns, IsQueue}
 use Rattle.protocol.proofs.Kept.{Kept}
 use Rattle.protocol.proofs.Queues.{Once, moved_once}
 use Rattle.protocol.proofs.Queued.{Queued}
@@ -185,7 +184,6 @@ note_moved t w (Expired u (Condition c)) once k = (tt, tt)
 note_moved t w (Renewed u) once k = (tt, tt)
 note_moved t w (Reinited u j) once k = (tt, (tt, (tt, tt)))
 note_moved t w (Recounted c) once k = tt
-note_moved t w (Reslept u c) once k = (tt, (tt, tt))
 note_moved t w (Walked u d us b) once k = moved_append t w (death_facts u d) (map Wake us ++ reap_facts u b) (moved_death t u w d) (moved_append t _ (map Wake us) (reap_facts u b) (moved_wakes t _ us) (moved_reap t u _ b))
 note_moved t w (Stepped u m p z us vs y) once k = step_moved t w u m p z us vs y once k
 
@@ -211,37 +209,7 @@ event_once s e inv queued =
     (λ u j may. tt)
     (λ c may. tt)
     (λ u m g sp. tt)
-    (λ u c p first most is there. tt)
-    (λ u w first most is reads. tt)
     e
-
--- whoever goes to the end of its queue isn't moved
-none_moved : (s : State) (e : Event) (t u m : ℕ) → e ≡ event.Resleep u → IsAmong (Move t m) (facts_of (happens s e).note) → ⊥
-none_moved s e t u m =
-    by_event s (λ x a. x ≡ event.Resleep u → IsAmong (Move t m) (facts_of a.note) → ⊥) (λ x is h. h) (λ v o first most inside idle b full is h. absurd cc)
-    (λ v first most is h. absurd cc)
-    (λ v first most alive is h. absurd cc)
-    (λ v first most asleep is h. absurd cc)
-    (λ v k p first most at asleep may is h. absurd cc)
-    (λ v k y p first most at there is h. absurd cc)
-    (λ v o p first most at awake trims is h. absurd cc)
-    (λ v first most gone is h. absurd cc)
-    (λ v j may is h. absurd cc)
-    (λ v j may is h. absurd cc)
-    (λ c may is h. h)
-    (λ v k g sp is h. absurd cc)
-    (λ v c p first most at there is h. two v (condition_of c) h)
-    (λ v w first most at reads is h. absurd cc)
-    e
-  where
-    two : (v k : ℕ) → IsAmong (Move t m) (Wake v ∷ Sleep v (Condition k) ∷ []) → ⊥
-    two v k (inl f) = absurd cc
-    two v k (inr (inl f)) = absurd cc
-    two v k (inr (inr h)) = h
-
-again_is : (s s' : State) (e : Event) (t : ℕ) (q : Queue) → SleepsAgain s s' e t q → e ≡ event.Resleep t
-again_is s s' e t (Mutex m) n = absurd n
-again_is s s' e t (Condition k) a = a.0
 
 -- ---- runs
 
@@ -275,20 +243,18 @@ module _ (l : Layout') (counters : ℕ → ℕ) (is : IsLayout l) (t : ℕ) wher
       turns : TellsTurns s e t
       turns = m.tells.next e t
 
-      not_asleep : (k : ℕ) (q : Queue) → IsAmong (Move t k) (facts_of (happens s e).note) → FallsAsleep s (happens s e).state t q ⊎ SleepsAgain s (happens s e).state e t q → ⊥
-      not_asleep k q h (inl falls) =
+      not_asleep : (k : ℕ) (q : Queue) → IsAmong (Move t k) (facts_of (happens s e).note) → FallsAsleep s (happens s e).state t q → ⊥
+      not_asleep k q h falls =
           let moved = ((turns.move k).0 h).0 in
           let out = falls.0 (queue_place s.layout (Condition moved.0)) in
           let stands = moved.3 in
           absurd (cc (out, stands))
-      not_asleep k q h (inr again) = none_moved s e t t k (again_is s (happens s e).state e t q again) h
 
-      not_woken : (k : ℕ) → IsAmong (Move t k) (facts_of (happens s e).note) → (LeavesQueue s (happens s e).state t × (e ≢ event.Kill t)) ⊎ ((q : Queue) × SleepsAgain s (happens s e).state e t q) → ⊥
-      not_woken k h (inl left) =
+      not_woken : (k : ℕ) → IsAmong (Move t k) (facts_of (happens s e).note) → LeavesQueue s (happens s e).state t × (e ≢ event.Kill t) → ⊥
+      not_woken k h left =
           let stands = ((turns.move k).0 h).1 in
           let gone = left.0.1 (queue_place (happens s e).state.layout (Mutex k)) in
           absurd (cc (stands, gone))
-      not_woken k h (inr again) = none_moved s e t t k (again_is s (happens s e).state e t again.0 again.1) h
 
   moved_from : (es later : List Event) → AreMoved t (told_asleep t (notes (start l counters) es)) (facts_among (notes (run (start l counters) es) later))
   moved_from es [] = tt
@@ -464,7 +430,6 @@ note_few (Expired u (Condition c)) = record { own_few = omega arith; slept_few =
 note_few (Renewed u) = record { own_few = omega arith; slept_few = omega arith }
 note_few (Reinited u j) = record { own_few = omega arith; slept_few = omega arith }
 note_few (Recounted c) = record { own_few = omega arith; slept_few = omega arith }
-note_few (Reslept u c) = record { own_few = omega arith; slept_few = omega arith }
 note_few (Walked u d us b) =
     few_more (facts_of (Walked u d us b)) _ _ 3 1 (omega arith) (omega arith)
     (few_both (death_facts u d) (map Wake us ++ reap_facts u b) 1 0 (0 + 1) (0 + 0) (few_deaths u d) (few_both (map Wake us) (reap_facts u b) 0 0 1 0 (few_wakes us) (few_reaps u b)))

@@ -28,13 +28,12 @@ use Rattle.mutex.specs.Standings.{Whole}
 use Rattle.mutex.specs.Whole.{whole_led}
 use Rattle.condvar.specs.Ops.{mutex_of}
 use Rattle.protocol.specs.declared.event.Event.{Event}
-use Rattle.condvar.specs.Calls.{condition_of}
 use Rattle.protocol.specs.declared.note.Note.{Note}
-use Rattle.protocol.specs.declared.note.Note.TheVariants.{Nothing, Began, Stepped, Killed, Left, Expired, Walked, Renewed, Reinited, Recounted, Reslept}
+use Rattle.protocol.specs.declared.note.Note.TheVariants.{Nothing, Began, Stepped, Killed, Left, Expired, Walked, Renewed, Reinited, Recounted}
 use Rattle.protocol.specs.declared.thread.Thread.{Thread}
 use Rattle.protocol.specs.declared.thread.Stage.TheVariants.{Reaped}
 use Rattle.protocol.specs.Notes.{facts_of, death_facts, reap_facts, line_of, lines_from}
-use Rattle.protocol.specs.Machine.{State, After, start, begun, killed, departed, lapsed, overslept, renewed, reinited, reslept, walked, has_ended, stage_walked, happens, run, notes, led, decision}
+use Rattle.protocol.specs.Machine.{State, After, start, begun, killed, departed, lapsed, overslept, renewed, reinited, walked, has_ended, stage_walked, happens, run, notes, led, decision}
 use Rattle.protocol.specs.Headline.{points_of, points_among, facts_among, seen}
 use Rattle.protocol.specs.Sleepers.{IsAmong}
 use Rattle.protocol.proofs.Puts.{put-same}
@@ -185,11 +184,6 @@ module _ (s : State) (t : ℕ) where
   reinited_rightly u j w (inr (inr (inl f))) = absurd cc
   reinited_rightly u j w (inr (inr (inr h))) = absurd h
 
-  reslept_rightly : (u k : ℕ) → ReapsRightly (reslept s u k)
-  reslept_rightly u k (inl f) = absurd cc
-  reslept_rightly u k (inr (inl f)) = absurd cc
-  reslept_rightly u k (inr (inr h)) = absurd h
-
   reaped_stage : (e : Event) → ReapsRightly (happens s e)
   reaped_stage e =
       by_event s (λ x a. ReapsRightly a) (λ x h. absurd h) (λ u o first most inside idle b full. begun_rightly u o b)
@@ -204,8 +198,6 @@ module _ (s : State) (t : ℕ) where
       (λ u j may. reinited_rightly u j 0)
       (λ c may h. absurd h)
       (λ u m g sp h. absurd (step_reaps_none t u m (decision u m g.operation g.point) None [] [] g.returned h))
-      (λ u c p first most is there. reslept_rightly u (condition_of c))
-      (λ u w first most is reads h. let so = (walk_reaps t u None _ false h).1 in absurd cc)
       e
 
 -- the lines of a note, behind which whoever is reaped owns nothing
@@ -220,7 +212,6 @@ note_reaped k i earlier (Expired u (Condition m)) owns = (tt, tt)
 note_reaped k i earlier (Renewed u) owns = (tt, tt)
 note_reaped k i earlier (Reinited u j) owns = (tt, (tt, (tt, tt)))
 note_reaped k i earlier (Recounted c) owns = tt
-note_reaped k i earlier (Reslept u c) owns = (tt, (tt, tt))
 note_reaped k i earlier (Stepped u m p z us vs y) owns = none_reaped k i earlier (facts_of (Stepped u m p z us vs y)) (λ t. step_reaps_none t u m p z us vs y)
 note_reaped k i earlier (Walked u d us false) owns = none_reaped k i earlier (facts_of (Walked u d us false)) (λ t h. let so = (walk_reaps t u d us false h).1 in cc)
 note_reaped k i earlier (Walked u d us true) owns =

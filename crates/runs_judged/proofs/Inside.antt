@@ -28,12 +28,11 @@ use Rattle.mutex.specs.Standings.{Whole}
 use Rattle.mutex.specs.Whole.{whole_led}
 use Rattle.condvar.specs.Ops.{mutex_of}
 use Rattle.protocol.specs.declared.event.Event.{Event}
-use Rattle.condvar.specs.Calls.{condition_of}
 use Rattle.protocol.specs.declared.note.Note.{Note}
 use Rattle.protocol.specs.declared.note.Note.TheVariants.{Stepped, Walked}
 use Rattle.protocol.specs.Notes.{facts_of, reinit_of, line_of, lines_from}
 use Rattle.protocol.specs.Ops.{begun_of, queue_place}
-use Rattle.protocol.specs.Machine.{State, After, start, begun, killed, departed, lapsed, overslept, renewed, reinited, reslept, decision, happens, run, notes, led}
+use Rattle.protocol.specs.Machine.{State, After, start, begun, killed, departed, lapsed, overslept, renewed, reinited, decision, happens, run, notes, led}
 use Rattle.protocol.specs.Headline.{facts_among, seen}
 use Rattle.protocol.specs.Sleepers.{IsAmong}
 use Rattle.protocol.specs.Applies.{IsThread, Names}
@@ -50,7 +49,7 @@ use Rattle.runs_judged.specs.Written.{IsThreadOf, IsCallOf, IsCalled, IsQueueOf,
 use Rattle.verdict.specs.Limits.{max_events}
 use Rattle.runs_judged.proofs.Lives.{Runs}
 use Rattle.runs_judged.proofs.Turns.{own_of}
-use Rattle.runs_judged.proofs.Moments.{Moment, moment, queue_there, woke_there}
+use Rattle.runs_judged.proofs.Moments.{Moment, moment}
 use Rattle.runs_judged.proofs.Facts.{OfStep, Is_point, Is_sleep, Is_wake, Is_move, Is_return, of_step, OfWalk, Is_death, Wakes_one, Is_reap, of_walk, run_push}
 use Rattle.runs_judged.proofs.Fitting.{facts_in}
 use Rattle.runs_judged.proofs.Ending.{lines_tell, told_legal, run_lives}
@@ -100,11 +99,6 @@ module _ (s : State) where
   reinited_own u j w first most f (inr (inr (inl e))) active = its_own u f first most (ap thread_of e)
   reinited_own u j w first most f (inr (inr (inr h))) active = absurd h
 
-  reslept_own : (u k : ℕ) → 1 ≤ u → u ≤ s.layout.threads → OwnThreads (reslept s u k)
-  reslept_own u k first most f (inl e) active = let never : true ≡ false = ap is_passive e ∙ active in absurd cc
-  reslept_own u k first most f (inr (inl e)) active = its_own u f first most (ap thread_of e)
-  reslept_own u k first most f (inr (inr h)) active = absurd h
-
   stepped_own : (u k : ℕ) (op : Operation) (x : Option Reply) (z : Option Queue) (us vs : List ℕ) (y : Option Reply) → 1 ≤ u → u ≤ s.layout.threads
       → (f : Fact) → IsAmong f (facts_of (Stepped u k (decision u k op x) z us vs y)) → is_passive f ≡ false → IsThread s.layout (thread_of f)
   stepped_own u k op x z us vs y first most f h active = go x (of_step u k (decision u k op x) z us vs y f h)
@@ -145,8 +139,6 @@ module _ (s : State) where
       (λ u j may. reinited_own u j 0 may.first may.last)
       (λ c may f h active. absurd h)
       (λ u m g sp. stepped_own u m g.operation g.point None [] [] g.returned sp.first sp.last)
-      (λ u c p first most is there. reslept_own u (condition_of c) first most)
-      (λ u w first most is reads. walked_own u None _ false first most)
       e
 
   -- a call that begins is on what the layout has
@@ -223,11 +215,6 @@ module _ (s : State) where
   reinited_inside u j w inside t c (inr (inr (inl e))) = absurd cc
   reinited_inside u j w inside t c (inr (inr (inr h))) = absurd h
 
-  reslept_inside : (u k : ℕ) → CallsInside (reslept s u k)
-  reslept_inside u k t c (inl e) = absurd cc
-  reslept_inside u k t c (inr (inl e)) = absurd cc
-  reslept_inside u k t c (inr (inr h)) = absurd h
-
   calls_inside : (e : Event) → IsLayout s.layout → CallsInside (happens s e)
   calls_inside e is =
       by_event s (λ x a. CallsInside a) (λ x t c h. absurd h) (λ u o first most inside idle b full. begun_inside u o is inside b)
@@ -244,8 +231,6 @@ module _ (s : State) where
       (λ u j may. reinited_inside u j 0 may.inside)
       (λ k may t c h. absurd h)
       (λ u m g sp t c h. absurd (step_begins_none t u m c (decision u m g.operation g.point) None [] [] g.returned h))
-      (λ u b p first most at there. reslept_inside u (condition_of b))
-      (λ u w first most at reads t c h. absurd (walk_begins_none t u c None _ false h))
       e
 
 -- ---- facts, one by one
@@ -294,8 +279,8 @@ module _ (l : Layout') (counters : ℕ → ℕ) (is : IsLayout l) where
 
       at : (g : Fact) → IsAmong g (facts_of (happens s e).note) → IsInside (head_of s.layout) g
       at (fact.Begin t c) h = let range = own_threads s e (fact.Begin t c) h refl in let inside = calls_inside s e m.kept.layout t c h in (range, inside.0, inside.1)
-      at (fact.Sleep t q) h = (own_threads s e (fact.Sleep t q) h refl, is_queue_of s.layout q (queue_there s (happens s e).state e t q (((turns t).sleep q).0 h)))
-      at (fact.Wake t) h = let stood = woke_there s (happens s e).state e t ((turns t).wake.0 h) in let slept = m.queued.sleeps stood.0 t stood.1 in (slept.0, slept.1)
+      at (fact.Sleep t q) h = (own_threads s e (fact.Sleep t q) h refl, is_queue_of s.layout q (((turns t).sleep q).0 h).1)
+      at (fact.Wake t) h = let stood = ((turns t).wake.0 h).0.0 in let slept = m.queued.sleeps stood.0 t stood.1 in (slept.0, slept.1)
       at (fact.Move t k) h =
           let moved = (((turns t).move k).0 h).0 in
           let slept = m.queued.sleeps (queue_place s.layout (queue.Condition moved.0)) t moved.3 in

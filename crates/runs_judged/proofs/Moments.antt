@@ -1,10 +1,9 @@
 -- A moment of a run: what its state and its trace so far say of each other.
-use Rattle.std.proofs.Common.{◌≡◌, ◌≢◌, ◌⊎◌, inl, inr, ℕ, ◌<◌, ◌≤◌, Bool, true, false, ◌&&◌, Option, Some, None, List, refl, sym, ap, ◌∙◌, subst}
+use Rattle.std.proofs.Common.{◌≡◌, ◌≢◌, ◌⊎◌, ℕ, ◌<◌, ◌≤◌, Bool, true, false, ◌&&◌, Option, Some, None, List, refl, sym, ap, ◌∙◌, subst}
 use Rattle.std.specs.Prelude.{if◌then◌else◌}
 use Rattle.memorymap.specs.Layouts.{Layout', IsLayout}
 use Rattle.mutex.specs.declared.call.Call.TheVariants.{Lock}
 use Rattle.facts.specs.declared.fact.Queue.{Queue}
-use Rattle.facts.specs.declared.fact.Queue.TheVariants.{Mutex, Condition}
 use Rattle.condvar.specs.declared.op.Op.TheVariants.{OnMutex}
 use Rattle.protocol.specs.declared.event.Event.{Event}
 use Rattle.protocol.specs.declared.event.Event.TheVariants as event
@@ -16,7 +15,7 @@ use Rattle.protocol.specs.Ops.{begun_of, queue_place}
 use Rattle.protocol.specs.Machine.{State, start, is_alive, is_idle, first_stage, begun, killed, nothing, stands_in, happens, run, notes}
 use Rattle.protocol.specs.Headline.{IsHistory, NoReapedOwns}
 use Rattle.protocol.specs.Applies.{Told, AtRest, InCall, Dead, Gone, last_told, IsLiving, IsInNoQueue, IsThread, NextApplies, refusal}
-use Rattle.protocol.specs.Wakings.{told_asleep, IsQueue, FallsAsleep, LeavesQueue, SleepsAgain, TellsSleepers}
+use Rattle.protocol.specs.Wakings.{told_asleep, TellsSleepers}
 use Rattle.protocol.proofs.Kept.{Kept}
 use Rattle.protocol.proofs.Stepping.{SleepsAs}
 use Rattle.protocol.proofs.Events.{is_known}
@@ -26,29 +25,6 @@ use Rattle.protocol.proofs.Runs.{start_kept, run_kept, run_layout, legal}
 use Rattle.protocol.proofs.Reaped.{no_reaped_owns}
 use Rattle.protocol.proofs.Waking.{told_sleeps}
 use Rattle.protocol.proofs.Applying.{applied}
-
--- ---- sleeps and wakes, as an event tells them
-
--- a sleep names a queue of the layout
-pub queue_there : (s s' : State) (e : Event) (t : ℕ) (q : Queue) → FallsAsleep s s' t q ⊎ SleepsAgain s s' e t q → IsQueue s.layout q
-queue_there s s' e t q (inl falls) = falls.1
-queue_there s s' e t (Mutex m) (inr none) = absurd none
-queue_there s s' e t (Condition k) (inr again) = again.1
-
--- where a sleep names it, the thread stands then
-pub falls_there : (s s' : State) (e : Event) (t : ℕ) (q : Queue) → FallsAsleep s s' t q ⊎ SleepsAgain s s' e t q → stands_in t (s'.queues (queue_place s'.layout q)) ≡ true
-falls_there s s' e t q (inl falls) = falls.2
-falls_there s s' e t (Mutex m) (inr none) = absurd none
-falls_there s s' e t (Condition k) (inr again) = again.3
-
--- whoever is woken stood in a queue
-pub woke_there : (s s' : State) (e : Event) (t : ℕ) → (LeavesQueue s s' t × (e ≢ event.Kill t)) ⊎ ((q : Queue) × SleepsAgain s s' e t q) → (key : ℕ) × (stands_in t (s.queues key) ≡ true)
-woke_there s s' e t (inl left) = (left.0.0.0, left.0.0.1)
-woke_there s s' e t (inr again) = at again.0 again.1
-  where
-    at : (q : Queue) → SleepsAgain s s' e t q → (key : ℕ) × (stands_in t (s.queues key) ≡ true)
-    at (Mutex m) none = absurd none
-    at (Condition k) so = (queue_place s.layout (Condition k), so.2)
 
 -- events led to this state and were noted so
 pub record Moment (l : Layout') (s : State) (ns : List Note) : Type 0 where

@@ -17,9 +17,8 @@ use Rattle.stepprograms.specs.declared.access.Answer.TheVariants.{Trimmed}
 use Rattle.mutex.specs.Whole.{whole_led}
 use Rattle.condvar.specs.Ops.{mutex_of}
 use Rattle.protocol.specs.declared.event.Event.{Event}
-use Rattle.condvar.specs.Calls.{condition_of}
 use Rattle.protocol.specs.declared.note.Note.{Note}
-use Rattle.protocol.specs.declared.note.Note.TheVariants.{Nothing, Began, Stepped, Killed, Left, Expired, Walked, Renewed, Reinited, Recounted, Reslept}
+use Rattle.protocol.specs.declared.note.Note.TheVariants.{Nothing, Began, Stepped, Killed, Left, Expired, Walked, Renewed, Reinited, Recounted}
 use Rattle.protocol.specs.declared.thread.Stage.TheVariants.{Idle}
 use Rattle.protocol.specs.Notes.{facts_of, point_facts, sleep_facts, moves_to, return_facts, death_facts, reap_facts}
 use Rattle.protocol.specs.Machine.{State, After, start, stands_in, begun, reinited, decision, is_asleep, happens, run, notes, led}
@@ -33,7 +32,7 @@ use Rattle.protocol.proofs.Stepping.{SleepsAs}
 use Rattle.protocol.proofs.Queued.{in_none}
 use Rattle.protocol.proofs.Sparing.{spare_is}
 use Rattle.runs_judged.proofs.Turns.{ArePlaced}
-use Rattle.runs_judged.proofs.Moments.{Moment, moment, falls_there, woke_there, queued_in_call, awake_told, resting_awake}
+use Rattle.runs_judged.proofs.Moments.{Moment, moment, queued_in_call, awake_told, resting_awake}
 use Rattle.runs_judged.proofs.Facts.{among_left, among_right, OfStep, Is_point, Is_sleep, Is_wake, Is_move, Is_return, of_step, OfWalk, Is_death, Wakes_one, Is_reap, of_walk, told_append, asleep_append, told_push, asleep_push, run_push, notes_push}
 
 -- ---- the parts of an access
@@ -182,9 +181,6 @@ module _ (t : ℕ) (o : Told) (w : Option Queue) where
   placed_note (Renewed u) k awake = (tt, tt)
   placed_note (Reinited u j) k awake = (tt, ((λ is. awake _ (inr (inl refl)) is), ((λ is. k.returns OK (inr (inr (inl (ap (λ (v : ℕ). Return v OK) is))))), tt)))
   placed_note (Recounted c) k awake = tt
-  placed_note (Reslept u c) k awake =
-      placed_append t o w (Wake u ∷ []) (Sleep u (Condition c) ∷ []) (wakes_placed t o w (u ∷ []) (λ h. k.wakes (among_left (Wake t) (Wake u ∷ []) (Sleep u (Condition c) ∷ []) h)))
-      (sleep_placed t u o (asleep_next t w (Wake u)) (Some (Condition c)) (λ q h. k.sleeps q (inr h)))
   placed_note (Walked u d us b) k awake = walk_placed u d us b k.wakes
   placed_note (Stepped u m p z us vs y) k awake = step_placed u m p z us vs y k awake
 
@@ -215,7 +211,6 @@ slept_in_call t o (Reinited u j) q (inr (inl f)) e = absurd cc
 slept_in_call t o (Reinited u j) q (inr (inr (inl f))) e = absurd cc
 slept_in_call t o (Reinited u j) q (inr (inr (inr h))) e = absurd h
 slept_in_call t o (Recounted c) q h e = absurd h
-slept_in_call t o (Reslept u c) q h e = e
 slept_in_call t o (Walked u d us b) q h e = never (of_walk u d us b (Sleep t q) h)
   where
     never : OfWalk u (Sleep t q) → o ≡ InCall
@@ -257,9 +252,6 @@ returned_rests t o (Reinited u j) x (inr (inl f)) = absurd cc
 returned_rests t o (Reinited u j) x (inr (inr (inl f))) = ap (λ (b : Bool). if b then AtRest else if u == t then InCall else o) (eq-eqb u t (ap thread_of f))
 returned_rests t o (Reinited u j) x (inr (inr (inr h))) = absurd h
 returned_rests t o (Recounted c) x h = absurd h
-returned_rests t o (Reslept u c) x (inl f) = absurd cc
-returned_rests t o (Reslept u c) x (inr (inl f)) = absurd cc
-returned_rests t o (Reslept u c) x (inr (inr h)) = absurd h
 returned_rests t o (Walked u d us b) x h = never (of_walk u d us b (Return t x) h)
   where
     never : OfWalk u (Return t x) → told_after t o (facts_of (Walked u d us b)) ≡ AtRest
@@ -348,8 +340,6 @@ module _ (l : Layout') (s : State) (ns : List Note) (m : Moment l s ns) (t : ℕ
       (λ u j may. reinited_awake u j 0 may.resting)
       (λ c may d h is. absurd h)
       (λ u k g sp. subst PointsAwake (sym (spare_is s u k g sp m.kept)) (λ d h is. absurd h))
-      (λ u c p first most is there d h same. again u (condition_of c) d h)
-      (λ u w first most is reads d h same. never u (of_walk u None _ false (Point d) h))
       e
     where
       never : {d : Decision} (u : ℕ) → OfWalk u (Point d) → told_asleep t ns ≡ None
@@ -365,11 +355,6 @@ module _ (l : Layout') (s : State) (ns : List Note) (m : Moment l s ns) (t : ℕ
       left u d (inl f) = absurd cc
       left u d (inr h) = absurd h
 
-      again : (u k : ℕ) (d : Decision) → IsAmong (Point d) (Wake u ∷ Sleep u (Condition k) ∷ []) → told_asleep t ns ≡ None
-      again u k d (inl f) = absurd cc
-      again u k d (inr (inl f)) = absurd cc
-      again u k d (inr (inr h)) = absurd h
-
       anew : (u : ℕ) (d : Decision) → (Renew u ≡ Point d) ⊎ ⊥ → told_asleep t ns ≡ None
       anew u d (inl f) = absurd cc
       anew u d (inr h) = absurd h
@@ -383,8 +368,8 @@ behind l counters es e is = subst (λ (z : State × List Note). Moment l z.0 z.1
 module _ (l : Layout') (counters : ℕ → ℕ) (is : IsLayout l) (t : ℕ) where
   event_placed : (es : List Event) (e : Event) → ArePlaced t (last_told t (notes (start l counters) es)) (told_asleep t (notes (start l counters) es)) (facts_of (happens (run (start l counters) es) e).note)
   event_placed es e = placed_note t (last_told t ns) (told_asleep t ns) n record {
-    sleeps = λ q h. slept_in_call t (last_told t ns) n q h (sym (told_push t ns n) ∙ queued_in_call l s' (ns ++ n ∷ []) after t (queue_place s'.layout q) (falls_there s s' e t q ((turns.sleep q).0 h)));
-    wakes = λ h. let left = woke_there s s' e t (turns.wake.0 h) in queued_in_call l s ns before t left.0 left.1;
+    sleeps = λ q h. slept_in_call t (last_told t ns) n q h (sym (told_push t ns n) ∙ queued_in_call l s' (ns ++ n ∷ []) after t (queue_place s'.layout q) ((turns.sleep q).0 h).2);
+    wakes = λ h. let left = (turns.wake.0 h).0.0 in queued_in_call l s ns before t left.0 left.1;
     moves = λ m h. let moved = ((turns.move m).0 h).0 in queued_in_call l s ns before t _ moved.3;
     returns = λ x h. sym (asleep_push t ns n) ∙ resting_awake l s' (ns ++ n ∷ []) after t (λ on. let rests = told_push t ns n ∙ returned_rests t (last_told t ns) n x h in let never : AtRest ≡ InCall = sym rests ∙ on in absurd cc);
   } (points_awake l s ns before t e)
