@@ -21,7 +21,6 @@ use Rattle.protocol.proofs.QueueRuns.{run_queued}
 use Rattle.protocol.proofs.NoteFacts.{IsOfSleep, of_access, of_walk}
 use Rattle.protocol.proofs.Deaths.{not_renewed_apart, reports_deaths}
 use Rattle.protocol.proofs.Lives.{explained}
-use Rattle.protocol.proofs.Vocabulary.{Recounted}
 
 -- ---- a renewal
 
@@ -91,14 +90,12 @@ note_none t (Expired u (Condition k)) one = tt
 note_none t (Walked u d ws y) one = walked_none t u d ws y
 note_none t (Renewed u) one = absurd one
 note_none t (Reinited u m) one = tt
-note_none t (Recounted k) one = tt
 
 noted_so : (s : State) (e : Event) → IsNoRenewing e → IsOfOne (happens s e).note
 noted_so s e =
     by_event s (λ (x : Event) (a : After). IsNoRenewing x → IsOfOne a.note) (λ x none. tt) (λ u o pos known inside idle b full none. begins_so u o b)
     (λ u pos known none. by_stage s u (λ (a : After). IsOfOne a.note) (λ rests. tt) (λ o p is awake. tt) (λ c p is awake. tt) (λ w is awake. tt))
-    (λ u pos known alive none. tt) (λ u pos known asleep none. tt) (λ u m p pos known is asleep may none. tt) (λ u k x p pos known is there none. tt) (λ u o p pos known is awake trims none. tt) (λ u pos known gone none. absurd none) (λ u m may none. tt) (λ u m may none. tt)
-    (λ k may none. tt) (λ u m g sp none. tt) e
+    (λ u pos known alive none. tt) (λ u pos known asleep none. tt) (λ u m p pos known is asleep may none. tt) (λ u k x p pos known is there none. tt) (λ u o p pos known is awake trims none. tt) (λ u pos known gone none. absurd none) (λ u m may none. tt) (λ u m may none. tt) (λ u m g sp none. tt) e
   where
     begins_so : (u : ℕ) (o : Op) (b : Bool) → IsOfOne (begun s u o (if b then Err XHELD else Ok (begins_at s.layout u o))).note
     begins_so u o true = tt
@@ -119,7 +116,6 @@ noted_none t s (Event.Begin u o ∷ es) none = not_renewed_both t (facts_of (hap
 noted_none t s (Event.Step u ∷ es) none = not_renewed_both t (facts_of (happens s (Event.Step u)).note) _ (none_renewed t s (Event.Step u) tt) (noted_none t (happens s (Event.Step u)).state es none)
 noted_none t s (Event.Kill u ∷ es) none = not_renewed_both t (facts_of (happens s (Event.Kill u)).note) _ (none_renewed t s (Event.Kill u) tt) (noted_none t (happens s (Event.Kill u)).state es none)
 noted_none t s (Event.Leave u ∷ es) none = not_renewed_both t (facts_of (happens s (Event.Leave u)).note) _ (none_renewed t s (Event.Leave u) tt) (noted_none t (happens s (Event.Leave u)).state es none)
-noted_none t s (Event.Recount u ∷ es) none = not_renewed_both t (facts_of (happens s (Event.Recount u)).note) _ (none_renewed t s (Event.Recount u) tt) (noted_none t (happens s (Event.Recount u)).state es none)
 noted_none t s (Event.Spare u by ∷ es) none = not_renewed_both t (facts_of (happens s (Event.Spare u by)).note) _ (none_renewed t s (Event.Spare u by) tt) (noted_none t (happens s (Event.Spare u by)).state es none)
 noted_none t s (Event.Expire u ∷ es) none = not_renewed_both t (facts_of (happens s (Event.Expire u)).note) _ (none_renewed t s (Event.Expire u) tt) (noted_none t (happens s (Event.Expire u)).state es none)
 noted_none t s (Event.Decline u ∷ es) none = not_renewed_both t (facts_of (happens s (Event.Decline u)).note) _ (none_renewed t s (Event.Decline u) tt) (noted_none t (happens s (Event.Decline u)).state es none)
@@ -133,7 +129,6 @@ behind_none [] after (Event.Begin t o) other none = none
 behind_none [] after (Event.Step t) other none = none
 behind_none [] after (Event.Kill t) other none = none
 behind_none [] after (Event.Leave t) other none = none
-behind_none [] after (Event.Recount t) other none = none
 behind_none [] after (Event.Spare t by) other none = none
 behind_none [] after (Event.Expire t) other none = none
 behind_none [] after (Event.Decline t) other none = none
@@ -144,7 +139,6 @@ behind_none (Event.Begin t o ∷ before) after e other none = behind_none before
 behind_none (Event.Step t ∷ before) after e other none = behind_none before after e other none
 behind_none (Event.Kill t ∷ before) after e other none = behind_none before after e other none
 behind_none (Event.Leave t ∷ before) after e other none = behind_none before after e other none
-behind_none (Event.Recount t ∷ before) after e other none = behind_none before after e other none
 behind_none (Event.Spare t by ∷ before) after e other none = behind_none before after e other none
 behind_none (Event.Expire t ∷ before) after e other none = behind_none before after e other none
 behind_none (Event.Decline t ∷ before) after e other none = behind_none before after e other none

@@ -36,10 +36,9 @@ use Rattle.protocol.proofs.Endings.{EndsOrGoes, call_ends, cond_ends}
 use Rattle.protocol.proofs.Queued.{Queued, out_awake, in_none}
 use Rattle.protocol.proofs.QueueRuns.{run_queued}
 use Rattle.protocol.proofs.NoteFacts.{IsOfSleep, of_access, of_walk}
-use Rattle.protocol.proofs.Vocabulary.{Recounted, recounted, WakesOneOf, In_unlock, In_wait}
+use Rattle.protocol.proofs.Vocabulary.{WakesOneOf, In_unlock, In_wait}
 use Rattle.protocol.specs.Applies.{IsSparedAccessOf}
-use Rattle.protocol.proofs.Events.{spared_calls, spared_ends, recount_again}
-use Rattle.protocol.proofs.Recounting.{recount_rests}
+use Rattle.protocol.proofs.Events.{spared_calls, spared_ends}
 use Rattle.protocol.proofs.Sparing.{unwoken, spare_goes, spare_rests}
 use Rattle.protocol.proofs.Vocabulary.{CondCall, CondWhole, AtCondition}
 use Rattle.protocol.specs.Machine.{is_idle}
@@ -173,7 +172,6 @@ next_agrees s e t w a =
     (λ u pos known gone. moved s u t w AtRest _ a tt)
     (λ u m may. refused_agrees s u t w may.remake.resting a)
     (λ u m may. refused_agrees s u t w may.resting a)
-    (λ k may. a)
     (λ u m g sp. spared_agrees s u t (s.threads u).held m g w (spared_calls s u m g sp.how) (spared_ends s u m g sp.how) a)
     e
 
@@ -317,8 +315,7 @@ module _ (s : State) (ns : List Note) (inv : Kept s) (queued : Queued s) (agrees
       by_event s (λ (x : Event) (a : After). x ≡ Event.Expire t → a ≡ nothing s) (λ x same. refl) (λ u o pos known named idle b full same. absurd cc) (λ u pos known same. absurd cc) (λ u pos known alive same. absurd cc) (λ u pos known asleep same. absurd cc)
       (λ u m p pos known is asleep may same. absurd (subst (λ (v : ℕ). ¬ Applies s.layout s ns (Event.Expire v)) (sym (expires_is u t same)) never ((pos, known), inl (asleep_where s u asleep, (m, (p, is))))))
       (λ u k x p pos known is there same. absurd (subst (λ (v : ℕ). ¬ Applies s.layout s ns (Event.Expire v)) (sym (expires_is u t same)) never ((pos, known), inr (k, there, (x, p, is)))))
-      (λ u o p pos known is awake trims same. absurd cc) (λ u pos known gone same. absurd cc) (λ u m may same. absurd cc) (λ u m may same. absurd cc)
-      (λ k may same. absurd cc) (λ u m g sp same. absurd cc)
+      (λ u o p pos known is awake trims same. absurd cc) (λ u pos known gone same. absurd cc) (λ u m may same. absurd cc) (λ u m may same. absurd cc) (λ u m g sp same. absurd cc)
       (Event.Expire t) refl
     where
       expires_is : (u v : ℕ) → Event.Expire u ≡ Event.Expire v → u ≡ v
@@ -388,13 +385,6 @@ module _ (s : State) (ns : List Note) (inv : Kept s) (queued : Queued s) (agrees
       go false e = refl
       go true e = absurd (never (as_remake t m (remake_so s t m e)))
 
-  -- ---- recounts
-  recounts_so : (k : ℕ) → Applies s.layout s ns (Event.Recount k) → (happens s (Event.Recount k)).note ≡ Recounted k
-  recounts_so k may = ap (λ (b : Bool). (if b then recounted s k else nothing s).note) (recount_again s k may)
-
-  recounts_else : (k : ℕ) → ¬ Applies s.layout s ns (Event.Recount k) → happens s (Event.Recount k) ≡ nothing s
-  recounts_else k never = recount_rests s k never
-
   -- ---- spares
   same_wait : (c d : CondCall) (p q : CondWhole) → AtCondition c p ≡ AtCondition d q → c ≡ d
   same_wait c d p q e = cc
@@ -428,7 +418,6 @@ module _ (s : State) (ns : List Note) (inv : Kept s) (queued : Queued s) (agrees
   so (Event.Renew t) on = renews_so t on
   so (Event.Reinit t m) on = reinits_so t m on
   so (Event.Remake t m) on = remakes_so t m on
-  so (Event.Recount k) on = recounts_so k on
   so (Event.Spare t by) on = spares_so t by on
 
   idles : (e : Event) → ¬ Applies s.layout s ns e → happens s e ≡ nothing s
@@ -441,7 +430,6 @@ module _ (s : State) (ns : List Note) (inv : Kept s) (queued : Queued s) (agrees
   idles (Event.Renew t) never = renews_else t never
   idles (Event.Reinit t m) never = reinits_else t m never
   idles (Event.Remake t m) never = remakes_else t m never
-  idles (Event.Recount k) never = recounts_else k never
   idles (Event.Spare t by) never = spares_else t by never
 
   next_applies : NextApplies s.layout s ns

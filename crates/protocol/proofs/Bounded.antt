@@ -239,7 +239,6 @@ module _ (s : State) (inv : Kept s) (queued : Queued s) where
       (λ t pos known gone is n within. absurd (subst (Within n) gone within))
       (λ t m may is n within. absurd (subst (Within n) may.remake.resting within))
       (λ t m may is n within. absurd (subst (Within n) may.resting within))
-      (λ k may is n within. inr within)
       (λ t m g sp other n within. spares_on t m g sp n within sp.how)
       e
     where
@@ -288,7 +287,6 @@ event_on s e t n inv queued pos known lives within = by_same (caller e) t (mine 
     mine (Begin u o) alive h me = others (Begin u o) refl refl h me
     mine (Event.Leave u) alive h me = others (Event.Leave u) refl refl h me
     mine (Event.Expire u) alive h me = others (Event.Expire u) refl refl h me
-    mine (Event.Recount u) alive h me = others (Event.Recount u) refl refl h me
     mine (Event.Spare u by) alive h me = others (Event.Spare u by) refl refl h me
     mine (Event.Decline u) alive h me = others (Event.Decline u) refl refl h me
     mine (Event.Renew u) alive h me = others (Event.Renew u) refl refl h me
@@ -306,7 +304,6 @@ first_spared t (Step u) es h = ((λ is. cc is), h)
 first_spared t (Begin u o) es h = ((λ is. cc is), h)
 first_spared t (Event.Leave u) es h = ((λ is. cc is), h)
 first_spared t (Event.Expire u) es h = ((λ is. cc is), h)
-first_spared t (Event.Recount u) es h = ((λ is. cc is), h)
 first_spared t (Event.Spare u by) es h = ((λ is. cc is), h)
 first_spared t (Event.Decline u) es h = ((λ is. cc is), h)
 first_spared t (Event.Renew u) es h = ((λ is. cc is), h)
@@ -369,7 +366,6 @@ module _ (s : State) where
       (λ t pos known gone is none quiet. absurd (subst Quiet gone quiet))
       (λ t m may is none quiet. absurd (none.0 refl))
       (λ t m may is none quiet. absurd (none.0 refl))
-      (λ k may is none quiet. quiet)
       (λ t m g sp is none quiet. put_quiet t _ (spare_quiet t m g sp.how quiet))
       e
     where
@@ -386,7 +382,6 @@ module _ (s : State) where
       alive (Begin u o) never me = refl
       alive (Event.Leave u) never me = refl
       alive (Event.Expire u) never me = refl
-      alive (Event.Recount u) never me = refl
       alive (Event.Spare u by) never me = refl
       alive (Event.Decline u) never me = refl
       alive (Event.Renew u) never me = refl

@@ -115,7 +115,6 @@ told_on s e t b h =
     (λ u pos known gone. stays s u t b h _ (λ was. tt))
     (λ u m may. returns s u t b h _ may.remake.resting)
     (λ u m may. returns s u t b h _ may.resting)
-    (λ k may. h)
     (λ u m g sp. still s u t b h (spared s u (s.threads u).held m g) (begins_stepped u m _ None [] [] g.returned) (spared_so s u t b h m _ g sp.how))
     e
 

@@ -34,9 +34,8 @@ use Rattle.protocol.proofs.OwnWords.{own_counter}
 use Rattle.protocol.proofs.CondAccesses.{fits_at, IsBefore, Nears, by_access, cond_stepping}
 use Rattle.protocol.proofs.Cases.{at_or_else}
 use Rattle.protocol.proofs.Seeing.{head_in}
-use Rattle.protocol.proofs.Vocabulary.{Led, recounted, may_recount, holds_count, has_count, nothing}
-use Rattle.protocol.proofs.Events.{HowSpared, Of_unlock, Of_wait, Sparing, recount_so}
-use Rattle.protocol.proofs.Recounting.{recounted_counter, recounted_other, without_count}
+use Rattle.protocol.proofs.Vocabulary.{Led}
+use Rattle.protocol.proofs.Events.{HowSpared, Of_unlock, Of_wait, Sparing}
 use Rattle.protocol.proofs.Sparing.{spare_is, spared_state, next_of}
 use Rattle.protocol.proofs.Cases.{by_same}
 use Rattle.protocol.proofs.Vocabulary.{Idle, Reaped, Fields, Operation}
@@ -274,30 +273,12 @@ walk_passes s t w inv pos known is =
         let inside : m < s.layout.mutexes = (subst (λ (d : Option ℕ). DeathTells s t d (walk_after s t w.row)) e g.tells).0 in
         put-other s.words (place_met s.layout t (walk_access s t w.row)) _ (counter_place s.layout k) (λ at. counter_is_no_cell s.layout m k inside (at ∙ g.place m e))
 
--- all but a recount
-abbrev pub IsNoRecount : Event → Type 0
-IsNoRecount (Event.Recount k) = ⊥
-IsNoRecount e = Unit {0}
-
-pub recount_or : (e : Event) → IsNoRecount e ⊎ ((k : ℕ) × (e ≡ Event.Recount k))
-recount_or (Event.Recount k) = inr (k, refl)
-recount_or (Event.Begin t o) = inl tt
-recount_or (Event.Step t) = inl tt
-recount_or (Event.Kill t) = inl tt
-recount_or (Event.Leave t) = inl tt
-recount_or (Event.Expire t) = inl tt
-recount_or (Event.Decline t) = inl tt
-recount_or (Event.Renew t) = inl tt
-recount_or (Event.Reinit t m) = inl tt
-recount_or (Event.Remake t m) = inl tt
-recount_or (Event.Spare t by) = inl tt
-
-pub passes : (s : State) (e : Event) → Kept s → Counted s → IsNoRecount e → Passes s (caller e) (happens s e).state
+pub passes : (s : State) (e : Event) → Kept s → Counted s → Passes s (caller e) (happens s e).state
 passes s e inv counted =
-    by_event s (λ (x : Event) (a : After). IsNoRecount x → Passes s (caller x) a.state)
-    (λ x other. nothing_passes (caller x))
-    (λ t o pos known inside idle b full other. begins t o b)
-    (λ t pos known other.
+    by_event s (λ (x : Event) (a : After). Passes s (caller x) a.state)
+    (λ x. nothing_passes (caller x))
+    (λ t o pos known inside idle b full. begins t o b)
+    (λ t pos known.
     by_stage s t (λ (a : After). Passes s t a.state) (λ rests. nothing_passes t)
     (λ o p is awake. subst (λ (a : After). Passes s t a.state)
     (sym (went-is s t (mutex_of s.layout o) (Mutex (mutex_of s.layout o)) (Calling o p) (whole_access p) (λ a. led o p (whole_led p a)) (call_stepping s t o p (accesses.goes s t o p inv pos known is) (accesses.fits_in s t o p inv pos known is).0).valid))
@@ -306,36 +287,35 @@ passes s e inv counted =
     (sym (went-is s t (its_mutex s c) (Condition (condition_of c)) (AtCondition c p) (cond_access p) (λ a. led_at c p (cond_led p a)) (cond_stepping s t c p inv pos known is).valid))
     (cond_passes s t c p inv counted pos known is))
     (λ w is awake. walk_passes s t w inv pos known is))
-    (λ t pos known alive other. record {
+    (λ t pos known alive. record {
       layout = refl;
       rises = λ k. inl refl;
       knows = λ first last. subst (λ (z : Thread). KnowsIn s.layout s.words z.stage) (sym (put-same s.threads t _)) tt;
       theirs = λ u other. ap (λ (z : Thread). z.stage) (put-other s.threads t _ u other);
     })
-    (λ t pos known asleep other. record { layout = refl; rises = λ k. inl refl; knows = λ first last. counted.knows t first last; theirs = λ u other. refl })
-    (λ t m p pos known is asleep may other. record {
+    (λ t pos known asleep. record { layout = refl; rises = λ k. inl refl; knows = λ first last. counted.knows t first last; theirs = λ u other. refl })
+    (λ t m p pos known is asleep may. record {
       layout = refl;
       rises = λ k. inl refl;
       knows = λ first last. subst (λ (z : Thread). KnowsIn s.layout s.words z.stage) (sym (put-same s.threads t _)) tt;
       theirs = λ u other. ap (λ (z : Thread). z.stage) (put-other s.threads t _ u other);
     })
-    (λ t k x p pos known is there other. record {
+    (λ t k x p pos known is there. record {
       layout = refl;
       rises = λ j. inl refl;
       knows = λ first last. subst (λ (z : Thread). KnowsIn s.layout s.words z.stage) (sym (put-same s.threads t _)) tt;
       theirs = λ u other. ap (λ (z : Thread). z.stage) (put-other s.threads t _ u other);
     })
-    (λ t o p pos known is awake trims other. subst (λ (a : After). Passes s t a.state) (sym (spared_is s t o p is trims inv pos known)) (declines t o p is trims))
-    (λ t pos known gone other. record {
+    (λ t o p pos known is awake trims. subst (λ (a : After). Passes s t a.state) (sym (spared_is s t o p is trims inv pos known)) (declines t o p is trims))
+    (λ t pos known gone. record {
       layout = refl;
       rises = λ k. inl (renewed_counter s t pos known k);
       knows = λ first last. subst (λ (z : Thread). KnowsIn s.layout (renewed s t).state.words z.stage) (sym (renewed_thread s t pos known)) tt;
       theirs = λ u other. ap (λ (z : Thread). z.stage) (renewed_other s t pos known u other);
     })
-    (λ t m may other. made_anew t m 0 refl may.remake)
-    (λ t m may other. made_anew t m _ (waiters_say_nothing (s.words (cell_place s.layout m))) may)
-    (λ k may other. absurd other)
-    (λ t m g sp other. subst (λ (a : After). Passes s t a.state) (sym (spare_is s t m g sp inv)) (spares t m g sp))
+    (λ t m may. made_anew t m 0 refl may.remake)
+    (λ t m may. made_anew t m _ (waiters_say_nothing (s.words (cell_place s.layout m))) may)
+    (λ t m g sp. subst (λ (a : After). Passes s t a.state) (sym (spare_is s t m g sp inv)) (spares t m g sp))
     e
   where
     made_anew : (t m w : ℕ) → Says_nothing w → MayRemake s t m → Passes s t (reinited s t m w).state
@@ -385,36 +365,8 @@ passes s e inv counted =
       theirs = λ u other. ap (λ (z : Thread). z.stage) (put-other s.threads t _ u other);
     }
 
--- whoever hasn't the count of a counter that goes back knows of it what it is to know
-knows_zero : (k : ℕ) (f : CondPhase) → has_count f ≡ false → KnowsAt 0 f
-knows_zero k f none = grind (arith)
-
-recount_knows : (s : State) (k : ℕ) (g : Stage) → holds_count k g ≡ false → KnowsIn s.layout s.words g → KnowsIn s.layout (recounted s k).state.words g
-recount_knows s k (AtCondition c p) none knows =
-    by_same (condition_of c) k
-    (λ is. subst (λ (n : ℕ). KnowsAt n p.phase) (sym (ap (λ (j : ℕ). (recounted s k).state.words (counter_place s.layout j)) is ∙ recounted_counter s k)) (knows_zero k p.phase (without_count k c p none is)))
-    (λ apart. subst (λ (n : ℕ). KnowsAt n p.phase) (sym (recounted_other s k (condition_of c) apart)) knows)
-recount_knows s k Stage.Idle none knows = tt
-recount_knows s k (Calling o p) none knows = tt
-recount_knows s k (Dying w) none knows = tt
-recount_knows s k Stage.Reaped none knows = tt
-
-recount_counted : (s : State) (k : ℕ) → Counted s → Counted (happens s (Event.Recount k)).state
-recount_counted s k counted = go (may_recount s k) refl
-  where
-    go : (b : Bool) → may_recount s k ≡ b → Counted (if b then recounted s k else nothing s).state
-    go false e = counted
-    go true e =
-        let may = recount_so s k e in
-        record {
-          most = λ j inside. by_same j k (λ is. subst (λ (i : ℕ). (recounted s k).state.words (counter_place s.layout i) ≤ full) (sym is) (let zero_again = recounted_counter s k in omega (arith, zero_again))) (λ apart. let same = recounted_other s k j apart in let few = counted.most j inside in omega (arith, same, few));
-          knows = λ t first last. recount_knows s k (s.threads t).stage (may.unknown t first last) (counted.knows t first last);
-        }
-
 pub counted_on : (s : State) (e : Event) → Kept s → Counted s → Counted (happens s e).state
-counted_on s e inv counted =
-    ⊎_elim (λ other. counted_then s (caller e) (happens s e).state inv counted (passes s e inv counted other))
-    (λ recounts. subst (λ (x : Event). Counted (happens s x).state) (sym recounts.1) (recount_counted s recounts.0 counted)) (recount_or e)
+counted_on s e inv counted = counted_then s (caller e) (happens s e).state inv counted (passes s e inv counted)
 
 -- ---- runs
 

@@ -33,9 +33,7 @@ use Rattle.protocol.proofs.NoteFacts.{IsOfSleep, behind_point, of_walk}
 use Rattle.protocol.specs.Applies.{IsTold}
 use Rattle.protocol.proofs.CallsTold.{told_on, told_run}
 use Rattle.protocol.proofs.Runs.{sound, start_kept, run_kept, run_layout}
-use Rattle.protocol.specs.Recounts.{NobodyRecounts}
 use Rattle.protocol.specs.PassedBy.{call_told}
-use Rattle.protocol.proofs.Recounting.{recounted_other}
 use Rattle.protocol.proofs.Sparing.{spare_is}
 
 -- ---- facts
@@ -135,24 +133,6 @@ count_row t cell counter w n r going knows most = grind (arith)
 
 -- ---- one event
 
--- it doesn't take counter k back
-abbrev IsOther : ℕ → Event → Type 0
-IsOther k (Event.Recount j) = j ≢ k
-IsOther k e = Unit {0}
-
-first_none : (k : ℕ) (e : Event) (es : List Event) → NobodyRecounts k (e ∷ es) → IsOther k e × NobodyRecounts k es
-first_none k (Event.Recount j) es none = none
-first_none k (Event.Begin t o) es none = (tt, none)
-first_none k (Event.Step t) es none = (tt, none)
-first_none k (Event.Kill t) es none = (tt, none)
-first_none k (Event.Leave t) es none = (tt, none)
-first_none k (Event.Expire t) es none = (tt, none)
-first_none k (Event.Decline t) es none = (tt, none)
-first_none k (Event.Renew t) es none = (tt, none)
-first_none k (Event.Reinit t m) es none = (tt, none)
-first_none k (Event.Remake t m) es none = (tt, none)
-first_none k (Event.Spare t by) es none = (tt, none)
-
 module _ (s : State) (k : ℕ) (calls : ℕ → Option Begun) (inv : Kept s) (counted : Counted s) (inside : k < length s.layout.conditions) (told : (t : ℕ) → IsTold s.layout (s.threads t).stage (calls t)) where
   abbrev at : ℕ
   at = counter_place s.layout k
@@ -231,12 +211,12 @@ module _ (s : State) (k : ℕ) (calls : ℕ → Option Begun) (inv : Kept s) (co
           let below : m < s.layout.mutexes = (subst (λ (d : Option ℕ). DeathTells s u d (walk_after s u w.row)) e g.tells).0 in
           put-other s.words (place_met s.layout u (walk_access s u w.row)) _ at (λ there. counter_is_no_cell s.layout m k below (there ∙ g.place m e))
 
-  pub counts_up : (e : Event) → IsOther k e → CountsUp (happens s e)
+  pub counts_up : (e : Event) → CountsUp (happens s e)
   counts_up e =
-      by_event s (λ (x : Event) (a : After). IsOther k x → CountsUp a)
-      (λ x other. omega arith)
-      (λ u o pos known named idle b full other. begins u o b)
-      (λ u pos known other.
+      by_event s (λ (x : Event) (a : After). CountsUp a)
+      (λ x. omega arith)
+      (λ u o pos known named idle b full. begins u o b)
+      (λ u pos known.
       by_stage s u CountsUp (λ rests. omega arith)
       (λ o p is awake. subst CountsUp
       (sym (went-is s u (mutex_of s.layout o) (Mutex (mutex_of s.layout o)) (Calling o p) (whole_access p) (λ a. led o p (whole_led p a)) (call_stepping s u o p (goes s u o p inv pos known is) (fits_in s u o p inv pos known is).0).valid))
@@ -245,30 +225,28 @@ module _ (s : State) (k : ℕ) (calls : ℕ → Option Begun) (inv : Kept s) (co
       (sym (went-is s u (its_mutex s c) (Condition (condition_of c)) (AtCondition c p) (cond_access p) (λ a. led_at c p (cond_led p a)) (cond_stepping s u c p inv pos known is).valid))
       (at_condition u c p pos known is))
       (λ w is awake. on_a_walk u w pos known is))
-      (λ u pos known alive other. omega arith)
-      (λ u pos known asleep other. omega arith)
-      (λ u m p pos known is asleep may other. let none = expired_none k (calls u) in omega (arith, none))
-      (λ u j x p pos known is there other. omega arith)
-      (λ u o p pos known is awake trims other. subst CountsUp (sym (spared_is s u o p is trims inv pos known)) (omega arith))
-      (λ u pos known gone other. let same = renewed_counter s u pos known k in omega (arith, same))
-      (λ u m may other. let same = reinited_counter s u m 0 refl may.remake k in let none = reinit_none k (if u == u then Some (reinit_of m) else calls u) in omega (arith, same, none))
-      (λ u m may other. let same = reinited_counter s u m _ (waiters_say_nothing (s.words (cell_place s.layout m))) may k in let none = reinit_none k (if u == u then Some (reinit_of m) else calls u) in omega (arith, same, none))
-      (λ j may other. let same = recounted_other s j k (λ is. other (sym is)) in omega (arith, same))
-      (λ u m g sp other. subst CountsUp (sym (spare_is s u m g sp inv)) (omega arith))
+      (λ u pos known alive. omega arith)
+      (λ u pos known asleep. omega arith)
+      (λ u m p pos known is asleep may. let none = expired_none k (calls u) in omega (arith, none))
+      (λ u j x p pos known is there. omega arith)
+      (λ u o p pos known is awake trims. subst CountsUp (sym (spared_is s u o p is trims inv pos known)) (omega arith))
+      (λ u pos known gone. let same = renewed_counter s u pos known k in omega (arith, same))
+      (λ u m may. let same = reinited_counter s u m 0 refl may.remake k in let none = reinit_none k (if u == u then Some (reinit_of m) else calls u) in omega (arith, same, none))
+      (λ u m may. let same = reinited_counter s u m _ (waiters_say_nothing (s.words (cell_place s.layout m))) may k in let none = reinit_none k (if u == u then Some (reinit_of m) else calls u) in omega (arith, same, none))
+      (λ u m g sp. subst CountsUp (sym (spare_is s u m g sp inv)) (omega arith))
       e
 
 -- ---- runs
 
-counts_run : (s : State) (es : List Event) (k : ℕ) (calls : ℕ → Option Begun) → Kept s → Counted s → k < length s.layout.conditions → ((t : ℕ) → IsTold s.layout (s.threads t).stage (calls t)) → NobodyRecounts k es
+counts_run : (s : State) (es : List Event) (k : ℕ) (calls : ℕ → Option Begun) → Kept s → Counted s → k < length s.layout.conditions → ((t : ℕ) → IsTold s.layout (s.threads t).stage (calls t))
     → (run s es).words (counter_place s.layout k) ≡ s.words (counter_place s.layout k) + signals_in k calls (facts_among (notes s es))
-counts_run s [] k calls inv counted inside told none = omega arith
-counts_run s (e ∷ es) k calls inv counted inside told none =
+counts_run s [] k calls inv counted inside told = omega arith
+counts_run s (e ∷ es) k calls inv counted inside told =
     let next = sound s e inv in
     let fs = facts_of (happens s e).note in
-    let each = first_none k e es none in
     let later = counts_run (happens s e).state es k (calls_after calls fs) next.kept (counted_on s e inv counted) (subst (λ (l : Layout'). k < length l.conditions) (sym next.same) inside)
-    (λ t. subst (IsTold (happens s e).state.layout ((happens s e).state.threads t).stage) (sym (calls_last t calls fs)) (told_on s e t (calls t) (told t))) each.1 in
-    let here = counts_up s k calls inv counted inside told e each.0 in
+    (λ t. subst (IsTold (happens s e).state.layout ((happens s e).state.threads t).stage) (sym (calls_last t calls fs)) (told_on s e t (calls t) (told t))) in
+    let here = counts_up s k calls inv counted inside told e in
     let there : (run (happens s e).state es).words (counter_place s.layout k) ≡ (happens s e).state.words (counter_place s.layout k) + signals_in k (calls_after calls fs) (facts_among (notes (happens s e).state es))
     = subst (λ (l : Layout'). (run (happens s e).state es).words (counter_place l k) ≡ (happens s e).state.words (counter_place l k) + signals_in k (calls_after calls fs) (facts_among (notes (happens s e).state es))) next.same later in
     let both = signals_append k calls fs (facts_among (notes (happens s e).state es)) in
@@ -276,13 +254,13 @@ counts_run s (e ∷ es) k calls inv counted inside told none =
 
 pub counters_count_up : CountersCountUp
 counters_count_up l counters is presets k inside = record {
-  first = λ events none.
-      counts_run s0 events k (λ t. None) inv counted inside (λ t. tt) none
+  first = λ events.
+      counts_run s0 events k (λ t. None) inv counted inside (λ t. tt)
       ∙ ap (λ (n : ℕ). n + signals_in k (λ t. None) (facts_among (notes s0 events))) (first_word-counter l counters k inside);
-  since = λ before later none.
+  since = λ before later.
       subst (λ (y : Layout'). (run (run s0 before) later).words (counter_place y k) ≡ (run s0 before).words (counter_place y k) + signals_in k (λ t. call_told t (notes s0 before)) (facts_among (notes (run s0 before) later))) (run_layout s0 before inv)
       (counts_run (run s0 before) later k (λ t. call_told t (notes s0 before)) (run_kept s0 before inv) (run_counted s0 before inv counted) (subst (λ (y : Layout'). k < length y.conditions) (sym (run_layout s0 before inv)) inside)
-      (λ t. told_run s0 before t None tt) none);
+      (λ t. told_run s0 before t None tt));
 }
   where
     s0 : State

@@ -30,9 +30,8 @@ use Rattle.protocol.proofs.Runs.{sound, start_kept, run_kept, kill_kept}
 use Rattle.protocol.proofs.NoteFacts.{IsOfSleep, behind_woken, of_access}
 use Rattle.protocol.proofs.Cases.{at_or_else}
 use Rattle.protocol.proofs.Seeing.{head_in}
-use Rattle.protocol.proofs.Vocabulary.{recounted, is_calling}
+use Rattle.protocol.proofs.Vocabulary.{is_calling}
 use Rattle.protocol.proofs.Events.{spared_calls}
-use Rattle.protocol.proofs.Recounting.{recounted_seen}
 use Rattle.protocol.proofs.Sparing.{spare_is}
 
 -- ---- renewals
@@ -138,7 +137,6 @@ module _ (t m : ℕ) where
         (λ u pos known gone. let kept : one t (seen (renewed s u).state m) ≡ one t (seen s m) = ap (one t) (renewed_seen s u pos known m) in omega arith)
         (λ u k may. let kept = reinit_counts u k 0 refl may.remake in omega arith)
         (λ u k may. let kept = reinit_counts u k _ (waiters_say_nothing (s.words (cell_place s.layout k))) may in omega arith)
-        (λ k may. let kept : one t (seen (recounted s k).state m) ≡ one t (seen s m) = ap (one t) (recounted_seen s k m) in omega arith)
         (λ u k g sp. subst (Lost s) (sym (spare_is s u k g sp inv)) (omega arith)) e
       where
         begun_lost : (u : ℕ) (o : Op) (b : Bool) → Lost s (begun s u o (if b then Err XHELD else Ok (begins_at s.layout u o)))
@@ -164,7 +162,7 @@ module _ (t m : ℕ) where
         (λ u k x p pos known is there none. ap (λ (z : Thread). is_alive z.stage) (put-other s.threads u _ t (λ e. apart_from u (Calling (OnCondition (CondCall.TimedWait k x)) p) is refl (sym e))) ∙ dead)
         (λ u o p pos known is awake trims none. ap (λ (z : Thread). is_alive z.stage) (put-other s.threads u _ t (λ e. apart_from u (Calling o p) is refl (sym e))) ∙ dead)
         (λ u pos known gone none. ap (λ (z : Thread). is_alive z.stage) (renewed_other s u pos known t (λ e. none.0 (sym e))) ∙ dead)
-        (λ u k may none. dead) (λ u k may none. dead) (λ k may none. dead)
+        (λ u k may none. dead) (λ u k may none. dead)
         (λ u k g sp none. ap (λ (z : Thread). is_alive z.stage) (put-other s.threads u _ t (λ e. apart_from u (s.threads u).stage refl (calls_live (s.threads u).stage (spared_calls s u k g sp.how)) (sym e))) ∙ dead) e
       where
         begun_dead : (u : ℕ) (o : Op) → (s.threads u).stage ≡ Idle → (b : Bool) → is_alive ((begun s u o (if b then Err XHELD else Ok (begins_at s.layout u o))).state.threads t).stage ≡ false

@@ -153,8 +153,7 @@ decline_rests s t never =
     absurd (subst (λ (v : ℕ). 1 ≤ v → v ≤ s.layout.threads → IsAboutToTrim s v → ⊥) (sym (thread_is u t same)) never pos known (o, p, p.cell, is, ap (phase_access p) trims)))
     (λ u pos known gone same. absurd cc)
     (λ u m may same. absurd cc)
-    (λ u m may same. absurd cc)
-    (λ k may same. absurd cc) (λ u m g sp same. absurd cc)
+    (λ u m may same. absurd cc) (λ u m g sp same. absurd cc)
     (Decline t) refl
   where
     thread_is : (u v : ℕ) → Decline u ≡ Decline v → u ≡ v

@@ -1,5 +1,5 @@
 -- What an event does, case by case.
-use Rattle.std.proofs.Common.{◌≡◌, ℕ, zero, suc, ◌<◌, ◌≤◌, ◌==◌, Bool, true, false, ◌&&◌, Result, Ok, Err, List, [], ◌∷◌, length, refl, sym, ap, ◌∙◌, subst, arith, eqb-true}
+use Rattle.std.proofs.Common.{◌≡◌, ℕ, ◌<◌, ◌≤◌, ◌==◌, Bool, true, false, ◌&&◌, Result, Ok, Err, List, [], ◌∷◌, refl, sym, ap, ◌∙◌, subst, arith}
 use Rattle.protocol.proofs.Vocabulary.{CondCall, condition_of, CondWhole, Mutex, Condition, Layout', IsLayout, acquires, Reply, XHELD, Whole, whole_access, whole_led, Op, OnMutex}
 use Rattle.protocol.proofs.Vocabulary.{OnCondition, Event, Step, Stage, Idle, Calling, AtCondition, Dying, mutex_of, Names, State, After, is_alive, killed, may_begin, begun}
 use Rattle.protocol.proofs.Vocabulary.{first_stage, nothing, answer_of, is_asleep, led, led_at, went, walked, stepped, happens, if◌then◌else◌, nat_le, nat_tests}
@@ -7,10 +7,10 @@ use Rattle.std.proofs.lemmas.List.Elements.{All-get_or}
 use Rattle.mutex.specs.Whole.{begins, may_expire}
 use Rattle.condvar.specs.Whole as condition
 use Rattle.exitwalk.specs.Standings as walks
-use Rattle.protocol.specs.declared.event.Event.TheVariants.{Begin, Kill, Leave, Expire, Decline, Renew, Reinit, Remake, Recount, Spare}
+use Rattle.protocol.specs.declared.event.Event.TheVariants.{Begin, Kill, Leave, Expire, Decline, Renew, Reinit, Remake, Spare}
 use Rattle.mutex.specs.declared.row.Row.TheVariants.{Unlock}
 use Rattle.protocol.proofs.Vocabulary.{Call, departed, lapsed, renewed, reinited, spared, sleeps, sleepers, Reaped, Trimmed, Phase, AtCell, UnlockRow, not, nat_lt, Object, MayReinit, MayRemake, waiters_of, cell_place}
-use Rattle.protocol.proofs.Vocabulary.{CondPhase, CondRow, WaitRow, cond_led, Count, Thread, eqb-false, is_calling, counter_place, Led, is_left_to, LeftTo, holds_count, none_counts, may_recount, recounted, MayRecount, sparing, wakes_one}
+use Rattle.protocol.proofs.Vocabulary.{CondPhase, CondRow, WaitRow, cond_led, Count, is_calling, Led, is_left_to, LeftTo, sparing, wakes_one}
 use Rattle.protocol.proofs.Stepping.{wakes_next}
 use Rattle.protocol.proofs.Endings.{EndsOrGoes, call_ends, cond_ends}
 use Rattle.stepprograms.specs.Accesses.{is_nobody}
@@ -130,41 +130,6 @@ remake_again s t m may =
 pub reinit_again : (s : State) (t m : ℕ) → MayReinit s t m → may_reinit s t m ≡ true
 reinit_again s t m may = λ i. remake_again s t m may.remake i && is_nobody (may.unslept i)
 
--- ---- recounts
-
-pub none_so : (threads : ℕ → Thread) (k n t : ℕ) → none_counts threads k n ≡ true → 1 ≤ t → t ≤ n → holds_count k (threads t).stage ≡ false
-none_so threads k zero t e pos known = absurd (omega arith)
-none_so threads k (suc n) t e pos known = go (suc n == t) refl (none_so threads k n t)
-  where
-    go : (b : Bool) → (suc n == t) ≡ b → (none_counts threads k n ≡ true → 1 ≤ t → t ≤ n → holds_count k (threads t).stage ≡ false) → holds_count k (threads t).stage ≡ false
-    go true is rest = let here : holds_count k (threads (suc n)).stage ≡ false = grind (arith) in subst (λ (u : ℕ). holds_count k (threads u).stage ≡ false) (eqb-true (suc n) t is) here
-    go false apart rest = let later : none_counts threads k n ≡ true = grind (arith) in let other = eqb-false (suc n) t apart in rest later pos (omega arith)
-
-none_again : (threads : ℕ → Thread) (k n : ℕ) → ((t : ℕ) → 1 ≤ t → t ≤ n → holds_count k (threads t).stage ≡ false) → none_counts threads k n ≡ true
-none_again threads k zero h = refl
-none_again threads k (suc n) h =
-    let here : holds_count k (threads (suc n)).stage ≡ false = h (suc n) (omega arith) (omega arith) in
-    let later : none_counts threads k n ≡ true = none_again threads k n (λ t pos known. h t pos (omega arith)) in
-    ap (λ (b : Bool). not b && none_counts threads k n) here ∙ later
-
--- what the test says
-pub recount_so : (s : State) (k : ℕ) → may_recount s k ≡ true → MayRecount s k
-recount_so s k e =
-    record {
-      inside = grind (arith, nat_tests);
-      unslept = nobody_there (s.queues (counter_place s.layout k)) (grind (arith));
-      unknown = λ t pos known. none_so s.threads k s.layout.threads t (grind (arith)) pos known;
-    }
-
--- where it may, the test says so
-pub recount_again : (s : State) (k : ℕ) → MayRecount s k → may_recount s k ≡ true
-recount_again s k may =
-    let below : k < length s.layout.conditions = may.inside in
-    let inside : nat_lt k (length s.layout.conditions) ≡ true = grind (arith, nat_tests) in
-    let unslept : is_nobody (s.queues (counter_place s.layout k)) ≡ true = ap is_nobody may.unslept in
-    let unknown : none_counts s.threads k s.layout.threads ≡ true = none_again s.threads k s.layout.threads may.unknown in
-    grind (arith)
-
 -- ---- spares
 
 -- how it goes on: an unlock, or a wait
@@ -198,7 +163,7 @@ waits_at f e = absurd cc
 -- ---- events
 
 -- what holds where nothing happens, of a begin that isn't refused and of one that is, of a step, of a death, of a
--- sleeper's leave, of a time limit of a lock and of one of a wait, of a trim that is declined, of a renewal, of a reinit and of a remake, of a recount, and of a wake that is spared, holds
+-- sleeper's leave, of a time limit of a lock and of one of a wait, of a trim that is declined, of a renewal, of a reinit and of a remake, and of a wake that is spared, holds
 -- of each event
 pub by_event : (s : State) (P : Event → After → Type 0) → ((e : Event) → P e (nothing s))
     → ((t : ℕ) (o : Op) → 1 ≤ t → t ≤ s.layout.threads → Names s.layout o → (s.threads t).stage ≡ Idle → (b : Bool) → (acquires (operation_of o) && nat_le 2048 (s.threads t).held) ≡ b → P (Begin t o) (begun s t o (if b then Err XHELD else Ok (begins_at s.layout t o))))
@@ -214,10 +179,9 @@ pub by_event : (s : State) (P : Event → After → Type 0) → ((e : Event) →
     → ((t : ℕ) → 1 ≤ t → t ≤ s.layout.threads → (s.threads t).stage ≡ Reaped → P (Renew t) (renewed s t))
     → ((t m : ℕ) → MayReinit s t m → P (Reinit t m) (reinited s t m 0))
     → ((t m : ℕ) → MayRemake s t m → P (Remake t m) (reinited s t m (waiters_of (s.words (cell_place s.layout m)))))
-    → ((k : ℕ) → MayRecount s k → P (Recount k) (recounted s k))
     → ((t m : ℕ) (g : Led) (sp : Sparing s t m g) → P (Spare t sp.by) (spared s t (s.threads t).held m g))
     → (e : Event) → P e (happens s e)
-by_event s P none begins_so steps_so kills_so leaves_so expires_so oversleeps_so declines_so renews_so reinits_so remakes_so recounts_so spares_so (Begin t o) = go (may_begin s t o) refl
+by_event s P none begins_so steps_so kills_so leaves_so expires_so oversleeps_so declines_so renews_so reinits_so remakes_so spares_so (Begin t o) = go (may_begin s t o) refl
   where
     go : (b : Bool) → may_begin s t o ≡ b → P (Begin t o) (if b then begun s t o (first_stage s.layout t (s.threads t).held o) else nothing s)
     go true e =
@@ -228,10 +192,10 @@ by_event s P none begins_so steps_so kills_so leaves_so expires_so oversleeps_so
         subst (λ (r : Result Stage Reply). P (Begin t o) (begun s t o r)) (sym (first_is s.layout t (s.threads t).held o))
         (begins_so t o pos known (names_so s.layout o inside) (at_rest (s.threads t).stage (grind (arith, nat_tests))) (acquires (operation_of o) && nat_le 2048 (s.threads t).held) refl)
     go false e = none (Begin t o)
-by_event s P none begins_so steps_so kills_so leaves_so expires_so oversleeps_so declines_so renews_so reinits_so remakes_so recounts_so spares_so (Step t) = grind (arith)
-by_event s P none begins_so steps_so kills_so leaves_so expires_so oversleeps_so declines_so renews_so reinits_so remakes_so recounts_so spares_so (Kill t) = grind (arith)
-by_event s P none begins_so steps_so kills_so leaves_so expires_so oversleeps_so declines_so renews_so reinits_so remakes_so recounts_so spares_so (Leave t) = grind (arith)
-by_event s P none begins_so steps_so kills_so leaves_so expires_so oversleeps_so declines_so renews_so reinits_so remakes_so recounts_so spares_so (Expire t) = go (has_thread s t) refl
+by_event s P none begins_so steps_so kills_so leaves_so expires_so oversleeps_so declines_so renews_so reinits_so remakes_so spares_so (Step t) = grind (arith)
+by_event s P none begins_so steps_so kills_so leaves_so expires_so oversleeps_so declines_so renews_so reinits_so remakes_so spares_so (Kill t) = grind (arith)
+by_event s P none begins_so steps_so kills_so leaves_so expires_so oversleeps_so declines_so renews_so reinits_so remakes_so spares_so (Leave t) = grind (arith)
+by_event s P none begins_so steps_so kills_so leaves_so expires_so oversleeps_so declines_so renews_so reinits_so remakes_so spares_so (Expire t) = go (has_thread s t) refl
   where
     lapses : (m : ℕ) (p : Whole) → has_thread s t ≡ true → (s.threads t).stage ≡ Calling (OnMutex (Call.TimedLock m)) p → (a : Bool) → may_expire p.phase ≡ a → (b : Bool) → sleeps s t (Calling (OnMutex (Call.TimedLock m)) p) ≡ b
         → P (Expire t) (if a && b then lapsed s t (s.threads t).held (OnMutex (Call.TimedLock m)) p else nothing s)
@@ -255,7 +219,7 @@ by_event s P none begins_so steps_so kills_so leaves_so expires_so oversleeps_so
     go : (b : Bool) → has_thread s t ≡ b → P (Expire t) (if b then expired s t (s.threads t).held (s.threads t).stage else nothing s)
     go true there = at there (s.threads t).stage refl
     go false e = none (Expire t)
-by_event s P none begins_so steps_so kills_so leaves_so expires_so oversleeps_so declines_so renews_so reinits_so remakes_so recounts_so spares_so (Decline t) = go (has_thread s t) refl
+by_event s P none begins_so steps_so kills_so leaves_so expires_so oversleeps_so declines_so renews_so reinits_so remakes_so spares_so (Decline t) = go (has_thread s t) refl
   where
     trims : (o : Op) (p : Whole) → has_thread s t ≡ true → (s.threads t).stage ≡ Calling o p → (a : Bool) → is_trim (whole_access p) ≡ a → (b : Bool) → sleeps s t (Calling o p) ≡ b
         → P (Decline t) (if a && not b then spared s t (s.threads t).held (mutex_of s.layout o) (led o p (whole_led p (Trimmed false))) else nothing s)
@@ -273,7 +237,7 @@ by_event s P none begins_so steps_so kills_so leaves_so expires_so oversleeps_so
     go : (b : Bool) → has_thread s t ≡ b → P (Decline t) (if b then declined s t (s.threads t).held (s.threads t).stage else nothing s)
     go true there = at there (s.threads t).stage refl
     go false e = none (Decline t)
-by_event s P none begins_so steps_so kills_so leaves_so expires_so oversleeps_so declines_so renews_so reinits_so remakes_so recounts_so spares_so (Renew t) = go (has_thread s t && is_gone (s.threads t).stage) refl
+by_event s P none begins_so steps_so kills_so leaves_so expires_so oversleeps_so declines_so renews_so reinits_so remakes_so spares_so (Renew t) = go (has_thread s t && is_gone (s.threads t).stage) refl
   where
     go : (b : Bool) → (has_thread s t && is_gone (s.threads t).stage) ≡ b → P (Renew t) (if b then renewed s t else nothing s)
     go true e =
@@ -281,22 +245,17 @@ by_event s P none begins_so steps_so kills_so leaves_so expires_so oversleeps_so
         let known : t ≤ s.layout.threads = grind (arith, nat_tests) in
         renews_so t pos known (reaped_is (s.threads t).stage (grind (arith, nat_tests)))
     go false e = none (Renew t)
-by_event s P none begins_so steps_so kills_so leaves_so expires_so oversleeps_so declines_so renews_so reinits_so remakes_so recounts_so spares_so (Reinit t m) = go (may_reinit s t m) refl
+by_event s P none begins_so steps_so kills_so leaves_so expires_so oversleeps_so declines_so renews_so reinits_so remakes_so spares_so (Reinit t m) = go (may_reinit s t m) refl
   where
     go : (b : Bool) → may_reinit s t m ≡ b → P (Reinit t m) (if b then reinited s t m 0 else nothing s)
     go true e = reinits_so t m (reinit_so s t m e)
     go false e = none (Reinit t m)
-by_event s P none begins_so steps_so kills_so leaves_so expires_so oversleeps_so declines_so renews_so reinits_so remakes_so recounts_so spares_so (Remake t m) = go (may_remake s t m) refl
+by_event s P none begins_so steps_so kills_so leaves_so expires_so oversleeps_so declines_so renews_so reinits_so remakes_so spares_so (Remake t m) = go (may_remake s t m) refl
   where
     go : (b : Bool) → may_remake s t m ≡ b → P (Remake t m) (if b then reinited s t m (waiters_of (s.words (cell_place s.layout m))) else nothing s)
     go true e = remakes_so t m (remake_so s t m e)
     go false e = none (Remake t m)
-by_event s P none begins_so steps_so kills_so leaves_so expires_so oversleeps_so declines_so renews_so reinits_so remakes_so recounts_so spares_so (Recount k) = go (may_recount s k) refl
-  where
-    go : (b : Bool) → may_recount s k ≡ b → P (Recount k) (if b then recounted s k else nothing s)
-    go true e = recounts_so k (recount_so s k e)
-    go false e = none (Recount k)
-by_event s P none begins_so steps_so kills_so leaves_so expires_so oversleeps_so declines_so renews_so reinits_so remakes_so recounts_so spares_so (Spare t by) = go (has_thread s t) refl
+by_event s P none begins_so steps_so kills_so leaves_so expires_so oversleeps_so declines_so renews_so reinits_so remakes_so spares_so (Spare t by) = go (has_thread s t) refl
   where
     calls : (o : Op) (p : Whole) → has_thread s t ≡ true → (s.threads t).stage ≡ Calling o p → (a : Bool) → wakes_one p.phase ≡ a → (b : Bool) → is_left_to s t (mutex_of s.layout o) by ≡ b
         → P (Spare t by) (if a && b then spared s t (s.threads t).held (mutex_of s.layout o) (led o p (whole_led p (Count 1))) else nothing s)

@@ -187,7 +187,6 @@ module _ (s : State) (t : ℕ) (late : Bool) (h : IsLateAt (s.threads t).stage l
       (λ u pos known gone other. renewed_on u pos known)
       (λ u m may other. h)
       (λ u m may other. h)
-      (λ k may other. h)
       (λ u m g sp other. subst Stays (sym (spare_is s u m g sp inv)) (changes u _ (spares u m g sp.how)))
       e
     where
@@ -207,7 +206,6 @@ module _ (s : State) (t : ℕ) (late : Bool) (h : IsLateAt (s.threads t).stage l
   late_on (Event.Renew u) inv = others (Event.Renew u) inv tt
   late_on (Event.Reinit u m) inv = others (Event.Reinit u m) inv tt
   late_on (Event.Remake u m) inv = others (Event.Remake u m) inv tt
-  late_on (Event.Recount k) inv = others (Event.Recount k) inv tt
   late_on (Event.Spare u by) inv = others (Event.Spare u by) inv tt
 
 -- ---- runs

@@ -47,7 +47,7 @@ use Rattle.protocol.proofs.Events.{begins_at, by_event, by_stage, IsTrimming}
 use Rattle.protocol.proofs.Runs.{sound}
 use Rattle.protocol.proofs.NoteFacts.{IsOfSleep, behind_point, of_walk}
 use Rattle.protocol.proofs.Passing.{Begins_nothing, begins_stepped, begins_walked, last_begun-append}
-use Rattle.protocol.proofs.Vocabulary.{Led, WaitRow, recounted}
+use Rattle.protocol.proofs.Vocabulary.{Led, WaitRow}
 use Rattle.protocol.proofs.Events.{HowSpared, Of_unlock, Of_wait, Sparing}
 use Rattle.protocol.proofs.Sparing.{spare_is, spared_state, next_of, unwoken}
 use Rattle.lockword.specs.Threads.{most_threads}
@@ -381,9 +381,6 @@ spare_teaches s u m g sp = record {
     learns (Of_unlock c p is mutex at leads) b o h = unlocks c p b o (subst (λ (z : Stage). Learnt s.layout z b o) is h)
     learns (Of_wait c p x is mutex at leads) b o h = waits c p x b o (subst (λ (z : Stage). Learnt s.layout z b o) is h)
 
-recount_teaches : (s : State) (k : ℕ) → Teaches s 0 (recounted s k)
-recount_teaches s k = record { layout = refl; own = λ b o h. h; theirs = λ t apart. refl; others = λ t b o apart. (refl, refl) }
-
 -- a thread that lives anew is in no call
 renew_teaches : (s : State) (u : ℕ) → 1 ≤ u → u ≤ s.layout.threads → Teaches s u (renewed s u)
 renew_teaches s u pos known = record {
@@ -477,7 +474,6 @@ teaches s e inv =
     (λ t pos known gone. renew_teaches s t pos known)
     (λ t m may. reinit_teaches s t m 0 may.remake.resting)
     (λ t m may. reinit_teaches s t m _ may.resting)
-    (λ k may. recount_teaches s k)
     (λ t m g sp. subst (Teaches s t) (sym (spare_is s t m g sp inv)) (spare_teaches s t m g sp))
     e
 

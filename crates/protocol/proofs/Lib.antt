@@ -33,7 +33,6 @@ pub mod Queues
 pub mod Queued
 mod Departures
 pub mod Declines
-pub mod Recounting
 pub mod Sparing
 pub mod Expiring
 pub mod Oversleeping

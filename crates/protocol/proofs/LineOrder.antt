@@ -10,7 +10,6 @@ use Rattle.facts.specs.Facts.{thread_of, decides, is_passive, is_kill, is_renewa
 use Rattle.facts.specs.Orders.{Later, Each, Orderly}
 use Rattle.protocol.specs.Explained.{is_begin, is_last, decides_first, Within, AreWithin}
 use Rattle.protocol.proofs.NoteFacts.{IsOfSleep, behind_woken, behind_point, of_access, of_walk}
-use Rattle.protocol.proofs.Vocabulary.{Recounted}
 
 -- ---- which facts one event may tell, of thread u: no two points, and but for wakes nothing of others
 abbrev pub NoPoint : List Fact → Type 0
@@ -206,7 +205,6 @@ told_inside (Stepped u m None z ws ms y) = (slept_ordered u m z ws ms y).1
 told_inside (Stepped u m (Some d) z ws ms y) = let later = slept_ordered u m z ws ms y in (behind (Fact.Point d) refl refl _ later.0, later.1)
 told_inside (Killed t) = (tt, tt)
 told_inside (Left t) = (tt, tt)
-told_inside (Recounted k) = tt
 told_inside (Expired t (Mutex m)) = ((refl, refl, (λ e. refl), (refl, refl), tt), (tt, tt))
 told_inside (Expired t (Condition k)) = (tt, tt)
 told_inside (Renewed t) = (tt, tt)

@@ -42,7 +42,7 @@ use Rattle.exitwalk.specs.declared.row.Row.TheVariants as walk
 use Rattle.exitwalk.specs.Standings as walks
 use Rattle.protocol.proofs.NoteFacts.{IsOfSleep, behind_woken, behind_point}
 use Rattle.protocol.proofs.Cases.{by_same}
-use Rattle.protocol.proofs.Vocabulary.{CondPhase, Recounted, recounted}
+use Rattle.protocol.proofs.Vocabulary.{CondPhase}
 use Rattle.protocol.proofs.Events.{HowSpared, Of_unlock, Of_wait, Sparing}
 use Rattle.protocol.proofs.Sparing.{spare_is, spared_state, next_of, unwoken}
 use Rattle.protocol.proofs.Vocabulary.{CondRow, WaitRow}
@@ -148,7 +148,6 @@ own-calls t i Nothing ls = refl
 own-calls t i (Began u c x) ls = refl
 own-calls t i (Killed u) ls = refl
 own-calls t i (Left u) ls = refl
-own-calls t i (Recounted k) ls = refl
 own-calls t i (Expired u (Mutex m)) ls = refl
 own-calls t i (Expired u (Condition k)) ls = refl
 own-calls t i (Renewed u) ls = refl
@@ -385,10 +384,6 @@ spares_so s u m g sp = record {
     before (Of_wait c p x is mutex at leads) ls later =
         subst (λ (z : Stage). Goes s.layout u z (own u ls)) (sym is) (subst (λ (f : CondPhase). Goes s.layout u (AtCondition c (record p { phase = f })) (own u ls)) (sym at) (waits c p x (own u ls) later))
 
--- a counter goes back
-recounts_so : (s : State) (k : ℕ) → Adds s 0 (recounted s k)
-recounts_so s k = record { fine = tt; alone = tt; says = nothing_new; mine = λ i ls later. later; others = λ t apart. refl }
-
 -- its death is told of, and it is reaped
 mourned_on : (l : Layout') (u i : ℕ) (w : walks.Standing) (d : Option ℕ) (r : walk_row.Row) (ls : List Line) → Goes l u (stage_walked w r) (own u ls) → AfterKill u (own u (map (line_of i) (death_facts u d ++ reap_facts u (has_ended r)) ++ ls))
 mourned_on l u i w d r ls later = go d (has_ended r) (at_end r later)
@@ -457,7 +452,6 @@ adds s e inv =
     (λ u pos known gone. renews_so s u pos known gone)
     (λ u m may. reinits_so s u m 0 may.remake.resting)
     (λ u m may. reinits_so s u m _ may.resting)
-    (λ k may. recounts_so s k)
     (λ u m g sp. subst (Adds s u) (sym (spare_is s u m g sp inv)) (spares_so s u m g sp))
     e
 

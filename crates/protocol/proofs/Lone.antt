@@ -1,4 +1,4 @@
--- What a leave and a declined trim do, and a recount and a spare.
+-- What a leave and a declined trim do, and a spare.
 use Rattle.std.proofs.Common.{◌≡◌, ℕ, ◌≤◌, Bool, true, false, ◌&&◌, [], ◌∷◌, refl, sym, ap, ◌∙◌, subst}
 use Rattle.protocol.proofs.Vocabulary.{Layout', Op, Whole, whole_access, Stage, Calling, State, After, start, run, departed, nothing, is_asleep, happens, facts_of, if◌then◌else◌}
 use Rattle.facts.specs.declared.fact.Fact.TheVariants.{Wake}
@@ -15,11 +15,8 @@ use Rattle.protocol.proofs.Events.{is_known, trims_at}
 use Rattle.protocol.proofs.Runs.{start_kept, run_kept, run_layout}
 use Rattle.protocol.proofs.QueueRuns.{run_queued}
 use Rattle.std.proofs.Common.{List}
-use Rattle.protocol.proofs.Vocabulary.{Event, LeftTo, Thread, IsLayout, recounted}
-use Rattle.protocol.specs.Recounts.{OnlyRecounts, RecountsSo, RecountsAreLone}
+use Rattle.protocol.proofs.Vocabulary.{Event, LeftTo, Thread, IsLayout}
 use Rattle.protocol.specs.Spares.{OnlySpares, SparesSo, SparesAreLone}
-use Rattle.protocol.proofs.Events.{recount_again}
-use Rattle.protocol.proofs.Recounting.{recounted_counter, recounted_elsewhere, recount_rests}
 use Rattle.protocol.proofs.Sparing.{spare_goes, spare_rests}
 
 module _ (s : State) (t : ℕ) (inv : Kept s) (queued : Queued s) (pos : 1 ≤ t) (known : t ≤ s.layout.threads) where
@@ -76,21 +73,6 @@ leaves_lone l counters events is =
       leaves = λ t first last. leaves_so (run (start l counters) events) t kept queued first last;
       declines = λ t first last. declines_so (run (start l counters) events) t kept queued first last;
     })
-
--- ---- recounts
-
-recounts : (s : State) (k : ℕ) → RecountsSo s k
-recounts s k = record {
-  zero_again = λ may.
-      subst (λ (a : After). OnlyRecounts s a.state k × (facts_of a.note ≡ [])) (sym (ap (λ (b : Bool). if b then recounted s k else nothing s) (recount_again s k may))) (
-        record { layout = refl; counter = recounted_counter s k; words = λ p apart. recounted_elsewhere s k p apart; queues = λ key. refl; threads = λ u. refl },
-        refl,
-      );
-  else_nothing = λ never. recount_rests s k never;
-}
-
-pub recounts_lone : RecountsAreLone
-recounts_lone l counters events is k = recounts (run (start l counters) events) k
 
 -- ---- spares
 

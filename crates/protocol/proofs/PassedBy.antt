@@ -35,12 +35,10 @@ use Rattle.protocol.proofs.CondSteps.{cond_of}
 use Rattle.protocol.proofs.CondAccesses.{IsBefore, cond_stepping}
 use Rattle.protocol.proofs.Steps.{thread_after, went-is, cond_onto, cond_step, cond_note, its_mutex, its_cell, its_counter, cond_after, cell_at, counter_at}
 use Rattle.protocol.proofs.Splits.{Split, split, facts_among-append}
-use Rattle.protocol.proofs.Vocabulary.{Led, recounted, may_recount, holds_count, has_count}
+use Rattle.protocol.proofs.Vocabulary.{Led}
 use Rattle.protocol.proofs.Cases.{by_same}
 use Rattle.protocol.proofs.Changing.{theirs}
-use Rattle.protocol.proofs.Counters.{recount_or}
-use Rattle.protocol.proofs.Events.{HowSpared, Of_unlock, Of_wait, Sparing, recount_so}
-use Rattle.protocol.proofs.Recounting.{recounted_other, without_count}
+use Rattle.protocol.proofs.Events.{HowSpared, Of_unlock, Of_wait, Sparing}
 use Rattle.protocol.proofs.Sparing.{spare_is, spared_state, next_of, unwoken}
 
 -- ---- where a wait stands
@@ -340,16 +338,6 @@ module _ (s : State) (u : ℕ) (v : walks.Standing) where
     sleeps = λ t k h x. none_walked (Fact.Sleep t (Condition k)) u _ _ _ refl h;
   }
 
-recount_makes : (s : State) (k : ℕ) → Makes s 0 (recounted s k)
-recount_makes s k = record {
-  points = λ d h. absurd h;
-  unlocks = λ d h op x. absurd h;
-  past = λ none h. h;
-  behind = λ j first none h. absurd (omega (arith, first));
-  counts = λ d h c. absurd h;
-  sleeps = λ t j h b. h;
-}
-
 spare_makes : (s : State) (u m : ℕ) (g : Led) (sp : Sparing s u m g) → Makes s u (record { state = spared_state s u m g sp.how; note = unwoken u m })
 spare_makes s u m g sp = record {
   points = λ d h. absurd h;
@@ -391,29 +379,8 @@ makes s e inv counted =
     (λ t pos known gone. renew_makes s t pos known)
     (λ t m may. reinit_makes s t m 0 may.remake.first may.remake.last may.remake.resting)
     (λ t m may. reinit_makes s t m _ may.first may.last may.resting)
-    (λ k may. recount_makes s k)
     (λ t m g sp. subst (Makes s t) (sym (spare_is s t m g sp inv)) (spare_makes s t m g sp))
     e
-
--- a counter goes back: whoever saw it hasn't its count any more
-behind_zero : (n n' : ℕ) (f : CondPhase) → has_count f ≡ false → IsBehindIn n f → IsBehindIn n' f
-behind_zero n n' f none h = grind (arith)
-
-behind_recount : (s : State) (j k t : ℕ) → 1 ≤ t → t ≤ s.layout.threads → IsBehind s.layout s.words k (s.threads t).stage → IsBehind s.layout (happens s (Event.Recount j)).state.words k (s.threads t).stage
-behind_recount s j k t first last h = go (may_recount s j) refl
-  where
-    here : (g : Stage) → holds_count j g ≡ false → j ≡ k → IsBehind s.layout s.words k g → IsBehind s.layout (recounted s j).state.words k g
-    here (AtCondition c p) none same h = λ is. behind_zero _ _ p.phase (without_count j c p none (is ∙ sym same)) (h is)
-    here Idle none same h = tt
-    here (Calling o p) none same h = tt
-    here (Dying w) none same h = tt
-    here Reaped none same h = tt
-
-    go : (b : Bool) → may_recount s j ≡ b → IsBehind s.layout (if b then recounted s j else nothing s).state.words k (s.threads t).stage
-    go false e = h
-    go true e =
-        by_same j k (λ same. here (s.threads t).stage ((recount_so s j e).unknown t first last) same h)
-        (λ apart. behind_later s.layout s.words (recounted s j).state.words k (s.threads t).stage (let same = recounted_other s j k (λ is. apart (sym is)) in omega (arith, same)) h)
 
 -- ---- what one event is to any thread
 
@@ -442,9 +409,7 @@ module _ (s : State) (e : Event) (inv : Kept s) (counted : Counted s) (t : ℕ) 
       subst (λ (l : Layout'). IsBehind l s'.words k (s'.threads t).stage) (sym same_layout)
       (either (IsBehind s.layout s'.words k)
       (λ me. subst (λ (v : ℕ). 1 ≤ v → BeginsNone v told_facts → IsBehind s.layout s.words k (s.threads v).stage → IsBehind s.layout s'.words k (s'.threads v).stage) me (made.behind k) first none h)
-      (λ apart.
-      ⊎_elim (λ other. behind_later s.layout s.words s'.words k (s.threads t).stage (never_falls s (caller e) s' inv counted (passes s e inv counted other) k) h)
-      (λ recounts. subst (λ (x : Event). IsBehind s.layout (happens s x).state.words k (s.threads t).stage) (sym recounts.1) (behind_recount s recounts.0 k t first last h)) (recount_or e)))
+      (λ apart. behind_later s.layout s.words s'.words k (s.threads t).stage (never_falls s (caller e) s' inv counted (passes s e inv counted) k) h))
 
   -- a count on condition variable k leaves it behind, if it is past its release
   counted_by : (k : ℕ) (d : Decision) (b : Option Begun) → 1 ≤ t → t ≤ s.layout.threads → IsPast (s.threads t).stage → IsAmong (Fact.Point d) told_facts → Counts d.operation d.reply → IsTold s.layout (s.threads d.thread).stage b → IsOn k b → IsBehind s'.layout s'.words k (s'.threads t).stage

@@ -22,7 +22,6 @@ use Rattle.protocol.proofs.Declines.{spared_is, decline_queued}
 use Rattle.protocol.proofs.Runs.{sound, start_kept}
 use Rattle.protocol.proofs.Cases.{at_or_else}
 use Rattle.protocol.proofs.Seeing.{entry_in}
-use Rattle.protocol.proofs.Recounting.{recount_queued}
 use Rattle.protocol.proofs.Sparing.{spare_is, spare_queued}
 
 -- ---- a call that begins
@@ -100,7 +99,6 @@ queued_on s e inv queued =
     (λ t pos known gone. renew_queued s t pos known queued gone)
     (λ t m may. reinit_queued s t m 0 refl may.remake inv (nobody_kept s t m may) queued)
     (λ t m may. reinit_queued s t m _ (waiters_say_nothing (s.words (cell_place s.layout m))) may inv (sleepers_kept s m) queued)
-    (λ k may. recount_queued s k queued)
     (λ t m g sp. subst (λ (a : After). Queued a.state) (sym (spare_is s t m g sp inv)) (spare_queued s t m g sp queued))
     e
 

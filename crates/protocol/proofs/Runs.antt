@@ -34,9 +34,8 @@ use Rattle.protocol.proofs.Expiring.{expires_at, lapse_kept}
 use Rattle.protocol.proofs.Oversleeping.{overslept_kept}
 use Rattle.protocol.proofs.Declines.{declined_state, quiet, spared_is, decline_kept}
 use Rattle.buckets.specs.Queues.{without}
-use Rattle.protocol.proofs.Vocabulary.{Led, recounted}
+use Rattle.protocol.proofs.Vocabulary.{Led}
 use Rattle.protocol.proofs.Events.{Sparing}
-use Rattle.protocol.proofs.Recounting.{recount_kept, recounted_seen}
 use Rattle.protocol.proofs.Sparing.{spare_is, spare_kept, spared_state, unwoken}
 
 -- the decisions take the mutexes from what the one state's cells say to what the other's do
@@ -217,10 +216,6 @@ renew_sound s t inv pos known gone = record { kept = renew_kept s t pos known in
 reinit_sound : (s : State) (t m w : ℕ) → Says_nothing w → Kept s → MayRemake s t m → Sound' s (reinited s t m w)
 reinit_sound s t m w says inv may = record { kept = reinit_kept s t m w says may inv; same = refl; told = (may.inside, (may.unusable, unowned s t m w says may inv, reinited_seen s t m w says may), reinited_far s t m w says may, refl) }
 
--- and a recount, which changes no mutex
-recount_sound : (s : State) (k : ℕ) → Kept s → Sound' s (recounted s k)
-recount_sound s k inv = record { kept = recount_kept s k inv; same = refl; told = recounted_seen s k }
-
 -- and a wake that is spared
 spare_sound : (s : State) (t m : ℕ) (g : Led) (sp : Sparing s t m g) → Kept s → Sound' s (record { state = spared_state s t m g sp.how; note = unwoken t m })
 spare_sound s t m g sp inv = record { kept = spare_kept s t m g sp inv; same = refl; told = λ k. refl }
@@ -240,7 +235,6 @@ sound s e inv =
     (λ t pos known gone. renew_sound s t inv pos known gone)
     (λ t m may. reinit_sound s t m 0 refl inv may.remake)
     (λ t m may. reinit_sound s t m _ (waiters_say_nothing (s.words (cell_place s.layout m))) inv may)
-    (λ k may. recount_sound s k inv)
     (λ t m g sp. subst (Sound' s) (sym (spare_is s t m g sp inv)) (spare_sound s t m g sp inv))
     e
 

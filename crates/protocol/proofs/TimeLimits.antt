@@ -3,7 +3,7 @@ use Rattle.std.proofs.Common.{◌≡◌, ◌≢◌, ◌⊎◌, ⊎_elim, inl, in
 use Rattle.protocol.proofs.Vocabulary.{Answer, Exchanged, Changed, Object, Operation, Decision, Layout', Fields, fields_of, owner_of, word_of, answer_among, cell_place, place_in, place_met}
 use Rattle.protocol.proofs.Vocabulary.{Limit, Past, overslept}
 use Rattle.protocol.proofs.Vocabulary.{Reply, XHELD, Call, LockRow, UnlockRow, Phase, AtCell, Whole, whole_access, whole_led, after_cell, Op, OnMutex, OnCondition, mutex_of, condition_of, CondCall, CondPhase, CondRow, CondWhole, WaitRow, SignalRow, BroadcastRow, cond_access, cond_led}
-use Rattle.protocol.proofs.Vocabulary.{Event, Fact, Note, Walked, Stage, Idle, Calling, AtCondition, State, After, start, happens, notes, facts_of, facts_among, points_of, begun, departed, killed, lapsed, renewed, reinited, recounted, stepped, went, Thread, counter_place, seen, put, stands_in, stage_after, stage_at, led, led_at, is_asleep}
+use Rattle.protocol.proofs.Vocabulary.{Event, Fact, Note, Walked, Stage, Idle, Calling, AtCondition, State, After, start, happens, notes, facts_of, facts_among, points_of, begun, departed, killed, lapsed, renewed, reinited, stepped, went, Thread, counter_place, seen, put, stands_in, stage_after, stage_at, led, led_at, is_asleep}
 use Rattle.protocol.proofs.Vocabulary.{if◌then◌else◌, waiters_of, answer_of, walked, decision, moved_by, sleeps_at, slept_in, woken_by, not, ◌||◌, eqb-false, BeginsNone, Begun, Mutex, Condition}
 use Rattle.lockword.specs.declared.reply.Reply.TheVariants.{ETIMEDOUT}
 use Rattle.posixmutex.specs.Objects.{stepped as object_stepped}
@@ -397,7 +397,6 @@ module _ (s : State) (inv : Kept s) where
       (λ u pos known gone none. tt)
       (λ u k may none. ((λ e. cc e), tt))
       (λ u k may none. ((λ e. cc e), tt))
-      (λ k may none. tt)
       (λ u k g sp none. subst UntimedIn (sym (spare_is s u k g sp inv)) tt)
       e
 
@@ -601,7 +600,6 @@ module _ (s : State) (t m : ℕ) (inv : Kept s) (queued : Queued s) where
       (λ u pos known gone. renews u)
       (λ u k may. reinits u k 0 may.remake.resting)
       (λ u k may. reinits u k (waiters_of (s.words (cell_place s.layout k))) may.resting)
-      (λ k may h. (tt, inl (waits_where s (recounted s k).state t m (s.threads t).stage (λ q. q) h)))
       (λ u k g sp. subst Comes (sym (spare_is s u k g sp inv)) (spares u k g sp))
       e
 
@@ -631,7 +629,6 @@ module _ (s : State) (t m : ℕ) (inv : Kept s) (queued : Queued s) where
       (λ u pos known gone c w. (tt, tt))
       (λ u k may c w. untimed_reasons t m c (facts_of (reinited s u k 0).note) ((λ e. cc e), tt))
       (λ u k may c w. untimed_reasons t m c (facts_of (reinited s u k 0).note) ((λ e. cc e), tt))
-      (λ k may c w. tt)
       (λ u k g sp. subst Reasons (sym (spare_is s u k g sp inv)) (λ c w. tt))
       e
 

@@ -1,10 +1,10 @@
 -- Where no time limit comes, locks and waits with a limit are as those without one.
-use Rattle.std.proofs.Common.{◌≡◌, ℕ, zero, suc, ◌==◌, ◌&&◌, Bool, true, false, Some, None, Result, Ok, Err, List, [], ◌∷◌, length, map, refl, sym, ap, ◌∙◌}
+use Rattle.std.proofs.Common.{◌≡◌, ℕ, zero, suc, ◌==◌, ◌&&◌, Bool, true, false, Some, None, Result, Ok, Err, List, [], ◌∷◌, map, refl, sym, ap, ◌∙◌}
 use mathlib.Core.Path.{fun_ext}
 use Rattle.protocol.proofs.Vocabulary.{Operation, address_in, head_place, Begun, CondCall, CondPhase, CondOnward, CondWhole, Layout', Mutex, Condition, Queue, Access, Reply, XHELD, Phase, Onward, Whole, Call, Op, OnMutex, OnCondition, whole_access, whole_led, cond_access, cond_led, Trimmed, Count}
-use Rattle.protocol.proofs.Vocabulary.{mutex_of, begun_of, condition_of, Thread, Stage, Calling, AtCondition, Dying, Event, Note, Began, State, After, begun, departed, killed, walked, renewed, reinited, recounted, spared, went, nothing, put, waiters_of}
+use Rattle.protocol.proofs.Vocabulary.{mutex_of, begun_of, condition_of, Thread, Stage, Calling, AtCondition, Dying, Event, Note, Began, State, After, begun, departed, killed, walked, renewed, reinited, spared, went, nothing, put, waiters_of}
 use Rattle.protocol.proofs.Vocabulary.{cell_place, answer_of, is_alive, is_asleep, sleeps, stage_after, stage_at, stage_walked, led, led_at, happens, stepped, run, notes, held_after, if◌then◌else◌, not, ◌||◌, nat_lt, nat_le, stands_at, counter_place, first_stage}
-use Rattle.protocol.proofs.Vocabulary.{LeftTo, a_walk_minds, another_answers, answers, is_left_to, walk_minds, has_count, holds_count, none_counts, sparing, wakes_one}
+use Rattle.protocol.proofs.Vocabulary.{LeftTo, a_walk_minds, another_answers, answers, is_left_to, walk_minds, sparing, wakes_one}
 use Rattle.exitwalk.specs.Standings as walks
 use Rattle.exitwalk.specs.Walks as exit
 use Rattle.exitwalk.specs.declared.row.Row as walk_row
@@ -100,11 +100,6 @@ gone_same (Calling o p) = refl
 gone_same (AtCondition c p) = refl
 gone_same g = refl
 
-holds_same : (k : ℕ) (g : Stage) → holds_count k (unlimited_stage g) ≡ holds_count k g
-holds_same k (Calling o p) = refl
-holds_same k (AtCondition c p) = ap (λ (j : ℕ). (j == k) && has_count p.phase) (condition_same c)
-holds_same k g = refl
-
 places_same : (l : Layout') (g : Stage) → places_of l (unlimited_stage g) ≡ places_of l g
 places_same l (Calling (OnMutex (Call.TimedLock m)) p) = refl
 places_same l (Calling (OnMutex (Call.Lock m)) p) = refl
@@ -122,10 +117,6 @@ answers_same l words m t g = refl
 
 sleeps_same : (s : State) (t : ℕ) (g : Stage) → sleeps (unlimited_state s) t (unlimited_stage g) ≡ sleeps s t g
 sleeps_same s t g = ap (stands_at t s.queues) (places_same s.layout g)
-
-none_same : (s : State) (k n : ℕ) → none_counts (unlimited_state s).threads k n ≡ none_counts s.threads k n
-none_same s k zero = refl
-none_same s k (suc n) = λ i. not (holds_same k (s.threads (suc n)).stage i) && none_same s k n i
 
 another_same : (s : State) (t m n : ℕ) → another_answers (unlimited_state s) t m n ≡ another_answers s t m n
 another_same s t m zero = refl
@@ -319,8 +310,6 @@ happens_same s (Event.Reinit t m) none =
     choose (machine.may_reinit s t m) _ (reinited s t m 0) _ (nothing s) _ (ap (λ (b : Bool). (has_thread s t && b && nat_lt m s.layout.mutexes && is_unusable s m) && is_nobody (machine.sleepers s m)) (idle_same (s.threads t).stage)) refl refl
 happens_same s (Event.Remake t m) none =
     choose (machine.may_remake s t m) _ (reinited s t m (waiters_of (s.words (cell_place s.layout m)))) _ (nothing s) _ (ap (λ (b : Bool). has_thread s t && b && nat_lt m s.layout.mutexes && is_unusable s m) (idle_same (s.threads t).stage)) refl refl
-happens_same s (Event.Recount k) none =
-    choose (machine.may_recount s k) _ (recounted s k) _ (nothing s) _ (λ i. nat_lt k (length s.layout.conditions) && is_nobody (s.queues (counter_place s.layout k)) && none_same s k s.layout.threads i) refl refl
 happens_same s (Event.Spare t by) none = choose (has_thread s t) _ (sparing s t by (s.threads t).held (s.threads t).stage) _ (nothing s) _ refl (spares s t (s.threads t).held by (s.threads t).stage) refl
 
 -- ---- runs

@@ -26,7 +26,6 @@ use Rattle.protocol.proofs.Declines.{spared_is}
 use Rattle.protocol.proofs.Renewals.{renewed_seen}
 use Rattle.protocol.proofs.Reinits.{waiters_say_nothing, reinited_word, reinited_elsewhere, reinited_seen, reinited_far}
 use Rattle.protocol.proofs.Cases.{at_or_else}
-use Rattle.protocol.proofs.Recounting.{recounted_seen}
 
 -- ---- a reinit
 
@@ -153,7 +152,6 @@ module _ (s : State) (m : ℕ) (inv : Kept s) (lost : (seen s m).unusable ≡ tr
       (λ t pos known gone other. ap (λ (o : Object). o.unusable) (renewed_seen s t pos known m) ∙ lost)
       (λ t k may other. ap (λ (o : Object). o.unusable) (reinited_far s t k 0 refl may.remake m (λ e. other (sym e))) ∙ lost)
       (λ t k may other. ap (λ (o : Object). o.unusable) (reinited_far s t k _ (waiters_say_nothing (s.words (cell_place s.layout k))) may m (λ e. other (sym e))) ∙ lost)
-      (λ k may other. ap (λ (o : Object). o.unusable) (recounted_seen s k m) ∙ lost)
       (λ t k g sp other. lost)
       e
     where
@@ -195,7 +193,6 @@ module _ (s : State) (m : ℕ) (inv : Kept s) (lost : (seen s m).unusable ≡ tr
         (λ t pos known gone u there. there)
         (λ t k may u there. there)
         (λ t k may u there. there)
-        (λ k may u there. there)
         (λ t k g sp u there. there)
         e
       where
@@ -213,7 +210,6 @@ parted m (Event.Begin t o) es none = (tt, none)
 parted m (Event.Step t) es none = (tt, none)
 parted m (Event.Kill t) es none = (tt, none)
 parted m (Event.Leave t) es none = (tt, none)
-parted m (Event.Recount t) es none = (tt, none)
 parted m (Event.Spare t by) es none = (tt, none)
 parted m (Event.Expire t) es none = (tt, none)
 parted m (Event.Decline t) es none = (tt, none)

@@ -77,9 +77,8 @@ pub use Rattle.protocol.specs.Machine.{After, State, answer_of, begun, decision,
 pub use Rattle.protocol.specs.Machine.{is_calling, is_met, is_valid, joined, killed, Led, led, led_at, may_begin, moved_by, notes, nothing, place_met, put, queue_after, reply_at}
 pub use Rattle.protocol.specs.Machine.{returned, returned_at, run, sleepers, sleeps, slept_in, stage_after, stage_at, stage_walked, stands_in, start, stepped, told_of, walked}
 pub use Rattle.protocol.specs.Machine.{death_at, decided_at, departed, lapsed, mutex_at, reinited, renewed, spared, waiters_of, stands_at, went, woken, woken_by}
-pub use Rattle.protocol.specs.Machine.{another_answers, answers, counts_on, has_count, holds_count, may_recount, none_counts, recounted, sparing, wakes_one}
+pub use Rattle.protocol.specs.Machine.{another_answers, answers, sparing, wakes_one}
 pub use Rattle.protocol.specs.Machine.{a_walk_minds, is_left_to, is_owned, minds, overslept, waits_on, walk_minds}
-pub use Rattle.protocol.specs.Recounts.{MayRecount}
 pub use Rattle.protocol.specs.Spares.{AnotherAnswers, AWalkAnswers, IsLeftTo, In_unlock, In_wait, MaySpare, WakesOneOf}
 pub use Rattle.protocol.specs.Reinits.{MayReinit, MayRemake}
 pub use Rattle.protocol.specs.Notes.{death_facts, facts_of, line_of, lines_from, moves_to, point_facts, reap_facts, reinit_of, return_facts, sleep_facts}
@@ -93,7 +92,7 @@ pub use Rattle.protocol.specs.declared.event.Event.TheVariants.{Step}
 pub use Rattle.condvar.specs.declared.op.Op.{Op}
 pub use Rattle.condvar.specs.declared.op.Op.TheVariants.{OnCondition, OnMutex}
 pub use Rattle.protocol.specs.declared.note.Note.{Note}
-pub use Rattle.protocol.specs.declared.note.Note.TheVariants.{Began, Expired, Killed, Left, Nothing, Recounted, Reinited, Renewed, Stepped, Walked}
+pub use Rattle.protocol.specs.declared.note.Note.TheVariants.{Began, Expired, Killed, Left, Nothing, Reinited, Renewed, Stepped, Walked}
 pub use Rattle.protocol.specs.declared.thread.Stage.{Stage}
 pub use Rattle.protocol.specs.declared.thread.Stage.TheVariants.{AtCondition, Calling, Dying, Idle, Reaped}
 pub use Rattle.protocol.specs.declared.thread.Thread.{Thread}

@@ -24,7 +24,6 @@ use Rattle.protocol.proofs.Queued.{Queued, mine, out_awake}
 use Rattle.protocol.proofs.Queues.{not_true}
 use Rattle.protocol.proofs.QueueRuns.{run_queued, queued_on}
 use Rattle.protocol.proofs.Runs.{start_kept, run_kept}
-use Rattle.protocol.proofs.Recounting.{recounted_cell}
 
 -- a begin changes no word
 begins_stay : (s : State) (t : ℕ) (o : Op) (b : Bool) → WaitersStay s (begun s t o (if b then Err XHELD else Ok (begins_at s.layout t o))).state
@@ -49,7 +48,6 @@ stay_on s e inv =
     (λ t pos known gone m below on. inl (ap (λ (w : ℕ). (fields_of w).waiters) (renewed_cell s t pos known m) ∙ on))
     (λ t k may m below on. reinit_stays t k 0 refl may.remake (λ on. inr (may.unslept, unowned s t k 0 refl may.remake inv)) m on)
     (λ t k may m below on. let says = waiters_say_nothing (s.words (cell_place s.layout k)) in reinit_stays t k _ says may (λ on. inl (ap (λ (w : ℕ). (fields_of w).waiters) (reinited_word s t k _ says may) ∙ (waiters_kept (s.words (cell_place s.layout k)) ∙ on))) m on)
-    (λ k may m below on. inl (ap (λ (w : ℕ). (fields_of w).waiters) (recounted_cell s k m below) ∙ on))
     (λ t k g sp m below on. inl on)
     e
   where

@@ -268,7 +268,6 @@ turn s e inv queued t =
     (λ u pos known gone. Stays refl (λ key. refl))
     (λ u m may. Stays refl (λ key. refl))
     (λ u m may. Stays refl (λ key. refl))
-    (λ k may. Stays refl (λ key. refl))
     (λ u m g sp. subst (TurnOf s t (Event.Spare u sp.by)) (sym (spare_is s u m g sp inv)) (Stays refl (λ key. refl)))
     e
   where

@@ -338,7 +338,6 @@ module _ (s : State) (inv : Kept s) (queued : Queued s) (told : ℕ → Told) (b
   nothing_whom (Event.Renew t) = (refl, refl)
   nothing_whom (Event.Reinit t m) = (refl, refl)
   nothing_whom (Event.Remake t m) = (refl, refl)
-  nothing_whom (Event.Recount k) = (refl, refl)
   nothing_whom (Event.Spare t by) = (refl, refl)
 
   begin_whom : (t : ℕ) (c : Op) (full : Bool) → WhomAt (Event.Begin t c) (begun s t c (if full then Err XHELD else Ok (begins_at s.layout t c)))
@@ -383,7 +382,6 @@ module _ (s : State) (inv : Kept s) (queued : Queued s) (told : ℕ → Told) (b
       (λ t pos known gone. (refl, refl))
       (λ t m may. (refl, refl))
       (λ t m may. (refl, refl))
-      (λ k may. (refl, refl))
       (λ t m g sp. subst (WhomAt (Event.Spare t sp.by)) (sym (spare_is s t m g sp inv)) (refl, refl))
       e
 
@@ -404,7 +402,6 @@ woken_right l counters events is e = go e (next_whom (run s0 events) (run_kept s
     go (Event.Begin t c) h = h
     go (Event.Kill t) h = h
     go (Event.Leave t) h = h
-    go (Event.Recount t) h = h
     go (Event.Spare t by) h = h
     go (Event.Expire t) h = h
     go (Event.Decline t) h = h

@@ -6,8 +6,7 @@
 -- as a lock with a time limit, or in its condition variable's queue in one that was told as a wait with a time limit
 -- (`IsTold`); a decline where its next access is a trim (`IsAboutToTrim`); a renewal where it was reaped, and hasn't been
 -- renewed since; a reinit where it lives and is in no call, and the mutex, one of the layout, is unusable and nobody
--- sleeps on it, and a remake whoever sleeps on it; a recount and a spare (`IsSparedAccessOf`) where they
--- happen. Such an event is noted as what it is, every other as nothing, and that changes
+-- sleeps on it, and a remake whoever sleeps on it; a spare (`IsSparedAccessOf`) where it happens. Such an event is noted as what it is, every other as nothing, and that changes
 -- nothing: the law `events_apply`.
 use Rattle.std.specs.Prelude.{ℕ, length, ◌≡◌, ◌⊎◌, ◌<◌, ◌≤◌, ◌==◌, ◌&&◌, nat_le, true}
 use Rattle.std.specs.Prelude.{false, Option, Some, None, List, [], ◌∷◌, if◌then◌else◌}
@@ -30,7 +29,7 @@ use Rattle.protocol.specs.declared.event.Event.{Event}
 use Rattle.protocol.specs.declared.event.Event.TheVariants as event
 use Rattle.protocol.specs.declared.note.Note.{Note}
 use Rattle.protocol.specs.declared.note.Note.TheVariants.{Nothing, Began, Stepped, Killed}
-use Rattle.protocol.specs.declared.note.Note.TheVariants.{Walked, Left, Expired, Renewed, Reinited, Recounted}
+use Rattle.protocol.specs.declared.note.Note.TheVariants.{Walked, Left, Expired, Renewed, Reinited}
 use Rattle.facts.specs.declared.fact.Begun.{Begun}
 use Rattle.facts.specs.declared.fact.Queue.TheVariants.{Mutex, Condition}
 use Rattle.facts.specs.declared.fact.Fact.{Fact}
@@ -45,7 +44,6 @@ use Rattle.protocol.specs.declared.thread.Stage.TheVariants.{Idle, Calling, AtCo
 use Rattle.protocol.specs.Machine.{State, start, happens, run, notes, stands_in, sleepers}
 use Rattle.protocol.specs.Headline.{seen, facts_among}
 use Rattle.protocol.specs.Sleepers.{StandsIn}
-use Rattle.protocol.specs.Recounts.{MayRecount}
 use Rattle.protocol.specs.Spares.{MaySpare}
 
 -- ---- what a trace told of a thread
@@ -146,7 +144,7 @@ SleepsInTimedWait s t = (k : ℕ) × StandsIn s t (Condition k) × IsInTimedWait
 -- sleeps; an expiry where it sleeps in a lock with a time limit, or on a condition variable in a wait with one; a
 -- decline where it is about to trim; a renewal where its thread was reaped; a reinit where its thread lives and is in
 -- no call, and its mutex, one of the layout, is unusable and nobody sleeps on it; a remake likewise, whoever sleeps on
--- it; a recount where nobody may miss a signal by it; a spare where its thread is about to wake one of a mutex, for
+-- it; a spare where its thread is about to wake one of a mutex, for
 -- which another answers
 abbrev pub Applies : Layout' → State → List Note → Event → Type 0
 Applies l s ns (event.Begin t o) = IsThread l t × Names l o × BeginsAhead o × (last_told t ns ≡ AtRest)
@@ -160,7 +158,6 @@ Applies l s ns (event.Reinit t m) =
     IsThread l t × (last_told t ns ≡ AtRest) × (m < l.mutexes) × ((seen s m).unusable ≡ true) × (sleepers s m ≡ [])
 Applies l s ns (event.Remake t m) =
     IsThread l t × (last_told t ns ≡ AtRest) × (m < l.mutexes) × ((seen s m).unusable ≡ true)
-Applies l s ns (event.Recount k) = MayRecount s k
 Applies l s ns (event.Spare t by) = IsThread l t × MaySpare s t by
 
 -- a call that takes a mutex is refused at once where its thread owns 2,048
@@ -198,7 +195,6 @@ IsNotedAs l s (event.Decline t) n = IsQuietAccessOf l s t n
 IsNotedAs l s (event.Renew t) n = n ≡ Renewed t
 IsNotedAs l s (event.Reinit t m) n = n ≡ Reinited t m
 IsNotedAs l s (event.Remake t m) n = n ≡ Reinited t m
-IsNotedAs l s (event.Recount k) n = n ≡ Recounted k
 IsNotedAs l s (event.Spare t by) n = IsSparedAccessOf l s t n
 
 -- of a state that events lead to that were noted so: its layout is as it was, and each thread stands where it was told

@@ -1,8 +1,9 @@
 -- Counters of condition variables: how often it was signalled.
 --
 -- *Counting up.* With counters that are at most 2^32 - 1 at the beginning each is what it was then, and one more for
--- each signal and broadcast with OK whose call, as it was told, is on that condition variable; and from any moment on,
--- so long as it doesn't go back to 0, what it was then and those since: the law `counters_count_up`.
+-- each signal and broadcast with OK whose call, as it was told, is on that condition variable; and from any moment on
+-- what it was then and those since: the law `counters_count_up`. A counter that is full, at 2^32 - 1, stays so: signals
+-- and broadcasts are refused then (X_FULL), so that none wraps.
 use Rattle.std.specs.Prelude.{ℕ, length, ◌≡◌, ◌+◌, ◌<◌, ◌==◌, Option, Some, None, List, [], ◌∷◌, if◌then◌else◌}
 use Rattle.lockword.specs.declared.reply.Reply.{Reply}
 use Rattle.lockword.specs.declared.reply.Reply.TheVariants.{OK}
@@ -16,7 +17,6 @@ use Rattle.protocol.specs.declared.event.Event.{Event}
 use Rattle.protocol.specs.Machine.{State, start, run, notes}
 use Rattle.protocol.specs.Headline.{facts_among}
 use Rattle.protocol.specs.PassedBy.{ArePresets, call_told}
-use Rattle.protocol.specs.Recounts.{NobodyRecounts}
 
 -- 1 where a call is on condition variable k
 abbrev pub one_on : ℕ → Option ℕ → ℕ
@@ -38,18 +38,16 @@ signals_in k calls (Point d ∷ fs) = one_of k (calls d.thread) d.operation d.re
 signals_in k calls (f ∷ fs) = signals_in k calls fs
 
 -- behind these events, from state s on, and then those: the counter of condition variable k is what it was before
--- those, and one more for each signal and each broadcast on it with OK among them, where it doesn't go back to 0
+-- those, and one more for each signal and each broadcast on it with OK among them
 abbrev pub CountsUp : State → ℕ → List Event → List Event → Type 0
-CountsUp s k before after = NobodyRecounts k after
-    → (run (run s before) after).words (counter_place s.layout k) ≡ (run s before).words (counter_place s.layout k)
+CountsUp s k before after =
+    (run (run s before) after).words (counter_place s.layout k) ≡ (run s before).words (counter_place s.layout k)
     + signals_in k (λ t. call_told t (notes s before)) (facts_among (notes (run s before) after))
 
 -- whatever happens, with counters that are at most as large as they may be at the beginning: the counter of condition
--- variable k is what it was then, and one more for each such call; or those since it went back to 0 last, wherever that
--- was (`Recounts.antt`)
+-- variable k is what it was then, and one more for each such call; and from any moment on what it was, and those since
 pub record CountsFrom (l : Layout') (counters : ℕ → ℕ) (k : ℕ) : Type 0 where
-  pub first : (events : List Event) → NobodyRecounts k events
-      → (run (start l counters) events).words (counter_place l k)
+  pub first : (events : List Event) → (run (start l counters) events).words (counter_place l k)
       ≡ counters k + signals_in k (λ t. None) (facts_among (notes (start l counters) events))
   pub since : (before after : List Event) → CountsUp (start l counters) k before after
 

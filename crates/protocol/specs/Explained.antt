@@ -23,7 +23,7 @@ use Rattle.protocol.specs.declared.note.Note.{Note}
 use Rattle.protocol.specs.Notes.{lines_from}
 use Rattle.protocol.specs.Machine.{start, notes}
 
--- the thread that an event gives a turn; a recount gives none
+-- the thread that an event gives a turn
 abbrev pub caller : Event → ℕ
 caller (event.Begin t o) = t
 caller (event.Step t) = t
@@ -34,7 +34,6 @@ caller (event.Decline t) = t
 caller (event.Renew t) = t
 caller (event.Reinit t m) = t
 caller (event.Remake t m) = t
-caller (event.Recount k) = 0
 caller (event.Spare t by) = t
 
 -- the thread of event n, the first of the events having number i; 0 where there is no such event

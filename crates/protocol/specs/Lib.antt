@@ -5,7 +5,6 @@ pub mod Machine
 pub mod Headline
 pub mod Explained
 pub mod Sleepers
-pub mod Recounts
 pub mod Spares
 pub mod Lists
 pub mod Deaths

@@ -8,7 +8,7 @@
 -- doesn't sleep, or of a dying thread's walk; a kill takes a thread out of its queue and ends its call; a leave takes a
 -- sleeper out of its queue, and so does an expiry of one whose lock or wait has a time limit; a decline is the step of a thread
 -- whose next access is a trim, answered that this cleared nothing; a renewal lets a reaped thread live again; a reinit
--- makes an unusable mutex usable again. A recount puts a counter back to 0. A spare leaves out a wake for which another
+-- makes an unusable mutex usable again. A spare leaves out a wake for which another
 -- thread answers. An event that can't apply notes nothing and changes nothing.
 --
 -- *A leave and a declined trim.* A thread that sleeps stands where it goes on when it is woken; so a leave only takes
@@ -45,7 +45,7 @@
 -- bases meet at one word, and in one queue. An access is refused where the place isn't one of the layout's, and a
 -- requeue also from a word to itself. Source: futex(2) on shared futexes.
 use Rattle.std.specs.Prelude.{ℕ, zero, suc, not, ◌==◌, ◌+◌, ◌-◌, ◌/◌, ◌%◌, ◌^◌, Bool, true, false, ◌&&◌, ◌||◌, nat_le, nat_lt}
-use Rattle.std.specs.Prelude.{Option, Some, None, Result, Ok, Err, List, [], ◌∷◌, ◌++◌, length, take, drop, if◌then◌else◌}
+use Rattle.std.specs.Prelude.{Option, Some, None, Result, Ok, Err, List, [], ◌∷◌, ◌++◌, take, drop, if◌then◌else◌}
 use Rattle.lockword.specs.Cells.{fields_of, bit, waiters_alone}
 use Rattle.lockword.specs.declared.reply.Reply.{Reply}
 use Rattle.lockword.specs.declared.reply.Reply.TheVariants.{OK, EOWNERDEAD}
@@ -79,10 +79,8 @@ use Rattle.condvar.specs.declared.phase.CondOnward.{CondOnward}
 use Rattle.condvar.specs.Calls as conditions
 use Rattle.condvar.specs.Standings.{CondWhole}
 use Rattle.condvar.specs.Whole as condition
-use Rattle.condvar.specs.declared.row.CondRow.{CondRow}
 use Rattle.condvar.specs.declared.row.CondRow.TheVariants as cond_row
 use Rattle.condvar.specs.declared.wait.WaitRow.TheVariants as wait
-use Rattle.condvar.specs.declared.broadcast.BroadcastRow.TheVariants as broadcast
 use Rattle.facts.specs.declared.fact.Queue.{Queue}
 use Rattle.facts.specs.declared.fact.Queue.TheVariants.{Mutex, Condition}
 use Rattle.exitwalk.specs.declared.row.Part.TheVariants as part
@@ -97,7 +95,7 @@ use Rattle.condvar.specs.declared.op.Op.{Op}
 use Rattle.condvar.specs.declared.op.Op.TheVariants.{OnMutex, OnCondition}
 use Rattle.protocol.specs.declared.event.Event.{Event}
 use Rattle.protocol.specs.declared.event.Event.TheVariants.{Begin, Step, Kill, Leave, Expire, Decline, Renew, Reinit}
-use Rattle.protocol.specs.declared.event.Event.TheVariants.{Remake, Recount, Spare}
+use Rattle.protocol.specs.declared.event.Event.TheVariants.{Remake, Spare}
 use Rattle.protocol.specs.declared.event.LeftTo.{LeftTo}
 use Rattle.protocol.specs.declared.event.LeftTo.TheVariants as left_to
 use Rattle.protocol.specs.declared.thread.Thread.{Thread}
@@ -105,7 +103,7 @@ use Rattle.protocol.specs.declared.thread.Stage.{Stage}
 use Rattle.protocol.specs.declared.thread.Stage.TheVariants.{Idle, Calling, AtCondition, Dying, Reaped}
 use Rattle.protocol.specs.declared.note.Note.{Note}
 use Rattle.protocol.specs.declared.note.Note.TheVariants.{Nothing, Began, Stepped, Killed}
-use Rattle.protocol.specs.declared.note.Note.TheVariants.{Walked, Left, Expired, Renewed, Reinited, Recounted}
+use Rattle.protocol.specs.declared.note.Note.TheVariants.{Walked, Left, Expired, Renewed, Reinited}
 
 -- the words by place, who sleeps on each, also by place, in the order in which they are to be woken, and the threads by
 -- id
@@ -557,43 +555,6 @@ reinited s t m w = record { state = record s { words = put s.words (cell_place s
 abbrev pub waiters_of : ℕ → ℕ
 waiters_of w = bit (fields_of w).waiters waiters_alone
 
--- ---- recounts
-
--- a call on a condition variable has loaded its counter, and is still to compare that, or to count
-abbrev pub counts_on : CondRow → Bool
-counts_on (cond_row.Wait (wait.Release seen)) = true
-counts_on (cond_row.Wait (wait.Wake seen)) = true
-counts_on (cond_row.Wait (wait.Sleep seen)) = true
-counts_on (cond_row.Broadcast (broadcast.Count seen)) = true
-counts_on (cond_row.Broadcast (broadcast.SetWaiters seen)) = true
-counts_on (cond_row.Broadcast (broadcast.Move seen)) = true
-counts_on r = false
-
-abbrev pub has_count : CondPhase → Bool
-has_count (cond.AtWords r) = counts_on r
-has_count (cond.Announcing seen) = true
-has_count (cond.Unlinking u seen) = true
-has_count f = false
-
--- thread t's call is on condition variable k, and has its count
-abbrev pub holds_count : ℕ → Stage → Bool
-holds_count k (AtCondition c p) = (conditions.condition_of c == k) && has_count p.phase
-holds_count k g = false
-
--- none of the first n threads does
-abbrev pub none_counts : (ℕ → Thread) → ℕ → ℕ → Bool
-none_counts threads k zero = true
-none_counts threads k (suc n) = not (holds_count k (threads (suc n)).stage) && none_counts threads k n
-
--- condition variable k is one of the layout, nobody sleeps on its counter, and no call has its count
-abbrev pub may_recount : State → ℕ → Bool
-may_recount s k = nat_lt k (length s.layout.conditions) && is_nobody (s.queues (counter_place s.layout k))
-    && none_counts s.threads k s.layout.threads
-
--- its counter is 0 again
-abbrev pub recounted : State → ℕ → After
-recounted s k = record { state = record s { words = put s.words (counter_place s.layout k) 0 }; note = Recounted k }
-
 -- ---- wakes that are spared
 
 -- a call on a mutex, at this point, takes it or wakes one that sleeps on it, unless it finds it owned
@@ -706,8 +667,8 @@ sparing s t by held g = nothing s
 -- an idle, sleeping, reaped or unknown thread, a kill of a killed or unknown thread, a leave of a thread that doesn't
 -- sleep, an expiry of one that doesn't sleep in a lock with a time limit or on the condition variable of a wait with
 -- one, a decline of one that isn't about to trim, a renewal of one that wasn't reaped, a reinit by one that isn't idle,
--- or of a mutex that is usable or slept on, a remake by one that isn't idle, or of a mutex that is usable, a recount of
--- a counter that somebody sleeps on or knows, and a spare of a thread that isn't about to wake one of a mutex, or
+-- or of a mutex that is usable or slept on, a remake by one that isn't idle, or of a mutex that is usable, and a
+-- spare of a thread that isn't about to wake one of a mutex, or
 -- leaves it to one who doesn't answer for it, do nothing
 abbrev pub happens : State → Event → After
 happens s (Begin t o) = if may_begin s t o then begun s t o (first_stage s.layout t (s.threads t).held o) else nothing s
@@ -720,7 +681,6 @@ happens s (Renew t) = if has_thread s t && is_gone (s.threads t).stage then rene
 happens s (Reinit t m) = if may_reinit s t m then reinited s t m 0 else nothing s
 happens s (Remake t m) =
     if may_remake s t m then reinited s t m (waiters_of (s.words (cell_place s.layout m))) else nothing s
-happens s (Recount k) = if may_recount s k then recounted s k else nothing s
 happens s (Spare t by) = if has_thread s t then sparing s t by (s.threads t).held (s.threads t).stage else nothing s
 
 -- ---- runs

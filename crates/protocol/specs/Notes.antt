@@ -2,7 +2,7 @@
 --
 -- *What a note tells.* Facts, one after the other: a begin, a point, a sleep, wakes, moves, a return; a kill, a death
 -- of a mutex's owner, a reaping, a renewal; of a leave a wake; of an expiry a wake, and of a lock's a point; of a reinit a begin, a
--- point and a return; of a recount nothing. A call that is refused at once is decided
+-- point and a return. A call that is refused at once is decided
 -- and returns at its begin.
 use Rattle.std.specs.Prelude.{ℕ, ◌+◌, Bool, true, false, Option, Some, None, List, [], ◌∷◌, ◌++◌, map}
 use Rattle.lockword.specs.declared.reply.Reply.{Reply}
@@ -11,7 +11,7 @@ use Rattle.posixmutex.specs.declared.point.Operation.TheVariants as operation
 use Rattle.posixmutex.specs.declared.point.Decision.{Decision}
 use Rattle.protocol.specs.declared.note.Note.{Note}
 use Rattle.protocol.specs.declared.note.Note.TheVariants.{Nothing, Began, Stepped, Killed}
-use Rattle.protocol.specs.declared.note.Note.TheVariants.{Walked, Left, Expired, Renewed, Reinited, Recounted}
+use Rattle.protocol.specs.declared.note.Note.TheVariants.{Walked, Left, Expired, Renewed, Reinited}
 use Rattle.facts.specs.declared.fact.Begun.{Begun}
 use Rattle.facts.specs.declared.fact.Queue.{Queue}
 use Rattle.facts.specs.declared.fact.Queue.TheVariants.{Mutex, Condition}
@@ -54,7 +54,7 @@ reap_facts t true = Reap t ∷ []
 abbrev pub reinit_of : ℕ → Begun
 reinit_of m = record { operation = operation.Reinit; mutex = m; condition = None }
 
--- what an event did, one thing after the other; a reinit is told as a call of one event, a recount as nothing
+-- what an event did, one thing after the other; a reinit is told as a call of one event
 abbrev pub facts_of : Note → List Fact
 facts_of Nothing = []
 facts_of (Began t c refused) = Begin t c ∷ refusal_facts t c refused
@@ -68,7 +68,6 @@ facts_of (Expired t (Condition k)) = Wake t ∷ []
 facts_of (Renewed t) = Renew t ∷ []
 facts_of (Reinited t m) = Begin t (reinit_of m)
     ∷ Point (record { thread = t; mutex = m; operation = operation.Reinit; reply = OK }) ∷ Return t OK ∷ []
-facts_of (Recounted k) = []
 facts_of (Walked t death woken reaped) = death_facts t death ++ (map Wake woken ++ reap_facts t reaped)
 
 abbrev pub line_of : ℕ → Fact → Line

@@ -2,11 +2,16 @@
 --
 -- *Passed by.* A wait is passed by where its thread released its mutex, at a later event a signal or a broadcast
 -- counted on the condition variable, and at a later one still the thread, which had begun no other call, fell asleep
--- there. No wait is. The event at which a signal returns OK wakes the first of its condition
--- variable's queue, and nobody only where that was empty; the one at which a broadcast does moves all of it, in its
--- order, and leaves nobody there; nothing else is told of these events but the return. The law `nobody_is_passed_by`
--- states it of every layout and list of events, with counters that are at most 2^32 - 1 at the beginning. Source:
--- pthread_cond_signal(3p), pthread_cond_broadcast(3p).
+-- there. No wait is. The event at which a signal returns OK wakes the first of its condition variable's queue, and
+-- nobody only where that was empty; the one at which a broadcast does moves all of it, in its order, and leaves nobody
+-- there; nothing else is told of these events but the return. The law `nobody_is_passed_by` states it of every layout
+-- and list of events, with counters that are at most 2^32 - 1 at the beginning. Source: pthread_cond_signal(3p),
+-- pthread_cond_broadcast(3p).
+--
+-- *No counter wraps.* A wait tells by the counter's value whether a signal came since it looked, so no count may bring
+-- back a value that a waiter has seen. If no counter is above 2^32 - 1 at the beginning, none does: at 2^32 - 1 a
+-- signal and a broadcast are refused, and count no more (X_FULL). A counter that continued from 0 would need one more
+-- premise: that no waiter is stopped, between its look and its sleep, for 2^32 signals.
 use Rattle.std.specs.Prelude.{ℕ, ◌≡◌, ◌≢◌, ◌≤◌, ◌==◌, Option, Some, None, List, [], ◌∷◌, ◌++◌, map, take, if◌then◌else◌}
 use Rattle.lockword.specs.declared.reply.Reply.{Reply}
 use Rattle.lockword.specs.declared.reply.Reply.TheVariants.{OK}

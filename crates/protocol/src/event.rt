@@ -1,5 +1,5 @@
 //! Events: what a schedule lets happen, one thread's begin, access, death, leave, renewal or reinit at a time, or what
-//! becomes of one access or counter.
+//! becomes of one access.
 
 use condvar::Op;
 use lockword::Tid;
@@ -45,9 +45,6 @@ pub enum Event {
     /// that ends a reinit whose look at the word and question who sleeps came before, and changed nothing: WAITERS
     /// stays, for whoever sleeps on it by now.
     Remake(Tid, u16),
-    /// The counter of the condition variable with this number goes back to 0: nobody sleeps on it, and no call has
-    /// loaded it that is still to compare or to change it.
-    Recount(u16),
     /// The next access of the thread's call, the wake of one sleeper of its mutex, is spared: nobody is woken, and the
     /// thread is answered as if one had been. The mutex is left to another, who answers for it.
     Spare(Tid, LeftTo),

@@ -21,7 +21,6 @@ ghost use Rattle.protocol.specs.Counting.{CountersCountUp};
 ghost use Rattle.protocol.specs.Releases.{WaitsReleaseConsistentMutexes};
 ghost use Rattle.protocol.specs.Reinits.{NobodyJoinsAnUnusableMutex, UnusableStays};
 ghost use Rattle.protocol.specs.Reinits.{ReinitsFreeTheMutex, RemakesForgetNobody};
-ghost use Rattle.protocol.specs.Recounts.{RecountsAreLone};
 ghost use Rattle.protocol.specs.Spares.{SparesAreLone};
 
 /// Whatever happens, the points are one legal history of POSIX robust mutexes, which says at each moment what every
@@ -86,8 +85,8 @@ pub fn lists_are_kept()
 /// with a time limit, or on a condition variable in a wait that was; a decline is an access of its thread's call, and of that call's mutex, that tells nothing, where
 /// the thread's next access is a trim; a renewal is its thread's where that was reaped, and hasn't been renewed since;
 /// and a reinit is that of its mutex where its thread lives and is in no call, and the mutex, one of the layout, is
-/// unusable and nobody sleeps on it, and a remake whoever sleeps on it; a recount and a spare where
-/// their laws say. Every other event is noted as nothing, and changes nothing.
+/// unusable and nobody sleeps on it, and a remake whoever sleeps on it; a spare where its law
+/// says. Every other event is noted as nothing, and changes nothing.
 pub fn events_apply()
     ensures { EventsApply }
 {}
@@ -215,7 +214,8 @@ pub fn events_leave_the_rest()
 
 /// Whatever happens, with counters that are at most 2^32 - 1 at the beginning: each counter is what it was then, and
 /// one more for each signal and each broadcast on its condition variable that had its point with OK, by what was told;
-/// and from any moment on what it was then, and one more for each since, as long as it doesn't go back to 0.
+/// and from any moment on what it was then, and one more for each since. At 2^32 - 1 they are refused with `XFULL`, so
+/// that no counter wraps.
 pub fn counters_count_up()
     ensures { CountersCountUp }
 {}
@@ -224,13 +224,6 @@ pub fn counters_count_up()
 /// before, and the mutex was consistent. So no wait makes its mutex unusable.
 pub fn waits_release_consistent_mutexes()
     ensures { WaitsReleaseConsistentMutexes }
-{}
-
-/// Whatever happened before: the counter of a condition variable goes back to 0 exactly where nobody sleeps on it, and
-/// no call has loaded it that is still to compare it or to count; no other word changes, no queue and no thread, and
-/// nothing is told. So no wait misses a signal by it ([`nobody_is_passed_by`]).
-pub fn recounts_are_lone()
-    ensures { RecountsAreLone }
 {}
 
 /// Whatever happened before: the wake of one sleeper of a mutex, by an unlock or a wait, is spared exactly where the one

@@ -60,7 +60,7 @@ pub use laws::{
     history_is_legal, late_waits_time_out, leaves_and_declines_are_lone, lists_are_kept,
     lone_threads_come_to_rest, no_reaped_owner, no_sleeper_is_stranded, nobody_is_passed_by,
     nobody_joins_an_unusable_mutex, nobody_times_out_early, only_locks_and_waits_wait,
-    recounts_are_lone, reinits_free_the_mutex, remakes_forget_nobody, renewals_begin_anew,
+    reinits_free_the_mutex, remakes_forget_nobody, renewals_begin_anew,
     signals_are_right, sleeps_are_told, spares_are_lone,
     trace_is_explained, undivided_calls_reply, waited_is_owned, waiters_are_kept,
     waits_release_consistent_mutexes, wakes_are_right, walks_go_on, without_expiries_as_before,

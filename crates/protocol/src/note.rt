@@ -64,10 +64,6 @@ pub enum Note {
         thread: Tid,
         mutex: u16,
     },
-    /// The counter of a condition variable went back to 0.
-    Recounted {
-        condition: u16,
-    },
 }
 
 /// The threads of a batch that are still to be told of, in their order.
@@ -268,7 +264,6 @@ impl Note {
                 };
                 Facts::of_begin(thread, call, Some(Reply::OK))
             }
-            Note::Recounted { .. } => Facts::of(None, None, None),
         }
     }
 }
