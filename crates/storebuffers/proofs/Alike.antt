@@ -10,7 +10,7 @@ use Rattle.stepprograms.specs.declared.access.Answer.{Answer}
 use Rattle.stepprograms.specs.declared.access.Answer.TheVariants.{Fault, Trimmed, Count}
 use Rattle.stepprograms.specs.Accesses.{word_among, answer_among, is_nobody, sleeps_at}
 use Rattle.posixmutex.specs.declared.point.Operation.TheVariants as operation
-use Rattle.memorymap.specs.Layouts.{head_place, head_word, entry_place, cell_place, counter_place, address_in}
+use Rattle.memorymap.specs.Layouts.{head_place, head_word, entry_place, cell_place, address_in}
 use Rattle.facts.specs.declared.fact.Queue.{Queue}
 use Rattle.facts.specs.declared.fact.Queue.TheVariants.{Mutex, Condition}
 use Rattle.mutex.specs.Whole.{may_expire, whole_access, whole_led}
@@ -25,7 +25,7 @@ use Rattle.exitwalk.specs.declared.row.Part.TheVariants as part
 use Rattle.exitwalk.specs.declared.row.Row as walk_row
 use Rattle.exitwalk.specs.declared.row.Row.TheVariants as walk
 use Rattle.protocol.specs.declared.event.Event.{Event}
-use Rattle.protocol.specs.declared.event.Event.TheVariants.{Begin, Step, Kill, Leave, Expire, Decline, Renew, Reinit, Remake, Recount, Spare}
+use Rattle.protocol.specs.declared.event.Event.TheVariants.{Begin, Step, Kill, Leave, Expire, Decline, Renew, Reinit, Remake, Spare}
 use Rattle.protocol.specs.declared.event.LeftTo.{LeftTo}
 use Rattle.protocol.specs.declared.thread.Stage.{Stage}
 use Rattle.protocol.specs.declared.thread.Stage.TheVariants.{Idle, Calling, AtCondition, Dying, Reaped}
@@ -33,7 +33,7 @@ use Rattle.protocol.specs.declared.note.Note.TheVariants.{Stepped, Walked}
 use Rattle.protocol.specs.Machine.{State, After, put, place_met, is_met, words_after, answer_of, joined, moved_by, woken_by, queue_after, happens, nothing, begun, first_stage, went, walked}
 use Rattle.protocol.specs.Machine.{Led, led, led_at, held_after, decision, slept_in, stepped, declined, spared, killed, departed, renewed, reinited, has_thread, is_alive, is_asleep, is_gone, is_trim, sleeps}
 use Rattle.protocol.specs.Machine.{may_begin, may_reinit, may_remake, waiters_of, is_first, is_idle, sleepers, death_at, told_of, has_ended, stage_walked}
-use Rattle.protocol.specs.Machine.{expired, is_timed, lapsed, overslept, waits_on, may_recount, recounted, another_answers, answers, a_walk_minds, is_left_to, minds, walk_minds, wakes_one, wakes_next, sparing}
+use Rattle.protocol.specs.Machine.{expired, is_timed, lapsed, overslept, waits_on, another_answers, answers, a_walk_minds, is_left_to, minds, walk_minds, wakes_one, wakes_next, sparing}
 use Rattle.protocol.proofs.Puts.{by_put, put-same, put-other}
 use Rattle.protocol.proofs.Kept.{Kept, Sits}
 use Rattle.protocol.proofs.Renewals.{renewed_word, renewed_elsewhere}
@@ -233,9 +233,6 @@ module _ (s : State) (v : ℕ → ℕ) where
   expired_alike t held (AtCondition c p) = record { note = refl; rest = refl; does = λ p. refl }
   expired_alike t held (Dying w) = record { note = refl; rest = refl; does = λ p. refl }
   expired_alike t held Reaped = record { note = refl; rest = refl; does = λ p. refl }
-
-  recounted_alike : (k : ℕ) → Comes s v (Recount k) (recounted (with_words s v) k) (recounted s k)
-  recounted_alike k = record { note = refl; rest = refl; does = shared_put 0 (counter_place s.layout k) 0 (inr (k, refl)) }
 
   -- who answers for a mutex is no matter of words, but of what the dead had pending
   answers_same : (m u : ℕ) → 1 ≤ u → u ≤ s.layout.threads → Pending_as s v → (g : Stage) → (s.threads u).stage ≡ g → answers s.layout v m u g ≡ answers s.layout s.words m u g
@@ -438,8 +435,6 @@ events_alike s v (Renew t) inv views cells pending =
     (λ on. let there = known_thread s t (is_gone (s.threads t).stage) on in renewed_alike s v t there.0 there.1)
 events_alike s v (Reinit t m) inv views cells pending = reinit_alike s v t m (cells m)
 events_alike s v (Remake t m) inv views cells pending = remake_alike s v t m (cells m)
-events_alike s v (Recount k) inv views cells pending =
-    chosen s v (Recount k) (may_recount s k) (recounted (with_words s v) k) (recounted s k) (λ on. recounted_alike s v k)
 events_alike s v (Spare t by) inv views cells pending =
     chosen s v (Spare t by) (has_thread s t) (sparing (with_words s v) t by (s.threads t).held (s.threads t).stage) (sparing s t by (s.threads t).held (s.threads t).stage)
     (λ on. sparing_alike s v pending cells t by (s.threads t).held (s.threads t).stage (inside_of s v t (s.threads t).held (s.threads t).stage (sits on)))

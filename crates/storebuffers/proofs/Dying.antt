@@ -48,7 +48,6 @@ others_stand s e inv u = by_event s (λ e a. caller e ≢ u → a.state.threads 
     (λ t pos known is apart. put-other s.threads t _ u (λ e. apart (sym e)))
     (λ t m may apart. refl)
     (λ t m may apart. refl)
-    (λ k may apart. refl)
     (λ t m g is apart. put-other s.threads t _ u (λ e. apart (sym e)))
     e
 
@@ -106,7 +105,6 @@ dies_so s e = by_event s (λ e a. Dies s (caller e) (way s e a.note) a)
     (λ t pos known is. lives s t _ _ refl)
     (λ t m may e. inr (e, tt))
     (λ t m may e. inr (e, tt))
-    (λ k may e. inr (e, tt))
     (λ t m g is. lives s t _ _ (alive_spared s t m g is.how))
     e
   where

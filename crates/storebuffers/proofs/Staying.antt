@@ -16,7 +16,6 @@ use Rattle.protocol.specs.Machine.{reinited}
 use Rattle.memorymap.specs.Layouts.{cell_place}
 use Rattle.protocol.specs.Reinits.{MayRemake}
 use Rattle.protocol.proofs.Reinits.{Says_nothing, waiters_say_nothing, unowned, reinited_far}
-use Rattle.protocol.proofs.Recounting.{recounted_seen}
 use Rattle.storebuffers.proofs.Stores.{same_or_not}
 use Rattle.std.proofs.Common.{ℕ, ◌≤◌, true, refl, subst, arith}
 use Rattle.lockword.specs.declared.reply.Reply.TheVariants.{OK}
@@ -103,7 +102,6 @@ owner_stays s e inv = by_event s (OwnerStays s)
     (λ t pos known is u k apart own. ap (λ (o : Object). o.owner) (renewed_seen s t pos known k) ∙ own)
     (λ t m may u k apart own. anew_stays s inv t m 0 refl may.remake k _ own)
     (λ t m may u k apart own. anew_stays s inv t m _ (waiters_say_nothing (s.words (cell_place s.layout m))) may k _ own)
-    (λ c may u k apart own. ap (λ (o : Object). o.owner) (recounted_seen s c k) ∙ own)
     (λ t m g is u k apart own. own)
     e
 
@@ -209,6 +207,5 @@ own_stays s e inv = by_event s (OwnStays s)
     (λ t pos known is written. absurd written)
     (λ t m may written alive k own. anew_stays s inv t m 0 refl may.remake k _ own)
     (λ t m may written alive k own. anew_stays s inv t m _ (waiters_say_nothing (s.words (cell_place s.layout m))) may k _ own)
-    (λ c may written alive k own. ap (λ (o : Object). o.owner) (recounted_seen s c k) ∙ own)
     (λ t m g is written. absurd written)
     e
