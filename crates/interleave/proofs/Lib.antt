@@ -10,5 +10,4 @@ mod Expiring
 mod Leaving
 mod Renewing
 mod Reiniting
-mod Recounting
 mod Sparing

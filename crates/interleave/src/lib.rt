@@ -35,7 +35,6 @@ mod expiries;
 mod leaves;
 mod machine;
 mod ops;
-mod recounts;
 mod reinits;
 mod renewals;
 mod spares;

@@ -148,16 +148,15 @@ impl Machine {
     }
 
     /// What an event does. One that can't apply, as a step of a thread that sleeps or was reaped, the kill of one that
-    /// was killed, the renewal of one that wasn't reaped, the reinit of a mutex that is usable or slept on, the remake
-    /// of one that is usable, or the recount of a counter that a waiter has seen, is noted as nothing, and changes
-    /// nothing.
+    /// was killed, the renewal of one that wasn't reaped, the reinit of a mutex that is usable or slept on, or the
+    /// remake of one that is usable, is noted as nothing, and changes nothing.
     ///
     /// A kill takes the thread out of its queue and ends its call, in one event. Each later step of it is the next
     /// access of the kernel's walk; with the last one it is reaped, and from then on it owns no mutex, until it is
     /// renewed and takes one. A renewal leaves the thread in no call and its list empty; it changes no word but the
     /// three of its head. A reinit makes an unusable mutex on which nobody sleeps free again, by a thread that is in no
     /// call; it changes no word but the mutex's, which is 0 then. A remake does so whoever sleeps on the mutex, and
-    /// keeps WAITERS. A recount makes a counter 0. A spare goes on as if it had woken somebody, where another thread
+    /// keeps WAITERS. A spare goes on as if it had woken somebody, where another thread
     /// answers for the mutex.
     pub fn step(&mut self, event: Event) -> Note
         ensures state { state_of self.new ≡ (happens (state_of self.old) event).state }
@@ -178,8 +177,8 @@ impl Machine {
     }
 
     /// What the events do, one after the other, and a note of each. Where memory is refused, nothing has happened. The
-    /// events are any, in any order: begins of calls, steps, kills, leaves, declined trims, renewals, reinits, remakes,
-    /// recounts and spared wakes.
+    /// events are any, in any order: begins of calls, steps, kills, leaves, declined trims, renewals, reinits, remakes and
+    /// spared wakes.
     ///
     /// Of a machine to which nothing has happened, the notes tell a legal history: after each event, the points so far
     /// take every mutex, as POSIX sees it, from free to what its cell says of its owner, OWNER_DIED and UNUSABLE. And

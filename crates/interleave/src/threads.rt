@@ -17,7 +17,6 @@ use crate::deaths::{kill, walk_on};
 use crate::expiries::expire;
 use crate::leaves::{decline, leave};
 use crate::ops::begun;
-use crate::recounts::recount;
 use crate::reinits::{reinit, remake};
 use crate::renewals::renew;
 use crate::spares::spare;
@@ -363,7 +362,6 @@ pub(crate) fn apply(
         Event::Renew(thread) => renew(layout, memory, threads, thread),
         Event::Reinit(thread, mutex) => reinit(layout, memory, kernel, threads, thread, mutex),
         Event::Remake(thread, mutex) => remake(layout, memory, threads, thread, mutex),
-        Event::Recount(condition) => recount(layout, memory, kernel, threads, condition),
         Event::Spare(thread, by) => spare(layout, memory, kernel, threads, thread, by),
     }
 }
