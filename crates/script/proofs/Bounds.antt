@@ -14,12 +14,12 @@ use Rattle.condvar.specs.declared.op.Op.TheVariants.{OnMutex, OnCondition}
 use Rattle.mutex.specs.declared.call.Call.TheVariants as call
 use Rattle.condvar.specs.declared.call.CondCall.TheVariants as on
 use Rattle.condvar.specs.declared.call.Limit.TheVariants.{Ahead}
-use Rattle.script.specs.Forms.{CallForm, lock, trylock, timedlock, unlock, consistent, wait, timedwait, signal, broadcast, Form, silent, process, thread, member, mutex, mutexes, cond, begins, steps, kills, kills_all, goes, leaves, declines, expires, renews, reinits, remakes, recounts, spares, calls, locks, phase, dies, form_of, of_mode, has, words_form, or_else, name_form, step_form, die_form, mutexes_form, process_form, member_form, reinit_form, remake_form, locks_form, cond_form, call_form, calling_form, is_silent, is_name, is_stem}
+use Rattle.script.specs.Forms.{CallForm, lock, trylock, timedlock, unlock, consistent, wait, timedwait, signal, broadcast, Form, silent, process, thread, member, mutex, mutexes, cond, begins, steps, kills, kills_all, goes, leaves, declines, expires, renews, reinits, remakes, spares, calls, locks, phase, dies, form_of, of_mode, has, words_form, or_else, name_form, step_form, die_form, mutexes_form, process_form, member_form, reinit_form, remake_form, locks_form, cond_form, call_form, calling_form, is_silent, is_name, is_stem}
 use Rattle.lines.specs.Numbers.{is_number, within}
 use Rattle.lines.specs.Lines.{words_of}
 use Rattle.script.specs.Deaths.{death_by, deaths_by, death_of}
 use Rattle.script.specs.Scope.{Scope, Names, IsPossible, IsCondition, IsWithinLimits}
-use Rattle.script.specs.Reading.{refuse, place_of, process_of, is_declared, names_of, condition_names, with_entry, with_condition, with_thread, added, numbered, is_numbered, several, declares, process_declared, thread_declared, condition_declared, thread_of, call_of, first_of, begun, stepped, killed, all_killed, gone, left, declined, expired, renewed, reinited, remade, recounted, wake_spared, made, locked, died, with_action, enter, line_read}
+use Rattle.script.specs.Reading.{refuse, place_of, process_of, is_declared, names_of, condition_names, with_entry, with_condition, with_thread, added, numbered, is_numbered, several, declares, process_declared, thread_declared, condition_declared, thread_of, call_of, first_of, begun, stepped, killed, all_killed, gone, left, declined, expired, renewed, reinited, remade, wake_spared, made, locked, died, with_action, enter, line_read}
 use Rattle.lines.specs.Faults.{◌>>=◌}
 use Rattle.script.specs.declared.command.Mode.{Mode}
 use Rattle.script.specs.declared.command.Action.{Action}
@@ -118,7 +118,6 @@ once n t cs (action.Expire u) h alone = spared n t cs _ h refl
 once n t cs (action.Renew u) h alone = spared n t cs _ h refl
 once n t cs (action.Reinit u m) h alone = spared n t cs _ h refl
 once n t cs (action.Remake u m) h alone = spared n t cs _ h refl
-once n t cs (action.Recount k) h alone = spared n t cs _ h refl
 once n t cs (action.Spare u) h alone = spared n t cs _ h refl
 once n t cs (action.Go u) h alone = spared n t cs _ h refl
 once n t cs (action.Call u o) h alone = spared n t cs _ h refl
@@ -188,10 +187,6 @@ locking : (s : Scope) (t m : List ℕ) (count : Option ℕ) → IfSome count (λ
 locking s t m None range = tt
 locking s t m (Some k) range = chain (first_of s m k) (λ j. thread_of s t >>= λ i. Ok (action.Locks i j k)) (λ j. j + k ≤ length s.mutexes) (May s) (reached s m k)
     (λ j few. of_thread s t (λ i. action.Locks i j k) (λ i low high. ((low, high, range.0, few), tt)))
-
-counting : (s : Scope) (c : List ℕ) → IfOk (recounted s c) (May s)
-counting s c = chain (place_of c (condition_names s)) (λ k. Ok (action.Recount k)) (λ k. k < length (condition_names s)) (May s) (placed c (condition_names s))
-    (λ k its. let known : k < length s.conditions = omega (arith, its, length-map_of (λ d. d.0) s.conditions) in (known, tt))
 
 making_anew : (s : Scope) (t m : List ℕ) → IfOk (reinited s t m) (May s)
 making_anew s t m = chain (thread_of s t) (λ i. place_of m s.mutexes >>= λ j. Ok (action.Reinit i j)) (λ i. (1 ≤ i) × (i ≤ length s.threads)) (May s) (threaded s t)
@@ -339,7 +334,6 @@ entered n s (expires t) h k = may_ask n s (expired s t) h (of_thread s t (λ i. 
 entered n s (renews t) h k = may_ask n s (renewed s t) h (of_thread s t (λ i. action.Renew i) (λ i low high. ((low, high), tt)))
 entered n s (reinits t m) h k = may_ask n s (reinited s t m) h (making_anew s t m)
 entered n s (remakes t m) h k = may_ask n s (remade s t m) h (remaking s t m)
-entered n s (recounts c) h k = may_ask n s (recounted s c) h (counting s c)
 entered n s (spares t) h k = may_ask n s (wake_spared s t) h (of_thread s t (λ i. action.Spare i) (λ i low high. ((low, high), tt)))
 entered n s (calls t c) h k = may_ask n s (made s t c) h (calling s t c (λ i x. action.Call i x) (λ i x low high few. ((low, high, few), tt)))
 entered n s (locks t m count) h k = may_ask n s (locked s t m count) h (locking s t m count k)
@@ -366,7 +360,7 @@ fit_name : (w a : List ℕ) → IfSome (name_form w a) IsFit
 fit_name w a = either (not (is_name a)) None _ tt (either (bytes_eq w _) (Some (thread a)) _ tt (either (bytes_eq w _) (Some (mutex a)) _ tt
     (either (bytes_eq w _) (Some (kills a)) _ tt (either (bytes_eq w _) (Some (kills_all a)) _ tt (either (bytes_eq w _) (Some (goes a)) _ tt
     (either (bytes_eq w _) (Some (leaves a)) _ tt (either (bytes_eq w _) (Some (declines a)) _ tt (either (bytes_eq w _) (Some (renews a)) _ tt
-    (either (bytes_eq w _) (Some (recounts a)) _ tt (either (bytes_eq w _) (Some (spares a)) _ tt (either (bytes_eq w _) (Some (expires a)) None tt tt)))))))))))
+    (either (bytes_eq w _) (Some (spares a)) _ tt (either (bytes_eq w _) (Some (expires a)) None tt tt))))))))))
 
 fit_step : (w t n : List ℕ) → IfSome (step_form w t n) IsFit
 fit_step w t n = either (bytes_eq w _ && is_name t && is_number n) (Some (steps t (within 1 max_steps (digits_value 10 n)))) None (in_range 1 max_steps (digits_value 10 n)) tt

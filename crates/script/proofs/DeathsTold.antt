@@ -11,11 +11,11 @@ use Rattle.lines.specs.Faults.{◌>>=◌}
 use Rattle.lines.specs.Lines.{lines_of, words_of, bad_line}
 use Rattle.lines.specs.Numbers.{is_number, within}
 use Rattle.condvar.specs.declared.op.Op.{Op}
-use Rattle.script.specs.Forms.{CallForm, Form, silent, process, thread, member, mutex, mutexes, begins, steps, kills, kills_all, goes, leaves, declines, expires, renews, reinits, remakes, recounts, spares, calls, locks, phase, dies, is_silent, is_name, is_stem, has, of_mode, or_else, step_form, die_form, mutexes_form, process_form, member_form, reinit_form, remake_form, locks_form, cond_form, call_form, calling_form, words_form, form_of}
+use Rattle.script.specs.Forms.{CallForm, Form, silent, process, thread, member, mutex, mutexes, begins, steps, kills, kills_all, goes, leaves, declines, expires, renews, reinits, remakes, spares, calls, locks, phase, dies, is_silent, is_name, is_stem, has, of_mode, or_else, step_form, die_form, mutexes_form, process_form, member_form, reinit_form, remake_form, locks_form, cond_form, call_form, calling_form, words_form, form_of}
 use Rattle.script.specs.Forms as form
 use Rattle.script.specs.Deaths.{death_of}
 use Rattle.script.specs.Scope.{Scope}
-use Rattle.script.specs.Reading.{refuse, place_of, process_of, is_declared, condition_names, with_name, with_entry, with_thread, added, several, declares, thread_of, call_of, first_of, begun, stepped, killed, all_killed, gone, left, declined, expired, renewed, reinited, remade, recounted, wake_spared, made, locked, died, with_action, asked, enter, fault_at, met_at, line_read, finished, lines_read, text_read, nothing}
+use Rattle.script.specs.Reading.{refuse, place_of, process_of, is_declared, with_name, with_entry, with_thread, added, several, declares, thread_of, call_of, first_of, begun, stepped, killed, all_killed, gone, left, declined, expired, renewed, reinited, remade, wake_spared, made, locked, died, with_action, asked, enter, fault_at, met_at, line_read, finished, lines_read, text_read, nothing}
 use Rattle.script.specs.Processes.{said}
 use Rattle.script.specs.Dying.{thread_in, threads_in, thread_among, die_in, death_asked, deaths_asked, DeathsAreAsTold}
 use Rattle.script.specs.declared.command.Action.{Action}
@@ -108,9 +108,6 @@ locking : (s : Scope) (t m : List ℕ) (count : Option ℕ) → IfOk (locked s t
 locking s t m None = tt
 locking s t m (Some k) = chain (first_of s m k) (λ j. thread_of s t >>= λ i. Ok (action.Locks i j k)) (λ _. Unit {0}) (λ a. death_asked a ≡ []) (any (first_of s m k)) (λ j _. of_thread s t (λ i. action.Locks i j k) (λ i. refl))
 
-counting : (s : Scope) (c : List ℕ) → IfOk (recounted s c) (λ a. death_asked a ≡ [])
-counting s c = chain (place_of c (condition_names s)) (λ k. Ok (action.Recount k)) (λ _. Unit {0}) (λ a. death_asked a ≡ []) (any (place_of c (condition_names s))) (λ k _. refl)
-
 making_anew : (s : Scope) (t m : List ℕ) → IfOk (reinited s t m) (λ a. death_asked a ≡ [])
 making_anew s t m = chain (thread_of s t) (λ i. place_of m s.mutexes >>= λ j. Ok (action.Reinit i j)) (λ _. Unit {0}) (λ a. death_asked a ≡ []) (any (thread_of s t))
     (λ i _. chain (place_of m s.mutexes) (λ j. Ok (action.Reinit i j)) (λ _. Unit {0}) (λ a. death_asked a ≡ []) (any (place_of m s.mutexes)) (λ j _. refl))
@@ -156,7 +153,6 @@ entered n s (expires t) = quiet s _ (asks n s (expired s t) (of_thread s t (λ i
 entered n s (renews t) = quiet s _ (asks n s (renewed s t) (of_thread s t (λ i. action.Renew i) (λ i. refl)))
 entered n s (reinits t m) = quiet s _ (asks n s (reinited s t m) (making_anew s t m))
 entered n s (remakes t m) = quiet s _ (asks n s (remade s t m) (remaking s t m))
-entered n s (recounts c) = quiet s _ (asks n s (recounted s c) (counting s c))
 entered n s (spares t) = quiet s _ (asks n s (wake_spared s t) (of_thread s t (λ i. action.Spare i) (λ i. refl)))
 entered n s (calls t c) = quiet s _ (asks n s (made s t c) (calling s t c (λ i x. action.Call i x) (λ i x. refl)))
 entered n s (locks t m count) = quiet s _ (asks n s (locked s t m count) (locking s t m count))
@@ -178,27 +174,26 @@ abbrev Says : Form → List (List ℕ) → Type 0
 Says f ws = Given f → (told_thread f ≡ thread_in ws) × ((names : List (List ℕ)) → told_death names f ≡ die_in names ws)
 
 name_says : (w a : List ℕ) → IfSome (form.name_form w a) (λ f. Says f (w ∷ a ∷ []))
-name_says w a = go (is_name a) (bytes_eq w (codes "thread")) (bytes_eq w (codes "mutex")) (bytes_eq w (codes "kill")) (bytes_eq w (codes "killall")) (bytes_eq w (codes "go")) (bytes_eq w (codes "leave")) (bytes_eq w (codes "decline")) (bytes_eq w (codes "renew")) (bytes_eq w (codes "recount")) (bytes_eq w (codes "spare")) (bytes_eq w (codes "expire")) refl refl refl refl refl refl refl refl refl refl refl
+name_says w a = go (is_name a) (bytes_eq w (codes "thread")) (bytes_eq w (codes "mutex")) (bytes_eq w (codes "kill")) (bytes_eq w (codes "killall")) (bytes_eq w (codes "go")) (bytes_eq w (codes "leave")) (bytes_eq w (codes "decline")) (bytes_eq w (codes "renew")) (bytes_eq w (codes "spare")) (bytes_eq w (codes "expire")) refl refl refl refl refl refl refl refl refl refl
   where
     -- what is said of threads
     told : (x : Bool) → bytes_eq w (codes "thread") ≡ x → (if x then a ∷ [] else []) ≡ thread_in (w ∷ a ∷ [])
     told x e = ap (λ (b : Bool). if b then a ∷ [] else []) (sym e)
 
-    go : (n t m k l g v d r c s u : Bool) → bytes_eq w (codes "thread") ≡ t → bytes_eq w (codes "mutex") ≡ m → bytes_eq w (codes "kill") ≡ k → bytes_eq w (codes "killall") ≡ l → bytes_eq w (codes "go") ≡ g → bytes_eq w (codes "leave") ≡ v → bytes_eq w (codes "decline") ≡ d → bytes_eq w (codes "renew") ≡ r → bytes_eq w (codes "recount") ≡ c → bytes_eq w (codes "spare") ≡ s → bytes_eq w (codes "expire") ≡ u
-        → IfSome (if not n then None else (if t then Some (thread a) else (if m then Some (mutex a) else (if k then Some (kills a) else (if l then Some (kills_all a) else (if g then Some (goes a) else (if v then Some (leaves a) else (if d then Some (declines a) else (if r then Some (renews a) else (if c then Some (recounts a) else (if s then Some (spares a) else (if u then Some (expires a) else None)))))))))))) (λ f. Says f (w ∷ a ∷ []))
-    go false t m k l g v d r c s u et em ek el eg ev ed er ec es eu = tt
-    go true true m k l g v d r c s u et em ek el eg ev ed er ec es eu = λ _. (told true et, λ names. refl)
-    go true false true k l g v d r c s u et em ek el eg ev ed er ec es eu = λ _. (told false et, λ names. refl)
-    go true false false true l g v d r c s u et em ek el eg ev ed er ec es eu = λ _. (told false et, λ names. refl)
-    go true false false false true g v d r c s u et em ek el eg ev ed er ec es eu = λ _. (told false et, λ names. refl)
-    go true false false false false true v d r c s u et em ek el eg ev ed er ec es eu = λ _. (told false et, λ names. refl)
-    go true false false false false false true d r c s u et em ek el eg ev ed er ec es eu = λ _. (told false et, λ names. refl)
-    go true false false false false false false true r c s u et em ek el eg ev ed er ec es eu = λ _. (told false et, λ names. refl)
-    go true false false false false false false false true c s u et em ek el eg ev ed er ec es eu = λ _. (told false et, λ names. refl)
-    go true false false false false false false false false true s u et em ek el eg ev ed er ec es eu = λ _. (told false et, λ names. refl)
-    go true false false false false false false false false false true u et em ek el eg ev ed er ec es eu = λ _. (told false et, λ names. refl)
-    go true false false false false false false false false false false true et em ek el eg ev ed er ec es eu = λ _. (told false et, λ names. refl)
-    go true false false false false false false false false false false false et em ek el eg ev ed er ec es eu = tt
+    go : (n t m k l g v d r s u : Bool) → bytes_eq w (codes "thread") ≡ t → bytes_eq w (codes "mutex") ≡ m → bytes_eq w (codes "kill") ≡ k → bytes_eq w (codes "killall") ≡ l → bytes_eq w (codes "go") ≡ g → bytes_eq w (codes "leave") ≡ v → bytes_eq w (codes "decline") ≡ d → bytes_eq w (codes "renew") ≡ r → bytes_eq w (codes "spare") ≡ s → bytes_eq w (codes "expire") ≡ u
+        → IfSome (if not n then None else (if t then Some (thread a) else (if m then Some (mutex a) else (if k then Some (kills a) else (if l then Some (kills_all a) else (if g then Some (goes a) else (if v then Some (leaves a) else (if d then Some (declines a) else (if r then Some (renews a) else (if s then Some (spares a) else (if u then Some (expires a) else None))))))))))) (λ f. Says f (w ∷ a ∷ []))
+    go false t m k l g v d r s u et em ek el eg ev ed er es eu = tt
+    go true true m k l g v d r s u et em ek el eg ev ed er es eu = λ _. (told true et, λ names. refl)
+    go true false true k l g v d r s u et em ek el eg ev ed er es eu = λ _. (told false et, λ names. refl)
+    go true false false true l g v d r s u et em ek el eg ev ed er es eu = λ _. (told false et, λ names. refl)
+    go true false false false true g v d r s u et em ek el eg ev ed er es eu = λ _. (told false et, λ names. refl)
+    go true false false false false true v d r s u et em ek el eg ev ed er es eu = λ _. (told false et, λ names. refl)
+    go true false false false false false true d r s u et em ek el eg ev ed er es eu = λ _. (told false et, λ names. refl)
+    go true false false false false false false true r s u et em ek el eg ev ed er es eu = λ _. (told false et, λ names. refl)
+    go true false false false false false false false true s u et em ek el eg ev ed er es eu = λ _. (told false et, λ names. refl)
+    go true false false false false false false false false true u et em ek el eg ev ed er es eu = λ _. (told false et, λ names. refl)
+    go true false false false false false false false false false true et em ek el eg ev ed er es eu = λ _. (told false et, λ names. refl)
+    go true false false false false false false false false false false et em ek el eg ev ed er es eu = tt
 
 three_say : (w a n : List ℕ) → IfSome (or_else (step_form w a n) (or_else (die_form w a n) (or_else (mutexes_form w a n) (or_else (process_form w a n) (or_else (member_form w a n) (or_else (reinit_form w a n) (remake_form w a n))))))) (λ f. Says f (w ∷ a ∷ n ∷ []))
 three_say w a n = go (bytes_eq w (codes "step") && is_name a && is_number n) (bytes_eq w (codes "die") && is_name a && is_number n) (bytes_eq w (codes "mutexes") && is_stem a && is_number n) (bytes_eq w (codes "process") && is_name a && is_number n) (bytes_eq w (codes "thread") && is_name a && is_name n) (bytes_eq w (codes "reinit") && is_name a && is_name n) (bytes_eq w (codes "remake") && is_name a && is_name n) refl refl refl refl refl refl refl

@@ -19,7 +19,6 @@ death_by t (action.Expire u) = None
 death_by t (action.Renew u) = None
 death_by t (action.Reinit u m) = None
 death_by t (action.Remake u m) = None
-death_by t (action.Recount k) = None
 death_by t (action.Spare u) = None
 death_by t (action.Call u k) = None
 death_by t (action.Locks u m n) = None

@@ -63,7 +63,6 @@ pub data Form : Type 0 where
   renews : List ℕ → Form
   reinits : List ℕ → List ℕ → Form
   remakes : List ℕ → List ℕ → Form
-  recounts : List ℕ → Form
   spares : List ℕ → Form
   calls : List ℕ → CallForm → Form
   locks : List ℕ → List ℕ → Option ℕ → Form
@@ -76,7 +75,7 @@ is_silent [] = true
 is_silent (b ∷ bs) = b == 35
 
 -- `thread NAME` and `mutex NAME`, `kill T`, `killall PROCESS`, `go T`, `leave T`, `decline T` and `renew T`;
--- `recount C`, `spare T` and `expire T`
+-- `spare T` and `expire T`
 abbrev pub name_form : List ℕ → List ℕ → Option Form
 name_form w a = if not (is_name a) then None
     else (if bytes_eq w (codes "thread") then Some (thread a)
@@ -87,9 +86,8 @@ name_form w a = if not (is_name a) then None
     else (if bytes_eq w (codes "leave") then Some (leaves a)
     else (if bytes_eq w (codes "decline") then Some (declines a)
     else (if bytes_eq w (codes "renew") then Some (renews a)
-    else (if bytes_eq w (codes "recount") then Some (recounts a)
     else (if bytes_eq w (codes "spare") then Some (spares a)
-    else (if bytes_eq w (codes "expire") then Some (expires a) else None)))))))))))
+    else (if bytes_eq w (codes "expire") then Some (expires a) else None))))))))))
 
 -- `step T N`
 abbrev pub step_form : List ℕ → List ℕ → List ℕ → Option Form
@@ -216,7 +214,6 @@ threads_have (expires t) = false
 threads_have (renews t) = false
 threads_have (reinits t m) = false
 threads_have (remakes t m) = false
-threads_have (recounts c) = false
 threads_have (spares t) = false
 threads_have (calls t c) = is_untimed c
 threads_have (locks t m n) = false

@@ -17,7 +17,7 @@ use Rattle.condvar.specs.declared.op.Op.TheVariants.{OnMutex, OnCondition}
 use Rattle.script.specs.Forms.{CallForm, lock, trylock, timedlock, unlock, consistent, wait, timedwait, signal}
 use Rattle.script.specs.Forms.{broadcast, Form, silent}
 use Rattle.script.specs.Forms.{process, thread, member, mutex, mutexes, cond, begins, steps, kills, kills_all}
-use Rattle.script.specs.Forms.{goes, leaves, declines, expires, renews, reinits, remakes, recounts, spares}
+use Rattle.script.specs.Forms.{goes, leaves, declines, expires, renews, reinits, remakes, spares}
 use Rattle.script.specs.Forms.{calls, locks, phase, dies, form_of}
 use Rattle.lines.specs.Numbers.{is_number}
 use Rattle.lines.specs.Lines.{lines_of, bad_line}
@@ -180,9 +180,6 @@ reinited s t m = thread_of s t >>= λ i. place_of m s.mutexes >>= λ j. Ok (acti
 abbrev pub remade : Scope → List ℕ → List ℕ → Result Action Fault
 remade s t m = thread_of s t >>= λ i. place_of m s.mutexes >>= λ j. Ok (action.Remake i j)
 
-abbrev pub recounted : Scope → List ℕ → Result Action Fault
-recounted s c = place_of c (condition_names s) >>= λ k. Ok (action.Recount k)
-
 abbrev pub wake_spared : Scope → List ℕ → Result Action Fault
 wake_spared s t = thread_of s t >>= λ i. Ok (action.Spare i)
 
@@ -230,7 +227,6 @@ enter n s (expires t) = asked n s (expired s t)
 enter n s (renews t) = asked n s (renewed s t)
 enter n s (reinits t m) = asked n s (reinited s t m)
 enter n s (remakes t m) = asked n s (remade s t m)
-enter n s (recounts c) = asked n s (recounted s c)
 enter n s (spares t) = asked n s (wake_spared s t)
 enter n s (calls t c) = asked n s (made s t c)
 enter n s (locks t m count) = asked n s (locked s t m count)

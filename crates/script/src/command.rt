@@ -45,8 +45,6 @@ pub enum Action {
     Reinit(Tid, u16),
     /// One remake event, of the mutex with this number.
     Remake(Tid, u16),
-    /// One recount event, of the condition variable with this number.
-    Recount(u16),
     /// One spare event.
     Spare(Tid),
     /// Step events until the thread rests: until it is in no call and not dying, or sleeps.

@@ -6,7 +6,7 @@ ghost use Rattle.script.specs.Limits.{max_conditions, max_lines, max_mutexes, ma
 ghost use Rattle.script.specs.Outcome.{Gives};
 ghost use Rattle.script.specs.Reading.{all_killed, asked, begun, call_of, condition_declared};
 ghost use Rattle.script.specs.Reading.{condition_names, declares, declined, died, enter, expired, first_of, gone, killed};
-ghost use Rattle.script.specs.Reading.{recounted, wake_spared};
+ghost use Rattle.script.specs.Reading.{wake_spared};
 ghost use Rattle.script.specs.Reading.{left, line_read, locked, made, mutex_declared, mutexes_declared};
 ghost use Rattle.script.specs.Reading.{nothing, place_of, process_declared, process_of, reinited, remade, renewed};
 ghost use Rattle.script.specs.Reading.{stepped, thread_declared, thread_of, with_action, with_thread};
@@ -338,16 +338,6 @@ impl Draft {
         self.ask(number, action)
     }
 
-    fn recount(&mut self, number: usize, condition: &str) -> Result<(), Fault>
-        requires { IsWithinLimits (scope_of self.old) }
-        ensures gives { Gives (λ _. scope_of self.new) result
-            (asked number (scope_of self.old) (recounted (scope_of self.old) condition.now)) }
-        ensures mode { self.new.mode ≡ self.old.mode }
-    {
-        let condition = self.condition(condition)?;
-        self.ask(number, Action::Recount(condition))
-    }
-
     fn spare(&mut self, number: usize, thread: &str) -> Result<(), Fault>
         requires { IsWithinLimits (scope_of self.old) }
         ensures gives { Gives (λ _. scope_of self.new) result
@@ -444,7 +434,6 @@ impl Draft {
             Line::Renew(thread) => self.renew(number, thread),
             Line::Reinit(thread, mutex) => self.reinit(number, thread, mutex),
             Line::Remake(thread, mutex) => self.remake(number, thread, mutex),
-            Line::Recount(condition) => self.recount(number, condition),
             Line::Spare(thread) => self.spare(number, thread),
             Line::Go(thread) => self.go(number, thread),
             Line::Call(thread, call) => self.make(number, thread, call),

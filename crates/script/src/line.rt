@@ -51,8 +51,6 @@ pub enum Line<'a> {
     Reinit(&'a str, &'a str),
     /// A thread and a mutex.
     Remake(&'a str, &'a str),
-    /// A condition variable.
-    Recount(&'a str),
     Spare(&'a str),
     Go(&'a str),
     Call(&'a str, NamedCall<'a>),
@@ -87,7 +85,6 @@ fn of_a_name<'a>(keyword: &'a str, name: &'a str) -> Option<Line<'a>>
         "leave" => Some(Line::Leave(name)),
         "decline" => Some(Line::Decline(name)),
         "renew" => Some(Line::Renew(name)),
-        "recount" => Some(Line::Recount(name)),
         "spare" => Some(Line::Spare(name)),
         "expire" => Some(Line::Expire(name)),
         _ => None,
@@ -304,7 +301,7 @@ fn is_of_threads(line: &Line<'_>) -> bool
         Line::Expire(_) => false,
         Line::Renew(_) => false,
         Line::Reinit(..) | Line::Remake(..) => false,
-        Line::Recount(_) | Line::Spare(_) => false,
+        Line::Spare(_) => false,
     }
 }
 

@@ -150,7 +150,6 @@ fn play_action(machine: &mut Machine, notes: &mut Vec<Note>, action: Action) -> 
         Action::Remake(thread, mutex) => {
             play_event(machine, notes, Event::Remake(thread, mutex))
         }
-        Action::Recount(condition) => play_event(machine, notes, Event::Recount(condition)),
         Action::Spare(thread) => play_event(machine, notes, Event::Spare(thread, LeftTo::Thread)),
         Action::Go(thread) => play_to_rest(machine, notes, thread),
         Action::Call(thread, op) => play_call(machine, notes, thread, op),
