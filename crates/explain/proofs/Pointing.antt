@@ -54,10 +54,9 @@ no_word w =
     pick IsNoWord w (codes "leave") (text (codes "leave") (codes "leave", (refl, refl))) (λ e7.
     pick IsNoWord w (codes "expire") (text (codes "expire") (codes "expire", (refl, refl))) (λ e18.
     pick IsNoWord w (codes "decline") (text (codes "decline") (codes "decline", (refl, refl))) (λ e8.
-    pick IsNoWord w (codes "recount") (text (codes "recount") (codes "recount", (refl, refl))) (λ e9.
     pick IsNoWord w (codes "spare") (text (codes "spare") (codes "spare", (refl, refl))) (λ e10.
     pick IsNoWord w (codes "go") (text (codes "go") (codes "go", (refl, refl))) (λ e13.
     pick IsNoWord w (codes "locks") (text (codes "locks") (codes "locks", (refl, refl))) (λ e14.
     pick IsNoWord w (codes "phase") (text (codes "phase") (codes "phase", (refl, refl))) (λ e15.
     pick IsNoWord w (codes "die") (text (codes "die") (codes "die", (refl, refl))) (λ e16 other.
-    rw (e1, e2, e3, e4, e5, e6, e17, e7, e18, e8, e9, e10, e13, e14, e15, e16) refl))))))))))))))))
+    rw (e1, e2, e3, e4, e5, e6, e17, e7, e18, e8, e10, e13, e14, e15, e16) refl)))))))))))))))

@@ -37,12 +37,11 @@ uses_of w call = if bytes_eq w (codes "thread") then (Processes, 2) ∷ []
     else (if bytes_eq w (codes "decline") then (Threads, 1) ∷ []
     else (if bytes_eq w (codes "go") then (Threads, 1) ∷ []
     else (if bytes_eq w (codes "die") then (Threads, 1) ∷ []
-    else (if bytes_eq w (codes "recount") then (Conditions, 1) ∷ []
     else (if bytes_eq w (codes "spare") then (Threads, 1) ∷ []
     else (if bytes_eq w (codes "killall") then (Processes, 1) ∷ []
     else (if bytes_eq w (codes "locks") then (Mutexes, 2) ∷ (Threads, 1) ∷ []
     else (if bytes_eq w (codes "begin") then uses_of_call call
-    else (if bytes_eq w (codes "call") then uses_of_call call else [])))))))))))))))))
+    else (if bytes_eq w (codes "call") then uses_of_call call else []))))))))))))))))
 
 -- what a declaration with this first word gives a name to
 abbrev pub given : Option Things → Option Lack

@@ -32,7 +32,6 @@ pub fn uses_of(keyword: &str, call: &str) -> &'static [(Things, usize)]
         "step" | "kill" | "renew" => &[(Things::Threads, 1)],
         "reinit" | "remake" => &[(Things::Threads, 1), (Things::Mutexes, 2)],
         "leave" | "expire" | "decline" | "go" | "die" => &[(Things::Threads, 1)],
-        "recount" => &[(Things::Conditions, 1)],
         "spare" => &[(Things::Threads, 1)],
         "killall" => &[(Things::Processes, 1)],
         "locks" => &[(Things::Mutexes, 2), (Things::Threads, 1)],

@@ -11,7 +11,7 @@ use Rattle.posixmutex.specs.Words.{operation_of}
 use Rattle.script.specs.declared.command.Mode.{Mode}
 use Rattle.script.specs.declared.command.Mode.TheVariants.{Run, Threads}
 use Rattle.script.specs.Limits.{max_steps, max_access, max_mutexes, max_base, max_counter}
-use Rattle.script.specs.Forms.{CallForm, lock, trylock, timedlock, unlock, consistent, wait, timedwait, signal, broadcast, Form, process, thread, member, mutex, mutexes, cond, begins, steps, kills, kills_all, goes, renews, reinits, remakes, leaves, expires, declines, recounts, spares, calls, locks, phase, dies, is_name, is_stem, is_untimed, has, of_mode, or_else, call_on, call_form, calling_form, words_form}
+use Rattle.script.specs.Forms.{CallForm, lock, trylock, timedlock, unlock, consistent, wait, timedwait, signal, broadcast, Form, process, thread, member, mutex, mutexes, cond, begins, steps, kills, kills_all, goes, renews, reinits, remakes, leaves, expires, declines, spares, calls, locks, phase, dies, is_name, is_stem, is_untimed, has, of_mode, or_else, call_on, call_form, calling_form, words_form}
 use Rattle.grammar.specs.declared.next.Next.{Next}
 use Rattle.grammar.specs.declared.next.Next.TheVariants.{End, Keyword, Name, NewThread, ProcessOrEnd, NameNumber, NameNameNumber, NameName, StemNumber, Number, NameCall, Call}
 use Rattle.grammar.specs.Nexts.{fitting, is_made, keyword, made, timed}
@@ -301,17 +301,6 @@ law_decline : (k : Mode) (ws : List (List ℕ)) → said k (words_form (codes "d
 law_decline Run ws = ap (said Run) (shape_decline ws) ∙ named Run declines true (λ a. refl) ws
 law_decline Threads ws = ap (said Threads) (shape_decline ws) ∙ named Threads declines false (λ a. refl) ws
 
-shape_recount : (ws : List (List ℕ)) → words_form (codes "recount" ∷ ws) ≡ one_name recounts ws
-shape_recount [] = refl
-shape_recount (a ∷ []) = flipped (is_name a) (recounts a)
-shape_recount (a ∷ n ∷ []) = refl
-shape_recount (t ∷ c ∷ m ∷ []) = no_call (is_name t) (call_form c m)
-shape_recount (t ∷ c ∷ m ∷ b ∷ ws) = refl
-
-law_recount : (k : Mode) (ws : List (List ℕ)) → said k (words_form (codes "recount" ∷ ws)) ≡ ends (run (Keyword k) (codes "recount" ∷ ws))
-law_recount Run ws = ap (said Run) (shape_recount ws) ∙ named Run recounts true (λ a. refl) ws
-law_recount Threads ws = ap (said Threads) (shape_recount ws) ∙ named Threads recounts false (λ a. refl) ws
-
 shape_spare : (ws : List (List ℕ)) → words_form (codes "spare" ∷ ws) ≡ one_name spares ws
 shape_spare [] = refl
 shape_spare (a ∷ []) = flipped (is_name a) (spares a)
@@ -477,7 +466,6 @@ record Unknown (w : List ℕ) : Type 0 where
   remake_isnt : bytes_eq w (codes "remake") ≡ false
   leave_isnt : bytes_eq w (codes "leave") ≡ false
   decline_isnt : bytes_eq w (codes "decline") ≡ false
-  recount_isnt : bytes_eq w (codes "recount") ≡ false
   spare_isnt : bytes_eq w (codes "spare") ≡ false
   expire_isnt : bytes_eq w (codes "expire") ≡ false
   go_isnt : bytes_eq w (codes "go") ≡ false
@@ -491,13 +479,13 @@ no_calling w t b c (Some x) = simp (b, c) (flipped_none (is_name t))
 
 unknown_line : (w : List ℕ) (ws : List (List ℕ)) → Unknown w → words_form (w ∷ ws) ≡ None
 unknown_line w [] u = simp (u.phase_isnt)
-unknown_line w (a ∷ []) u = simp (u.thread_isnt, u.mutex_isnt, u.kill_isnt, u.killall_isnt, u.go_isnt, u.renew_isnt, u.leave_isnt, u.decline_isnt, u.recount_isnt, u.spare_isnt, u.expire_isnt) (flipped_none (is_name a))
+unknown_line w (a ∷ []) u = simp (u.thread_isnt, u.mutex_isnt, u.kill_isnt, u.killall_isnt, u.go_isnt, u.renew_isnt, u.leave_isnt, u.decline_isnt, u.spare_isnt, u.expire_isnt) (flipped_none (is_name a))
 unknown_line w (a ∷ n ∷ []) u = simp (u.step_isnt, u.die_isnt, u.mutexes_isnt, u.process_isnt, u.thread_isnt, u.reinit_isnt, u.remake_isnt)
 unknown_line w (t ∷ c ∷ m ∷ []) u = simp (u.locks_isnt, u.cond_isnt) (no_calling w t u.begin_isnt u.call_isnt (call_form c m))
 unknown_line w (t ∷ c ∷ m ∷ b ∷ ws) u = refl
 
 unknown_word : (k : Mode) (w : List ℕ) → Unknown w → keyword k w ≡ None
-unknown_word Run w u = simp (u.process_isnt, u.thread_isnt, u.mutex_isnt, u.mutexes_isnt, u.cond_isnt, u.call_isnt, u.begin_isnt, u.step_isnt, u.kill_isnt, u.killall_isnt, u.renew_isnt, u.reinit_isnt, u.remake_isnt, u.leave_isnt, u.expire_isnt, u.decline_isnt, u.recount_isnt, u.spare_isnt, u.go_isnt, u.locks_isnt)
+unknown_word Run w u = simp (u.process_isnt, u.thread_isnt, u.mutex_isnt, u.mutexes_isnt, u.cond_isnt, u.call_isnt, u.begin_isnt, u.step_isnt, u.kill_isnt, u.killall_isnt, u.renew_isnt, u.reinit_isnt, u.remake_isnt, u.leave_isnt, u.expire_isnt, u.decline_isnt, u.spare_isnt, u.go_isnt, u.locks_isnt)
 unknown_word Threads w u = simp (u.process_isnt, u.thread_isnt, u.mutex_isnt, u.mutexes_isnt, u.cond_isnt, u.call_isnt, u.phase_isnt, u.die_isnt)
 
 unknown : (k : Mode) (w : List ℕ) (ws : List (List ℕ)) → Unknown w → said k (words_form (w ∷ ws)) ≡ ends (run (Keyword k) (w ∷ ws))
@@ -526,11 +514,10 @@ scripts_are_run k (w ∷ ws) =
     pick (Agree k ws) w (codes "remake") (law_remake k ws) (λ e22.
     pick (Agree k ws) w (codes "leave") (law_leave k ws) (λ e10.
     pick (Agree k ws) w (codes "decline") (law_decline k ws) (λ e11.
-    pick (Agree k ws) w (codes "recount") (law_recount k ws) (λ e18.
     pick (Agree k ws) w (codes "spare") (law_spare k ws) (λ e19.
     pick (Agree k ws) w (codes "expire") (law_expire k ws) (λ e23.
     pick (Agree k ws) w (codes "go") (law_go k ws) (λ e12.
     pick (Agree k ws) w (codes "locks") (law_locks k ws) (λ e13.
     pick (Agree k ws) w (codes "phase") (law_phase k ws) (λ e14.
     pick (Agree k ws) w (codes "die") (law_die k ws) (λ e15.
-    unknown k w ws (record { process_isnt = e0; thread_isnt = e1; mutex_isnt = e2; mutexes_isnt = e3; cond_isnt = e4; call_isnt = e5; begin_isnt = e6; step_isnt = e7; kill_isnt = e8; killall_isnt = e9; leave_isnt = e10; decline_isnt = e11; go_isnt = e12; locks_isnt = e13; phase_isnt = e14; die_isnt = e15; renew_isnt = e16; reinit_isnt = e17; recount_isnt = e18; spare_isnt = e19; remake_isnt = e22; expire_isnt = e23 })))))))))))))))))))))))
+    unknown k w ws (record { process_isnt = e0; thread_isnt = e1; mutex_isnt = e2; mutexes_isnt = e3; cond_isnt = e4; call_isnt = e5; begin_isnt = e6; step_isnt = e7; kill_isnt = e8; killall_isnt = e9; leave_isnt = e10; decline_isnt = e11; go_isnt = e12; locks_isnt = e13; phase_isnt = e14; die_isnt = e15; renew_isnt = e16; reinit_isnt = e17; spare_isnt = e19; remake_isnt = e22; expire_isnt = e23 }))))))))))))))))))))))

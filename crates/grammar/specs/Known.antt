@@ -28,7 +28,7 @@ reply_words = map reply_word all_replies
 abbrev pub keywords : Mode → List (List ℕ)
 keywords Run = codes "process" ∷ codes "thread" ∷ codes "mutex" ∷ codes "mutexes" ∷ codes "cond" ∷ codes "call"
     ∷ codes "begin" ∷ codes "step" ∷ codes "kill" ∷ codes "killall" ∷ codes "renew" ∷ codes "reinit" ∷ codes "remake"
-    ∷ codes "leave" ∷ codes "expire" ∷ codes "decline" ∷ codes "recount" ∷ codes "spare"
+    ∷ codes "leave" ∷ codes "expire" ∷ codes "decline" ∷ codes "spare"
     ∷ codes "go" ∷ codes "locks" ∷ []
 keywords Threads = codes "process" ∷ codes "thread" ∷ codes "mutex" ∷ codes "mutexes" ∷ codes "cond" ∷ codes "call"
     ∷ codes "phase" ∷ codes "die" ∷ []

@@ -82,10 +82,9 @@ of_run w = if bytes_eq w (codes "begin") then Some (NameCall mode.Run)
     else (if bytes_eq w (codes "leave") then Some Name
     else (if bytes_eq w (codes "expire") then Some Name
     else (if bytes_eq w (codes "decline") then Some Name
-    else (if bytes_eq w (codes "recount") then Some Name
     else (if bytes_eq w (codes "spare") then Some Name
     else (if bytes_eq w (codes "go") then Some Name
-    else (if bytes_eq w (codes "locks") then Some NameNameNumber else None)))))))))))))
+    else (if bytes_eq w (codes "locks") then Some NameNameNumber else None))))))))))))
 
 -- that only scripts for real threads have
 abbrev pub of_threads : List ℕ → Option Next

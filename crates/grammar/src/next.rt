@@ -181,7 +181,7 @@ fn of_run(word: &str) -> Option<Next>
         "kill" | "killall" | "renew" => Some(Next::Name),
         "reinit" | "remake" => Some(Next::NameName),
         "leave" | "expire" | "decline" | "go" => Some(Next::Name),
-        "recount" | "spare" => Some(Next::Name),
+        "spare" => Some(Next::Name),
         "locks" => Some(Next::NameNameNumber),
         _ => None,
     }
