@@ -19,8 +19,6 @@ pub(crate) const ALL: u32 = 20;
 /// An event that few runs have, and how it is noted where it can happen. Threads have ids.
 #[derive(Clone, Copy)]
 pub(crate) enum Rare {
-    /// A condition variable's counter goes back to 0.
-    Recounts(u16),
     /// A wake of mutex 0 is spared.
     Spares(u8),
     /// The thread makes a mutex anew on which others may sleep.
@@ -71,10 +69,9 @@ pub(crate) enum Act {
     Is(Look),
 }
 
-/// The thread of an event; the first one where it is of none.
+/// The thread of an event.
 fn id_of(rare: Rare) -> u8 {
     match rare {
-        Rare::Recounts(_) => 1,
         Rare::Spares(id)
         | Rare::Remakes(id, _)
         | Rare::Reinits(id, _)
@@ -89,7 +86,6 @@ fn id_of(rare: Rare) -> u8 {
 
 fn event_of(thread: Tid, rare: Rare) -> Event {
     match rare {
-        Rare::Recounts(condition) => Event::Recount(condition),
         Rare::Spares(_) => Event::Spare(thread, LeftTo::Thread),
         Rare::Remakes(_, mutex) => Event::Remake(thread, mutex),
         Rare::Reinits(_, mutex) => Event::Reinit(thread, mutex),
@@ -101,7 +97,6 @@ fn event_of(thread: Tid, rare: Rare) -> Event {
 
 fn note_of(thread: Tid, rare: Rare) -> Note {
     match rare {
-        Rare::Recounts(condition) => Note::Recounted { condition },
         Rare::Spares(_) => stepped(thread, None, None, None),
         Rare::Remakes(_, mutex) | Rare::Reinits(_, mutex) => Note::Reinited { thread, mutex },
         Rare::Expires(_) => Note::Expired {

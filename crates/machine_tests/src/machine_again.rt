@@ -1,11 +1,11 @@
-//! Counters that go back to 0, wakes that are spared, mutexes that are made anew late, and time limits that come.
+//! Wakes that are spared, mutexes that are made anew late, and time limits that come.
 
 use crate::machine_acts::Act::{self, Calls, Happens, Is, Refused, RefusedCall, Steps};
 use crate::machine_acts::Look::{Owner, Sleep, Stands, Word};
 use crate::machine_acts::Rare::{
-    Dies, Expires, Recounts, Reinits, Remakes, Returns, Spares, WaitExpires,
+    Dies, Expires, Reinits, Remakes, Returns, Spares, WaitExpires,
 };
-use crate::machine_acts::{ALL, Small, first_wrong};
+use crate::machine_acts::{ALL, first_wrong};
 use crate::machine_rows::Standing::{Asleep, Awake, Dying, Reaped, Resting};
 use condvar::{CondCall, Limit, Op};
 use lockword::{OWNER_DIED, Reply, UNUSABLE, WAITERS};
@@ -22,55 +22,7 @@ const WAIT: Op = Op::OnCondition(CondCall::Wait(0));
 
 const TIMED_WAIT: Op = Op::OnCondition(CondCall::TimedWait(0, Limit::Ahead));
 
-const SIGNAL: Op = Op::OnCondition(CondCall::Signal(0));
-
 const BROADCAST: Op = Op::OnCondition(CondCall::Broadcast(0));
-
-/// Three threads, with a condition variable, whose counter is at 13.
-const THREE_WAIT: Small = (3, 1, &[0]);
-
-/// Two wait. Once both are awake the counter goes back to 0.
-static GOES_BACK: [Act; 16] = [
-    Calls(1, LOCK, ALL),
-    Calls(1, WAIT, ALL),
-    Calls(2, LOCK, ALL),
-    Calls(2, WAIT, ALL),
-    Is(Sleep(13, &[1, 2])),
-    Refused(Recounts(0)),
-    Calls(3, LOCK, ALL),
-    Calls(3, SIGNAL, ALL),
-    Is(Sleep(13, &[2])),
-    Calls(3, SIGNAL, ALL),
-    Is(Sleep(13, &[])),
-    Is(Word(13, 2)),
-    Refused(Recounts(1)),
-    Happens(Recounts(0)),
-    Is(Word(13, 0)),
-    Is(Owner(Some(3))),
-];
-
-#[test]
-fn a_counter_goes_back(rt: HostRuntime) -> Result<(), Fail> {
-    assert_eq!(rt; first_wrong(rt.alloc(), THREE_WAIT, &[&GOES_BACK])?, None);
-    Ok(())
-}
-
-/// Another wait has loaded the counter, which is at 10, and isn't asleep yet: the counter stays what it is.
-static IN_HAND: [Act; 7] = [
-    Calls(2, LOCK, ALL),
-    Calls(2, SIGNAL, ALL),
-    Calls(2, UNLOCK, ALL),
-    Calls(1, LOCK, ALL),
-    Calls(1, WAIT, 7),
-    Refused(Recounts(0)),
-    Is(Word(10, 1)),
-];
-
-#[test]
-fn a_counter_in_hand_stays(rt: HostRuntime) -> Result<(), Fail> {
-    assert_eq!(rt; first_wrong(rt.alloc(), (2, 1, &[0]), &[&IN_HAND])?, None);
-    Ok(())
-}
 
 /// Thread 1 has unlocked and is about to wake thread 2.
 const ABOUT_TO_WAKE: [Act; 4] = [

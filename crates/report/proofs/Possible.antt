@@ -63,7 +63,6 @@ by_action k p n m d t (action.Expire u) mutexes conditions fine = tt
 by_action k p n m d t (action.Renew u) mutexes conditions fine = tt
 by_action k p n m d t (action.Reinit u m2) mutexes conditions fine = tt
 by_action k p n m d t (action.Remake u m2) mutexes conditions fine = tt
-by_action k p n m d t (action.Recount q) mutexes conditions fine = tt
 by_action k p n m d t (action.Spare u) mutexes conditions fine = tt
 by_action k p n m d t (action.Die u o) mutexes conditions fine = tt
 by_action k p n m d t (action.Locks u j o) mutexes conditions fine = tt

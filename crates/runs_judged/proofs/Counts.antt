@@ -15,7 +15,7 @@ use Rattle.condvar.specs.declared.op.Op.{Op}
 use Rattle.protocol.specs.declared.event.Event.{Event}
 use Rattle.protocol.specs.declared.event.Event.TheVariants as event
 use Rattle.protocol.specs.declared.note.Note.{Note}
-use Rattle.protocol.specs.declared.note.Note.TheVariants.{Nothing, Began, Stepped, Killed, Left, Expired, Walked, Renewed, Reinited, Recounted}
+use Rattle.protocol.specs.declared.note.Note.TheVariants.{Nothing, Began, Stepped, Killed, Left, Expired, Walked, Renewed, Reinited}
 use Rattle.protocol.specs.Notes.{facts_of, point_facts, sleep_facts, moves_to, return_facts, death_facts, reap_facts}
 use Rattle.protocol.specs.Machine.{State, start, stands_in, begun, happens, run, notes}
 use Rattle.protocol.specs.Headline.{facts_among}
@@ -183,7 +183,6 @@ note_moved t w (Expired u (Mutex m)) once k = (tt, (tt, tt))
 note_moved t w (Expired u (Condition c)) once k = (tt, tt)
 note_moved t w (Renewed u) once k = (tt, tt)
 note_moved t w (Reinited u j) once k = (tt, (tt, (tt, tt)))
-note_moved t w (Recounted c) once k = tt
 note_moved t w (Walked u d us b) once k = moved_append t w (death_facts u d) (map Wake us ++ reap_facts u b) (moved_death t u w d) (moved_append t _ (map Wake us) (reap_facts u b) (moved_wakes t _ us) (moved_reap t u _ b))
 note_moved t w (Stepped u m p z us vs y) once k = step_moved t w u m p z us vs y once k
 
@@ -207,7 +206,6 @@ event_once s e inv queued =
     (λ u first most gone. tt)
     (λ u j may. tt)
     (λ u j may. tt)
-    (λ c may. tt)
     (λ u m g sp. tt)
     e
 
@@ -429,7 +427,6 @@ note_few (Expired u (Mutex m)) = record { own_few = omega arith; slept_few = ome
 note_few (Expired u (Condition c)) = record { own_few = omega arith; slept_few = omega arith }
 note_few (Renewed u) = record { own_few = omega arith; slept_few = omega arith }
 note_few (Reinited u j) = record { own_few = omega arith; slept_few = omega arith }
-note_few (Recounted c) = record { own_few = omega arith; slept_few = omega arith }
 note_few (Walked u d us b) =
     few_more (facts_of (Walked u d us b)) _ _ 3 1 (omega arith) (omega arith)
     (few_both (death_facts u d) (map Wake us ++ reap_facts u b) 1 0 (0 + 1) (0 + 0) (few_deaths u d) (few_both (map Wake us) (reap_facts u b) 0 0 1 0 (few_wakes us) (few_reaps u b)))

@@ -29,7 +29,7 @@ use Rattle.mutex.specs.Whole.{whole_led}
 use Rattle.condvar.specs.Ops.{mutex_of}
 use Rattle.protocol.specs.declared.event.Event.{Event}
 use Rattle.protocol.specs.declared.note.Note.{Note}
-use Rattle.protocol.specs.declared.note.Note.TheVariants.{Nothing, Began, Stepped, Killed, Left, Expired, Walked, Renewed, Reinited, Recounted}
+use Rattle.protocol.specs.declared.note.Note.TheVariants.{Nothing, Began, Stepped, Killed, Left, Expired, Walked, Renewed, Reinited}
 use Rattle.protocol.specs.declared.thread.Thread.{Thread}
 use Rattle.protocol.specs.declared.thread.Stage.TheVariants.{Reaped}
 use Rattle.protocol.specs.Notes.{facts_of, death_facts, reap_facts, line_of, lines_from}
@@ -196,7 +196,6 @@ module _ (s : State) (t : ℕ) where
       (λ u first most gone. renewed_rightly u)
       (λ u j may. reinited_rightly u j 0)
       (λ u j may. reinited_rightly u j 0)
-      (λ c may h. absurd h)
       (λ u m g sp h. absurd (step_reaps_none t u m (decision u m g.operation g.point) None [] [] g.returned h))
       e
 
@@ -211,7 +210,6 @@ note_reaped k i earlier (Expired u (Mutex m)) owns = (tt, (tt, tt))
 note_reaped k i earlier (Expired u (Condition m)) owns = (tt, tt)
 note_reaped k i earlier (Renewed u) owns = (tt, tt)
 note_reaped k i earlier (Reinited u j) owns = (tt, (tt, (tt, tt)))
-note_reaped k i earlier (Recounted c) owns = tt
 note_reaped k i earlier (Stepped u m p z us vs y) owns = none_reaped k i earlier (facts_of (Stepped u m p z us vs y)) (λ t. step_reaps_none t u m p z us vs y)
 note_reaped k i earlier (Walked u d us false) owns = none_reaped k i earlier (facts_of (Walked u d us false)) (λ t h. let so = (walk_reaps t u d us false h).1 in cc)
 note_reaped k i earlier (Walked u d us true) owns =

@@ -137,7 +137,6 @@ module _ (s : State) where
       (λ u first most gone. renewed_own u first most)
       (λ u j may. reinited_own u j 0 may.remake.first may.remake.last)
       (λ u j may. reinited_own u j 0 may.first may.last)
-      (λ c may f h active. absurd h)
       (λ u m g sp. stepped_own u m g.operation g.point None [] [] g.returned sp.first sp.last)
       e
 
@@ -229,7 +228,6 @@ module _ (s : State) where
       (λ u first most gone. renewed_inside u)
       (λ u j may. reinited_inside u j 0 may.remake.inside)
       (λ u j may. reinited_inside u j 0 may.inside)
-      (λ k may t c h. absurd h)
       (λ u m g sp t c h. absurd (step_begins_none t u m c (decision u m g.operation g.point) None [] [] g.returned h))
       e
 

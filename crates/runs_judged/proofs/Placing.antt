@@ -18,7 +18,7 @@ use Rattle.mutex.specs.Whole.{whole_led}
 use Rattle.condvar.specs.Ops.{mutex_of}
 use Rattle.protocol.specs.declared.event.Event.{Event}
 use Rattle.protocol.specs.declared.note.Note.{Note}
-use Rattle.protocol.specs.declared.note.Note.TheVariants.{Nothing, Began, Stepped, Killed, Left, Expired, Walked, Renewed, Reinited, Recounted}
+use Rattle.protocol.specs.declared.note.Note.TheVariants.{Nothing, Began, Stepped, Killed, Left, Expired, Walked, Renewed, Reinited}
 use Rattle.protocol.specs.declared.thread.Stage.TheVariants.{Idle}
 use Rattle.protocol.specs.Notes.{facts_of, point_facts, sleep_facts, moves_to, return_facts, death_facts, reap_facts}
 use Rattle.protocol.specs.Machine.{State, After, start, stands_in, begun, reinited, decision, is_asleep, happens, run, notes, led}
@@ -180,7 +180,6 @@ module _ (t : ℕ) (o : Told) (w : Option Queue) where
   placed_note (Expired u (Mutex m)) k awake = ((λ is. k.wakes (inl (ap Wake is))), ((λ is. ap (λ (b : Bool). if b then None else w) (eq-eqb u t is)), tt))
   placed_note (Renewed u) k awake = (tt, tt)
   placed_note (Reinited u j) k awake = (tt, ((λ is. awake _ (inr (inl refl)) is), ((λ is. k.returns OK (inr (inr (inl (ap (λ (v : ℕ). Return v OK) is))))), tt)))
-  placed_note (Recounted c) k awake = tt
   placed_note (Walked u d us b) k awake = walk_placed u d us b k.wakes
   placed_note (Stepped u m p z us vs y) k awake = step_placed u m p z us vs y k awake
 
@@ -210,7 +209,6 @@ slept_in_call t o (Reinited u j) q (inl f) e = absurd cc
 slept_in_call t o (Reinited u j) q (inr (inl f)) e = absurd cc
 slept_in_call t o (Reinited u j) q (inr (inr (inl f))) e = absurd cc
 slept_in_call t o (Reinited u j) q (inr (inr (inr h))) e = absurd h
-slept_in_call t o (Recounted c) q h e = absurd h
 slept_in_call t o (Walked u d us b) q h e = never (of_walk u d us b (Sleep t q) h)
   where
     never : OfWalk u (Sleep t q) → o ≡ InCall
@@ -251,7 +249,6 @@ returned_rests t o (Reinited u j) x (inl f) = absurd cc
 returned_rests t o (Reinited u j) x (inr (inl f)) = absurd cc
 returned_rests t o (Reinited u j) x (inr (inr (inl f))) = ap (λ (b : Bool). if b then AtRest else if u == t then InCall else o) (eq-eqb u t (ap thread_of f))
 returned_rests t o (Reinited u j) x (inr (inr (inr h))) = absurd h
-returned_rests t o (Recounted c) x h = absurd h
 returned_rests t o (Walked u d us b) x h = never (of_walk u d us b (Return t x) h)
   where
     never : OfWalk u (Return t x) → told_after t o (facts_of (Walked u d us b)) ≡ AtRest
@@ -338,7 +335,6 @@ module _ (l : Layout') (s : State) (ns : List Note) (m : Moment l s ns) (t : ℕ
       (λ u first most gone d h is. anew u d h)
       (λ u j may. reinited_awake u j 0 may.remake.resting)
       (λ u j may. reinited_awake u j 0 may.resting)
-      (λ c may d h is. absurd h)
       (λ u k g sp. subst PointsAwake (sym (spare_is s u k g sp m.kept)) (λ d h is. absurd h))
       e
     where

@@ -88,7 +88,6 @@ fn reply_in(note: &Note, thread: Tid) -> Option<Reply>
         Note::Reinited { thread: caller, .. } => reply_to(thread, caller, Some(Reply::OK)),
         Note::Nothing | Note::Killed { .. } | Note::Left { .. } | Note::Expired { .. } => None,
         Note::Walked { .. } | Note::Renewed { .. } => None,
-        Note::Recounted { .. } => None,
     }
 }
 
