@@ -20,9 +20,9 @@ use Rattle.script.specs.declared.command.Mode.TheVariants.{Run}
 use Rattle.script.specs.declared.fault.Fault.{Fault}
 use Rattle.script.specs.declared.fault.Fault.TheVariants.{NotUtf8, UnknownWord, OutOfRange, NoSuchName, TooLong}
 use Rattle.script.specs.declared.fault.ScriptFault.{ScriptFault}
-use Rattle.script.specs.Forms.{CallForm, Form, silent, process, thread, member, mutex, mutexes, cond, begins, steps, kills, kills_all, goes, leaves, declines, expires, renews, reinits, remakes, recounts, spares, calls, locks, phase, dies, form_of, of_mode, has, words_form, or_else, name_form, step_form, die_form, mutexes_form, process_form, member_form, reinit_form, locks_form, cond_form, call_form, calling_form, is_letter, is_name, is_name_byte, is_silent, is_stem}
+use Rattle.script.specs.Forms.{CallForm, Form, silent, process, thread, member, mutex, mutexes, cond, begins, steps, kills, kills_all, goes, leaves, declines, expires, renews, reinits, remakes, spares, calls, locks, phase, dies, form_of, of_mode, has, words_form, or_else, name_form, step_form, die_form, mutexes_form, process_form, member_form, reinit_form, locks_form, cond_form, call_form, calling_form, is_letter, is_name, is_name_byte, is_silent, is_stem}
 use Rattle.script.specs.Limits.{max_bytes, max_conditions, max_lines, max_mutexes, max_name, max_processes, max_stem, max_threads}
-use Rattle.script.specs.Reading.{added, begun, all_killed, asked, condition_declared, declares, declined, died, enter, expired, fault_at, finished, gone, is_declared, is_numbered, killed, left, lines_read, line_read, locked, made, met_at, mutex_declared, mutexes_declared, names_of, nothing, numbered, place_of, process_declared, process_of, recounted, refuse, reinited, remade, renewed, script_read, several, stepped, text_read, thread_declared, wake_spared, with_action, with_condition, with_entry, with_name, with_thread}
+use Rattle.script.specs.Reading.{added, begun, all_killed, asked, condition_declared, declares, declined, died, enter, expired, fault_at, finished, gone, is_declared, is_numbered, killed, left, lines_read, line_read, locked, made, met_at, mutex_declared, mutexes_declared, names_of, nothing, numbered, place_of, process_declared, process_of, refuse, reinited, remade, renewed, script_read, several, stepped, text_read, thread_declared, wake_spared, with_action, with_condition, with_entry, with_name, with_thread}
 use Rattle.script.specs.Scope.{Scope}
 use Rattle.page.specs.Escapes.{IsPlain}
 use Rattle.draw_report.specs.Names.{called_in}
@@ -139,14 +139,13 @@ by_name w a = either (not (is_name a)) None _ (λ _. tt) (λ isnt. go (name_plai
         else (if bytes_eq w (codes "leave") then Some (leaves a)
         else (if bytes_eq w (codes "decline") then Some (declines a)
         else (if bytes_eq w (codes "renew") then Some (renews a)
-        else (if bytes_eq w (codes "recount") then Some (recounts a)
         else (if bytes_eq w (codes "spare") then Some (spares a)
-        else (if bytes_eq w (codes "expire") then Some (expires a) else None))))))))))) IsNamed
+        else (if bytes_eq w (codes "expire") then Some (expires a) else None)))))))))) IsNamed
     go is = other (bytes_eq w _) (Some (thread a)) _ is (other (bytes_eq w _) (Some (mutex a)) _ is
         (other (bytes_eq w _) (Some (kills a)) _ tt (other (bytes_eq w _) (Some (kills_all a)) _ tt (other (bytes_eq w _) (Some (goes a)) _ tt
         (other (bytes_eq w _) (Some (leaves a)) _ tt (other (bytes_eq w _) (Some (declines a)) _ tt (other (bytes_eq w _) (Some (renews a)) _ tt
-        (other (bytes_eq w _) (Some (recounts a)) _ tt (other (bytes_eq w _) (Some (spares a)) _ tt
-        (other (bytes_eq w _) (Some (expires a)) None tt tt))))))))))
+        (other (bytes_eq w _) (Some (spares a)) _ tt
+        (other (bytes_eq w _) (Some (expires a)) None tt tt)))))))))
 
 by_mutexes : (w a n : List ℕ) → IfSome (mutexes_form w a n) IsNamed
 by_mutexes w a n = either (bytes_eq w (codes "mutexes") && is_stem a && is_number n) (Some (mutexes a (within 1 max_mutexes (digits_value 10 n)))) None
@@ -279,7 +278,6 @@ enters n s (declines t) h is = asks n s (declined s t) h
 enters n s (renews t) h is = asks n s (renewed s t) h
 enters n s (reinits t m) h is = asks n s (reinited s t m) h
 enters n s (remakes t m) h is = asks n s (remade s t m) h
-enters n s (recounts c) h is = asks n s (recounted s c) h
 enters n s (spares t) h is = asks n s (wake_spared s t) h
 enters n s (expires t) h is = asks n s (expired s t) h
 enters n s (calls t c) h is = asks n s (made s t c) h
