@@ -95,7 +95,7 @@ noted_so : (s : State) (e : Event) → IsNoRenewing e → IsOfOne (happens s e).
 noted_so s e =
     by_event s (λ (x : Event) (a : After). IsNoRenewing x → IsOfOne a.note) (λ x none. tt) (λ u o pos known inside idle b full none. begins_so u o b)
     (λ u pos known none. by_stage s u (λ (a : After). IsOfOne a.note) (λ rests. tt) (λ o p is awake. tt) (λ c p is awake. tt) (λ w is awake. tt))
-    (λ u pos known alive none. tt) (λ u pos known asleep none. tt) (λ u m p pos known is asleep may none. tt) (λ u k x p pos known is there none. tt) (λ u o p pos known is awake trims none. tt) (λ u pos known gone none. absurd none) (λ u m may none. tt) (λ u m may none. tt) (λ u m g sp none. tt) e
+    (λ u pos known alive none. tt) (λ u pos known asleep none. tt) (λ u m p pos known is asleep may none. tt) (λ u k x p pos known is there none. tt) (λ u o p pos known is awake trims none. tt) (λ u pos known gone none. absurd none) (λ u m may none. tt) (λ u m g sp none. tt) e
   where
     begins_so : (u : ℕ) (o : Op) (b : Bool) → IsOfOne (begun s u o (if b then Err XHELD else Ok (begins_at s.layout u o))).note
     begins_so u o true = tt
@@ -119,7 +119,6 @@ noted_none t s (Event.Leave u ∷ es) none = not_renewed_both t (facts_of (happe
 noted_none t s (Event.Spare u by ∷ es) none = not_renewed_both t (facts_of (happens s (Event.Spare u by)).note) _ (none_renewed t s (Event.Spare u by) tt) (noted_none t (happens s (Event.Spare u by)).state es none)
 noted_none t s (Event.Expire u ∷ es) none = not_renewed_both t (facts_of (happens s (Event.Expire u)).note) _ (none_renewed t s (Event.Expire u) tt) (noted_none t (happens s (Event.Expire u)).state es none)
 noted_none t s (Event.Decline u ∷ es) none = not_renewed_both t (facts_of (happens s (Event.Decline u)).note) _ (none_renewed t s (Event.Decline u) tt) (noted_none t (happens s (Event.Decline u)).state es none)
-noted_none t s (Event.Reinit u m ∷ es) none = not_renewed_both t (facts_of (happens s (Event.Reinit u m)).note) _ (none_renewed t s (Event.Reinit u m) tt) (noted_none t (happens s (Event.Reinit u m)).state es none)
 noted_none t s (Event.Remake u m ∷ es) none = not_renewed_both t (facts_of (happens s (Event.Remake u m)).note) _ (none_renewed t s (Event.Remake u m) tt) (noted_none t (happens s (Event.Remake u m)).state es none)
 
 -- behind any of the events too
@@ -132,7 +131,6 @@ behind_none [] after (Event.Leave t) other none = none
 behind_none [] after (Event.Spare t by) other none = none
 behind_none [] after (Event.Expire t) other none = none
 behind_none [] after (Event.Decline t) other none = none
-behind_none [] after (Event.Reinit t m) other none = none
 behind_none [] after (Event.Remake t m) other none = none
 behind_none (Event.Renew t ∷ before) after e other none = absurd none
 behind_none (Event.Begin t o ∷ before) after e other none = behind_none before after e other none
@@ -142,7 +140,6 @@ behind_none (Event.Leave t ∷ before) after e other none = behind_none before a
 behind_none (Event.Spare t by ∷ before) after e other none = behind_none before after e other none
 behind_none (Event.Expire t ∷ before) after e other none = behind_none before after e other none
 behind_none (Event.Decline t ∷ before) after e other none = behind_none before after e other none
-behind_none (Event.Reinit t m ∷ before) after e other none = behind_none before after e other none
 behind_none (Event.Remake t m ∷ before) after e other none = behind_none before after e other none
 
 -- a thread's lines are some of all

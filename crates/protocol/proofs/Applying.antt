@@ -2,7 +2,7 @@
 use Rattle.std.proofs.Common.{◌≡◌, ◌≢◌, ℕ, ◌≤◌, ◌==◌, Bool, true, false, ◌&&◌, Option, None, Ok, Err, List, [], ◌∷◌, ◌++◌, refl, sym, ap, ◌∙◌, subst, arith, eq-eqb}
 use Rattle.protocol.proofs.Vocabulary.{LeftTo, Left, Renewed, Reinited, Trimmed, spared, departed, renewed, reinited, waiters_of, MayRemake, Whole, cell_place}
 use Rattle.protocol.proofs.Vocabulary.{Past, Limit}
-use Rattle.protocol.specs.Machine.{is_gone, may_reinit, may_remake}
+use Rattle.protocol.specs.Machine.{is_gone, may_remake}
 use Rattle.protocol.proofs.Departures.{asleep_where}
 use Rattle.mutex.specs.Whole.{may_expire, timed_out}
 use Rattle.protocol.proofs.Vocabulary.{Call, OnMutex}
@@ -31,7 +31,7 @@ use Rattle.protocol.specs.Machine.{told_of as told_of_death}
 use Rattle.protocol.proofs.Puts.{by_put}
 use Rattle.protocol.proofs.Kept.{Kept}
 use Rattle.protocol.proofs.Runs.{start_kept, run_kept, run_layout}
-use Rattle.protocol.proofs.Events.{begins_at, by_event, reinit_so, reinit_again, remake_so, remake_again, IsWorking, by_stage}
+use Rattle.protocol.proofs.Events.{begins_at, by_event, remake_so, remake_again, IsWorking, by_stage}
 use Rattle.protocol.proofs.Endings.{EndsOrGoes, call_ends, cond_ends}
 use Rattle.protocol.proofs.Queued.{Queued, out_awake, in_none}
 use Rattle.protocol.proofs.QueueRuns.{run_queued}
@@ -100,7 +100,7 @@ module _ (s : State) (u t : ℕ) (w x : Told) (z : Thread) (a : Agrees w (s.thre
   unmoved : (t ≡ u → Agrees w z.stage) → Agrees w (put s.threads u z t).stage
   unmoved b = by_put (λ (y : Thread). Agrees w y.stage) s.threads u z t b (λ apart. a)
 
--- a call that is refused, or a reinit, begins and returns
+-- a call that is refused, or a remake, begins and returns
 refused_agrees : (s : State) (u t : ℕ) (w : Told) → (s.threads u).stage ≡ Idle → Agrees w (s.threads t).stage → Agrees (if u == t then AtRest else if u == t then InCall else w) (s.threads t).stage
 refused_agrees s u t w idle a = grind (arith)
 
@@ -170,7 +170,6 @@ next_agrees s e t w a =
     (λ u k x p pos known is there. unmoved s u t w Gone (record { stage = Calling (OnCondition (CondCall.TimedWait k Past)) p; held = (s.threads u).held }) a (λ same. calls_over w (OnCondition (CondCall.TimedWait k x)) (OnCondition (CondCall.TimedWait k Past)) p p (subst (Agrees w) (ap (λ (y : ℕ). (s.threads y).stage) same ∙ is) a)))
     (λ u o p pos known is awake trims. spared_agrees s u t (s.threads u).held (mutex_of s.layout o) (led o p (whole_led p (Trimmed false))) w (ap is_calling is) (call_ends o p (whole_led p (Trimmed false))) a)
     (λ u pos known gone. moved s u t w AtRest _ a tt)
-    (λ u m may. refused_agrees s u t w may.remake.resting a)
     (λ u m may. refused_agrees s u t w may.resting a)
     (λ u m g sp. spared_agrees s u t (s.threads u).held m g w (spared_calls s u m g sp.how) (spared_ends s u m g sp.how) a)
     e
@@ -315,7 +314,7 @@ module _ (s : State) (ns : List Note) (inv : Kept s) (queued : Queued s) (agrees
       by_event s (λ (x : Event) (a : After). x ≡ Event.Expire t → a ≡ nothing s) (λ x same. refl) (λ u o pos known named idle b full same. absurd cc) (λ u pos known same. absurd cc) (λ u pos known alive same. absurd cc) (λ u pos known asleep same. absurd cc)
       (λ u m p pos known is asleep may same. absurd (subst (λ (v : ℕ). ¬ Applies s.layout s ns (Event.Expire v)) (sym (expires_is u t same)) never ((pos, known), inl (asleep_where s u asleep, (m, (p, is))))))
       (λ u k x p pos known is there same. absurd (subst (λ (v : ℕ). ¬ Applies s.layout s ns (Event.Expire v)) (sym (expires_is u t same)) never ((pos, known), inr (k, there, (x, p, is)))))
-      (λ u o p pos known is awake trims same. absurd cc) (λ u pos known gone same. absurd cc) (λ u m may same. absurd cc) (λ u m may same. absurd cc) (λ u m g sp same. absurd cc)
+      (λ u o p pos known is awake trims same. absurd cc) (λ u pos known gone same. absurd cc) (λ u m may same. absurd cc) (λ u m g sp same. absurd cc)
       (Event.Expire t) refl
     where
       expires_is : (u v : ℕ) → Event.Expire u ≡ Event.Expire v → u ≡ v
@@ -349,7 +348,7 @@ module _ (s : State) (ns : List Note) (inv : Kept s) (queued : Queued s) (agrees
           let gone : is_gone (s.threads t).stage ≡ true = grind (arith, nat_tests) in
           absurd (never ((first, last), told_reaped (last_told t ns) (s.threads t).stage (agrees t) gone))
 
-  -- ---- reinits
+  -- ---- remakes
   resting_agrees : (w : Told) (g : Stage) → Agrees w g → w ≡ AtRest → g ≡ Idle
   resting_agrees w g a at_rest = grind (arith)
 
@@ -362,19 +361,6 @@ module _ (s : State) (ns : List Note) (inv : Kept s) (queued : Queued s) (agrees
   as_remake : (t m : ℕ) → MayRemake s t m → Applies s.layout s ns (Event.Remake t m)
   as_remake t m may = ((may.first, may.last), told_resting (last_told t ns) (s.threads t).stage (agrees t) may.resting, may.inside, may.unusable)
 
-  reinits_so : (t m : ℕ) → Applies s.layout s ns (Event.Reinit t m) → (happens s (Event.Reinit t m)).note ≡ Reinited t m
-  reinits_so t m on =
-      ap (λ (b : Bool). (if b then reinited s t m 0 else nothing s).note)
-      (reinit_again s t m record { remake = remake_as t m (on.0, on.1, on.2, on.3); unslept = on.4 })
-
-  reinits_else : (t m : ℕ) → ¬ Applies s.layout s ns (Event.Reinit t m) → happens s (Event.Reinit t m) ≡ nothing s
-  reinits_else t m never = go (may_reinit s t m) refl
-    where
-      go : (b : Bool) → may_reinit s t m ≡ b → (if b then reinited s t m 0 else nothing s) ≡ nothing s
-      go false e = refl
-      go true e = let may = reinit_so s t m e in let told = as_remake t m may.remake in absurd (never (told.0, told.1, told.2, told.3, may.unslept))
-
-  -- ---- remakes
   remakes_so : (t m : ℕ) → Applies s.layout s ns (Event.Remake t m) → (happens s (Event.Remake t m)).note ≡ Reinited t m
   remakes_so t m on = ap (λ (b : Bool). (if b then reinited s t m (waiters_of (s.words (cell_place s.layout m))) else nothing s).note) (remake_again s t m (remake_as t m on))
 
@@ -416,7 +402,6 @@ module _ (s : State) (ns : List Note) (inv : Kept s) (queued : Queued s) (agrees
   so (Event.Expire t) on = expires_so t on
   so (Event.Decline t) on = declines_so t on
   so (Event.Renew t) on = renews_so t on
-  so (Event.Reinit t m) on = reinits_so t m on
   so (Event.Remake t m) on = remakes_so t m on
   so (Event.Spare t by) on = spares_so t by on
 
@@ -428,7 +413,6 @@ module _ (s : State) (ns : List Note) (inv : Kept s) (queued : Queued s) (agrees
   idles (Event.Expire t) never = expires_else t never
   idles (Event.Decline t) never = declines_else t never
   idles (Event.Renew t) never = renews_else t never
-  idles (Event.Reinit t m) never = reinits_else t m never
   idles (Event.Remake t m) never = remakes_else t m never
   idles (Event.Spare t by) never = spares_else t by never
 

@@ -237,7 +237,6 @@ module _ (s : State) (inv : Kept s) (queued : Queued s) where
       let few = there.1 in
       called_on n t o p s (spared s t (s.threads t).held (mutex_of s.layout o) (led o p (whole_led p (Trimmed false)))) there.0 (whole_led p (Trimmed false)).phase (mutex_of s.layout o) _ _ None [] [] (omega (arith, less, few)) refl refl)
       (λ t pos known gone is n within. absurd (subst (Within n) gone within))
-      (λ t m may is n within. absurd (subst (Within n) may.remake.resting within))
       (λ t m may is n within. absurd (subst (Within n) may.resting within))
       (λ t m g sp other n within. spares_on t m g sp n within sp.how)
       e
@@ -290,7 +289,6 @@ event_on s e t n inv queued pos known lives within = by_same (caller e) t (mine 
     mine (Event.Spare u by) alive h me = others (Event.Spare u by) refl refl h me
     mine (Event.Decline u) alive h me = others (Event.Decline u) refl refl h me
     mine (Event.Renew u) alive h me = others (Event.Renew u) refl refl h me
-    mine (Event.Reinit u m) alive h me = others (Event.Reinit u m) refl refl h me
     mine (Event.Remake u m) alive h me = others (Event.Remake u m) refl refl h me
 
 -- ---- runs
@@ -307,7 +305,6 @@ first_spared t (Event.Expire u) es h = ((λ is. cc is), h)
 first_spared t (Event.Spare u by) es h = ((λ is. cc is), h)
 first_spared t (Event.Decline u) es h = ((λ is. cc is), h)
 first_spared t (Event.Renew u) es h = ((λ is. cc is), h)
-first_spared t (Event.Reinit u m) es h = ((λ is. cc is), h)
 first_spared t (Event.Remake u m) es h = ((λ is. cc is), h)
 
 abbrev Returned : State → ℕ → List Event → Type 0
@@ -365,7 +362,6 @@ module _ (s : State) where
       (λ t o p pos known at awake trims is none quiet. put_quiet t _ (quiet_after o p _ (subst Quiet at quiet)))
       (λ t pos known gone is none quiet. absurd (subst Quiet gone quiet))
       (λ t m may is none quiet. absurd (none.0 refl))
-      (λ t m may is none quiet. absurd (none.0 refl))
       (λ t m g sp is none quiet. put_quiet t _ (spare_quiet t m g sp.how quiet))
       e
     where
@@ -385,7 +381,6 @@ module _ (s : State) where
       alive (Event.Spare u by) never me = refl
       alive (Event.Decline u) never me = refl
       alive (Event.Renew u) never me = refl
-      alive (Event.Reinit u m) never me = refl
       alive (Event.Remake u m) never me = refl
 
 never_asleep : (es : List Event) (s : State) (t : ℕ) → Kept s → Queued s → 1 ≤ t → t ≤ s.layout.threads → IsSpared t es → BeginsNone t (facts_among (notes s es)) → Quiet (s.threads t).stage → IsInNoQueue (run s es) t

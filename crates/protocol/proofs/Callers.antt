@@ -108,7 +108,6 @@ module _ (s : State) (inv : Kept s) (calls : ℕ → Option Begun) (left : ℕ �
       (λ u o p pos known is awake trims. subst Tells (sym (spared_is s u o p is trims inv pos known)) (λ t q h. absurd h))
       (λ u pos known gone t q h. absurd (one_else _ t q (λ e. cc e) h))
       (λ u m may t q h. absurd (three_else _ _ _ t q (λ e. cc e) (λ e. cc e) (λ e. cc e) h))
-      (λ u m may t q h. absurd (three_else _ _ _ t q (λ e. cc e) (λ e. cc e) (λ e. cc e) h))
       (λ u m g sp. subst Tells (sym (spare_is s u m g sp inv)) (λ t q h. absurd h))
       e
     where

@@ -113,7 +113,6 @@ told_on s e t b h =
     (λ u k x p pos known is there. late s u t b h k x p _ is)
     (λ u o p pos known is awake trims. still s u t b h (spared s u (s.threads u).held (mutex_of s.layout o) (led o p (whole_led p (Trimmed false)))) (begins_stepped u (mutex_of s.layout o) _ None [] [] (led o p (whole_led p (Trimmed false))).returned) (in_call s u t b h o p (whole_led p (Trimmed false)).phase _ is))
     (λ u pos known gone. stays s u t b h _ (λ was. tt))
-    (λ u m may. returns s u t b h _ may.remake.resting)
     (λ u m may. returns s u t b h _ may.resting)
     (λ u m g sp. still s u t b h (spared s u (s.threads u).held m g) (begins_stepped u m _ None [] [] g.returned) (spared_so s u t b h m _ g sp.how))
     e

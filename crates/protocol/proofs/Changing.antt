@@ -59,7 +59,6 @@ theirs s e t =
     (λ u o p pos known is awake trims apart. put-other s.threads u _ t (λ e. apart (sym e)))
     (λ u pos known gone apart. put-other s.threads u _ t (λ e. apart (sym e)))
     (λ u m may apart. refl)
-    (λ u m may apart. refl)
     (λ u m g sp apart. put-other s.threads u _ t (λ e. apart (sym e)))
     e
   where

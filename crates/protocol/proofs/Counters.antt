@@ -313,7 +313,6 @@ passes s e inv counted =
       knows = λ first last. subst (λ (z : Thread). KnowsIn s.layout (renewed s t).state.words z.stage) (sym (renewed_thread s t pos known)) tt;
       theirs = λ u other. ap (λ (z : Thread). z.stage) (renewed_other s t pos known u other);
     })
-    (λ t m may. made_anew t m 0 refl may.remake)
     (λ t m may. made_anew t m _ (waiters_say_nothing (s.words (cell_place s.layout m))) may)
     (λ t m g sp. subst (λ (a : After). Passes s t a.state) (sym (spare_is s t m g sp inv)) (spares t m g sp))
     e

@@ -231,7 +231,6 @@ module _ (s : State) (k : ℕ) (calls : ℕ → Option Begun) (inv : Kept s) (co
       (λ u j x p pos known is there. omega arith)
       (λ u o p pos known is awake trims. subst CountsUp (sym (spared_is s u o p is trims inv pos known)) (omega arith))
       (λ u pos known gone. let same = renewed_counter s u pos known k in omega (arith, same))
-      (λ u m may. let same = reinited_counter s u m 0 refl may.remake k in let none = reinit_none k (if u == u then Some (reinit_of m) else calls u) in omega (arith, same, none))
       (λ u m may. let same = reinited_counter s u m _ (waiters_say_nothing (s.words (cell_place s.layout m))) may k in let none = reinit_none k (if u == u then Some (reinit_of m) else calls u) in omega (arith, same, none))
       (λ u m g sp. subst CountsUp (sym (spare_is s u m g sp inv)) (omega arith))
       e

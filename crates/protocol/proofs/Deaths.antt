@@ -135,7 +135,6 @@ module _ (t m : ℕ) where
     event_lost e = by_event s (λ (x : Event) (a : After). Lost s a) (λ x. omega arith) (λ u o pos known inside idle b full. begun_lost u o b) step_lost (λ u pos known alive. omega arith) (λ u pos known asleep. omega arith) (λ u k p pos known is asleep may. omega arith) (λ u k x p pos known is there. omega arith)
         (λ u o p pos known is awake trims. subst (Lost s) (sym (spared_is s u o p is trims inv pos known)) (omega arith))
         (λ u pos known gone. let kept : one t (seen (renewed s u).state m) ≡ one t (seen s m) = ap (one t) (renewed_seen s u pos known m) in omega arith)
-        (λ u k may. let kept = reinit_counts u k 0 refl may.remake in omega arith)
         (λ u k may. let kept = reinit_counts u k _ (waiters_say_nothing (s.words (cell_place s.layout k))) may in omega arith)
         (λ u k g sp. subst (Lost s) (sym (spare_is s u k g sp inv)) (omega arith)) e
       where
@@ -161,8 +160,7 @@ module _ (t m : ℕ) where
         (λ u k p pos known is asleep may none. ap (λ (z : Thread). is_alive z.stage) (put-other s.threads u _ t (λ e. apart_from u (Calling (OnMutex (Call.TimedLock k)) p) is refl (sym e))) ∙ dead)
         (λ u k x p pos known is there none. ap (λ (z : Thread). is_alive z.stage) (put-other s.threads u _ t (λ e. apart_from u (Calling (OnCondition (CondCall.TimedWait k x)) p) is refl (sym e))) ∙ dead)
         (λ u o p pos known is awake trims none. ap (λ (z : Thread). is_alive z.stage) (put-other s.threads u _ t (λ e. apart_from u (Calling o p) is refl (sym e))) ∙ dead)
-        (λ u pos known gone none. ap (λ (z : Thread). is_alive z.stage) (renewed_other s u pos known t (λ e. none.0 (sym e))) ∙ dead)
-        (λ u k may none. dead) (λ u k may none. dead)
+        (λ u pos known gone none. ap (λ (z : Thread). is_alive z.stage) (renewed_other s u pos known t (λ e. none.0 (sym e))) ∙ dead) (λ u k may none. dead)
         (λ u k g sp none. ap (λ (z : Thread). is_alive z.stage) (put-other s.threads u _ t (λ e. apart_from u (s.threads u).stage refl (calls_live (s.threads u).stage (spared_calls s u k g sp.how)) (sym e))) ∙ dead) e
       where
         begun_dead : (u : ℕ) (o : Op) → (s.threads u).stage ≡ Idle → (b : Bool) → is_alive ((begun s u o (if b then Err XHELD else Ok (begins_at s.layout u o))).state.threads t).stage ≡ false

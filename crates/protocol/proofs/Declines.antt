@@ -152,7 +152,6 @@ decline_rests s t never =
     (λ u o p pos known is awake trims same.
     absurd (subst (λ (v : ℕ). 1 ≤ v → v ≤ s.layout.threads → IsAboutToTrim s v → ⊥) (sym (thread_is u t same)) never pos known (o, p, p.cell, is, ap (phase_access p) trims)))
     (λ u pos known gone same. absurd cc)
-    (λ u m may same. absurd cc)
     (λ u m may same. absurd cc) (λ u m g sp same. absurd cc)
     (Decline t) refl
   where

@@ -239,7 +239,7 @@ module _ (s : State) (t k : ℕ) (b : Begun) (op : Operation) (inv : Kept s) (to
       by_event s (λ (e : Event) (a : After). e ≡ Step t → Ends a) (λ e same among. absurd among)
       (λ u o pos known inside idle full is same. absurd cc)
       (λ u pos known same. subst (λ (v : ℕ). 1 ≤ v → v ≤ s.layout.threads → Ends (stepped s v (s.threads v).held (s.threads v).stage)) (step_same u t (sym same)) step_ends pos known)
-      (λ u pos known alive same. absurd cc) (λ u pos known asleep same. absurd cc) (λ u m p pos known is asleep may same. absurd cc) (λ u k x p pos known is there same. absurd cc) (λ u o p pos known is awake trims same. absurd cc) (λ u pos known gone same. absurd cc) (λ u m may same. absurd cc) (λ u m may same. absurd cc) (λ u m g sp same. absurd cc) (Step t) refl
+      (λ u pos known alive same. absurd cc) (λ u pos known asleep same. absurd cc) (λ u m p pos known is asleep may same. absurd cc) (λ u k x p pos known is there same. absurd cc) (λ u o p pos known is awake trims same. absurd cc) (λ u pos known gone same. absurd cc) (λ u m may same. absurd cc) (λ u m g sp same. absurd cc) (Step t) refl
     where
       step_same : (u v : ℕ) → Step v ≡ Step u → v ≡ u
       step_same u v e = cc

@@ -1,5 +1,5 @@
 -- What an event does, case by case.
-use Rattle.std.proofs.Common.{◌≡◌, ℕ, ◌<◌, ◌≤◌, ◌==◌, Bool, true, false, ◌&&◌, Result, Ok, Err, List, [], ◌∷◌, refl, sym, ap, ◌∙◌, subst, arith}
+use Rattle.std.proofs.Common.{◌≡◌, ℕ, ◌<◌, ◌≤◌, ◌==◌, Bool, true, false, ◌&&◌, Result, Ok, Err, [], ◌∷◌, refl, sym, ap, ◌∙◌, subst, arith}
 use Rattle.protocol.proofs.Vocabulary.{CondCall, condition_of, CondWhole, Mutex, Condition, Layout', IsLayout, acquires, Reply, XHELD, Whole, whole_access, whole_led, Op, OnMutex}
 use Rattle.protocol.proofs.Vocabulary.{OnCondition, Event, Step, Stage, Idle, Calling, AtCondition, Dying, mutex_of, Names, State, After, is_alive, killed, may_begin, begun}
 use Rattle.protocol.proofs.Vocabulary.{first_stage, nothing, answer_of, is_asleep, led, led_at, went, walked, stepped, happens, if◌then◌else◌, nat_le, nat_tests}
@@ -7,20 +7,19 @@ use Rattle.std.proofs.lemmas.List.Elements.{All-get_or}
 use Rattle.mutex.specs.Whole.{begins, may_expire}
 use Rattle.condvar.specs.Whole as condition
 use Rattle.exitwalk.specs.Standings as walks
-use Rattle.protocol.specs.declared.event.Event.TheVariants.{Begin, Kill, Leave, Expire, Decline, Renew, Reinit, Remake, Spare}
+use Rattle.protocol.specs.declared.event.Event.TheVariants.{Begin, Kill, Leave, Expire, Decline, Renew, Remake, Spare}
 use Rattle.mutex.specs.declared.row.Row.TheVariants.{Unlock}
-use Rattle.protocol.proofs.Vocabulary.{Call, departed, lapsed, renewed, reinited, spared, sleeps, sleepers, Reaped, Trimmed, Phase, AtCell, UnlockRow, not, nat_lt, Object, MayReinit, MayRemake, waiters_of, cell_place}
+use Rattle.protocol.proofs.Vocabulary.{Call, departed, lapsed, renewed, reinited, spared, sleeps, Reaped, Trimmed, Phase, AtCell, UnlockRow, not, nat_lt, Object, MayRemake, waiters_of, cell_place}
 use Rattle.protocol.proofs.Vocabulary.{CondPhase, CondRow, WaitRow, cond_led, Count, is_calling, Led, is_left_to, LeftTo, sparing, wakes_one}
 use Rattle.protocol.proofs.Stepping.{wakes_next}
 use Rattle.protocol.proofs.Endings.{EndsOrGoes, call_ends, cond_ends}
-use Rattle.stepprograms.specs.Accesses.{is_nobody}
 use Rattle.protocol.proofs.Steps.{seen-inside}
 use Rattle.condvar.specs.Ops.{acts_as, operation_of, is_in, may_call}
 use Rattle.condvar.specs.Calls.{is_ahead}
 use Rattle.condvar.specs.declared.call.Limit.{Limit}
 use Rattle.protocol.specs.Applies.{BeginsAhead}
 use Rattle.protocol.specs.Machine.{overslept, waits_on}
-use Rattle.protocol.specs.Machine.{has_thread, is_gone, is_idle, is_trim, is_unusable, may_reinit, may_remake, declined, expired}
+use Rattle.protocol.specs.Machine.{has_thread, is_gone, is_idle, is_trim, is_unusable, may_remake, declined, expired}
 
 -- whoever may begin is idle
 pub at_rest : (g : Stage) → is_idle g ≡ true → g ≡ Idle
@@ -90,11 +89,7 @@ IsTrimming p = p.phase ≡ AtCell (Unlock UnlockRow.Trim)
 pub trims_at : (p : Whole) (f : Phase) → is_trim (whole_access (record p { phase = f })) ≡ true → f ≡ AtCell (Unlock UnlockRow.Trim)
 trims_at p f e = grind (arith)
 
--- ---- reinits
-
-nobody_there : (q : List ℕ) → is_nobody q ≡ true → q ≡ []
-nobody_there [] e = refl
-nobody_there (t ∷ ts) e = absurd cc
+-- ---- remakes
 
 -- what the tests say
 pub remake_so : (s : State) (t m : ℕ) → may_remake s t m ≡ true → MayRemake s t m
@@ -109,14 +104,6 @@ remake_so s t m e =
       unusable = ap (λ (o : Object). o.unusable) (seen-inside s m inside) ∙ unusable;
     }
 
-pub reinit_so : (s : State) (t m : ℕ) → may_reinit s t m ≡ true → MayReinit s t m
-reinit_so s t m e = go (may_remake s t m) refl (is_nobody (sleepers s m)) refl e
-  where
-    go : (a : Bool) → may_remake s t m ≡ a → (b : Bool) → is_nobody (sleepers s m) ≡ b → (a && b) ≡ true → MayReinit s t m
-    go true may true none e = record { remake = remake_so s t m may; unslept = nobody_there (sleepers s m) none }
-    go true may false some e = absurd cc
-    go false never b some e = absurd cc
-
 -- where it may, the tests say so
 pub remake_again : (s : State) (t m : ℕ) → MayRemake s t m → may_remake s t m ≡ true
 remake_again s t m may =
@@ -126,9 +113,6 @@ remake_again s t m may =
     let inside : nat_lt m s.layout.mutexes ≡ true = grind (arith, nat_tests) in
     let unusable : is_unusable s m ≡ true = sym (ap (λ (o : Object). o.unusable) (seen-inside s m may.inside)) ∙ may.unusable in
     grind (arith)
-
-pub reinit_again : (s : State) (t m : ℕ) → MayReinit s t m → may_reinit s t m ≡ true
-reinit_again s t m may = λ i. remake_again s t m may.remake i && is_nobody (may.unslept i)
 
 -- ---- spares
 
@@ -162,9 +146,8 @@ waits_at f e = absurd cc
 
 -- ---- events
 
--- what holds where nothing happens, of a begin that isn't refused and of one that is, of a step, of a death, of a
--- sleeper's leave, of a time limit of a lock and of one of a wait, of a trim that is declined, of a renewal, of a reinit and of a remake, and of a wake that is spared, holds
--- of each event
+-- what holds where nothing happens, of a begin that isn't refused and of one that is, of a step, of a death, of a sleeper's leave, of a time limit of a lock and of one of a wait,
+-- of a trim that is declined, of a renewal, of a remake, and of a wake that is spared, holds of each event
 pub by_event : (s : State) (P : Event → After → Type 0) → ((e : Event) → P e (nothing s))
     → ((t : ℕ) (o : Op) → 1 ≤ t → t ≤ s.layout.threads → Names s.layout o → (s.threads t).stage ≡ Idle → (b : Bool) → (acquires (operation_of o) && nat_le 2048 (s.threads t).held) ≡ b → P (Begin t o) (begun s t o (if b then Err XHELD else Ok (begins_at s.layout t o))))
     → ((t : ℕ) → 1 ≤ t → t ≤ s.layout.threads → P (Step t) (stepped s t (s.threads t).held (s.threads t).stage))
@@ -177,11 +160,10 @@ pub by_event : (s : State) (P : Event → After → Type 0) → ((e : Event) →
     → ((t : ℕ) (o : Op) (p : Whole) → 1 ≤ t → t ≤ s.layout.threads → (s.threads t).stage ≡ Calling o p → is_asleep s t ≡ false → IsTrimming p
     → P (Decline t) (spared s t (s.threads t).held (mutex_of s.layout o) (led o p (whole_led p (Trimmed false)))))
     → ((t : ℕ) → 1 ≤ t → t ≤ s.layout.threads → (s.threads t).stage ≡ Reaped → P (Renew t) (renewed s t))
-    → ((t m : ℕ) → MayReinit s t m → P (Reinit t m) (reinited s t m 0))
     → ((t m : ℕ) → MayRemake s t m → P (Remake t m) (reinited s t m (waiters_of (s.words (cell_place s.layout m)))))
     → ((t m : ℕ) (g : Led) (sp : Sparing s t m g) → P (Spare t sp.by) (spared s t (s.threads t).held m g))
     → (e : Event) → P e (happens s e)
-by_event s P none begins_so steps_so kills_so leaves_so expires_so oversleeps_so declines_so renews_so reinits_so remakes_so spares_so (Begin t o) = go (may_begin s t o) refl
+by_event s P none begins_so steps_so kills_so leaves_so expires_so oversleeps_so declines_so renews_so remakes_so spares_so (Begin t o) = go (may_begin s t o) refl
   where
     go : (b : Bool) → may_begin s t o ≡ b → P (Begin t o) (if b then begun s t o (first_stage s.layout t (s.threads t).held o) else nothing s)
     go true e =
@@ -192,10 +174,10 @@ by_event s P none begins_so steps_so kills_so leaves_so expires_so oversleeps_so
         subst (λ (r : Result Stage Reply). P (Begin t o) (begun s t o r)) (sym (first_is s.layout t (s.threads t).held o))
         (begins_so t o pos known (names_so s.layout o inside) (at_rest (s.threads t).stage (grind (arith, nat_tests))) (acquires (operation_of o) && nat_le 2048 (s.threads t).held) refl)
     go false e = none (Begin t o)
-by_event s P none begins_so steps_so kills_so leaves_so expires_so oversleeps_so declines_so renews_so reinits_so remakes_so spares_so (Step t) = grind (arith)
-by_event s P none begins_so steps_so kills_so leaves_so expires_so oversleeps_so declines_so renews_so reinits_so remakes_so spares_so (Kill t) = grind (arith)
-by_event s P none begins_so steps_so kills_so leaves_so expires_so oversleeps_so declines_so renews_so reinits_so remakes_so spares_so (Leave t) = grind (arith)
-by_event s P none begins_so steps_so kills_so leaves_so expires_so oversleeps_so declines_so renews_so reinits_so remakes_so spares_so (Expire t) = go (has_thread s t) refl
+by_event s P none begins_so steps_so kills_so leaves_so expires_so oversleeps_so declines_so renews_so remakes_so spares_so (Step t) = grind (arith)
+by_event s P none begins_so steps_so kills_so leaves_so expires_so oversleeps_so declines_so renews_so remakes_so spares_so (Kill t) = grind (arith)
+by_event s P none begins_so steps_so kills_so leaves_so expires_so oversleeps_so declines_so renews_so remakes_so spares_so (Leave t) = grind (arith)
+by_event s P none begins_so steps_so kills_so leaves_so expires_so oversleeps_so declines_so renews_so remakes_so spares_so (Expire t) = go (has_thread s t) refl
   where
     lapses : (m : ℕ) (p : Whole) → has_thread s t ≡ true → (s.threads t).stage ≡ Calling (OnMutex (Call.TimedLock m)) p → (a : Bool) → may_expire p.phase ≡ a → (b : Bool) → sleeps s t (Calling (OnMutex (Call.TimedLock m)) p) ≡ b
         → P (Expire t) (if a && b then lapsed s t (s.threads t).held (OnMutex (Call.TimedLock m)) p else nothing s)
@@ -219,7 +201,7 @@ by_event s P none begins_so steps_so kills_so leaves_so expires_so oversleeps_so
     go : (b : Bool) → has_thread s t ≡ b → P (Expire t) (if b then expired s t (s.threads t).held (s.threads t).stage else nothing s)
     go true there = at there (s.threads t).stage refl
     go false e = none (Expire t)
-by_event s P none begins_so steps_so kills_so leaves_so expires_so oversleeps_so declines_so renews_so reinits_so remakes_so spares_so (Decline t) = go (has_thread s t) refl
+by_event s P none begins_so steps_so kills_so leaves_so expires_so oversleeps_so declines_so renews_so remakes_so spares_so (Decline t) = go (has_thread s t) refl
   where
     trims : (o : Op) (p : Whole) → has_thread s t ≡ true → (s.threads t).stage ≡ Calling o p → (a : Bool) → is_trim (whole_access p) ≡ a → (b : Bool) → sleeps s t (Calling o p) ≡ b
         → P (Decline t) (if a && not b then spared s t (s.threads t).held (mutex_of s.layout o) (led o p (whole_led p (Trimmed false))) else nothing s)
@@ -237,7 +219,7 @@ by_event s P none begins_so steps_so kills_so leaves_so expires_so oversleeps_so
     go : (b : Bool) → has_thread s t ≡ b → P (Decline t) (if b then declined s t (s.threads t).held (s.threads t).stage else nothing s)
     go true there = at there (s.threads t).stage refl
     go false e = none (Decline t)
-by_event s P none begins_so steps_so kills_so leaves_so expires_so oversleeps_so declines_so renews_so reinits_so remakes_so spares_so (Renew t) = go (has_thread s t && is_gone (s.threads t).stage) refl
+by_event s P none begins_so steps_so kills_so leaves_so expires_so oversleeps_so declines_so renews_so remakes_so spares_so (Renew t) = go (has_thread s t && is_gone (s.threads t).stage) refl
   where
     go : (b : Bool) → (has_thread s t && is_gone (s.threads t).stage) ≡ b → P (Renew t) (if b then renewed s t else nothing s)
     go true e =
@@ -245,17 +227,12 @@ by_event s P none begins_so steps_so kills_so leaves_so expires_so oversleeps_so
         let known : t ≤ s.layout.threads = grind (arith, nat_tests) in
         renews_so t pos known (reaped_is (s.threads t).stage (grind (arith, nat_tests)))
     go false e = none (Renew t)
-by_event s P none begins_so steps_so kills_so leaves_so expires_so oversleeps_so declines_so renews_so reinits_so remakes_so spares_so (Reinit t m) = go (may_reinit s t m) refl
-  where
-    go : (b : Bool) → may_reinit s t m ≡ b → P (Reinit t m) (if b then reinited s t m 0 else nothing s)
-    go true e = reinits_so t m (reinit_so s t m e)
-    go false e = none (Reinit t m)
-by_event s P none begins_so steps_so kills_so leaves_so expires_so oversleeps_so declines_so renews_so reinits_so remakes_so spares_so (Remake t m) = go (may_remake s t m) refl
+by_event s P none begins_so steps_so kills_so leaves_so expires_so oversleeps_so declines_so renews_so remakes_so spares_so (Remake t m) = go (may_remake s t m) refl
   where
     go : (b : Bool) → may_remake s t m ≡ b → P (Remake t m) (if b then reinited s t m (waiters_of (s.words (cell_place s.layout m))) else nothing s)
     go true e = remakes_so t m (remake_so s t m e)
     go false e = none (Remake t m)
-by_event s P none begins_so steps_so kills_so leaves_so expires_so oversleeps_so declines_so renews_so reinits_so remakes_so spares_so (Spare t by) = go (has_thread s t) refl
+by_event s P none begins_so steps_so kills_so leaves_so expires_so oversleeps_so declines_so renews_so remakes_so spares_so (Spare t by) = go (has_thread s t) refl
   where
     calls : (o : Op) (p : Whole) → has_thread s t ≡ true → (s.threads t).stage ≡ Calling o p → (a : Bool) → wakes_one p.phase ≡ a → (b : Bool) → is_left_to s t (mutex_of s.layout o) by ≡ b
         → P (Spare t by) (if a && b then spared s t (s.threads t).held (mutex_of s.layout o) (led o p (whole_led p (Count 1))) else nothing s)

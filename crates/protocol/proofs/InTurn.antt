@@ -486,7 +486,6 @@ event_tells s e w inv queued said =
     (λ u o p pos known is awake trims. subst (Tells s w) (sym (spared_is s u o p is trims inv pos known)) (said, tt))
     (λ u pos known gone. (said, (tt, tt)))
     (λ u m may. (said, (tt, (tt, (tt, tt)))))
-    (λ u m may. (said, (tt, (tt, (tt, tt)))))
     (λ u m g sp. subst (Tells s w) (sym (spare_is s u m g sp inv)) (said, tt))
     e
   where
@@ -547,7 +546,7 @@ no_leave : (s : State) (e : Event) → IsNoLeaving e → IsNoLeave (happens s e)
 no_leave s e =
     by_event s (λ (x : Event) (a : After). IsNoLeaving x → IsNoLeave a.note) (λ x none. tt) (λ u o pos known inside idle b full none. begins_so u o b)
     (λ u pos known none. by_stage s u (λ (a : After). IsNoLeave a.note) (λ rests. tt) (λ o p is awake. tt) (λ c p is awake. tt) (λ v is awake. tt)) (λ u pos known alive none. tt) (λ u pos known asleep none. absurd none) (λ u m p pos known is asleep may none. absurd none) (λ u k x p pos known is there none. absurd none)
-    (λ u o p pos known is awake trims none. tt) (λ u pos known gone none. tt) (λ u m may none. tt) (λ u m may none. tt) (λ u m g sp none. tt) e
+    (λ u o p pos known is awake trims none. tt) (λ u pos known gone none. tt) (λ u m may none. tt) (λ u m g sp none. tt) e
   where
     begins_so : (u : ℕ) (o : Op) (b : Bool) → IsNoLeave (begun s u o (if b then Err XHELD else Ok (begins_at s.layout u o))).note
     begins_so u o true = tt
@@ -563,7 +562,6 @@ noted_none s (Event.Kill t ∷ es) none = (no_leave s (Event.Kill t) tt, noted_n
 noted_none s (Event.Decline t ∷ es) none = (no_leave s (Event.Decline t) tt, noted_none (happens s (Event.Decline t)).state es none)
 noted_none s (Event.Spare t by ∷ es) none = (no_leave s (Event.Spare t by) tt, noted_none (happens s (Event.Spare t by)).state es none)
 noted_none s (Event.Renew t ∷ es) none = (no_leave s (Event.Renew t) tt, noted_none (happens s (Event.Renew t)).state es none)
-noted_none s (Event.Reinit t m ∷ es) none = (no_leave s (Event.Reinit t m) tt, noted_none (happens s (Event.Reinit t m)).state es none)
 noted_none s (Event.Remake t m ∷ es) none = (no_leave s (Event.Remake t m) tt, noted_none (happens s (Event.Remake t m)).state es none)
 
 fronts_of : (l : Layout') (w : Queue → List ℕ) (n : Note) → IsNoLeave n → NotesFronts l w n → NameFronts l w (facts_of n)

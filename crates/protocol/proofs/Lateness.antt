@@ -186,7 +186,6 @@ module _ (s : State) (t : ℕ) (late : Bool) (h : IsLateAt (s.threads t).stage l
       (λ u o p pos known is awake trims other. subst Stays (sym (spared_is s u o p is trims inv pos known)) (from_stage u (Calling o p) _ is (unlocks_on o p)))
       (λ u pos known gone other. renewed_on u pos known)
       (λ u m may other. h)
-      (λ u m may other. h)
       (λ u m g sp other. subst Stays (sym (spare_is s u m g sp inv)) (changes u _ (spares u m g sp.how)))
       e
     where
@@ -204,7 +203,6 @@ module _ (s : State) (t : ℕ) (late : Bool) (h : IsLateAt (s.threads t).stage l
   late_on (Event.Expire u) inv = others (Event.Expire u) inv tt
   late_on (Event.Decline u) inv = others (Event.Decline u) inv tt
   late_on (Event.Renew u) inv = others (Event.Renew u) inv tt
-  late_on (Event.Reinit u m) inv = others (Event.Reinit u m) inv tt
   late_on (Event.Remake u m) inv = others (Event.Remake u m) inv tt
   late_on (Event.Spare u by) inv = others (Event.Spare u by) inv tt
 

@@ -472,7 +472,6 @@ teaches s e inv =
     (λ t k x p pos known is there. oversleep_teaches s t k x p is)
     (λ t o p pos known is awake trims. subst (Teaches s t) (sym (spared_is s t o p is trims inv pos known)) (decline_teaches s t o p is trims))
     (λ t pos known gone. renew_teaches s t pos known)
-    (λ t m may. reinit_teaches s t m 0 may.remake.resting)
     (λ t m may. reinit_teaches s t m _ may.resting)
     (λ t m g sp. subst (Teaches s t) (sym (spare_is s t m g sp inv)) (spare_teaches s t m g sp))
     e

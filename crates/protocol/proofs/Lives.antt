@@ -450,7 +450,6 @@ adds s e inv =
     (λ u k x p pos known is there. oversleeps_so s u k x p is)
     (λ u o p pos known is awake trims. subst (Adds s u) (sym (spared_is s u o p is trims inv pos known)) (declines_so s u o p is trims))
     (λ u pos known gone. renews_so s u pos known gone)
-    (λ u m may. reinits_so s u m 0 may.remake.resting)
     (λ u m may. reinits_so s u m _ may.resting)
     (λ u m g sp. subst (Adds s u) (sym (spare_is s u m g sp inv)) (spares_so s u m g sp))
     e

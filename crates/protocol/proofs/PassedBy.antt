@@ -377,7 +377,6 @@ makes s e inv counted =
     (λ t k x p pos known is there. oversleep_makes s t k x p pos known is)
     (λ t o p pos known is awake trims. subst (Makes s t) (sym (spared_is s t o p is trims inv pos known)) (decline_makes s t o p is trims))
     (λ t pos known gone. renew_makes s t pos known)
-    (λ t m may. reinit_makes s t m 0 may.remake.first may.remake.last may.remake.resting)
     (λ t m may. reinit_makes s t m _ may.first may.last may.resting)
     (λ t m g sp. subst (Makes s t) (sym (spare_is s t m g sp inv)) (spare_makes s t m g sp))
     e

@@ -14,7 +14,7 @@ use Rattle.protocol.proofs.Queued.{Answering, Queued, went_queued}
 use Rattle.protocol.proofs.Departures.{leave_queued}
 use Rattle.protocol.proofs.Renewals.{renew_queued}
 use Rattle.protocol.proofs.Vocabulary.{cell_place}
-use Rattle.protocol.proofs.Reinits.{waiters_say_nothing, reinit_queued, nobody_kept, sleepers_kept}
+use Rattle.protocol.proofs.Reinits.{waiters_say_nothing, reinit_queued, sleepers_kept}
 use Rattle.protocol.proofs.Vocabulary.{Call, OnMutex}
 use Rattle.protocol.proofs.Expiring.{expires_at, lapse_queued}
 use Rattle.protocol.proofs.Oversleeping.{overslept_queued}
@@ -97,7 +97,6 @@ queued_on s e inv queued =
     (λ t k x p pos known is there. overslept_queued s t k x p is queued there)
     (λ t o p pos known is awake trims. subst (λ (a : After). Queued a.state) (sym (spared_is s t o p is trims inv pos known)) (decline_queued s t o p is trims queued))
     (λ t pos known gone. renew_queued s t pos known queued gone)
-    (λ t m may. reinit_queued s t m 0 refl may.remake inv (nobody_kept s t m may) queued)
     (λ t m may. reinit_queued s t m _ (waiters_say_nothing (s.words (cell_place s.layout m))) may inv (sleepers_kept s m) queued)
     (λ t m g sp. subst (λ (a : After). Queued a.state) (sym (spare_is s t m g sp inv)) (spare_queued s t m g sp queued))
     e

@@ -1,7 +1,7 @@
 -- Unusable mutexes that are made anew, with a word that says nothing but that somebody may sleep there.
 use Rattle.std.proofs.Common.{◌≡◌, ◌≢◌, inl, ℕ, ◌+◌, ◌<◌, ◌≤◌, Bool, true, false, None, Some, refl, sym, ap, ◌∙◌, subst, arith}
 use Rattle.protocol.proofs.Vocabulary.{Object, Operation, Access, OK, head_place, cell_place, counter_place, fields_of, object_of, fresh, Sound, stands_in, Thread, Idle, State, put, seen}
-use Rattle.protocol.proofs.Vocabulary.{sleepers, if◌then◌else◌, nat_lt, place_in, reinited, waiters_of, MayReinit, MayRemake}
+use Rattle.protocol.proofs.Vocabulary.{sleepers, if◌then◌else◌, nat_lt, place_in, reinited, waiters_of, MayRemake}
 use Rattle.lockword.specs.Cells.{bit, waiters_alone}
 use mathlib.Core.Path.{fun_ext}
 use Rattle.protocol.proofs.Puts.{by_put, put-same, put-other}
@@ -177,11 +177,6 @@ module _ (s : State) (t m w : ℕ) (says : Says_nothing w) (may : MayRemake s t 
     bits = bits_still stays queued;
     answered = answered_still inv queued;
   }
-
--- ---- of either event
-
-pub nobody_kept : (s : State) (t m : ℕ) (may : MayReinit s t m) → (u : ℕ) → stands_in u (sleepers s m) ≡ true → HasWaiters s m → (fields_of 0).waiters ≡ true
-nobody_kept s t m may u there on = absurd (cc (sym (ap (stands_in u) may.unslept) ∙ there))
 
 pub sleepers_kept : (s : State) (m u : ℕ) → stands_in u (sleepers s m) ≡ true → HasWaiters s m → (fields_of (waiters_of (s.words (cell_place s.layout m)))).waiters ≡ true
 sleepers_kept s m u there on = waiters_kept (s.words (cell_place s.layout m)) ∙ on

@@ -130,7 +130,6 @@ module _ (s : State) (inv : Kept s) (calls : ℕ → Option Begun) (left : ℕ �
       (λ u o p pos known is awake trims. subst Releases (sym (spared_is s u o p is trims inv pos known)) (λ t m b h told waits. absurd h))
       (λ u pos known gone t m b h told waits. absurd (⊎_elim (λ e. cc e) (λ none. none) h))
       (λ u k may t m b h told waits. absurd (⊎_elim (λ e. cc e) (λ more. ⊎_elim (λ e. cc (same_decision _ (unlock_of t m) e).1) (λ last. ⊎_elim (λ e. cc e) (λ none. none) last) more) h))
-      (λ u k may t m b h told waits. absurd (⊎_elim (λ e. cc e) (λ more. ⊎_elim (λ e. cc (same_decision _ (unlock_of t m) e).1) (λ last. ⊎_elim (λ e. cc e) (λ none. none) last) more) h))
       (λ u k g sp. subst Releases (sym (spare_is s u k g sp inv)) (λ t m b h told waits. absurd h))
       e
 

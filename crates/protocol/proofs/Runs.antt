@@ -212,7 +212,7 @@ decline_sound s t o p is trims inv pos known = record { kept = decline_kept s t 
 renew_sound : (s : State) (t : ℕ) → Kept s → 1 ≤ t → t ≤ s.layout.threads → (s.threads t).stage ≡ Reaped → Sound' s (renewed s t)
 renew_sound s t inv pos known gone = record { kept = renew_kept s t pos known inv gone; same = refl; told = renewed_seen s t pos known }
 
--- and a reinit or a remake, which is a step of its mutex
+-- and a remake, which is a step of its mutex
 reinit_sound : (s : State) (t m w : ℕ) → Says_nothing w → Kept s → MayRemake s t m → Sound' s (reinited s t m w)
 reinit_sound s t m w says inv may = record { kept = reinit_kept s t m w says may inv; same = refl; told = (may.inside, (may.unusable, unowned s t m w says may inv, reinited_seen s t m w says may), reinited_far s t m w says may, refl) }
 
@@ -233,7 +233,6 @@ sound s e inv =
     (λ t k x p pos known is there. oversleep_sound s t k x p inv pos known is)
     (λ t o p pos known is awake trims. subst (Sound' s) (sym (spared_is s t o p is trims inv pos known)) (decline_sound s t o p is trims inv pos known))
     (λ t pos known gone. renew_sound s t inv pos known gone)
-    (λ t m may. reinit_sound s t m 0 refl inv may.remake)
     (λ t m may. reinit_sound s t m _ (waiters_say_nothing (s.words (cell_place s.layout m))) inv may)
     (λ t m g sp. subst (Sound' s) (sym (spare_is s t m g sp inv)) (spare_sound s t m g sp inv))
     e

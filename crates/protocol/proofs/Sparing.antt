@@ -425,7 +425,7 @@ spare_rests s t by queued never =
     by_event s (λ (x : Event) (a : After). x ≡ Spare t by → a ≡ nothing s) (λ x same. refl) (λ u o pos known named idle b full same. absurd cc) (λ u pos known same. absurd cc) (λ u pos known alive same. absurd cc) (λ u pos known asleep same. absurd cc)
     (λ u m p pos known is asleep may same. absurd cc)
     (λ u k x p pos known is there same. absurd cc)
-    (λ u o p pos known is awake trims same. absurd cc) (λ u pos known gone same. absurd cc) (λ u m may same. absurd cc) (λ u m may same. absurd cc)
+    (λ u o p pos known is awake trims same. absurd cc) (λ u pos known gone same. absurd cc) (λ u m may same. absurd cc)
     (λ u m g sp same. absurd (never_so u sp.by (thread_is u t sp.by by same) (left_is u t sp.by by same) sp.first sp.last (spare_so s u m g queued sp)))
     (Spare t by) refl
   where

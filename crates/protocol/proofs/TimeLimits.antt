@@ -396,7 +396,6 @@ module _ (s : State) (inv : Kept s) where
       (λ u o p pos known is awake trims none. subst UntimedIn (sym (spared_is s u o p is trims inv pos known)) tt)
       (λ u pos known gone none. tt)
       (λ u k may none. ((λ e. cc e), tt))
-      (λ u k may none. ((λ e. cc e), tt))
       (λ u k g sp none. subst UntimedIn (sym (spare_is s u k g sp inv)) tt)
       e
 
@@ -598,7 +597,6 @@ module _ (s : State) (t m : ℕ) (inv : Kept s) (queued : Queued s) where
       (λ u k x p pos known is there. oversleeps u k x p is)
       (λ u o p pos known is awake trims. subst Comes (sym (spared_is s u o p is trims inv pos known)) (declines u o p is trims awake))
       (λ u pos known gone. renews u)
-      (λ u k may. reinits u k 0 may.remake.resting)
       (λ u k may. reinits u k (waiters_of (s.words (cell_place s.layout k))) may.resting)
       (λ u k g sp. subst Comes (sym (spare_is s u k g sp inv)) (spares u k g sp))
       e
@@ -627,7 +625,6 @@ module _ (s : State) (t m : ℕ) (inv : Kept s) (queued : Queued s) where
       (λ u k x p pos known is there c w. (tt, tt))
       (λ u o p pos known is awake trims. subst Reasons (sym (spared_is s u o p is trims inv pos known)) (λ c w. tt))
       (λ u pos known gone c w. (tt, tt))
-      (λ u k may c w. untimed_reasons t m c (facts_of (reinited s u k 0).note) ((λ e. cc e), tt))
       (λ u k may c w. untimed_reasons t m c (facts_of (reinited s u k 0).note) ((λ e. cc e), tt))
       (λ u k g sp. subst Reasons (sym (spare_is s u k g sp inv)) (λ c w. tt))
       e

@@ -9,7 +9,6 @@ use Rattle.exitwalk.specs.Standings as walks
 use Rattle.exitwalk.specs.Walks as exit
 use Rattle.exitwalk.specs.declared.row.Row as walk_row
 use Rattle.exitwalk.specs.declared.row.Row.TheVariants as walk
-use Rattle.stepprograms.specs.Accesses.{is_nobody}
 use Rattle.mutex.specs.Whole.{begins}
 use Rattle.condvar.specs.Ops.{may_call, reply_of}
 use Rattle.condvar.specs.Calls as condition
@@ -306,8 +305,6 @@ happens_same s (Event.Decline t) none = choose (has_thread s t) _ (declined s t 
 happens_same s (Event.Renew t) none =
     choose (has_thread s t && is_gone (s.threads t).stage) _ (renewed s t) _ (nothing s) _ (ap (λ (b : Bool). has_thread s t && b) (gone_same (s.threads t).stage))
     (changed_same s (renewed s t).state.words s.queues t idle idle (renewed s t).note _ refl refl) refl
-happens_same s (Event.Reinit t m) none =
-    choose (machine.may_reinit s t m) _ (reinited s t m 0) _ (nothing s) _ (ap (λ (b : Bool). (has_thread s t && b && nat_lt m s.layout.mutexes && is_unusable s m) && is_nobody (machine.sleepers s m)) (idle_same (s.threads t).stage)) refl refl
 happens_same s (Event.Remake t m) none =
     choose (machine.may_remake s t m) _ (reinited s t m (waiters_of (s.words (cell_place s.layout m)))) _ (nothing s) _ (ap (λ (b : Bool). has_thread s t && b && nat_lt m s.layout.mutexes && is_unusable s m) (idle_same (s.threads t).stage)) refl refl
 happens_same s (Event.Spare t by) none = choose (has_thread s t) _ (sparing s t by (s.threads t).held (s.threads t).stage) _ (nothing s) _ refl (spares s t (s.threads t).held by (s.threads t).stage) refl

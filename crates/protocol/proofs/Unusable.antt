@@ -1,12 +1,12 @@
--- Mutexes that are unusable: what a reinit does, and that nothing else changes them.
+-- Mutexes that are unusable: what a remake does, and that nothing else changes them.
 use Rattle.std.proofs.Common.{◌≡◌, ◌≢◌, ◌⊎◌, inl, inr, ℕ, ◌<◌, ◌≤◌, Bool, true, false, Option, Some, None, Ok, Err, List, [], ◌∷◌, refl, sym, ap, ◌∙◌, subst, arith}
 use Rattle.protocol.proofs.Vocabulary.{CondCall, CondWhole, cond_access, cond_led, condition_of, Mutex, Condition, Object, Operation, Permits, Layout', cell_place, Fields, Reply, XHELD, whole_access, whole_led, answer_among, Op, OnMutex, OnCondition, mutex_of}
-use Rattle.protocol.proofs.Vocabulary.{Event, Calling, AtCondition, State, After, Call, Sleeps, sleepers, stands_in, seen, start, happens, nothing, begun, walked, run, facts_of, is_asleep, sleeps_at, Note, led, led_at, decided_at, if◌then◌else◌, reinited, waiters_of, MayReinit, MayRemake}
+use Rattle.protocol.proofs.Vocabulary.{Event, Calling, AtCondition, State, After, Call, Sleeps, sleepers, stands_in, seen, start, happens, nothing, begun, walked, run, facts_of, is_asleep, sleeps_at, Note, led, led_at, decided_at, if◌then◌else◌, reinited, waiters_of, MayRemake}
 use Rattle.condvar.specs.Ops.{operation_of}
 use Rattle.condvar.specs.Calls as condition
 use Rattle.exitwalk.specs.Standings as walks
-use Rattle.protocol.specs.Machine.{may_reinit, may_remake}
-use Rattle.protocol.specs.Reinits.{OnlyReinits, ReinitsSo, OnlyRemakes, RemakesSo, reinit_told, ReinitsFreeTheMutex, RemakesForgetNobody, NobodyReinits, UnusableStays, NobodyJoinsAnUnusableMutex}
+use Rattle.protocol.specs.Machine.{may_remake}
+use Rattle.protocol.specs.Reinits.{OnlyRemakes, RemakesSo, reinit_told, RemakesForgetNobody, NobodyReinits, UnusableStays, NobodyJoinsAnUnusableMutex}
 use Rattle.protocol.proofs.Kept.{Kept, IsFor, AtPhase}
 use Rattle.protocol.proofs.Steps.{Transition, Tells, after, went-is, call_step, cond_step, place_of, met}
 use Rattle.protocol.proofs.Stepping.{Stepping}
@@ -16,7 +16,7 @@ use Rattle.protocol.proofs.CondAccesses.{cond_stepping, fits_at}
 use Rattle.protocol.proofs.WalkStepping.{walk_stepping}
 use Rattle.protocol.proofs.WalkSteps.{walk_transition, walked-is}
 use Rattle.protocol.proofs.Frames.{knows_at}
-use Rattle.protocol.proofs.Events.{begins_at, by_event, by_stage, reinit_so, reinit_again, remake_so, remake_again}
+use Rattle.protocol.proofs.Events.{begins_at, by_event, by_stage, remake_so, remake_again}
 use Rattle.protocol.proofs.Working.{by_step, walk_is}
 use Rattle.protocol.proofs.Queues.{without_stands}
 use Rattle.protocol.proofs.Queued.{Queued, Carried, stood}
@@ -26,33 +26,6 @@ use Rattle.protocol.proofs.Declines.{spared_is}
 use Rattle.protocol.proofs.Renewals.{renewed_seen}
 use Rattle.protocol.proofs.Reinits.{waiters_say_nothing, reinited_word, reinited_elsewhere, reinited_seen, reinited_far}
 use Rattle.protocol.proofs.Cases.{at_or_else}
-
--- ---- a reinit
-
-reinits : (s : State) (t m : ℕ) → ReinitsSo s t m
-reinits s t m = record {
-  anew = λ may.
-      subst (λ (a : After). OnlyReinits s a.state m × (facts_of a.note ≡ reinit_told t m)) (sym (ap (λ (b : Bool). if b then reinited s t m 0 else nothing s) (reinit_again s t m may))) (
-        record {
-          layout = refl;
-          word = reinited_word s t m 0 refl may.remake;
-          free = reinited_seen s t m 0 refl may.remake;
-          words = λ p apart. reinited_elsewhere s t m 0 refl may.remake p apart;
-          mutexes = λ k apart. reinited_far s t m 0 refl may.remake k apart;
-          queues = λ key. refl;
-          threads = λ u. refl;
-        },
-        refl,
-      );
-  else_nothing = λ never. go never (may_reinit s t m) refl;
-}
-  where
-    go : ¬ MayReinit s t m → (b : Bool) → may_reinit s t m ≡ b → (if b then reinited s t m 0 else nothing s) ≡ nothing s
-    go never false e = refl
-    go never true e = absurd (never (reinit_so s t m e))
-
-pub reinits_free : ReinitsFreeTheMutex
-reinits_free l counters events is t m = reinits (run (start l counters) events) t m
 
 -- ---- a remake
 
@@ -105,7 +78,6 @@ permits_unusable o n t op x other lost p = grind (arith)
 
 -- it doesn't make mutex m anew
 abbrev IsOther : ℕ → Event → Type 0
-IsOther m (Event.Reinit t k) = k ≢ m
 IsOther m (Event.Remake t k) = k ≢ m
 IsOther m e = Unit {0}
 
@@ -150,7 +122,6 @@ module _ (s : State) (m : ℕ) (inv : Kept s) (lost : (seen s m).unusable ≡ tr
       (λ t k x p pos known is there other. lost)
       (λ t o p pos known is awake trims other. subst Stays (sym (spared_is s t o p is trims inv pos known)) lost)
       (λ t pos known gone other. ap (λ (o : Object). o.unusable) (renewed_seen s t pos known m) ∙ lost)
-      (λ t k may other. ap (λ (o : Object). o.unusable) (reinited_far s t k 0 refl may.remake m (λ e. other (sym e))) ∙ lost)
       (λ t k may other. ap (λ (o : Object). o.unusable) (reinited_far s t k _ (waiters_say_nothing (s.words (cell_place s.layout k))) may m (λ e. other (sym e))) ∙ lost)
       (λ t k g sp other. lost)
       e
@@ -192,7 +163,6 @@ module _ (s : State) (m : ℕ) (inv : Kept s) (lost : (seen s m).unusable ≡ tr
         (λ t o p pos known is awake trims u there. there)
         (λ t pos known gone u there. there)
         (λ t k may u there. there)
-        (λ t k may u there. there)
         (λ t k g sp u there. there)
         e
       where
@@ -204,7 +174,6 @@ module _ (s : State) (m : ℕ) (inv : Kept s) (lost : (seen s m).unusable ≡ tr
 
 -- the next event and those behind it
 parted : (m : ℕ) (e : Event) (es : List Event) → NobodyReinits m (e ∷ es) → IsOther m e × NobodyReinits m es
-parted m (Event.Reinit t k) es none = none
 parted m (Event.Remake t k) es none = none
 parted m (Event.Begin t o) es none = (tt, none)
 parted m (Event.Step t) es none = (tt, none)

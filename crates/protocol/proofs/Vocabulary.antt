@@ -80,7 +80,7 @@ pub use Rattle.protocol.specs.Machine.{death_at, decided_at, departed, lapsed, m
 pub use Rattle.protocol.specs.Machine.{another_answers, answers, sparing, wakes_one}
 pub use Rattle.protocol.specs.Machine.{a_walk_minds, is_left_to, is_owned, minds, overslept, waits_on, walk_minds}
 pub use Rattle.protocol.specs.Spares.{AnotherAnswers, AWalkAnswers, IsLeftTo, In_unlock, In_wait, MaySpare, WakesOneOf}
-pub use Rattle.protocol.specs.Reinits.{MayReinit, MayRemake}
+pub use Rattle.protocol.specs.Reinits.{MayRemake}
 pub use Rattle.protocol.specs.Notes.{death_facts, facts_of, line_of, lines_from, moves_to, point_facts, reap_facts, reinit_of, return_facts, sleep_facts}
 pub use Rattle.condvar.specs.Ops.{mutex_of}
 pub use Rattle.protocol.specs.Ops.{begun_of, queue_place}

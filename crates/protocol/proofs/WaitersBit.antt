@@ -1,5 +1,5 @@
 -- The WAITERS bit, event by event.
-use Rattle.std.proofs.Common.{◌≡◌, ◌⊎◌, inl, inr, ℕ, ◌≤◌, ◌==◌, ◌&&◌, Bool, true, false, List, [], drop, Ok, Err, refl, ap, ◌∙◌, subst}
+use Rattle.std.proofs.Common.{◌≡◌, ◌⊎◌, inl, ℕ, ◌≤◌, ◌==◌, ◌&&◌, Bool, true, false, List, [], drop, Ok, Err, refl, ap, ◌∙◌, subst}
 use Rattle.protocol.proofs.Vocabulary.{XHELD, Op, Event, Step, State, After, begun, happens, run, start, if◌then◌else◌, cell_place, Phase, AtCell, Whole, OnMutex, Calling, is_asleep}
 use Rattle.protocol.proofs.Vocabulary.{Access, answer_among, fields_of, word_among, Onward, stands_in, UnlockRow, put, stage_after, reinited, MayRemake, IsUnowned}
 use Rattle.protocol.proofs.Cases.{at_or_else}
@@ -18,7 +18,7 @@ use Rattle.protocol.proofs.CellSteps as cell
 use Rattle.protocol.proofs.Accesses.{fits_in, goes}
 use Rattle.protocol.proofs.Events.{begins_at, by_event}
 use Rattle.protocol.proofs.Renewals.{renewed_cell}
-use Rattle.protocol.proofs.Reinits.{Says_nothing, waiters_say_nothing, waiters_kept, unowned, reinited_word, reinited_cell}
+use Rattle.protocol.proofs.Reinits.{Says_nothing, waiters_say_nothing, waiters_kept, reinited_word, reinited_cell}
 use Rattle.protocol.proofs.Working.{by_step, call_goes}
 use Rattle.protocol.proofs.Queued.{Queued, mine, out_awake}
 use Rattle.protocol.proofs.Queues.{not_true}
@@ -46,7 +46,6 @@ stay_on s e inv =
     (λ t k x p pos known is there m below on. inl on)
     (λ t o p pos known is awake trims m below on. inl on)
     (λ t pos known gone m below on. inl (ap (λ (w : ℕ). (fields_of w).waiters) (renewed_cell s t pos known m) ∙ on))
-    (λ t k may m below on. reinit_stays t k 0 refl may.remake (λ on. inr (may.unslept, unowned s t k 0 refl may.remake inv)) m on)
     (λ t k may m below on. let says = waiters_say_nothing (s.words (cell_place s.layout k)) in reinit_stays t k _ says may (λ on. inl (ap (λ (w : ℕ). (fields_of w).waiters) (reinited_word s t k _ says may) ∙ (waiters_kept (s.words (cell_place s.layout k)) ∙ on))) m on)
     (λ t k g sp m below on. inl on)
     e

@@ -267,7 +267,6 @@ turn s e inv queued t =
     (λ u o p pos known is awake trims. subst (TurnOf s t (Event.Decline u)) (sym (spared_is s u o p is trims inv pos known)) (Stays refl (λ key. refl)))
     (λ u pos known gone. Stays refl (λ key. refl))
     (λ u m may. Stays refl (λ key. refl))
-    (λ u m may. Stays refl (λ key. refl))
     (λ u m g sp. subst (TurnOf s t (Event.Spare u sp.by)) (sym (spare_is s u m g sp inv)) (Stays refl (λ key. refl)))
     e
   where

@@ -336,7 +336,6 @@ module _ (s : State) (inv : Kept s) (queued : Queued s) (told : ℕ → Told) (b
   nothing_whom (Event.Expire t) = (inl refl, refl)
   nothing_whom (Event.Decline t) = (refl, refl)
   nothing_whom (Event.Renew t) = (refl, refl)
-  nothing_whom (Event.Reinit t m) = (refl, refl)
   nothing_whom (Event.Remake t m) = (refl, refl)
   nothing_whom (Event.Spare t by) = (refl, refl)
 
@@ -381,7 +380,6 @@ module _ (s : State) (inv : Kept s) (queued : Queued s) (told : ℕ → Told) (b
       (λ t c p pos known is awake trims. subst (WhomAt (Event.Decline t)) (sym (spared_is s t c p is trims inv pos known)) (refl, refl))
       (λ t pos known gone. (refl, refl))
       (λ t m may. (refl, refl))
-      (λ t m may. (refl, refl))
       (λ t m g sp. subst (WhomAt (Event.Spare t sp.by)) (sym (spare_is s t m g sp inv)) (refl, refl))
       e
 
@@ -406,5 +404,4 @@ woken_right l counters events is e = go e (next_whom (run s0 events) (run_kept s
     go (Event.Expire t) h = h
     go (Event.Decline t) h = h
     go (Event.Renew t) h = h
-    go (Event.Reinit t m) h = h
     go (Event.Remake t m) h = h

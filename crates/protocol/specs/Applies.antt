@@ -2,12 +2,12 @@
 --
 -- *Which events apply.* By what the trace has told of its thread: a begin where that lives, is in no call, and the
 -- mutex or condition variable is one of the layout; a step where it is in a call, or killed and not reaped, and sleeps
--- nowhere; a kill where it lives; a leave where it stands in a queue; an expiry where it does so in a call that was told
--- as a lock with a time limit, or in its condition variable's queue in one that was told as a wait with a time limit
--- (`IsTold`); a decline where its next access is a trim (`IsAboutToTrim`); a renewal where it was reaped, and hasn't been
--- renewed since; a reinit where it lives and is in no call, and the mutex, one of the layout, is unusable and nobody
--- sleeps on it, and a remake whoever sleeps on it; a spare (`IsSparedAccessOf`) where it happens. Such an event is noted as what it is, every other as nothing, and that changes
--- nothing: the law `events_apply`.
+-- nowhere; a kill where it lives; a leave where it stands in a queue; an expiry where it does so in a call that was
+-- told as a lock with a time limit, or in its condition variable's queue in one that was told as a wait with a time
+-- limit (`IsTold`); a decline where its next access is a trim (`IsAboutToTrim`); a renewal where it was reaped, and
+-- hasn't been renewed since; a remake where it lives and is in no call, and the mutex, one of the layout, is unusable;
+-- a spare (`IsSparedAccessOf`) where it happens. Such an event is noted as what it is, every other as nothing, and that
+-- changes nothing: the law `events_apply`.
 use Rattle.std.specs.Prelude.{ℕ, length, ◌≡◌, ◌⊎◌, ◌<◌, ◌≤◌, ◌==◌, ◌&&◌, nat_le, true}
 use Rattle.std.specs.Prelude.{false, Option, Some, None, List, [], ◌∷◌, if◌then◌else◌}
 use Rattle.lockword.specs.declared.reply.Reply.{Reply}
@@ -41,7 +41,7 @@ use Rattle.condvar.specs.declared.call.CondCall.{CondCall}
 use Rattle.mutex.specs.Whole.{whole_access}
 use Rattle.protocol.specs.declared.thread.Stage.{Stage}
 use Rattle.protocol.specs.declared.thread.Stage.TheVariants.{Idle, Calling, AtCondition, Dying, Reaped}
-use Rattle.protocol.specs.Machine.{State, start, happens, run, notes, stands_in, sleepers}
+use Rattle.protocol.specs.Machine.{State, start, happens, run, notes, stands_in}
 use Rattle.protocol.specs.Headline.{seen, facts_among}
 use Rattle.protocol.specs.Sleepers.{StandsIn}
 use Rattle.protocol.specs.Spares.{MaySpare}
@@ -142,9 +142,8 @@ SleepsInTimedWait s t = (k : ℕ) × StandsIn s t (Condition k) × IsInTimedWait
 -- a begin applies where its thread lives, is in no call, and what it calls is in the layout; a step where its thread is
 -- in a call, or was killed and not reaped, and sleeps on nothing; a kill where its thread lives; a leave where it
 -- sleeps; an expiry where it sleeps in a lock with a time limit, or on a condition variable in a wait with one; a
--- decline where it is about to trim; a renewal where its thread was reaped; a reinit where its thread lives and is in
--- no call, and its mutex, one of the layout, is unusable and nobody sleeps on it; a remake likewise, whoever sleeps on
--- it; a spare where its thread is about to wake one of a mutex, for
+-- decline where it is about to trim; a renewal where its thread was reaped; a remake where its thread lives and is in
+-- no call, and its mutex, one of the layout, is unusable; a spare where its thread is about to wake one of a mutex, for
 -- which another answers
 abbrev pub Applies : Layout' → State → List Note → Event → Type 0
 Applies l s ns (event.Begin t o) = IsThread l t × Names l o × BeginsAhead o × (last_told t ns ≡ AtRest)
@@ -154,8 +153,6 @@ Applies l s ns (event.Leave t) = IsThread l t × IsInAQueue s t
 Applies l s ns (event.Expire t) = IsThread l t × (SleepsInTimedLock s t ⊎ SleepsInTimedWait s t)
 Applies l s ns (event.Decline t) = IsThread l t × IsAboutToTrim s t
 Applies l s ns (event.Renew t) = IsThread l t × (last_told t ns ≡ Gone)
-Applies l s ns (event.Reinit t m) =
-    IsThread l t × (last_told t ns ≡ AtRest) × (m < l.mutexes) × ((seen s m).unusable ≡ true) × (sleepers s m ≡ [])
 Applies l s ns (event.Remake t m) =
     IsThread l t × (last_told t ns ≡ AtRest) × (m < l.mutexes) × ((seen s m).unusable ≡ true)
 Applies l s ns (event.Spare t by) = IsThread l t × MaySpare s t by
@@ -193,7 +190,6 @@ IsNotedAs l s (event.Expire t) n = ((m : ℕ) → IsInTimedLock s t m → n ≡ 
     × ((k : ℕ) → IsInTimedWait s t k → n ≡ Expired t (Condition k))
 IsNotedAs l s (event.Decline t) n = IsQuietAccessOf l s t n
 IsNotedAs l s (event.Renew t) n = n ≡ Renewed t
-IsNotedAs l s (event.Reinit t m) n = n ≡ Reinited t m
 IsNotedAs l s (event.Remake t m) n = n ≡ Reinited t m
 IsNotedAs l s (event.Spare t by) n = IsSparedAccessOf l s t n
 

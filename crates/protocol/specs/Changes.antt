@@ -1,6 +1,6 @@
 -- What a begin, a kill and a step may change; every other event is spoken of where it is defined (`Leaves.antt`,
--- `Renewals.antt`, `Reinits.antt`, `Spares.antt`). Who stands in which queue behind it
--- is what the trace tells (`Wakings.antt`).
+-- `Renewals.antt`, `Reinits.antt`, `Spares.antt`). Who stands in which queue behind it is what the trace tells
+-- (`Wakings.antt`).
 --
 -- *What an event changes.* A begin changes no word and no queue, a kill no word and only its thread's place in a queue,
 -- a step one word at most: one of its thread's head, a link of a mutex that this owns, its call's cell, or the counter

@@ -32,7 +32,6 @@ caller (event.Leave t) = t
 caller (event.Expire t) = t
 caller (event.Decline t) = t
 caller (event.Renew t) = t
-caller (event.Reinit t m) = t
 caller (event.Remake t m) = t
 caller (event.Spare t by) = t
 

@@ -6,10 +6,10 @@
 --
 -- *Step.* A begin begins a call of an idle thread; a step makes the next access of a thread that is in a call and
 -- doesn't sleep, or of a dying thread's walk; a kill takes a thread out of its queue and ends its call; a leave takes a
--- sleeper out of its queue, and so does an expiry of one whose lock or wait has a time limit; a decline is the step of a thread
--- whose next access is a trim, answered that this cleared nothing; a renewal lets a reaped thread live again; a reinit
--- makes an unusable mutex usable again. A spare leaves out a wake for which another
--- thread answers. An event that can't apply notes nothing and changes nothing.
+-- sleeper out of its queue, and so does an expiry of one whose lock or wait has a time limit; a decline is the step of
+-- a thread whose next access is a trim, answered that this cleared nothing; a renewal lets a reaped thread live again;
+-- a remake makes an unusable mutex usable again. A spare leaves out a wake for which another thread answers. An event
+-- that can't apply notes nothing and changes nothing.
 --
 -- *A leave and a declined trim.* A thread that sleeps stands where it goes on when it is woken; so a leave only takes
 -- it out of its queue: no word changes, no thread, and no place of another in a queue, and its wake is told. A declined
@@ -30,15 +30,13 @@
 -- is renewed is all that is told. The law `renewals_begin_anew`; where nobody is renewed each thread has one life
 -- (`without_renewals_as_before`). Source: get_robust_list(2).
 --
--- *A reinit.* A thread that lives and is in no call makes an unusable mutex anew on which nobody sleeps: its word is 0,
--- and it is free; no other word, no queue and no thread changes, and it is told as a call of one event, a begin, a
--- point with OK and a return. Else nothing happens. The law `reinits_free_the_mutex`. Source:
--- pthread_mutex_destroy(3p), pthread_mutex_init(3p).
---
--- *A remake.* A program that makes a mutex anew access by access loads its word, asks whether anybody sleeps there, and
--- exchanges the word that it saw. The first two change nothing, so they are no events; what others do in between, the
--- exchange meets. A remake is that exchange: it finds the mutex unusable, whoever sleeps on it by now, and clears all
--- but WAITERS, so that nobody who sleeps is forgotten. It is told as a reinit. The law `remakes_forget_nobody`.
+-- *A remake.* A thread that lives and is in no call makes an unusable mutex anew. A program that does so access by
+-- access loads its word, asks whether anybody sleeps there, and exchanges the word that it saw. The first two change
+-- nothing, so they are no events; what others do in between, the exchange meets. A remake is that exchange: it finds the
+-- mutex unusable, whoever sleeps on it by now, and clears all but WAITERS, so that nobody who sleeps is forgotten. No
+-- other word, no queue and no thread changes, and it is told as a call of one event, a reinit: a begin, a point with OK
+-- and a return. Else nothing happens. The law `remakes_forget_nobody`. Source: pthread_mutex_destroy(3p),
+-- pthread_mutex_init(3p).
 --
 -- *Where an access meets its word.* Words and queues stand at places, and accesses have addresses of their thread's
 -- process: the word that one meets is that at the place of its address there. So threads of processes with different
@@ -59,7 +57,7 @@ use Rattle.posixmutex.specs.declared.point.Decision.{Decision}
 use Rattle.memorymap.specs.Layouts.{Layout', head_place, entry_place, cell_place, counter_place}
 use Rattle.memorymap.specs.Layouts.{words_of, address_in, place_in, head_word, first_word}
 use Rattle.buckets.specs.Queues.{without}
-use Rattle.stepprograms.specs.Accesses.{address_of, word_among, answer_among, sleeps_at, is_nobody}
+use Rattle.stepprograms.specs.Accesses.{address_of, word_among, answer_among, sleeps_at}
 use Rattle.mutex.specs.declared.call.Call.{Call}
 use Rattle.mutex.specs.declared.call.Call.TheVariants as call
 use Rattle.mutex.specs.declared.phase.Phase.{Phase}
@@ -94,7 +92,7 @@ use Rattle.protocol.specs.Ops.{begun_of}
 use Rattle.condvar.specs.declared.op.Op.{Op}
 use Rattle.condvar.specs.declared.op.Op.TheVariants.{OnMutex, OnCondition}
 use Rattle.protocol.specs.declared.event.Event.{Event}
-use Rattle.protocol.specs.declared.event.Event.TheVariants.{Begin, Step, Kill, Leave, Expire, Decline, Renew, Reinit}
+use Rattle.protocol.specs.declared.event.Event.TheVariants.{Begin, Step, Kill, Leave, Expire, Decline, Renew}
 use Rattle.protocol.specs.declared.event.Event.TheVariants.{Remake, Spare}
 use Rattle.protocol.specs.declared.event.LeftTo.{LeftTo}
 use Rattle.protocol.specs.declared.event.LeftTo.TheVariants as left_to
@@ -532,7 +530,7 @@ renewed s t =
       note = Renewed t;
     }
 
--- ---- reinits
+-- ---- remakes
 
 -- the word of mutex m says that it is unusable
 abbrev pub is_unusable : State → ℕ → Bool
@@ -542,10 +540,6 @@ is_unusable s m = (fields_of (s.words (cell_place s.layout m))).unusable
 abbrev pub may_remake : State → ℕ → ℕ → Bool
 may_remake s t m =
     has_thread s t && is_idle (s.threads t).stage && nat_lt m s.layout.mutexes && is_unusable s m
-
--- and nobody sleeps on it
-abbrev pub may_reinit : State → ℕ → ℕ → Bool
-may_reinit s t m = may_remake s t m && is_nobody (sleepers s m)
 
 -- it makes the mutex anew (pthread_mutex_destroy(3p), pthread_mutex_init(3p)), whose word is w then
 abbrev pub reinited : State → ℕ → ℕ → ℕ → After
@@ -666,10 +660,9 @@ sparing s t by held g = nothing s
 -- a begin of a busy, killed or unknown thread, of a call outside the layout or of a wait that is out of time, a step of
 -- an idle, sleeping, reaped or unknown thread, a kill of a killed or unknown thread, a leave of a thread that doesn't
 -- sleep, an expiry of one that doesn't sleep in a lock with a time limit or on the condition variable of a wait with
--- one, a decline of one that isn't about to trim, a renewal of one that wasn't reaped, a reinit by one that isn't idle,
--- or of a mutex that is usable or slept on, a remake by one that isn't idle, or of a mutex that is usable, and a
--- spare of a thread that isn't about to wake one of a mutex, or
--- leaves it to one who doesn't answer for it, do nothing
+-- one, a decline of one that isn't about to trim, a renewal of one that wasn't reaped, a remake by one that isn't idle,
+-- or of a mutex that is usable, and a spare of a thread that isn't about to wake one of a mutex, or leaves it to one who
+-- doesn't answer for it, do nothing
 abbrev pub happens : State → Event → After
 happens s (Begin t o) = if may_begin s t o then begun s t o (first_stage s.layout t (s.threads t).held o) else nothing s
 happens s (Step t) = if has_thread s t then stepped s t (s.threads t).held (s.threads t).stage else nothing s
@@ -678,7 +671,6 @@ happens s (Leave t) = if has_thread s t && is_asleep s t then departed s t else 
 happens s (Expire t) = if has_thread s t then expired s t (s.threads t).held (s.threads t).stage else nothing s
 happens s (Decline t) = if has_thread s t then declined s t (s.threads t).held (s.threads t).stage else nothing s
 happens s (Renew t) = if has_thread s t && is_gone (s.threads t).stage then renewed s t else nothing s
-happens s (Reinit t m) = if may_reinit s t m then reinited s t m 0 else nothing s
 happens s (Remake t m) =
     if may_remake s t m then reinited s t m (waiters_of (s.words (cell_place s.layout m))) else nothing s
 happens s (Spare t by) = if has_thread s t then sparing s t by (s.threads t).held (s.threads t).stage else nothing s

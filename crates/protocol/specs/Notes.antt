@@ -1,9 +1,8 @@
 -- The lines that notes stand for, in their order.
 --
 -- *What a note tells.* Facts, one after the other: a begin, a point, a sleep, wakes, moves, a return; a kill, a death
--- of a mutex's owner, a reaping, a renewal; of a leave a wake; of an expiry a wake, and of a lock's a point; of a reinit a begin, a
--- point and a return. A call that is refused at once is decided
--- and returns at its begin.
+-- of a mutex's owner, a reaping, a renewal; of a leave a wake; of an expiry a wake, and of a lock's a point; of a
+-- remake a begin, a point and a return. A call that is refused at once is decided and returns at its begin.
 use Rattle.std.specs.Prelude.{ℕ, ◌+◌, Bool, true, false, Option, Some, None, List, [], ◌∷◌, ◌++◌, map}
 use Rattle.lockword.specs.declared.reply.Reply.{Reply}
 use Rattle.lockword.specs.declared.reply.Reply.TheVariants.{OK, ETIMEDOUT}
@@ -54,7 +53,7 @@ reap_facts t true = Reap t ∷ []
 abbrev pub reinit_of : ℕ → Begun
 reinit_of m = record { operation = operation.Reinit; mutex = m; condition = None }
 
--- what an event did, one thing after the other; a reinit is told as a call of one event
+-- what an event did, one thing after the other; a remake is told as a call of one event
 abbrev pub facts_of : Note → List Fact
 facts_of Nothing = []
 facts_of (Began t c refused) = Begin t c ∷ refusal_facts t c refused

@@ -1,5 +1,5 @@
--- Unusable mutexes that are made anew (pthread_mutex_destroy(3p), pthread_mutex_init(3p)), by one event that looks who
--- sleeps there, or by the exchange alone that ends it where the look came before.
+-- Unusable mutexes that are made anew (pthread_mutex_destroy(3p), pthread_mutex_init(3p)), by the exchange that ends
+-- such a call.
 --
 -- *Nobody is forgotten.* The exchange may meet sleepers: who looked before it saw none, but the mutex may have been
 -- made anew in between, locked, slept on and made unusable again. So it keeps WAITERS: the law `remakes_forget_nobody`.
@@ -16,14 +16,14 @@ use Rattle.posixmutex.specs.Objects.{fresh}
 use Rattle.facts.specs.declared.fact.Fact.{Fact}
 use Rattle.facts.specs.declared.fact.Fact.TheVariants.{Begin, Point, Return}
 use Rattle.protocol.specs.declared.event.Event.{Event}
-use Rattle.protocol.specs.declared.event.Event.TheVariants.{Reinit, Remake}
+use Rattle.protocol.specs.declared.event.Event.TheVariants.{Remake}
 use Rattle.protocol.specs.declared.thread.Stage.TheVariants.{Idle}
 use Rattle.protocol.specs.Notes.{facts_of}
-use Rattle.protocol.specs.Machine.{State, nothing, start, happens, run, sleepers}
+use Rattle.protocol.specs.Machine.{State, nothing, start, happens, run}
 use Rattle.protocol.specs.Headline.{seen}
 use Rattle.protocol.specs.Sleepers.{Sleeps}
 
--- ---- a reinit
+-- ---- a remake
 
 -- thread t, one of the layout, lives and is in no call, and mutex m is unusable
 pub record MayRemake (s : State) (t m : ℕ) : Type 0 where
@@ -33,39 +33,10 @@ pub record MayRemake (s : State) (t m : ℕ) : Type 0 where
   pub inside : m < s.layout.mutexes
   pub unusable : (seen s m).unusable ≡ true
 
--- and nobody sleeps on it
-pub record MayReinit (s : State) (t m : ℕ) : Type 0 where
-  pub remake : MayRemake s t m
-  pub unslept : sleepers s m ≡ []
-
--- mutex m is made anew, from state s to s': its word is 0, and it is free, as nobody had locked it yet; every other
--- word and mutex is as it was, and every queue and thread
-pub record OnlyReinits (s s' : State) (m : ℕ) : Type 0 where
-  pub layout : s'.layout ≡ s.layout
-  pub word : s'.words (cell_place s.layout m) ≡ 0
-  pub free : seen s' m ≡ fresh
-  pub words : (p : ℕ) → p ≢ cell_place s.layout m → s'.words p ≡ s.words p
-  pub mutexes : (k : ℕ) → k ≢ m → seen s' k ≡ seen s k
-  pub queues : (key : ℕ) → s'.queues key ≡ s.queues key
-  pub threads : (u : ℕ) → s'.threads u ≡ s.threads u
-
 -- it is told as a call of one event: its begin, its point and its return with OK
 abbrev pub reinit_told : ℕ → ℕ → List Fact
 reinit_told t m = Begin t (record { operation = operation.Reinit; mutex = m; condition = None })
     ∷ (Point (record { thread = t; mutex = m; operation = operation.Reinit; reply = OK }) ∷ (Return t OK ∷ []))
-
--- thread t makes mutex m anew where it may, and that is told; else nothing happens
-pub record ReinitsSo (s : State) (t m : ℕ) : Type 0 where
-  pub anew : MayReinit s t m
-      → OnlyReinits s (happens s (Reinit t m)).state m × (facts_of (happens s (Reinit t m)).note ≡ reinit_told t m)
-  pub else_nothing : ¬ MayReinit s t m → happens s (Reinit t m) ≡ nothing s
-
--- whatever happened, with any values of the counters at the beginning
-abbrev pub ReinitsFreeTheMutex : Type 0
-ReinitsFreeTheMutex = (l : Layout') (counters : ℕ → ℕ) (events : List Event) → IsLayout l → (t m : ℕ)
-    → ReinitsSo (run (start l counters) events) t m
-
--- ---- a remake
 
 -- mutex m is made anew, from state s to s': it is free, as nobody had locked it yet, and its word has WAITERS where it
 -- had, and says nothing else; every other word and mutex is as it was, and every queue and thread
@@ -95,7 +66,6 @@ RemakesForgetNobody = (l : Layout') (counters : ℕ → ℕ) (events : List Even
 -- nobody makes mutex m anew
 abbrev pub NobodyReinits : ℕ → List Event → Type 0
 NobodyReinits m [] = Unit {0}
-NobodyReinits m (Reinit t k ∷ es) = (k ≢ m) × NobodyReinits m es
 NobodyReinits m (Remake t k ∷ es) = (k ≢ m) × NobodyReinits m es
 NobodyReinits m (e ∷ es) = NobodyReinits m es
 

@@ -6,10 +6,10 @@
 -- directly behind the event of the call's last point (`left_by`), and nobody before it has had one; of a signal the
 -- first of its condition variable's queue; of a trylock, a declaration and a broadcast nobody. It tells the moves of
 -- nobody, or of a broadcast those of all its condition variable's queue to its mutex's. A step of a dead thread's walk
--- tells the wake of nobody, or of the first of a mutex's queue; a leave and an expiry tell the wake of their
--- own thread or none, and no move (`WakesItself`); a begin, a kill, a decline and a spare tell no
--- wake and no move. Of every state that events lead to: the law `wakes_are_right`. Source: pthread_mutex_unlock(3p),
--- pthread_cond_signal(3p), pthread_cond_broadcast(3p), pthread_mutexattr_getrobust(3p), robust-futexes.
+-- tells the wake of nobody, or of the first of a mutex's queue; a leave and an expiry tell the wake of their own thread
+-- or none, and no move (`WakesItself`); a begin, a kill, a decline and a spare tell no wake and no move. Of every state
+-- that events lead to: the law `wakes_are_right`. Source: pthread_mutex_unlock(3p), pthread_cond_signal(3p),
+-- pthread_cond_broadcast(3p), pthread_mutexattr_getrobust(3p), robust-futexes.
 use Rattle.std.specs.Prelude.{ℕ, ◌≡◌, ◌<◌, ◌==◌, ◌⊎◌, Option, Some, None, List, [], ◌∷◌, map, take, if◌then◌else◌}
 use Rattle.posixmutex.specs.declared.object.Object.{Object}
 use Rattle.posixmutex.specs.declared.point.Operation.{Operation}
@@ -108,8 +108,7 @@ WakesWhom s w b o fs = (wakes_in fs ≡ []) × (moves_in fs ≡ [])
 abbrev pub WakesItself : ℕ → List Fact → Type 0
 WakesItself t fs = AreNoneOr (Wake t ∷ []) (wakes_in fs) × (moves_in fs ≡ [])
 
--- behind these events from state s on; a begin, a kill, a decline, a renewal, a
--- reinit and a spare wake and move nobody
+-- behind these events from state s on; a begin, a kill, a decline, a renewal, a remake and a spare wake and move nobody
 abbrev pub WakesSo : State → List Event → Event → Type 0
 WakesSo s events (event.Step t) = WakesWhom (run s events) (last_told t (notes s events)) (call_told t (notes s events))
     (left_by t s None events) (facts_of (happens (run s events) (event.Step t)).note)

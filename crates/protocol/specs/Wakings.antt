@@ -9,10 +9,10 @@
 -- a wake or a kill takes out; each wake by another's event and each move names the front (`NameFronts`: of facts in
 -- which nobody leaves by itself, which the law `without_leaves_as_before` has of whole runs). The next event tells its
 -- sleep exactly where it comes to stand in a queue, its wake exactly where it leaves one and stands in none, but by its
--- kill, and its move exactly where it leaves that of a condition variable for its mutex's. A sleep is told only of a thread whose call is a lock of
--- that mutex, or a wait on it or on that condition variable. Of every state that events lead to, so of each beginning
--- of a run: the law `sleeps_are_told`, and `Machine::run` of what the machine did (`TellsAtEachMoment`;
--- `interleave/specs/Reached.antt`). Source: futex(2).
+-- kill, and its move exactly where it leaves that of a condition variable for its mutex's. A sleep is told only of a
+-- thread whose call is a lock of that mutex, or a wait on it or on that condition variable. Of every state that events
+-- lead to, so of each beginning of a run: the law `sleeps_are_told`, and `Machine::run` of what the machine did
+-- (`TellsAtEachMoment`; `interleave/specs/Reached.antt`). Source: futex(2).
 use Rattle.std.specs.Prelude.{ℕ, length, slice_index, ◌≡◌, ◌≢◌, ◌<◌, ◌==◌, ◌↔◌, ◌⊎◌, Bool, true}
 use Rattle.std.specs.Prelude.{false, Option, Some, None, List, [], ◌∷◌, ◌++◌, if◌then◌else◌}
 use Rattle.buckets.specs.Queues.{without}

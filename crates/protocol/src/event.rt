@@ -1,4 +1,4 @@
-//! Events: what a schedule lets happen, one thread's begin, access, death, leave, renewal or reinit at a time, or what
+//! Events: what a schedule lets happen, one thread's begin, access, death, leave, renewal or remake at a time, or what
 //! becomes of one access.
 
 use condvar::Op;
@@ -38,12 +38,9 @@ pub enum Event {
     /// The thread, which was reaped, lives anew, with the same id: in no call, with an empty list and nothing pending,
     /// the owner of nothing.
     Renew(Tid),
-    /// The thread, which is in no call, makes the mutex with this number anew: it was unusable, and nobody sleeps on it
-    /// (pthread_mutex_destroy(3p), pthread_mutex_init(3p)).
-    Reinit(Tid, u16),
-    /// The thread, which is in no call, makes the mutex with this number anew, as it is unusable still, by the exchange
-    /// that ends a reinit whose look at the word and question who sleeps came before, and changed nothing: WAITERS
-    /// stays, for whoever sleeps on it by now.
+    /// The thread, which is in no call, makes the mutex with this number anew, which is unusable
+    /// (pthread_mutex_destroy(3p), pthread_mutex_init(3p)): by the exchange that ends such a call, whose look at the word
+    /// and question who sleeps came before, and changed nothing. WAITERS stays, for whoever sleeps on it by now.
     Remake(Tid, u16),
     /// The next access of the thread's call, the wake of one sleeper of its mutex, is spared: nobody is woken, and the
     /// thread is answered as if one had been. The mutex is left to another, who answers for it.

@@ -19,8 +19,7 @@ ghost use Rattle.protocol.specs.Bounded.{OnlyLocksAndWaitsWait};
 ghost use Rattle.protocol.specs.Changes.{EventsLeaveTheRest};
 ghost use Rattle.protocol.specs.Counting.{CountersCountUp};
 ghost use Rattle.protocol.specs.Releases.{WaitsReleaseConsistentMutexes};
-ghost use Rattle.protocol.specs.Reinits.{NobodyJoinsAnUnusableMutex, UnusableStays};
-ghost use Rattle.protocol.specs.Reinits.{ReinitsFreeTheMutex, RemakesForgetNobody};
+ghost use Rattle.protocol.specs.Reinits.{NobodyJoinsAnUnusableMutex, UnusableStays, RemakesForgetNobody};
 ghost use Rattle.protocol.specs.Spares.{SparesAreLone};
 
 /// Whatever happens, the points are one legal history of POSIX robust mutexes, which says at each moment what every
@@ -84,9 +83,9 @@ pub fn lists_are_kept()
 /// sleeps on nothing; a leave is its thread's where that sleeps, and an expiry where it sleeps in a lock that was told
 /// with a time limit, or on a condition variable in a wait that was; a decline is an access of its thread's call, and of that call's mutex, that tells nothing, where
 /// the thread's next access is a trim; a renewal is its thread's where that was reaped, and hasn't been renewed since;
-/// and a reinit is that of its mutex where its thread lives and is in no call, and the mutex, one of the layout, is
-/// unusable and nobody sleeps on it, and a remake whoever sleeps on it; a spare where its law
-/// says. Every other event is noted as nothing, and changes nothing.
+/// and a remake is that of its mutex where its thread lives and is in no call, and the mutex, one of the layout, is
+/// unusable, whoever sleeps on it; a spare where its law says. Every other event is noted as nothing, and changes
+/// nothing.
 pub fn events_apply()
     ensures { EventsApply }
 {}
@@ -96,8 +95,8 @@ pub fn events_apply()
 /// sleep is told exactly where it comes to stand in a queue, a wake exactly where it leaves one and stands in none, but
 /// by its kill, and a move exactly where it leaves that of a condition variable for its mutex's. In each queue they
 /// stand in the order in which they came, as it was told, and whoever another's event wakes, or moves, is the front of
-/// a queue (of which one, says [`wakes_are_right`]); who leaves by itself stands anywhere in one. And a sleep is
-/// told only of a thread whose call is a lock of that mutex, or a wait on it or on that condition variable.
+/// a queue (of which one, says [`wakes_are_right`]); who leaves by itself stands anywhere in one. And a sleep is told
+/// only of a thread whose call is a lock of that mutex, or a wait on it or on that condition variable.
 pub fn sleeps_are_told()
     ensures { SleepsAreTold }
 {}
@@ -112,10 +111,10 @@ pub fn wakes_are_right()
 {}
 
 /// Whatever happens, with counters that are at most 2^32 - 1 at the beginning: a thread that released its mutex in a
-/// wait before a signal or a broadcast counted doesn't fall asleep on that condition variable behind it. And the
-/// event at which a signal returns OK wakes the first of its condition variable's queue, and nobody
-/// only where that is empty; the one at which a broadcast does moves all of that queue, in its order, and directly
-/// after it nobody stands there.
+/// wait before a signal or a broadcast counted doesn't fall asleep on that condition variable behind it. And the event
+/// at which a signal returns OK wakes the first of its condition variable's queue, and nobody only where that is empty;
+/// the one at which a broadcast does moves all of that queue, in its order, and directly after it nobody stands there.
+/// No counter wraps, since at 2^32 - 1 signals and broadcasts are refused, with `XFULL`.
 pub fn nobody_is_passed_by()
     ensures { NobodyIsPassedBy }
 {}
@@ -169,17 +168,10 @@ pub fn without_renewals_as_before()
 {}
 
 /// Whatever happened before: a thread makes a mutex anew exactly where it lives and is in no call, and the mutex is
-/// unusable and nobody sleeps on it; else its reinit does nothing. The mutex is free then, as at first: its word is 0.
-/// No other word changes, no other mutex, no queue and no thread, and what is told is a call of this one event: its
-/// begin, its point and its return with OK.
-pub fn reinits_free_the_mutex()
-    ensures { ReinitsFreeTheMutex }
-{}
-
-/// Whatever happened before: a thread makes a mutex anew by the exchange alone exactly where it lives and is in no
-/// call, and the mutex is unusable, whoever sleeps on it by then; else its remake does nothing. The mutex is free then,
-/// as at first, and its word has WAITERS where it had, so that the next release finds it, and nothing else. No other
-/// word changes, no other mutex, no queue and no thread, and it is told as a reinit is.
+/// unusable, whoever sleeps on it by then; else its remake does nothing. The mutex is free then, as at first, and its
+/// word has WAITERS where it had, so that the next release finds it, and nothing else. No other word changes, no other
+/// mutex, no queue and no thread, and what is told is a call of this one event: its begin, its point and its return with
+/// OK.
 pub fn remakes_forget_nobody()
     ensures { RemakesForgetNobody }
 {}

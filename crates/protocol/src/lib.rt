@@ -22,8 +22,8 @@
 //!   where it didn't; and that locks and waits with a limit that never comes are as those without one;
 //! - `renewals_begin_anew`, `without_renewals_as_before`: what a reaped thread that lives anew finds, and leaves as it
 //!   is;
-//! - `reinits_free_the_mutex`, `remakes_forget_nobody`, `without_reinits_as_before`, `nobody_joins_an_unusable_mutex`:
-//!   what it is to make an unusable mutex anew, and that nothing else does;
+//! - `remakes_forget_nobody`, `without_reinits_as_before`, `nobody_joins_an_unusable_mutex`: what it is to make an
+//!   unusable mutex anew, and that nothing else does;
 //! - `only_locks_and_waits_wait`: the other calls return in time, whatever others do;
 //! - `events_leave_the_rest`: what an event may change;
 //! - `nobody_is_passed_by`, `signals_are_right`, `counters_count_up`, `waits_release_consistent_mutexes`: of condition
@@ -60,9 +60,8 @@ pub use laws::{
     history_is_legal, late_waits_time_out, leaves_and_declines_are_lone, lists_are_kept,
     lone_threads_come_to_rest, no_reaped_owner, no_sleeper_is_stranded, nobody_is_passed_by,
     nobody_joins_an_unusable_mutex, nobody_times_out_early, only_locks_and_waits_wait,
-    reinits_free_the_mutex, remakes_forget_nobody, renewals_begin_anew,
-    signals_are_right, sleeps_are_told, spares_are_lone,
-    trace_is_explained, undivided_calls_reply, waited_is_owned, waiters_are_kept,
+    remakes_forget_nobody, renewals_begin_anew, signals_are_right, sleeps_are_told,
+    spares_are_lone, trace_is_explained, undivided_calls_reply, waited_is_owned, waiters_are_kept,
     waits_release_consistent_mutexes, wakes_are_right, walks_go_on, without_expiries_as_before,
     without_leaves_as_before, without_reinits_as_before, without_renewals_as_before,
 };
