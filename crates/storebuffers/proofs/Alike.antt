@@ -8,7 +8,7 @@ use Rattle.stepprograms.specs.declared.access.Access.{Access}
 use Rattle.stepprograms.specs.declared.access.Access.TheVariants as access
 use Rattle.stepprograms.specs.declared.access.Answer.{Answer}
 use Rattle.stepprograms.specs.declared.access.Answer.TheVariants.{Fault, Trimmed, Count}
-use Rattle.stepprograms.specs.Accesses.{word_among, answer_among, is_nobody, sleeps_at}
+use Rattle.stepprograms.specs.Accesses.{word_among, answer_among, sleeps_at}
 use Rattle.posixmutex.specs.declared.point.Operation.TheVariants as operation
 use Rattle.memorymap.specs.Layouts.{head_place, head_word, entry_place, cell_place, address_in}
 use Rattle.facts.specs.declared.fact.Queue.{Queue}
@@ -25,14 +25,14 @@ use Rattle.exitwalk.specs.declared.row.Part.TheVariants as part
 use Rattle.exitwalk.specs.declared.row.Row as walk_row
 use Rattle.exitwalk.specs.declared.row.Row.TheVariants as walk
 use Rattle.protocol.specs.declared.event.Event.{Event}
-use Rattle.protocol.specs.declared.event.Event.TheVariants.{Begin, Step, Kill, Leave, Expire, Decline, Renew, Reinit, Remake, Spare}
+use Rattle.protocol.specs.declared.event.Event.TheVariants.{Begin, Step, Kill, Leave, Expire, Decline, Renew, Remake, Spare}
 use Rattle.protocol.specs.declared.event.LeftTo.{LeftTo}
 use Rattle.protocol.specs.declared.thread.Stage.{Stage}
 use Rattle.protocol.specs.declared.thread.Stage.TheVariants.{Idle, Calling, AtCondition, Dying, Reaped}
 use Rattle.protocol.specs.declared.note.Note.TheVariants.{Stepped, Walked}
 use Rattle.protocol.specs.Machine.{State, After, put, place_met, is_met, words_after, answer_of, joined, moved_by, woken_by, queue_after, happens, nothing, begun, first_stage, went, walked}
 use Rattle.protocol.specs.Machine.{Led, led, led_at, held_after, decision, slept_in, stepped, declined, spared, killed, departed, renewed, reinited, has_thread, is_alive, is_asleep, is_gone, is_trim, sleeps}
-use Rattle.protocol.specs.Machine.{may_begin, may_reinit, may_remake, waiters_of, is_first, is_idle, sleepers, death_at, told_of, has_ended, stage_walked}
+use Rattle.protocol.specs.Machine.{may_begin, may_remake, waiters_of, is_first, is_idle, death_at, told_of, has_ended, stage_walked}
 use Rattle.protocol.specs.Machine.{expired, is_timed, lapsed, overslept, waits_on, another_answers, answers, a_walk_minds, is_left_to, minds, walk_minds, wakes_one, wakes_next, sparing}
 use Rattle.protocol.proofs.Puts.{by_put, put-same, put-other}
 use Rattle.protocol.proofs.Kept.{Kept, Sits}
@@ -381,18 +381,8 @@ module _ (s : State) (v : ℕ → ℕ) where
     same_remake true e = ap (λ (x : ℕ). has_thread s t && is_idle (s.threads t).stage && nat_lt m s.layout.mutexes && (fields_of x).unusable) (cell (grind (arith, nat_tests)))
     same_remake false e = grind (arith)
 
-    same_reinit : may_reinit (with_words s v) t m ≡ may_reinit s t m
-    same_reinit = ap (λ (b : Bool). b && is_nobody (sleepers s m)) (same_remake (nat_lt m s.layout.mutexes) refl)
-
     remake_inside : may_remake s t m ≡ true → m < s.layout.mutexes
     remake_inside e = grind (arith, nat_tests)
-
-    reinit_inside : may_reinit s t m ≡ true → m < s.layout.mutexes
-    reinit_inside e = grind (arith, nat_tests)
-
-    reinit_alike : Comes s v (Reinit t m) (happens (with_words s v) (Reinit t m)) (happens s (Reinit t m))
-    reinit_alike = chosen_alike (Reinit t m) (may_reinit (with_words s v) t m) (may_reinit s t m) same_reinit (reinited (with_words s v) t m 0) (reinited s t m 0)
-        (λ e. record { note = refl; rest = refl; does = shared_put t (cell_place s.layout m) 0 (inl (m, reinit_inside e, refl)) })
 
     remake_alike : Comes s v (Remake t m) (happens (with_words s v) (Remake t m)) (happens s (Remake t m))
     remake_alike = chosen_alike (Remake t m) (may_remake (with_words s v) t m) (may_remake s t m) (same_remake (nat_lt m s.layout.mutexes) refl) (reinited (with_words s v) t m (waiters_of (v at))) (reinited s t m (waiters_of (s.words at))) alike
@@ -433,7 +423,6 @@ events_alike s v (Decline t) inv views cells pending =
 events_alike s v (Renew t) inv views cells pending =
     chosen s v (Renew t) (has_thread s t && is_gone (s.threads t).stage) (renewed (with_words s v) t) (renewed s t)
     (λ on. let there = known_thread s t (is_gone (s.threads t).stage) on in renewed_alike s v t there.0 there.1)
-events_alike s v (Reinit t m) inv views cells pending = reinit_alike s v t m (cells m)
 events_alike s v (Remake t m) inv views cells pending = remake_alike s v t m (cells m)
 events_alike s v (Spare t by) inv views cells pending =
     chosen s v (Spare t by) (has_thread s t) (sparing (with_words s v) t by (s.threads t).held (s.threads t).stage) (sparing s t by (s.threads t).held (s.threads t).stage)

@@ -47,7 +47,6 @@ others_stand s e inv u = by_event s (λ e a. caller e ≢ u → a.state.threads 
     (λ t o p pos known is awake trims apart. put-other s.threads t _ u (λ e. apart (sym e)))
     (λ t pos known is apart. put-other s.threads t _ u (λ e. apart (sym e)))
     (λ t m may apart. refl)
-    (λ t m may apart. refl)
     (λ t m g is apart. put-other s.threads t _ u (λ e. apart (sym e)))
     e
 
@@ -103,7 +102,6 @@ dies_so s e = by_event s (λ e a. Dies s (caller e) (way s e a.note) a)
     (λ t k x p pos known is waits. lives s t _ _ refl)
     (λ t o p pos known is awake trims. lives s t _ _ (alive_after o p _))
     (λ t pos known is. lives s t _ _ refl)
-    (λ t m may e. inr (e, tt))
     (λ t m may e. inr (e, tt))
     (λ t m g is. lives s t _ _ (alive_spared s t m g is.how))
     e

@@ -9,7 +9,7 @@ use Rattle.mutex.specs.Whole.{whole_access}
 use Rattle.condvar.specs.Whole.{cond_access}
 use Rattle.exitwalk.specs.Walks as exit
 use Rattle.protocol.specs.declared.event.Event.{Event}
-use Rattle.protocol.specs.declared.event.Event.TheVariants.{Step, Kill, Renew, Reinit, Remake}
+use Rattle.protocol.specs.declared.event.Event.TheVariants.{Step, Kill, Renew, Remake}
 use Rattle.protocol.specs.declared.thread.Stage.{Stage}
 use Rattle.protocol.specs.declared.thread.Stage.TheVariants.{Calling, AtCondition, Dying}
 use Rattle.protocol.specs.declared.note.Note.{Note}
@@ -113,13 +113,12 @@ head_stores l t = head_store l t 0 ∷ head_store l t 1 ∷ head_store l t 2 ∷
 
 -- an event that applies: a thread that dies flushes, since the kernel says by a locked instruction of that very thread
 -- that it is dead (in the C driver it marks the thread's token: robust-futexes), and nobody begins a walk before; a
--- renewed thread stores its head itself; a reinit and a remake are exchanges; and a begin, a leave, an expiry, a
--- decline and a spare write nothing
+-- renewed thread stores its head itself; a remake is an exchange; and a begin, a leave, an expiry, a decline and a
+-- spare write nothing
 abbrev pub way_by : State → Event → Way
 way_by s (Step t) = way_at s.layout t (s.threads t).stage
 way_by s (Kill t) = Flushes
 way_by s (Renew t) = Appends (head_stores s.layout t)
-way_by s (Reinit t m) = Writes (cell_place s.layout m)
 way_by s (Remake t m) = Writes (cell_place s.layout m)
 way_by s e = Keeps
 
