@@ -27,12 +27,12 @@ use Rattle.condvar.specs.declared.op.Op.{Op}
 use Rattle.condvar.specs.declared.op.Op.TheVariants.{OnMutex, OnCondition}
 use Rattle.condvar.specs.Ops.{mutex_of, is_in}
 use Rattle.protocol.specs.declared.event.Event.{Event}
-use Rattle.protocol.specs.declared.event.Event.TheVariants.{Begin, Step, Kill, Leave, Expire, Decline, Renew, Reinit, Remake, Spare}
+use Rattle.protocol.specs.declared.event.Event.TheVariants.{Begin, Step, Kill, Leave, Expire, Decline, Renew, Remake, Spare}
 use Rattle.protocol.specs.declared.thread.Thread.{Thread}
 use Rattle.protocol.specs.declared.thread.Stage.{Stage}
 use Rattle.protocol.specs.declared.thread.Stage.TheVariants.{Idle, Calling, AtCondition, Dying, Reaped}
 use Rattle.protocol.specs.declared.note.Note.{Note}
-use Rattle.protocol.specs.Machine.{State, After, put, idle, start, is_valid, has_thread, may_begin, may_reinit, may_remake, waiters_of, first_stage, begun, nothing, is_alive, is_gone, killed, renewed, reinited, departed, declined, expired, is_timed, lapsed, overslept, waits_on, spared, is_asleep, is_trim, sleeps, led, went, stepped, answer_of, happens, run, notes}
+use Rattle.protocol.specs.Machine.{State, After, put, idle, start, is_valid, has_thread, may_begin, may_remake, waiters_of, first_stage, begun, nothing, is_alive, is_gone, killed, renewed, reinited, departed, declined, expired, is_timed, lapsed, overslept, waits_on, spared, is_asleep, is_trim, sleeps, led, went, stepped, answer_of, happens, run, notes}
 use Rattle.protocol.specs.Machine.{Led, led_at, is_left_to, sparing, wakes_next, wakes_one}
 use Rattle.stepprograms.specs.declared.access.Answer.TheVariants.{Count}
 use Rattle.condvar.specs.Calls.{condition_of}
@@ -189,11 +189,6 @@ stays s (Decline t) = go (has_thread s t) (s.threads t).stage
 stays s (Renew t) = go (has_thread s t && is_gone (s.threads t).stage)
   where
     go : (b : Bool) → is_nothing (if b then renewed s t else nothing s).note ≡ true → (if b then renewed s t else nothing s).state ≡ s
-    go true h = absurd cc
-    go false h = refl
-stays s (Reinit t m) = go (may_reinit s t m)
-  where
-    go : (b : Bool) → is_nothing (if b then reinited s t m 0 else nothing s).note ≡ true → (if b then reinited s t m 0 else nothing s).state ≡ s
     go true h = absurd cc
     go false h = refl
 stays s (Remake t m) = go (may_remake s t m)

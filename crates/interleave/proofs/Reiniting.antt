@@ -1,23 +1,17 @@
 -- Mutexes that are made anew: the store of the cell is a write into the state.
-use Rattle.std.proofs.Common.{◌≡◌, ℕ, ◌<◌, Bool, true, false, ◌&&◌, List, [], ◌∷◌, length, ◌==◌, refl, sym, ap, ◌∙◌, arith}
+use Rattle.std.proofs.Common.{◌≡◌, ℕ, ◌<◌, Bool, true, false, ◌&&◌, List, [], ◌∷◌, length, ◌==◌, sym, ap, ◌∙◌, arith}
 use Rattle.std.specs.Prelude.{if◌then◌else◌, slice_index, nat_lt}
 use Rattle.std.proofs.lemmas.Bool.Decides.{nat_tests}
-use Rattle.stepprograms.specs.Accesses.{is_nobody}
 use Rattle.stepprograms.specs.declared.access.Access.TheVariants.{Store}
 use Rattle.memorymap.specs.Layouts.{Layout', cell_place, words_of}
 use Rattle.syscalls.specs.Kernels.{Kernel', queue_of}
 use Rattle.syscalls.specs.Memories.{words_after}
-use Rattle.protocol.specs.declared.event.Event.TheVariants.{Reinit, Remake}
+use Rattle.protocol.specs.declared.event.Event.TheVariants.{Remake}
 use Rattle.protocol.specs.declared.thread.Thread.{Thread}
-use Rattle.protocol.specs.Machine.{State, After, put, is_idle, is_unusable, may_reinit, may_remake, waiters_of, has_thread, nothing, reinited, happens}
+use Rattle.protocol.specs.Machine.{State, After, put, is_idle, is_unusable, may_remake, waiters_of, has_thread, nothing, reinited, happens}
 use Rattle.interleave.specs.Shown.{state_at}
 use Rattle.interleave.proofs.Views.{words-set}
 use Rattle.interleave.proofs.Reaches.{stored}
-
--- nobody is in an empty list
-pub nobody_is : (q : List ℕ) → (length q == 0) ≡ is_nobody q
-nobody_is [] = refl
-nobody_is (t ∷ ts) = grind (arith, nat_tests)
 
 -- by its tests
 module _ (s : State) (t m : ℕ) where
@@ -28,11 +22,6 @@ module _ (s : State) (t m : ℕ) where
   by w x = if x then reinited s t m w else nothing s
 
   -- where one fails
-  pub not_resting : (b : Bool) → b ≡ (has_thread s t && is_idle (s.threads t).stage) → b ≡ false → happens s (Reinit t m) ≡ nothing s
-  not_resting b is fails = let none : (has_thread s t && is_idle (s.threads t).stage) ≡ false = sym is ∙ fails in let never : may_reinit s t m ≡ false = grind (arith) in ap (by 0) never
-
-  pub not_unusable : (b : Bool) → b ≡ (nat_lt m s.layout.mutexes && is_unusable s m) → b ≡ false → happens s (Reinit t m) ≡ nothing s
-  not_unusable b is fails = let none : (nat_lt m s.layout.mutexes && is_unusable s m) ≡ false = sym is ∙ fails in let never : may_reinit s t m ≡ false = grind (arith) in ap (by 0) never
 
   pub remake_not_resting : (b : Bool) → b ≡ (has_thread s t && is_idle (s.threads t).stage) → b ≡ false → happens s (Remake t m) ≡ nothing s
   remake_not_resting b is fails = let none : (has_thread s t && is_idle (s.threads t).stage) ≡ false = sym is ∙ fails in let never : may_remake s t m ≡ false = grind (arith) in ap (by to) never
@@ -41,13 +30,6 @@ module _ (s : State) (t m : ℕ) where
   remake_not_unusable b is fails = let none : (nat_lt m s.layout.mutexes && is_unusable s m) ≡ false = sym is ∙ fails in let never : may_remake s t m ≡ false = grind (arith) in ap (by to) never
 
   -- where none does
-  pub makes : (a b : Bool) (q : List ℕ) → a ≡ (has_thread s t && is_idle (s.threads t).stage) → a ≡ true → b ≡ (nat_lt m s.layout.mutexes && is_unusable s m) → b ≡ true → q ≡ s.queues (cell_place s.layout m) → (length q == 0) ≡ true
-      → happens s (Reinit t m) ≡ reinited s t m 0
-  makes a b q resting is_a unusable is_b its none =
-      let first : (has_thread s t && is_idle (s.threads t).stage) ≡ true = sym resting ∙ is_a in
-      let second : (nat_lt m s.layout.mutexes && is_unusable s m) ≡ true = sym unusable ∙ is_b in
-      let third : is_nobody (s.queues (cell_place s.layout m)) ≡ true = sym (nobody_is q ∙ ap is_nobody its) ∙ none in
-      let always : may_reinit s t m ≡ true = grind (arith) in ap (by 0) always
 
   pub remakes : (a b : Bool) → a ≡ (has_thread s t && is_idle (s.threads t).stage) → a ≡ true → b ≡ (nat_lt m s.layout.mutexes && is_unusable s m) → b ≡ true → happens s (Remake t m) ≡ reinited s t m to
   remakes a b resting is_a unusable is_b =

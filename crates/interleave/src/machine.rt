@@ -148,16 +148,15 @@ impl Machine {
     }
 
     /// What an event does. One that can't apply, as a step of a thread that sleeps or was reaped, the kill of one that
-    /// was killed, the renewal of one that wasn't reaped, the reinit of a mutex that is usable or slept on, or the
-    /// remake of one that is usable, is noted as nothing, and changes nothing.
+    /// was killed, the renewal of one that wasn't reaped, or the remake of a mutex that is usable, is noted as nothing,
+    /// and changes nothing.
     ///
     /// A kill takes the thread out of its queue and ends its call, in one event. Each later step of it is the next
     /// access of the kernel's walk; with the last one it is reaped, and from then on it owns no mutex, until it is
     /// renewed and takes one. A renewal leaves the thread in no call and its list empty; it changes no word but the
-    /// three of its head. A reinit makes an unusable mutex on which nobody sleeps free again, by a thread that is in no
-    /// call; it changes no word but the mutex's, which is 0 then. A remake does so whoever sleeps on the mutex, and
-    /// keeps WAITERS. A spare goes on as if it had woken somebody, where another thread
-    /// answers for the mutex.
+    /// three of its head. A remake makes an unusable mutex free again, by a thread that is in no call, whoever sleeps
+    /// on the mutex; it changes no word but the mutex's, and keeps its WAITERS. A spare goes on as if it had woken
+    /// somebody, where another thread answers for the mutex.
     pub fn step(&mut self, event: Event) -> Note
         ensures state { state_of self.new ≡ (happens (state_of self.old) event).state }
         ensures note { result ≡ (happens (state_of self.old) event).note }
@@ -177,15 +176,15 @@ impl Machine {
     }
 
     /// What the events do, one after the other, and a note of each. Where memory is refused, nothing has happened. The
-    /// events are any, in any order: begins of calls, steps, kills, leaves, declined trims, renewals, reinits, remakes and
+    /// events are any, in any order: begins of calls, steps, kills, leaves, declined trims, renewals, remakes and
     /// spared wakes.
     ///
     /// Of a machine to which nothing has happened, the notes tell a legal history: after each event, the points so far
     /// take every mutex, as POSIX sees it, from free to what its cell says of its owner, OWNER_DIED and UNUSABLE. And
     /// they explain what each thread was told: a call that returned had one point, whose reply it returned, between its
     /// begin and its return, at events of its own thread, but that a wait which isn't refused had an unlock and then a
-    /// lock; one that hasn't returned had a beginning of its points; and no point belongs to any other call. A reinit,
-    /// or a remake, is told as a call of one event. What is told of a thread is one life after the other, each but the
+    /// lock; one that hasn't returned had a beginning of its points; and no point belongs to any other call. A remake
+    /// is told as a call of one event, a reinit. What is told of a thread is one life after the other, each but the
     /// last ended by its reaping, and then its renewal. After each event a thread stands in a queue exactly where the
     /// last of its sleeps, moves, wakes and kills told so far is a sleep or a move, in that of the mutex or condition
     /// variable that this names; in each queue they stand in the order in which they came, as it was told, and whoever

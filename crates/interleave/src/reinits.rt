@@ -1,7 +1,7 @@
-//! Unusable mutexes that are made anew, by a reinit, or by the exchange alone that ends one.
+//! Unusable mutexes that are made anew.
 ghost use Rattle.std.specs.Prelude.{◌≡◌, ◌<◌, ◌&&◌, ℕ, List, length, nat_lt};
 ghost use Rattle.memorymap.specs.Layouts.{words_of};
-ghost use Rattle.protocol.specs.declared.event.Event.TheVariants.{Reinit, Remake};
+ghost use Rattle.protocol.specs.declared.event.Event.TheVariants.{Remake};
 ghost use Rattle.protocol.specs.declared.thread.Thread.{Thread};
 ghost use Rattle.protocol.specs.Machine.{happens, has_thread, is_idle, is_unusable, waiters_of};
 ghost use Rattle.syscalls.specs.Kernels.{Kernel'};
@@ -12,7 +12,7 @@ use crate::threads::is_idle;
 use lockword::{Cell, Tid, WAITERS};
 use memorymap::Layout;
 use protocol::{Note, Thread};
-use syscalls::{Kernel, Memory, PlainMemory};
+use syscalls::{Memory, PlainMemory};
 
 /// Whether the thread is one of the layout, lives and is in no call.
 fn is_resting(layout: &Layout, threads: &Vec<Thread>, thread: Tid) -> bool
@@ -41,38 +41,6 @@ fn is_unusable(layout: &Layout, memory: &PlainMemory, mutex: u16) -> bool
         Some(word) => Cell::new(word).unusable(),
         None => false,
     }
-}
-
-/// The thread makes the mutex anew, if it is in no call, and the mutex is unusable and nobody sleeps on it: its word is
-/// 0, as at first.
-pub(crate) fn reinit(
-    layout: &Layout,
-    memory: &mut PlainMemory,
-    kernel: &Kernel,
-    threads: &Vec<Thread>,
-    thread: Tid,
-    mutex: u16,
-) -> Note
-    requires words { length memory.old ≡ words_of layout.now }
-    requires threads { length threads.now.items ≡ layout.now.threads }
-    ensures state { state_at layout.now memory.new kernel.now threads.now.items
-        ≡ (happens (state_at layout.now memory.old kernel.now threads.now.items) (Reinit thread mutex)).state }
-    ensures note { result
-        ≡ (happens (state_at layout.now memory.old kernel.now threads.now.items) (Reinit thread mutex)).note }
-    ensures words { length memory.new ≡ length memory.old }
-{
-    if !is_resting(layout, threads, thread) {
-        return Note::Nothing;
-    }
-    if !is_unusable(layout, memory, mutex) {
-        return Note::Nothing;
-    }
-    let cell = layout.cell(mutex);
-    if !kernel.sleepers(cell).is_empty() {
-        return Note::Nothing;
-    }
-    let _ = memory.store(cell, 0);
-    Note::Reinited { thread, mutex }
 }
 
 /// WAITERS of a word, and nothing else of it.

@@ -17,7 +17,7 @@ use crate::deaths::{kill, walk_on};
 use crate::expiries::expire;
 use crate::leaves::{decline, leave};
 use crate::ops::begun;
-use crate::reinits::{reinit, remake};
+use crate::reinits::remake;
 use crate::renewals::renew;
 use crate::spares::spare;
 use condvar::{CondCall, CondProgram, Op};
@@ -360,7 +360,6 @@ pub(crate) fn apply(
         Event::Expire(thread) => expire(layout, kernel, threads, thread),
         Event::Decline(thread) => decline(layout, kernel, threads, thread),
         Event::Renew(thread) => renew(layout, memory, threads, thread),
-        Event::Reinit(thread, mutex) => reinit(layout, memory, kernel, threads, thread, mutex),
         Event::Remake(thread, mutex) => remake(layout, memory, threads, thread, mutex),
         Event::Spare(thread, by) => spare(layout, memory, kernel, threads, thread, by),
     }

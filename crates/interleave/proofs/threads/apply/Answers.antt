@@ -52,12 +52,6 @@ returns-in-Renew-clause-state c = c.renew.ensures.state c.args.kernel.now ∙ ap
 pub returns-in-Renew-clause-note : goal.returns-in-Renew-clause-note
 returns-in-Renew-clause-note c = c.renew.ensures.note c.args.kernel.now ∙ ap (λ (e : Event). (happens (state_at c.args.layout.now c.args.memory.now c.args.kernel.now c.args.threads.now.items) e).note) (sym c.in-Renew.is)
 
-pub returns-in-Reinit-clause-state : goal.returns-in-Reinit-clause-state
-returns-in-Reinit-clause-state c = c.reinit.ensures.state ∙ ap (λ (e : Event). (happens (state_at c.args.layout.now c.args.memory.now c.args.kernel.now c.args.threads.now.items) e).state) (sym c.in-Reinit.is)
-
-pub returns-in-Reinit-clause-note : goal.returns-in-Reinit-clause-note
-returns-in-Reinit-clause-note c = c.reinit.ensures.note ∙ ap (λ (e : Event). (happens (state_at c.args.layout.now c.args.memory.now c.args.kernel.now c.args.threads.now.items) e).note) (sym c.in-Reinit.is)
-
 pub returns-in-Remake-clause-state : goal.returns-in-Remake-clause-state
 returns-in-Remake-clause-state c = c.remake.ensures.state c.args.kernel.now ∙ ap (λ (e : Event). (happens (state_at c.args.layout.now c.args.memory.now c.args.kernel.now c.args.threads.now.items) e).state) (sym c.in-Remake.is)
 
