@@ -14,12 +14,12 @@ use Rattle.condvar.specs.declared.op.Op.TheVariants.{OnMutex, OnCondition}
 use Rattle.mutex.specs.declared.call.Call.TheVariants as call
 use Rattle.condvar.specs.declared.call.CondCall.TheVariants as on
 use Rattle.condvar.specs.declared.call.Limit.TheVariants.{Ahead}
-use Rattle.script.specs.Forms.{CallForm, lock, trylock, timedlock, unlock, consistent, wait, timedwait, signal, broadcast, Form, silent, process, thread, member, mutex, mutexes, cond, begins, steps, kills, kills_all, goes, leaves, declines, expires, renews, reinits, remakes, spares, calls, locks, phase, dies, form_of, of_mode, has, words_form, or_else, name_form, step_form, die_form, mutexes_form, process_form, member_form, reinit_form, remake_form, locks_form, cond_form, call_form, calling_form, is_silent, is_name, is_stem}
+use Rattle.script.specs.Forms.{CallForm, lock, trylock, timedlock, unlock, consistent, wait, timedwait, signal, broadcast, Form, silent, process, thread, member, mutex, mutexes, cond, begins, steps, kills, kills_all, goes, leaves, declines, expires, renews, remakes, spares, calls, locks, phase, dies, form_of, of_mode, has, words_form, or_else, name_form, step_form, die_form, mutexes_form, process_form, member_form, remake_form, locks_form, cond_form, call_form, calling_form, is_silent, is_name, is_stem}
 use Rattle.lines.specs.Numbers.{is_number, within}
 use Rattle.lines.specs.Lines.{words_of}
 use Rattle.script.specs.Deaths.{death_by, deaths_by, death_of}
 use Rattle.script.specs.Scope.{Scope, Names, IsPossible, IsCondition, IsWithinLimits}
-use Rattle.script.specs.Reading.{refuse, place_of, process_of, is_declared, names_of, condition_names, with_entry, with_condition, with_thread, added, numbered, is_numbered, several, declares, process_declared, thread_declared, condition_declared, thread_of, call_of, first_of, begun, stepped, killed, all_killed, gone, left, declined, expired, renewed, reinited, remade, wake_spared, made, locked, died, with_action, enter, line_read}
+use Rattle.script.specs.Reading.{refuse, place_of, process_of, is_declared, names_of, condition_names, with_entry, with_condition, with_thread, added, numbered, is_numbered, several, declares, process_declared, thread_declared, condition_declared, thread_of, call_of, first_of, begun, stepped, killed, all_killed, gone, left, declined, expired, renewed, remade, wake_spared, made, locked, died, with_action, enter, line_read}
 use Rattle.lines.specs.Faults.{◌>>=◌}
 use Rattle.script.specs.declared.command.Mode.{Mode}
 use Rattle.script.specs.declared.command.Action.{Action}
@@ -116,7 +116,6 @@ once n t cs (action.Leave u) h alone = spared n t cs _ h refl
 once n t cs (action.Decline u) h alone = spared n t cs _ h refl
 once n t cs (action.Expire u) h alone = spared n t cs _ h refl
 once n t cs (action.Renew u) h alone = spared n t cs _ h refl
-once n t cs (action.Reinit u m) h alone = spared n t cs _ h refl
 once n t cs (action.Remake u m) h alone = spared n t cs _ h refl
 once n t cs (action.Spare u) h alone = spared n t cs _ h refl
 once n t cs (action.Go u) h alone = spared n t cs _ h refl
@@ -187,10 +186,6 @@ locking : (s : Scope) (t m : List ℕ) (count : Option ℕ) → IfSome count (λ
 locking s t m None range = tt
 locking s t m (Some k) range = chain (first_of s m k) (λ j. thread_of s t >>= λ i. Ok (action.Locks i j k)) (λ j. j + k ≤ length s.mutexes) (May s) (reached s m k)
     (λ j few. of_thread s t (λ i. action.Locks i j k) (λ i low high. ((low, high, range.0, few), tt)))
-
-making_anew : (s : Scope) (t m : List ℕ) → IfOk (reinited s t m) (May s)
-making_anew s t m = chain (thread_of s t) (λ i. place_of m s.mutexes >>= λ j. Ok (action.Reinit i j)) (λ i. (1 ≤ i) × (i ≤ length s.threads)) (May s) (threaded s t)
-    (λ i low. chain (place_of m s.mutexes) (λ j. Ok (action.Reinit i j)) (λ j. j < length s.mutexes) (May s) (placed m s.mutexes) (λ j its. ((low.0, low.1, its), tt)))
 
 remaking : (s : Scope) (t m : List ℕ) → IfOk (remade s t m) (May s)
 remaking s t m = chain (thread_of s t) (λ i. place_of m s.mutexes >>= λ j. Ok (action.Remake i j)) (λ i. (1 ≤ i) × (i ≤ length s.threads)) (May s) (threaded s t)
@@ -332,7 +327,6 @@ entered n s (leaves t) h k = may_ask n s (left s t) h (of_thread s t (λ i. acti
 entered n s (declines t) h k = may_ask n s (declined s t) h (of_thread s t (λ i. action.Decline i) (λ i low high. ((low, high), tt)))
 entered n s (expires t) h k = may_ask n s (expired s t) h (of_thread s t (λ i. action.Expire i) (λ i low high. ((low, high), tt)))
 entered n s (renews t) h k = may_ask n s (renewed s t) h (of_thread s t (λ i. action.Renew i) (λ i low high. ((low, high), tt)))
-entered n s (reinits t m) h k = may_ask n s (reinited s t m) h (making_anew s t m)
 entered n s (remakes t m) h k = may_ask n s (remade s t m) h (remaking s t m)
 entered n s (spares t) h k = may_ask n s (wake_spared s t) h (of_thread s t (λ i. action.Spare i) (λ i low high. ((low, high), tt)))
 entered n s (calls t c) h k = may_ask n s (made s t c) h (calling s t c (λ i x. action.Call i x) (λ i x low high few. ((low, high, few), tt)))
@@ -377,9 +371,6 @@ fit_process w p n = either (bytes_eq w _ && is_name p && is_number n) (Some (pro
 fit_member : (w t p : List ℕ) → IfSome (member_form w t p) IsFit
 fit_member w t p = either (bytes_eq w _ && is_name t && is_name p) (Some (member t p)) None tt tt
 
-fit_reinit : (w t m : List ℕ) → IfSome (reinit_form w t m) IsFit
-fit_reinit w t m = either (bytes_eq w _ && is_name t && is_name m) (Some (reinits t m)) None tt tt
-
 fit_remake : (w t m : List ℕ) → IfSome (remake_form w t m) IsFit
 fit_remake w t m = either (bytes_eq w _ && is_name t && is_name m) (Some (remakes t m)) None tt tt
 
@@ -397,10 +388,10 @@ fit_words : (ws : List (List ℕ)) → IfSome (words_form ws) IsFit
 fit_words [] = tt
 fit_words (w ∷ []) = either (bytes_eq w _) (Some phase) None tt tt
 fit_words (w ∷ a ∷ []) = fit_name w a
-fit_words (w ∷ a ∷ n ∷ []) = first (step_form w a n) (or_else (die_form w a n) (or_else (mutexes_form w a n) (or_else (process_form w a n) (or_else (member_form w a n) (or_else (reinit_form w a n) (remake_form w a n)))))) (fit_step w a n)
-    (first (die_form w a n) (or_else (mutexes_form w a n) (or_else (process_form w a n) (or_else (member_form w a n) (or_else (reinit_form w a n) (remake_form w a n))))) (fit_die w a n)
-    (first (mutexes_form w a n) (or_else (process_form w a n) (or_else (member_form w a n) (or_else (reinit_form w a n) (remake_form w a n)))) (fit_mutexes w a n)
-    (first (process_form w a n) (or_else (member_form w a n) (or_else (reinit_form w a n) (remake_form w a n))) (fit_process w a n) (first (member_form w a n) (or_else (reinit_form w a n) (remake_form w a n)) (fit_member w a n) (first (reinit_form w a n) (remake_form w a n) (fit_reinit w a n) (fit_remake w a n))))))
+fit_words (w ∷ a ∷ n ∷ []) = first (step_form w a n) (or_else (die_form w a n) (or_else (mutexes_form w a n) (or_else (process_form w a n) (or_else (member_form w a n) (remake_form w a n))))) (fit_step w a n)
+    (first (die_form w a n) (or_else (mutexes_form w a n) (or_else (process_form w a n) (or_else (member_form w a n) (remake_form w a n)))) (fit_die w a n)
+    (first (mutexes_form w a n) (or_else (process_form w a n) (or_else (member_form w a n) (remake_form w a n))) (fit_mutexes w a n)
+    (first (process_form w a n) (or_else (member_form w a n) (remake_form w a n)) (fit_process w a n) (first (member_form w a n) (remake_form w a n) (fit_member w a n) (fit_remake w a n)))))
 fit_words (w ∷ t ∷ c ∷ m ∷ []) = first (locks_form w t c m) (or_else (cond_form w t c m) (option_and_then (calling_form w t) (call_form c m))) (fit_locks w t c m)
     (first (cond_form w t c m) (option_and_then (calling_form w t) (call_form c m)) (fit_cond w t c m) (fit_call w t (call_form c m)))
 fit_words (w ∷ t ∷ c ∷ m ∷ x ∷ more) = tt

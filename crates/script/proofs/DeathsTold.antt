@@ -11,11 +11,11 @@ use Rattle.lines.specs.Faults.{◌>>=◌}
 use Rattle.lines.specs.Lines.{lines_of, words_of, bad_line}
 use Rattle.lines.specs.Numbers.{is_number, within}
 use Rattle.condvar.specs.declared.op.Op.{Op}
-use Rattle.script.specs.Forms.{CallForm, Form, silent, process, thread, member, mutex, mutexes, begins, steps, kills, kills_all, goes, leaves, declines, expires, renews, reinits, remakes, spares, calls, locks, phase, dies, is_silent, is_name, is_stem, has, of_mode, or_else, step_form, die_form, mutexes_form, process_form, member_form, reinit_form, remake_form, locks_form, cond_form, call_form, calling_form, words_form, form_of}
+use Rattle.script.specs.Forms.{CallForm, Form, silent, process, thread, member, mutex, mutexes, begins, steps, kills, kills_all, goes, leaves, declines, expires, renews, remakes, spares, calls, locks, phase, dies, is_silent, is_name, is_stem, has, of_mode, or_else, step_form, die_form, mutexes_form, process_form, member_form, remake_form, locks_form, cond_form, call_form, calling_form, words_form, form_of}
 use Rattle.script.specs.Forms as form
 use Rattle.script.specs.Deaths.{death_of}
 use Rattle.script.specs.Scope.{Scope}
-use Rattle.script.specs.Reading.{refuse, place_of, process_of, is_declared, with_name, with_entry, with_thread, added, several, declares, thread_of, call_of, first_of, begun, stepped, killed, all_killed, gone, left, declined, expired, renewed, reinited, remade, wake_spared, made, locked, died, with_action, asked, enter, fault_at, met_at, line_read, finished, lines_read, text_read, nothing}
+use Rattle.script.specs.Reading.{refuse, place_of, process_of, is_declared, with_name, with_entry, with_thread, added, several, declares, thread_of, call_of, first_of, begun, stepped, killed, all_killed, gone, left, declined, expired, renewed, remade, wake_spared, made, locked, died, with_action, asked, enter, fault_at, met_at, line_read, finished, lines_read, text_read, nothing}
 use Rattle.script.specs.Processes.{said}
 use Rattle.script.specs.Dying.{thread_in, threads_in, thread_among, die_in, death_asked, deaths_asked, DeathsAreAsTold}
 use Rattle.script.specs.declared.command.Action.{Action}
@@ -108,10 +108,6 @@ locking : (s : Scope) (t m : List ℕ) (count : Option ℕ) → IfOk (locked s t
 locking s t m None = tt
 locking s t m (Some k) = chain (first_of s m k) (λ j. thread_of s t >>= λ i. Ok (action.Locks i j k)) (λ _. Unit {0}) (λ a. death_asked a ≡ []) (any (first_of s m k)) (λ j _. of_thread s t (λ i. action.Locks i j k) (λ i. refl))
 
-making_anew : (s : Scope) (t m : List ℕ) → IfOk (reinited s t m) (λ a. death_asked a ≡ [])
-making_anew s t m = chain (thread_of s t) (λ i. place_of m s.mutexes >>= λ j. Ok (action.Reinit i j)) (λ _. Unit {0}) (λ a. death_asked a ≡ []) (any (thread_of s t))
-    (λ i _. chain (place_of m s.mutexes) (λ j. Ok (action.Reinit i j)) (λ _. Unit {0}) (λ a. death_asked a ≡ []) (any (place_of m s.mutexes)) (λ j _. refl))
-
 remaking : (s : Scope) (t m : List ℕ) → IfOk (remade s t m) (λ a. death_asked a ≡ [])
 remaking s t m = chain (thread_of s t) (λ i. place_of m s.mutexes >>= λ j. Ok (action.Remake i j)) (λ _. Unit {0}) (λ a. death_asked a ≡ []) (any (thread_of s t))
     (λ i _. chain (place_of m s.mutexes) (λ j. Ok (action.Remake i j)) (λ _. Unit {0}) (λ a. death_asked a ≡ []) (any (place_of m s.mutexes)) (λ j _. refl))
@@ -151,7 +147,6 @@ entered n s (leaves t) = quiet s _ (asks n s (left s t) (of_thread s t (λ i. ac
 entered n s (declines t) = quiet s _ (asks n s (declined s t) (of_thread s t (λ i. action.Decline i) (λ i. refl)))
 entered n s (expires t) = quiet s _ (asks n s (expired s t) (of_thread s t (λ i. action.Expire i) (λ i. refl)))
 entered n s (renews t) = quiet s _ (asks n s (renewed s t) (of_thread s t (λ i. action.Renew i) (λ i. refl)))
-entered n s (reinits t m) = quiet s _ (asks n s (reinited s t m) (making_anew s t m))
 entered n s (remakes t m) = quiet s _ (asks n s (remade s t m) (remaking s t m))
 entered n s (spares t) = quiet s _ (asks n s (wake_spared s t) (of_thread s t (λ i. action.Spare i) (λ i. refl)))
 entered n s (calls t c) = quiet s _ (asks n s (made s t c) (calling s t c (λ i x. action.Call i x) (λ i x. refl)))
@@ -195,8 +190,8 @@ name_says w a = go (is_name a) (bytes_eq w (codes "thread")) (bytes_eq w (codes 
     go true false false false false false false false false false true et em ek el eg ev ed er es eu = λ _. (told false et, λ names. refl)
     go true false false false false false false false false false false et em ek el eg ev ed er es eu = tt
 
-three_say : (w a n : List ℕ) → IfSome (or_else (step_form w a n) (or_else (die_form w a n) (or_else (mutexes_form w a n) (or_else (process_form w a n) (or_else (member_form w a n) (or_else (reinit_form w a n) (remake_form w a n))))))) (λ f. Says f (w ∷ a ∷ n ∷ []))
-three_say w a n = go (bytes_eq w (codes "step") && is_name a && is_number n) (bytes_eq w (codes "die") && is_name a && is_number n) (bytes_eq w (codes "mutexes") && is_stem a && is_number n) (bytes_eq w (codes "process") && is_name a && is_number n) (bytes_eq w (codes "thread") && is_name a && is_name n) (bytes_eq w (codes "reinit") && is_name a && is_name n) (bytes_eq w (codes "remake") && is_name a && is_name n) refl refl refl refl refl refl refl
+three_say : (w a n : List ℕ) → IfSome (or_else (step_form w a n) (or_else (die_form w a n) (or_else (mutexes_form w a n) (or_else (process_form w a n) (or_else (member_form w a n) (remake_form w a n)))))) (λ f. Says f (w ∷ a ∷ n ∷ []))
+three_say w a n = go (bytes_eq w (codes "step") && is_name a && is_number n) (bytes_eq w (codes "die") && is_name a && is_number n) (bytes_eq w (codes "mutexes") && is_stem a && is_number n) (bytes_eq w (codes "process") && is_name a && is_number n) (bytes_eq w (codes "thread") && is_name a && is_name n) (bytes_eq w (codes "remake") && is_name a && is_name n) refl refl refl refl refl refl
   where
     -- what is said of threads, and of deaths
     told : (x y : Bool) → bytes_eq w (codes "thread") ≡ x → bytes_eq w (codes "die") ≡ y
@@ -213,17 +208,16 @@ three_say w a n = go (bytes_eq w (codes "step") && is_name a && is_number n) (by
     ranged true is = λ _. told false true (other w (codes "die") (codes "thread") is refl) is
     ranged false is = λ none. absurd none
 
-    go : (s d m p t r k : Bool) → (bytes_eq w (codes "step") && is_name a && is_number n) ≡ s → (bytes_eq w (codes "die") && is_name a && is_number n) ≡ d → (bytes_eq w (codes "mutexes") && is_stem a && is_number n) ≡ m → (bytes_eq w (codes "process") && is_name a && is_number n) ≡ p → (bytes_eq w (codes "thread") && is_name a && is_name n) ≡ t → (bytes_eq w (codes "reinit") && is_name a && is_name n) ≡ r → (bytes_eq w (codes "remake") && is_name a && is_name n) ≡ k
+    go : (s d m p t k : Bool) → (bytes_eq w (codes "step") && is_name a && is_number n) ≡ s → (bytes_eq w (codes "die") && is_name a && is_number n) ≡ d → (bytes_eq w (codes "mutexes") && is_stem a && is_number n) ≡ m → (bytes_eq w (codes "process") && is_name a && is_number n) ≡ p → (bytes_eq w (codes "thread") && is_name a && is_name n) ≡ t → (bytes_eq w (codes "remake") && is_name a && is_name n) ≡ k
         → IfSome (or_else (if s then Some (steps a (within 1 max_steps (digits_value 10 n))) else None) (or_else (if d then Some (dies a (within 1 max_access (digits_value 10 n))) else None)
-        (or_else (if m then Some (mutexes a (within 1 max_mutexes (digits_value 10 n))) else None) (or_else (if p then Some (process a (within 0 max_base (digits_value 10 n))) else None) (or_else (if t then Some (member a n) else None) (or_else (if r then Some (reinits a n) else None) (if k then Some (remakes a n) else None))))))) (λ f. Says f (w ∷ a ∷ n ∷ []))
-    go true d m p t r k es ed em ep et er ek = neither (steps a (within 1 max_steps (digits_value 10 n))) (codes "step") refl (λ names. refl) (first_of_three (bytes_eq w (codes "step")) (is_name a) (is_number n) es) refl refl
-    go false true m p t r k es ed em ep et er ek = ranged _ (first_of_three (bytes_eq w (codes "die")) (is_name a) (is_number n) ed)
-    go false false true p t r k es ed em ep et er ek = neither (mutexes a (within 1 max_mutexes (digits_value 10 n))) (codes "mutexes") refl (λ names. refl) (first_of_three (bytes_eq w (codes "mutexes")) (is_stem a) (is_number n) em) refl refl
-    go false false false true t r k es ed em ep et er ek = neither (process a (within 0 max_base (digits_value 10 n))) (codes "process") refl (λ names. refl) (first_of_three (bytes_eq w (codes "process")) (is_name a) (is_number n) ep) refl refl
-    go false false false false true r k es ed em ep et er ek = λ _. let is = first_of_three (bytes_eq w (codes "thread")) (is_name a) (is_name n) et in told true false is (other w (codes "thread") (codes "die") is refl)
-    go false false false false false true k es ed em ep et er ek = neither (reinits a n) (codes "reinit") refl (λ names. refl) (first_of_three (bytes_eq w (codes "reinit")) (is_name a) (is_name n) er) refl refl
-    go false false false false false false true es ed em ep et er ek = neither (remakes a n) (codes "remake") refl (λ names. refl) (first_of_three (bytes_eq w (codes "remake")) (is_name a) (is_name n) ek) refl refl
-    go false false false false false false false es ed em ep et er ek = tt
+        (or_else (if m then Some (mutexes a (within 1 max_mutexes (digits_value 10 n))) else None) (or_else (if p then Some (process a (within 0 max_base (digits_value 10 n))) else None) (or_else (if t then Some (member a n) else None) (if k then Some (remakes a n) else None)))))) (λ f. Says f (w ∷ a ∷ n ∷ []))
+    go true d m p t k es ed em ep et ek = neither (steps a (within 1 max_steps (digits_value 10 n))) (codes "step") refl (λ names. refl) (first_of_three (bytes_eq w (codes "step")) (is_name a) (is_number n) es) refl refl
+    go false true m p t k es ed em ep et ek = ranged _ (first_of_three (bytes_eq w (codes "die")) (is_name a) (is_number n) ed)
+    go false false true p t k es ed em ep et ek = neither (mutexes a (within 1 max_mutexes (digits_value 10 n))) (codes "mutexes") refl (λ names. refl) (first_of_three (bytes_eq w (codes "mutexes")) (is_stem a) (is_number n) em) refl refl
+    go false false false true t k es ed em ep et ek = neither (process a (within 0 max_base (digits_value 10 n))) (codes "process") refl (λ names. refl) (first_of_three (bytes_eq w (codes "process")) (is_name a) (is_number n) ep) refl refl
+    go false false false false true k es ed em ep et ek = λ _. let is = first_of_three (bytes_eq w (codes "thread")) (is_name a) (is_name n) et in told true false is (other w (codes "thread") (codes "die") is refl)
+    go false false false false false true es ed em ep et ek = neither (remakes a n) (codes "remake") refl (λ names. refl) (first_of_three (bytes_eq w (codes "remake")) (is_name a) (is_name n) ek) refl refl
+    go false false false false false false es ed em ep et ek = tt
 
 -- lines of four words say nothing of threads and deaths
 either : (ws : List (List ℕ)) (b : Bool) (x y : Option Form) → IfSome x (λ f. Says f ws) → IfSome y (λ f. Says f ws) → IfSome (if b then x else y) (λ f. Says f ws)

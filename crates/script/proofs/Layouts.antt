@@ -11,11 +11,11 @@ use Rattle.condvar.specs.Ops.{mutex_of}
 use Rattle.condvar.specs.declared.op.Op.{Op}
 use Rattle.protocol.specs.declared.event.Event.{Event}
 use Rattle.protocol.specs.declared.event.LeftTo.{LeftTo}
-use Rattle.protocol.specs.declared.event.Event.TheVariants.{Begin, Step, Kill, Leave, Decline, Expire, Renew, Reinit, Remake, Spare}
+use Rattle.protocol.specs.declared.event.Event.TheVariants.{Begin, Step, Kill, Leave, Decline, Expire, Renew, Remake, Spare}
 use Rattle.protocol.specs.declared.thread.Stage.{Stage}
 use Rattle.protocol.specs.declared.thread.Stage.TheVariants.{Idle, Calling, AtCondition, Dying, Reaped}
 use Rattle.memorymap.specs.Layouts.{cell_place}
-use Rattle.protocol.specs.Machine.{State, After, nothing, has_thread, is_alive, is_gone, may_begin, may_reinit, may_remake, waiters_of, first_stage, begun, killed, renewed, reinited, departed, declined, expired, is_timed, lapsed, overslept, waits_on, spared, wakes_one, wakes_next, is_left_to, sparing, is_asleep, is_trim, sleeps, led, led_at, went, answer_of, stepped, happens, run}
+use Rattle.protocol.specs.Machine.{State, After, nothing, has_thread, is_alive, is_gone, may_begin, may_remake, waiters_of, first_stage, begun, killed, renewed, reinited, departed, declined, expired, is_timed, lapsed, overslept, waits_on, spared, wakes_one, wakes_next, is_left_to, sparing, is_asleep, is_trim, sleeps, led, led_at, went, answer_of, stepped, happens, run}
 
 -- whichever of two states comes, both have the layout
 either : (s : State) (b : Bool) (a : After) → a.state.layout ≡ s.layout → (if b then a else nothing s).state.layout ≡ s.layout
@@ -65,7 +65,6 @@ happens_layout s (Leave t) = either s (has_thread s t && is_asleep s t) (departe
 happens_layout s (Decline t) = either s (has_thread s t) (declined s t (s.threads t).held (s.threads t).stage) (declined_layout s t (s.threads t).held (s.threads t).stage)
 happens_layout s (Expire t) = either s (has_thread s t) (expired s t (s.threads t).held (s.threads t).stage) (expired_layout s t (s.threads t).held (s.threads t).stage)
 happens_layout s (Renew t) = either s (has_thread s t && is_gone (s.threads t).stage) (renewed s t) refl
-happens_layout s (Reinit t m) = either s (may_reinit s t m) (reinited s t m 0) refl
 happens_layout s (Remake t m) = either s (may_remake s t m) (reinited s t m (waiters_of (s.words (cell_place s.layout m)))) refl
 happens_layout s (Spare t by) = either s (has_thread s t) (sparing s t by (s.threads t).held (s.threads t).stage) (spare_layout s t by (s.threads t).held (s.threads t).stage)
 

@@ -195,7 +195,6 @@ has_mutexes p n m k (action.Leave t) few h = tt
 has_mutexes p n m k (action.Decline t) few h = tt
 has_mutexes p n m k (action.Expire t) few h = tt
 has_mutexes p n m k (action.Renew t) few h = tt
-has_mutexes p n m k (action.Reinit t j) few h = tt
 has_mutexes p n m k (action.Remake t j) few h = tt
 has_mutexes p n m k (action.Spare t) few h = tt
 has_mutexes p n m k (action.Go t) few h = tt

@@ -2,10 +2,10 @@
 use Rattle.std.proofs.Common.{◌≡◌, ℕ, ◌+◌, ◌<◌, ◌≤◌, ◌==◌, ◌||◌, Bool, false, true, not, nat_le, nat_lt, List, [], ◌∷◌, ◌++◌, length, map, Option, Some, None, Result, Ok, Err, refl, sym, ap, ◌∙◌, arith, length-append}
 use Rattle.std.specs.Option.{ok_or, is_some}
 use Rattle.std.proofs.lemmas.Bool.{le-ltb}
-use Rattle.script.specs.Forms.{CallForm, lock, trylock, timedlock, unlock, consistent, wait, timedwait, signal, broadcast, Form, silent, process, thread, member, mutex, mutexes, cond, begins, steps, kills, kills_all, goes, leaves, declines, expires, renews, reinits, remakes, spares, calls, locks, phase, dies, form_of, is_silent}
+use Rattle.script.specs.Forms.{CallForm, lock, trylock, timedlock, unlock, consistent, wait, timedwait, signal, broadcast, Form, silent, process, thread, member, mutex, mutexes, cond, begins, steps, kills, kills_all, goes, leaves, declines, expires, renews, remakes, spares, calls, locks, phase, dies, form_of, is_silent}
 use Rattle.script.specs.Deaths.{deaths_by, death_of}
 use Rattle.script.specs.Scope.{Scope}
-use Rattle.script.specs.Reading.{refuse, place_of, process_of, thread_of, added, several, declares, died, with_name, with_entry, thread_declared, call_of, begun, stepped, killed, all_killed, gone, left, declined, expired, renewed, reinited, remade, wake_spared, made, locked, with_action, enter, met_at, line_read, finished, lines_read, nothing}
+use Rattle.script.specs.Reading.{refuse, place_of, process_of, thread_of, added, several, declares, died, with_name, with_entry, thread_declared, call_of, begun, stepped, killed, all_killed, gone, left, declined, expired, renewed, remade, wake_spared, made, locked, with_action, enter, met_at, line_read, finished, lines_read, nothing}
 use Rattle.lines.specs.Faults.{◌>>=◌}
 use Rattle.script.specs.Silence.{unplaced, without_lines, outcome, SilentLinesSayNothing}
 use Rattle.script.specs.declared.command.Action.{Action}
@@ -106,7 +106,6 @@ same_enter n s (leaves t) = alike (left s t) _ _ (λ a. acted n s a)
 same_enter n s (declines t) = alike (declined s t) _ _ (λ a. acted n s a)
 same_enter n s (expires t) = alike (expired s t) _ _ (λ a. acted n s a)
 same_enter n s (renews t) = alike (renewed s t) _ _ (λ a. acted n s a)
-same_enter n s (reinits t m) = alike (reinited s t m) _ _ (λ a. acted n s a)
 same_enter n s (remakes t m) = alike (remade s t m) _ _ (λ a. acted n s a)
 same_enter n s (spares t) = alike (wake_spared s t) _ _ (λ a. acted n s a)
 same_enter n s (calls t c) = rw (same_make s t c) (alike (made s t c) _ _ (λ a. acted n s a))

@@ -17,7 +17,6 @@ death_by t (action.Leave u) = None
 death_by t (action.Decline u) = None
 death_by t (action.Expire u) = None
 death_by t (action.Renew u) = None
-death_by t (action.Reinit u m) = None
 death_by t (action.Remake u m) = None
 death_by t (action.Spare u) = None
 death_by t (action.Call u k) = None

@@ -61,7 +61,6 @@ pub data Form : Type 0 where
   declines : List ℕ → Form
   expires : List ℕ → Form
   renews : List ℕ → Form
-  reinits : List ℕ → List ℕ → Form
   remakes : List ℕ → List ℕ → Form
   spares : List ℕ → Form
   calls : List ℕ → CallForm → Form
@@ -121,10 +120,6 @@ process_form w p n = if bytes_eq w (codes "process") && is_name p && is_number n
 abbrev pub member_form : List ℕ → List ℕ → List ℕ → Option Form
 member_form w t p = if bytes_eq w (codes "thread") && is_name t && is_name p then Some (member t p) else None
 
--- `reinit T M`
-abbrev pub reinit_form : List ℕ → List ℕ → List ℕ → Option Form
-reinit_form w t m = if bytes_eq w (codes "reinit") && is_name t && is_name m then Some (reinits t m) else None
-
 -- `remake T M`
 abbrev pub remake_form : List ℕ → List ℕ → List ℕ → Option Form
 remake_form w t m = if bytes_eq w (codes "remake") && is_name t && is_name m then Some (remakes t m) else None
@@ -183,7 +178,7 @@ words_form (w ∷ a ∷ n ∷ []) = or_else (step_form w a n)
     (or_else (die_form w a n)
     (or_else (mutexes_form w a n)
     (or_else (process_form w a n)
-    (or_else (member_form w a n) (or_else (reinit_form w a n) (remake_form w a n))))))
+    (or_else (member_form w a n) (remake_form w a n)))))
 words_form (w ∷ t ∷ c ∷ m ∷ []) =
     or_else (locks_form w t c m) (or_else (cond_form w t c m) (option_and_then (calling_form w t) (call_form c m)))
 words_form _ = None
@@ -212,7 +207,6 @@ threads_have (leaves t) = false
 threads_have (declines t) = false
 threads_have (expires t) = false
 threads_have (renews t) = false
-threads_have (reinits t m) = false
 threads_have (remakes t m) = false
 threads_have (spares t) = false
 threads_have (calls t c) = is_untimed c

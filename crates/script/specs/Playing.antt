@@ -31,7 +31,7 @@ use Rattle.protocol.specs.declared.note.Note.{Note}
 use Rattle.protocol.specs.Machine.{State, start, happens, run, notes, is_busy, is_dying, is_asleep}
 use Rattle.script.specs.declared.command.Action.{Action}
 use Rattle.script.specs.declared.command.Action.TheVariants.{Begin, Step, Kill, KillAll, Leave, Decline, Expire}
-use Rattle.script.specs.declared.command.Action.TheVariants.{Renew, Reinit, Remake, Spare}
+use Rattle.script.specs.declared.command.Action.TheVariants.{Renew, Remake, Spare}
 use Rattle.script.specs.declared.command.Action.TheVariants.{Go, Call, Locks, Phase, Die}
 use Rattle.script.specs.declared.command.Command.{Command}
 use Rattle.script.specs.declared.fault.Fault.{Fault}
@@ -103,7 +103,6 @@ events_of s (Leave t) = event.Leave t ∷ []
 events_of s (Decline t) = event.Decline t ∷ []
 events_of s (Expire t) = event.Expire t ∷ []
 events_of s (Renew t) = event.Renew t ∷ []
-events_of s (Reinit t m) = event.Reinit t m ∷ []
 events_of s (Remake t m) = event.Remake t m ∷ []
 events_of s (Spare t) = event.Spare t left_to.Thread ∷ []
 events_of s (Go t) = going_on s t

@@ -17,7 +17,7 @@ use Rattle.condvar.specs.declared.op.Op.TheVariants.{OnMutex, OnCondition}
 use Rattle.script.specs.Forms.{CallForm, lock, trylock, timedlock, unlock, consistent, wait, timedwait, signal}
 use Rattle.script.specs.Forms.{broadcast, Form, silent}
 use Rattle.script.specs.Forms.{process, thread, member, mutex, mutexes, cond, begins, steps, kills, kills_all}
-use Rattle.script.specs.Forms.{goes, leaves, declines, expires, renews, reinits, remakes, spares}
+use Rattle.script.specs.Forms.{goes, leaves, declines, expires, renews, remakes, spares}
 use Rattle.script.specs.Forms.{calls, locks, phase, dies, form_of}
 use Rattle.lines.specs.Numbers.{is_number}
 use Rattle.lines.specs.Lines.{lines_of, bad_line}
@@ -174,9 +174,6 @@ expired s t = thread_of s t >>= λ i. Ok (action.Expire i)
 abbrev pub renewed : Scope → List ℕ → Result Action Fault
 renewed s t = thread_of s t >>= λ i. Ok (action.Renew i)
 
-abbrev pub reinited : Scope → List ℕ → List ℕ → Result Action Fault
-reinited s t m = thread_of s t >>= λ i. place_of m s.mutexes >>= λ j. Ok (action.Reinit i j)
-
 abbrev pub remade : Scope → List ℕ → List ℕ → Result Action Fault
 remade s t m = thread_of s t >>= λ i. place_of m s.mutexes >>= λ j. Ok (action.Remake i j)
 
@@ -225,7 +222,6 @@ enter n s (leaves t) = asked n s (left s t)
 enter n s (declines t) = asked n s (declined s t)
 enter n s (expires t) = asked n s (expired s t)
 enter n s (renews t) = asked n s (renewed s t)
-enter n s (reinits t m) = asked n s (reinited s t m)
 enter n s (remakes t m) = asked n s (remade s t m)
 enter n s (spares t) = asked n s (wake_spared s t)
 enter n s (calls t c) = asked n s (made s t c)

@@ -7,7 +7,7 @@ use Rattle.condvar.specs.declared.op.Op.TheVariants.{OnMutex, OnCondition}
 use Rattle.script.specs.declared.command.Mode.{Mode}
 use Rattle.script.specs.declared.command.Action.{Action}
 use Rattle.script.specs.declared.command.Action.TheVariants.{Begin, Step, Kill, KillAll, Leave, Decline, Expire}
-use Rattle.script.specs.declared.command.Action.TheVariants.{Renew, Reinit, Remake, Spare}
+use Rattle.script.specs.declared.command.Action.TheVariants.{Renew, Remake, Spare}
 use Rattle.script.specs.declared.command.Action.TheVariants.{Go, Call, Locks, Phase, Die}
 use Rattle.script.specs.declared.command.Command.{Command}
 use Rattle.script.specs.declared.command.Condition.{Condition}
@@ -45,7 +45,6 @@ IsPossible processes threads mutexes conditions (Leave t) = (1 ≤ t) × (t ≤ 
 IsPossible processes threads mutexes conditions (Decline t) = (1 ≤ t) × (t ≤ threads)
 IsPossible processes threads mutexes conditions (Expire t) = (1 ≤ t) × (t ≤ threads)
 IsPossible processes threads mutexes conditions (Renew t) = (1 ≤ t) × (t ≤ threads)
-IsPossible processes threads mutexes conditions (Reinit t m) = (1 ≤ t) × (t ≤ threads) × (m < mutexes)
 IsPossible processes threads mutexes conditions (Remake t m) = (1 ≤ t) × (t ≤ threads) × (m < mutexes)
 IsPossible processes threads mutexes conditions (Spare t) = (1 ≤ t) × (t ≤ threads)
 IsPossible processes threads mutexes conditions (Go t) = (1 ≤ t) × (t ≤ threads)

@@ -4,7 +4,7 @@ use Rattle.std.specs.declared.alloc.Global.{Global}
 use Rattle.script.specs.Forms.{CallForm, lock, trylock, timedlock, unlock, consistent, wait, timedwait, signal}
 use Rattle.script.specs.Forms.{broadcast, Form}
 use Rattle.script.specs.Forms.{process, thread, member, mutex, mutexes, cond, begins, steps, kills}
-use Rattle.script.specs.Forms.{kills_all, goes, leaves, declines, expires, renews, reinits, remakes, spares}
+use Rattle.script.specs.Forms.{kills_all, goes, leaves, declines, expires, renews, remakes, spares}
 use Rattle.script.specs.Forms.{calls, locks, phase, dies}
 use Rattle.script.specs.Scope.{Scope}
 use Rattle.script.specs.declared.draft.Draft.{Draft}
@@ -42,7 +42,6 @@ form_seen (line.Leave a) = leaves a.now
 form_seen (line.Decline a) = declines a.now
 form_seen (line.Expire a) = expires a.now
 form_seen (line.Renew a) = renews a.now
-form_seen (line.Reinit a m) = reinits a.now m.now
 form_seen (line.Remake a m) = remakes a.now m.now
 form_seen (line.Spare a) = spares a.now
 form_seen (line.Call a c) = calls a.now (call_seen c)

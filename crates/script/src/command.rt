@@ -41,8 +41,6 @@ pub enum Action {
     Expire(Tid),
     /// One renew event.
     Renew(Tid),
-    /// One reinit event, of the mutex with this number.
-    Reinit(Tid, u16),
     /// One remake event, of the mutex with this number.
     Remake(Tid, u16),
     /// One spare event.

@@ -8,7 +8,7 @@ ghost use Rattle.script.specs.Reading.{all_killed, asked, begun, call_of, condit
 ghost use Rattle.script.specs.Reading.{condition_names, declares, declined, died, enter, expired, first_of, gone, killed};
 ghost use Rattle.script.specs.Reading.{wake_spared};
 ghost use Rattle.script.specs.Reading.{left, line_read, locked, made, mutex_declared, mutexes_declared};
-ghost use Rattle.script.specs.Reading.{nothing, place_of, process_declared, process_of, reinited, remade, renewed};
+ghost use Rattle.script.specs.Reading.{nothing, place_of, process_declared, process_of, remade, renewed};
 ghost use Rattle.script.specs.Reading.{stepped, thread_declared, thread_of, with_action, with_thread};
 ghost use Rattle.script.specs.Scope.{IsWithinLimits};
 
@@ -318,16 +318,6 @@ impl Draft {
         self.ask(number, Action::Renew(thread))
     }
 
-    fn reinit(&mut self, number: usize, thread: &str, mutex: &str) -> Result<(), Fault>
-        requires { IsWithinLimits (scope_of self.old) }
-        ensures gives { Gives (λ _. scope_of self.new) result
-            (asked number (scope_of self.old) (reinited (scope_of self.old) thread.now mutex.now)) }
-        ensures mode { self.new.mode ≡ self.old.mode }
-    {
-        let action = Action::Reinit(self.thread(thread)?, self.mutex(mutex)?);
-        self.ask(number, action)
-    }
-
     fn remake(&mut self, number: usize, thread: &str, mutex: &str) -> Result<(), Fault>
         requires { IsWithinLimits (scope_of self.old) }
         ensures gives { Gives (λ _. scope_of self.new) result
@@ -432,7 +422,6 @@ impl Draft {
             Line::Decline(thread) => self.decline(number, thread),
             Line::Expire(thread) => self.expire(number, thread),
             Line::Renew(thread) => self.renew(number, thread),
-            Line::Reinit(thread, mutex) => self.reinit(number, thread, mutex),
             Line::Remake(thread, mutex) => self.remake(number, thread, mutex),
             Line::Spare(thread) => self.spare(number, thread),
             Line::Go(thread) => self.go(number, thread),

@@ -3,7 +3,7 @@
 ghost use Rattle.std.specs.Prelude.{◌≡◌, true, false, option_map, option_and_then};
 ghost use Rattle.script.specs.Forms.{call_form, calling_form, cond_form, die_form, form_of, has, is_silent};
 ghost use Rattle.script.specs.Forms.{is_stem, is_untimed, locks_form, member_form, mutexes_form, name_form, or_else};
-ghost use Rattle.script.specs.Forms.{phase_form, process_form, reinit_form, remake_form, run_has, step_form, threads_have};
+ghost use Rattle.script.specs.Forms.{phase_form, process_form, remake_form, run_has, step_form, threads_have};
 ghost use Rattle.lines.specs.Numbers.{is_number, within};
 ghost use Rattle.script.specs.Seen.{call_seen, form_seen};
 
@@ -47,8 +47,6 @@ pub enum Line<'a> {
     Decline(&'a str),
     Expire(&'a str),
     Renew(&'a str),
-    /// A thread and a mutex.
-    Reinit(&'a str, &'a str),
     /// A thread and a mutex.
     Remake(&'a str, &'a str),
     Spare(&'a str),
@@ -143,15 +141,6 @@ fn member<'a>(keyword: &'a str, thread: &'a str, process: &'a str) -> Option<Lin
     None
 }
 
-fn reinit<'a>(keyword: &'a str, thread: &'a str, mutex: &'a str) -> Option<Line<'a>>
-    ensures { option_map form_seen result ≡ reinit_form keyword.now thread.now mutex.now }
-{
-    if keyword == "reinit" && is_word_name(thread) && is_word_name(mutex) {
-        return Some(Line::Reinit(thread, mutex));
-    }
-    None
-}
-
 fn remake<'a>(keyword: &'a str, thread: &'a str, mutex: &'a str) -> Option<Line<'a>>
     ensures { option_map form_seen result ≡ remake_form keyword.now thread.now mutex.now }
 {
@@ -230,8 +219,7 @@ fn of_three<'a>(keyword: &'a str, second: &'a str, third: &'a str) -> Option<Lin
         (or_else (die_form keyword.now second.now third.now)
         (or_else (mutexes_form keyword.now second.now third.now)
         (or_else (process_form keyword.now second.now third.now)
-        (or_else (member_form keyword.now second.now third.now)
-        (or_else (reinit_form keyword.now second.now third.now) (remake_form keyword.now second.now third.now)))))) }
+        (or_else (member_form keyword.now second.now third.now) (remake_form keyword.now second.now third.now))))) }
 {
     if let Some(line) = step(keyword, second, third) {
         return Some(line);
@@ -245,10 +233,7 @@ fn of_three<'a>(keyword: &'a str, second: &'a str, third: &'a str) -> Option<Lin
     if let Some(line) = process(keyword, second, third) {
         return Some(line);
     }
-    if let Some(line) = member(keyword, second, third) {
-        return Some(line);
-    }
-    match reinit(keyword, second, third) {
+    match member(keyword, second, third) {
         Some(line) => Some(line),
         None => remake(keyword, second, third),
     }
@@ -300,7 +285,7 @@ fn is_of_threads(line: &Line<'_>) -> bool
         Line::Leave(_) | Line::Decline(_) => false,
         Line::Expire(_) => false,
         Line::Renew(_) => false,
-        Line::Reinit(..) | Line::Remake(..) => false,
+        Line::Remake(..) => false,
         Line::Spare(_) => false,
     }
 }

@@ -144,9 +144,6 @@ fn play_action(machine: &mut Machine, notes: &mut Vec<Note>, action: Action) -> 
         Action::Decline(thread) => play_event(machine, notes, Event::Decline(thread)),
         Action::Expire(thread) => play_event(machine, notes, Event::Expire(thread)),
         Action::Renew(thread) => play_event(machine, notes, Event::Renew(thread)),
-        Action::Reinit(thread, mutex) => {
-            play_event(machine, notes, Event::Reinit(thread, mutex))
-        }
         Action::Remake(thread, mutex) => {
             play_event(machine, notes, Event::Remake(thread, mutex))
         }
