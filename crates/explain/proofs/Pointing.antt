@@ -49,7 +49,6 @@ no_word w =
     pick IsNoWord w (codes "kill") (text (codes "kill") (codes "kill", (refl, refl))) (λ e3.
     pick IsNoWord w (codes "killall") (text (codes "killall") (codes "killall", (refl, refl))) (λ e4.
     pick IsNoWord w (codes "renew") (text (codes "renew") (codes "renew", (refl, refl))) (λ e5.
-    pick IsNoWord w (codes "reinit") (text (codes "reinit") (codes "reinit", (refl, refl))) (λ e6.
     pick IsNoWord w (codes "remake") (text (codes "remake") (codes "remake", (refl, refl))) (λ e17.
     pick IsNoWord w (codes "leave") (text (codes "leave") (codes "leave", (refl, refl))) (λ e7.
     pick IsNoWord w (codes "expire") (text (codes "expire") (codes "expire", (refl, refl))) (λ e18.
@@ -59,4 +58,4 @@ no_word w =
     pick IsNoWord w (codes "locks") (text (codes "locks") (codes "locks", (refl, refl))) (λ e14.
     pick IsNoWord w (codes "phase") (text (codes "phase") (codes "phase", (refl, refl))) (λ e15.
     pick IsNoWord w (codes "die") (text (codes "die") (codes "die", (refl, refl))) (λ e16 other.
-    rw (e1, e2, e3, e4, e5, e6, e17, e7, e18, e8, e10, e13, e14, e15, e16) refl)))))))))))))))
+    rw (e1, e2, e3, e4, e5, e17, e7, e18, e8, e10, e13, e14, e15, e16) refl))))))))))))))

@@ -30,7 +30,6 @@ uses_of w call = if bytes_eq w (codes "thread") then (Processes, 2) ∷ []
     else (if bytes_eq w (codes "step") then (Threads, 1) ∷ []
     else (if bytes_eq w (codes "kill") then (Threads, 1) ∷ []
     else (if bytes_eq w (codes "renew") then (Threads, 1) ∷ []
-    else (if bytes_eq w (codes "reinit") then (Threads, 1) ∷ (Mutexes, 2) ∷ []
     else (if bytes_eq w (codes "remake") then (Threads, 1) ∷ (Mutexes, 2) ∷ []
     else (if bytes_eq w (codes "leave") then (Threads, 1) ∷ []
     else (if bytes_eq w (codes "expire") then (Threads, 1) ∷ []
@@ -41,7 +40,7 @@ uses_of w call = if bytes_eq w (codes "thread") then (Processes, 2) ∷ []
     else (if bytes_eq w (codes "killall") then (Processes, 1) ∷ []
     else (if bytes_eq w (codes "locks") then (Mutexes, 2) ∷ (Threads, 1) ∷ []
     else (if bytes_eq w (codes "begin") then uses_of_call call
-    else (if bytes_eq w (codes "call") then uses_of_call call else []))))))))))))))))
+    else (if bytes_eq w (codes "call") then uses_of_call call else [])))))))))))))))
 
 -- what a declaration with this first word gives a name to
 abbrev pub given : Option Things → Option Lack

@@ -30,7 +30,7 @@ pub fn uses_of(keyword: &str, call: &str) -> &'static [(Things, usize)]
         "thread" => &[(Things::Processes, 2)],
         "cond" => &[(Things::Mutexes, 2)],
         "step" | "kill" | "renew" => &[(Things::Threads, 1)],
-        "reinit" | "remake" => &[(Things::Threads, 1), (Things::Mutexes, 2)],
+        "remake" => &[(Things::Threads, 1), (Things::Mutexes, 2)],
         "leave" | "expire" | "decline" | "go" | "die" => &[(Things::Threads, 1)],
         "spare" => &[(Things::Threads, 1)],
         "killall" => &[(Things::Processes, 1)],

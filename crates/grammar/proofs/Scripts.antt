@@ -11,7 +11,7 @@ use Rattle.posixmutex.specs.Words.{operation_of}
 use Rattle.script.specs.declared.command.Mode.{Mode}
 use Rattle.script.specs.declared.command.Mode.TheVariants.{Run, Threads}
 use Rattle.script.specs.Limits.{max_steps, max_access, max_mutexes, max_base, max_counter}
-use Rattle.script.specs.Forms.{CallForm, lock, trylock, timedlock, unlock, consistent, wait, timedwait, signal, broadcast, Form, process, thread, member, mutex, mutexes, cond, begins, steps, kills, kills_all, goes, renews, reinits, remakes, leaves, expires, declines, spares, calls, locks, phase, dies, is_name, is_stem, is_untimed, has, of_mode, or_else, call_on, call_form, calling_form, words_form}
+use Rattle.script.specs.Forms.{CallForm, lock, trylock, timedlock, unlock, consistent, wait, timedwait, signal, broadcast, Form, process, thread, member, mutex, mutexes, cond, begins, steps, kills, kills_all, goes, renews, remakes, leaves, expires, declines, spares, calls, locks, phase, dies, is_name, is_stem, is_untimed, has, of_mode, or_else, call_on, call_form, calling_form, words_form}
 use Rattle.grammar.specs.declared.next.Next.{Next}
 use Rattle.grammar.specs.declared.next.Next.TheVariants.{End, Keyword, Name, NewThread, ProcessOrEnd, NameNumber, NameNameNumber, NameName, StemNumber, Number, NameCall, Call}
 use Rattle.grammar.specs.Nexts.{fitting, is_made, keyword, made, timed}
@@ -253,21 +253,6 @@ law_renew : (k : Mode) (ws : List (List ℕ)) → said k (words_form (codes "ren
 law_renew Run ws = ap (said Run) (shape_renew ws) ∙ named Run renews true (λ a. refl) ws
 law_renew Threads ws = ap (said Threads) (shape_renew ws) ∙ named Threads renews false (λ a. refl) ws
 
-or_none : (o : Option Form) → or_else o None ≡ o
-or_none None = refl
-or_none (Some f) = refl
-
-shape_reinit : (ws : List (List ℕ)) → words_form (codes "reinit" ∷ ws) ≡ both_names reinits ws
-shape_reinit [] = refl
-shape_reinit (a ∷ []) = flipped_none (is_name a)
-shape_reinit (a ∷ n ∷ []) = or_none (if is_name a && is_name n then Some (reinits a n) else None)
-shape_reinit (t ∷ c ∷ m ∷ []) = no_call (is_name t) (call_form c m)
-shape_reinit (t ∷ c ∷ m ∷ b ∷ ws) = refl
-
-law_reinit : (k : Mode) (ws : List (List ℕ)) → said k (words_form (codes "reinit" ∷ ws)) ≡ ends (run (Keyword k) (codes "reinit" ∷ ws))
-law_reinit Run ws = ap (said Run) (shape_reinit ws) ∙ named_twice Run reinits true (λ a b. refl) ws
-law_reinit Threads ws = ap (said Threads) (shape_reinit ws) ∙ named_twice Threads reinits false (λ a b. refl) ws
-
 shape_remake : (ws : List (List ℕ)) → words_form (codes "remake" ∷ ws) ≡ both_names remakes ws
 shape_remake [] = refl
 shape_remake (a ∷ []) = flipped_none (is_name a)
@@ -462,7 +447,6 @@ record Unknown (w : List ℕ) : Type 0 where
   kill_isnt : bytes_eq w (codes "kill") ≡ false
   killall_isnt : bytes_eq w (codes "killall") ≡ false
   renew_isnt : bytes_eq w (codes "renew") ≡ false
-  reinit_isnt : bytes_eq w (codes "reinit") ≡ false
   remake_isnt : bytes_eq w (codes "remake") ≡ false
   leave_isnt : bytes_eq w (codes "leave") ≡ false
   decline_isnt : bytes_eq w (codes "decline") ≡ false
@@ -480,12 +464,12 @@ no_calling w t b c (Some x) = simp (b, c) (flipped_none (is_name t))
 unknown_line : (w : List ℕ) (ws : List (List ℕ)) → Unknown w → words_form (w ∷ ws) ≡ None
 unknown_line w [] u = simp (u.phase_isnt)
 unknown_line w (a ∷ []) u = simp (u.thread_isnt, u.mutex_isnt, u.kill_isnt, u.killall_isnt, u.go_isnt, u.renew_isnt, u.leave_isnt, u.decline_isnt, u.spare_isnt, u.expire_isnt) (flipped_none (is_name a))
-unknown_line w (a ∷ n ∷ []) u = simp (u.step_isnt, u.die_isnt, u.mutexes_isnt, u.process_isnt, u.thread_isnt, u.reinit_isnt, u.remake_isnt)
+unknown_line w (a ∷ n ∷ []) u = simp (u.step_isnt, u.die_isnt, u.mutexes_isnt, u.process_isnt, u.thread_isnt, u.remake_isnt)
 unknown_line w (t ∷ c ∷ m ∷ []) u = simp (u.locks_isnt, u.cond_isnt) (no_calling w t u.begin_isnt u.call_isnt (call_form c m))
 unknown_line w (t ∷ c ∷ m ∷ b ∷ ws) u = refl
 
 unknown_word : (k : Mode) (w : List ℕ) → Unknown w → keyword k w ≡ None
-unknown_word Run w u = simp (u.process_isnt, u.thread_isnt, u.mutex_isnt, u.mutexes_isnt, u.cond_isnt, u.call_isnt, u.begin_isnt, u.step_isnt, u.kill_isnt, u.killall_isnt, u.renew_isnt, u.reinit_isnt, u.remake_isnt, u.leave_isnt, u.expire_isnt, u.decline_isnt, u.spare_isnt, u.go_isnt, u.locks_isnt)
+unknown_word Run w u = simp (u.process_isnt, u.thread_isnt, u.mutex_isnt, u.mutexes_isnt, u.cond_isnt, u.call_isnt, u.begin_isnt, u.step_isnt, u.kill_isnt, u.killall_isnt, u.renew_isnt, u.remake_isnt, u.leave_isnt, u.expire_isnt, u.decline_isnt, u.spare_isnt, u.go_isnt, u.locks_isnt)
 unknown_word Threads w u = simp (u.process_isnt, u.thread_isnt, u.mutex_isnt, u.mutexes_isnt, u.cond_isnt, u.call_isnt, u.phase_isnt, u.die_isnt)
 
 unknown : (k : Mode) (w : List ℕ) (ws : List (List ℕ)) → Unknown w → said k (words_form (w ∷ ws)) ≡ ends (run (Keyword k) (w ∷ ws))
@@ -510,7 +494,6 @@ scripts_are_run k (w ∷ ws) =
     pick (Agree k ws) w (codes "kill") (law_kill k ws) (λ e8.
     pick (Agree k ws) w (codes "killall") (law_killall k ws) (λ e9.
     pick (Agree k ws) w (codes "renew") (law_renew k ws) (λ e16.
-    pick (Agree k ws) w (codes "reinit") (law_reinit k ws) (λ e17.
     pick (Agree k ws) w (codes "remake") (law_remake k ws) (λ e22.
     pick (Agree k ws) w (codes "leave") (law_leave k ws) (λ e10.
     pick (Agree k ws) w (codes "decline") (law_decline k ws) (λ e11.
@@ -520,4 +503,4 @@ scripts_are_run k (w ∷ ws) =
     pick (Agree k ws) w (codes "locks") (law_locks k ws) (λ e13.
     pick (Agree k ws) w (codes "phase") (law_phase k ws) (λ e14.
     pick (Agree k ws) w (codes "die") (law_die k ws) (λ e15.
-    unknown k w ws (record { process_isnt = e0; thread_isnt = e1; mutex_isnt = e2; mutexes_isnt = e3; cond_isnt = e4; call_isnt = e5; begin_isnt = e6; step_isnt = e7; kill_isnt = e8; killall_isnt = e9; leave_isnt = e10; decline_isnt = e11; go_isnt = e12; locks_isnt = e13; phase_isnt = e14; die_isnt = e15; renew_isnt = e16; reinit_isnt = e17; spare_isnt = e19; remake_isnt = e22; expire_isnt = e23 }))))))))))))))))))))))
+    unknown k w ws (record { process_isnt = e0; thread_isnt = e1; mutex_isnt = e2; mutexes_isnt = e3; cond_isnt = e4; call_isnt = e5; begin_isnt = e6; step_isnt = e7; kill_isnt = e8; killall_isnt = e9; leave_isnt = e10; decline_isnt = e11; go_isnt = e12; locks_isnt = e13; phase_isnt = e14; die_isnt = e15; renew_isnt = e16; spare_isnt = e19; remake_isnt = e22; expire_isnt = e23 })))))))))))))))))))))

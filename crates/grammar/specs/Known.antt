@@ -27,7 +27,7 @@ reply_words = map reply_word all_replies
 -- of a script's lines, those first that scripts of both modes have
 abbrev pub keywords : Mode → List (List ℕ)
 keywords Run = codes "process" ∷ codes "thread" ∷ codes "mutex" ∷ codes "mutexes" ∷ codes "cond" ∷ codes "call"
-    ∷ codes "begin" ∷ codes "step" ∷ codes "kill" ∷ codes "killall" ∷ codes "renew" ∷ codes "reinit" ∷ codes "remake"
+    ∷ codes "begin" ∷ codes "step" ∷ codes "kill" ∷ codes "killall" ∷ codes "renew" ∷ codes "remake"
     ∷ codes "leave" ∷ codes "expire" ∷ codes "decline" ∷ codes "spare"
     ∷ codes "go" ∷ codes "locks" ∷ []
 keywords Threads = codes "process" ∷ codes "thread" ∷ codes "mutex" ∷ codes "mutexes" ∷ codes "cond" ∷ codes "call"

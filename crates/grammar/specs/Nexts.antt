@@ -30,7 +30,7 @@ is_lettered letter w = is_some (numbered letter w)
 abbrev pub is_call : List ℕ → Bool
 is_call w = is_some (call_operation w)
 
--- the calls that scripts make: a reinit is a command of its own
+-- the calls that scripts make: that a mutex was made anew is told as a call, but scripts have it as an event
 abbrev pub scripted : Op → Option Op
 scripted op.Death = None
 scripted op.Reinit = None
@@ -77,14 +77,13 @@ of_run w = if bytes_eq w (codes "begin") then Some (NameCall mode.Run)
     else (if bytes_eq w (codes "kill") then Some Name
     else (if bytes_eq w (codes "killall") then Some Name
     else (if bytes_eq w (codes "renew") then Some Name
-    else (if bytes_eq w (codes "reinit") then Some NameName
     else (if bytes_eq w (codes "remake") then Some NameName
     else (if bytes_eq w (codes "leave") then Some Name
     else (if bytes_eq w (codes "expire") then Some Name
     else (if bytes_eq w (codes "decline") then Some Name
     else (if bytes_eq w (codes "spare") then Some Name
     else (if bytes_eq w (codes "go") then Some Name
-    else (if bytes_eq w (codes "locks") then Some NameNameNumber else None))))))))))))
+    else (if bytes_eq w (codes "locks") then Some NameNameNumber else None)))))))))))
 
 -- that only scripts for real threads have
 abbrev pub of_threads : List ℕ → Option Next

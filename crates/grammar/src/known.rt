@@ -73,7 +73,7 @@ fn keywords(mode: Mode) -> &'static [&'static str]
     match mode {
         Mode::Run => &[
             "process", "thread", "mutex", "mutexes", "cond", "call", "begin", "step", "kill",
-            "killall", "renew", "reinit", "remake", "leave", "expire", "decline",
+            "killall", "renew", "remake", "leave", "expire", "decline",
             "spare", "go", "locks",
         ],
         Mode::Threads => &[

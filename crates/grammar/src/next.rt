@@ -179,7 +179,7 @@ fn of_run(word: &str) -> Option<Next>
         "begin" => Some(Next::NameCall(Mode::Run)),
         "step" => Some(Next::NameNumber),
         "kill" | "killall" | "renew" => Some(Next::Name),
-        "reinit" | "remake" => Some(Next::NameName),
+        "remake" => Some(Next::NameName),
         "leave" | "expire" | "decline" | "go" => Some(Next::Name),
         "spare" => Some(Next::Name),
         "locks" => Some(Next::NameNameNumber),
