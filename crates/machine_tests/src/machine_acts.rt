@@ -23,8 +23,6 @@ pub(crate) enum Rare {
     Spares(u8),
     /// The thread makes a mutex anew on which others may sleep.
     Remakes(u8, u16),
-    /// The thread makes a mutex anew on which nobody sleeps.
-    Reinits(u8, u16),
     /// The time limit of a lock of mutex 0 comes.
     Expires(u8),
     /// The time limit of a wait on condition variable 0 comes.
@@ -74,7 +72,6 @@ fn id_of(rare: Rare) -> u8 {
     match rare {
         Rare::Spares(id)
         | Rare::Remakes(id, _)
-        | Rare::Reinits(id, _)
         | Rare::Expires(id)
         | Rare::WaitExpires(id)
         | Rare::Returns(id, _)
@@ -88,7 +85,6 @@ fn event_of(thread: Tid, rare: Rare) -> Event {
     match rare {
         Rare::Spares(_) => Event::Spare(thread, LeftTo::Thread),
         Rare::Remakes(_, mutex) => Event::Remake(thread, mutex),
-        Rare::Reinits(_, mutex) => Event::Reinit(thread, mutex),
         Rare::Expires(_) | Rare::WaitExpires(_) => Event::Expire(thread),
         Rare::Returns(_, _) | Rare::IsRaced(_) | Rare::IsReaped(_) => Event::Step(thread),
         Rare::Dies(_) => Event::Kill(thread),
@@ -98,7 +94,7 @@ fn event_of(thread: Tid, rare: Rare) -> Event {
 fn note_of(thread: Tid, rare: Rare) -> Note {
     match rare {
         Rare::Spares(_) => stepped(thread, None, None, None),
-        Rare::Remakes(_, mutex) | Rare::Reinits(_, mutex) => Note::Reinited { thread, mutex },
+        Rare::Remakes(_, mutex) => Note::Reinited { thread, mutex },
         Rare::Expires(_) => Note::Expired {
             thread,
             queue: Queue::Mutex(0),

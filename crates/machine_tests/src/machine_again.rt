@@ -3,7 +3,7 @@
 use crate::machine_acts::Act::{self, Calls, Happens, Is, Refused, RefusedCall, Steps};
 use crate::machine_acts::Look::{Owner, Sleep, Stands, Word};
 use crate::machine_acts::Rare::{
-    Dies, Expires, Reinits, Remakes, Returns, Spares, WaitExpires,
+    Dies, Expires, Remakes, Returns, Spares, WaitExpires,
 };
 use crate::machine_acts::{ALL, first_wrong};
 use crate::machine_rows::Standing::{Asleep, Awake, Dying, Reaped, Resting};
@@ -105,7 +105,7 @@ fn a_wake_is_spared_where_a_walk_will_answer(rt: HostRuntime) -> Result<(), Fail
 /// Thread 4 has seen nobody sleep on an unusable mutex, and comes late: others have made it anew, locked it, and made it
 /// unusable again, and thread 3 sleeps there. The mutex is free by thread 4's exchange, and thread 2, which made it
 /// unusable and is killed before its wake, leaves that to its walk. The cell is at 13.
-static MADE_ANEW: [Act; 21] = [
+static MADE_ANEW: [Act; 20] = [
     Calls(1, LOCK, ALL),
     Happens(Dies(1)),
     Steps(1, 12),
@@ -114,7 +114,6 @@ static MADE_ANEW: [Act; 21] = [
     Calls(3, LOCK, ALL),
     Calls(2, UNLOCK, 6),
     Is(Word(13, UNUSABLE | WAITERS)),
-    Refused(Reinits(4, 0)),
     Refused(Remakes(2, 0)),
     Refused(Remakes(1, 0)),
     Refused(Remakes(4, 1)),

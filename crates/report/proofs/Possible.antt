@@ -61,7 +61,6 @@ by_action k p n m d t (action.Leave u) mutexes conditions fine = tt
 by_action k p n m d t (action.Decline u) mutexes conditions fine = tt
 by_action k p n m d t (action.Expire u) mutexes conditions fine = tt
 by_action k p n m d t (action.Renew u) mutexes conditions fine = tt
-by_action k p n m d t (action.Reinit u m2) mutexes conditions fine = tt
 by_action k p n m d t (action.Remake u m2) mutexes conditions fine = tt
 by_action k p n m d t (action.Spare u) mutexes conditions fine = tt
 by_action k p n m d t (action.Die u o) mutexes conditions fine = tt

@@ -205,7 +205,6 @@ event_once s e inv queued =
     (λ u o p first most is awake trims. tt)
     (λ u first most gone. tt)
     (λ u j may. tt)
-    (λ u j may. tt)
     (λ u m g sp. tt)
     e
 

@@ -195,7 +195,6 @@ module _ (s : State) (t : ℕ) where
       (λ u o p first most is awake trims h. let g = led o p (whole_led p (Trimmed false)) in absurd (step_reaps_none t u (mutex_of s.layout o) (decision u (mutex_of s.layout o) g.operation g.point) None [] [] g.returned h))
       (λ u first most gone. renewed_rightly u)
       (λ u j may. reinited_rightly u j 0)
-      (λ u j may. reinited_rightly u j 0)
       (λ u m g sp h. absurd (step_reaps_none t u m (decision u m g.operation g.point) None [] [] g.returned h))
       e
 

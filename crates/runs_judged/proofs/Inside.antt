@@ -135,7 +135,6 @@ module _ (s : State) where
       (λ u k x p first most is there. overslept_own u k p)
       (λ u o p first most is awake trims. let g = led o p (whole_led p (Trimmed false)) in stepped_own u (mutex_of s.layout o) g.operation g.point None [] [] g.returned first most)
       (λ u first most gone. renewed_own u first most)
-      (λ u j may. reinited_own u j 0 may.remake.first may.remake.last)
       (λ u j may. reinited_own u j 0 may.first may.last)
       (λ u m g sp. stepped_own u m g.operation g.point None [] [] g.returned sp.first sp.last)
       e
@@ -226,7 +225,6 @@ module _ (s : State) where
       (λ u k x p first most at there. overslept_inside u k p)
       (λ u o p first most at awake trims t c h. let g = led o p (whole_led p (Trimmed false)) in absurd (step_begins_none t u (mutex_of s.layout o) c (decision u (mutex_of s.layout o) g.operation g.point) None [] [] g.returned h))
       (λ u first most gone. renewed_inside u)
-      (λ u j may. reinited_inside u j 0 may.remake.inside)
       (λ u j may. reinited_inside u j 0 may.inside)
       (λ u m g sp t c h. absurd (step_begins_none t u m c (decision u m g.operation g.point) None [] [] g.returned h))
       e

@@ -333,7 +333,6 @@ module _ (l : Layout') (s : State) (ns : List Note) (m : Moment l s ns) (t : ℕ
       (λ u k x p first most is there. tt)
       (λ u o p first most is awake trims. let g = led o p (whole_led p (Trimmed false)) in stepped_awake u (mutex_of s.layout o) g.operation g.point None [] [] g.returned awake)
       (λ u first most gone d h is. anew u d h)
-      (λ u j may. reinited_awake u j 0 may.remake.resting)
       (λ u j may. reinited_awake u j 0 may.resting)
       (λ u k g sp. subst PointsAwake (sym (spare_is s u k g sp m.kept)) (λ d h is. absurd h))
       e
