@@ -20,9 +20,9 @@ use Rattle.script.specs.declared.command.Mode.TheVariants.{Run}
 use Rattle.script.specs.declared.fault.Fault.{Fault}
 use Rattle.script.specs.declared.fault.Fault.TheVariants.{NotUtf8, UnknownWord, OutOfRange, NoSuchName, TooLong}
 use Rattle.script.specs.declared.fault.ScriptFault.{ScriptFault}
-use Rattle.script.specs.Forms.{CallForm, Form, silent, process, thread, member, mutex, mutexes, cond, begins, steps, kills, kills_all, goes, leaves, declines, expires, renews, reinits, remakes, spares, calls, locks, phase, dies, form_of, of_mode, has, words_form, or_else, name_form, step_form, die_form, mutexes_form, process_form, member_form, reinit_form, locks_form, cond_form, call_form, calling_form, is_letter, is_name, is_name_byte, is_silent, is_stem}
+use Rattle.script.specs.Forms.{CallForm, Form, silent, process, thread, member, mutex, mutexes, cond, begins, steps, kills, kills_all, goes, leaves, declines, expires, renews, remakes, spares, calls, locks, phase, dies, form_of, of_mode, has, words_form, or_else, name_form, step_form, die_form, mutexes_form, process_form, member_form, locks_form, cond_form, call_form, calling_form, is_letter, is_name, is_name_byte, is_silent, is_stem}
 use Rattle.script.specs.Limits.{max_bytes, max_conditions, max_lines, max_mutexes, max_name, max_processes, max_stem, max_threads}
-use Rattle.script.specs.Reading.{added, begun, all_killed, asked, condition_declared, declares, declined, died, enter, expired, fault_at, finished, gone, is_declared, is_numbered, killed, left, lines_read, line_read, locked, made, met_at, mutex_declared, mutexes_declared, names_of, nothing, numbered, place_of, process_declared, process_of, refuse, reinited, remade, renewed, script_read, several, stepped, text_read, thread_declared, wake_spared, with_action, with_condition, with_entry, with_name, with_thread}
+use Rattle.script.specs.Reading.{added, begun, all_killed, asked, condition_declared, declares, declined, died, enter, expired, fault_at, finished, gone, is_declared, is_numbered, killed, left, lines_read, line_read, locked, made, met_at, mutex_declared, mutexes_declared, names_of, nothing, numbered, place_of, process_declared, process_of, refuse, remade, renewed, script_read, several, stepped, text_read, thread_declared, wake_spared, with_action, with_condition, with_entry, with_name, with_thread}
 use Rattle.script.specs.Scope.{Scope}
 use Rattle.page.specs.Escapes.{IsPlain}
 use Rattle.draw_report.specs.Names.{called_in}
@@ -185,7 +185,7 @@ by_words (w ∷ a ∷ n ∷ []) = first (step_form w a n) _ (other (bytes_eq w _
     (first (mutexes_form w a n) _ (by_mutexes w a n)
     (first (process_form w a n) _ (other (bytes_eq w _ && is_name a && is_number n) (Some (process a _)) None tt tt)
     (first (member_form w a n) _ (by_member w a n)
-    (first (reinit_form w a n) _ (other (bytes_eq w _ && is_name a && is_name n) (Some (reinits a n)) None tt tt) (other (bytes_eq w _ && is_name a && is_name n) (Some (remakes a n)) None tt tt))))))
+    (other (bytes_eq w _ && is_name a && is_name n) (Some (remakes a n)) None tt tt)))))
 by_words (w ∷ t ∷ c ∷ m ∷ []) = first (locks_form w t c m) _ (other (bytes_eq w _ && is_name t && is_name c && is_number m) (Some (locks t c _)) None tt tt)
     (first (cond_form w t c m) _ (by_cond w t c m) (by_call w t (call_form c m)))
 by_words (w ∷ t ∷ c ∷ m ∷ x ∷ more) = tt
@@ -276,7 +276,6 @@ enters n s (goes t) h is = asks n s (gone s t) h
 enters n s (leaves t) h is = asks n s (left s t) h
 enters n s (declines t) h is = asks n s (declined s t) h
 enters n s (renews t) h is = asks n s (renewed s t) h
-enters n s (reinits t m) h is = asks n s (reinited s t m) h
 enters n s (remakes t m) h is = asks n s (remade s t m) h
 enters n s (spares t) h is = asks n s (wake_spared s t) h
 enters n s (expires t) h is = asks n s (expired s t) h

@@ -28,7 +28,7 @@ fn explains_or_wants_memory(alloc: Global, bytes: &[u8], status: u8, text: &str)
 const SCRIPT: &[u8] = b"tread a\n";
 
 const TEXT: &str =
-    "f: line 1: fault 2: unknown word (a script for `rfx run`)\n  | tread a\n  | ^^^^^\n  = expected one of `process` `thread` `mutex` `mutexes` `cond` `call` `begin` `step` `kill` `killall` `renew` `reinit` `remake` `leave` `expire` `decline` `spare` `go` `locks`\n  = did you mean `thread`?\n";
+    "f: line 1: fault 2: unknown word (a script for `rfx run`)\n  | tread a\n  | ^^^^^\n  = expected one of `process` `thread` `mutex` `mutexes` `cond` `call` `begin` `step` `kill` `killall` `renew` `remake` `leave` `expire` `decline` `spare` `go` `locks`\n  = did you mean `thread`?\n";
 
 const USAGE: &str = "usage: rfx-explain FILE\n";
 
