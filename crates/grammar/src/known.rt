@@ -73,8 +73,7 @@ fn keywords(mode: Mode) -> &'static [&'static str]
     match mode {
         Mode::Run => &[
             "process", "thread", "mutex", "mutexes", "cond", "call", "begin", "step", "kill",
-            "killall", "renew", "remake", "leave", "expire", "decline",
-            "spare", "go", "locks",
+            "killall", "renew", "remake", "leave", "expire", "decline", "spare", "go", "locks",
         ],
         Mode::Threads => &[
             "process", "thread", "mutex", "mutexes", "cond", "call", "phase", "die",

@@ -2,9 +2,7 @@
 
 use crate::machine_acts::Act::{self, Calls, Happens, Is, Refused, RefusedCall, Steps};
 use crate::machine_acts::Look::{Owner, Sleep, Stands, Word};
-use crate::machine_acts::Rare::{
-    Dies, Expires, Remakes, Returns, Spares, WaitExpires,
-};
+use crate::machine_acts::Rare::{Dies, Expires, Remakes, Returns, Spares, WaitExpires};
 use crate::machine_acts::{ALL, first_wrong};
 use crate::machine_rows::Standing::{Asleep, Awake, Dying, Reaped, Resting};
 use condvar::{CondCall, Limit, Op};
