@@ -86,11 +86,11 @@ out/libpazdrig.so: out/libpazdrig.so.$(VERSION)
 
 out/libpazdrig_pthread.so: $(PRELOAD) lib/preload/shown.map
 	$(call say,LD,$@)
-	$(Q)$(SHARED) -Wl,-z,now -Wl,-soname,$(@F) -Wl,--version-script=lib/preload/shown.map -o $@ $(PRELOAD)
+	$(Q)$(SHARED) -Wl,-z,now -Wl,-soname,$(@F) -Wl,--version-script=lib/preload/shown.map -o $@ $(PRELOAD) -ldl
 
 out/libpz_record.so: $(RECORDER) record/preloaded/shown.map
 	$(call say,LD,$@)
-	$(Q)$(SHARED) -Wl,-soname,$(@F) -Wl,--version-script=record/preloaded/shown.map -o $@ $(RECORDER)
+	$(Q)$(SHARED) -Wl,-soname,$(@F) -Wl,--version-script=record/preloaded/shown.map -o $@ $(RECORDER) -ldl
 
 bin/pz-record: $(RECORD)
 	$(call say,LD,$@)

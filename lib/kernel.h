@@ -9,6 +9,18 @@
 #include <time.h>
 #include <unistd.h>
 
+/* futex_waitv(2) for headers from before Linux 5.16. */
+#ifndef SYS_futex_waitv
+#define SYS_futex_waitv 449
+#endif
+#ifndef FUTEX_32
+#define FUTEX_32 2
+struct futex_waitv {
+    uint64_t val, uaddr;
+    uint32_t flags, unused;
+};
+#endif
+
 /* A time until which a call waits. */
 struct deadline {
     clockid_t clock;

@@ -4,6 +4,10 @@
 #include <malloc.h>
 #include <sys/resource.h>
 
+#if !__GLIBC_PREREQ(2, 33)
+#define mallinfo2 mallinfo
+#endif
+
 static const struct pz_layout LAYOUT = {.mutexes = 2, .conds = 1, .data = 8};
 
 static int descriptors(void)

@@ -5,10 +5,6 @@
 #include <pthread.h>
 #include <stdatomic.h>
 
-#ifndef SYS_futex_waitv
-#define SYS_futex_waitv 449
-#endif
-
 UNUSED static int init_robust(pthread_mutex_t *m, int type)
 {
     pthread_mutexattr_t a;

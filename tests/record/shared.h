@@ -17,6 +17,9 @@
 #include <unistd.h>
 
 enum { FUTEX_WAITV = 449 };
+#if !__GLIBC_PREREQ(2, 34)
+#define _Fork fork
+#endif
 
 #define CHECK(what) ((what) ? (void)0 : fail(__FILE__, __LINE__, #what))
 
