@@ -2,6 +2,7 @@
  * name, parameters, arguments); a row whose arguments can't be passed on has none. */
 #ifndef PZ_REAL_H
 #define PZ_REAL_H
+#include <dlfcn.h>
 
 #define PZ_MUTEX_FUNCTIONS(F)                                                                                          \
     F(int, pthread_mutex_init, (pthread_mutex_t * m, const pthread_mutexattr_t *a), (m, a))                            \
@@ -36,4 +37,21 @@
     F(void *, shmat, (int id, const void *at, int flags), (id, at, flags))
 
 #define PZ_REAL_POINTER(result, name, parameters, arguments) result(*name) parameters;
+
+/* Returns the next library's function of this name. */
+#if __GLIBC_PREREQ(2, 34)
+#define PZ_NEXT(name) dlsym(RTLD_NEXT, name)
+#else
+/* An older C library has two forms of a condition variable's functions, and dlsym(3) finds the oldest. */
+#define PZ_NEXT(name) pz_next(name)
+static inline void *pz_next(const char *name)
+{
+    void *it = dlsym(RTLD_NEXT, name), *newer = dlvsym(RTLD_NEXT, name, "GLIBC_2.3.2");
+    Dl_info of_it, of_newer;
+    int is_same =
+        it && newer && dladdr(it, &of_it) && dladdr(newer, &of_newer) && of_it.dli_fbase == of_newer.dli_fbase;
+    dlerror();
+    return is_same ? newer : it;
+}
+#endif
 #endif

@@ -19,6 +19,9 @@
 #ifndef SYS_futex_waitv
 #define SYS_futex_waitv 449
 #endif
+#if !__GLIBC_PREREQ(2, 34)
+#define _Fork fork
+#endif
 
 #define UNUSED __attribute__((unused))
 

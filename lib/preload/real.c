@@ -1,6 +1,5 @@
 /* The C library's own functions, which are hidden by those of the same name here. */
 #include "mutex.h"
-#include <dlfcn.h>
 
 static void resolve(void);
 
@@ -13,5 +12,5 @@ PZ_MUTEX_FUNCTIONS(FIRST)
 #define SET_FIRST(result, name, parameters, arguments) .name = first_##name,
 struct real pre_real = {PZ_MUTEX_FUNCTIONS(SET_FIRST)};
 
-#define FIND(result, name, parameters, arguments) *(void **)&pre_real.name = dlsym(RTLD_NEXT, #name);
+#define FIND(result, name, parameters, arguments) *(void **)&pre_real.name = PZ_NEXT(#name);
 __attribute__((constructor)) static void resolve(void) { PZ_MUTEX_FUNCTIONS(FIND) }

@@ -1,7 +1,6 @@
 /* The functions beneath those of the same name here: the C library's, or those of a library that was loaded in front of
  * it, and libpazdrig's. */
 #include "recorder.h"
-#include <dlfcn.h>
 #include <stdio.h>
 #include <stdlib.h>
 
@@ -12,7 +11,7 @@ static struct real found;
  * time store the same values. */
 RARE const struct real *rec_resolve(void)
 {
-#define FIND(result, name, parameters, arguments) *(void **)&found.name = dlsym(RTLD_NEXT, #name);
+#define FIND(result, name, parameters, arguments) *(void **)&found.name = PZ_NEXT(#name);
     PZ_MUTEX_FUNCTIONS(FIND)
     PZ_OTHER_FUNCTIONS(FIND)
     PZ_LIBRARY_FUNCTIONS(FIND)

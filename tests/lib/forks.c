@@ -12,11 +12,7 @@ static struct {
     _Atomic int stop, destroyed;
 } * all;
 static pthread_key_t key;
-#if __GLIBC_PREREQ(2, 34)
 extern pid_t _Fork(void);
-#else
-#define _Fork fork
-#endif
 
 /* Locks, checks the owner, and keeps the mutex. Returns 0, or where it went wrong. */
 static int lock_and_keep(void)
