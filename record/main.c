@@ -5,24 +5,9 @@
 #include <string.h>
 #include <unistd.h>
 
-static const char usage[] =
-    "usage: pz-record [--over LIBRARY] [--last CALLS] [--limit MIB] [--clock tsc|counter] -o FILE PROGRAM [WORD..]\n"
-    "       pz-record --history FILE\n"
-    "       pz-record --names FILE\n"
-    "       pz-record -h | --help | --version\n";
 static const char help[] =
-    "The first form runs PROGRAM and records in FILE each call that it and its children make on robust, "
-    "process-shared\n"
-    "mutexes. The second prints FILE's history, which rfx-judge judges, and the third what the history's numbers "
-    "mean.\n"
-    "  --over LIBRARY  preloads another implementation of the pthread calls\n"
-    "  --last CALLS    keeps only the last CALLS calls of each thread (2 to 16777216)\n"
-    "  --limit MIB     the most that FILE may take (64 or more; 8192 if it isn't given)\n"
-    "  --clock CLOCK   what orders calls: the processors' time stamp counters, or a counter in FILE\n"
-    "  -o FILE         the recording; an older file of this name is replaced\n"
-    "Example: pz-record -o recording ./program && pz-record --history recording >history && rfx-judge history\n"
-    "The exit status is the program's, 128 and the signal's number if a signal killed it, 127 if it can't be run, or\n"
-    "125 if pz-record itself fails.\n";
+#include "help/pz-record.h"
+    ;
 
 enum { MIB = 1 << 20, LEAST_MIB = 64, USUAL_MIB = 8192, MOST_CALLS = 1 << 24 };
 
@@ -37,9 +22,11 @@ _Noreturn void rec_fail_with(int exit_status, const char *what, const char *why)
 }
 _Noreturn void rec_fail(const char *what, const char *why) { rec_fail_with(FAILED, what, why); }
 
+/* Prints the usage, which is a part of the help, up to an empty line. */
 static _Noreturn void misused(void)
 {
-    fputs(usage, stderr);
+    const char *usage = strstr(help, "usage: ");
+    fwrite(usage, 1, (size_t)(strstr(usage, "\n\n") + 1 - usage), stderr);
     exit(FAILED);
 }
 
@@ -98,9 +85,7 @@ static void give_help(const char *word)
     int is_version = !strcmp(word, "--version");
     if (strcmp(word, "-h") && strcmp(word, "--help") && !is_version)
         return;
-    fputs(is_version ? "pz-record " PZ_VERSION "\n" : usage, stdout);
-    if (!is_version)
-        fputs(help, stdout);
+    fputs(is_version ? "pz-record " PZ_VERSION "\n" : help, stdout);
     if (fflush(stdout) || ferror(stdout))
         rec_fail("standard output", "can't write");
     exit(0);
