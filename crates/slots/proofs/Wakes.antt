@@ -3,11 +3,12 @@ use Rattle.std.proofs.Common.{◌≡◌, inl, inr, ℕ, Bool, true, false, [], �
 use Rattle.std.specs.Prelude.{if◌then◌else◌, drop}
 use Rattle.stepprograms.specs.declared.access.Access.{Access}
 use Rattle.lockword.specs.Threads.{most_threads}
-use Rattle.memorymap.specs.Layouts.{cell_place, address_in, place_in}
+use Rattle.memorymap.specs.Layouts.{cell_place, counter_place, address_in, place_in}
 use Rattle.mutex.specs.declared.phase.Phase.{Phase}
 use Rattle.mutex.specs.Standings.{Whole}
 use Rattle.mutex.specs.Whole.{phase_access, whole_access}
 use Rattle.condvar.specs.declared.call.CondCall.{CondCall}
+use Rattle.condvar.specs.Calls.{condition_of}
 use Rattle.condvar.specs.declared.phase.CondPhase.{CondPhase}
 use Rattle.condvar.specs.Standings.{CondWhole}
 use Rattle.condvar.specs.Whole.{cond_access}
@@ -104,6 +105,20 @@ module _ (x : Slots) (t : ℕ) (c : Choice) (at : IsAtRow x t) where
       (ap (λ (a : After). a.state) (cond_goes x.machine t o p inv at.first at.last is) ∙ ap (λ (a : Access). done x.machine t a th) access)
       (subst (λ (a : Access). is_met x.machine.layout t a ≡ true) access step))
 
+  -- of a signal, on its condition variable
+  in_signal : (k n : ℕ) (r next : Row) (o : CondCall) (p : CondWhole) (f : CondPhase) → IsQuiet r → (x.machine.threads t).stage ≡ AtCondition o p → p.phase ≡ f → cond.phase_access p f ≡ Access.Wake p.counter n → condition_of o ≡ k
+      → AreEvents x t c r (record { access = Access.Wake (address_in x.machine.layout t (counter_place x.machine.layout k)) n; events = Step t ∷ []; next = next })
+  in_signal k n r next o p f quiet is phase wakes about =
+      let fits : FitsAt x.machine t (x.machine.threads t).held o p = fits_at x.machine t o p inv at.first at.last is in
+      let access : cond_access p ≡ Access.Wake p.counter n = ap (cond.phase_access p) phase ∙ wakes in
+      let address : p.counter ≡ address_in x.machine.layout t (counter_place x.machine.layout k) = fits.counter ∙ ap (λ (j : ℕ). address_in x.machine.layout t (counter_place x.machine.layout j)) about in
+      let th = thread_after x.machine t (cond_step x.machine t o p) in
+      let step = (cond_stepping x.machine t o p inv at.first at.last is).valid in
+      subst (λ (a : ℕ). AreEvents x t c r (record { access = Access.Wake a n; events = Step t ∷ []; next = next })) address
+      (wakes_so x t c r next quiet th p.counter n
+      (ap (λ (a : After). a.state) (cond_goes x.machine t o p inv at.first at.last is) ∙ ap (λ (a : Access). done x.machine t a th) access)
+      (subst (λ (a : Access). is_met x.machine.layout t a ≡ true) access step))
+
   wake_row : (r : Row) → StandsAs r (x.machine.threads t).stage → IsAboutIt x.machine.layout r (x.machine.threads t).stage → IsWake r → AreEvents x t c r (made x t c r)
   wake_row (Row.WakesAll m y) (inl (inl (p, is, phase))) about wake = in_call m most_threads (Row.WakesAll m y) (Row.Clears m y) _ p _ (record { awake = λ a. refl; slept = λ a. refl; turns = λ d a. refl }) is phase refl refl
   wake_row (Row.WakesAll m y) (inl (inr (inl (p, is, phase)))) about wake = in_call m most_threads (Row.WakesAll m y) (Row.Clears m y) _ p _ (record { awake = λ a. refl; slept = λ a. refl; turns = λ d a. refl }) is phase refl refl
@@ -112,6 +127,7 @@ module _ (x : Slots) (t : ℕ) (c : Choice) (at : IsAtRow x t) where
   wake_row (Row.HeirWakes k) (p, is, phase) about wake = in_call k.mutex most_threads (Row.HeirWakes k) (made x t c (Row.HeirWakes k)).next _ p _ (record { awake = λ a. refl; slept = λ a. refl; turns = λ d a. refl }) is phase refl refl
   wake_row (Row.WakesOne m (OfUnlock d) w) (p, is, phase) about wake = in_call m 1 (Row.WakesOne m (OfUnlock d) w) (made x t c (Row.WakesOne m (OfUnlock d) w)).next _ p _ (record { awake = λ a. refl; slept = λ a. refl; turns = λ d a. refl }) is phase refl refl
   wake_row (Row.WakesOne m (OfWait k n slept timed) w) (p, is, phase) about wake = in_wait m 1 (Row.WakesOne m (OfWait k n slept timed) w) (made x t c (Row.WakesOne m (OfWait k n slept timed) w)).next _ p _ (record { awake = λ a. refl; slept = λ a. refl; turns = λ d a. refl }) is phase refl (subst (IsAbout x.machine.layout m) is about)
+  wake_row (Row.CountWakes m k n) (p, is, phase) about wake = in_signal k 1 (Row.CountWakes m k n) (made x t c (Row.CountWakes m k n)).next _ p _ (record { awake = λ a. refl; slept = λ a. refl; turns = λ d a. refl }) is phase refl refl
   wake_row r there about wake = absurd wake
 
 pub wakes_are : WakesAreEvents

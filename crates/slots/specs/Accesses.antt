@@ -26,12 +26,19 @@ IsAbout l m g = Unit {0}
 
 -- at these rows, it is about the row's mutex
 abbrev pub IsAboutIt : Layout' → Row → Stage → Type 0
+IsAboutIt l (Row.Sees k) g = IsAbout l k.mutex g
 IsAboutIt l (Row.Takes k v) g = IsAbout l k.mutex g
+IsAboutIt l (Row.SeesAgain k v) g = IsAbout l k.mutex g
+IsAboutIt l (Row.SeesToSleep k) g = IsAbout l k.mutex g
+IsAboutIt l (Row.Marks k v n) g = IsAbout l k.mutex g
+IsAboutIt l (Row.SleepsOn k v) g = IsAbout l k.mutex g
 IsAboutIt l (Row.Asleep k) g = IsAbout l k.mutex g
 IsAboutIt l (Row.WaitAsleep m k timed) g = IsAbout l m g
 IsAboutIt l (Row.WakesAll m r) g = IsAbout l m g
 IsAboutIt l (Row.WakesOne m y is) g = IsAbout l m g
 IsAboutIt l (Row.Gives m y) g = IsAbout l m g
+IsAboutIt l (Row.AllMarks m k n) g = IsAbout l m g
+IsAboutIt l (Row.AllMoves m k n) g = IsAbout l m g
 IsAboutIt l r g = Unit {0}
 
 -- Thread t is alive and awake. In the machine, it is where its row says, in a call about the row's mutex
@@ -107,6 +114,7 @@ abbrev pub IsWake : Row → Type 0
 IsWake (Row.WakesAll m r) = Unit {0}
 IsWake (Row.HeirWakes k) = Unit {0}
 IsWake (Row.WakesOne m g is) = Unit {0}
+IsWake (Row.CountWakes m k n) = Unit {0}
 IsWake r = ⊥
 
 abbrev pub WakesAreEvents : Type 0

@@ -172,7 +172,7 @@ pub fn pending_again_is_no_event()
 {}
 
 /// A wake of one or of all that sleep on a cell is one Step of the machine: by an unlock, by a wait's release, and by a call
-/// that has found the mutex unusable.
+/// that has found the mutex unusable. So is a signal's wake of one that sleeps on a counter.
 pub fn wakes_are_events()
     ensures { WakesAreEvents }
 {}
