@@ -20,3 +20,8 @@ pub mod Takes
 pub mod TakeRows
 pub mod GiveRows
 pub mod Announcing
+pub mod Leading
+pub mod Chains
+pub mod Meets
+pub mod Refusals
+pub mod Decisions

@@ -65,7 +65,7 @@ misses_not x t c (Row.WaitSets m k n timed) miss = absurd miss
 misses_not x t c (Row.Unsets m k n) miss = absurd miss
 misses_not x t c r miss = record { awake = λ a. refl; slept = λ a. refl; turns = λ d a. refl }
 
-missed_words : (s : State) (t at e n : ℕ) → s.words (place_in s.layout t at) ≢ e → (p : ℕ) → words_after s t (Access.Exchange at e n) p ≡ s.words p
+pub missed_words : (s : State) (t at e n : ℕ) → s.words (place_in s.layout t at) ≢ e → (p : ℕ) → words_after s t (Access.Exchange at e n) p ≡ s.words p
 missed_words s t at e n other p = go (is_valid s.layout pl)
   where
     pl : ℕ

@@ -3,6 +3,8 @@ ghost use Rattle.slots.specs.Accesses.{AnnouncingRowsAreEvents, AwakeIsCleared, 
 ghost use Rattle.slots.specs.Accesses.{ClearingRowsAreEvents, ListRowsAreEvents, LooksAreEvents};
 ghost use Rattle.slots.specs.Accesses.{MissesAreNoEvents, PendingAgainIsNoEvent, ReleasesAreEvents};
 ghost use Rattle.slots.specs.Accesses.{TakesAreEvents, WakesAreEvents};
+ghost use Rattle.slots.specs.Further.{DecidingLooksAreEvents};
+ghost use Rattle.slots.specs.Further.{FirstLooksAreEvents};
 ghost use Rattle.slots.specs.Heirs.{DeathsLeaveAll, DeathsLeaveHeirs, OthersAnswerStill, OthersLeaveHeirs};
 ghost use Rattle.slots.specs.Heirs.{OthersLeaveWhatIsOwned, WalksLeaveAll, WalksLeaveHeirs};
 ghost use Rattle.slots.specs.Laws.{HeirsLetSpare, NobodyJoinsAFreeMutex, ReleasesTell, SlotsRunTheMachine};
@@ -204,4 +206,15 @@ pub fn releases_are_events()
 /// and before that the end of the last call, if that has still to clear what it had pending.
 pub fn announcing_rows_are_events()
     ensures { AnnouncingRowsAreEvents }
+{}
+
+/// A call's first look changes nothing, whatever it finds. If it refuses the call, it is a whole call of the machine.
+pub fn first_looks_are_events()
+    ensures { FirstLooksAreEvents }
+{}
+
+/// A look of a lock that decides changes nothing, whatever it finds: by a load, or by an exchange that finds another word
+/// than it expects. The machine's call looks too; or it sleeps and times out; or it ends, and another begins and looks.
+pub fn deciding_looks_are_events()
+    ensures { DecidingLooksAreEvents }
 {}

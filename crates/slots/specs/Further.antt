@@ -1,0 +1,65 @@
+-- More rows whose access is the events that the table has: whole rows, whatever the access finds, and several events.
+use Rattle.std.specs.Prelude.{ℕ, ◌≡◌, ◌≢◌, ◌<◌, ◌+◌, ◌*◌, true, false, [], length, slice_index}
+use Rattle.lockword.specs.Cells.{fields_of, waiters_alone}
+use Rattle.memorymap.specs.Layouts.{Layout', cell_place, counter_place}
+use Rattle.protocol.specs.Machine.{State}
+use Rattle.slots.specs.Places.{cell_of, slot_of}
+use Rattle.slots.specs.Rows.{Choice, How, Row}
+use Rattle.slots.specs.Rows.How.{Tried, Later, Waited}
+use Rattle.slots.specs.Rows.Giving.{OfUnlock, OfWait}
+use Rattle.slots.specs.Shown.{Slots, shown}
+use Rattle.slots.specs.Invariant.{fields_at, HasRoom, KnowsTurn}
+use Rattle.slots.specs.Laws.{IsEvents}
+use Rattle.slots.specs.Accesses.{IsAtRow}
+
+-- ---- a call's first look
+
+-- at these rows a call looks for the first time, and may be refused. A thread that owns 2,048 mutexes may not lock
+abbrev pub IsFirstLook : Slots → ℕ → Row → Type 0
+IsFirstLook x t (Row.Looks k) = (cell_of k.mutex < x.machine.layout.mutexes) × ((x.machine.threads t).held < 2048)
+IsFirstLook x t (Row.TryLooks m) = (cell_of m < x.machine.layout.mutexes) × ((x.machine.threads t).held < 2048)
+IsFirstLook x t (Row.GiveLooks m) = cell_of m < x.machine.layout.mutexes
+IsFirstLook x t (Row.MendLooks m) = cell_of m < x.machine.layout.mutexes
+IsFirstLook x t (Row.WaitLooks m k timed) = k < length x.machine.layout.conditions
+IsFirstLook x t (Row.WaitCounts m k timed died) = k < length x.machine.layout.conditions
+IsFirstLook x t (Row.CountLooks m k all) = k < length x.machine.layout.conditions
+IsFirstLook x t r = ⊥
+
+-- whatever it finds: a refused call is a whole call of the machine, and leaves memory as it was
+abbrev pub FirstLooksAreEvents : Type 0
+FirstLooksAreEvents = (x : Slots) (t : ℕ) (c : Choice) → IsAtRow x t → IsFirstLook x t (x.rows t) → IsEvents x t c
+
+-- ---- a look that decides
+
+-- memory shows another word of mutex k of the machine than v
+abbrev pub FindsOther : Slots → ℕ → ℕ → Type 0
+FindsOther x k v = shown x (cell_place x.machine.layout k) ≢ v
+
+-- a lock that looks at the cell, or begins again and then looks: its mutex is the layout's, and it may take one
+pub record MayTake (x : Slots) (t m : ℕ) : Type 0 where
+  pub inside : cell_of m < x.machine.layout.mutexes
+  pub room : (x.machine.threads t).held < 2048
+
+-- the lock that ends a wait keeps away from the slot
+abbrev pub GoesToSlot : How → Type 0
+GoesToSlot Tried = Unit {0}
+GoesToSlot Later = Unit {0}
+GoesToSlot (Waited z) = ⊥
+
+-- at these rows a lock looks, by a load or by an exchange that finds another word than it expects. An heir doesn't own
+-- the cell when it looks for the last time
+abbrev pub IsDeciding : Slots → ℕ → Row → Type 0
+IsDeciding x t (Row.Sees k) = MayTake x t k.mutex
+IsDeciding x t (Row.SeesToSleep k) = MayTake x t k.mutex
+IsDeciding x t (Row.SeesAgain k v) = MayTake x t k.mutex × GoesToSlot k.how
+IsDeciding x t (Row.LastLooks k) = MayTake x t k.mutex × ((fields_at x.machine (cell_of k.mutex)).owner ≢ t)
+IsDeciding x t (Row.Takes k v) = MayTake x t k.mutex × FindsOther x (cell_of k.mutex) v
+IsDeciding x t (Row.Marks k v n) = MayTake x t k.mutex × FindsOther x (cell_of k.mutex) v
+IsDeciding x t (Row.TryTakes m v) = MayTake x t m × FindsOther x (cell_of m) v
+IsDeciding x t (Row.SlotTakes k g) = (slot_of k.mutex < x.machine.layout.mutexes) × FindsOther x (slot_of k.mutex) g
+IsDeciding x t r = ⊥
+
+-- whatever it finds: the machine's call looks, or sleeps and times out, or begins again and then looks; and memory and
+-- queues stay as they are
+abbrev pub DecidingLooksAreEvents : Type 0
+DecidingLooksAreEvents = (x : Slots) (t : ℕ) (c : Choice) → IsAtRow x t → IsDeciding x t (x.rows t) → IsEvents x t c
