@@ -25,3 +25,4 @@ pub mod Chains
 pub mod Meets
 pub mod Refusals
 pub mod Decisions
+pub mod Releasing

@@ -12,6 +12,31 @@ use Rattle.slots.specs.Invariant.{fields_at, HasRoom, KnowsTurn}
 use Rattle.slots.specs.Laws.{IsEvents}
 use Rattle.slots.specs.Accesses.{IsAtRow}
 
+-- ---- an unlock or a wait that releases
+
+-- condition variable k is the layout's, and its mutex is cell m
+pub record IsOfCell (l : Layout') (m k : ℕ) : Type 0 where
+  pub inside : k < length l.conditions
+  pub cell : slice_index l.conditions k ≡ cell_of m
+
+-- thread t owns mutex k, which is one of the layout
+pub record OwnsInside (s : State) (t k : ℕ) : Type 0 where
+  pub inside : k < s.layout.mutexes
+  pub owner : (fields_at s k).owner ≡ t
+
+-- at these rows a release is announced: the thread owns the slot, or the cell; and a wait's mutex is consistent
+abbrev pub IsToRelease : Slots → ℕ → Row → Type 0
+IsToRelease x t (Row.Frees k f) = OwnsInside x.machine t (slot_of k.mutex)
+IsToRelease x t (Row.GivePends m (OfUnlock d)) = OwnsInside x.machine t (cell_of m)
+IsToRelease x t (Row.GivePends m (OfWait k n slept timed)) =
+    IsOfCell x.machine.layout m k × OwnsInside x.machine t (cell_of m) × ((fields_at x.machine (cell_of m)).died ≡ false)
+IsToRelease x t r = ⊥
+
+-- the store is the beginning of the unlock or the wait, its looks at the mutex's word and at the counter, and its announcement;
+-- and before that the end of the last call, if that has still to clear what it had pending
+abbrev pub AnnouncedReleasesAreEvents : Type 0
+AnnouncedReleasesAreEvents = (x : Slots) (t : ℕ) (c : Choice) → IsAtRow x t → IsToRelease x t (x.rows t) → IsEvents x t c
+
 -- ---- a call's first look
 
 -- at these rows a call looks for the first time, and may be refused. A thread that owns 2,048 mutexes may not lock

@@ -3,6 +3,7 @@ ghost use Rattle.slots.specs.Accesses.{AnnouncingRowsAreEvents, AwakeIsCleared, 
 ghost use Rattle.slots.specs.Accesses.{ClearingRowsAreEvents, ListRowsAreEvents, LooksAreEvents};
 ghost use Rattle.slots.specs.Accesses.{MissesAreNoEvents, PendingAgainIsNoEvent, ReleasesAreEvents};
 ghost use Rattle.slots.specs.Accesses.{TakesAreEvents, WakesAreEvents};
+ghost use Rattle.slots.specs.Further.{AnnouncedReleasesAreEvents};
 ghost use Rattle.slots.specs.Further.{DecidingLooksAreEvents};
 ghost use Rattle.slots.specs.Further.{FirstLooksAreEvents};
 ghost use Rattle.slots.specs.Heirs.{DeathsLeaveAll, DeathsLeaveHeirs, OthersAnswerStill, OthersLeaveHeirs};
@@ -206,6 +207,13 @@ pub fn releases_are_events()
 /// and before that the end of the last call, if that has still to clear what it had pending.
 pub fn announcing_rows_are_events()
     ensures { AnnouncingRowsAreEvents }
+{}
+
+/// A store by which an unlock of a cell or of a slot makes its entry pending is several events of the machine: the unlock
+/// begins, looks at the mutex's word, finds that its thread is the owner, and announces the mutex. A wait looks at its
+/// counter, too.
+pub fn announced_releases_are_events()
+    ensures { AnnouncedReleasesAreEvents }
 {}
 
 /// A call's first look changes nothing, whatever it finds. If it refuses the call, it is a whole call of the machine.

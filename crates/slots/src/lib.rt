@@ -27,13 +27,14 @@
 mod laws;
 
 pub use laws::{
-    announcing_is_one_store, announcing_rows_are_events, awake_is_cleared, awake_is_set,
-    clearing_rows_are_events, deaths_leave_all, deaths_leave_heirs, deciding_looks_are_events,
-    first_looks_are_events, giving_up_is_a_look, giving_up_leaves_nothing, heir_takes_are_events,
-    heirs_go_on, heirs_let_spare, last_looks_are_events, list_rows_are_events, looks_are_events,
-    misses_are_no_events, nobody_joins_a_free_mutex, others_answer_still, others_leave_heirs,
-    others_leave_what_is_owned, pending_again_is_no_event, releases_are_events, releases_tell,
-    slots_run_the_machine, standing_heirs_answer, takes_are_events, takes_are_one_exchange,
-    takes_are_the_exchange, trims_are_the_machines, turns_stay_known, turns_stay_known_by_all,
-    wakes_are_events, wakes_of_nobody_tell, walks_leave_all, walks_leave_heirs,
+    announced_releases_are_events, announcing_is_one_store, announcing_rows_are_events,
+    awake_is_cleared, awake_is_set, clearing_rows_are_events, deaths_leave_all, deaths_leave_heirs,
+    deciding_looks_are_events, first_looks_are_events, giving_up_is_a_look,
+    giving_up_leaves_nothing, heir_takes_are_events, heirs_go_on, heirs_let_spare,
+    last_looks_are_events, list_rows_are_events, looks_are_events, misses_are_no_events,
+    nobody_joins_a_free_mutex, others_answer_still, others_leave_heirs, others_leave_what_is_owned,
+    pending_again_is_no_event, releases_are_events, releases_tell, slots_run_the_machine,
+    standing_heirs_answer, takes_are_events, takes_are_one_exchange, takes_are_the_exchange,
+    trims_are_the_machines, turns_stay_known, turns_stay_known_by_all, wakes_are_events,
+    wakes_of_nobody_tell, walks_leave_all, walks_leave_heirs,
 };
