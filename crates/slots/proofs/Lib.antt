@@ -26,3 +26,5 @@ pub mod Meets
 pub mod Refusals
 pub mod Decisions
 pub mod Releasing
+pub mod Sleeping
+pub mod Moving

@@ -88,3 +88,38 @@ IsDeciding x t r = ⊥
 -- queues stay as they are
 abbrev pub DecidingLooksAreEvents : Type 0
 DecidingLooksAreEvents = (x : Slots) (t : ℕ) (c : Choice) → IsAtRow x t → IsDeciding x t (x.rows t) → IsEvents x t c
+
+-- ---- a sleep
+
+-- in the word v that thread t has seen, another thread owns the mutex, and WAITERS is set
+pub record SeesAnother (t v : ℕ) : Type 0 where
+  pub some : (fields_of v).owner ≢ 0
+  pub other : (fields_of v).owner ≢ t
+  pub waiters : (fields_of v).waiters ≡ true
+
+abbrev pub IsSleeping : Slots → ℕ → Row → Type 0
+IsSleeping x t (Row.SleepsOn k v) = MayTake x t k.mutex × SeesAnother t v
+IsSleeping x t (Row.WaitSleeps m k n timed) = Unit {0}
+IsSleeping x t r = ⊥
+
+-- a sleep on the cell or on a counter, whether it comes or not
+abbrev pub SleepsAreEvents : Type 0
+SleepsAreEvents = (x : Slots) (t : ℕ) (c : Choice) → IsAtRow x t → IsSleeping x t (x.rows t) → IsEvents x t c
+
+-- ---- a broadcast's move, and a wake that is spared
+
+abbrev pub IsMoving : Row → Type 0
+IsMoving (Row.AllMoves m k n) = Unit {0}
+IsMoving r = ⊥
+
+-- all who sleep on the counter come to sleep on the cell, if the count is still as it was left
+abbrev pub MovesAreEvents : Type 0
+MovesAreEvents = (x : Slots) (t : ℕ) (c : Choice) → IsAtRow x t → IsMoving (x.rows t) → IsEvents x t c
+
+abbrev pub IsHanding : Row → Type 0
+IsHanding (Row.HandsOn m g is) = Unit {0}
+IsHanding r = ⊥
+
+-- a look at the slot after a release changes nothing, whether the wake is left to the heir or not
+abbrev pub SparesAreEvents : Type 0
+SparesAreEvents = (x : Slots) (t : ℕ) (c : Choice) → IsAtRow x t → IsHanding (x.rows t) → IsEvents x t c

@@ -6,6 +6,9 @@ ghost use Rattle.slots.specs.Accesses.{TakesAreEvents, WakesAreEvents};
 ghost use Rattle.slots.specs.Further.{AnnouncedReleasesAreEvents};
 ghost use Rattle.slots.specs.Further.{DecidingLooksAreEvents};
 ghost use Rattle.slots.specs.Further.{FirstLooksAreEvents};
+ghost use Rattle.slots.specs.Further.{MovesAreEvents};
+ghost use Rattle.slots.specs.Further.{SleepsAreEvents};
+ghost use Rattle.slots.specs.Further.{SparesAreEvents};
 ghost use Rattle.slots.specs.Heirs.{DeathsLeaveAll, DeathsLeaveHeirs, OthersAnswerStill, OthersLeaveHeirs};
 ghost use Rattle.slots.specs.Heirs.{OthersLeaveWhatIsOwned, WalksLeaveAll, WalksLeaveHeirs};
 ghost use Rattle.slots.specs.Laws.{HeirsLetSpare, NobodyJoinsAFreeMutex, ReleasesTell, SlotsRunTheMachine};
@@ -225,4 +228,19 @@ pub fn first_looks_are_events()
 /// than it expects. The machine's call looks too; or it sleeps and times out; or it ends, and another begins and looks.
 pub fn deciding_looks_are_events()
     ensures { DecidingLooksAreEvents }
+{}
+
+/// A sleep on a cell or on a counter is the machine's, whether the word is as expected or not.
+pub fn sleeps_are_events()
+    ensures { SleepsAreEvents }
+{}
+
+/// A broadcast's move of all that sleep on a counter is one Step of the machine.
+pub fn moves_are_events()
+    ensures { MovesAreEvents }
+{}
+
+/// After a release, a look at the slot changes nothing, whether it leaves the wake to the heir or not.
+pub fn spares_are_events()
+    ensures { SparesAreEvents }
 {}
