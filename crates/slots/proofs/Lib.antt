@@ -28,3 +28,5 @@ pub mod Decisions
 pub mod Releasing
 pub mod Sleeping
 pub mod Moving
+pub mod Marking
+pub mod Mending

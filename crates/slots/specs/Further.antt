@@ -123,3 +123,67 @@ IsHanding r = ⊥
 -- a look at the slot after a release changes nothing, whether the wake is left to the heir or not
 abbrev pub SparesAreEvents : Type 0
 SparesAreEvents = (x : Slots) (t : ℕ) (c : Choice) → IsAtRow x t → IsHanding (x.rows t) → IsEvents x t c
+
+-- ---- WAITERS is set
+
+-- memory shows the word v of mutex m's cell, which another thread owns, without WAITERS
+pub record SeesUnmarked (x : Slots) (t m v : ℕ) : Type 0 where
+  pub found : shown x (cell_place x.machine.layout (cell_of m)) ≡ v
+  pub some : (fields_of v).owner ≢ 0
+  pub other : (fields_of v).owner ≢ t
+  pub waiters : (fields_of v).waiters ≡ false
+
+abbrev pub IsMarking : Slots → ℕ → Row → Type 0
+IsMarking x t (Row.Marks k v n) = MayTake x t k.mutex × SeesUnmarked x t k.mutex v
+IsMarking x t (Row.LastMarks k v) = MayTake x t k.mutex × SeesUnmarked x t k.mutex v
+IsMarking x t (Row.AllMarks m k n) = Unit {0}
+IsMarking x t r = ⊥
+
+-- the exchange of a lock that finds the word that it expects, and the operation of a broadcast: the word is the same with
+-- WAITERS, and queues stay. A lock of the machine sets WAITERS, sleeps and times out, or is about to sleep
+abbrev pub MarksAreEvents : Type 0
+MarksAreEvents = (x : Slots) (t : ℕ) (c : Choice) → IsAtRow x t → IsMarking x t (x.rows t) → IsEvents x t c
+
+-- ---- a mutex is declared consistent, is reinitialised, or loses WAITERS
+
+-- thread t owns mutex k, which is marked. The word has 64 bits: in the machine no more than its lower half is used, and
+-- what is above AWAKE has 31 bits
+pub record OwnsMarked (x : Slots) (t k : ℕ) : Type 0 where
+  pub inside : k < x.machine.layout.mutexes
+  pub owner : (fields_at x.machine k).owner ≡ t
+  pub died : (fields_at x.machine k).died ≡ true
+  pub small : x.machine.words (cell_place x.machine.layout k) < 0x1_0000_0000
+  pub few : x.turns k < 0x8000_0000
+
+-- memory shows the word v of mutex k, which is unusable, and has no OWNER_DIED
+pub record FindsUnusable (x : Slots) (k v : ℕ) : Type 0 where
+  pub inside : k < x.machine.layout.mutexes
+  pub found : shown x (cell_place x.machine.layout k) ≡ v
+  pub unusable : (fields_of v).unusable ≡ true
+  pub died : (fields_at x.machine k).died ≡ false
+  pub room : HasRoom x.machine k
+
+abbrev pub IsMending : Slots → ℕ → Row → Type 0
+IsMending x t (Row.SlotMends k) = OwnsMarked x t (slot_of k.mutex)
+IsMending x t (Row.Mends m) = OwnsMarked x t (cell_of m)
+IsMending x t (Row.Anews m v) = FindsUnusable x (cell_of m) v
+IsMending x t r = ⊥
+
+abbrev pub MendsAreEvents : Type 0
+MendsAreEvents = (x : Slots) (t : ℕ) (c : Choice) → IsAtRow x t → IsMending x t (x.rows t) → IsEvents x t c
+
+-- The call's release left WAITERS alone, with the turn of then; it knows what it does of the turn since
+pub record KnowsItsWord (x : Slots) (m is : ℕ) : Type 0 where
+  pub inside : cell_of m < x.machine.layout.mutexes
+  pub room : HasRoom x.machine (cell_of m)
+  pub knows : KnowsTurn x (Row.Trims m is)
+  pub turn : ℕ
+  pub left : is ≡ waiters_alone + turn * 0x2_0000_0000
+
+abbrev pub IsTrimming : Slots → Row → Type 0
+IsTrimming x (Row.Trims m is) = KnowsItsWord x m is
+IsTrimming x r = ⊥
+
+-- the exchange is the machine's trim, which clears the word, or is declined
+abbrev pub TrimsAreEvents : Type 0
+TrimsAreEvents = (x : Slots) (t : ℕ) (c : Choice) → IsAtRow x t → IsTrimming x (x.rows t) → IsEvents x t c

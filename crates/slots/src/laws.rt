@@ -6,9 +6,12 @@ ghost use Rattle.slots.specs.Accesses.{TakesAreEvents, WakesAreEvents};
 ghost use Rattle.slots.specs.Further.{AnnouncedReleasesAreEvents};
 ghost use Rattle.slots.specs.Further.{DecidingLooksAreEvents};
 ghost use Rattle.slots.specs.Further.{FirstLooksAreEvents};
+ghost use Rattle.slots.specs.Further.{MarksAreEvents};
+ghost use Rattle.slots.specs.Further.{MendsAreEvents};
 ghost use Rattle.slots.specs.Further.{MovesAreEvents};
 ghost use Rattle.slots.specs.Further.{SleepsAreEvents};
 ghost use Rattle.slots.specs.Further.{SparesAreEvents};
+ghost use Rattle.slots.specs.Further.{TrimsAreEvents};
 ghost use Rattle.slots.specs.Heirs.{DeathsLeaveAll, DeathsLeaveHeirs, OthersAnswerStill, OthersLeaveHeirs};
 ghost use Rattle.slots.specs.Heirs.{OthersLeaveWhatIsOwned, WalksLeaveAll, WalksLeaveHeirs};
 ghost use Rattle.slots.specs.Laws.{HeirsLetSpare, NobodyJoinsAFreeMutex, ReleasesTell, SlotsRunTheMachine};
@@ -230,6 +233,12 @@ pub fn deciding_looks_are_events()
     ensures { DecidingLooksAreEvents }
 {}
 
+/// An exchange of a lock that finds the word that it expects, of a mutex that another thread owns, sets WAITERS as the
+/// machine's lock does. That lock then sleeps and times out, or is about to sleep. A broadcast sets WAITERS by one Step.
+pub fn marks_are_events()
+    ensures { MarksAreEvents }
+{}
+
 /// A sleep on a cell or on a counter is the machine's, whether the word is as expected or not.
 pub fn sleeps_are_events()
     ensures { SleepsAreEvents }
@@ -243,4 +252,16 @@ pub fn moves_are_events()
 /// After a release, a look at the slot changes nothing, whether it leaves the wake to the heir or not.
 pub fn spares_are_events()
     ensures { SparesAreEvents }
+{}
+
+/// Clearing OWNER_DIED of a cell or of a slot is the machine's consistent, and the exchange that makes a cell usable is its
+/// remake.
+pub fn mends_are_events()
+    ensures { MendsAreEvents }
+{}
+
+/// The exchange that is to clear WAITERS after a release is the machine's trim, if it finds the word that the release left;
+/// if not, the machine declines its trim.
+pub fn trims_are_events()
+    ensures { TrimsAreEvents }
 {}
