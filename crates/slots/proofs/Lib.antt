@@ -30,3 +30,4 @@ pub mod Sleeping
 pub mod Moving
 pub mod Marking
 pub mod Mending
+pub mod Counting

@@ -187,3 +187,30 @@ IsTrimming x r = ⊥
 -- the exchange is the machine's trim, which clears the word, or is declined
 abbrev pub TrimsAreEvents : Type 0
 TrimsAreEvents = (x : Slots) (t : ℕ) (c : Choice) → IsAtRow x t → IsTrimming x (x.rows t) → IsEvents x t c
+
+-- ---- counters
+
+-- condition variable k is the layout's, and in the machine its counter says n
+pub record SaysCount (x : Slots) (k n : ℕ) : Type 0 where
+  pub inside : k < length x.machine.layout.conditions
+  pub says : x.machine.words (counter_place x.machine.layout k) ≡ n
+
+-- A signal or broadcast is about to count. It has seen the counter's word, whose count isn't the largest; and without SLEPT
+-- nobody sleeps there
+pub record MayCount (x : Slots) (t m k n : ℕ) : Type 0 where
+  pub inside : k < length x.machine.layout.conditions
+  pub cell : slice_index x.machine.layout.conditions k ≡ cell_of m
+  pub owns : OwnsInside x.machine t (cell_of m)
+  pub found : shown x (counter_place x.machine.layout k) ≡ n
+  pub few : x.machine.words (counter_place x.machine.layout k) < 0xffff_ffff
+  pub quiet : x.slept k ≡ false → x.machine.queues (counter_place x.machine.layout k) ≡ []
+
+abbrev pub IsCounting : Slots → ℕ → Row → Type 0
+IsCounting x t (Row.WaitSets m k n timed) = SaysCount x k n
+IsCounting x t (Row.Counts m k all n) = MayCount x t m k n
+IsCounting x t (Row.Unsets m k n) = SaysCount x k n
+IsCounting x t r = ⊥
+
+-- a store of the counter's word is a count, by a signal or a broadcast of the machine, or changes SLEPT alone
+abbrev pub CountsAreEvents : Type 0
+CountsAreEvents = (x : Slots) (t : ℕ) (c : Choice) → IsAtRow x t → IsCounting x t (x.rows t) → IsEvents x t c

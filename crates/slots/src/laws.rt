@@ -3,15 +3,9 @@ ghost use Rattle.slots.specs.Accesses.{AnnouncingRowsAreEvents, AwakeIsCleared, 
 ghost use Rattle.slots.specs.Accesses.{ClearingRowsAreEvents, ListRowsAreEvents, LooksAreEvents};
 ghost use Rattle.slots.specs.Accesses.{MissesAreNoEvents, PendingAgainIsNoEvent, ReleasesAreEvents};
 ghost use Rattle.slots.specs.Accesses.{TakesAreEvents, WakesAreEvents};
-ghost use Rattle.slots.specs.Further.{AnnouncedReleasesAreEvents};
-ghost use Rattle.slots.specs.Further.{DecidingLooksAreEvents};
-ghost use Rattle.slots.specs.Further.{FirstLooksAreEvents};
-ghost use Rattle.slots.specs.Further.{MarksAreEvents};
-ghost use Rattle.slots.specs.Further.{MendsAreEvents};
-ghost use Rattle.slots.specs.Further.{MovesAreEvents};
-ghost use Rattle.slots.specs.Further.{SleepsAreEvents};
-ghost use Rattle.slots.specs.Further.{SparesAreEvents};
-ghost use Rattle.slots.specs.Further.{TrimsAreEvents};
+ghost use Rattle.slots.specs.Further.{AnnouncedReleasesAreEvents, CountsAreEvents, DecidingLooksAreEvents};
+ghost use Rattle.slots.specs.Further.{FirstLooksAreEvents, MarksAreEvents, MendsAreEvents, MovesAreEvents};
+ghost use Rattle.slots.specs.Further.{SleepsAreEvents, SparesAreEvents, TrimsAreEvents};
 ghost use Rattle.slots.specs.Heirs.{DeathsLeaveAll, DeathsLeaveHeirs, OthersAnswerStill, OthersLeaveHeirs};
 ghost use Rattle.slots.specs.Heirs.{OthersLeaveWhatIsOwned, WalksLeaveAll, WalksLeaveHeirs};
 ghost use Rattle.slots.specs.Laws.{HeirsLetSpare, NobodyJoinsAFreeMutex, ReleasesTell, SlotsRunTheMachine};
@@ -264,4 +258,9 @@ pub fn mends_are_events()
 /// if not, the machine declines its trim.
 pub fn trims_are_events()
     ensures { TrimsAreEvents }
+{}
+
+/// A store of a counter's word is a count of the machine's signal or broadcast, or sets or clears SLEPT.
+pub fn counts_are_events()
+    ensures { CountsAreEvents }
 {}

@@ -7,11 +7,15 @@
 //! (`specs/Shown.antt`). What can happen between accesses is in `specs/Runs.antt`.
 //!
 //! - *Runs*: `slots_run_the_machine`, so every law of `protocol` holds here.
-//! - *Rows whose access is their events*: all loads without events (`looks_are_events`); exchanges that find another word,
-//!   without events (`misses_are_no_events`); exchanges that take (`takes_are_events`); releases (`releases_are_events`);
-//!   accesses of a thread's list (`list_rows_are_events`); stores of the pending word (`announcing_rows_are_events`,
-//!   `clearing_rows_are_events`, `pending_again_is_no_event`); wakes (`wakes_are_events`); AWAKE (`awake_is_set`, `awake_is_cleared`); an heir's exchange
-//!   and its last look (`heir_takes_are_events`, `last_looks_are_events`).
+//! - *Rows whose access is their events*: loads without events (`looks_are_events`), a call's first look
+//!   (`first_looks_are_events`), looks of locks that decide (`deciding_looks_are_events`), an heir's last look
+//!   (`last_looks_are_events`), and a look at the slot after a release (`spares_are_events`); exchanges that find another
+//!   word, without events (`misses_are_no_events`), that take (`takes_are_events`, `heir_takes_are_events`), that set
+//!   WAITERS (`marks_are_events`) and that are to clear it (`trims_are_events`); releases (`releases_are_events`);
+//!   consistent and reinit (`mends_are_events`); accesses of a thread's list (`list_rows_are_events`); stores of the
+//!   pending word (`announcing_rows_are_events`, `announced_releases_are_events`, `clearing_rows_are_events`,
+//!   `pending_again_is_no_event`); sleeps (`sleeps_are_events`), wakes (`wakes_are_events`) and moves
+//!   (`moves_are_events`); counters (`counts_are_events`); AWAKE (`awake_is_set`, `awake_is_cleared`).
 //! - *Several events at one moment*: `giving_up_leaves_nothing`, `giving_up_is_a_look`, `takes_are_one_exchange`,
 //!   `takes_are_the_exchange`, `announcing_is_one_store`.
 //! - *The turn*: `trims_are_the_machines`, with `releases_tell`, `wakes_of_nobody_tell`, `turns_stay_known`,
@@ -20,16 +24,17 @@
 //!   `others_leave_heirs`, `others_leave_what_is_owned`, `others_answer_still`, `deaths_leave_heirs`, `deaths_leave_all`,
 //!   `walks_leave_heirs`, `walks_leave_all`.
 //!
-//! The laws of rows name what they assume: where the machine's thread is (`specs/Stands.antt`), and what a word doesn't
-//! have. The crate doesn't prove that every run keeps these assumptions, nor that every row is its events.
+//! So each row has its law, whatever its access finds. The laws of rows name what they assume: where the machine's thread
+//! is (`specs/Stands.antt`), what its call knows, and what a word doesn't have. The crate doesn't prove that every run
+//! keeps these assumptions (`UNPROVED.md`).
 #![tactic(auto)]
 
 mod laws;
 
 pub use laws::{
     announced_releases_are_events, announcing_is_one_store, announcing_rows_are_events,
-    awake_is_cleared, awake_is_set, clearing_rows_are_events, deaths_leave_all, deaths_leave_heirs,
-    deciding_looks_are_events, first_looks_are_events, giving_up_is_a_look,
+    awake_is_cleared, awake_is_set, clearing_rows_are_events, counts_are_events, deaths_leave_all,
+    deaths_leave_heirs, deciding_looks_are_events, first_looks_are_events, giving_up_is_a_look,
     giving_up_leaves_nothing, heir_takes_are_events, heirs_go_on, heirs_let_spare,
     last_looks_are_events, list_rows_are_events, looks_are_events, marks_are_events,
     mends_are_events, misses_are_no_events, moves_are_events, nobody_joins_a_free_mutex,
