@@ -72,7 +72,7 @@ module _ (x : Slots) (t : ℕ) (c : Choice) (at : IsAtRow x t) where
   to_look k Later (p, is, phase) about = is_pending k.mutex _ p _ is phase refl refl
   to_look k (Waited z) (o, p, is, of, acts, phase) about = is_pending k.mutex _ p _ is phase (subst (IsAbout x.machine.layout k.mutex) is about) refl
 
-  again_row : (r : Row) → StandsAs r (x.machine.threads t).stage → IsAboutIt x.machine.layout r (x.machine.threads t).stage → IsPendingAgain r → AreEvents x t c r (made x t c r)
+  pub again_row : (r : Row) → StandsAs r (x.machine.threads t).stage → IsAboutIt x.machine.layout r (x.machine.threads t).stage → IsPendingAgain r → AreEvents x t c r (made x t c r)
   again_row (Row.Asleep k) there about again = again_so k.mutex (Row.Asleep k) (Row.Sees k) (record { awake = λ a. refl; slept = λ a. refl; turns = λ d a. refl }) (to_look k k.how there about)
   again_row (Row.Late k) (p, is, phase) about again = again_so k.mutex (Row.Late k) (Row.LateSees k) (record { awake = λ a. refl; slept = λ a. refl; turns = λ d a. refl }) (is_pending k.mutex _ p _ is phase refl refl)
   again_row (Row.HeirPends k Again) (p, is, phase) about again = again_so k.mutex (Row.HeirPends k Again) (Row.HeirSets k) (record { awake = λ a. refl; slept = λ a. refl; turns = λ d a. refl }) (is_pending k.mutex _ p _ is phase refl refl)

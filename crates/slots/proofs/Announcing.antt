@@ -216,7 +216,7 @@ module _ (x : Slots) (t : ℕ) (c : Choice) (at : IsAtRow x t) (room : (x.machin
   through k g Later inside (p, is, phase) = from_call x t c at (slot_of k.mutex) inside room (Row.SlotPends k g) (Row.SlotTakes k g) false _ p _ (record { awake = λ a. refl; slept = λ a. refl; turns = λ d a. refl }) is phase
   through k g (Waited z) inside never = absurd never
 
-  announcing_row : (r : Row) → StandsAs r (x.machine.threads t).stage → IsAnnouncing x r → AreEvents x t c r (made x t c r)
+  pub announcing_row : (r : Row) → StandsAs r (x.machine.threads t).stage → IsAnnouncing x r → AreEvents x t c r (made x t c r)
   announcing_row (Row.Pends k v) is inside = from_rest x t c at (cell_of k.mutex) inside room (Row.Pends k v) (made x t c (Row.Pends k v)).next false (record { awake = λ a. refl; slept = λ a. refl; turns = λ d a. refl }) is
   announcing_row (Row.TryPends m v) is inside = from_rest x t c at (cell_of m) inside room (Row.TryPends m v) (made x t c (Row.TryPends m v)).next false (record { awake = λ a. refl; slept = λ a. refl; turns = λ d a. refl }) is
   announcing_row (Row.SlotPends k g) there inside = through k g k.how inside there

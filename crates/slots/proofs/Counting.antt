@@ -252,7 +252,7 @@ module _ (x : Slots) (t : ℕ) (c : Choice) (at : IsAtRow x t) where
     counts_so is false true e = count_so (Row.CountWakes m k (counted x t c n % 2 ^ 32)) false _ _ (signals is)
     counts_so is true true e = count_so (Row.AllMarks m k (counted x t c n % 2 ^ 32)) true _ _ (broadcasts is)
 
-  count_row : (r : Row) → StandsAs r (z.threads t).stage → IsCounting x t r → AreEvents x t c r (made x t c r)
+  pub count_row : (r : Row) → StandsAs r (z.threads t).stage → IsCounting x t r → AreEvents x t c r (made x t c r)
   count_row (Row.WaitSets m k n timed) there says = slept_so k n says (Row.WaitSets m k n timed) (finds_row x t c m (OfWait k n true timed)) true (n + slept_bit) refl refl refl refl
   count_row (Row.Unsets m k n) there says = slept_so k n says (Row.Unsets m k n) Row.Rests false n refl refl refl (let e : n + 0 ≡ n = omega arith in e)
   count_row (Row.Counts m k all n) is may = subst (λ (b : Bool). AreEvents x t c (Row.Counts m k all n) (makes (Access.Store (counter_in z.layout t k) (counted x t c n)) (count_begins x t c k all b) (counted_row x t c m k all b (counted x t c n % 2 ^ 32)))) (sym (shows m k n may)) (counts_so m k n may is all (x.slept k) refl)

@@ -209,7 +209,7 @@ module _ (x : Slots) (t : ℕ) (c : Choice) (at : IsAtRow x t) where
   other_test : (k v : ℕ) → FindsOther x k v → (shown x (cell_place z.layout k) == v) ≡ false
   other_test k v other = not_equal (shown x (cell_place z.layout k)) v other
 
-  deciding_row : (r : Row) → StandsAs r (z.threads t).stage → IsAboutIt z.layout r (z.threads t).stage → IsDeciding x t r → AreEvents x t c r (made x t c r)
+  pub deciding_row : (r : Row) → StandsAs r (z.threads t).stage → IsAboutIt z.layout r (z.threads t).stage → IsDeciding x t r → AreEvents x t c r (made x t c r)
   deciding_row (Row.Sees k) there about may = silent (Row.Sees k) (seen_row t k (word k.mutex)) _ (Access.Load (cell_in z.layout t (cell_of k.mutex))) (record { awake = λ a. refl; slept = λ a. refl; turns = λ d a. refl }) (to_look k.mutex k k.how refl may there about) (load_idles x t (cell_in z.layout t (cell_of k.mutex)))
   deciding_row (Row.SeesToSleep k) there about may = silent (Row.SeesToSleep k) (seen_to_sleep k (word k.mutex)) _ (Access.Load (cell_in z.layout t (cell_of k.mutex))) (record { awake = λ a. refl; slept = λ a. refl; turns = λ d a. refl }) (to_look k.mutex k k.how refl may there about) (load_idles x t (cell_in z.layout t (cell_of k.mutex)))
   deciding_row (Row.SeesAgain k v) there about (may, goes) = silent (Row.SeesAgain k v) (seen_row t k (word k.mutex)) _ (Access.Load (cell_in z.layout t (cell_of k.mutex))) (record { awake = λ a. refl; slept = λ a. refl; turns = λ d a. refl }) (seen_again k.mutex v k k.how refl may (fields_of v).waiters refl there goes) (load_idles x t (cell_in z.layout t (cell_of k.mutex)))

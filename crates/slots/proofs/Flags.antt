@@ -93,7 +93,7 @@ module _ (x : Slots) (t m : ℕ) (a : IsInLayout x.machine t (slot_of m)) where
           ∙ sym (changes (memory x) t pl (Access.FetchAnd (cell_in x.machine.layout t (slot_of m)) 18446744069414584319) tt place (cell_valid x.machine.layout (slot_of m) a.inside) p)
 
   -- and set
-  sets : (k : Taking) (next : Row) (c : Choice) → k.mutex ≡ m → x.machine.words pl ≡ t
+  pub sets : (k : Taking) (next : Row) (c : Choice) → k.mutex ≡ m → x.machine.words pl ≡ t
       → AreEvents x t c (Row.HeirSets k) (record { access = Access.Store (cell_in x.machine.layout t (slot_of m)) (awake_word t c.time); events = []; next = next })
   sets k next c same own = (words, λ p. sym (changes_queues (memory x) t (Access.Store (cell_in x.machine.layout t (slot_of m)) (awake_word t c.time)) tt p))
     where
@@ -119,7 +119,7 @@ module _ (x : Slots) (t m : ℕ) (a : IsInLayout x.machine t (slot_of m)) where
           ∙ ap (λ (v : ℕ). put (shown x) pl v p) value
           ∙ sym (changes (memory x) t pl (Access.Store (cell_in x.machine.layout t (slot_of m)) (awake_word t c.time)) tt place (cell_valid x.machine.layout (slot_of m) a.inside) p)
 
-quiets : (x : Slots) (t : ℕ) (c : Choice) (r : Row) (m : ℕ) → IsInLayout x.machine t (slot_of m) → IsQuieting r m → x.machine.words (cell_place x.machine.layout (slot_of m)) < 4294967296 → x.turns (slot_of m) < 2147483648 → AreEvents x t c r (made x t c r)
+pub quiets : (x : Slots) (t : ℕ) (c : Choice) (r : Row) (m : ℕ) → IsInLayout x.machine t (slot_of m) → IsQuieting r m → x.machine.words (cell_place x.machine.layout (slot_of m)) < 4294967296 → x.turns (slot_of m) < 2147483648 → AreEvents x t c r (made x t c r)
 quiets x t c (Row.SlotQuiets k) m a is small few = subst (λ (j : ℕ). IsInLayout x.machine t (slot_of j) → x.machine.words (cell_place x.machine.layout (slot_of j)) < 4294967296 → x.turns (slot_of j) < 2147483648 → AreEvents x t c (Row.SlotQuiets k) (made x t c (Row.SlotQuiets k))) is (λ b s f. clears x t k.mutex b (Row.SlotQuiets k) (made x t c (Row.SlotQuiets k)).next c s f refl refl refl) a small few
 quiets x t c (Row.HeirHas k y) m a is small few = subst (λ (j : ℕ). IsInLayout x.machine t (slot_of j) → x.machine.words (cell_place x.machine.layout (slot_of j)) < 4294967296 → x.turns (slot_of j) < 2147483648 → AreEvents x t c (Row.HeirHas k y) (made x t c (Row.HeirHas k y))) is (λ b s f. clears x t k.mutex b (Row.HeirHas k y) (made x t c (Row.HeirHas k y)).next c s f refl refl refl) a small few
 quiets x t c (Row.GivesUp k) m a is small few = subst (λ (j : ℕ). IsInLayout x.machine t (slot_of j) → x.machine.words (cell_place x.machine.layout (slot_of j)) < 4294967296 → x.turns (slot_of j) < 2147483648 → AreEvents x t c (Row.GivesUp k) (made x t c (Row.GivesUp k))) is (λ b s f. clears x t k.mutex b (Row.GivesUp k) (made x t c (Row.GivesUp k)).next c s f refl refl refl) a small few

@@ -186,7 +186,7 @@ module _ (x : Slots) (t : ℕ) (c : Choice) (at : IsAtRow x t) where
       w : ℕ
       w = x.machine.words (cell_place x.machine.layout (cell_of m))
 
-  give_row : (r : Row) → StandsAs r (x.machine.threads t).stage → IsAboutIt x.machine.layout r (x.machine.threads t).stage → IsGiven x t r → AreEvents x t c r (made x t c r)
+  pub give_row : (r : Row) → StandsAs r (x.machine.threads t).stage → IsAboutIt x.machine.layout r (x.machine.threads t).stage → IsGiven x t r → AreEvents x t c r (made x t c r)
   give_row (Row.FreeGives k f) (p, is, phase) about owns = unlocks (Row.FreeGives k f) (made x t c (Row.FreeGives k f)).next (slot_of k.mutex) false _ p (record { awake = λ a. refl; slept = λ a. refl; turns = λ d a. refl }) is phase refl owns (owner_at (slot_of k.mutex) owns)
   give_row (Row.Gives m (OfUnlock false)) (p, is, phase) about owns = unlocks (Row.Gives m (OfUnlock false)) (made x t c (Row.Gives m (OfUnlock false))).next (cell_of m) false _ p (record { awake = λ a. refl; slept = λ a. refl; turns = λ d a. refl }) is phase refl owns (owner_at (cell_of m) owns)
   give_row (Row.Gives m (OfUnlock true)) (p, is, phase) about (owns, died) = unlocks (Row.Gives m (OfUnlock true)) (made x t c (Row.Gives m (OfUnlock true))).next (cell_of m) true _ p (record { awake = λ a. refl; slept = λ a. refl; turns = λ d a. refl }) is phase refl owns (all_at m owns died)

@@ -31,3 +31,4 @@ pub mod Moving
 pub mod Marking
 pub mod Mending
 pub mod Counting
+pub mod Each

@@ -177,7 +177,7 @@ module _ (x : Slots) (t : ℕ) (c : Choice) (at : IsAtRow x t) where
     sets_so = cell_word_events x t c (Row.AllMarks m k n) (Row.AllMoves m k n) (Step t ∷ []) (put z.words spot (bit_or (z.words spot) 2147483648)) z.queues (on (AtCondition o moving) h) (record { awake = λ a. refl; slept = λ a. refl; turns = λ d a. refl }) sets
         m (bit_or (z.words spot) 2147483648) inside (λ q. refl) (λ q. refl) (Access.FetchOr (cell_in z.layout t (cell_of m)) waiters_alone) tt (cell_again z.layout t invz.layout at.first at.last (cell_of m) inside) (or_shown (z.words spot) (x.turns (cell_of m)))
 
-  mark_row : (r : Row) → StandsAs r (z.threads t).stage → IsAboutIt z.layout r (z.threads t).stage → IsMarking x t r → AreEvents x t c r (made x t c r)
+  pub mark_row : (r : Row) → StandsAs r (z.threads t).stage → IsAboutIt z.layout r (z.threads t).stage → IsMarking x t r → AreEvents x t c r (made x t c r)
   mark_row (Row.Marks k v n) there about (may, sees) = by_test (AreEvents x t c (Row.Marks k v n)) (shown x (cell_place z.layout (cell_of k.mutex)) == v)
       (makes (Access.Exchange (cell_in z.layout t (cell_of k.mutex)) v (waiting_word v)) (marked_events x t c k k.how) (marked_row x t c k k.how v n)) (missed x t c (Access.Exchange (cell_in z.layout t (cell_of k.mutex)) v (waiting_word v)) k k.how (shown x (cell_place z.layout (cell_of k.mutex))))
       (λ found. marks_so k v n k.how (marked_row x t c k k.how v n) may sees there about)

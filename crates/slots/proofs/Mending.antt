@@ -213,7 +213,7 @@ module _ (x : Slots) (t : ℕ) (c : Choice) (at : IsAtRow x t) where
       λ p. ap (λ (s : State). s.queues p) goes_to ∙ sym (changes_queues (memory x) t (Access.Exchange (cell_in z.layout t (cell_of m)) v (v - 4294967296 + 8589934592)) tt p),
     )
 
-  mend_row : (r : Row) → StandsAs r (z.threads t).stage → IsMending x t r → AreEvents x t c r (made x t c r)
+  pub mend_row : (r : Row) → StandsAs r (z.threads t).stage → IsMending x t r → AreEvents x t c r (made x t c r)
   mend_row (Row.SlotMends k) is owns = mend_so (slot_of k.mutex) is owns (Row.SlotMends k) (Row.HeirPends k Mended) (record { awake = λ a. refl; slept = λ a. refl; turns = λ d a. refl })
   mend_row (Row.Mends m) is owns = mend_so (cell_of m) is owns (Row.Mends m) Row.Rests (record { awake = λ a. refl; slept = λ a. refl; turns = λ d a. refl })
   mend_row (Row.Anews m v) is f = by_test (AreEvents x t c (Row.Anews m v)) (shown x (cell_place z.layout (cell_of m)) == v)
@@ -268,7 +268,7 @@ module _ (x : Slots) (t : ℕ) (c : Choice) (at : IsAtRow x t) where
             (let e : 0 + 0 + x.turns (cell_of m) * 8589934592 ≡ is - 2147483648 = omega (arith, shows, word) in e)
             ∙ sym (ap (λ (b : Bool). if b then is - waiters_alone else z.words its + 0 + x.turns (cell_of m) * 8589934592) (eq-eqb (z.words its + 0 + x.turns (cell_of m) * 8589934592) is shows))
 
-  trim_row : (r : Row) → StandsAs r (z.threads t).stage → IsTrimming x r → AreEvents x t c r (made x t c r)
+  pub trim_row : (r : Row) → StandsAs r (z.threads t).stage → IsTrimming x r → AreEvents x t c r (made x t c r)
   trim_row (Row.Trims m is) (p, stage, phase) known = trims_so m is (is_at z t (OnMutex (Unlock (cell_of m))) p (cell_of m) (AtCell (mutex_row.Unlock unlock.Trim)) invz at.first at.last stage phase refl) known (shown x (cell_place z.layout (cell_of m)) == is) refl
   trim_row r _ trimming = absurd trimming
 

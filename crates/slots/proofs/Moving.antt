@@ -105,7 +105,7 @@ module _ (x : Slots) (t : ℕ) (c : Choice) (at : IsAtRow x t) (k seen : ℕ) (t
   move_so : (r next : Row) → IsQuiet r → AreEvents x t c r (makes a (Step t ∷ []) next)
   move_so r next quiet = queue_events x t c r next (Step t ∷ []) z.words (moves (z.words pl % 2 ^ 32)) th quiet moved a (λ q. refl) words_met (λ q. sym (queues_met q))
 
-move_row : (x : Slots) (t : ℕ) (c : Choice) → IsAtRow x t → (r : Row) → StandsAs r (x.machine.threads t).stage → IsAboutIt x.machine.layout r (x.machine.threads t).stage → IsMoving r → AreEvents x t c r (made x t c r)
+pub move_row : (x : Slots) (t : ℕ) (c : Choice) → IsAtRow x t → (r : Row) → StandsAs r (x.machine.threads t).stage → IsAboutIt x.machine.layout r (x.machine.threads t).stage → IsMoving r → AreEvents x t c r (made x t c r)
 move_row x t c at (Row.AllMoves m k n) (seen, same, (p, is, phase)) about moving =
     subst (λ (y : ℕ × ℕ). AreEvents x t c (Row.AllMoves m k n) (makes (Access.CmpRequeue (counter_in x.machine.layout t k) y.0 0 (cell_in x.machine.layout t y.1) most_threads) (Step t ∷ []) (Row.Unsets m k n))) (λ i. (sym same i, subst (IsAbout x.machine.layout m) is about i))
     (move_so x t c at k seen (is_at_word x.machine t (cond_call.Broadcast k) p (CondPhase.AtWords (cond_row.Broadcast (broadcast.Move seen))) (reached_kept x.machine at.reached) at.first at.last is phase) (Row.AllMoves m k n) (Row.Unsets m k n) (record { awake = λ a. refl; slept = λ a. refl; turns = λ d a. refl }))
@@ -143,7 +143,7 @@ decline_comes s t inv = (alone.0, first_more s t s.words s.queues alone.0 (Decli
     alone : IsThreadAlone s t (happens s (Decline t))
     alone = by_test (IsThreadAlone s t) (has_thread s t) (declined s t (s.threads t).held (s.threads t).stage) (nothing s) (λ e. decline_alone s t (s.threads t).held (s.threads t).stage) (λ e. nobody s t)
 
-hand_row : (x : Slots) (t : ℕ) (c : Choice) → IsAtRow x t → (r : Row) → IsHanding r → AreEvents x t c r (made x t c r)
+pub hand_row : (x : Slots) (t : ℕ) (c : Choice) → IsAtRow x t → (r : Row) → IsHanding r → AreEvents x t c r (made x t c r)
 hand_row x t c at (Row.HandsOn m g is) handing =
     by_test (AreEvents x t c (Row.HandsOn m g is)) (shows_heir (shown x (cell_place z.layout (slot_of m))) && c.yes)
     (makes (Access.Load look) (Spare t (heir_of z t (cell_of m)) ∷ []) (given_row x t c m g)) (makes (Access.Load look) [] (Row.WakesOne m g is))

@@ -158,7 +158,7 @@ module _ (x : Slots) (t : ℕ) (c : Choice) (at : IsAtRow x t) where
       let own = along_at x.machine t o p inv at.first at.last is (subst IsUnlinkingAt (sym phase) list) in
       subst (λ (a : Access). AreEvents x t c r (record { access = a; events = Step t ∷ []; next = next })) (sym (ap (λ (g : Stage). access_of_stage g z) is)) (cond_row r next o p quiet is own.0 own.1)
 
-  list_row : (r : Row) → StandsAs r (x.machine.threads t).stage → IsAlongList r → AreEvents x t c r (made x t c r)
+  pub list_row : (r : Row) → StandsAs r (x.machine.threads t).stage → IsAlongList r → AreEvents x t c r (made x t c r)
   list_row (Row.Links m y) (u, inl (p, is, phase)) list = in_call (Row.Links m y) _ p (Linking u y) (record { awake = λ a. refl; slept = λ a. refl; turns = λ d a. refl }) is phase tt _ (made x t c (Row.Links m y)).next
   list_row (Row.Links m y) (u, inr (inl (p, is, phase))) list = in_call (Row.Links m y) _ p (Linking u y) (record { awake = λ a. refl; slept = λ a. refl; turns = λ d a. refl }) is phase tt _ (made x t c (Row.Links m y)).next
   list_row (Row.Links m y) (u, inr (inr (k, (o, p, is, of, acts, phase)))) list = in_call (Row.Links m y) _ p (Linking u y) (record { awake = λ a. refl; slept = λ a. refl; turns = λ d a. refl }) is phase tt _ (made x t c (Row.Links m y)).next
@@ -186,7 +186,7 @@ module _ (x : Slots) (t : ℕ) (c : Choice) (at : IsAtRow x t) where
       subst (λ (a : Access). AreEvents x t c r (record { access = a; events = Step t ∷ []; next = next })) access
       (call_row x t c at r next o p quiet is (subst IsPlain (sym access) tt) (subst (λ (a : Access). IsMine x.machine t (place_met x.machine.layout t a)) (sym access) (inr (inl place))))
 
-  clearing_row : (r : Row) → StandsAs r (x.machine.threads t).stage → IsClearing r → AreEvents x t c r (made x t c r)
+  pub clearing_row : (r : Row) → StandsAs r (x.machine.threads t).stage → IsClearing r → AreEvents x t c r (made x t c r)
   clearing_row (Row.Clears m y) (o, p, z, is, phase) clearing = clears (Row.Clears m y) Row.Rests o p z (record { awake = λ a. refl; slept = λ a. refl; turns = λ d a. refl }) is phase
   clearing_row (Row.SlotClears k) (p, is, phase) clearing = clears (Row.SlotClears k) (Row.SlotQuiets k) _ p _ (record { awake = λ a. refl; slept = λ a. refl; turns = λ d a. refl }) is phase
   clearing_row r there clearing = absurd clearing

@@ -159,7 +159,7 @@ module _ (x : Slots) (t : ℕ) (c : Choice) (at : IsAtRow x t) where
 
   -- ---- the rows
 
-  first_row : (r : Row) → StandsAs r (s.threads t).stage → IsFirstLook x t r → AreEvents x t c r (made x t c r)
+  pub first_row : (r : Row) → StandsAs r (s.threads t).stage → IsFirstLook x t r → AreEvents x t c r (made x t c r)
   first_row (Row.Looks k) is (inside, room) = by_test (AreEvents x t c (Row.Looks k)) ((fields_of (shown x (cell_place s.layout (cell_of k.mutex)))).owner == t)
       (makes (Access.Load (cell_in s.layout t (cell_of k.mutex))) (begins t (call.TimedLock (cell_of k.mutex)) ++ Step t ∷ Step t ∷ []) Row.Rests) (makes (Access.Load (cell_in s.layout t (cell_of k.mutex))) [] (Row.Pends k (shown x (cell_place s.layout (cell_of k.mutex)))))
       (λ own. by_load (Row.Looks k) Row.Rests _ (cell_in s.layout t (cell_of k.mutex)) (record { awake = λ a. refl; slept = λ a. refl; turns = λ d a. refl })

@@ -168,7 +168,7 @@ module _ (x : Slots) (t : ℕ) (c : Choice) (at : IsAtRow x t) where
   wait_begun : (o : CondCall) → may_call z.layout (OnCondition o) ≡ true → acquires (operation_of (OnCondition o)) ≡ false → (z.threads t).stage ≡ Idle → Leads z t (Begin t (OnCondition o) ∷ []) z.words z.queues (on (AtCondition o (condition.begins z.layout t o)) (z.threads t).held)
   wait_begun o may free is = begins_more z t [] z.words z.queues (z.threads t).held at.first at.last (rests is) (OnCondition o) may (let e = free in grind (arith))
 
-  release_row : (r : Row) → StandsAs r (z.threads t).stage → IsToRelease x t r → AreEvents x t c r (made x t c r)
+  pub release_row : (r : Row) → StandsAs r (z.threads t).stage → IsToRelease x t r → AreEvents x t c r (made x t c r)
   release_row (Row.Frees k f) there owns = let a = freeing_at k.mutex f there in frees_so (Row.Frees k f) (Row.FreeUnlinks k f) k.mutex (cell_of k.mutex) a.0 (record { awake = λ a. refl; slept = λ a. refl; turns = λ d a. refl }) owns a.1
   release_row (Row.GivePends m (OfUnlock d)) is owns =
       pending_events x t c (Row.GivePends m (OfUnlock d)) (Row.GiveUnlinks m (OfUnlock d)) (giving_begins x t c m (OfUnlock d)) (put z.words (head_place t + 2) (entry_in z.layout t (cell_of m))) z.queues _ (record { awake = λ a. refl; slept = λ a. refl; turns = λ d a. refl })

@@ -214,7 +214,7 @@ module _ (x : Slots) (t : ℕ) (c : Choice) (at : IsAtRow x t) where
           (cond_more z t [] z.words z.queues o asleep h at.first at.last l (Access.Wait (counter_in z.layout t (condition_of o)) n) spot z.words z.queues (condition.onward (CondPhase.Locking (retaking t (head_in z.layout t) (entry_in z.layout t (programs.mutex_of z.layout o)) (cell_in z.layout t (programs.mutex_of z.layout o))))) (on awake h)
           refl there tt (put_back z.words spot) (ap (λ (b : Bool). put z.queues spot (if b then z.queues spot ++ t ∷ [] else z.queues spot)) e ∙ put_back z.queues spot) (leads (z.words spot % 2 ^ 32 == n)) refl (unmoved (acts_as o) h) (all_still z z.words))
 
-  sleep_row : (r : Row) → StandsAs r (z.threads t).stage → IsAboutIt z.layout r (z.threads t).stage → IsSleeping x t r → AreEvents x t c r (made x t c r)
+  pub sleep_row : (r : Row) → StandsAs r (z.threads t).stage → IsAboutIt z.layout r (z.threads t).stage → IsSleeping x t r → AreEvents x t c r (made x t c r)
   sleep_row (Row.SleepsOn k v) there about (may, sees) = on_the_cell k v k.how may sees there about
   sleep_row (Row.WaitSleeps m k n true) (p, is, phase) about sleeping = on_counter m k n true (wait_of k true) refl (is_at_word z t (wait_of k true) p _ invz at.first at.last is phase)
   sleep_row (Row.WaitSleeps m k n false) (p, is, phase) about sleeping = on_counter m k n false (wait_of k false) refl (is_at_word z t (wait_of k false) p _ invz at.first at.last is phase)

@@ -104,7 +104,7 @@ module _ (x : Slots) (t : ℕ) (c : Choice) (at : IsAtRow x t) where
   abbrev exchanges : ℕ → ℕ → Row → Made
   exchanges k v next = record { access = Access.Exchange (cell_in x.machine.layout t k) v (taken_word v t); events = Step t ∷ Step t ∷ []; next = next }
 
-  take_row : (r : Row) → StandsAs r (x.machine.threads t).stage → IsAboutIt x.machine.layout r (x.machine.threads t).stage → IsFound x r → AreEvents x t c r (made x t c r)
+  pub take_row : (r : Row) → StandsAs r (x.machine.threads t).stage → IsAboutIt x.machine.layout r (x.machine.threads t).stage → IsFound x r → AreEvents x t c r (made x t c r)
   take_row (Row.Takes k v) there about f =
       subst (AreEvents x t c (Row.Takes k v)) (sym made_is) (to_take (Row.Takes k v) (Row.Links k.mutex (acquired (fields_of v))) k k.how v (record { awake = λ a. refl; slept = λ a. refl; turns = λ d a. refl }) there about f)
     where

@@ -119,7 +119,7 @@ module _ (x : Slots) (t : ℕ) (c : Choice) (at : IsAtRow x t) where
       (ap (λ (a : After). a.state) (cond_goes x.machine t o p inv at.first at.last is) ∙ ap (λ (a : Access). done x.machine t a th) access)
       (subst (λ (a : Access). is_met x.machine.layout t a ≡ true) access step))
 
-  wake_row : (r : Row) → StandsAs r (x.machine.threads t).stage → IsAboutIt x.machine.layout r (x.machine.threads t).stage → IsWake r → AreEvents x t c r (made x t c r)
+  pub wake_row : (r : Row) → StandsAs r (x.machine.threads t).stage → IsAboutIt x.machine.layout r (x.machine.threads t).stage → IsWake r → AreEvents x t c r (made x t c r)
   wake_row (Row.WakesAll m y) (inl (inl (p, is, phase))) about wake = in_call m most_threads (Row.WakesAll m y) (Row.Clears m y) _ p _ (record { awake = λ a. refl; slept = λ a. refl; turns = λ d a. refl }) is phase refl refl
   wake_row (Row.WakesAll m y) (inl (inr (inl (p, is, phase)))) about wake = in_call m most_threads (Row.WakesAll m y) (Row.Clears m y) _ p _ (record { awake = λ a. refl; slept = λ a. refl; turns = λ d a. refl }) is phase refl refl
   wake_row (Row.WakesAll m y) (inl (inr (inr (k, (o, p, is, of, acts, phase))))) about wake = in_call m most_threads (Row.WakesAll m y) (Row.Clears m y) _ p _ (record { awake = λ a. refl; slept = λ a. refl; turns = λ d a. refl }) is phase refl (subst (IsAbout x.machine.layout m) is about)

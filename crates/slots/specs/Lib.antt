@@ -1,4 +1,5 @@
 pub mod Accesses
+pub mod Each
 pub mod Further
 pub mod Heirs
 pub mod Invariant

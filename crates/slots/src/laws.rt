@@ -3,6 +3,7 @@ ghost use Rattle.slots.specs.Accesses.{AnnouncingRowsAreEvents, AwakeIsCleared, 
 ghost use Rattle.slots.specs.Accesses.{ClearingRowsAreEvents, ListRowsAreEvents, LooksAreEvents};
 ghost use Rattle.slots.specs.Accesses.{MissesAreNoEvents, PendingAgainIsNoEvent, ReleasesAreEvents};
 ghost use Rattle.slots.specs.Accesses.{TakesAreEvents, WakesAreEvents};
+ghost use Rattle.slots.specs.Each.{EachAccessIsEvents};
 ghost use Rattle.slots.specs.Further.{AnnouncedReleasesAreEvents, CountsAreEvents, DecidingLooksAreEvents};
 ghost use Rattle.slots.specs.Further.{FirstLooksAreEvents, MarksAreEvents, MendsAreEvents, MovesAreEvents};
 ghost use Rattle.slots.specs.Further.{SleepsAreEvents, SparesAreEvents, TrimsAreEvents};
@@ -263,4 +264,10 @@ pub fn trims_are_events()
 /// A store of a counter's word is a count of the machine's signal or broadcast, or sets or clears SLEPT.
 pub fn counts_are_events()
     ensures { CountsAreEvents }
+{}
+
+/// Each access of the C library is the events that the table has for it, at every row, and whatever it finds: memory, as it
+/// is shown, and the queues are afterwards what that access makes of them. The row's premises are named.
+pub fn each_access_is_events()
+    ensures { EachAccessIsEvents }
 {}

@@ -24,9 +24,9 @@
 //!   `others_leave_heirs`, `others_leave_what_is_owned`, `others_answer_still`, `deaths_leave_heirs`, `deaths_leave_all`,
 //!   `walks_leave_heirs`, `walks_leave_all`.
 //!
-//! So each row has its law, whatever its access finds. The laws of rows name what they assume: where the machine's thread
-//! is (`specs/Stands.antt`), what its call knows, and what a word doesn't have. The crate doesn't prove that every run
-//! keeps these assumptions (`UNPROVED.md`).
+//! So each access is its events, at every row, and whatever it finds: `each_access_is_events`. The laws of rows name what
+//! they assume: where the machine's thread is (`specs/Stands.antt`), what its call knows, and what a word doesn't have
+//! (`specs/Each.antt`). The crate doesn't prove that every run keeps these assumptions (`UNPROVED.md`).
 #![tactic(auto)]
 
 mod laws;
@@ -34,14 +34,14 @@ mod laws;
 pub use laws::{
     announced_releases_are_events, announcing_is_one_store, announcing_rows_are_events,
     awake_is_cleared, awake_is_set, clearing_rows_are_events, counts_are_events, deaths_leave_all,
-    deaths_leave_heirs, deciding_looks_are_events, first_looks_are_events, giving_up_is_a_look,
-    giving_up_leaves_nothing, heir_takes_are_events, heirs_go_on, heirs_let_spare,
-    last_looks_are_events, list_rows_are_events, looks_are_events, marks_are_events,
-    mends_are_events, misses_are_no_events, moves_are_events, nobody_joins_a_free_mutex,
-    others_answer_still, others_leave_heirs, others_leave_what_is_owned, pending_again_is_no_event,
-    releases_are_events, releases_tell, sleeps_are_events, slots_run_the_machine,
-    spares_are_events, standing_heirs_answer, takes_are_events, takes_are_one_exchange,
-    takes_are_the_exchange, trims_are_events, trims_are_the_machines, turns_stay_known,
-    turns_stay_known_by_all, wakes_are_events, wakes_of_nobody_tell, walks_leave_all,
-    walks_leave_heirs,
+    deaths_leave_heirs, deciding_looks_are_events, each_access_is_events, first_looks_are_events,
+    giving_up_is_a_look, giving_up_leaves_nothing, heir_takes_are_events, heirs_go_on,
+    heirs_let_spare, last_looks_are_events, list_rows_are_events, looks_are_events,
+    marks_are_events, mends_are_events, misses_are_no_events, moves_are_events,
+    nobody_joins_a_free_mutex, others_answer_still, others_leave_heirs, others_leave_what_is_owned,
+    pending_again_is_no_event, releases_are_events, releases_tell, sleeps_are_events,
+    slots_run_the_machine, spares_are_events, standing_heirs_answer, takes_are_events,
+    takes_are_one_exchange, takes_are_the_exchange, trims_are_events, trims_are_the_machines,
+    turns_stay_known, turns_stay_known_by_all, wakes_are_events, wakes_of_nobody_tell,
+    walks_leave_all, walks_leave_heirs,
 };
