@@ -32,3 +32,4 @@ pub mod Marking
 pub mod Mending
 pub mod Counting
 pub mod Each
+pub mod Others

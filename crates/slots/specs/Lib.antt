@@ -1,6 +1,7 @@
 pub mod Accesses
 pub mod Each
 pub mod Further
+pub mod Goes
 pub mod Heirs
 pub mod Invariant
 pub mod Laws

@@ -4,6 +4,7 @@ ghost use Rattle.slots.specs.Accesses.{ClearingRowsAreEvents, ListRowsAreEvents,
 ghost use Rattle.slots.specs.Accesses.{MissesAreNoEvents, PendingAgainIsNoEvent, ReleasesAreEvents};
 ghost use Rattle.slots.specs.Accesses.{TakesAreEvents, WakesAreEvents};
 ghost use Rattle.slots.specs.Each.{EachAccessIsEvents};
+ghost use Rattle.slots.specs.Goes.{OthersStandStill};
 ghost use Rattle.slots.specs.Further.{AnnouncedReleasesAreEvents, CountsAreEvents, DecidingLooksAreEvents};
 ghost use Rattle.slots.specs.Further.{FirstLooksAreEvents, MarksAreEvents, MendsAreEvents, MovesAreEvents};
 ghost use Rattle.slots.specs.Further.{SleepsAreEvents, SparesAreEvents, TrimsAreEvents};
@@ -270,4 +271,9 @@ pub fn counts_are_events()
 /// is shown, and the queues are afterwards what that access makes of them. The row's premises are named.
 pub fn each_access_is_events()
     ensures { EachAccessIsEvents }
+{}
+
+/// Whatever happens to another thread, a thread is still at its row, and in the machine it is where it was.
+pub fn others_stand_still()
+    ensures { OthersStandStill }
 {}
