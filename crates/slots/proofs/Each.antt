@@ -90,7 +90,7 @@ module _ (x : Slots) (t : ℕ) (c : Choice) (at : IsAtRow x t) where
     room = to.room;
   }
 
-  unmarked : (m v : ℕ) → IsToMark t v → word (cell_of m) ≡ v → SeesUnmarked x t m v
+  pub unmarked : (m v : ℕ) → IsToMark t v → word (cell_of m) ≡ v → SeesUnmarked x t m v
   unmarked m v to found = record { found = found; some = to.some; other = to.other; waiters = to.waiters }
 
   each_row : (r : Row) → StandsAs r (z.threads t).stage → IsAboutIt z.layout r (z.threads t).stage → Assumes x t r → AreEvents x t c r (made x t c r)

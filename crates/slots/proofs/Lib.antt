@@ -33,3 +33,4 @@ pub mod Mending
 pub mod Counting
 pub mod Each
 pub mod Others
+pub mod LeadsOn

@@ -120,7 +120,7 @@ module _ (x : Slots) (t : ℕ) (c : Choice) (at : IsAtRow x t) where
         (cell_again z.layout t invz.layout at.first at.last k may.inside) (exchanged w (x.turns k) v (sym (cell_shows x m may.inside) ∙ sees.found))
 
     -- of a lock at its load, or that begins then
-    from_load : IsAt z t (OnMutex (TimedLock k)) k (AtCell (load_of true)) → Leads z t (sets_and_expires t) marked z.queues (on (Calling (OnMutex (TimedLock k)) (call_at z.layout t operation.Lock k (Clearing ETIMEDOUT))) h)
+    pub from_load : IsAt z t (OnMutex (TimedLock k)) k (AtCell (load_of true)) → Leads z t (sets_and_expires t) marked z.queues (on (Calling (OnMutex (TimedLock k)) (call_at z.layout t operation.Lock k (Clearing ETIMEDOUT))) h)
     from_load a = marks_more z t at.first at.last invz.layout [] z.words z.queues h k at.out may.inside (stays z t (Calling (OnMutex (TimedLock k)) (call_at z.layout t operation.Lock k (AtCell (load_of true)))) invz a.there) usable other some none
 
     from_clear : (o : Op) (y : Reply) → IsAt z t o k (Clearing y) → Leads z t (begins_behind t (TimedLock k) ++ sets_and_expires t) marked z.queues (on (Calling (OnMutex (TimedLock k)) (call_at z.layout t operation.Lock k (Clearing ETIMEDOUT))) h)
@@ -169,7 +169,7 @@ module _ (x : Slots) (t : ℕ) (c : Choice) (at : IsAtRow x t) where
     still j in_j = by_put (λ (v : ℕ). Still (z.words (cell_place z.layout j)) v) z.words spot (bit_or (z.words spot) 2147483648) (cell_place z.layout j)
         (λ here. subst (λ (e : ℕ). Still (z.words e) (bit_or (z.words spot) 2147483648)) (sym here) (subst (Still (z.words spot)) (sym (or_is (z.words spot))) (waiting_still (z.words spot)))) (λ apart. (refl, refl))
 
-    sets : Leads z t (Step t ∷ []) (put z.words spot (bit_or (z.words spot) 2147483648)) z.queues (on (AtCondition o moving) h)
+    pub sets : Leads z t (Step t ∷ []) (put z.words spot (bit_or (z.words spot) 2147483648)) z.queues (on (AtCondition o moving) h)
     sets = cond_more z t [] z.words z.queues o p h at.first at.last (stays z t (AtCondition o p) invz a.there) (Access.FetchOr (cell_in z.layout t (programs.mutex_of z.layout o)) 2147483648) spot (put z.words spot (bit_or (z.words spot) 2147483648)) z.queues
         (condition.onward (CondPhase.AtWords (cond_row.Broadcast (broadcast.Move seen)))) (on (AtCondition o moving) h) refl there tt refl (put_back z.queues spot) refl refl (unmoved (acts_as o) h) still
 

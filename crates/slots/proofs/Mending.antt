@@ -107,7 +107,7 @@ module _ (x : Slots) (t : ℕ) (c : Choice) (at : IsAtRow x t) where
     still j in_j = by_put (λ (v : ℕ). Still (z.words (cell_place z.layout j)) v) z.words pl (bit_and w 18446744072635809791) (cell_place z.layout j)
         (λ here. subst (λ (e : ℕ). Still (z.words e) (bit_and w 18446744072635809791)) (sym here) ((and_declared w).owner, (and_declared w).unusable)) (λ apart. (refl, refl))
 
-    declared : Leads z t (Begin t (OnMutex (Consistent k)) ∷ Step t ∷ Step t ∷ []) mended_words z.queues (on Idle h)
+    pub declared : Leads z t (Begin t (OnMutex (Consistent k)) ∷ Step t ∷ Step t ∷ []) mended_words z.queues (on Idle h)
     declared = steps_more z t (Begin t (OnMutex (Consistent k)) ∷ Step t ∷ []) z.words z.queues (OnMutex (Consistent k)) (call_at z.layout t operation.Consistent k (AtCell (mutex_row.Consistent consistent.Declare))) h at.first at.last looked at.out
         (Access.FetchAnd (cell_in z.layout t k) 18446744072635809791) pl mended_words z.queues (record { phase = Ended OK; point = Some OK }) (on Idle h) refl there tt refl (put_back z.queues pl) refl refl refl still
 

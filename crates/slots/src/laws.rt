@@ -4,7 +4,7 @@ ghost use Rattle.slots.specs.Accesses.{ClearingRowsAreEvents, ListRowsAreEvents,
 ghost use Rattle.slots.specs.Accesses.{MissesAreNoEvents, PendingAgainIsNoEvent, ReleasesAreEvents};
 ghost use Rattle.slots.specs.Accesses.{TakesAreEvents, WakesAreEvents};
 ghost use Rattle.slots.specs.Each.{EachAccessIsEvents};
-ghost use Rattle.slots.specs.Goes.{OthersStandStill};
+ghost use Rattle.slots.specs.Goes.{OthersStandStill, RowsLeadOn};
 ghost use Rattle.slots.specs.Further.{AnnouncedReleasesAreEvents, CountsAreEvents, DecidingLooksAreEvents};
 ghost use Rattle.slots.specs.Further.{FirstLooksAreEvents, MarksAreEvents, MendsAreEvents, MovesAreEvents};
 ghost use Rattle.slots.specs.Further.{SleepsAreEvents, SparesAreEvents, TrimsAreEvents};
@@ -276,4 +276,9 @@ pub fn each_access_is_events()
 /// Whatever happens to another thread, a thread is still at its row, and in the machine it is where it was.
 pub fn others_stand_still()
     ensures { OthersStandStill }
+{}
+
+/// After an access at one of most rows that don't look or take, the machine's thread is where the next row says.
+pub fn rows_lead_on()
+    ensures { RowsLeadOn }
 {}

@@ -1,0 +1,200 @@
+-- After an access the machine's thread is where the next row says.
+use Rattle.std.proofs.Common.{◌≡◌, ◌≢◌, inl, inr, ℕ, ◌+◌, ◌<◌, ◌==◌, Bool, true, false, List, [], ◌∷◌, ◌++◌, refl, sym, ap, ◌∙◌, subst, eqb-true}
+use Rattle.std.specs.Prelude.{if◌then◌else◌, not, ◌&&◌, ◌||◌}
+use Rattle.lockword.specs.Cells.{fields_of}
+use Rattle.lockword.specs.declared.reply.Reply.{Reply}
+use Rattle.lockword.specs.declared.reply.Reply.TheVariants.{ETIMEDOUT}
+use Rattle.stepprograms.specs.declared.access.Access.{Access}
+use Rattle.posixmutex.specs.declared.point.Operation.TheVariants as operation
+use Rattle.memorymap.specs.Layouts.{cell_place, head_place}
+use Rattle.mutex.specs.declared.call.Call.TheVariants.{TimedLock, TryLock, Unlock}
+use Rattle.mutex.specs.declared.phase.Phase.{Phase}
+use Rattle.mutex.specs.declared.phase.Phase.TheVariants.{AtCell, Clearing}
+use Rattle.mutex.specs.Standings.{Whole}
+use Rattle.condvar.specs.declared.call.CondCall.TheVariants as cond_call
+use Rattle.condvar.specs.declared.phase.CondPhase.{CondPhase}
+use Rattle.condvar.specs.declared.row.CondRow.TheVariants as cond_row
+use Rattle.condvar.specs.declared.broadcast.BroadcastRow.TheVariants as broadcast
+use Rattle.condvar.specs.declared.op.Op.{Op}
+use Rattle.condvar.specs.declared.op.Op.TheVariants.{OnMutex, OnCondition}
+use Rattle.condvar.specs.Ops.{mutex_of}
+use Rattle.protocol.specs.declared.event.Event.{Event}
+use Rattle.protocol.specs.declared.event.Event.TheVariants.{Step}
+use Rattle.protocol.specs.declared.thread.Thread.{Thread}
+use Rattle.protocol.specs.declared.thread.Stage.{Stage}
+use Rattle.protocol.specs.declared.thread.Stage.TheVariants.{Idle, Calling}
+use Rattle.protocol.specs.Machine.{State, put, run}
+use Rattle.protocol.proofs.Kept.{Kept}
+use Rattle.protocol.proofs.Puts.{put-same}
+use Rattle.protocol.proofs.Seeing.{cell_in, entry_in}
+use Rattle.slots.specs.Places.{cell_of, slot_of}
+use Rattle.slots.specs.Rows.{Choice, How, Row, Taking}
+use Rattle.slots.specs.Rows.How.{Tried, Later, Waited}
+use Rattle.slots.specs.Rows.Before.{Linked, Mended, Again}
+use Rattle.slots.specs.Rows.Onward.{Fails, Sleeps}
+use Rattle.slots.specs.Rows.Giving.{OfWait}
+use Rattle.slots.specs.Rows.Then.{ToSleep, ToSlot}
+use Rattle.slots.specs.Shown.{Slots, shown}
+use Rattle.slots.specs.Stands.{HasChosen, IsIn, IsThrough, IsToLook, IsToSleep, StandsAs, at_load}
+use Rattle.slots.specs.Table.{Made, begins, begins_behind, is_free, later, is_moving, made, makes, out_of, sets_and_expires, sleep_row, to_slot, tries, waiting_word}
+use Rattle.slots.specs.Accesses.{IsAbout, IsAboutIt, IsAtRow}
+use Rattle.slots.specs.Each.{Assumes, IsToMark}
+use Rattle.slots.specs.Further.{MayTake}
+use Rattle.slots.specs.Goes.{IsLeading, LeadsOn, RowsLeadOn}
+use Rattle.slots.proofs.Announcing.{call_of}
+use Rattle.slots.proofs.Chains.{behind_more, clears_more, lock_or_try, locks_more}
+use Rattle.slots.proofs.Decisions.{at_load_later}
+use Rattle.slots.proofs.Each.{unmarked}
+use Rattle.slots.proofs.Free.{reached_kept}
+use Rattle.slots.proofs.Leading.{IsAt, Leads, by_test, call_at, is_at, is_at_word, on, op_of, stays}
+use Rattle.slots.proofs.Marking as marking
+use Rattle.slots.proofs.Mending as mending
+use Rattle.slots.proofs.Takes.{load_of}
+
+module _ (x : Slots) (t : ℕ) (c : Choice) (at : IsAtRow x t) where
+  abbrev z : State
+  z = x.machine
+
+  abbrev g : Stage
+  g = (z.threads t).stage
+
+  abbrev h : ℕ
+  h = (z.threads t).held
+
+  inv : Kept z
+  inv = reached_kept z at.reached
+
+  -- where events lead
+  led : (es : List Event) (w : ℕ → ℕ) (q : ℕ → List ℕ) (th : Thread) (next : Row) → Leads z t es w q th → StandsAs next th.stage → StandsAs next ((run z es).threads t).stage
+  led es w q th next l there = subst (StandsAs next) (sym (ap (λ (s : State). (s.threads t).stage) l.to ∙ ap (λ (y : Thread). y.stage) (put-same z.threads t th))) there
+
+  -- whichever row a test chooses
+  either : (b : Bool) (r s : Row) (f : Stage) → StandsAs r f → StandsAs s f → StandsAs (if b then r else s) f
+  either true r s f yes_there no_there = yes_there
+  either false r s f yes_there no_there = no_there
+
+  -- ---- a lock's choice
+
+  sleeps_so : (k : Taking) (v : ℕ) (how : How) → k.how ≡ how → (w : Bool) → (fields_of v).waiters ≡ w → HasChosen k how w v g → StandsAs (sleep_row k v) g
+  sleeps_so k v Tried is true waits there = subst (λ (b : Bool). StandsAs (if b then Row.SleepsOn k v else Row.Marks k v ToSleep) g) (sym waits) (subst (λ (i : How). IsToSleep k i v g) (sym is) there)
+  sleeps_so k v Tried is false waits there = subst (λ (b : Bool). StandsAs (if b then Row.SleepsOn k v else Row.Marks k v ToSleep) g) (sym waits) (subst (λ (i : How). HasChosen k i false v g) (sym is) there)
+  sleeps_so k v Later is true waits there = subst (λ (b : Bool). StandsAs (if b then Row.SleepsOn k v else Row.Marks k v ToSleep) g) (sym waits) (subst (λ (i : How). IsToSleep k i v g) (sym is) there)
+  sleeps_so k v Later is false waits there = subst (λ (b : Bool). StandsAs (if b then Row.SleepsOn k v else Row.Marks k v ToSleep) g) (sym waits) (subst (λ (i : How). HasChosen k i false v g) (sym is) there)
+  sleeps_so k v (Waited y) is true waits there = subst (λ (b : Bool). StandsAs (if b then Row.SleepsOn k v else Row.Marks k v ToSleep) g) (sym waits) (subst (λ (i : How). IsToSleep k i v g) (sym is) there)
+  sleeps_so k v (Waited y) is false waits there = subst (λ (b : Bool). StandsAs (if b then Row.SleepsOn k v else Row.Marks k v ToSleep) g) (sym waits) (subst (λ (i : How). HasChosen k i false v g) (sym is) there)
+
+  to_slot_so : (k : Taking) (v sl : ℕ) (how : How) → k.how ≡ how → tries x t c how ≡ true → (w : Bool) → (fields_of v).waiters ≡ w → HasChosen k how w v g → StandsAs (to_slot x t c k how v sl) g
+  to_slot_so k v sl Tried is tried w waits there = subst (λ (i : How). IsThrough k.mutex i g) (sym is) there
+  to_slot_so k v sl Later is tried true waits there = subst (λ (b : Bool). StandsAs (if b then Row.SlotPends k sl else Row.Marks k v (ToSlot sl)) g) (sym waits) (subst (λ (i : How). IsThrough k.mutex i g) (sym is) there)
+  to_slot_so k v sl Later is tried false waits there = subst (λ (b : Bool). StandsAs (if b then Row.SlotPends k sl else Row.Marks k v (ToSlot sl)) g) (sym waits) (subst (λ (i : How). HasChosen k i false v g) (sym is) there)
+  to_slot_so k v sl (Waited y) is tried w waits there = absurd cc
+
+  first_of : (a b d : Bool) → (a && b && d) ≡ true → a ≡ true
+  first_of true b d e = refl
+  first_of false b d e = absurd cc
+
+  chosen_so : (k : Taking) (v sl : ℕ) → HasChosen k k.how (fields_of v).waiters v g → StandsAs (made x t c (Row.Chooses k v)).next g
+  chosen_so k v sl there =
+      by_test (λ (r : Row). StandsAs r g) (tries x t c k.how && is_moving found && c.again) (Row.SeesAgain k v) (if tries x t c k.how && ((fields_of found).owner == 0) && c.yes then to_slot x t c k k.how v found else sleep_row k v)
+      (λ e. there)
+      (λ e. by_test (λ (r : Row). StandsAs r g) (tries x t c k.how && ((fields_of found).owner == 0) && c.yes) (to_slot x t c k k.how v found) (sleep_row k v)
+      (λ f. to_slot_so k v found k.how refl (first_of (tries x t c k.how) ((fields_of found).owner == 0) c.yes f) (fields_of v).waiters refl there)
+      (λ f. sleeps_so k v k.how refl (fields_of v).waiters refl there))
+    where
+      found : ℕ
+      found = shown x (cell_place z.layout (slot_of k.mutex))
+
+  -- ---- calls that begin
+
+  begun : (k : ℕ) (b : Bool) → g ≡ Idle → k < z.layout.mutexes → h < 2048 → Leads z t (begins t (call_of b k)) (put z.words (head_place t + 2) (entry_in z.layout t k)) z.queues (on (Calling (OnMutex (call_of b k)) (call_at z.layout t (lock_or_try b) k (AtCell (load_of b)))) h)
+  begun k b is inside room = locks_more z t at.first at.last inv.layout [] z.words z.queues h k b at.out (stays z t Idle inv is) inside room
+
+  behind : (k : ℕ) (b : Bool) (o : Op) (j : ℕ) (y : Reply) → IsAt z t o j (Clearing y) → k < z.layout.mutexes → h < 2048 → Leads z t (begins_behind t (call_of b k)) (put z.words (head_place t + 2) (entry_in z.layout t k)) z.queues (on (Calling (OnMutex (call_of b k)) (call_at z.layout t (lock_or_try b) k (AtCell (load_of b)))) h)
+  behind k b o j y a inside room = behind_more z t at.first at.last inv.layout [] z.words z.queues h k b o (op_of o) j y at.out (stays z t (Calling o (call_at z.layout t (op_of o) j (Clearing y))) inv a.there) inside room
+
+  clearing_at : (o : Op) (p : Whole) (y : Reply) → g ≡ Calling o p → p.phase ≡ Clearing y → IsAt z t o (mutex_of z.layout o) (Clearing y)
+  clearing_at o p y is phase = is_at z t o p (mutex_of z.layout o) (Clearing y) inv at.first at.last is phase refl
+
+  clears : (o : Op) (p : Whole) (y : Reply) → g ≡ Calling o p → p.phase ≡ Clearing y → Leads z t (Step t ∷ []) (put z.words (head_place t + 2) 0) z.queues (on Idle h)
+  clears o p y is phase = let a = clearing_at o p y is phase in
+      clears_more z t at.first at.last inv.layout [] z.words z.queues h at.out o (op_of o) (mutex_of z.layout o) y (stays z t (Calling o (call_at z.layout t (op_of o) (mutex_of z.layout o) (Clearing y))) inv a.there)
+
+  through_slot : (k : Taking) (sl : ℕ) (how : How) → slot_of k.mutex < z.layout.mutexes → h < 2048 → IsThrough k.mutex how g → StandsAs (Row.SlotTakes k sl) ((run z (begins_behind t (TryLock (slot_of k.mutex)))).threads t).stage
+  through_slot k sl Tried inside room (p, is, phase) = led (begins_behind t (TryLock (slot_of k.mutex))) _ z.queues _ (Row.SlotTakes k sl) (behind (slot_of k.mutex) false _ _ _ (clearing_at _ p _ is phase) inside room) (call_at z.layout t operation.TryLock (slot_of k.mutex) (AtCell (load_of false)), refl, refl)
+  through_slot k sl Later inside room (p, is, phase) = led (begins_behind t (TryLock (slot_of k.mutex))) _ z.queues _ (Row.SlotTakes k sl) (behind (slot_of k.mutex) false _ _ _ (clearing_at _ p _ is phase) inside room) (call_at z.layout t operation.TryLock (slot_of k.mutex) (AtCell (load_of false)), refl, refl)
+  through_slot k sl (Waited y) inside room never = absurd never
+
+  -- a lock of the cell has announced it
+  at_cell : (m : ℕ) → IsIn (TimedLock (cell_of m)) at_load (Calling (OnMutex (TimedLock (cell_of m))) (call_at z.layout t operation.Lock (cell_of m) (AtCell (load_of true))))
+  at_cell m = (call_at z.layout t operation.Lock (cell_of m) (AtCell (load_of true)), refl, refl)
+
+  tried_at : (m : ℕ) → IsIn (TryLock (cell_of m)) (AtCell (load_of false)) (Calling (OnMutex (TryLock (cell_of m))) (call_at z.layout t operation.TryLock (cell_of m) (AtCell (load_of false))))
+  tried_at m = (call_at z.layout t operation.TryLock (cell_of m) (AtCell (load_of false)), refl, refl)
+
+  pends_so : (k : Taking) (v : ℕ) (how : How) → k.how ≡ how → how ≡ Tried → g ≡ Idle → MayTake x t k.mutex → LeadsOn x t c (Row.Pends k v)
+  pends_so k v how is tried idle may = led (begins t (TryLock (cell_of k.mutex))) _ z.queues _ (if is_free v then Row.Takes k v else Row.Sees k) (begun (cell_of k.mutex) false idle may.inside may.room)
+      (either (is_free v) (Row.Takes k v) (Row.Sees k) _ looks looks)
+    where
+      looks : IsToLook k k.how (Calling (OnMutex (TryLock (cell_of k.mutex))) (call_at z.layout t operation.TryLock (cell_of k.mutex) (AtCell (load_of false))))
+      looks = subst (λ (i : How). IsToLook k i (Calling (OnMutex (TryLock (cell_of k.mutex))) (call_at z.layout t operation.TryLock (cell_of k.mutex) (AtCell (load_of false))))) (sym (is ∙ tried)) (tried_at k.mutex)
+
+  last_marks : (k : Taking) (v : ℕ) → IsIn (TimedLock (cell_of k.mutex)) at_load g → MayTake x t k.mutex → IsToMark t v → LeadsOn x t c (Row.LastMarks k v)
+  last_marks k v there may to = by_test (λ (m : Made). StandsAs m.next ((run z m.events).threads t).stage) (shown x (cell_place z.layout (cell_of k.mutex)) == v)
+      (makes (Access.Exchange (cell_in z.layout t (cell_of k.mutex)) v (waiting_word v)) (sets_and_expires t) (out_of x t c k)) (makes (Access.Exchange (cell_in z.layout t (cell_of k.mutex)) v (waiting_word v)) [] (Row.HeirPends k Again))
+      (λ e. led (sets_and_expires t) _ z.queues _ (out_of x t c k) (marking.from_load x t c at k.mutex v may (unmarked x t c at k.mutex v to (eqb-true (shown x (cell_place z.layout (cell_of k.mutex))) v e)) (at_load_later x t c at k.mutex there))
+      (either (k.timed && c.yes) (Row.Frees k (Fails ETIMEDOUT)) (Row.Frees k Sleeps) _ ended ended))
+      (λ e. there)
+    where
+      ended : IsIn (TimedLock (cell_of k.mutex)) (Clearing ETIMEDOUT) (Calling (OnMutex (TimedLock (cell_of k.mutex))) (call_at z.layout t operation.Lock (cell_of k.mutex) (Clearing ETIMEDOUT)))
+      ended = (call_at z.layout t operation.Lock (cell_of k.mutex) (Clearing ETIMEDOUT), refl, refl)
+
+  looked_so : (k : Taking) (v : ℕ) (a b : Bool) → IsIn (TimedLock (cell_of k.mutex)) at_load g → StandsAs (if a then Row.HeirPendsOn k v true else if b then Row.HeirSets k else Row.HeirPendsOn k v false) g
+  looked_so k v true b there = there
+  looked_so k v false true there = there
+  looked_so k v false false there = there
+
+  watched_so : (k : Taking) (v : ℕ) (a b d : Bool) → IsIn (TimedLock (cell_of k.mutex)) at_load g → StandsAs (if a && b then Row.HeirTakes k v else if a && d then Row.HeirPends k Again else Row.GivesUp k) g
+  watched_so k v true true d there = there
+  watched_so k v true false true there = there
+  watched_so k v true false false there = there
+  watched_so k v false b d there = there
+
+  lead_row : (r : Row) → StandsAs r g → IsAboutIt z.layout r g → Assumes x t r → IsLeading r → LeadsOn x t c r
+  lead_row Row.Rests there about a leading = there
+  lead_row (Row.Pends k v) there about a tried = pends_so k v k.how refl tried there a
+  lead_row (Row.Clears m r) (o, p, y, is, phase) about a leading = led (Step t ∷ []) _ z.queues _ Row.Rests (clears o p y is phase) refl
+  lead_row (Row.Chooses k v) there about a leading = chosen_so k v 0 there
+  lead_row (Row.Asleep k) there about a leading = there
+  lead_row (Row.Late k) there about a leading = there
+  lead_row (Row.LateSees k) (p, is, phase) about a leading = (OnMutex (TimedLock (cell_of k.mutex)), p, ETIMEDOUT, is, phase)
+  lead_row (Row.SlotPends k sl) there about (inside, room) leading = through_slot k sl k.how inside room there
+  lead_row (Row.SlotLeft k) (inl (p, is, phase)) about a leading = led (begins_behind t (TimedLock (cell_of k.mutex))) _ z.queues _ (Row.SeesToSleep (later k)) (behind (cell_of k.mutex) true _ _ _ (clearing_at _ p _ is phase) a.inside a.room) (at_cell k.mutex)
+  lead_row (Row.SlotLeft k) (inr (p, is, phase)) about a leading = led (begins_behind t (TimedLock (cell_of k.mutex))) _ z.queues _ (Row.SeesToSleep (later k)) (behind (cell_of k.mutex) true _ _ _ (clearing_at _ p _ is phase) a.inside a.room) (at_cell k.mutex)
+  lead_row (Row.SlotClears k) (p, is, phase) about a leading = led (Step t ∷ []) _ z.queues _ (Row.SlotQuiets k) (clears _ p _ is phase) refl
+  lead_row (Row.SlotQuiets k) there about a leading = there
+  lead_row (Row.SlotMends k) is about a leading = led (made x t c (Row.SlotMends k)).events _ z.queues _ (Row.HeirPends k Mended) (mending.declared x t c at (slot_of k.mutex) is a) refl
+  lead_row (Row.HeirPends k Linked) (p, is, phase) about a leading = led (begins_behind t (TimedLock (cell_of k.mutex))) _ z.queues _ (Row.HeirSets k) (behind (cell_of k.mutex) true _ _ _ (clearing_at _ p _ is phase) a.inside a.room) (at_cell k.mutex)
+  lead_row (Row.HeirPends k Mended) is about a leading = led (begins t (TimedLock (cell_of k.mutex))) _ z.queues _ (Row.HeirSets k) (begun (cell_of k.mutex) true is a.inside a.room) (at_cell k.mutex)
+  lead_row (Row.HeirPends k Again) there about a leading = there
+  lead_row (Row.HeirSets k) there about a leading = there
+  lead_row (Row.HeirLooks k) there about a leading = looked_so k (shown x (cell_place z.layout (cell_of k.mutex))) ((fields_of (shown x (cell_place z.layout (cell_of k.mutex)))).unusable || (is_free (shown x (cell_place z.layout (cell_of k.mutex))) && c.yes)) c.again there
+  lead_row (Row.HeirPendsOn k v over) there about a leading = watched_so k v over (is_free v) (not (fields_of v).unusable) there
+  lead_row (Row.HeirHas k r) there about a leading = there
+  lead_row (Row.GivesUp k) there about a leading = there
+  lead_row (Row.LastMarks k v) there about (may, to) leading = last_marks k v there may to
+  lead_row (Row.TryPends m v) is about a leading = led (begins t (TryLock (cell_of m))) _ z.queues _ (Row.TryTakes m v) (begun (cell_of m) false is a.inside a.room) (tried_at m)
+  lead_row (Row.GiveFinds m y) there about a leading = either c.again (Row.GiveFinds m y) (Row.Gives m y) g there there
+  lead_row (Row.Mends m) is about a leading = led (made x t c (Row.Mends m)).events _ z.queues _ Row.Rests (mending.declared x t c at (cell_of m) is a) refl
+  lead_row (Row.AnewLooks m) is about a leading = either (fields_of (shown x (cell_place z.layout (cell_of m)))).unusable (Row.Anews m (shown x (cell_place z.layout (cell_of m)))) Row.Rests g is is
+  lead_row (Row.WaitSets m k n timed) there about a leading = either c.yes (Row.GiveFinds m (OfWait k n true timed)) (Row.Gives m (OfWait k n true timed)) g there there
+  lead_row (Row.WaitAsleep m k timed) there about a leading = there
+  lead_row (Row.WaitLate m k) there about a leading = there
+  lead_row (Row.CountLoads m k all) there about a leading = there
+  lead_row (Row.AllMarks m k n) (seen, same, (p, is, phase)) about a leading = led (Step t ∷ []) _ z.queues _ (Row.AllMoves m k n)
+      (marking.sets x t c at m k n seen (is_at_word z t (cond_call.Broadcast k) p (CondPhase.AtWords (cond_row.Broadcast (broadcast.SetWaiters seen))) inv at.first at.last is phase) (subst (IsAbout z.layout m) is about))
+      (seen, same, (_, refl, refl))
+  lead_row (Row.Unsets m k n) there about a leading = there
+  lead_row r there about a never = absurd never
+
+pub rows_lead : RowsLeadOn
+rows_lead x t c at assumes leading = lead_row x t c at (x.rows t) at.there at.about assumes leading
