@@ -3,13 +3,15 @@ use Rattle.std.proofs.Common.{◌≡◌, ◌≢◌, inl, inr, ℕ, ◌+◌, ◌<
 use Rattle.std.specs.Prelude.{if◌then◌else◌, not, ◌&&◌, ◌||◌}
 use Rattle.lockword.specs.Cells.{fields_of}
 use Rattle.lockword.specs.declared.reply.Reply.{Reply}
-use Rattle.lockword.specs.declared.reply.Reply.TheVariants.{ETIMEDOUT}
+use Rattle.lockword.specs.declared.reply.Reply.TheVariants.{ENOTRECOVERABLE, ETIMEDOUT}
 use Rattle.stepprograms.specs.declared.access.Access.{Access}
 use Rattle.posixmutex.specs.declared.point.Operation.TheVariants as operation
 use Rattle.memorymap.specs.Layouts.{cell_place, head_place}
 use Rattle.mutex.specs.declared.call.Call.TheVariants.{TimedLock, TryLock, Unlock}
 use Rattle.mutex.specs.declared.phase.Phase.{Phase}
 use Rattle.mutex.specs.declared.phase.Phase.TheVariants.{AtCell, Clearing}
+use Rattle.mutex.specs.declared.lock.LockRow.TheVariants as lock
+use Rattle.mutex.specs.declared.row.Row.TheVariants.{Lock}
 use Rattle.mutex.specs.Standings.{Whole}
 use Rattle.condvar.specs.declared.call.CondCall.TheVariants as cond_call
 use Rattle.condvar.specs.declared.phase.CondPhase.{CondPhase}
@@ -36,20 +38,23 @@ use Rattle.slots.specs.Rows.Giving.{OfWait}
 use Rattle.slots.specs.Rows.Then.{ToSleep, ToSlot}
 use Rattle.slots.specs.Shown.{Slots, shown}
 use Rattle.slots.specs.Stands.{HasChosen, IsIn, IsThrough, IsToLook, IsToSleep, StandsAs, at_load}
-use Rattle.slots.specs.Table.{Made, begins, begins_behind, is_free, later, is_moving, made, makes, out_of, sets_and_expires, sleep_row, to_slot, tries, waiting_word}
+use Rattle.slots.specs.Table.{Made, again_events, begins, begins_behind, is_free, later, is_moving, made, makes, out_of, expires, seen_events, seen_row, seen_to_sleep, sets_and_expires, sleep_row, to_slot, tries, waiting_word}
 use Rattle.slots.specs.Accesses.{IsAbout, IsAboutIt, IsAtRow}
 use Rattle.slots.specs.Each.{Assumes, IsToMark}
-use Rattle.slots.specs.Further.{MayTake}
+use Rattle.slots.specs.Further.{GoesToSlot, MayTake}
+use Rattle.slots.specs.Invariant.{fields_at}
 use Rattle.slots.specs.Goes.{IsLeading, LeadsOn, RowsLeadOn}
 use Rattle.slots.proofs.Announcing.{call_of}
-use Rattle.slots.proofs.Chains.{behind_more, clears_more, lock_or_try, locks_more}
-use Rattle.slots.proofs.Decisions.{at_load_later}
+use Rattle.slots.proofs.LookLeads.{Reaches, gives_up, loaded, lost_clears, lost_wakes, reach_later, reach_to_sleep, reach_tried, reach_waited}
+use Rattle.slots.proofs.Meets.{Says, cell_says, pends_in}
+use Rattle.slots.proofs.Chains.{again_more, behind_more, clears_more, lock_or_try, locks_more}
+use Rattle.slots.proofs.Decisions.{at_load_later, behind_later, behind_tried}
 use Rattle.slots.proofs.Each.{unmarked}
 use Rattle.slots.proofs.Free.{reached_kept}
-use Rattle.slots.proofs.Leading.{IsAt, Leads, by_test, call_at, is_at, is_at_word, on, op_of, stays}
+use Rattle.slots.proofs.Leading.{IsAt, Leads, by_test, call_at, compose, is_at, is_at_word, now, on, op_of, stays}
 use Rattle.slots.proofs.Marking as marking
 use Rattle.slots.proofs.Mending as mending
-use Rattle.slots.proofs.Takes.{load_of}
+use Rattle.slots.proofs.Takes.{load_of, not_equal}
 
 module _ (x : Slots) (t : ℕ) (c : Choice) (at : IsAtRow x t) where
   abbrev z : State
@@ -159,9 +164,97 @@ module _ (x : Slots) (t : ℕ) (c : Choice) (at : IsAtRow x t) where
   watched_so k v true false false there = there
   watched_so k v false b d there = there
 
-  lead_row : (r : Row) → StandsAs r g → IsAboutIt z.layout r g → Assumes x t r → IsLeading r → LeadsOn x t c r
+  -- ---- looks
+
+  abbrev word : ℕ → ℕ
+  word m = shown x (cell_place z.layout (cell_of m))
+
+  reached : (es : List Event) (next : Row) → Reaches z t es next → StandsAs next ((run z es).threads t).stage
+  reached es next r = led es z.words z.queues r.0 next r.1 r.2
+
+  sees_so : (k : Taking) (how : How) → k.how ≡ how → MayTake x t k.mutex → IsToLook k how g → IsAbout z.layout k.mutex g → Reaches z t (seen_events t k.mutex how (word k.mutex)) (seen_row t k (word k.mutex))
+  sees_so k Tried same may (p, is, phase) about = reach_tried z t k (word k.mutex) inv at.first at.last at.out may.room (cell_says x k.mutex may.inside) (is_at z t (OnMutex (TryLock (cell_of k.mutex))) p (cell_of k.mutex) (AtCell (load_of false)) inv at.first at.last is phase refl) same
+  sees_so k Later same may there about = reach_later z t k (word k.mutex) inv at.first at.last at.out may.room (cell_says x k.mutex may.inside) (at_load_later x t c at k.mutex there) same
+  sees_so k (Waited y) same may (o, p, is, of, acts, phase) about = reach_waited z t k (word k.mutex) inv at.first at.last at.out may.room (cell_says x k.mutex may.inside) o y of acts (is_at z t (OnCondition o) p (cell_of k.mutex) (AtCell (load_of true)) inv at.first at.last is phase (subst (IsAbout z.layout k.mutex) is about)) same
+
+  -- after a call that begins again
+  again_so : (k : Taking) (b : Bool) (o : Op) (y : Reply) → MayTake x t k.mutex → IsAt z t o (cell_of k.mutex) (Clearing y) → (fs : List Event) (next : Row)
+      → ((th : Thread) → Kept (now z t z.words z.queues th) → ((now z t z.words z.queues th).threads t).held < 2048 → ((now z t z.words z.queues th).threads t).stage ≡ Calling (OnMutex (call_of b (cell_of k.mutex))) (call_at z.layout t (lock_or_try b) (cell_of k.mutex) (AtCell (load_of b))) → Reaches (now z t z.words z.queues th) t fs next)
+      → Reaches z t (begins_behind t (call_of b (cell_of k.mutex)) ++ fs) next
+  again_so k b o y may e fs next looks = (looked.0, compose z t (begins_behind t (call_of b (cell_of k.mutex))) fs z.words z.words z.queues z.queues th looked.0 started looked.1, looked.2)
+    where
+      th : Thread
+      th = on (Calling (OnMutex (call_of b (cell_of k.mutex))) (call_at z.layout t (lock_or_try b) (cell_of k.mutex) (AtCell (load_of b)))) h
+
+      started : Leads z t (begins_behind t (call_of b (cell_of k.mutex))) z.words z.queues th
+      started = again_more z t at.first at.last inv.layout [] z.words z.queues h (cell_of k.mutex) b o (op_of o) (cell_of k.mutex) y at.out (stays z t (Calling o (call_at z.layout t (op_of o) (cell_of k.mutex) (Clearing y))) inv e.there) may.inside may.room (pends_in z t o (cell_of k.mutex) (Clearing y) inv at.first at.last e)
+
+      same : put z.threads t th t ≡ th
+      same = put-same z.threads t th
+
+      looked : Reaches (now z t z.words z.queues th) t fs next
+      looked = looks th started.kept (subst (λ (a : Thread). a.held < 2048) (sym same) may.room) (ap (λ (a : Thread). a.stage) same)
+
+  sees_again : (k : Taking) (v : ℕ) (how : How) → k.how ≡ how → MayTake x t k.mutex → (b : Bool) → (fields_of v).waiters ≡ b → HasChosen k how b v g → GoesToSlot how → Reaches z t (again_events t k.mutex how v ++ seen_events t k.mutex how (word k.mutex)) (seen_row t k (word k.mutex))
+  sees_again k v Tried same may b waits there to = again_so k false _ _ may (behind_tried x t c at k.mutex there) (seen_events t k.mutex Tried (word k.mutex)) (seen_row t k (word k.mutex))
+      (λ th kept held stage. reach_tried (now z t z.words z.queues th) t k (word k.mutex) kept at.first at.last at.out held (cell_says x k.mutex may.inside) (record { inside = may.inside; there = stage }) same)
+  sees_again k v Later same may true waits there to = subst (λ (b : Bool). Reaches z t ((if b then begins_behind t (TimedLock (cell_of k.mutex)) else []) ++ seen_events t k.mutex Later (word k.mutex)) (seen_row t k (word k.mutex))) (sym waits)
+      (again_so k true _ _ may (behind_later x t c at k.mutex there) (seen_events t k.mutex Later (word k.mutex)) (seen_row t k (word k.mutex))
+      (λ th kept held stage. reach_later (now z t z.words z.queues th) t k (word k.mutex) kept at.first at.last at.out held (cell_says x k.mutex may.inside) (record { inside = may.inside; there = stage }) same))
+  sees_again k v Later same may false waits there to = subst (λ (b : Bool). Reaches z t ((if b then begins_behind t (TimedLock (cell_of k.mutex)) else []) ++ seen_events t k.mutex Later (word k.mutex)) (seen_row t k (word k.mutex))) (sym waits)
+      (reach_later z t k (word k.mutex) inv at.first at.last at.out may.room (cell_says x k.mutex may.inside) (at_load_later x t c at k.mutex there) same)
+  sees_again k v (Waited y) same may b waits there to = absurd to
+
+  last_looks : (k : Taking) → MayTake x t k.mutex → (fields_at z (cell_of k.mutex)).owner ≢ t → IsIn (TimedLock (cell_of k.mutex)) at_load g → LeadsOn x t c (Row.LastLooks k)
+  last_looks k may apart there = go (fields_of v).unusable refl ((fields_of v).owner == 0) refl (fields_of v).waiters refl
+    where
+      v : ℕ
+      v = word k.mutex
+
+      m : ℕ
+      m = cell_of k.mutex
+
+      look : Access
+      look = Access.Load (cell_in z.layout t m)
+
+      a : IsAt z t (OnMutex (TimedLock m)) m (AtCell (load_of true))
+      a = at_load_later x t c at k.mutex there
+
+      says : Says (z.words (cell_place z.layout m)) v
+      says = cell_says x k.mutex may.inside
+
+      start : Leads z t [] z.words z.queues (on (Calling (OnMutex (TimedLock m)) (call_at z.layout t operation.Lock m (AtCell (load_of true)))) h)
+      start = loaded z t k v inv at.first at.last at.out may.room says a
+
+      other : ((fields_of v).owner == t) ≡ false
+      other = not_equal (fields_of v).owner t (λ e. apart (sym says.owner ∙ e))
+
+      ended : (y : Reply) → IsIn (TimedLock m) (Clearing y) (Calling (OnMutex (TimedLock m)) (call_at z.layout t operation.Lock m (Clearing y)))
+      ended y = (call_at z.layout t operation.Lock m (Clearing y), refl, refl)
+
+      go : (u : Bool) → (fields_of v).unusable ≡ u → (b : Bool) → ((fields_of v).owner == 0) ≡ b → (d : Bool) → (fields_of v).waiters ≡ d
+          → (λ (n : Made). StandsAs n.next ((run z n.events).threads t).stage) (
+          if u then makes look (Step t ∷ []) (if d then Row.HeirWakes k else Row.Frees k (Fails ENOTRECOVERABLE))
+          else if b then makes look [] (Row.HeirPends k Again)
+          else if d then makes look (expires t) (out_of x t c k)
+          else makes look [] (Row.LastMarks k v)
+          )
+      go true lost b none true waits = led (Step t ∷ []) z.words z.queues _ (Row.HeirWakes k) (lost_wakes z t k v inv at.first at.last at.out may.room says [] (OnMutex (TimedLock m)) refl may.inside start lost waits) (call_at z.layout t operation.Lock m (AtCell (Lock lock.WakeAll)), refl, refl)
+      go true lost b none false alone = led (Step t ∷ []) z.words z.queues _ (Row.Frees k (Fails ENOTRECOVERABLE)) (lost_clears z t k v inv at.first at.last at.out may.room says [] (OnMutex (TimedLock m)) refl may.inside start lost alone) (ended ENOTRECOVERABLE)
+      go false usable true none d waits = there
+      go false usable false some true waits = led (expires t) z.words z.queues _ (out_of x t c k) (gives_up z t k v inv at.first at.last at.out may.room says a usable some other waits) (either (k.timed && c.yes) (Row.Frees k (Fails ETIMEDOUT)) (Row.Frees k Sleeps) _ (ended ETIMEDOUT) (ended ETIMEDOUT))
+      go false usable false some false alone = there
+
+  lead_row : (r : Row) → StandsAs r g → IsAboutIt z.layout r g → Assumes x t r → IsLeading x t r → LeadsOn x t c r
   lead_row Row.Rests there about a leading = there
   lead_row (Row.Pends k v) there about a tried = pends_so k v k.how refl tried there a
+  lead_row (Row.Sees k) there about may leading = reached (seen_events t k.mutex k.how (word k.mutex)) (seen_row t k (word k.mutex)) (sees_so k k.how refl may there about)
+  lead_row (Row.SeesAgain k v) there about (may, to) leading = reached (again_events t k.mutex k.how v ++ seen_events t k.mutex k.how (word k.mutex)) (seen_row t k (word k.mutex)) (sees_again k v k.how refl may (fields_of v).waiters refl there to)
+  lead_row (Row.SeesToSleep k) there about may (same, apart) = reached (seen_events t k.mutex k.how (word k.mutex)) (seen_to_sleep k (word k.mutex))
+      (subst (λ (i : How). Reaches z t (seen_events t k.mutex i (word k.mutex)) (seen_to_sleep k (word k.mutex))) (sym same)
+      (reach_to_sleep z t k (word k.mutex) inv at.first at.last at.out may.room (cell_says x k.mutex may.inside) (at_load_later x t c at k.mutex (subst (λ (i : How). IsToLook k i g) same there)) same
+      (not_equal (fields_of (word k.mutex)).owner t (λ e. apart (sym (cell_says x k.mutex may.inside).owner ∙ e)))))
+  lead_row (Row.LastLooks k) there about (may, apart) leading = last_looks k may apart there
   lead_row (Row.Clears m r) (o, p, y, is, phase) about a leading = led (Step t ∷ []) _ z.queues _ Row.Rests (clears o p y is phase) refl
   lead_row (Row.Chooses k v) there about a leading = chosen_so k v 0 there
   lead_row (Row.Asleep k) there about a leading = there

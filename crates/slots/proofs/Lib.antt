@@ -34,3 +34,4 @@ pub mod Counting
 pub mod Each
 pub mod Others
 pub mod LeadsOn
+pub mod LookLeads

@@ -51,13 +51,13 @@ use Rattle.slots.proofs.Meets.{cell_says, load_idles, nothing_events, pends_none
 use Rattle.slots.proofs.OneStep.{AreEvents}
 use Rattle.slots.proofs.Takes.{load_of}
 
-sees_own : (t : ℕ) (c : Fields) → c.unusable ≡ false → (c.owner == t) ≡ true → lock_sees t c ≡ ends EDEADLK
+pub sees_own : (t : ℕ) (c : Fields) → c.unusable ≡ false → (c.owner == t) ≡ true → lock_sees t c ≡ ends EDEADLK
 sees_own t c usable own = grind (arith)
 
 pub tries_unusable : (c : Fields) → c.unusable ≡ true → try_sees 0 c ≡ ends ENOTRECOVERABLE
 tries_unusable c lost = grind (arith)
 
-tries_owned : (c : Fields) → c.unusable ≡ false → (c.owner == 0) ≡ false → try_sees 0 c ≡ ends EBUSY
+pub tries_owned : (c : Fields) → c.unusable ≡ false → (c.owner == 0) ≡ false → try_sees 0 c ≡ ends EBUSY
 tries_owned c usable some = grind (arith)
 
 module _ (x : Slots) (t : ℕ) (c : Choice) (at : IsAtRow x t) where

@@ -2,8 +2,10 @@
 use Rattle.std.specs.Prelude.{ℕ, ◌≡◌, ◌≢◌, ◌+◌}
 use Rattle.protocol.specs.Machine.{run}
 use Rattle.slots.specs.Rows.{Choice, Row}
-use Rattle.slots.specs.Rows.How.{Tried}
+use Rattle.slots.specs.Rows.How.{Tried, Later}
+use Rattle.slots.specs.Places.{cell_of}
 use Rattle.slots.specs.Shown.{Slots}
+use Rattle.slots.specs.Invariant.{fields_at}
 use Rattle.slots.specs.Stands.{StandsAs}
 use Rattle.slots.specs.Table.{made}
 use Rattle.slots.specs.Accesses.{IsAtRow}
@@ -37,39 +39,44 @@ OthersStandStill = (x : Slots) (h : Happening) (u : ℕ) → IsReached x.machine
 abbrev pub LeadsOn : Slots → ℕ → Choice → Row → Type 0
 LeadsOn x t c r = StandsAs (made x t c r).next ((run x.machine (made x t c r).events).threads t).stage
 
--- at these rows that is proved. A lock announces the cell for the first time in a trylock
-abbrev pub IsLeading : Row → Type 0
-IsLeading Row.Rests = Unit {0}
-IsLeading (Row.Pends k v) = k.how ≡ Tried
-IsLeading (Row.Clears m r) = Unit {0}
-IsLeading (Row.Chooses k v) = Unit {0}
-IsLeading (Row.Asleep k) = Unit {0}
-IsLeading (Row.Late k) = Unit {0}
-IsLeading (Row.LateSees k) = Unit {0}
-IsLeading (Row.SlotPends k g) = Unit {0}
-IsLeading (Row.SlotLeft k) = Unit {0}
-IsLeading (Row.SlotClears k) = Unit {0}
-IsLeading (Row.SlotQuiets k) = Unit {0}
-IsLeading (Row.SlotMends k) = Unit {0}
-IsLeading (Row.HeirPends k b) = Unit {0}
-IsLeading (Row.HeirSets k) = Unit {0}
-IsLeading (Row.HeirLooks k) = Unit {0}
-IsLeading (Row.HeirPendsOn k v over) = Unit {0}
-IsLeading (Row.HeirHas k r) = Unit {0}
-IsLeading (Row.GivesUp k) = Unit {0}
-IsLeading (Row.LastMarks k v) = Unit {0}
-IsLeading (Row.TryPends m v) = Unit {0}
-IsLeading (Row.GiveFinds m g) = Unit {0}
-IsLeading (Row.Mends m) = Unit {0}
-IsLeading (Row.AnewLooks m) = Unit {0}
-IsLeading (Row.WaitSets m k n timed) = Unit {0}
-IsLeading (Row.WaitAsleep m k timed) = Unit {0}
-IsLeading (Row.WaitLate m k) = Unit {0}
-IsLeading (Row.CountLoads m k all) = Unit {0}
-IsLeading (Row.AllMarks m k n) = Unit {0}
-IsLeading (Row.Unsets m k n) = Unit {0}
-IsLeading r = ⊥
+-- at these rows that is proved. A lock announces the cell for the first time in a trylock. When it has been at the slot, it
+-- doesn't own the cell
+abbrev pub IsLeading : Slots → ℕ → Row → Type 0
+IsLeading x t Row.Rests = Unit {0}
+IsLeading x t (Row.Pends k v) = k.how ≡ Tried
+IsLeading x t (Row.Sees k) = Unit {0}
+IsLeading x t (Row.SeesAgain k v) = Unit {0}
+IsLeading x t (Row.SeesToSleep k) = (k.how ≡ Later) × ((fields_at x.machine (cell_of k.mutex)).owner ≢ t)
+IsLeading x t (Row.LastLooks k) = Unit {0}
+IsLeading x t (Row.Clears m r) = Unit {0}
+IsLeading x t (Row.Chooses k v) = Unit {0}
+IsLeading x t (Row.Asleep k) = Unit {0}
+IsLeading x t (Row.Late k) = Unit {0}
+IsLeading x t (Row.LateSees k) = Unit {0}
+IsLeading x t (Row.SlotPends k g) = Unit {0}
+IsLeading x t (Row.SlotLeft k) = Unit {0}
+IsLeading x t (Row.SlotClears k) = Unit {0}
+IsLeading x t (Row.SlotQuiets k) = Unit {0}
+IsLeading x t (Row.SlotMends k) = Unit {0}
+IsLeading x t (Row.HeirPends k b) = Unit {0}
+IsLeading x t (Row.HeirSets k) = Unit {0}
+IsLeading x t (Row.HeirLooks k) = Unit {0}
+IsLeading x t (Row.HeirPendsOn k v over) = Unit {0}
+IsLeading x t (Row.HeirHas k r) = Unit {0}
+IsLeading x t (Row.GivesUp k) = Unit {0}
+IsLeading x t (Row.LastMarks k v) = Unit {0}
+IsLeading x t (Row.TryPends m v) = Unit {0}
+IsLeading x t (Row.GiveFinds m g) = Unit {0}
+IsLeading x t (Row.Mends m) = Unit {0}
+IsLeading x t (Row.AnewLooks m) = Unit {0}
+IsLeading x t (Row.WaitSets m k n timed) = Unit {0}
+IsLeading x t (Row.WaitAsleep m k timed) = Unit {0}
+IsLeading x t (Row.WaitLate m k) = Unit {0}
+IsLeading x t (Row.CountLoads m k all) = Unit {0}
+IsLeading x t (Row.AllMarks m k n) = Unit {0}
+IsLeading x t (Row.Unsets m k n) = Unit {0}
+IsLeading x t r = ⊥
 
 abbrev pub RowsLeadOn : Type 0
-RowsLeadOn = (x : Slots) (t : ℕ) (c : Choice) → IsAtRow x t → Assumes x t (x.rows t) → IsLeading (x.rows t)
+RowsLeadOn = (x : Slots) (t : ℕ) (c : Choice) → IsAtRow x t → Assumes x t (x.rows t) → IsLeading x t (x.rows t)
     → LeadsOn x t c (x.rows t)
