@@ -76,13 +76,13 @@ module _ (x : Slots) (t : ℕ) (c : Choice) (at : IsAtRow x t) where
       go false e = other (λ same. cc (sym e ∙ eq-eqb (word k) v same))
 
   -- a cell is found free
-  finds : (m v : ℕ) → MayTake x t m → IsToTake x m v → word (cell_of m) ≡ v → Finds x (cell_of m) v
+  pub finds : (m v : ℕ) → MayTake x t m → IsToTake x m v → word (cell_of m) ≡ v → Finds x (cell_of m) v
   finds m v may to found = record { found = found; free = both.0; usable = both.1; room = to.room }
     where
       both : ((fields_at z (cell_of m)).owner ≡ 0) × ((fields_at z (cell_of m)).unusable ≡ false)
       both = free_word (z.words (cell_place z.layout (cell_of m))) (x.turns (cell_of m)) to.room (ap is_free (sym (cell_shows x m may.inside) ∙ found) ∙ to.free)
 
-  finds_slot : (m g : ℕ) → IsToTakeSlot x m g → word (slot_of m) ≡ g → Finds x (slot_of m) g
+  pub finds_slot : (m g : ℕ) → IsToTakeSlot x m g → word (slot_of m) ≡ g → Finds x (slot_of m) g
   finds_slot m g to found = record {
     found = found;
     free = sym (slot_owner (z.words (cell_place z.layout (slot_of m))) (x.turns (slot_of m)) (is_slot (slot_of m) && x.awake (our_own (slot_of m)))) ∙ ap (λ (v : ℕ). (fields_of v).owner) (sym (shown_cell x (slot_of m) to.inside) ∙ found) ∙ to.nobody;

@@ -12,6 +12,7 @@ use Rattle.mutex.specs.declared.phase.Phase.{Phase}
 use Rattle.mutex.specs.declared.phase.Phase.TheVariants.{AtCell, Clearing}
 use Rattle.mutex.specs.declared.lock.LockRow.TheVariants as lock
 use Rattle.mutex.specs.declared.row.Row.TheVariants.{Lock}
+use Rattle.mutex.specs.Rows.{acquired}
 use Rattle.mutex.specs.Standings.{Whole}
 use Rattle.condvar.specs.declared.call.CondCall.TheVariants as cond_call
 use Rattle.condvar.specs.declared.phase.CondPhase.{CondPhase}
@@ -38,18 +39,19 @@ use Rattle.slots.specs.Rows.Giving.{OfWait}
 use Rattle.slots.specs.Rows.Then.{ToSleep, ToSlot}
 use Rattle.slots.specs.Shown.{Slots, shown}
 use Rattle.slots.specs.Stands.{HasChosen, IsIn, IsThrough, IsToLook, IsToSleep, StandsAs, at_load}
-use Rattle.slots.specs.Table.{Made, again_events, begins, begins_behind, is_free, later, is_moving, made, makes, out_of, expires, seen_events, seen_row, seen_to_sleep, sets_and_expires, sleep_row, to_slot, tries, waiting_word}
+use Rattle.slots.specs.Table.{Made, again_events, begins, begins_behind, is_free, later, is_moving, made, makes, out_of, expires, seen_events, seen_row, seen_to_sleep, sets_and_expires, sleep_row, to_slot, taken_word, tries, waiting_word, watched_row}
 use Rattle.slots.specs.Accesses.{IsAbout, IsAboutIt, IsAtRow}
-use Rattle.slots.specs.Each.{Assumes, IsToMark}
+use Rattle.slots.specs.Each.{Assumes, IsToMark, IsToTake}
 use Rattle.slots.specs.Further.{GoesToSlot, MayTake}
 use Rattle.slots.specs.Invariant.{fields_at}
 use Rattle.slots.specs.Goes.{IsLeading, LeadsOn, RowsLeadOn}
 use Rattle.slots.proofs.Announcing.{call_of}
+use Rattle.slots.proofs.TakeLeads.{cell_taken, heir_taken}
 use Rattle.slots.proofs.LookLeads.{Reaches, gives_up, loaded, lost_clears, lost_wakes, reach_later, reach_to_sleep, reach_tried, reach_waited}
 use Rattle.slots.proofs.Meets.{Says, cell_says, pends_in}
 use Rattle.slots.proofs.Chains.{again_more, behind_more, clears_more, lock_or_try, locks_more}
 use Rattle.slots.proofs.Decisions.{at_load_later, behind_later, behind_tried}
-use Rattle.slots.proofs.Each.{unmarked}
+use Rattle.slots.proofs.Each.{finds, unmarked}
 use Rattle.slots.proofs.Free.{reached_kept}
 use Rattle.slots.proofs.Leading.{IsAt, Leads, by_test, call_at, compose, is_at, is_at_word, now, on, op_of, stays}
 use Rattle.slots.proofs.Marking as marking
@@ -245,10 +247,26 @@ module _ (x : Slots) (t : ℕ) (c : Choice) (at : IsAtRow x t) where
       go false usable false some true waits = led (expires t) z.words z.queues _ (out_of x t c k) (gives_up z t k v inv at.first at.last at.out may.room says a usable some other waits) (either (k.timed && c.yes) (Row.Frees k (Fails ETIMEDOUT)) (Row.Frees k Sleeps) _ (ended ETIMEDOUT) (ended ETIMEDOUT))
       go false usable false some false alone = there
 
+  -- ---- takes
+
+  takes_so : (k : Taking) (v : ℕ) → MayTake x t k.mutex → IsToTake x k.mutex v → IsToLook k k.how g → IsAbout z.layout k.mutex g → LeadsOn x t c (Row.Takes k v)
+  takes_so k v may to there about = by_test (λ (n : Made). StandsAs n.next ((run z n.events).threads t).stage) (word k.mutex == v)
+      (makes (Access.Exchange (cell_in z.layout t (cell_of k.mutex)) v (taken_word v t)) (Step t ∷ Step t ∷ []) (Row.Links k.mutex (acquired (fields_of v)))) (makes (Access.Exchange (cell_in z.layout t (cell_of k.mutex)) v (taken_word v t)) (seen_events t k.mutex k.how (word k.mutex)) (seen_row t k (word k.mutex)))
+      (λ e. cell_taken x t c at k v k.how may (finds x t c at k.mutex v may to (eqb-true (word k.mutex) v e)) there about)
+      (λ e. reached (seen_events t k.mutex k.how (word k.mutex)) (seen_row t k (word k.mutex)) (sees_so k k.how refl may there about))
+
+  heir_takes_so : (k : Taking) (v : ℕ) → MayTake x t k.mutex → IsToTake x k.mutex v → IsIn (TimedLock (cell_of k.mutex)) at_load g → LeadsOn x t c (Row.HeirTakes k v)
+  heir_takes_so k v may to there = by_test (λ (n : Made). StandsAs n.next ((run z n.events).threads t).stage) (word k.mutex == v)
+      (makes (Access.Exchange (cell_in z.layout t (cell_of k.mutex)) v (taken_word v t)) (Step t ∷ Step t ∷ []) (Row.HeirHas k (acquired (fields_of v)))) (makes (Access.Exchange (cell_in z.layout t (cell_of k.mutex)) v (taken_word v t)) [] (watched_row x t c k (word k.mutex) true))
+      (λ e. heir_taken x t c at k v may (finds x t c at k.mutex v may to (eqb-true (word k.mutex) v e)) there)
+      (λ e. watched_so k (word k.mutex) true (is_free (word k.mutex)) (not (fields_of (word k.mutex)).unusable) there)
+
   lead_row : (r : Row) → StandsAs r g → IsAboutIt z.layout r g → Assumes x t r → IsLeading x t r → LeadsOn x t c r
   lead_row Row.Rests there about a leading = there
   lead_row (Row.Pends k v) there about a tried = pends_so k v k.how refl tried there a
   lead_row (Row.Sees k) there about may leading = reached (seen_events t k.mutex k.how (word k.mutex)) (seen_row t k (word k.mutex)) (sees_so k k.how refl may there about)
+  lead_row (Row.Takes k v) there about (may, to) leading = takes_so k v may to there about
+  lead_row (Row.HeirTakes k v) there about (may, to) leading = heir_takes_so k v may to there
   lead_row (Row.SeesAgain k v) there about (may, to) leading = reached (again_events t k.mutex k.how v ++ seen_events t k.mutex k.how (word k.mutex)) (seen_row t k (word k.mutex)) (sees_again k v k.how refl may (fields_of v).waiters refl there to)
   lead_row (Row.SeesToSleep k) there about may (same, apart) = reached (seen_events t k.mutex k.how (word k.mutex)) (seen_to_sleep k (word k.mutex))
       (subst (λ (i : How). Reaches z t (seen_events t k.mutex i (word k.mutex)) (seen_to_sleep k (word k.mutex))) (sym same)

@@ -35,3 +35,4 @@ pub mod Each
 pub mod Others
 pub mod LeadsOn
 pub mod LookLeads
+pub mod TakeLeads

@@ -4,24 +4,27 @@ use Rattle.std.specs.Prelude.{if◌then◌else◌, not, ◌&&◌, ◌||◌}
 use Rattle.lockword.specs.Cells.{Fields, bit, fields_of, word_of, taken}
 use Rattle.lockword.specs.Coding.{word_of-fields_of, fields_of-word_of}
 use Rattle.stepprograms.specs.declared.access.Access.{Access}
+use Rattle.stepprograms.specs.declared.access.Answer.TheVariants.{Exchanged, Changed}
+use Rattle.stepprograms.specs.Accesses.{answer_among}
 use Rattle.memorymap.specs.Layouts.{cell_place, place_in}
 use Rattle.mutex.specs.declared.lock.LockRow.TheVariants as lock
 use Rattle.mutex.specs.declared.try_lock.TryLockRow.TheVariants as try
 use Rattle.mutex.specs.declared.row.Row as mutex_row
 use Rattle.mutex.specs.declared.row.Row.TheVariants.{Lock, TryLock}
+use Rattle.mutex.specs.declared.phase.Phase.{Phase}
 use Rattle.mutex.specs.declared.phase.Phase.TheVariants.{AtCell}
 use Rattle.mutex.specs.declared.phase.Onward.{Onward}
 use Rattle.mutex.specs.Lock.{lock_sees}
 use Rattle.mutex.specs.TryLock.{try_sees}
-use Rattle.mutex.specs.Rows.{goes}
+use Rattle.mutex.specs.Rows.{acquired, ends, goes}
 use Rattle.mutex.specs.Standings.{Whole}
-use Rattle.mutex.specs.Whole.{from_cell, whole_access}
+use Rattle.mutex.specs.Whole.{from_cell, leaving, whole_access, whole_led}
 use Rattle.condvar.specs.declared.op.Op.{Op}
 use Rattle.condvar.specs.Ops.{mutex_of}
 use Rattle.protocol.specs.declared.event.Event.TheVariants.{Step}
 use Rattle.protocol.specs.declared.thread.Thread.{Thread}
 use Rattle.protocol.specs.declared.thread.Stage.TheVariants.{Calling}
-use Rattle.protocol.specs.Machine.{State, After, put, happens, run, stage_after, stands_in, is_unusable}
+use Rattle.protocol.specs.Machine.{State, After, put, happens, place_met, run, stage_after, stands_in, is_unusable}
 use Rattle.protocol.proofs.Kept.{Kept, Fits, last_thread}
 use Rattle.protocol.proofs.Accesses.{fits_in}
 use Rattle.protocol.proofs.Puts.{by_put, put-same, put-other}
@@ -60,6 +63,10 @@ load_access false p = refl
 take_access : (b : Bool) (p : Whole) (c : Fields) → whole_access (at_cell p (take_of b c)) ≡ Access.Exchange p.cell (word_of c) (word_of (taken c p.thread))
 take_access true p c = refl
 take_access false p c = refl
+
+exchanged_ends : (b : Bool) (p : Whole) (c : Fields) → whole_led (at_cell p (take_of b c)) Exchanged ≡ from_cell (at_cell p (take_of b c)) (ends (acquired c))
+exchanged_ends true p c = refl
+exchanged_ends false p c = refl
 
 lock_takes : (t : ℕ) (c : Fields) → c.unusable ≡ false → (c.owner == t) ≡ false → (c.owner == 0) ≡ true → lock_sees t c ≡ goes (Lock (lock.Take c))
 lock_takes t c usable other none = grind (arith)
@@ -152,6 +159,24 @@ module _ (s : State) (t : ℕ) (o : Op) (p : Whole) (b : Bool) (inv : Kept s) (p
 
   pub both_layout : (run s (Step t ∷ Step t ∷ [])).layout ≡ s.layout
   both_layout = ap (λ (z : State). z.layout) both_to
+
+  -- it leads to the link
+  abbrev p2 : Whole
+  p2 = at_cell p (take_of b c)
+
+  onto2 : onto s1 t p2 ≡ from_cell p2 (ends (acquired c))
+  onto2 =
+      ap (λ (a : Access). whole_led p2 (answer_among a (s1.words (place_met s.layout t a)) (s1.queues (place_met s.layout t a)))) (take_access b p c)
+      ∙ (λ i. whole_led p2 (if s1.words (place i) == word_of c then Exchanged else Changed (s1.words (place i))))
+      ∙ ap (λ (d : Bool). whole_led p2 (if d then Exchanged else Changed (s1.words pl))) same_word
+      ∙ exchanged_ends b p c
+
+  pub both_stage : (f : Phase) → leaving p2 p.operation (acquired c) ≡ f → stage_after o p2 f ≡ Calling o (record p { phase = f }) → ((run s (Step t ∷ Step t ∷ [])).threads t).stage ≡ Calling o (record p { phase = f })
+  both_stage f leads going =
+      ap (λ (z : State). (z.threads t).stage) both_to
+      ∙ ap (λ (y : Thread). y.stage) (put-same s1.threads t th2)
+      ∙ ap (λ (g : Onward). stage_after o p2 g.phase) onto2
+      ∙ ap (stage_after o p2) leads ∙ going
 
   -- ---- the turns
   turns_are : (turns : ℕ → ℕ) (j : ℕ) → turned_by s (Step t ∷ Step t ∷ []) turns j ≡ turned s1 s2 (turned s s1 turns) j

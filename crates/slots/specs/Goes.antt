@@ -45,7 +45,9 @@ abbrev pub IsLeading : Slots → ℕ → Row → Type 0
 IsLeading x t Row.Rests = Unit {0}
 IsLeading x t (Row.Pends k v) = k.how ≡ Tried
 IsLeading x t (Row.Sees k) = Unit {0}
+IsLeading x t (Row.Takes k v) = Unit {0}
 IsLeading x t (Row.SeesAgain k v) = Unit {0}
+IsLeading x t (Row.HeirTakes k v) = Unit {0}
 IsLeading x t (Row.SeesToSleep k) = (k.how ≡ Later) × ((fields_at x.machine (cell_of k.mutex)).owner ≢ t)
 IsLeading x t (Row.LastLooks k) = Unit {0}
 IsLeading x t (Row.Clears m r) = Unit {0}
