@@ -45,7 +45,7 @@ use Rattle.slots.proofs.TakeRows.{take_row}
 use Rattle.slots.proofs.Wakes.{wake_row}
 
 -- what a slot shows of its owner
-slot_owner : (w n : ℕ) (b : Bool) → (w + bit b 4294967296 + n * 8589934592) % 1073741824 ≡ w % 1073741824
+pub slot_owner : (w n : ℕ) (b : Bool) → (w + bit b 4294967296 + n * 8589934592) % 1073741824 ≡ w % 1073741824
 slot_owner w n true = omega arith
 slot_owner w n false = omega arith
 

@@ -1,9 +1,9 @@
 -- After an access the machine's thread is where the next row says.
-use Rattle.std.proofs.Common.{◌≡◌, ◌≢◌, inl, inr, ℕ, ◌+◌, ◌<◌, ◌==◌, Bool, true, false, List, [], ◌∷◌, ◌++◌, refl, sym, ap, ◌∙◌, subst, eqb-true}
-use Rattle.std.specs.Prelude.{if◌then◌else◌, not, ◌&&◌, ◌||◌}
-use Rattle.lockword.specs.Cells.{fields_of}
+use Rattle.std.proofs.Common.{◌≡◌, ◌≢◌, inl, inr, ℕ, ◌+◌, ◌%◌, ◌^◌, ◌<◌, ◌==◌, Bool, true, false, Some, List, [], ◌∷◌, ◌++◌, length, refl, sym, ap, ◌∙◌, subst, eqb-true}
+use Rattle.std.specs.Prelude.{if◌then◌else◌, not, take, drop, ◌&&◌, ◌||◌}
+use Rattle.lockword.specs.Cells.{fields_of, low_of, waiting}
 use Rattle.lockword.specs.declared.reply.Reply.{Reply}
-use Rattle.lockword.specs.declared.reply.Reply.TheVariants.{ENOTRECOVERABLE, ETIMEDOUT}
+use Rattle.lockword.specs.declared.reply.Reply.TheVariants.{OK, EBUSY, ENOTRECOVERABLE, ETIMEDOUT}
 use Rattle.stepprograms.specs.declared.access.Access.{Access}
 use Rattle.posixmutex.specs.declared.point.Operation.TheVariants as operation
 use Rattle.memorymap.specs.Layouts.{cell_place, head_place}
@@ -12,7 +12,13 @@ use Rattle.mutex.specs.declared.phase.Phase.{Phase}
 use Rattle.mutex.specs.declared.phase.Phase.TheVariants.{AtCell, Clearing}
 use Rattle.mutex.specs.declared.lock.LockRow.TheVariants as lock
 use Rattle.mutex.specs.declared.row.Row.TheVariants.{Lock}
-use Rattle.mutex.specs.Rows.{acquired}
+use Rattle.mutex.specs.declared.row.Row.TheVariants as mutex_row
+use Rattle.mutex.specs.Rows.{acquired, ends}
+use Rattle.mutex.specs.TryLock.{try_sees}
+use Rattle.mutex.specs.Whole.{from_cell, onward, phase_access, phase_led}
+use Rattle.mutex.specs.declared.unlock.UnlockRow.TheVariants as unlock
+use Rattle.lockword.specs.Threads.{most_threads}
+use Rattle.stepprograms.specs.declared.access.Answer.TheVariants.{Count}
 use Rattle.mutex.specs.Standings.{Whole}
 use Rattle.condvar.specs.declared.call.CondCall.TheVariants as cond_call
 use Rattle.condvar.specs.declared.phase.CondPhase.{CondPhase}
@@ -26,12 +32,12 @@ use Rattle.protocol.specs.declared.event.Event.TheVariants.{Step}
 use Rattle.protocol.specs.declared.thread.Thread.{Thread}
 use Rattle.protocol.specs.declared.thread.Stage.{Stage}
 use Rattle.protocol.specs.declared.thread.Stage.TheVariants.{Idle, Calling}
-use Rattle.protocol.specs.Machine.{State, put, run}
+use Rattle.protocol.specs.Machine.{State, held_after, put, run}
 use Rattle.protocol.proofs.Kept.{Kept}
 use Rattle.protocol.proofs.Puts.{put-same}
-use Rattle.protocol.proofs.Seeing.{cell_in, entry_in}
-use Rattle.slots.specs.Places.{cell_of, slot_of}
-use Rattle.slots.specs.Rows.{Choice, How, Row, Taking}
+use Rattle.protocol.proofs.Seeing.{cell_in, cell_again, entry_in}
+use Rattle.slots.specs.Places.{cell_of, is_slot, our_own, slot_of}
+use Rattle.slots.specs.Rows.{Choice, How, Row, Taking, Then}
 use Rattle.slots.specs.Rows.How.{Tried, Later, Waited}
 use Rattle.slots.specs.Rows.Before.{Linked, Mended, Again}
 use Rattle.slots.specs.Rows.Onward.{Fails, Sleeps}
@@ -39,23 +45,26 @@ use Rattle.slots.specs.Rows.Giving.{OfWait}
 use Rattle.slots.specs.Rows.Then.{ToSleep, ToSlot}
 use Rattle.slots.specs.Shown.{Slots, shown}
 use Rattle.slots.specs.Stands.{HasChosen, IsIn, IsThrough, IsToLook, IsToSleep, StandsAs, at_load}
-use Rattle.slots.specs.Table.{Made, again_events, begins, begins_behind, is_free, later, is_moving, made, makes, out_of, expires, seen_events, seen_row, seen_to_sleep, sets_and_expires, sleep_row, to_slot, taken_word, tries, waiting_word, watched_row}
+use Rattle.slots.specs.Table.{Made, again_events, begins, begins_behind, is_free, later, is_moving, made, makes, out_of, expires, marked_events, marked_row, missed, on_cell, seen_events, seen_row, seen_to_sleep, sets_and_expires, sleep_row, to_slot, taken_word, tries, waiting_word, watched_row}
 use Rattle.slots.specs.Accesses.{IsAbout, IsAboutIt, IsAtRow}
-use Rattle.slots.specs.Each.{Assumes, IsToMark, IsToTake}
-use Rattle.slots.specs.Further.{GoesToSlot, MayTake}
+use Rattle.slots.specs.Each.{Assumes, IsToMark, IsToTake, IsToTakeSlot}
+use Rattle.slots.specs.Further.{GoesToSlot, MayTake, SeesAnother, SeesUnmarked}
 use Rattle.slots.specs.Invariant.{fields_at}
 use Rattle.slots.specs.Goes.{IsLeading, LeadsOn, RowsLeadOn}
 use Rattle.slots.proofs.Announcing.{call_of}
-use Rattle.slots.proofs.TakeLeads.{cell_taken, heir_taken}
+use Rattle.slots.proofs.TakeLeads.{cell_taken, heir_taken, slot_taken, tried_taken}
 use Rattle.slots.proofs.LookLeads.{Reaches, gives_up, loaded, lost_clears, lost_wakes, reach_later, reach_to_sleep, reach_tried, reach_waited}
-use Rattle.slots.proofs.Meets.{Says, cell_says, pends_in}
-use Rattle.slots.proofs.Chains.{again_more, behind_more, clears_more, lock_or_try, locks_more}
+use Rattle.slots.proofs.Meets.{Says, cell_says, cell_shows, pends_in}
+use Rattle.slots.proofs.Chains.{again_more, behind_more, clears_more, lock_or_try, locks_more, sleeps_more, wakes_more}
 use Rattle.slots.proofs.Decisions.{at_load_later, behind_later, behind_tried}
-use Rattle.slots.proofs.Each.{finds, unmarked}
+use Rattle.slots.proofs.Each.{finds, finds_slot, slot_owner, unmarked}
 use Rattle.slots.proofs.Free.{reached_kept}
-use Rattle.slots.proofs.Leading.{IsAt, Leads, by_test, call_at, compose, is_at, is_at_word, now, on, op_of, stays}
+use Rattle.slots.proofs.Leading.{IsAt, Leads, by_test, call_at, compose, is_at, is_at_word, loads_more, now, on, op_of, put_back, stays, steps_more, unmoved, all_still}
 use Rattle.slots.proofs.Marking as marking
 use Rattle.slots.proofs.Mending as mending
+use Rattle.slots.proofs.Sleeping as sleeping
+use Rattle.slots.proofs.Refusals.{tries_owned, tries_unusable}
+use Rattle.slots.proofs.Shows.{shown_cell}
 use Rattle.slots.proofs.Takes.{load_of, not_equal}
 
 module _ (x : Slots) (t : ℕ) (c : Choice) (at : IsAtRow x t) where
@@ -261,12 +270,150 @@ module _ (x : Slots) (t : ℕ) (c : Choice) (at : IsAtRow x t) where
       (λ e. heir_taken x t c at k v may (finds x t c at k.mutex v may to (eqb-true (word k.mutex) v e)) there)
       (λ e. watched_so k (word k.mutex) true (is_free (word k.mutex)) (not (fields_of (word k.mutex)).unusable) there)
 
+  -- a trylock of the cell, and of the slot
+  miss_to : (k : ℕ) (p : Whole) (y : Reply) → g ≡ Calling (OnMutex (TryLock k)) p → p.phase ≡ AtCell (load_of false) → try_sees 0 (fields_at z k) ≡ ends y → from_cell (call_at z.layout t operation.TryLock k (AtCell (load_of false))) (ends y) ≡ record { phase = Clearing y; point = Some y } → held_after h operation.TryLock (Some y) ≡ h
+      → Leads z t (Step t ∷ []) z.words z.queues (on (Calling (OnMutex (TryLock k)) (call_at z.layout t operation.TryLock k (Clearing y))) h)
+  miss_to k p y is phase sees leads held = let a = is_at z t (OnMutex (TryLock k)) p k (AtCell (load_of false)) inv at.first at.last is phase refl in
+      loads_more z t [] z.words z.queues (OnMutex (TryLock k)) (call_at z.layout t operation.TryLock k (AtCell (load_of false))) h at.first at.last (stays z t (Calling (OnMutex (TryLock k)) (call_at z.layout t operation.TryLock k (AtCell (load_of false)))) inv a.there) at.out
+      (cell_in z.layout t k) (cell_place z.layout k) (record { phase = Clearing y; point = Some y }) (on (Calling (OnMutex (TryLock k)) (call_at z.layout t operation.TryLock k (Clearing y))) h)
+      refl (cell_again z.layout t inv.layout at.first at.last k a.inside) (ap (from_cell (call_at z.layout t operation.TryLock k (AtCell (load_of false)))) sees ∙ leads) refl held
+
+  clears_at : (k : ℕ) (y : Reply) → StandsAs (Row.Clears 0 OK) (Calling (OnMutex (TryLock k)) (call_at z.layout t operation.TryLock k (Clearing y)))
+  clears_at k y = (OnMutex (TryLock k), call_at z.layout t operation.TryLock k (Clearing y), y, refl, refl)
+
+  try_takes_so : (m v : ℕ) → MayTake x t m → IsToTake x m v → IsIn (TryLock (cell_of m)) (AtCell (load_of false)) g → LeadsOn x t c (Row.TryTakes m v)
+  try_takes_so m v may to (p, is, phase) = by_test (λ (n : Made). StandsAs n.next ((run z n.events).threads t).stage) (word m == v)
+      (makes exchange (Step t ∷ Step t ∷ []) (Row.Links m (acquired (fields_of v))))
+      (if is_free (word m) then makes exchange [] (Row.TryTakes m (word m)) else makes exchange (Step t ∷ []) (Row.Clears m reply))
+      (λ e. tried_taken x t c at m v may (finds x t c at m v may to (eqb-true (word m) v e)) (p, is, phase))
+      (λ e. by_test (λ (n : Made). StandsAs n.next ((run z n.events).threads t).stage) (is_free (word m)) (makes exchange [] (Row.TryTakes m (word m))) (makes exchange (Step t ∷ []) (Row.Clears m reply))
+      (λ free. (p, is, phase))
+      (λ taken. go (fields_of (word m)).unusable refl ((fields_of (word m)).owner == 0) refl taken))
+    where
+      exchange : Access
+      exchange = Access.Exchange (cell_in z.layout t (cell_of m)) v (taken_word v t)
+
+      reply : Reply
+      reply = if (fields_of (word m)).unusable then ENOTRECOVERABLE else EBUSY
+
+      says : Says (z.words (cell_place z.layout (cell_of m))) (word m)
+      says = cell_says x m may.inside
+
+      go : (a : Bool) → (fields_of (word m)).unusable ≡ a → (b : Bool) → ((fields_of (word m)).owner == 0) ≡ b → (b && not a) ≡ false → StandsAs (Row.Clears m reply) ((run z (Step t ∷ [])).threads t).stage
+      go true lost b e all = led (Step t ∷ []) z.words z.queues _ (Row.Clears m reply) (miss_to (cell_of m) p ENOTRECOVERABLE is phase (tries_unusable (fields_at z (cell_of m)) (sym says.unusable ∙ lost)) refl refl) (clears_at (cell_of m) ENOTRECOVERABLE)
+      go false usable false some all = led (Step t ∷ []) z.words z.queues _ (Row.Clears m reply) (miss_to (cell_of m) p EBUSY is phase (tries_owned (fields_at z (cell_of m)) (sym says.unusable ∙ usable) (ap (λ (n : ℕ). n == 0) (sym says.owner) ∙ some)) refl refl) (clears_at (cell_of m) EBUSY)
+      go false usable true none all = absurd cc
+
+  slot_takes_so : (k : Taking) (sl : ℕ) → IsToTakeSlot x k.mutex sl → IsIn (TryLock (slot_of k.mutex)) (AtCell (load_of false)) g → LeadsOn x t c (Row.SlotTakes k sl)
+  slot_takes_so k sl to (p, is, phase) = by_test (λ (n : Made). StandsAs n.next ((run z n.events).threads t).stage) (found == sl)
+      (makes exchange (Step t ∷ Step t ∷ []) (Row.SlotLinks k (fields_of sl).died))
+      (if (fields_of found).owner == 0 then makes exchange [] (Row.SlotTakes k found) else makes exchange (Step t ∷ []) (Row.SlotLeft k))
+      (λ e. slot_taken x t c at k sl to.inside (finds_slot x t c at k.mutex sl to (eqb-true found sl e)) (p, is, phase))
+      (λ e. by_test (λ (n : Made). StandsAs n.next ((run z n.events).threads t).stage) ((fields_of found).owner == 0) (makes exchange [] (Row.SlotTakes k found)) (makes exchange (Step t ∷ []) (Row.SlotLeft k))
+      (λ free. (p, is, phase))
+      (λ owned. led (Step t ∷ []) z.words z.queues _ (Row.SlotLeft k) (miss_to (slot_of k.mutex) p EBUSY is phase (tries_owned (fields_at z (slot_of k.mutex)) to.usable (ap (λ (n : ℕ). n == 0) (sym owner) ∙ owned)) refl refl)
+      (inl (call_at z.layout t operation.TryLock (slot_of k.mutex) (Clearing EBUSY), refl, refl))))
+    where
+      found : ℕ
+      found = shown x (cell_place z.layout (slot_of k.mutex))
+
+      exchange : Access
+      exchange = Access.Exchange (cell_in z.layout t (slot_of k.mutex)) sl (taken_word sl t)
+
+      owner : (fields_of found).owner ≡ (fields_at z (slot_of k.mutex)).owner
+      owner = ap (λ (u : ℕ). (fields_of u).owner) (shown_cell x (slot_of k.mutex) to.inside) ∙ slot_owner (z.words (cell_place z.layout (slot_of k.mutex))) (x.turns (slot_of k.mutex)) (is_slot (slot_of k.mutex) && x.awake (our_own (slot_of k.mutex)))
+
+  -- ---- WAITERS is set
+
+  timed_out_at : (m : ℕ) → IsIn (TimedLock (cell_of m)) (Clearing ETIMEDOUT) (Calling (OnMutex (TimedLock (cell_of m))) (call_at z.layout t operation.Lock (cell_of m) (Clearing ETIMEDOUT)))
+  timed_out_at m = (call_at z.layout t operation.Lock (cell_of m) (Clearing ETIMEDOUT), refl, refl)
+
+  abbrev MarksAs : Then → How → Type 0
+  MarksAs ToSleep how = Unit {0}
+  MarksAs (ToSlot sl) how = how ≡ Later
+
+  set_so : (k : Taking) (v : ℕ) (n : Then) (how : How) → k.how ≡ how → MarksAs n how → MayTake x t k.mutex → SeesUnmarked x t k.mutex v → HasChosen k how false v g → IsAbout z.layout k.mutex g
+      → StandsAs (marked_row x t c k how v n) ((run z (marked_events x t c k how)).threads t).stage
+  set_so k v ToSleep Tried same leading may sees there about = led (marked_events x t c k Tried) _ z.queues _ (Row.SleepsOn (later k) (waiting_word v)) (marking.from_clear x t c at k.mutex v may sees _ _ (behind_tried x t c at k.mutex there)) (timed_out_at k.mutex)
+  set_so k v ToSleep Later same leading may sees there about = led (marked_events x t c k Later) _ z.queues _ (Row.SleepsOn (later k) (waiting_word v)) (marking.from_load x t c at k.mutex v may sees (at_load_later x t c at k.mutex there)) (timed_out_at k.mutex)
+  set_so k v ToSleep (Waited y) same leading may sees (o, p, is, of, acts, phase) about = led (marked_events x t c k (Waited y)) _ z.queues _ (Row.SleepsOn k (waiting_word v))
+      (marking.from_wait x t c at k.mutex v may sees (OnCondition o) refl (is_at z t (OnCondition o) p (cell_of k.mutex) (AtCell (load_of true)) inv at.first at.last is phase (subst (IsAbout z.layout k.mutex) is about)))
+      (subst (λ (i : How). IsToSleep k i (waiting_word v) (Calling (OnCondition o) (call_at z.layout t operation.Lock (cell_of k.mutex) (AtCell (Lock (lock.Sleep (waiting (fields_at z (cell_of k.mutex))))))))) (sym same)
+      (waiting (fields_at z (cell_of k.mutex)), marking.waiting_low (z.words (cell_place z.layout (cell_of k.mutex))) (x.turns (cell_of k.mutex)) v (sym (cell_shows x k.mutex may.inside) ∙ sees.found), (o, _, refl, of, acts, refl)))
+  set_so k v (ToSlot sl) Tried same leading may sees there about = absurd (cc leading)
+  set_so k v (ToSlot sl) Later same leading may sees there about = led (marked_events x t c k Later) _ z.queues _ (Row.SlotPends k sl) (marking.from_load x t c at k.mutex v may sees (at_load_later x t c at k.mutex there))
+      (subst (λ (i : How). IsThrough k.mutex i (Calling (OnMutex (TimedLock (cell_of k.mutex))) (call_at z.layout t operation.Lock (cell_of k.mutex) (Clearing ETIMEDOUT)))) (sym same) (timed_out_at k.mutex))
+  set_so k v (ToSlot sl) (Waited y) same leading may sees there about = absurd (cc leading)
+
+  missed_mark : (k : Taking) (a : Access) (how : How) → k.how ≡ how → (v : ℕ) → MayTake x t k.mutex → HasChosen k how false v g → IsAbout z.layout k.mutex g → StandsAs (missed x t c a k how (word k.mutex)).next ((run z (missed x t c a k how (word k.mutex)).events).threads t).stage
+  missed_mark k a Tried same v may there about = reached (begins_behind t (TimedLock (cell_of k.mutex)) ++ seen_events t k.mutex Later (word k.mutex)) (seen_row t (later k) (word k.mutex)) (again_so k true _ _ may (behind_tried x t c at k.mutex there) (seen_events t k.mutex Later (word k.mutex)) (seen_row t (later k) (word k.mutex))
+      (λ th kept held stage. reach_later (now z t z.words z.queues th) t (later k) (word k.mutex) kept at.first at.last at.out held (cell_says x k.mutex may.inside) (record { inside = may.inside; there = stage }) refl))
+  missed_mark k a Later same v may there about = reached (seen_events t k.mutex Later (word k.mutex)) (seen_row t k (word k.mutex)) (sees_so k Later same may there about)
+  missed_mark k a (Waited y) same v may there about = reached (seen_events t k.mutex (Waited y) (word k.mutex)) (seen_row t k (word k.mutex)) (sees_so k (Waited y) same may there about)
+
+  marks_so : (k : Taking) (v : ℕ) (n : Then) → MarksAs n k.how → MayTake x t k.mutex → IsToMark t v → HasChosen k k.how false v g → IsAbout z.layout k.mutex g → LeadsOn x t c (Row.Marks k v n)
+  marks_so k v n leading may to there about = by_test (λ (n : Made). StandsAs n.next ((run z n.events).threads t).stage) (word k.mutex == v)
+      (makes (Access.Exchange (cell_in z.layout t (cell_of k.mutex)) v (waiting_word v)) (marked_events x t c k k.how) (marked_row x t c k k.how v n)) (missed x t c (Access.Exchange (cell_in z.layout t (cell_of k.mutex)) v (waiting_word v)) k k.how (word k.mutex))
+      (λ e. set_so k v n k.how refl leading may (unmarked x t c at k.mutex v to (eqb-true (word k.mutex) v e)) there about)
+      (λ e. missed_mark k (Access.Exchange (cell_in z.layout t (cell_of k.mutex)) v (waiting_word v)) k.how refl v may there about)
+
+  -- ---- sleeps and wakes
+
+  asleep_through : (k : Taking) (v : ℕ) → MayTake x t k.mutex → SeesAnother t v → (o : Op) (y : Reply) → IsAt z t o (cell_of k.mutex) (Clearing y) → (λ (n : Made). StandsAs n.next ((run z n.events).threads t).stage) (
+      if word k.mutex % 2 ^ 32 == v % 2 ^ 32
+      then makes (Access.Wait (cell_in z.layout t (cell_of k.mutex)) (v % 2 ^ 32)) (begins_behind t (TimedLock (cell_of k.mutex)) ++ Step t ∷ Step t ∷ []) (Row.Asleep (later k))
+      else makes (Access.Wait (cell_in z.layout t (cell_of k.mutex)) (v % 2 ^ 32)) (begins_behind t (TimedLock (cell_of k.mutex))) (Row.Asleep (later k))
+      )
+  asleep_through k v may sees o y a = by_test (λ (n : Made). StandsAs n.next ((run z n.events).threads t).stage) (word k.mutex % 2 ^ 32 == v % 2 ^ 32)
+      (makes (Access.Wait (cell_in z.layout t (cell_of k.mutex)) (v % 2 ^ 32)) (begins_behind t (TimedLock (cell_of k.mutex)) ++ Step t ∷ Step t ∷ []) (Row.Asleep (later k))) (makes (Access.Wait (cell_in z.layout t (cell_of k.mutex)) (v % 2 ^ 32)) (begins_behind t (TimedLock (cell_of k.mutex))) (Row.Asleep (later k)))
+      (λ e. led (begins_behind t (TimedLock (cell_of k.mutex)) ++ Step t ∷ Step t ∷ []) _ _ _ (Row.Asleep (later k)) (sleeping.falls x t c at k v may sees o y a e) (at_cell k.mutex))
+      (λ e. led (begins_behind t (TimedLock (cell_of k.mutex))) _ _ _ (Row.Asleep (later k)) (sleeping.begun x t c at k v may o y a) (at_cell k.mutex))
+
+  sleeps_on : (k : Taking) (v : ℕ) (how : How) → k.how ≡ how → MayTake x t k.mutex → SeesAnother t v → IsToSleep k how v g → IsAbout z.layout k.mutex g → StandsAs (on_cell x t c k how v (word k.mutex)).next ((run z (on_cell x t c k how v (word k.mutex)).events).threads t).stage
+  sleeps_on k v Tried same may sees there about = asleep_through k v may sees _ _ (behind_tried x t c at k.mutex there)
+  sleeps_on k v Later same may sees there about = asleep_through k v may sees _ _ (behind_later x t c at k.mutex there)
+  sleeps_on k v (Waited y) same may sees (d, low, (o, p, is, of, acts, phase)) about = go (z.words (cell_place z.layout (cell_of k.mutex)) % 2 ^ 32 == low_of d) refl
+    where
+      a : IsAt z t (OnCondition o) (cell_of k.mutex) (AtCell (Lock (lock.Sleep d)))
+      a = is_at z t (OnCondition o) p (cell_of k.mutex) (AtCell (Lock (lock.Sleep d))) inv at.first at.last is phase (subst (IsAbout z.layout k.mutex) is about)
+
+      l : Leads z t [] z.words z.queues (on (Calling (OnCondition o) (call_at z.layout t operation.Lock (cell_of k.mutex) (AtCell (Lock (lock.Sleep d))))) h)
+      l = stays z t (Calling (OnCondition o) (call_at z.layout t operation.Lock (cell_of k.mutex) (AtCell (Lock (lock.Sleep d))))) inv a.there
+
+      ended : StandsAs (Row.Asleep k) (Calling (OnCondition o) (call_at z.layout t operation.Lock (cell_of k.mutex) (AtCell (load_of true))))
+      ended = subst (λ (i : How). IsToLook k i (Calling (OnCondition o) (call_at z.layout t operation.Lock (cell_of k.mutex) (AtCell (load_of true))))) (sym same) (o, _, refl, of, acts, refl)
+
+      go : (b : Bool) → (z.words (cell_place z.layout (cell_of k.mutex)) % 2 ^ 32 == low_of d) ≡ b → StandsAs (Row.Asleep k) ((run z (Step t ∷ [])).threads t).stage
+      go true e = led (Step t ∷ []) _ _ _ (Row.Asleep k) (sleeps_more z t at.first at.last inv.layout [] z.words z.queues h (cell_of k.mutex) (OnCondition o) operation.Lock at.out may.inside d l e) ended
+      go false e = led (Step t ∷ []) _ _ _ (Row.Asleep k) (wakes_more z t at.first at.last inv.layout [] z.words z.queues h (cell_of k.mutex) (OnCondition o) operation.Lock at.out may.inside d l e) ended
+
+  -- a wake of all, after which the call has only to clear what it had pending
+  wakes_to : (o : Op) (m : ℕ) (f : Phase) (y : Reply) → IsAt z t o m f → phase_access (call_at z.layout t (op_of o) m f) f ≡ Access.Wake (cell_in z.layout t m) most_threads → ((n : ℕ) → phase_led (call_at z.layout t (op_of o) m f) f (Count n) ≡ onward (Clearing y))
+      → Leads z t (Step t ∷ []) z.words (put z.queues (cell_place z.layout m) (drop most_threads (z.queues (cell_place z.layout m)))) (on (Calling o (call_at z.layout t (op_of o) m (Clearing y))) h)
+  wakes_to o m f y a access leads = steps_more z t [] z.words z.queues o (call_at z.layout t (op_of o) m f) h at.first at.last (stays z t (Calling o (call_at z.layout t (op_of o) m f)) inv a.there) at.out (Access.Wake (cell_in z.layout t m) most_threads) (cell_place z.layout m) z.words (put z.queues (cell_place z.layout m) (drop most_threads (z.queues (cell_place z.layout m)))) (onward (Clearing y)) (on (Calling o (call_at z.layout t (op_of o) m (Clearing y))) h)
+      access (cell_again z.layout t inv.layout at.first at.last m a.inside) tt (put_back z.words (cell_place z.layout m)) refl (leads (length (take most_threads (z.queues (cell_place z.layout m))))) refl (unmoved (op_of o) h) (all_still z z.words)
+
+  woken_clears : (o : Op) (m : ℕ) (f : Phase) (y : Reply) (r : Reply) → IsAt z t o m f → phase_access (call_at z.layout t (op_of o) m f) f ≡ Access.Wake (cell_in z.layout t m) most_threads → ((n : ℕ) → phase_led (call_at z.layout t (op_of o) m f) f (Count n) ≡ onward (Clearing y)) → StandsAs (Row.Clears 0 r) ((run z (Step t ∷ [])).threads t).stage
+  woken_clears o m f y r a access leads = led (Step t ∷ []) _ _ _ (Row.Clears 0 r) (wakes_to o m f y a access leads) (o, call_at z.layout t (op_of o) m (Clearing y), y, refl, refl)
+
   lead_row : (r : Row) → StandsAs r g → IsAboutIt z.layout r g → Assumes x t r → IsLeading x t r → LeadsOn x t c r
   lead_row Row.Rests there about a leading = there
   lead_row (Row.Pends k v) there about a tried = pends_so k v k.how refl tried there a
   lead_row (Row.Sees k) there about may leading = reached (seen_events t k.mutex k.how (word k.mutex)) (seen_row t k (word k.mutex)) (sees_so k k.how refl may there about)
   lead_row (Row.Takes k v) there about (may, to) leading = takes_so k v may to there about
   lead_row (Row.HeirTakes k v) there about (may, to) leading = heir_takes_so k v may to there
+  lead_row (Row.Marks k v ToSleep) there about (may, to) leading = marks_so k v ToSleep tt may to there about
+  lead_row (Row.Marks k v (ToSlot sl)) there about (may, to) leading = marks_so k v (ToSlot sl) leading may to there about
+  lead_row (Row.SleepsOn k v) there about (may, sees) leading = sleeps_on k v k.how refl may sees there about
+  lead_row (Row.WakesAll m r) (inl (inl (p, is, phase))) about a leading = woken_clears (OnMutex (TryLock (cell_of m))) (cell_of m) (AtCell (Lock lock.WakeAll)) ENOTRECOVERABLE r (is_at z t (OnMutex (TryLock (cell_of m))) p (cell_of m) (AtCell (Lock lock.WakeAll)) inv at.first at.last is phase refl) refl (λ n. refl)
+  lead_row (Row.WakesAll m r) (inl (inr (inl (p, is, phase)))) about a leading = woken_clears (OnMutex (TimedLock (cell_of m))) (cell_of m) (AtCell (Lock lock.WakeAll)) ENOTRECOVERABLE r (is_at z t (OnMutex (TimedLock (cell_of m))) p (cell_of m) (AtCell (Lock lock.WakeAll)) inv at.first at.last is phase refl) refl (λ n. refl)
+  lead_row (Row.WakesAll m r) (inl (inr (inr (k, (o, p, is, of, acts, phase))))) about a leading = woken_clears (OnCondition o) (cell_of m) (AtCell (Lock lock.WakeAll)) ENOTRECOVERABLE r (is_at z t (OnCondition o) p (cell_of m) (AtCell (Lock lock.WakeAll)) inv at.first at.last is phase (subst (IsAbout z.layout m) is about)) refl (λ n. refl)
+  lead_row (Row.WakesAll m r) (inr (p, is, phase)) about a leading = woken_clears (OnMutex (Unlock (cell_of m))) (cell_of m) (AtCell (mutex_row.Unlock (unlock.Wake true))) OK r (is_at z t (OnMutex (Unlock (cell_of m))) p (cell_of m) (AtCell (mutex_row.Unlock (unlock.Wake true))) inv at.first at.last is phase refl) refl (λ n. refl)
+  lead_row (Row.HeirWakes k) (p, is, phase) about a leading = led (Step t ∷ []) _ _ _ (Row.Frees k (Fails ENOTRECOVERABLE))
+      (wakes_to (OnMutex (TimedLock (cell_of k.mutex))) (cell_of k.mutex) (AtCell (Lock lock.WakeAll)) ENOTRECOVERABLE (is_at z t (OnMutex (TimedLock (cell_of k.mutex))) p (cell_of k.mutex) (AtCell (Lock lock.WakeAll)) inv at.first at.last is phase refl) refl (λ n. refl))
+      (call_at z.layout t operation.Lock (cell_of k.mutex) (Clearing ENOTRECOVERABLE), refl, refl)
+  lead_row (Row.SlotTakes k sl) there about a leading = slot_takes_so k sl a there
+  lead_row (Row.TryTakes m v) there about (may, to) leading = try_takes_so m v may to there
   lead_row (Row.SeesAgain k v) there about (may, to) leading = reached (again_events t k.mutex k.how v ++ seen_events t k.mutex k.how (word k.mutex)) (seen_row t k (word k.mutex)) (sees_again k v k.how refl may (fields_of v).waiters refl there to)
   lead_row (Row.SeesToSleep k) there about may (same, apart) = reached (seen_events t k.mutex k.how (word k.mutex)) (seen_to_sleep k (word k.mutex))
       (subst (λ (i : How). Reaches z t (seen_events t k.mutex i (word k.mutex)) (seen_to_sleep k (word k.mutex))) (sym same)

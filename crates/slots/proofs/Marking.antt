@@ -1,7 +1,7 @@
 -- WAITERS is set: by an exchange that finds the word that it expects, and by a broadcast.
-use Rattle.std.proofs.Common.{◌≡◌, ℕ, ◌+◌, ◌*◌, ◌/◌, ◌%◌, ◌<◌, ◌==◌, Bool, true, false, List, [], ◌∷◌, ◌++◌, refl, sym, ap, ◌∙◌, subst, arith, eq-eqb, bit_or}
+use Rattle.std.proofs.Common.{◌≡◌, ℕ, ◌+◌, ◌*◌, ◌/◌, ◌%◌, ◌<◌, ◌==◌, Bool, true, false, List, [], ◌∷◌, ◌++◌, refl, sym, ap, ◌∙◌, subst, arith, eq-eqb, bit_or, ◌^◌}
 use Rattle.std.specs.Prelude.{if◌then◌else◌}
-use Rattle.lockword.specs.Cells.{bit, fields_of, word_of, waiting, waiters_alone}
+use Rattle.lockword.specs.Cells.{bit, fields_of, word_of, waiting, waiters_alone, low_of}
 use Rattle.lockword.specs.Coding.{word_of-fields_of}
 use Rattle.lockword.proofs.Bits.{or_waiting}
 use Rattle.lockword.specs.declared.reply.Reply.{Reply}
@@ -10,6 +10,8 @@ use Rattle.stepprograms.specs.declared.access.Access.{Access}
 use Rattle.posixmutex.specs.declared.point.Operation.TheVariants as operation
 use Rattle.memorymap.specs.Layouts.{cell_place, place_in}
 use Rattle.mutex.specs.declared.call.Call.TheVariants.{TimedLock}
+use Rattle.mutex.specs.declared.lock.LockRow.TheVariants as lock
+use Rattle.mutex.specs.declared.row.Row.TheVariants.{Lock}
 use Rattle.mutex.specs.declared.phase.Phase.TheVariants.{AtCell, Clearing}
 use Rattle.condvar.specs.declared.call.CondCall.{CondCall}
 use Rattle.condvar.specs.declared.call.CondCall.TheVariants as cond_call
@@ -62,6 +64,13 @@ waiting_shown w n =
   where
     sums : (o a b r n : ℕ) → o + a + 2147483648 + b + r * 8589934592 + 0 + n * 8589934592 ≡ o + a + 2147483648 + b + (r + n) * 8589934592
     sums o a b r n = omega arith
+
+-- its lower half
+low_sum : (a b n : ℕ) → a + 0 + n * 8589934592 ≡ b → a % 2 ^ 32 ≡ b % 2 ^ 32
+low_sum a b n is = omega (arith, is)
+
+pub waiting_low : (w n v : ℕ) → w + 0 + n * 8589934592 ≡ v → low_of (waiting (fields_of w)) ≡ waiting_word v % 2 ^ 32
+waiting_low w n v found = low_sum (word_of (waiting (fields_of w))) (waiting_word v) n (waiting_shown w n ∙ ap waiting_word found)
 
 or_is : (w : ℕ) → bit_or w 2147483648 ≡ word_of (waiting (fields_of w))
 or_is w = sym (word_of-fields_of (bit_or w 2147483648)) ∙ ap word_of (or_waiting w)
@@ -123,26 +132,22 @@ module _ (x : Slots) (t : ℕ) (c : Choice) (at : IsAtRow x t) where
     pub from_load : IsAt z t (OnMutex (TimedLock k)) k (AtCell (load_of true)) → Leads z t (sets_and_expires t) marked z.queues (on (Calling (OnMutex (TimedLock k)) (call_at z.layout t operation.Lock k (Clearing ETIMEDOUT))) h)
     from_load a = marks_more z t at.first at.last invz.layout [] z.words z.queues h k at.out may.inside (stays z t (Calling (OnMutex (TimedLock k)) (call_at z.layout t operation.Lock k (AtCell (load_of true)))) invz a.there) usable other some none
 
-    from_clear : (o : Op) (y : Reply) → IsAt z t o k (Clearing y) → Leads z t (begins_behind t (TimedLock k) ++ sets_and_expires t) marked z.queues (on (Calling (OnMutex (TimedLock k)) (call_at z.layout t operation.Lock k (Clearing ETIMEDOUT))) h)
+    pub from_clear : (o : Op) (y : Reply) → IsAt z t o k (Clearing y) → Leads z t (begins_behind t (TimedLock k) ++ sets_and_expires t) marked z.queues (on (Calling (OnMutex (TimedLock k)) (call_at z.layout t operation.Lock k (Clearing ETIMEDOUT))) h)
     from_clear o y a = marks_more z t at.first at.last invz.layout (begins_behind t (TimedLock k)) z.words z.queues h k at.out may.inside
         (again_more z t at.first at.last invz.layout [] z.words z.queues h k true o (op_of o) k y at.out (stays z t (Calling o (call_at z.layout t (op_of o) k (Clearing y))) invz a.there) may.inside may.room (pends_in z t o k (Clearing y) invz at.first at.last a))
         usable other some none
 
     -- of the lock that ends a wait, which then is about to sleep
-    from_wait : (o : Op) → IsAt z t o k (AtCell (load_of true)) → (th : Thread) × Leads z t (Step t ∷ Step t ∷ []) marked z.queues th
-    from_wait o a = (
-      _,
-      sets_more z t at.first at.last invz.layout (Step t ∷ []) z.words z.queues h k o (op_of o) at.out may.inside
-          (sees_and_sets z t at.first at.last invz.layout [] z.words z.queues h k o (op_of o) at.out may.inside (stays z t (Calling o (call_at z.layout t (op_of o) k (AtCell (load_of true)))) invz a.there) usable other some none),
-    )
+    pub from_wait : (o : Op) → op_of o ≡ operation.Lock → IsAt z t o k (AtCell (load_of true)) → Leads z t (Step t ∷ Step t ∷ []) marked z.queues (on (Calling o (call_at z.layout t (op_of o) k (AtCell (Lock (lock.Sleep (waiting (fields_of w))))))) h)
+    from_wait o is a = sets_more z t at.first at.last invz.layout (Step t ∷ []) z.words z.queues h k o (op_of o) at.out may.inside
+        (sees_and_sets z t at.first at.last invz.layout [] z.words z.queues h k o (op_of o) at.out may.inside (stays z t (Calling o (call_at z.layout t (op_of o) k (AtCell (load_of true)))) invz a.there) usable other some none)
 
   marks_so : (k : Taking) (v : ℕ) (n : Then) (how : How) (next : Row) → MayTake x t k.mutex → SeesUnmarked x t k.mutex v → HasChosen k how false v (z.threads t).stage → IsAbout z.layout k.mutex (z.threads t).stage
       → AreEvents x t c (Row.Marks k v n) (makes (Access.Exchange (cell_in z.layout t (cell_of k.mutex)) v (waiting_word v)) (marked_events x t c k how) next)
   marks_so k v n Tried next may sees there about = exchange k.mutex v may sees (Row.Marks k v n) next _ _ (record { awake = λ a. refl; slept = λ a. refl; turns = λ d a. refl }) (from_clear k.mutex v may sees _ _ (behind_tried x t c at k.mutex there))
   marks_so k v n Later next may sees there about = exchange k.mutex v may sees (Row.Marks k v n) next _ _ (record { awake = λ a. refl; slept = λ a. refl; turns = λ d a. refl }) (from_load k.mutex v may sees (at_load_later x t c at k.mutex there))
-  marks_so k v n (Waited y) next may sees (o, p, is, of, acts, phase) about =
-      let l = from_wait k.mutex v may sees (OnCondition o) (is_at z t (OnCondition o) p (cell_of k.mutex) (AtCell (load_of true)) invz at.first at.last is phase (subst (IsAbout z.layout k.mutex) is about)) in
-      exchange k.mutex v may sees (Row.Marks k v n) next (Step t ∷ Step t ∷ []) l.0 (record { awake = λ a. refl; slept = λ a. refl; turns = λ d a. refl }) l.1
+  marks_so k v n (Waited y) next may sees (o, p, is, of, acts, phase) about = exchange k.mutex v may sees (Row.Marks k v n) next (Step t ∷ Step t ∷ []) _ (record { awake = λ a. refl; slept = λ a. refl; turns = λ d a. refl })
+      (from_wait k.mutex v may sees (OnCondition o) refl (is_at z t (OnCondition o) p (cell_of k.mutex) (AtCell (load_of true)) invz at.first at.last is phase (subst (IsAbout z.layout k.mutex) is about)))
 
   -- ---- a broadcast
 

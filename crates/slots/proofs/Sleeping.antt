@@ -143,8 +143,25 @@ module _ (x : Slots) (t : ℕ) (c : Choice) (at : IsAtRow x t) where
             (wakes_more z t at.first at.last invz.layout [] z.words z.queues h m (OnCondition o) operation.Lock at.out may.inside d l e)
 
     -- a lock that begins then
-    begun : (o : Op) (y : Reply) → IsAt z t o m (Clearing y) → Leads z t (begins_behind t (TimedLock m)) z.words z.queues (on (Calling (OnMutex (TimedLock m)) (call_at z.layout t operation.Lock m (AtCell (load_of true)))) h)
+    pub begun : (o : Op) (y : Reply) → IsAt z t o m (Clearing y) → Leads z t (begins_behind t (TimedLock m)) z.words z.queues (on (Calling (OnMutex (TimedLock m)) (call_at z.layout t operation.Lock m (AtCell (load_of true)))) h)
     begun o y a = again_more z t at.first at.last invz.layout [] z.words z.queues h m true o (op_of o) m y at.out (stays z t (Calling o (call_at z.layout t (op_of o) m (Clearing y))) invz a.there) may.inside may.room (pends_in z t o m (Clearing y) invz at.first at.last a)
+
+    alike : SeesAnother t v → (shown x pl % 2 ^ 32 == v % 2 ^ 32) ≡ true → ((fields_of w).owner ≡ (fields_of v).owner) × ((fields_of w).waiters ≡ (fields_of v).waiters)
+    alike sees e = low_alike w v (sym says.low ∙ eqb-true (shown x pl % 2 ^ 32) (v % 2 ^ 32) e)
+
+    some : SeesAnother t v → (shown x pl % 2 ^ 32 == v % 2 ^ 32) ≡ true → ((fields_of w).owner == 0) ≡ false
+    some sees e = not_equal (fields_of w).owner 0 (λ none. sees.some (sym (alike sees e).0 ∙ none))
+
+    other : SeesAnother t v → (shown x pl % 2 ^ 32 == v % 2 ^ 32) ≡ true → ((fields_of w).owner == t) ≡ false
+    other sees e = not_equal (fields_of w).owner t (λ own. sees.other (sym (alike sees e).0 ∙ own))
+
+    usable : SeesAnother t v → (shown x pl % 2 ^ 32 == v % 2 ^ 32) ≡ true → (fields_of w).unusable ≡ false
+    usable sees e = usable_if_owned z m invz may.inside (λ none. sees.some (sym (alike sees e).0 ∙ none))
+
+    pub falls : SeesAnother t v → (o : Op) (y : Reply) → IsAt z t o m (Clearing y) → (shown x pl % 2 ^ 32 == v % 2 ^ 32) ≡ true → Leads z t (begins_behind t (TimedLock m) ++ Step t ∷ Step t ∷ []) z.words (put z.queues pl (z.queues pl ++ t ∷ [])) (on (Calling (OnMutex (TimedLock m)) (call_at z.layout t operation.Lock m (AtCell (load_of true)))) h)
+    falls sees o y a e = sleeps_more z t at.first at.last invz.layout (begins_behind t (TimedLock m) ++ Step t ∷ []) z.words z.queues h m (OnMutex (TimedLock m)) operation.Lock at.out may.inside (fields_of w)
+        (sees_sleep_more z t at.first at.last invz.layout (begins_behind t (TimedLock m)) z.words z.queues h m (OnMutex (TimedLock m)) operation.Lock at.out may.inside (begun o y a) (usable sees e) (other sees e) (some sees e) ((alike sees e).1 ∙ sees.waiters))
+        (eq-eqb (w % 2 ^ 32) (low_of (fields_of w)) (ap (λ (u : ℕ). u % 2 ^ 32) (sym (word_of-fields_of w))))
 
     through : SeesAnother t v → (o : Op) (y : Reply) → IsAt z t o m (Clearing y) → AreEvents x t c (Row.SleepsOn k v) (
         if shown x pl % 2 ^ 32 == v % 2 ^ 32
@@ -153,25 +170,8 @@ module _ (x : Slots) (t : ℕ) (c : Choice) (at : IsAtRow x t) where
         )
     through sees o y a = by_test (AreEvents x t c (Row.SleepsOn k v)) (shown x pl % 2 ^ 32 == v % 2 ^ 32)
         (makes (Access.Wait (cell_in z.layout t m) (v % 2 ^ 32)) (begins_behind t (TimedLock m) ++ Step t ∷ Step t ∷ []) (Row.Asleep (later k))) (makes (Access.Wait (cell_in z.layout t m) (v % 2 ^ 32)) (begins_behind t (TimedLock m)) (Row.Asleep (later k)))
-        (λ e. asleep_on (Row.SleepsOn k v) (Row.Asleep (later k)) (begins_behind t (TimedLock m) ++ Step t ∷ Step t ∷ []) (cell_in z.layout t m) (v % 2 ^ 32) pl _ (record { awake = λ a. refl; slept = λ a. refl; turns = λ d a. refl }) place (cell_valid z.layout m may.inside) e (falls e))
+        (λ e. asleep_on (Row.SleepsOn k v) (Row.Asleep (later k)) (begins_behind t (TimedLock m) ++ Step t ∷ Step t ∷ []) (cell_in z.layout t m) (v % 2 ^ 32) pl _ (record { awake = λ a. refl; slept = λ a. refl; turns = λ d a. refl }) place (cell_valid z.layout m may.inside) e (falls sees o y a e))
         (λ e. awake_on (Row.SleepsOn k v) (Row.Asleep (later k)) (begins_behind t (TimedLock m)) (cell_in z.layout t m) (v % 2 ^ 32) pl _ (record { awake = λ a. refl; slept = λ a. refl; turns = λ d a. refl }) place e (begun o y a))
-      where
-        alike : (shown x pl % 2 ^ 32 == v % 2 ^ 32) ≡ true → ((fields_of w).owner ≡ (fields_of v).owner) × ((fields_of w).waiters ≡ (fields_of v).waiters)
-        alike e = low_alike w v (sym says.low ∙ eqb-true (shown x pl % 2 ^ 32) (v % 2 ^ 32) e)
-
-        some : (shown x pl % 2 ^ 32 == v % 2 ^ 32) ≡ true → ((fields_of w).owner == 0) ≡ false
-        some e = not_equal (fields_of w).owner 0 (λ none. sees.some (sym (alike e).0 ∙ none))
-
-        other : (shown x pl % 2 ^ 32 == v % 2 ^ 32) ≡ true → ((fields_of w).owner == t) ≡ false
-        other e = not_equal (fields_of w).owner t (λ own. sees.other (sym (alike e).0 ∙ own))
-
-        usable : (shown x pl % 2 ^ 32 == v % 2 ^ 32) ≡ true → (fields_of w).unusable ≡ false
-        usable e = usable_if_owned z m invz may.inside (λ none. sees.some (sym (alike e).0 ∙ none))
-
-        falls : (shown x pl % 2 ^ 32 == v % 2 ^ 32) ≡ true → Leads z t (begins_behind t (TimedLock m) ++ Step t ∷ Step t ∷ []) z.words (put z.queues pl (z.queues pl ++ t ∷ [])) (on (Calling (OnMutex (TimedLock m)) (call_at z.layout t operation.Lock m (AtCell (load_of true)))) h)
-        falls e = sleeps_more z t at.first at.last invz.layout (begins_behind t (TimedLock m) ++ Step t ∷ []) z.words z.queues h m (OnMutex (TimedLock m)) operation.Lock at.out may.inside (fields_of w)
-            (sees_sleep_more z t at.first at.last invz.layout (begins_behind t (TimedLock m)) z.words z.queues h m (OnMutex (TimedLock m)) operation.Lock at.out may.inside (begun o y a) (usable e) (other e) (some e) ((alike e).1 ∙ sees.waiters))
-            (eq-eqb (w % 2 ^ 32) (low_of (fields_of w)) (ap (λ (u : ℕ). u % 2 ^ 32) (sym (word_of-fields_of w))))
 
   on_the_cell : (k : Taking) (v : ℕ) (how : How) → MayTake x t k.mutex → SeesAnother t v → IsToSleep k how v (z.threads t).stage → IsAbout z.layout k.mutex (z.threads t).stage → AreEvents x t c (Row.SleepsOn k v) (on_cell x t c k how v (shown x (cell_place z.layout (cell_of k.mutex))))
   on_the_cell k v Tried may sees there about = through k v may sees _ _ (behind_tried x t c at k.mutex there)

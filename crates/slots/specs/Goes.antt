@@ -3,6 +3,7 @@ use Rattle.std.specs.Prelude.{ℕ, ◌≡◌, ◌≢◌, ◌+◌}
 use Rattle.protocol.specs.Machine.{run}
 use Rattle.slots.specs.Rows.{Choice, Row}
 use Rattle.slots.specs.Rows.How.{Tried, Later}
+use Rattle.slots.specs.Rows.Then.{ToSleep, ToSlot}
 use Rattle.slots.specs.Places.{cell_of}
 use Rattle.slots.specs.Shown.{Slots}
 use Rattle.slots.specs.Invariant.{fields_at}
@@ -39,15 +40,22 @@ OthersStandStill = (x : Slots) (h : Happening) (u : ℕ) → IsReached x.machine
 abbrev pub LeadsOn : Slots → ℕ → Choice → Row → Type 0
 LeadsOn x t c r = StandsAs (made x t c r).next ((run x.machine (made x t c r).events).threads t).stage
 
--- at these rows that is proved. A lock announces the cell for the first time in a trylock. When it has been at the slot, it
--- doesn't own the cell
+-- at these rows that is proved. A lock announces the cell for the first time in a trylock. It sets WAITERS to take the slot
+-- only if it has been there, or has slept. When it has been at the slot, it doesn't own the cell
 abbrev pub IsLeading : Slots → ℕ → Row → Type 0
 IsLeading x t Row.Rests = Unit {0}
 IsLeading x t (Row.Pends k v) = k.how ≡ Tried
 IsLeading x t (Row.Sees k) = Unit {0}
 IsLeading x t (Row.Takes k v) = Unit {0}
 IsLeading x t (Row.SeesAgain k v) = Unit {0}
+IsLeading x t (Row.Marks k v ToSleep) = Unit {0}
+IsLeading x t (Row.Marks k v (ToSlot g)) = k.how ≡ Later
+IsLeading x t (Row.SleepsOn k v) = Unit {0}
+IsLeading x t (Row.WakesAll m r) = Unit {0}
+IsLeading x t (Row.SlotTakes k g) = Unit {0}
 IsLeading x t (Row.HeirTakes k v) = Unit {0}
+IsLeading x t (Row.HeirWakes k) = Unit {0}
+IsLeading x t (Row.TryTakes m v) = Unit {0}
 IsLeading x t (Row.SeesToSleep k) = (k.how ≡ Later) × ((fields_at x.machine (cell_of k.mutex)).owner ≢ t)
 IsLeading x t (Row.LastLooks k) = Unit {0}
 IsLeading x t (Row.Clears m r) = Unit {0}
