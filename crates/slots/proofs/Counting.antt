@@ -185,7 +185,7 @@ module _ (x : Slots) (t : ℕ) (c : Choice) (at : IsAtRow x t) where
     abbrev sig : cond_rows.CondRow → CondWhole
     sig r = cond_of z.layout t s' (CondPhase.AtWords r)
 
-    signals : (z.threads t).stage ≡ Idle → Leads z t (Begin t (OnCondition s') ∷ Step t ∷ Step t ∷ Step t ∷ []) counts z.queues (on (AtCondition s' (sig (cond_row.Signal signal.Wake))) h)
+    pub signals : (z.threads t).stage ≡ Idle → Leads z t (Begin t (OnCondition s') ∷ Step t ∷ Step t ∷ Step t ∷ []) counts z.queues (on (AtCondition s' (sig (cond_row.Signal signal.Wake))) h)
     signals is =
         cond_more z t (Begin t (OnCondition s') ∷ Step t ∷ Step t ∷ []) z.words z.queues s' (sig (cond_row.Signal signal.Count)) h at.first at.last
         (cond_loads z t (Begin t (OnCondition s') ∷ Step t ∷ []) z.words z.queues s' (sig (cond_row.Signal signal.LoadCounter)) h at.first at.last
@@ -199,7 +199,7 @@ module _ (x : Slots) (t : ℕ) (c : Choice) (at : IsAtRow x t) where
         refl its tt refl (put_back z.queues spot) refl refl refl still
 
     -- whose wake wakes nobody
-    wakes_none : (z.threads t).stage ≡ Idle → z.queues spot ≡ [] → Leads z t (Begin t (OnCondition s') ∷ Step t ∷ Step t ∷ Step t ∷ Step t ∷ []) counts z.queues (on Idle h)
+    pub wakes_none : (z.threads t).stage ≡ Idle → z.queues spot ≡ [] → Leads z t (Begin t (OnCondition s') ∷ Step t ∷ Step t ∷ Step t ∷ Step t ∷ []) counts z.queues (on Idle h)
     wakes_none is none = cond_more z t (Begin t (OnCondition s') ∷ Step t ∷ Step t ∷ Step t ∷ []) counts z.queues s' (sig (cond_row.Signal signal.Wake)) h at.first at.last (signals is)
         (Access.Wake (counter_in z.layout t k) 1) spot counts z.queues (condition.onward (CondPhase.Ended OK)) (on Idle h)
         refl its tt (put_back counts spot) (ap (λ (us : List ℕ). put z.queues spot (drop 1 us)) none ∙ ap (put z.queues spot) (sym none) ∙ put_back z.queues spot) refl refl (unmoved (acts_as s') h) (λ j in_j. (refl, refl))
@@ -211,7 +211,7 @@ module _ (x : Slots) (t : ℕ) (c : Choice) (at : IsAtRow x t) where
     abbrev cast : cond_rows.CondRow → CondWhole
     cast r = cond_of z.layout t b' (CondPhase.AtWords r)
 
-    broadcasts : (z.threads t).stage ≡ Idle → Leads z t (Begin t (OnCondition b') ∷ Step t ∷ Step t ∷ Step t ∷ []) counts z.queues (on (AtCondition b' (cast (cond_row.Broadcast (broadcast.SetWaiters (w % 2 ^ 32))))) h)
+    pub broadcasts : (z.threads t).stage ≡ Idle → Leads z t (Begin t (OnCondition b') ∷ Step t ∷ Step t ∷ Step t ∷ []) counts z.queues (on (AtCondition b' (cast (cond_row.Broadcast (broadcast.SetWaiters (w % 2 ^ 32))))) h)
     broadcasts is =
         cond_more z t (Begin t (OnCondition b') ∷ Step t ∷ Step t ∷ []) z.words z.queues b' (cast (cond_row.Broadcast (broadcast.Count (w % 2 ^ 32)))) h at.first at.last
         (cond_loads z t (Begin t (OnCondition b') ∷ Step t ∷ []) z.words z.queues b' (cast (cond_row.Broadcast broadcast.LoadCounter)) h at.first at.last
@@ -244,7 +244,7 @@ module _ (x : Slots) (t : ℕ) (c : Choice) (at : IsAtRow x t) where
           turns = λ j in_j. l.turns x.turns j in_j;
         }
 
-    shows : shows_slept x t c n ≡ x.slept k
+    pub shows : shows_slept x t c n ≡ x.slept k
     shows = ap (λ (v : ℕ). v / 2 ^ 32 == 1) (sym may.found ∙ counter_shows x k may.inside) ∙ slept_is w (x.slept k) may.few
 
     counts_so : (z.threads t).stage ≡ Idle → (all b : Bool) → x.slept k ≡ b → AreEvents x t c (Row.Counts m k all n) (makes (Access.Store (counter_in z.layout t k) (counted x t c n)) (count_begins x t c k all b) (counted_row x t c m k all b (counted x t c n % 2 ^ 32)))

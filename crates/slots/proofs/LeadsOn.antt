@@ -41,7 +41,7 @@ use Rattle.slots.specs.Rows.{Choice, How, Row, Taking, Then}
 use Rattle.slots.specs.Rows.How.{Tried, Later, Waited}
 use Rattle.slots.specs.Rows.Before.{Linked, Mended, Again}
 use Rattle.slots.specs.Rows.Onward.{Fails, Sleeps}
-use Rattle.slots.specs.Rows.Giving.{OfWait}
+use Rattle.slots.specs.Rows.Giving.{OfUnlock, OfWait}
 use Rattle.slots.specs.Rows.Then.{ToSleep, ToSlot}
 use Rattle.slots.specs.Shown.{Slots, shown}
 use Rattle.slots.specs.Stands.{HasChosen, IsIn, IsThrough, IsToLook, IsToSleep, StandsAs, at_load}
@@ -52,6 +52,8 @@ use Rattle.slots.specs.Further.{GoesToSlot, MayTake, SeesAnother, SeesUnmarked}
 use Rattle.slots.specs.Invariant.{fields_at}
 use Rattle.slots.specs.Goes.{IsLeading, LeadsOn, RowsLeadOn}
 use Rattle.slots.proofs.Announcing.{call_of}
+use Rattle.slots.proofs.CountLeads.{anews_so, count_wakes_lead, counts_lead, frees_lead, gives_lead, wait_sleeps_lead, wakes_one_lead}
+use Rattle.slots.proofs.Releasing.{freeing_at}
 use Rattle.slots.proofs.TakeLeads.{cell_taken, heir_taken, slot_taken, tried_taken}
 use Rattle.slots.proofs.LookLeads.{Reaches, gives_up, loaded, lost_clears, lost_wakes, reach_later, reach_to_sleep, reach_tried, reach_waited}
 use Rattle.slots.proofs.Meets.{Says, cell_says, cell_shows, pends_in}
@@ -452,6 +454,13 @@ module _ (x : Slots) (t : ℕ) (c : Choice) (at : IsAtRow x t) where
       (marking.sets x t c at m k n seen (is_at_word z t (cond_call.Broadcast k) p (CondPhase.AtWords (cond_row.Broadcast (broadcast.SetWaiters seen))) inv at.first at.last is phase) (subst (IsAbout z.layout m) is about))
       (seen, same, (_, refl, refl))
   lead_row (Row.Unsets m k n) there about a leading = there
+  lead_row (Row.Frees k f) there about owns alive = let a = freeing_at x t c at k.mutex f there in frees_lead x t c at k.mutex (cell_of k.mutex) a.0 owns alive a.1
+  lead_row (Row.GivePends m (OfUnlock d)) is about owns says = gives_lead x t c at m d is owns says
+  lead_row (Row.WakesOne m (OfUnlock d) is) there about a leading = wakes_one_lead x t c at m is d there
+  lead_row (Row.Anews m v) is about to leading = anews_so x t c at m v is to
+  lead_row (Row.WaitSleeps m k n timed) there about a leading = wait_sleeps_lead x t c at m k n timed there
+  lead_row (Row.Counts m k all n) is about may leading = counts_lead x t c at m k n all may is
+  lead_row (Row.CountWakes m k n) there about a leading = count_wakes_lead x t c at m k n there
   lead_row r there about a never = absurd never
 
 pub rows_lead : RowsLeadOn

@@ -36,3 +36,4 @@ pub mod Others
 pub mod LeadsOn
 pub mod LookLeads
 pub mod TakeLeads
+pub mod CountLeads

@@ -147,7 +147,7 @@ module _ (x : Slots) (t : ℕ) (c : Choice) (at : IsAtRow x t) where
     abbrev s' : State
     s' = record z { words = put z.words spot clean }
 
-    goes_to : (happens z (Remake t (cell_of m))).state ≡ s'
+    pub goes_to : (happens z (Remake t (cell_of m))).state ≡ s'
     goes_to = ap (λ (b : Bool). (if b then reinited z t (cell_of m) clean else nothing z).state) may
 
     clean_usable : (fields_of clean).unusable ≡ false

@@ -68,12 +68,12 @@ module _ (s : State) (t : ℕ) (pos : 1 ≤ t) (known : t ≤ s.layout.threads) 
   hp = head_place t + 2
 
   -- the word is as it was, whatever is pending
-  cell_stays : (w : ℕ → ℕ) (v j : ℕ) → put w hp v (cell_place s.layout j) ≡ w (cell_place s.layout j)
+  pub cell_stays : (w : ℕ → ℕ) (v j : ℕ) → put w hp v (cell_place s.layout j) ≡ w (cell_place s.layout j)
   cell_stays w v j = put-other w hp v (cell_place s.layout j) (λ e. head_is_no_cell s.layout t j 2 pos known (omega arith) (sym e))
 
   module _ (es : List Event) (w : ℕ → ℕ) (q : ℕ → List ℕ) (h : ℕ) (out : (key : ℕ) → stands_in t (q key) ≡ false) (l : Leads s t es w q (on Idle h)) where
     -- an unlock
-    unlock_more : (k : ℕ) → k < s.layout.mutexes → (fields_of (w (cell_place s.layout k))).owner ≡ t
+    pub unlock_more : (k : ℕ) → k < s.layout.mutexes → (fields_of (w (cell_place s.layout k))).owner ≡ t
         → Leads s t (((es ++ Begin t (OnMutex (Unlock k)) ∷ []) ++ Step t ∷ []) ++ Step t ∷ []) (put w hp (entry_in s.layout t k)) q
         (on (Calling (OnMutex (Unlock k)) (call_at s.layout t operation.Unlock k (Unlinking (unlink_started (head_in s.layout t) (entry_in s.layout t k)) (fields_of (w (cell_place s.layout k))).died))) h)
     unlock_more k inside own = announces_more s t pos known inv.layout ((es ++ Begin t (OnMutex (Unlock k)) ∷ []) ++ Step t ∷ []) w q h out (OnMutex (Unlock k)) operation.Unlock k release
@@ -147,7 +147,7 @@ module _ (x : Slots) (t : ℕ) (c : Choice) (at : IsAtRow x t) where
       (slot_of m) owns.inside (ap (λ (v : ℕ). (fields_of v).owner) (cell_stays z t at.first at.last invz z.words 0 (slot_of m)) ∙ owns.owner))
       at.first at.last invz.layout (entry_in z.layout t (slot_of m)) (λ p. ap (λ (f : ℕ → ℕ). f p) (put_over z.words (head_place t + 2) 0 (entry_in z.layout t (slot_of m)))) (λ p. refl)
 
-  freeing_at : (m : ℕ) (f : Onward) → IsFreeing m f (z.threads t).stage → (y : Reply) × IsAt z t (OnMutex (TimedLock (cell_of m))) (cell_of m) (Clearing y)
+  pub freeing_at : (m : ℕ) (f : Onward) → IsFreeing m f (z.threads t).stage → (y : Reply) × IsAt z t (OnMutex (TimedLock (cell_of m))) (cell_of m) (Clearing y)
   freeing_at m (Has y) (p, is, phase) = (y, is_at z t (OnMutex (TimedLock (cell_of m))) p (cell_of m) (Clearing y) invz at.first at.last is phase refl)
   freeing_at m (Fails y) (p, is, phase) = (y, is_at z t (OnMutex (TimedLock (cell_of m))) p (cell_of m) (Clearing y) invz at.first at.last is phase refl)
   freeing_at m Sleeps (p, is, phase) = (ETIMEDOUT, is_at z t (OnMutex (TimedLock (cell_of m))) p (cell_of m) (Clearing ETIMEDOUT) invz at.first at.last is phase refl)

@@ -1,10 +1,11 @@
 -- Threads stand where their rows say, from one happening to the next.
-use Rattle.std.specs.Prelude.{ℕ, ◌≡◌, ◌≢◌, ◌+◌}
+use Rattle.std.specs.Prelude.{ℕ, ◌≡◌, ◌≢◌, ◌+◌, false}
 use Rattle.protocol.specs.Machine.{run}
 use Rattle.slots.specs.Rows.{Choice, Row}
 use Rattle.slots.specs.Rows.How.{Tried, Later}
 use Rattle.slots.specs.Rows.Then.{ToSleep, ToSlot}
-use Rattle.slots.specs.Places.{cell_of}
+use Rattle.slots.specs.Rows.Giving.{OfUnlock}
+use Rattle.slots.specs.Places.{cell_of, slot_of}
 use Rattle.slots.specs.Shown.{Slots}
 use Rattle.slots.specs.Invariant.{fields_at}
 use Rattle.slots.specs.Stands.{StandsAs}
@@ -41,7 +42,8 @@ abbrev pub LeadsOn : Slots → ℕ → Choice → Row → Type 0
 LeadsOn x t c r = StandsAs (made x t c r).next ((run x.machine (made x t c r).events).threads t).stage
 
 -- at these rows that is proved. A lock announces the cell for the first time in a trylock. It sets WAITERS to take the slot
--- only if it has been there, or has slept. When it has been at the slot, it doesn't own the cell
+-- only if it has been there, or has slept. When it has been at the slot, it doesn't own the cell. It
+-- frees an unmarked slot; and an unlock has seen whether the cell is marked
 abbrev pub IsLeading : Slots → ℕ → Row → Type 0
 IsLeading x t Row.Rests = Unit {0}
 IsLeading x t (Row.Pends k v) = k.how ≡ Tried
@@ -85,6 +87,13 @@ IsLeading x t (Row.WaitLate m k) = Unit {0}
 IsLeading x t (Row.CountLoads m k all) = Unit {0}
 IsLeading x t (Row.AllMarks m k n) = Unit {0}
 IsLeading x t (Row.Unsets m k n) = Unit {0}
+IsLeading x t (Row.Frees k f) = (fields_at x.machine (slot_of k.mutex)).died ≡ false
+IsLeading x t (Row.GivePends m (OfUnlock d)) = (fields_at x.machine (cell_of m)).died ≡ d
+IsLeading x t (Row.WakesOne m (OfUnlock d) is) = Unit {0}
+IsLeading x t (Row.Anews m v) = Unit {0}
+IsLeading x t (Row.WaitSleeps m k n timed) = Unit {0}
+IsLeading x t (Row.Counts m k all n) = Unit {0}
+IsLeading x t (Row.CountWakes m k n) = Unit {0}
 IsLeading x t r = ⊥
 
 abbrev pub RowsLeadOn : Type 0
