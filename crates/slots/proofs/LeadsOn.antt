@@ -54,6 +54,7 @@ use Rattle.slots.specs.Goes.{IsLeading, LeadsOn, RowsLeadOn}
 use Rattle.slots.proofs.Announcing.{call_of}
 use Rattle.slots.proofs.CountLeads.{anews_so, count_wakes_lead, counts_lead, frees_lead, gives_lead, wait_sleeps_lead, wakes_one_lead}
 use Rattle.slots.proofs.Releasing.{freeing_at}
+use Rattle.slots.proofs.StepLeads.{frees_slot, gives_cell, moves_lead, trims_lead, wait_wakes_lead}
 use Rattle.slots.proofs.TakeLeads.{cell_taken, heir_taken, slot_taken, tried_taken}
 use Rattle.slots.proofs.LookLeads.{Reaches, gives_up, loaded, lost_clears, lost_wakes, reach_later, reach_to_sleep, reach_tried, reach_waited}
 use Rattle.slots.proofs.Meets.{Says, cell_says, cell_shows, pends_in}
@@ -457,6 +458,11 @@ module _ (x : Slots) (t : ℕ) (c : Choice) (at : IsAtRow x t) where
   lead_row (Row.Frees k f) there about owns alive = let a = freeing_at x t c at k.mutex f there in frees_lead x t c at k.mutex (cell_of k.mutex) a.0 owns alive a.1
   lead_row (Row.GivePends m (OfUnlock d)) is about owns says = gives_lead x t c at m d is owns says
   lead_row (Row.WakesOne m (OfUnlock d) is) there about a leading = wakes_one_lead x t c at m is d there
+  lead_row (Row.WakesOne m (OfWait k n slept timed) is) there about a leading = wait_wakes_lead x t c at m k n is slept timed there
+  lead_row (Row.FreeGives k f) there about owns alone = frees_slot x t c at k f there alone
+  lead_row (Row.Gives m (OfUnlock d)) there about owns leading = gives_cell x t c at m d there
+  lead_row (Row.Trims m is) there about a leading = trims_lead x t c at m is there
+  lead_row (Row.AllMoves m k n) (seen, same, there) about a leading = moves_lead x t c at m k n seen there
   lead_row (Row.Anews m v) is about to leading = anews_so x t c at m v is to
   lead_row (Row.WaitSleeps m k n timed) there about a leading = wait_sleeps_lead x t c at m k n timed there
   lead_row (Row.Counts m k all n) is about may leading = counts_lead x t c at m k n all may is

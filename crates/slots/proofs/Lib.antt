@@ -37,3 +37,4 @@ pub mod LeadsOn
 pub mod LookLeads
 pub mod TakeLeads
 pub mod CountLeads
+pub mod StepLeads

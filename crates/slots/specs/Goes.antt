@@ -43,7 +43,7 @@ LeadsOn x t c r = StandsAs (made x t c r).next ((run x.machine (made x t c r).ev
 
 -- at these rows that is proved. A lock announces the cell for the first time in a trylock. It sets WAITERS to take the slot
 -- only if it has been there, or has slept. When it has been at the slot, it doesn't own the cell. It
--- frees an unmarked slot; and an unlock has seen whether the cell is marked
+-- frees an unmarked slot without WAITERS; and an unlock has seen whether the cell is marked
 abbrev pub IsLeading : Slots → ℕ → Row → Type 0
 IsLeading x t Row.Rests = Unit {0}
 IsLeading x t (Row.Pends k v) = k.how ≡ Tried
@@ -89,11 +89,15 @@ IsLeading x t (Row.AllMarks m k n) = Unit {0}
 IsLeading x t (Row.Unsets m k n) = Unit {0}
 IsLeading x t (Row.Frees k f) = (fields_at x.machine (slot_of k.mutex)).died ≡ false
 IsLeading x t (Row.GivePends m (OfUnlock d)) = (fields_at x.machine (cell_of m)).died ≡ d
-IsLeading x t (Row.WakesOne m (OfUnlock d) is) = Unit {0}
+IsLeading x t (Row.FreeGives k f) = (fields_at x.machine (slot_of k.mutex)).waiters ≡ false
+IsLeading x t (Row.Gives m (OfUnlock d)) = Unit {0}
+IsLeading x t (Row.WakesOne m g is) = Unit {0}
+IsLeading x t (Row.Trims m is) = Unit {0}
 IsLeading x t (Row.Anews m v) = Unit {0}
 IsLeading x t (Row.WaitSleeps m k n timed) = Unit {0}
 IsLeading x t (Row.Counts m k all n) = Unit {0}
 IsLeading x t (Row.CountWakes m k n) = Unit {0}
+IsLeading x t (Row.AllMoves m k n) = Unit {0}
 IsLeading x t r = ⊥
 
 abbrev pub RowsLeadOn : Type 0
