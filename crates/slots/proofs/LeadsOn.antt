@@ -54,6 +54,7 @@ use Rattle.slots.specs.Goes.{IsLeading, LeadsOn, RowsLeadOn}
 use Rattle.slots.proofs.Announcing.{call_of}
 use Rattle.slots.proofs.CountLeads.{anews_so, count_wakes_lead, counts_lead, frees_lead, gives_lead, wait_sleeps_lead, wakes_one_lead}
 use Rattle.slots.proofs.Releasing.{freeing_at}
+use Rattle.slots.proofs.FirstLeads.{count_looks_lead, give_looks_lead, looks_lead, mend_looks_lead, try_looks_lead, wait_counts_lead, wait_looks_lead, wait_pends_lead}
 use Rattle.slots.proofs.StepLeads.{frees_slot, gives_cell, moves_lead, trims_lead, wait_wakes_lead}
 use Rattle.slots.proofs.TakeLeads.{cell_taken, heir_taken, slot_taken, tried_taken}
 use Rattle.slots.proofs.LookLeads.{Reaches, gives_up, loaded, lost_clears, lost_wakes, reach_later, reach_to_sleep, reach_tried, reach_waited}
@@ -463,6 +464,15 @@ module _ (x : Slots) (t : ℕ) (c : Choice) (at : IsAtRow x t) where
   lead_row (Row.Gives m (OfUnlock d)) there about owns leading = gives_cell x t c at m d there
   lead_row (Row.Trims m is) there about a leading = trims_lead x t c at m is there
   lead_row (Row.AllMoves m k n) (seen, same, there) about a leading = moves_lead x t c at m k n seen there
+  lead_row (Row.Looks k) is about (inside, room) leading = looks_lead x t c at k is inside room
+  lead_row (Row.TryLooks m) is about (inside, room) leading = try_looks_lead x t c at m is inside room
+  lead_row (Row.GiveLooks m) is about inside leading = give_looks_lead x t c at m is inside
+  lead_row (Row.MendLooks m) is about inside leading = mend_looks_lead x t c at m is inside
+  lead_row (Row.WaitLooks m k timed) is about a (of, inside) = wait_looks_lead x t c at m k timed is of inside
+  lead_row (Row.WaitCounts m k timed false) is about a leading = is
+  lead_row (Row.WaitCounts m k timed true) is about a (of, owns, died) = wait_counts_lead x t c at m k timed is of owns died
+  lead_row (Row.CountLooks m k all) is about a (of, inside) = count_looks_lead x t c at m k all is of inside
+  lead_row (Row.GivePends m (OfWait k n slept timed)) is about (of, owns, well) says = wait_pends_lead x t c at m k n slept timed is of owns well says
   lead_row (Row.Anews m v) is about to leading = anews_so x t c at m v is to
   lead_row (Row.WaitSleeps m k n timed) there about a leading = wait_sleeps_lead x t c at m k n timed there
   lead_row (Row.Counts m k all n) is about may leading = counts_lead x t c at m k n all may is

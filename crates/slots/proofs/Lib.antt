@@ -38,3 +38,4 @@ pub mod LookLeads
 pub mod TakeLeads
 pub mod CountLeads
 pub mod StepLeads
+pub mod FirstLeads

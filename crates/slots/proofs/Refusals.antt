@@ -125,18 +125,15 @@ module _ (x : Slots) (t : ℕ) (c : Choice) (at : IsAtRow x t) where
     emptied : put announced hp 0 ≡ s.words
     emptied = put_over s.words hp (entry_in s.layout t k) 0 ∙ ap (put s.words hp) (sym (pends_none s t inv at.first at.last is)) ∙ put_back s.words hp
 
-    refused : (y : Reply) → whole_led p (Value (announced pl)) ≡ record { phase = Clearing y; point = Some y } → held_after h (lock_or_try b) (Some y) ≡ h → Comes s t (Begin t (OnMutex (call_of b k)) ∷ Step t ∷ Step t ∷ Step t ∷ []) s.words s.queues
-    refused y leads held = (
-      _,
-      subst (λ (w : ℕ → ℕ). Leads s t (Begin t (OnMutex (call_of b k)) ∷ Step t ∷ Step t ∷ Step t ∷ []) w s.queues (on Idle h)) emptied
-          (clears_more s t at.first at.last inv.layout (Begin t (OnMutex (call_of b k)) ∷ Step t ∷ Step t ∷ []) announced s.queues h at.out (OnMutex (call_of b k)) (lock_or_try b) k y
-          (loads_more s t (Begin t (OnMutex (call_of b k)) ∷ Step t ∷ []) announced s.queues (OnMutex (call_of b k)) p h at.first at.last
-          (locks_more s t at.first at.last inv.layout [] s.words s.queues h k b at.out (stays s t Idle inv is) inside room) at.out (cell_in s.layout t k) pl
-          (record { phase = Clearing y; point = Some y }) (on (Calling (OnMutex (call_of b k)) (call_at s.layout t (lock_or_try b) k (Clearing y))) h)
-          (access_of b) (cell_again s.layout t inv.layout at.first at.last k inside) leads refl held)),
-    )
+    refused : (y : Reply) → whole_led p (Value (announced pl)) ≡ record { phase = Clearing y; point = Some y } → held_after h (lock_or_try b) (Some y) ≡ h → Leads s t (Begin t (OnMutex (call_of b k)) ∷ Step t ∷ Step t ∷ Step t ∷ []) s.words s.queues (on Idle h)
+    refused y leads held = subst (λ (w : ℕ → ℕ). Leads s t (Begin t (OnMutex (call_of b k)) ∷ Step t ∷ Step t ∷ Step t ∷ []) w s.queues (on Idle h)) emptied
+        (clears_more s t at.first at.last inv.layout (Begin t (OnMutex (call_of b k)) ∷ Step t ∷ Step t ∷ []) announced s.queues h at.out (OnMutex (call_of b k)) (lock_or_try b) k y
+        (loads_more s t (Begin t (OnMutex (call_of b k)) ∷ Step t ∷ []) announced s.queues (OnMutex (call_of b k)) p h at.first at.last
+        (locks_more s t at.first at.last inv.layout [] s.words s.queues h k b at.out (stays s t Idle inv is) inside room) at.out (cell_in s.layout t k) pl
+        (record { phase = Clearing y; point = Some y }) (on (Calling (OnMutex (call_of b k)) (call_at s.layout t (lock_or_try b) k (Clearing y))) h)
+        (access_of b) (cell_again s.layout t inv.layout at.first at.last k inside) leads refl held))
 
-  own_lock : (m : ℕ) → (s.threads t).stage ≡ Idle → cell_of m < s.layout.mutexes → h < 2048 → (fields_at s (cell_of m)).owner ≡ t → Comes s t (begins t (call.TimedLock (cell_of m)) ++ Step t ∷ Step t ∷ []) s.words s.queues
+  pub own_lock : (m : ℕ) → (s.threads t).stage ≡ Idle → cell_of m < s.layout.mutexes → h < 2048 → (fields_at s (cell_of m)).owner ≡ t → Leads s t (begins t (call.TimedLock (cell_of m)) ++ Step t ∷ Step t ∷ []) s.words s.queues (on Idle h)
   own_lock m is inside room own = refused (cell_of m) true is inside room EDEADLK
       (ap (λ (v : ℕ). from_cell (p (cell_of m) true is inside room) (lock_sees t (fields_of v))) (cell_stays (cell_of m) true is inside room)
       ∙ ap (from_cell (p (cell_of m) true is inside room)) (sees_own t (fields_at s (cell_of m)) usable (eq-eqb (fields_at s (cell_of m)).owner t own))) refl
@@ -144,15 +141,15 @@ module _ (x : Slots) (t : ℕ) (c : Choice) (at : IsAtRow x t) where
       usable : (fields_at s (cell_of m)).unusable ≡ false
       usable = usable_if_owned s (cell_of m) inv inside (λ e. let pos = at.first in omega (arith, e, own, pos))
 
-  no_try : (m : ℕ) → (s.threads t).stage ≡ Idle → cell_of m < s.layout.mutexes → h < 2048 → (((fields_at s (cell_of m)).owner == 0) && not (fields_at s (cell_of m)).unusable) ≡ false → Comes s t (begins t (call.TryLock (cell_of m)) ++ Step t ∷ Step t ∷ []) s.words s.queues
+  pub no_try : (m : ℕ) → (s.threads t).stage ≡ Idle → cell_of m < s.layout.mutexes → h < 2048 → (((fields_at s (cell_of m)).owner == 0) && not (fields_at s (cell_of m)).unusable) ≡ false → Leads s t (begins t (call.TryLock (cell_of m)) ++ Step t ∷ Step t ∷ []) s.words s.queues (on Idle h)
   no_try m is inside room taken = go (fields_at s (cell_of m)).unusable refl ((fields_at s (cell_of m)).owner == 0) refl taken
     where
-      tried : (y : Reply) → try_sees 0 (fields_at s (cell_of m)) ≡ ends y → from_cell (p (cell_of m) false is inside room) (ends y) ≡ record { phase = Clearing y; point = Some y } → held_after h (lock_or_try false) (Some y) ≡ h → Comes s t (begins t (call.TryLock (cell_of m)) ++ Step t ∷ Step t ∷ []) s.words s.queues
+      tried : (y : Reply) → try_sees 0 (fields_at s (cell_of m)) ≡ ends y → from_cell (p (cell_of m) false is inside room) (ends y) ≡ record { phase = Clearing y; point = Some y } → held_after h (lock_or_try false) (Some y) ≡ h → Leads s t (begins t (call.TryLock (cell_of m)) ++ Step t ∷ Step t ∷ []) s.words s.queues (on Idle h)
       tried y sees leads held = refused (cell_of m) false is inside room y
           (ap (λ (v : ℕ). from_cell (p (cell_of m) false is inside room) (try_sees 0 (fields_of v))) (cell_stays (cell_of m) false is inside room)
           ∙ ap (from_cell (p (cell_of m) false is inside room)) sees ∙ leads) held
 
-      go : (a : Bool) → (fields_at s (cell_of m)).unusable ≡ a → (b : Bool) → ((fields_at s (cell_of m)).owner == 0) ≡ b → (b && not a) ≡ false → Comes s t (begins t (call.TryLock (cell_of m)) ++ Step t ∷ Step t ∷ []) s.words s.queues
+      go : (a : Bool) → (fields_at s (cell_of m)).unusable ≡ a → (b : Bool) → ((fields_at s (cell_of m)).owner == 0) ≡ b → (b && not a) ≡ false → Leads s t (begins t (call.TryLock (cell_of m)) ++ Step t ∷ Step t ∷ []) s.words s.queues (on Idle h)
       go true lost b e all = tried ENOTRECOVERABLE (tries_unusable (fields_at s (cell_of m)) lost) refl refl
       go false usable false some all = tried EBUSY (tries_owned (fields_at s (cell_of m)) usable some) refl refl
       go false usable true none all = absurd cc
@@ -163,13 +160,13 @@ module _ (x : Slots) (t : ℕ) (c : Choice) (at : IsAtRow x t) where
   first_row (Row.Looks k) is (inside, room) = by_test (AreEvents x t c (Row.Looks k)) ((fields_of (shown x (cell_place s.layout (cell_of k.mutex)))).owner == t)
       (makes (Access.Load (cell_in s.layout t (cell_of k.mutex))) (begins t (call.TimedLock (cell_of k.mutex)) ++ Step t ∷ Step t ∷ []) Row.Rests) (makes (Access.Load (cell_in s.layout t (cell_of k.mutex))) [] (Row.Pends k (shown x (cell_place s.layout (cell_of k.mutex)))))
       (λ own. by_load (Row.Looks k) Row.Rests _ (cell_in s.layout t (cell_of k.mutex)) (record { awake = λ a. refl; slept = λ a. refl; turns = λ d a. refl })
-      (own_lock k.mutex is inside room (sym (cell_says x k.mutex inside).owner ∙ eqb-true (fields_of (shown x (cell_place s.layout (cell_of k.mutex)))).owner t own)))
+      (_, own_lock k.mutex is inside room (sym (cell_says x k.mutex inside).owner ∙ eqb-true (fields_of (shown x (cell_place s.layout (cell_of k.mutex)))).owner t own)))
       (λ other. by_load (Row.Looks k) (Row.Pends k (shown x (cell_place s.layout (cell_of k.mutex)))) [] (cell_in s.layout t (cell_of k.mutex)) (record { awake = λ a. refl; slept = λ a. refl; turns = λ d a. refl }) (none Idle is))
   first_row (Row.TryLooks m) is (inside, room) = by_test (AreEvents x t c (Row.TryLooks m)) (is_free (shown x (cell_place s.layout (cell_of m))))
       (makes (Access.Load (cell_in s.layout t (cell_of m))) [] (Row.TryPends m (shown x (cell_place s.layout (cell_of m))))) (makes (Access.Load (cell_in s.layout t (cell_of m))) (begins t (call.TryLock (cell_of m)) ++ Step t ∷ Step t ∷ []) Row.Rests)
       (λ free. by_load (Row.TryLooks m) (Row.TryPends m (shown x (cell_place s.layout (cell_of m)))) [] (cell_in s.layout t (cell_of m)) (record { awake = λ a. refl; slept = λ a. refl; turns = λ d a. refl }) (none Idle is))
       (λ taken. by_load (Row.TryLooks m) Row.Rests _ (cell_in s.layout t (cell_of m)) (record { awake = λ a. refl; slept = λ a. refl; turns = λ d a. refl })
-      (no_try m is inside room ((λ i. (sym (cell_says x m inside).owner i == 0) && not (sym (cell_says x m inside).unusable i)) ∙ taken)))
+      (_, no_try m is inside room ((λ i. (sym (cell_says x m inside).owner i == 0) && not (sym (cell_says x m inside).unusable i)) ∙ taken)))
   first_row (Row.GiveLooks m) is inside = by_test (AreEvents x t c (Row.GiveLooks m)) ((fields_of (shown x (cell_place s.layout (cell_of m)))).owner == t)
       (makes (Access.Load (cell_in s.layout t (cell_of m))) [] (Row.GivePends m (OfUnlock (fields_of (shown x (cell_place s.layout (cell_of m)))).died))) (makes (Access.Load (cell_in s.layout t (cell_of m))) (Begin t (OnMutex (call.Unlock (cell_of m))) ∷ Step t ∷ []) Row.Rests)
       (λ own. by_load (Row.GiveLooks m) (Row.GivePends m (OfUnlock (fields_of (shown x (cell_place s.layout (cell_of m)))).died)) [] (cell_in s.layout t (cell_of m)) (record { awake = λ a. refl; slept = λ a. refl; turns = λ d a. refl }) (none Idle is))

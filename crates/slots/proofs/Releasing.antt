@@ -121,7 +121,7 @@ module _ (s : State) (t : ℕ) (pos : 1 ≤ t) (known : t ≤ s.layout.threads) 
         (condition.onward (CondPhase.Announcing n)) (on (AtCondition o (at (CondPhase.Announcing n))) h)
         refl (counter_again s.layout t inv.layout pos known (condition_of o) there) refl refl (unmoved (acts_as o) h)
 
-    wait_more : Leads s t (((es ++ Step t ∷ []) ++ Step t ∷ []) ++ Step t ∷ []) (put w hp (entry_in s.layout t k)) q (on (AtCondition o (at (CondPhase.Unlinking (unlink_started (head_in s.layout t) (entry_in s.layout t k)) n))) h)
+    pub wait_more : Leads s t (((es ++ Step t ∷ []) ++ Step t ∷ []) ++ Step t ∷ []) (put w hp (entry_in s.layout t k)) q (on (AtCondition o (at (CondPhase.Unlinking (unlink_started (head_in s.layout t) (entry_in s.layout t k)) n))) h)
     wait_more = cond_more s t ((es ++ Step t ∷ []) ++ Step t ∷ []) w q o (at (CondPhase.Announcing n)) h pos known counts_it (Access.Store (pending_place (head_in s.layout t)) (entry_in s.layout t k)) hp (put w hp (entry_in s.layout t k)) q
         (condition.onward (CondPhase.Unlinking (unlink_started (head_in s.layout t) (entry_in s.layout t k)) n)) (on (AtCondition o (at (CondPhase.Unlinking (unlink_started (head_in s.layout t) (entry_in s.layout t k)) n))) h)
         refl (head_there s t pos known inv.layout) tt refl (put_back q hp) refl refl (unmoved (acts_as o) h) (still_head s t pos known inv.layout w (entry_in s.layout t k))
@@ -165,7 +165,7 @@ module _ (x : Slots) (t : ℕ) (c : Choice) (at : IsAtRow x t) where
       about : condition_programs.mutex_of z.layout o ≡ cell_of m
       about = ap (slice_index z.layout.conditions) is ∙ of.cell
 
-  wait_begun : (o : CondCall) → may_call z.layout (OnCondition o) ≡ true → acquires (operation_of (OnCondition o)) ≡ false → (z.threads t).stage ≡ Idle → Leads z t (Begin t (OnCondition o) ∷ []) z.words z.queues (on (AtCondition o (condition.begins z.layout t o)) (z.threads t).held)
+  pub wait_begun : (o : CondCall) → may_call z.layout (OnCondition o) ≡ true → acquires (operation_of (OnCondition o)) ≡ false → (z.threads t).stage ≡ Idle → Leads z t (Begin t (OnCondition o) ∷ []) z.words z.queues (on (AtCondition o (condition.begins z.layout t o)) (z.threads t).held)
   wait_begun o may free is = begins_more z t [] z.words z.queues (z.threads t).held at.first at.last (rests is) (OnCondition o) may (let e = free in grind (arith))
 
   pub release_row : (r : Row) → StandsAs r (z.threads t).stage → IsToRelease x t r → AreEvents x t c r (made x t c r)

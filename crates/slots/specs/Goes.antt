@@ -1,10 +1,11 @@
 -- Threads stand where their rows say, from one happening to the next.
-use Rattle.std.specs.Prelude.{ℕ, ◌≡◌, ◌≢◌, ◌+◌, false}
+use Rattle.std.specs.Prelude.{ℕ, ◌≡◌, ◌≢◌, ◌+◌, ◌%◌, ◌^◌, ◌<◌, true, false}
+use Rattle.memorymap.specs.Layouts.{counter_place}
 use Rattle.protocol.specs.Machine.{run}
 use Rattle.slots.specs.Rows.{Choice, Row}
 use Rattle.slots.specs.Rows.How.{Tried, Later}
 use Rattle.slots.specs.Rows.Then.{ToSleep, ToSlot}
-use Rattle.slots.specs.Rows.Giving.{OfUnlock}
+use Rattle.slots.specs.Rows.Giving.{OfUnlock, OfWait}
 use Rattle.slots.specs.Places.{cell_of, slot_of}
 use Rattle.slots.specs.Shown.{Slots}
 use Rattle.slots.specs.Invariant.{fields_at}
@@ -12,6 +13,7 @@ use Rattle.slots.specs.Stands.{StandsAs}
 use Rattle.slots.specs.Table.{made}
 use Rattle.slots.specs.Accesses.{IsAtRow}
 use Rattle.slots.specs.Each.{Assumes}
+use Rattle.slots.specs.Further.{IsOfCell, OwnsInside}
 use Rattle.slots.specs.Runs.{Happening, next}
 use Rattle.slots.specs.Runs.Happening.{Calls, Goes, Interrupts, Lapses, Dies, Walks, Lives}
 use Rattle.slots.specs.Laws.{IsReached}
@@ -87,6 +89,16 @@ IsLeading x t (Row.WaitLate m k) = Unit {0}
 IsLeading x t (Row.CountLoads m k all) = Unit {0}
 IsLeading x t (Row.AllMarks m k n) = Unit {0}
 IsLeading x t (Row.Unsets m k n) = Unit {0}
+IsLeading x t (Row.Looks k) = Unit {0}
+IsLeading x t (Row.TryLooks m) = Unit {0}
+IsLeading x t (Row.GiveLooks m) = Unit {0}
+IsLeading x t (Row.MendLooks m) = Unit {0}
+IsLeading x t (Row.WaitLooks m k timed) = IsOfCell x.machine.layout m k × (cell_of m < x.machine.layout.mutexes)
+IsLeading x t (Row.WaitCounts m k timed false) = Unit {0}
+IsLeading x t (Row.WaitCounts m k timed true) =
+    IsOfCell x.machine.layout m k × OwnsInside x.machine t (cell_of m) × ((fields_at x.machine (cell_of m)).died ≡ true)
+IsLeading x t (Row.CountLooks m k all) = IsOfCell x.machine.layout m k × (cell_of m < x.machine.layout.mutexes)
+IsLeading x t (Row.GivePends m (OfWait k n slept timed)) = n ≡ x.machine.words (counter_place x.machine.layout k) % 2 ^ 32
 IsLeading x t (Row.Frees k f) = (fields_at x.machine (slot_of k.mutex)).died ≡ false
 IsLeading x t (Row.GivePends m (OfUnlock d)) = (fields_at x.machine (cell_of m)).died ≡ d
 IsLeading x t (Row.FreeGives k f) = (fields_at x.machine (slot_of k.mutex)).waiters ≡ false
