@@ -3,13 +3,13 @@ use Rattle.std.proofs.Common.{◌≡◌, ◌≢◌, inl, inr, ℕ, ◌+◌, ◌%
 use Rattle.std.specs.Prelude.{if◌then◌else◌, not, take, drop, ◌&&◌, ◌||◌}
 use Rattle.lockword.specs.Cells.{fields_of, low_of, waiting}
 use Rattle.lockword.specs.declared.reply.Reply.{Reply}
-use Rattle.lockword.specs.declared.reply.Reply.TheVariants.{OK, EBUSY, ENOTRECOVERABLE, ETIMEDOUT}
+use Rattle.lockword.specs.declared.reply.Reply.TheVariants.{OK, EBUSY, EOWNERDEAD, ENOTRECOVERABLE, ETIMEDOUT}
 use Rattle.stepprograms.specs.declared.access.Access.{Access}
 use Rattle.posixmutex.specs.declared.point.Operation.TheVariants as operation
 use Rattle.memorymap.specs.Layouts.{cell_place, head_place}
 use Rattle.mutex.specs.declared.call.Call.TheVariants.{TimedLock, TryLock, Unlock}
 use Rattle.mutex.specs.declared.phase.Phase.{Phase}
-use Rattle.mutex.specs.declared.phase.Phase.TheVariants.{AtCell, Clearing}
+use Rattle.mutex.specs.declared.phase.Phase.TheVariants.{AtCell, Clearing, Linking}
 use Rattle.mutex.specs.declared.lock.LockRow.TheVariants as lock
 use Rattle.mutex.specs.declared.row.Row.TheVariants.{Lock}
 use Rattle.mutex.specs.declared.row.Row.TheVariants as mutex_row
@@ -40,7 +40,7 @@ use Rattle.slots.specs.Places.{cell_of, is_slot, our_own, slot_of}
 use Rattle.slots.specs.Rows.{Choice, How, Row, Taking, Then}
 use Rattle.slots.specs.Rows.How.{Tried, Later, Waited}
 use Rattle.slots.specs.Rows.Before.{Linked, Mended, Again}
-use Rattle.slots.specs.Rows.Onward.{Fails, Sleeps}
+use Rattle.slots.specs.Rows.Onward.{Fails, Has, Sleeps}
 use Rattle.slots.specs.Rows.Giving.{OfUnlock, OfWait}
 use Rattle.slots.specs.Rows.Then.{ToSleep, ToSlot}
 use Rattle.slots.specs.Shown.{Slots, shown}
@@ -55,6 +55,7 @@ use Rattle.slots.proofs.Announcing.{call_of}
 use Rattle.slots.proofs.CountLeads.{anews_so, count_wakes_lead, counts_lead, frees_lead, gives_lead, wait_sleeps_lead, wakes_one_lead}
 use Rattle.slots.proofs.Releasing.{freeing_at}
 use Rattle.slots.proofs.FirstLeads.{count_looks_lead, give_looks_lead, looks_lead, mend_looks_lead, try_looks_lead, wait_counts_lead, wait_looks_lead, wait_pends_lead}
+use Rattle.slots.proofs.LinkLeads.{along_leads}
 use Rattle.slots.proofs.StepLeads.{frees_slot, gives_cell, moves_lead, trims_lead, wait_wakes_lead}
 use Rattle.slots.proofs.TakeLeads.{cell_taken, heir_taken, slot_taken, tried_taken}
 use Rattle.slots.proofs.LookLeads.{Reaches, gives_up, loaded, lost_clears, lost_wakes, reach_later, reach_to_sleep, reach_tried, reach_waited}
@@ -473,6 +474,12 @@ module _ (x : Slots) (t : ℕ) (c : Choice) (at : IsAtRow x t) where
   lead_row (Row.WaitCounts m k timed true) is about a (of, owns, died) = wait_counts_lead x t c at m k timed is of owns died
   lead_row (Row.CountLooks m k all) is about a (of, inside) = count_looks_lead x t c at m k all is of inside
   lead_row (Row.GivePends m (OfWait k n slept timed)) is about (of, owns, well) says = wait_pends_lead x t c at m k n slept timed is of owns well says
+  lead_row (Row.Links m r) (u, inl (p, is, phase)) about a leading = along_leads x t at (OnMutex (TryLock (cell_of m))) p u r is phase (Row.Links m r) (Row.Clears m r) (λ l. (l, inl (record p { phase = Linking l r }, refl, refl))) (OnMutex (TryLock (cell_of m)), record p { phase = Clearing r }, r, refl, refl)
+  lead_row (Row.Links m r) (u, inr (inl (p, is, phase))) about a leading = along_leads x t at (OnMutex (TimedLock (cell_of m))) p u r is phase (Row.Links m r) (Row.Clears m r) (λ l. (l, inr (inl (record p { phase = Linking l r }, refl, refl)))) (OnMutex (TimedLock (cell_of m)), record p { phase = Clearing r }, r, refl, refl)
+  lead_row (Row.Links m r) (u, inr (inr (k, (o, p, is, of, acts, phase)))) about a leading = along_leads x t at (OnCondition o) p u r is phase (Row.Links m r) (Row.Clears m r) (λ l. (l, inr (inr (k, (o, record p { phase = Linking l r }, refl, of, acts, refl))))) (OnCondition o, record p { phase = Clearing r }, r, refl, refl)
+  lead_row (Row.SlotLinks k true) (u, (p, is, phase)) about a leading = along_leads x t at (OnMutex (TryLock (slot_of k.mutex))) p u EOWNERDEAD is phase (Row.SlotLinks k true) (Row.SlotClears k) (λ l. (l, (record p { phase = Linking l EOWNERDEAD }, refl, refl))) (record p { phase = Clearing EOWNERDEAD }, refl, refl)
+  lead_row (Row.SlotLinks k false) (u, (p, is, phase)) about a leading = along_leads x t at (OnMutex (TryLock (slot_of k.mutex))) p u OK is phase (Row.SlotLinks k false) (Row.HeirPends k Linked) (λ l. (l, (record p { phase = Linking l OK }, refl, refl))) (record p { phase = Clearing OK }, refl, refl)
+  lead_row (Row.HeirLinks k r) (u, (p, is, phase)) about a leading = along_leads x t at (OnMutex (TimedLock (cell_of k.mutex))) p u r is phase (Row.HeirLinks k r) (Row.Frees k (Has r)) (λ l. (l, (record p { phase = Linking l r }, refl, refl))) (record p { phase = Clearing r }, refl, refl)
   lead_row (Row.Anews m v) is about to leading = anews_so x t c at m v is to
   lead_row (Row.WaitSleeps m k n timed) there about a leading = wait_sleeps_lead x t c at m k n timed there
   lead_row (Row.Counts m k all n) is about may leading = counts_lead x t c at m k n all may is

@@ -39,3 +39,4 @@ pub mod TakeLeads
 pub mod CountLeads
 pub mod StepLeads
 pub mod FirstLeads
+pub mod LinkLeads

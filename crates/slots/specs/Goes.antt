@@ -99,6 +99,9 @@ IsLeading x t (Row.WaitCounts m k timed true) =
     IsOfCell x.machine.layout m k × OwnsInside x.machine t (cell_of m) × ((fields_at x.machine (cell_of m)).died ≡ true)
 IsLeading x t (Row.CountLooks m k all) = IsOfCell x.machine.layout m k × (cell_of m < x.machine.layout.mutexes)
 IsLeading x t (Row.GivePends m (OfWait k n slept timed)) = n ≡ x.machine.words (counter_place x.machine.layout k) % 2 ^ 32
+IsLeading x t (Row.Links m r) = Unit {0}
+IsLeading x t (Row.SlotLinks k d) = Unit {0}
+IsLeading x t (Row.HeirLinks k r) = Unit {0}
 IsLeading x t (Row.Frees k f) = (fields_at x.machine (slot_of k.mutex)).died ≡ false
 IsLeading x t (Row.GivePends m (OfUnlock d)) = (fields_at x.machine (cell_of m)).died ≡ d
 IsLeading x t (Row.FreeGives k f) = (fields_at x.machine (slot_of k.mutex)).waiters ≡ false
