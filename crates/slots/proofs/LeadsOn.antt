@@ -9,7 +9,7 @@ use Rattle.posixmutex.specs.declared.point.Operation.TheVariants as operation
 use Rattle.memorymap.specs.Layouts.{cell_place, head_place}
 use Rattle.mutex.specs.declared.call.Call.TheVariants.{TimedLock, TryLock, Unlock}
 use Rattle.mutex.specs.declared.phase.Phase.{Phase}
-use Rattle.mutex.specs.declared.phase.Phase.TheVariants.{AtCell, Clearing, Linking}
+use Rattle.mutex.specs.declared.phase.Phase.TheVariants.{AtCell, Clearing, Linking, Unlinking}
 use Rattle.mutex.specs.declared.lock.LockRow.TheVariants as lock
 use Rattle.mutex.specs.declared.row.Row.TheVariants.{Lock}
 use Rattle.mutex.specs.declared.row.Row.TheVariants as mutex_row
@@ -56,6 +56,7 @@ use Rattle.slots.proofs.CountLeads.{anews_so, count_wakes_lead, counts_lead, fre
 use Rattle.slots.proofs.Releasing.{freeing_at}
 use Rattle.slots.proofs.FirstLeads.{count_looks_lead, give_looks_lead, looks_lead, mend_looks_lead, try_looks_lead, wait_counts_lead, wait_looks_lead, wait_pends_lead}
 use Rattle.slots.proofs.LinkLeads.{along_leads}
+use Rattle.slots.proofs.UnlinkLeads.{off_leads}
 use Rattle.slots.proofs.StepLeads.{frees_slot, gives_cell, moves_lead, trims_lead, wait_wakes_lead}
 use Rattle.slots.proofs.TakeLeads.{cell_taken, heir_taken, slot_taken, tried_taken}
 use Rattle.slots.proofs.LookLeads.{Reaches, gives_up, loaded, lost_clears, lost_wakes, reach_later, reach_to_sleep, reach_tried, reach_waited}
@@ -480,6 +481,9 @@ module _ (x : Slots) (t : ℕ) (c : Choice) (at : IsAtRow x t) where
   lead_row (Row.SlotLinks k true) (u, (p, is, phase)) about a leading = along_leads x t at (OnMutex (TryLock (slot_of k.mutex))) p u EOWNERDEAD is phase (Row.SlotLinks k true) (Row.SlotClears k) (λ l. (l, (record p { phase = Linking l EOWNERDEAD }, refl, refl))) (record p { phase = Clearing EOWNERDEAD }, refl, refl)
   lead_row (Row.SlotLinks k false) (u, (p, is, phase)) about a leading = along_leads x t at (OnMutex (TryLock (slot_of k.mutex))) p u OK is phase (Row.SlotLinks k false) (Row.HeirPends k Linked) (λ l. (l, (record p { phase = Linking l OK }, refl, refl))) (record p { phase = Clearing OK }, refl, refl)
   lead_row (Row.HeirLinks k r) (u, (p, is, phase)) about a leading = along_leads x t at (OnMutex (TimedLock (cell_of k.mutex))) p u r is phase (Row.HeirLinks k r) (Row.Frees k (Has r)) (λ l. (l, (record p { phase = Linking l r }, refl, refl))) (record p { phase = Clearing r }, refl, refl)
+  lead_row (Row.FreeUnlinks k f) (u, (p, is, phase)) about a leading = off_leads x t at (OnMutex (Unlock (slot_of k.mutex))) p u false is phase (Row.FreeUnlinks k f) (Row.FreeGives k f) (λ l. (l, (record p { phase = Unlinking l false }, refl, refl))) (record p { phase = AtCell (mutex_row.Unlock (unlock.Release false)) }, refl, refl)
+  lead_row (Row.GiveUnlinks m (OfUnlock d)) (u, (p, is, phase)) about a leading = off_leads x t at (OnMutex (Unlock (cell_of m))) p u d is phase (Row.GiveUnlinks m (OfUnlock d)) (if c.yes then Row.GiveFinds m (OfUnlock d) else Row.Gives m (OfUnlock d)) (λ l. (l, (record p { phase = Unlinking l d }, refl, refl)))
+      (either c.yes (Row.GiveFinds m (OfUnlock d)) (Row.Gives m (OfUnlock d)) _ (record p { phase = AtCell (mutex_row.Unlock (unlock.Release d)) }, refl, refl) (record p { phase = AtCell (mutex_row.Unlock (unlock.Release d)) }, refl, refl))
   lead_row (Row.Anews m v) is about to leading = anews_so x t c at m v is to
   lead_row (Row.WaitSleeps m k n timed) there about a leading = wait_sleeps_lead x t c at m k n timed there
   lead_row (Row.Counts m k all n) is about may leading = counts_lead x t c at m k n all may is

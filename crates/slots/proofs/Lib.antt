@@ -40,3 +40,4 @@ pub mod CountLeads
 pub mod StepLeads
 pub mod FirstLeads
 pub mod LinkLeads
+pub mod UnlinkLeads
