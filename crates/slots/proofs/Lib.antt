@@ -41,3 +41,4 @@ pub mod StepLeads
 pub mod FirstLeads
 pub mod LinkLeads
 pub mod UnlinkLeads
+pub mod WaitLeads

@@ -80,7 +80,7 @@ module _ (x : Slots) (t : ℕ) (c : Choice) (at : IsAtRow x t) where
       p : Whole
       p = call_at z.layout t (op_of o) k f
 
-  step_at_word : (o : CondCall) (f : CondPhase) (a : Access) (pl : ℕ) → IsAtWord z t o f → cond_access (cond_of z.layout t o f) ≡ a → place_in z.layout t (address_of a) ≡ pl
+  pub step_at_word : (o : CondCall) (f : CondPhase) (a : Access) (pl : ℕ) → IsAtWord z t o f → cond_access (cond_of z.layout t o f) ≡ a → place_in z.layout t (address_of a) ≡ pl
       → ((run z (Step t ∷ [])).threads t).stage ≡ stage_at o (cond_of z.layout t o f) (cond_led (cond_of z.layout t o f) (answer_among a (z.words pl) (z.queues pl))).phase
   step_at_word o f a pl is access place =
       ap (λ (s : After). (s.state.threads t).stage) (cond_goes z t o p inv at.first at.last is.there)
