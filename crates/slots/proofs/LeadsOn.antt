@@ -50,14 +50,14 @@ use Rattle.slots.specs.Accesses.{IsAbout, IsAboutIt, IsAtRow}
 use Rattle.slots.specs.Each.{Assumes, IsToMark, IsToTake, IsToTakeSlot}
 use Rattle.slots.specs.Further.{GoesToSlot, MayTake, SeesAnother, SeesUnmarked}
 use Rattle.slots.specs.Invariant.{fields_at}
-use Rattle.slots.specs.Goes.{IsLeading, LeadsOn, RowsLeadOn}
+use Rattle.slots.specs.Goes.{AssumesToo, LeadsOn, RowsLeadOn}
 use Rattle.slots.proofs.Announcing.{call_of}
 use Rattle.slots.proofs.CountLeads.{anews_so, count_wakes_lead, counts_lead, frees_lead, gives_lead, wait_sleeps_lead, wakes_one_lead}
 use Rattle.slots.proofs.Releasing.{freeing_at}
 use Rattle.slots.proofs.FirstLeads.{count_looks_lead, give_looks_lead, looks_lead, mend_looks_lead, try_looks_lead, wait_counts_lead, wait_looks_lead, wait_pends_lead}
 use Rattle.slots.proofs.LinkLeads.{along_leads}
 use Rattle.slots.proofs.UnlinkLeads.{off_leads}
-use Rattle.slots.proofs.WaitLeads.{gives_wait, wait_unlinks_lead}
+use Rattle.slots.proofs.WaitLeads.{gives_wait, hands_lead, wait_unlinks_lead}
 use Rattle.slots.proofs.StepLeads.{frees_slot, gives_cell, moves_lead, trims_lead, wait_wakes_lead}
 use Rattle.slots.proofs.TakeLeads.{cell_taken, heir_taken, slot_taken, tried_taken}
 use Rattle.slots.proofs.LookLeads.{Reaches, gives_up, loaded, lost_clears, lost_wakes, reach_later, reach_to_sleep, reach_tried, reach_waited}
@@ -403,7 +403,7 @@ module _ (x : Slots) (t : ℕ) (c : Choice) (at : IsAtRow x t) where
   woken_clears : (o : Op) (m : ℕ) (f : Phase) (y : Reply) (r : Reply) → IsAt z t o m f → phase_access (call_at z.layout t (op_of o) m f) f ≡ Access.Wake (cell_in z.layout t m) most_threads → ((n : ℕ) → phase_led (call_at z.layout t (op_of o) m f) f (Count n) ≡ onward (Clearing y)) → StandsAs (Row.Clears 0 r) ((run z (Step t ∷ [])).threads t).stage
   woken_clears o m f y r a access leads = led (Step t ∷ []) _ _ _ (Row.Clears 0 r) (wakes_to o m f y a access leads) (o, call_at z.layout t (op_of o) m (Clearing y), y, refl, refl)
 
-  lead_row : (r : Row) → StandsAs r g → IsAboutIt z.layout r g → Assumes x t r → IsLeading x t r → LeadsOn x t c r
+  lead_row : (r : Row) → StandsAs r g → IsAboutIt z.layout r g → Assumes x t r → AssumesToo x t r → LeadsOn x t c r
   lead_row Row.Rests there about a leading = there
   lead_row (Row.Pends k v) there about a tried = pends_so k v k.how refl tried there a
   lead_row (Row.Sees k) there about may leading = reached (seen_events t k.mutex k.how (word k.mutex)) (seen_row t k (word k.mutex)) (sees_so k k.how refl may there about)
@@ -487,11 +487,11 @@ module _ (x : Slots) (t : ℕ) (c : Choice) (at : IsAtRow x t) where
       (either c.yes (Row.GiveFinds m (OfUnlock d)) (Row.Gives m (OfUnlock d)) _ (record p { phase = AtCell (mutex_row.Unlock (unlock.Release d)) }, refl, refl) (record p { phase = AtCell (mutex_row.Unlock (unlock.Release d)) }, refl, refl))
   lead_row (Row.GiveUnlinks m (OfWait k n slept timed)) (p, u, is, phase) about a leading = wait_unlinks_lead x t c at m k n slept timed p u is phase
   lead_row (Row.Gives m (OfWait k n slept timed)) there about owns leading = gives_wait x t c at m k n slept timed there about
+  lead_row (Row.HandsOn m y is) there about a left = hands_lead x t c at m y is there about left
   lead_row (Row.Anews m v) is about to leading = anews_so x t c at m v is to
   lead_row (Row.WaitSleeps m k n timed) there about a leading = wait_sleeps_lead x t c at m k n timed there
   lead_row (Row.Counts m k all n) is about may leading = counts_lead x t c at m k n all may is
   lead_row (Row.CountWakes m k n) there about a leading = count_wakes_lead x t c at m k n there
-  lead_row r there about a never = absurd never
 
 pub rows_lead : RowsLeadOn
 rows_lead x t c at assumes leading = lead_row x t c at (x.rows t) at.there at.about assumes leading

@@ -35,6 +35,7 @@ IsAboutIt l (Row.SleepsOn k v) g = IsAbout l k.mutex g
 IsAboutIt l (Row.Asleep k) g = IsAbout l k.mutex g
 IsAboutIt l (Row.WaitAsleep m k timed) g = IsAbout l m g
 IsAboutIt l (Row.WakesAll m r) g = IsAbout l m g
+IsAboutIt l (Row.HandsOn m y is) g = IsAbout l m g
 IsAboutIt l (Row.WakesOne m y is) g = IsAbout l m g
 IsAboutIt l (Row.Gives m y) g = IsAbout l m g
 IsAboutIt l (Row.AllMarks m k n) g = IsAbout l m g

@@ -278,7 +278,7 @@ pub fn others_stand_still()
     ensures { OthersStandStill }
 {}
 
-/// After an access at one of most rows that don't look or take, the machine's thread is where the next row says.
+/// After each access, whatever it finds, the machine's thread is where the next row says. The row's premises are named.
 pub fn rows_lead_on()
     ensures { RowsLeadOn }
 {}
