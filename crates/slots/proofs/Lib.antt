@@ -42,3 +42,4 @@ pub mod FirstLeads
 pub mod LinkLeads
 pub mod UnlinkLeads
 pub mod WaitLeads
+pub mod Keeping

@@ -1,7 +1,7 @@
 -- Threads stand where their rows say, from one happening to the next.
-use Rattle.std.specs.Prelude.{ℕ, ◌≡◌, ◌≢◌, ◌+◌, ◌%◌, ◌^◌, ◌<◌, true, false}
+use Rattle.std.specs.Prelude.{ℕ, ◌≡◌, ◌≢◌, ◌+◌, ◌%◌, ◌^◌, ◌<◌, ◌≤◌, true, false}
 use Rattle.memorymap.specs.Layouts.{cell_place, counter_place}
-use Rattle.protocol.specs.Machine.{run, is_left_to}
+use Rattle.protocol.specs.Machine.{run, is_alive, is_left_to}
 use Rattle.slots.specs.Rows.{Choice, Row}
 use Rattle.slots.specs.Rows.How.{Tried, Later}
 use Rattle.slots.specs.Rows.Then.{ToSleep, ToSlot}
@@ -67,3 +67,27 @@ AssumesToo x t r = Unit {0}
 abbrev pub RowsLeadOn : Type 0
 RowsLeadOn = (x : Slots) (t : ℕ) (c : Choice) → IsAtRow x t → Assumes x t (x.rows t) → AssumesToo x t (x.rows t)
     → LeadsOn x t c (x.rows t)
+
+-- ---- from happening to happening
+
+-- a thread that lives is where its row says
+abbrev pub IsAtItsRow : Slots → ℕ → Type 0
+IsAtItsRow x t = is_alive (x.machine.threads t).stage ≡ true → StandsAs (x.rows t) (x.machine.threads t).stage
+
+-- a lock that sleeps with a deadline has been to the slot, or has slept before: the lock that ends a wait has no deadline
+abbrev pub SleepsLater : Row → Type 0
+SleepsLater (Row.Asleep k) = k.timed ≡ true → k.how ≡ Later
+SleepsLater r = Unit {0}
+
+-- What a happening takes for granted. An access does what its row assumes. A timeout knows which lock sleeps. A dead
+-- thread is in none of our calls
+abbrev pub Grants : Slots → Happening → Type 0
+Grants x (Goes t c) = IsAtRow x t × Assumes x t (x.rows t) × AssumesToo x t (x.rows t)
+Grants x (Lapses t) = SleepsLater (x.rows t)
+Grants x (Lives t) = is_alive (x.machine.threads t).stage ≡ false → x.rows t ≡ Row.Rests
+Grants x h = Unit {0}
+
+-- whatever happens to a thread, it is at its row afterwards, if it lives
+abbrev pub ThreadsKeepTheirRows : Type 0
+ThreadsKeepTheirRows = (x : Slots) (h : Happening) → IsReached x.machine → 1 ≤ who h → who h ≤ x.machine.layout.threads
+    → Grants x h → IsAtItsRow x (who h) → IsAtItsRow (next x h) (who h)

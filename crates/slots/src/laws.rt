@@ -4,7 +4,7 @@ ghost use Rattle.slots.specs.Accesses.{ClearingRowsAreEvents, ListRowsAreEvents,
 ghost use Rattle.slots.specs.Accesses.{MissesAreNoEvents, PendingAgainIsNoEvent, ReleasesAreEvents};
 ghost use Rattle.slots.specs.Accesses.{TakesAreEvents, WakesAreEvents};
 ghost use Rattle.slots.specs.Each.{EachAccessIsEvents};
-ghost use Rattle.slots.specs.Goes.{OthersStandStill, RowsLeadOn};
+ghost use Rattle.slots.specs.Goes.{OthersStandStill, RowsLeadOn, ThreadsKeepTheirRows};
 ghost use Rattle.slots.specs.Further.{AnnouncedReleasesAreEvents, CountsAreEvents, DecidingLooksAreEvents};
 ghost use Rattle.slots.specs.Further.{FirstLooksAreEvents, MarksAreEvents, MendsAreEvents, MovesAreEvents};
 ghost use Rattle.slots.specs.Further.{SleepsAreEvents, SparesAreEvents, TrimsAreEvents};
@@ -281,4 +281,10 @@ pub fn others_stand_still()
 /// After each access, whatever it finds, the machine's thread is where the next row says. The row's premises are named.
 pub fn rows_lead_on()
     ensures { RowsLeadOn }
+{}
+
+/// A thread that is at its row is at its row after whatever happens to it, if it lives then: a call, an access, an
+/// interruption, a timeout, or a new life. What an access and a timeout assume is named.
+pub fn threads_keep_their_rows()
+    ensures { ThreadsKeepTheirRows }
 {}

@@ -16,7 +16,7 @@
 //!   pending word (`announcing_rows_are_events`, `announced_releases_are_events`, `clearing_rows_are_events`,
 //!   `pending_again_is_no_event`); sleeps (`sleeps_are_events`), wakes (`wakes_are_events`) and moves
 //!   (`moves_are_events`); counters (`counts_are_events`); AWAKE (`awake_is_set`, `awake_is_cleared`).
-//! - *Runs of the layer*: `others_stand_still`, `rows_lead_on`.
+//! - *Runs of the layer*: `others_stand_still`, `rows_lead_on`, `threads_keep_their_rows`.
 //! - *Several events at one moment*: `giving_up_leaves_nothing`, `giving_up_is_a_look`, `takes_are_one_exchange`,
 //!   `takes_are_the_exchange`, `announcing_is_one_store`.
 //! - *The turn*: `trims_are_the_machines`, with `releases_tell`, `wakes_of_nobody_tell`, `turns_stay_known`,
@@ -43,6 +43,7 @@ pub use laws::{
     others_stand_still, pending_again_is_no_event, releases_are_events, releases_tell,
     rows_lead_on, sleeps_are_events, slots_run_the_machine, spares_are_events,
     standing_heirs_answer, takes_are_events, takes_are_one_exchange, takes_are_the_exchange,
-    trims_are_events, trims_are_the_machines, turns_stay_known, turns_stay_known_by_all,
-    wakes_are_events, wakes_of_nobody_tell, walks_leave_all, walks_leave_heirs,
+    threads_keep_their_rows, trims_are_events, trims_are_the_machines, turns_stay_known,
+    turns_stay_known_by_all, wakes_are_events, wakes_of_nobody_tell, walks_leave_all,
+    walks_leave_heirs,
 };
