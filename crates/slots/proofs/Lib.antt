@@ -43,3 +43,4 @@ pub mod LinkLeads
 pub mod UnlinkLeads
 pub mod WaitLeads
 pub mod Keeping
+pub mod AllRows

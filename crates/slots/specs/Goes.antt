@@ -1,20 +1,20 @@
 -- Threads stand where their rows say, from one happening to the next.
-use Rattle.std.specs.Prelude.{ℕ, ◌≡◌, ◌≢◌, ◌+◌, ◌%◌, ◌^◌, ◌<◌, ◌≤◌, true, false}
-use Rattle.memorymap.specs.Layouts.{cell_place, counter_place}
+use Rattle.std.specs.Prelude.{ℕ, ◌≡◌, ◌≢◌, ◌+◌, ◌%◌, ◌^◌, ◌<◌, ◌≤◌, true, false, List, [], ◌∷◌}
+use Rattle.memorymap.specs.Layouts.{Layout', IsLayout, cell_place, counter_place}
 use Rattle.protocol.specs.Machine.{run, is_alive, is_left_to}
 use Rattle.slots.specs.Rows.{Choice, Row}
 use Rattle.slots.specs.Rows.How.{Tried, Later}
 use Rattle.slots.specs.Rows.Then.{ToSleep, ToSlot}
 use Rattle.slots.specs.Rows.Giving.{OfUnlock, OfWait}
 use Rattle.slots.specs.Places.{cell_of, slot_of}
-use Rattle.slots.specs.Shown.{Slots, shown}
+use Rattle.slots.specs.Shown.{Slots, begin, shown}
 use Rattle.slots.specs.Invariant.{fields_at}
 use Rattle.slots.specs.Stands.{StandsAs}
 use Rattle.slots.specs.Table.{made, heir_of, shows_heir}
 use Rattle.slots.specs.Accesses.{IsAtRow}
 use Rattle.slots.specs.Each.{Assumes}
 use Rattle.slots.specs.Further.{IsOfCell, OwnsInside}
-use Rattle.slots.specs.Runs.{Happening, next}
+use Rattle.slots.specs.Runs.{Happening, next, reached}
 use Rattle.slots.specs.Runs.Happening.{Calls, Goes, Interrupts, Lapses, Dies, Walks, Lives}
 use Rattle.slots.specs.Laws.{IsReached}
 
@@ -91,3 +91,15 @@ Grants x h = Unit {0}
 abbrev pub ThreadsKeepTheirRows : Type 0
 ThreadsKeepTheirRows = (x : Slots) (h : Happening) → IsReached x.machine → 1 ≤ who h → who h ≤ x.machine.layout.threads
     → Grants x h → IsAtItsRow x (who h) → IsAtItsRow (next x h) (who h)
+
+-- ---- runs
+
+-- each happening of the run is of one of the layout's threads, and has what it takes for granted
+abbrev pub AllGranted : Slots → List Happening → Type 0
+AllGranted x [] = Unit {0}
+AllGranted x (h ∷ hs) = ((1 ≤ who h) × (who h ≤ x.machine.layout.threads) × Grants x h) × AllGranted (next x h) hs
+
+-- then all threads that live are at their rows after the run
+abbrev pub RunsKeepTheirRows : Type 0
+RunsKeepTheirRows = (l : Layout') (hs : List Happening) (t : ℕ) → IsLayout l → 1 ≤ t → t ≤ l.threads → AllGranted (begin l) hs
+    → IsAtItsRow (reached l hs) t

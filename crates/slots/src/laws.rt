@@ -4,7 +4,8 @@ ghost use Rattle.slots.specs.Accesses.{ClearingRowsAreEvents, ListRowsAreEvents,
 ghost use Rattle.slots.specs.Accesses.{MissesAreNoEvents, PendingAgainIsNoEvent, ReleasesAreEvents};
 ghost use Rattle.slots.specs.Accesses.{TakesAreEvents, WakesAreEvents};
 ghost use Rattle.slots.specs.Each.{EachAccessIsEvents};
-ghost use Rattle.slots.specs.Goes.{OthersStandStill, RowsLeadOn, ThreadsKeepTheirRows};
+ghost use Rattle.slots.specs.Goes.{OthersStandStill, RowsLeadOn, RunsKeepTheirRows};
+ghost use Rattle.slots.specs.Goes.{ThreadsKeepTheirRows};
 ghost use Rattle.slots.specs.Further.{AnnouncedReleasesAreEvents, CountsAreEvents, DecidingLooksAreEvents};
 ghost use Rattle.slots.specs.Further.{FirstLooksAreEvents, MarksAreEvents, MendsAreEvents, MovesAreEvents};
 ghost use Rattle.slots.specs.Further.{SleepsAreEvents, SparesAreEvents, TrimsAreEvents};
@@ -287,4 +288,9 @@ pub fn rows_lead_on()
 /// interruption, a timeout, or a new life. What an access and a timeout assume is named.
 pub fn threads_keep_their_rows()
     ensures { ThreadsKeepTheirRows }
+{}
+
+/// After any run whose happenings have what they assume, each thread that lives is where its row says.
+pub fn runs_keep_their_rows()
+    ensures { RunsKeepTheirRows }
 {}
