@@ -1,9 +1,9 @@
 -- After every run whose happenings have what they take for granted, threads are at their rows.
-use Rattle.std.proofs.Common.{◌≡◌, ◌≢◌, ℕ, ◌≤◌, ◌==◌, Bool, true, false, List, [], ◌∷◌, refl, sym, ap, ◌∙◌, subst, eqb-true, eq-eqb}
-use Rattle.memorymap.specs.Layouts.{Layout', IsLayout}
+use Rattle.std.proofs.Common.{◌≡◌, ℕ, ◌≤◌, ◌==◌, Bool, true, false, List, [], ◌∷◌, refl, sym, ap, ◌∙◌, subst, eqb-true, eq-eqb}
+use Rattle.memorymap.specs.Layouts.{Layout'}
 use Rattle.protocol.specs.declared.event.Event.{Event}
 use Rattle.protocol.specs.declared.thread.Thread.{Thread}
-use Rattle.protocol.specs.Machine.{State, happens, is_alive, run, start}
+use Rattle.protocol.specs.Machine.{State, happens, is_alive, run}
 use Rattle.protocol.proofs.Kept.{Kept}
 use Rattle.protocol.proofs.Runs.{sound}
 use Rattle.slots.specs.Rows.{Row}

@@ -1,6 +1,6 @@
 -- Where accesses of condition variables, of releases and of a reinit lead.
-use Rattle.std.proofs.Common.{◌≡◌, ◌≢◌, inl, inr, ℕ, ◌+◌, ◌-◌, ◌*◌, ◌/◌, ◌%◌, ◌^◌, ◌<◌, ◌≤◌, ◌==◌, Bool, true, false, Some, List, [], ◌∷◌, ◌++◌, length, refl, sym, ap, ◌∙◌, subst, arith, eqb-true, eq-eqb}
-use Rattle.std.specs.Prelude.{if◌then◌else◌, not, take, drop, ◌&&◌}
+use Rattle.std.proofs.Common.{◌≡◌, ℕ, ◌+◌, ◌-◌, ◌*◌, ◌/◌, ◌%◌, ◌^◌, ◌<◌, ◌==◌, Bool, true, false, List, [], ◌∷◌, ◌++◌, length, refl, sym, ap, ◌∙◌, subst, arith, eqb-true}
+use Rattle.std.specs.Prelude.{if◌then◌else◌, take, drop}
 use Rattle.lockword.specs.Cells.{bit, fields_of}
 use Rattle.lockword.specs.declared.reply.Reply.{Reply}
 use Rattle.lockword.specs.declared.reply.Reply.TheVariants.{OK}
@@ -31,7 +31,7 @@ use Rattle.condvar.specs.Whole as condition
 use Rattle.condvar.specs.Whole.{cond_led}
 use Rattle.condvar.specs.declared.op.Op.TheVariants.{OnMutex, OnCondition}
 use Rattle.protocol.specs.declared.event.Event.{Event}
-use Rattle.protocol.specs.declared.event.Event.TheVariants.{Begin, Step, Remake}
+use Rattle.protocol.specs.declared.event.Event.TheVariants.{Step, Remake}
 use Rattle.protocol.specs.declared.thread.Thread.{Thread}
 use Rattle.protocol.specs.declared.thread.Stage.{Stage}
 use Rattle.protocol.specs.declared.thread.Stage.TheVariants.{Idle, Calling, AtCondition}
@@ -41,20 +41,20 @@ use Rattle.protocol.proofs.CondSteps.{cond_of}
 use Rattle.protocol.proofs.Puts.{put-same}
 use Rattle.protocol.proofs.Seeing.{cell_in, counter_in, cell_again, counter_again, entry_in, head_in}
 use Rattle.slots.specs.Places.{cell_of, slot_of}
-use Rattle.slots.specs.Rows.{Choice, Giving, Onward, Row}
-use Rattle.slots.specs.Rows.Giving.{OfUnlock, OfWait}
+use Rattle.slots.specs.Rows.{Choice, Row}
+use Rattle.slots.specs.Rows.Giving.{OfUnlock}
 use Rattle.slots.specs.Shown.{Slots, shown}
-use Rattle.slots.specs.Stands.{IsAtWords, IsFreeing, IsIn, IsRetaking, IsWaking, StandsAs, at_load}
-use Rattle.slots.specs.Table.{Made, counted, counted_row, count_begins, frees, giving_begins, made, makes, shows_slept, wait_of, woke_row}
+use Rattle.slots.specs.Stands.{IsAtWords, IsIn, IsRetaking, StandsAs, at_load}
+use Rattle.slots.specs.Table.{Made, counted, counted_row, count_begins, frees, giving_begins, makes, wait_of, woke_row}
 use Rattle.slots.specs.Invariant.{fields_at}
-use Rattle.slots.specs.Accesses.{IsAbout, IsAtRow}
+use Rattle.slots.specs.Accesses.{IsAtRow}
 use Rattle.slots.specs.Each.{IsToRemake}
-use Rattle.slots.specs.Further.{FindsUnusable, MayCount, OwnsInside}
+use Rattle.slots.specs.Further.{MayCount, OwnsInside}
 use Rattle.slots.specs.Goes.{LeadsOn}
 use Rattle.slots.proofs.Chains.{clears_more}
 use Rattle.slots.proofs.Counting as counting
 use Rattle.slots.proofs.Free.{reached_kept}
-use Rattle.slots.proofs.Leading.{IsAt, IsAtWord, Leads, all_still, by_test, call_at, cond_more, is_at, is_at_word, on, op_of, put_back, stays, steps_more, unmoved}
+use Rattle.slots.proofs.Leading.{IsAt, IsAtWord, Leads, all_still, by_test, call_at, cond_more, is_at, is_at_word, on, put_back, stays, steps_more, unmoved}
 use Rattle.slots.proofs.Mending as mending
 use Rattle.slots.proofs.Releasing as releasing
 use Rattle.slots.proofs.Sleeping.{counter_shows}

@@ -1,26 +1,23 @@
 -- Each row by the law of its kind.
-use Rattle.std.proofs.Common.{◌≡◌, ◌≢◌, ℕ, ◌+◌, ◌-◌, ◌*◌, ◌/◌, ◌%◌, ◌^◌, ◌<◌, ◌==◌, Bool, true, false, List, [], ◌∷◌, refl, sym, ap, ◌∙◌, subst, arith, eqb-true, eq-eqb}
-use Rattle.std.specs.Prelude.{if◌then◌else◌, not, ◌&&◌}
+use Rattle.std.proofs.Common.{◌≡◌, ◌≢◌, ℕ, ◌+◌, ◌-◌, ◌*◌, ◌%◌, ◌<◌, ◌==◌, Bool, true, false, [], ◌∷◌, refl, sym, ap, ◌∙◌, subst, arith, eqb-true, eq-eqb}
+use Rattle.std.specs.Prelude.{if◌then◌else◌, ◌&&◌}
 use Rattle.lockword.specs.Cells.{bit, fields_of}
 use Rattle.stepprograms.specs.declared.access.Access.{Access}
-use Rattle.memorymap.specs.Layouts.{cell_place, counter_place, place_in}
+use Rattle.memorymap.specs.Layouts.{cell_place}
 use Rattle.mutex.specs.Rows.{acquired}
-use Rattle.protocol.specs.declared.event.Event.{Event}
 use Rattle.protocol.specs.declared.event.Event.TheVariants.{Step, Remake}
-use Rattle.protocol.specs.declared.thread.Stage.{Stage}
 use Rattle.protocol.specs.Machine.{State}
 use Rattle.protocol.proofs.Kept.{Kept}
 use Rattle.protocol.proofs.Seeing.{cell_in, counter_in, cell_again}
 use Rattle.slots.specs.Places.{cell_of, is_slot, our_own, slot_of}
-use Rattle.slots.specs.Rows.{Before, Choice, Giving, Row, Taking}
+use Rattle.slots.specs.Rows.{Choice, Row}
 use Rattle.slots.specs.Rows.Before.{Linked, Mended, Again}
-use Rattle.slots.specs.Rows.Giving.{OfUnlock, OfWait}
 use Rattle.slots.specs.Shown.{Slots, shown}
 use Rattle.slots.specs.Stands.{StandsAs}
-use Rattle.slots.specs.Table.{Made, is_free, made, makes, out_of, sets_and_expires, taken_word, waiting_word, watched_row}
-use Rattle.slots.specs.Invariant.{fields_at, HasRoom}
-use Rattle.slots.specs.Accesses.{Finds, IsAboutIt, IsAtRow, IsLoad}
-use Rattle.slots.specs.Each.{Assumes, EachAccessIsEvents, IsToMark, IsToTake, IsToTakeSlot, IsToRemake}
+use Rattle.slots.specs.Table.{is_free, made, makes, out_of, sets_and_expires, taken_word, waiting_word, watched_row}
+use Rattle.slots.specs.Invariant.{fields_at}
+use Rattle.slots.specs.Accesses.{Finds, IsAboutIt, IsAtRow}
+use Rattle.slots.specs.Each.{Assumes, EachAccessIsEvents, IsToMark, IsToTake, IsToTakeSlot}
 use Rattle.slots.specs.Further.{FindsOther, MayTake, SeesUnmarked}
 use Rattle.slots.proofs.Again.{again_row}
 use Rattle.slots.proofs.Announcing.{announcing_row}

@@ -1,10 +1,10 @@
 -- Where a call's first look leads, and the announcement and the release of a wait.
-use Rattle.std.proofs.Common.{◌≡◌, ◌≢◌, inl, inr, ℕ, ◌+◌, ◌-◌, ◌%◌, ◌^◌, ◌<◌, ◌≤◌, ◌==◌, Bool, true, false, Some, List, [], ◌∷◌, ◌++◌, length, refl, sym, ap, ◌∙◌, subst, arith, eqb-true, eq-eqb}
-use Rattle.std.specs.Prelude.{if◌then◌else◌, nat_lt, not, slice_index, ◌&&◌}
+use Rattle.std.proofs.Common.{◌≡◌, ℕ, ◌+◌, ◌%◌, ◌^◌, ◌<◌, ◌==◌, Bool, true, false, Some, List, [], ◌∷◌, ◌++◌, length, refl, sym, ap, ◌∙◌, subst, arith, eqb-true, eq-eqb}
+use Rattle.std.specs.Prelude.{nat_lt, not, slice_index, ◌&&◌}
 use Rattle.std.proofs.lemmas.Bool.Decides.{nat_tests}
 use Rattle.lockword.specs.Cells.{Fields, fields_of}
 use Rattle.lockword.specs.declared.reply.Reply.{Reply}
-use Rattle.lockword.specs.declared.reply.Reply.TheVariants.{OK, EINVAL, EPERM, XSTATE}
+use Rattle.lockword.specs.declared.reply.Reply.TheVariants.{EINVAL, EPERM, XSTATE}
 use Rattle.stepprograms.specs.declared.access.Access.{Access}
 use Rattle.stepprograms.specs.declared.access.Answer.TheVariants.{Value}
 use Rattle.posixmutex.specs.Objects.{acquires}
@@ -31,13 +31,12 @@ use Rattle.condvar.specs.declared.wait.WaitRow.TheVariants as wait
 use Rattle.condvar.specs.declared.signal.SignalRow.TheVariants as signal
 use Rattle.condvar.specs.declared.broadcast.BroadcastRow.TheVariants as broadcast
 use Rattle.condvar.specs.Broadcast.{broadcast_sees}
-use Rattle.condvar.specs.Calls.{acts_as, condition_of}
+use Rattle.condvar.specs.Calls.{condition_of}
 use Rattle.condvar.specs.Programs as programs
 use Rattle.condvar.specs.Rows as rows
 use Rattle.condvar.specs.Signal.{signal_sees}
 use Rattle.condvar.specs.Standings.{CondWhole}
 use Rattle.condvar.specs.Wait.{wait_sees}
-use Rattle.condvar.specs.Whole as condition
 use Rattle.condvar.specs.Whole.{cond_access, cond_led, from_words}
 use Rattle.condvar.specs.declared.op.Op.TheVariants.{OnMutex, OnCondition}
 use Rattle.condvar.specs.Ops.{may_call, operation_of}
@@ -45,25 +44,25 @@ use Rattle.protocol.specs.declared.event.Event.{Event}
 use Rattle.protocol.specs.declared.event.Event.TheVariants.{Begin, Step}
 use Rattle.protocol.specs.declared.thread.Thread.{Thread}
 use Rattle.protocol.specs.declared.thread.Stage.{Stage}
-use Rattle.protocol.specs.declared.thread.Stage.TheVariants.{Idle, Calling, AtCondition}
-use Rattle.protocol.specs.Machine.{State, held_after, led_at, put, run}
+use Rattle.protocol.specs.declared.thread.Stage.TheVariants.{Idle, AtCondition}
+use Rattle.protocol.specs.Machine.{State, held_after, put, run}
 use Rattle.protocol.proofs.Kept.{Kept}
 use Rattle.protocol.proofs.CondSteps.{cond_of}
 use Rattle.protocol.proofs.Puts.{put-same}
-use Rattle.protocol.proofs.Seeing.{cell_in, counter_in, cell_again, entry_in, head_in}
+use Rattle.protocol.proofs.Seeing.{cell_in, cell_again, entry_in, head_in}
 use Rattle.slots.specs.Places.{cell_of}
 use Rattle.slots.specs.Rows.{Choice, Row, Taking}
 use Rattle.slots.specs.Rows.Giving.{OfUnlock, OfWait}
 use Rattle.slots.specs.Shown.{Slots, shown}
 use Rattle.slots.specs.Stands.{StandsAs}
-use Rattle.slots.specs.Table.{Made, begins, is_free, made, makes, refused_count, shows_slept, wait_begins, wait_of}
+use Rattle.slots.specs.Table.{Made, begins, is_free, makes, refused_count, wait_begins, wait_of}
 use Rattle.slots.specs.Invariant.{fields_at}
 use Rattle.slots.specs.Accesses.{IsAtRow}
 use Rattle.slots.specs.Further.{IsOfCell, OwnsInside}
 use Rattle.slots.specs.Goes.{LeadsOn}
 use Rattle.slots.proofs.Free.{reached_kept}
 use Rattle.slots.proofs.Leading.{Leads, begins_more, by_test, cond_loads, loads_more, on, stays}
-use Rattle.slots.proofs.Meets.{Says, cell_says}
+use Rattle.slots.proofs.Meets.{cell_says}
 use Rattle.slots.proofs.Refusals.{no_try, own_lock}
 use Rattle.slots.proofs.Releasing as releasing
 

@@ -1,28 +1,22 @@
 -- Whatever happens to a thread, it is at its row afterwards.
-use Rattle.std.proofs.Common.{◌≡◌, ◌≢◌, ◌⊎◌, inl, inr, ℕ, ◌≤◌, Bool, true, false, List, [], ◌∷◌, refl, sym, ap, ◌∙◌, subst, arith}
+use Rattle.std.proofs.Common.{◌≡◌, ◌⊎◌, inl, inr, ℕ, ◌≤◌, Bool, true, false, List, [], ◌∷◌, refl, sym, ap, ◌∙◌, subst, arith}
 use Rattle.std.specs.Prelude.{if◌then◌else◌, not, ◌&&◌}
-use Rattle.std.proofs.lemmas.Bool.Decides.{nat_tests}
-use Rattle.lockword.specs.declared.reply.Reply.TheVariants.{ETIMEDOUT}
-use Rattle.posixmutex.specs.declared.point.Operation.TheVariants.{Wait}
 use Rattle.memorymap.specs.Layouts.{counter_place}
 use Rattle.exitwalk.specs.Standings as walks
 use Rattle.exitwalk.specs.declared.row.Row as walk_row
-use Rattle.exitwalk.specs.declared.row.Row.TheVariants as walk
 use Rattle.mutex.specs.declared.call.Call.TheVariants.{TimedLock}
-use Rattle.mutex.specs.declared.phase.Phase.TheVariants.{Clearing}
 use Rattle.mutex.specs.Standings.{Whole}
 use Rattle.mutex.specs.Whole.{timed_out}
-use Rattle.condvar.specs.declared.call.CondCall.{CondCall}
 use Rattle.condvar.specs.declared.call.CondCall.TheVariants.{TimedWait}
 use Rattle.condvar.specs.declared.call.Limit.TheVariants.{Past}
-use Rattle.condvar.specs.Calls.{acts_as, condition_of}
+use Rattle.condvar.specs.Calls.{condition_of}
 use Rattle.condvar.specs.declared.op.Op.TheVariants.{OnMutex, OnCondition}
 use Rattle.protocol.specs.declared.event.Event.{Event}
-use Rattle.protocol.specs.declared.event.Event.TheVariants.{Step, Kill, Leave, Expire, Renew}
+use Rattle.protocol.specs.declared.event.Event.TheVariants.{Step, Kill, Leave, Expire}
 use Rattle.protocol.specs.declared.thread.Thread.{Thread}
 use Rattle.protocol.specs.declared.thread.Stage.{Stage}
 use Rattle.protocol.specs.declared.thread.Stage.TheVariants.{Idle, Calling, AtCondition, Dying, Reaped}
-use Rattle.protocol.specs.Machine.{State, After, departed, expired, happens, has_thread, is_alive, is_asleep, is_dying, is_exiting, is_gone, is_timed, killed, lapsed, nothing, overslept, put, renewed, run, sleeps, stage_walked, stands_in, waits_on}
+use Rattle.protocol.specs.Machine.{State, After, departed, expired, happens, has_thread, is_alive, is_asleep, is_dying, is_exiting, is_gone, is_timed, killed, lapsed, nothing, overslept, renewed, run, sleeps, stage_walked, stands_in, waits_on}
 use Rattle.protocol.proofs.Kept.{Kept}
 use Rattle.protocol.proofs.Events.{is_known}
 use Rattle.protocol.proofs.Puts.{put-same}
@@ -30,13 +24,13 @@ use Rattle.protocol.proofs.Steps.{thread_after}
 use Rattle.protocol.proofs.WalkSteps.{row_then, walk_of, walk_transition}
 use Rattle.slots.specs.Places.{cell_of}
 use Rattle.slots.specs.Rows.{Choice, How, Row, Taking}
-use Rattle.slots.specs.Rows.How.{Tried, Later, Waited}
+use Rattle.slots.specs.Rows.How.{Later}
 use Rattle.slots.specs.Shown.{Slots, after}
 use Rattle.slots.specs.Stands.{IsRetaking, IsThrough, IsToLook, StandsAs, at_load}
 use Rattle.slots.specs.Table.{made}
-use Rattle.slots.specs.Runs.{Happening, next, at_row, is_resting, lapse_events, lapse_row, made_by, may_call}
+use Rattle.slots.specs.Runs.{next, at_row, is_resting, lapse_events, lapse_row, made_by, may_call}
 use Rattle.slots.specs.Runs.Happening.{Calls, Goes, Interrupts, Lapses, Dies, Walks, Lives}
-use Rattle.slots.specs.Goes.{Grants, IsAtItsRow, SleepsLater, ThreadsKeepTheirRows, who}
+use Rattle.slots.specs.Goes.{Grants, IsAtItsRow, SleepsLater, ThreadsKeepTheirRows}
 use Rattle.slots.proofs.Free.{reached_kept}
 use Rattle.slots.proofs.HeirsStay.{walk_goes}
 use Rattle.slots.proofs.Leading.{by_test}

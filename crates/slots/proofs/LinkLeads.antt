@@ -1,29 +1,25 @@
 -- Where an access of a link leads: on along the link, or to the end of it.
-use Rattle.std.proofs.Common.{◌≡◌, ◌≢◌, ◌⊎◌, inl, inr, ℕ, ◌+◌, ◌<◌, ◌≤◌, Bool, true, false, Some, List, [], ◌∷◌, refl, sym, ap, ◌∙◌, subst, arith}
-use Rattle.std.specs.Prelude.{if◌then◌else◌, ◌||◌}
+use Rattle.std.proofs.Common.{◌≡◌, ◌≢◌, ◌⊎◌, inl, inr, ℕ, ◌+◌, ◌≤◌, Some, [], ◌∷◌, refl, sym, ap, ◌∙◌, subst, arith}
+use Rattle.std.specs.Prelude.{if◌then◌else◌}
 use Rattle.lockword.specs.declared.reply.Reply.{Reply}
-use Rattle.lockword.specs.declared.reply.Reply.TheVariants.{OK, EFAULT, EOWNERDEAD}
-use Rattle.stepprograms.specs.declared.access.Access.{Access}
+use Rattle.lockword.specs.declared.reply.Reply.TheVariants.{EFAULT}
 use Rattle.stepprograms.specs.Accesses.{address_of, answer_among}
-use Rattle.memorymap.specs.Layouts.{Layout', entry_place, head_place, place_in}
+use Rattle.memorymap.specs.Layouts.{Layout', entry_place, head_place}
 use Rattle.robustlist.specs.declared.link.LinkRow.{LinkRow}
 use Rattle.robustlist.specs.Standings.{LinkStanding}
 use Rattle.robustlist.specs.Link.{link_access, link_moved}
 use Rattle.robustlist.proofs.Links.{near}
-use Rattle.mutex.specs.declared.call.Call.TheVariants.{TimedLock, TryLock}
-use Rattle.mutex.specs.declared.phase.Phase.{Phase}
 use Rattle.mutex.specs.declared.phase.Phase.TheVariants.{Linking, Clearing, Ended}
 use Rattle.mutex.specs.Standings.{Whole}
 use Rattle.mutex.specs.Whole.{linked, linked_at, whole_access}
 use Rattle.condvar.specs.declared.op.Op.{Op}
-use Rattle.condvar.specs.declared.op.Op.TheVariants.{OnMutex, OnCondition}
 use Rattle.condvar.specs.Ops.{mutex_of}
 use Rattle.protocol.specs.declared.event.Event.TheVariants.{Step}
 use Rattle.protocol.specs.declared.thread.Thread.{Thread}
 use Rattle.protocol.specs.declared.thread.Stage.{Stage}
 use Rattle.protocol.specs.declared.thread.Stage.TheVariants.{Idle, Calling}
 use Rattle.protocol.specs.Machine.{State, After, happens, place_met, run, stage_after}
-use Rattle.protocol.proofs.Kept.{Kept, Fits, HasHead, Listed, PendsAs, pending_in}
+use Rattle.protocol.proofs.Kept.{Kept, Fits, Listed, PendsAs}
 use Rattle.protocol.proofs.Accesses.{fits_in}
 use Rattle.protocol.proofs.Places.{Links, links_not_pending, more_links}
 use Rattle.protocol.proofs.Puts.{put-same, put-other}
@@ -32,10 +28,10 @@ use Rattle.protocol.proofs.Runs.{sound}
 use Rattle.protocol.proofs.Seeing.{head_in, not_null, words_in}
 use Rattle.protocol.proofs.Steps.{after, call_step, thread_after}
 use Rattle.protocol.proofs.Working.{call_goes}
-use Rattle.slots.specs.Rows.{Choice, Row}
+use Rattle.slots.specs.Rows.{Row}
 use Rattle.slots.specs.Shown.{Slots}
 use Rattle.slots.specs.Stands.{StandsAs}
-use Rattle.slots.specs.Table.{Made, is_on_list}
+use Rattle.slots.specs.Table.{is_on_list}
 use Rattle.slots.specs.Accesses.{IsAtRow}
 use Rattle.slots.proofs.Free.{reached_kept}
 

@@ -1,11 +1,10 @@
 -- Where a lock's look leads, whatever it finds: the thread is where the next row says.
-use Rattle.std.proofs.Common.{◌≡◌, ◌≢◌, inl, inr, ℕ, ◌+◌, ◌%◌, ◌^◌, ◌<◌, ◌≤◌, ◌==◌, Bool, true, false, Some, List, [], ◌∷◌, ◌++◌, refl, sym, ap, ◌∙◌, subst, arith, eqb-true}
-use Rattle.std.specs.Prelude.{if◌then◌else◌, not, ◌&&◌}
-use Rattle.lockword.specs.Cells.{Fields, fields_of, word_of, low_of}
+use Rattle.std.proofs.Common.{◌≡◌, inl, inr, ℕ, ◌%◌, ◌^◌, ◌<◌, ◌≤◌, ◌==◌, Bool, true, false, Some, List, [], ◌∷◌, ◌++◌, refl, sym, ap, ◌∙◌, subst, arith}
+use Rattle.std.specs.Prelude.{if◌then◌else◌}
+use Rattle.lockword.specs.Cells.{Fields, fields_of, low_of}
 use Rattle.lockword.specs.Coding.{word_of-fields_of}
 use Rattle.lockword.specs.declared.reply.Reply.{Reply}
 use Rattle.lockword.specs.declared.reply.Reply.TheVariants.{EBUSY, EDEADLK, EINVAL, ENOTRECOVERABLE, ETIMEDOUT}
-use Rattle.posixmutex.specs.declared.point.Operation.{Operation}
 use Rattle.posixmutex.specs.declared.point.Operation.TheVariants as operation
 use Rattle.posixmutex.specs.declared.point.Operation.TheVariants.{Wait}
 use Rattle.memorymap.specs.Layouts.{cell_place}
@@ -13,7 +12,6 @@ use Rattle.mutex.specs.declared.call.Call.TheVariants.{TimedLock, TryLock}
 use Rattle.mutex.specs.declared.lock.LockRow.TheVariants as lock
 use Rattle.mutex.specs.declared.phase.Phase.{Phase}
 use Rattle.mutex.specs.declared.phase.Phase.TheVariants.{AtCell, Clearing}
-use Rattle.mutex.specs.declared.phase.Onward.{Onward}
 use Rattle.mutex.specs.declared.row.Led.{Led}
 use Rattle.mutex.specs.declared.row.Row.TheVariants.{Lock}
 use Rattle.mutex.specs.Lock.{lock_sees}
@@ -37,7 +35,7 @@ use Rattle.slots.specs.Places.{cell_of}
 use Rattle.slots.specs.Rows.{How, Row, Taking}
 use Rattle.slots.specs.Rows.How.{Tried, Later, Waited}
 use Rattle.slots.specs.Rows.Then.{ToSleep}
-use Rattle.slots.specs.Stands.{HasChosen, IsRetaking, IsThrough, IsToLook, IsToSleep, StandsAs, at_load}
+use Rattle.slots.specs.Stands.{HasChosen, IsRetaking, IsThrough, IsToLook, IsToSleep, StandsAs}
 use Rattle.slots.specs.Table.{begins_behind, expires, owned_row, seen_events, seen_row, seen_to_sleep}
 use Rattle.slots.proofs.Chains.{again_more, gives_up_more, sees_sleep_more}
 use Rattle.slots.proofs.Leading.{IsAt, Leads, call_at, loads_more, on, op_of, stays}

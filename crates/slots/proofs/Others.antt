@@ -1,15 +1,14 @@
 -- What happens to one thread leaves all others at their rows.
-use Rattle.std.proofs.Common.{◌≡◌, ◌≢◌, ℕ, Bool, true, false, List, [], ◌∷◌, ◌++◌, ◌==◌, refl, sym, ap, ◌∙◌, arith}
-use Rattle.std.specs.Prelude.{if◌then◌else◌, not, ◌&&◌}
+use Rattle.std.proofs.Common.{◌≡◌, ◌≢◌, ℕ, List, [], ◌∷◌, ◌++◌, ◌==◌, refl, sym, ap, ◌∙◌, arith}
+use Rattle.std.specs.Prelude.{not, ◌&&◌}
 use Rattle.lockword.specs.Cells.{fields_of}
 use Rattle.stepprograms.specs.declared.access.Access.{Access}
 use Rattle.mutex.specs.Rows.{acquired}
-use Rattle.memorymap.specs.Layouts.{cell_place, counter_place}
+use Rattle.memorymap.specs.Layouts.{cell_place}
 use Rattle.protocol.proofs.Seeing.{cell_in}
 use Rattle.protocol.specs.declared.event.Event.{Event}
-use Rattle.protocol.specs.declared.event.Event.TheVariants.{Step, Kill, Leave, Expire, Renew}
-use Rattle.protocol.specs.Explained.{caller}
-use Rattle.protocol.specs.Machine.{State, happens, put, run, has_thread, is_alive, is_asleep, is_dying, stands_in}
+use Rattle.protocol.specs.declared.event.Event.TheVariants.{Step, Kill, Leave, Renew}
+use Rattle.protocol.specs.Machine.{State, happens, put, run, has_thread, is_alive, is_asleep, is_dying}
 use Rattle.protocol.proofs.Kept.{Kept}
 use Rattle.protocol.proofs.Puts.{put-other}
 use Rattle.protocol.proofs.Runs.{sound}

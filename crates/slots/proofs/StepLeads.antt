@@ -1,15 +1,14 @@
 -- Where one Step leads: of a release, a trim, a move and a wait's wake.
-use Rattle.std.proofs.Common.{◌≡◌, ◌≢◌, inl, inr, ℕ, ◌+◌, ◌-◌, ◌%◌, ◌^◌, ◌<◌, ◌≤◌, ◌==◌, Bool, true, false, Some, List, [], ◌∷◌, length, refl, sym, ap, ◌∙◌, subst, eqb-true}
+use Rattle.std.proofs.Common.{◌≡◌, inr, ℕ, ◌+◌, ◌-◌, ◌%◌, ◌^◌, ◌==◌, Bool, true, false, [], ◌∷◌, length, refl, sym, ap, ◌∙◌, subst}
 use Rattle.std.specs.Prelude.{if◌then◌else◌, not, take, drop, ◌&&◌}
-use Rattle.lockword.specs.Cells.{Fields, fields_of, waiters_alone}
+use Rattle.lockword.specs.Cells.{fields_of}
 use Rattle.lockword.specs.declared.reply.Reply.TheVariants.{OK}
 use Rattle.lockword.specs.Threads.{most_threads}
 use Rattle.stepprograms.specs.declared.access.Access.{Access}
-use Rattle.stepprograms.specs.declared.access.Answer.{Answer}
-use Rattle.stepprograms.specs.declared.access.Answer.TheVariants.{Again, Counts, Count, Trimmed, Value}
-use Rattle.stepprograms.specs.Accesses.{address_of, answer_among, is_trimmed}
+use Rattle.stepprograms.specs.declared.access.Answer.TheVariants.{Again, Counts, Trimmed, Value}
+use Rattle.stepprograms.specs.Accesses.{address_of, answer_among}
 use Rattle.posixmutex.specs.declared.point.Operation.TheVariants as operation
-use Rattle.memorymap.specs.Layouts.{cell_place, counter_place, place_in}
+use Rattle.memorymap.specs.Layouts.{cell_place, place_in}
 use Rattle.mutex.specs.declared.call.Call.TheVariants.{Unlock}
 use Rattle.mutex.specs.declared.phase.Phase.{Phase}
 use Rattle.mutex.specs.declared.phase.Phase.TheVariants.{AtCell, Clearing}
@@ -23,31 +22,29 @@ use Rattle.condvar.specs.declared.phase.CondPhase.{CondPhase}
 use Rattle.condvar.specs.declared.row.CondRow.TheVariants as cond_row
 use Rattle.condvar.specs.declared.wait.WaitRow.TheVariants as wait
 use Rattle.condvar.specs.declared.broadcast.BroadcastRow.TheVariants as broadcast
-use Rattle.condvar.specs.Programs as programs
 use Rattle.condvar.specs.Standings.{CondWhole}
 use Rattle.condvar.specs.Whole.{cond_access, cond_led}
 use Rattle.condvar.specs.declared.op.Op.{Op}
-use Rattle.condvar.specs.declared.op.Op.TheVariants.{OnMutex, OnCondition}
-use Rattle.condvar.specs.Ops.{mutex_of}
+use Rattle.condvar.specs.declared.op.Op.TheVariants.{OnMutex}
 use Rattle.protocol.specs.declared.event.Event.TheVariants.{Decline, Step}
 use Rattle.protocol.specs.declared.thread.Thread.{Thread}
 use Rattle.protocol.specs.declared.thread.Stage.{Stage}
-use Rattle.protocol.specs.declared.thread.Stage.TheVariants.{Idle, Calling, AtCondition}
-use Rattle.protocol.specs.Machine.{State, After, declined, happens, is_trim, led, nothing, put, run, sleeps, spared, stage_after, stage_at}
+use Rattle.protocol.specs.declared.thread.Stage.TheVariants.{Idle, Calling}
+use Rattle.protocol.specs.Machine.{State, After, declined, led, nothing, run, sleeps, spared, stage_after, stage_at}
 use Rattle.protocol.proofs.Kept.{Kept}
 use Rattle.protocol.proofs.CondSteps.{cond_of}
 use Rattle.protocol.proofs.Events.{is_known}
 use Rattle.protocol.proofs.Puts.{put-same}
 use Rattle.protocol.proofs.Queued.{out_awake}
-use Rattle.protocol.proofs.Seeing.{cell_in, counter_in, cell_again}
+use Rattle.protocol.proofs.Seeing.{counter_in, cell_again}
 use Rattle.protocol.proofs.Working.{call_goes, cond_goes}
 use Rattle.slots.specs.Places.{cell_of, slot_of}
-use Rattle.slots.specs.Rows.{Choice, Giving, Onward, Row, Taking}
+use Rattle.slots.specs.Rows.{Choice, Onward, Row, Taking}
 use Rattle.slots.specs.Rows.Giving.{OfUnlock, OfWait}
 use Rattle.slots.specs.Rows.Onward.{Fails, Has, Sleeps}
 use Rattle.slots.specs.Shown.{Slots, shown}
 use Rattle.slots.specs.Stands.{IsAtWords, IsIn, IsWaking, StandsAs}
-use Rattle.slots.specs.Table.{Made, given_row, hands_row, made, makes, released, wait_of}
+use Rattle.slots.specs.Table.{hands_row, wait_of}
 use Rattle.slots.specs.Invariant.{fields_at}
 use Rattle.slots.specs.Accesses.{IsAtRow}
 use Rattle.slots.specs.Goes.{LeadsOn}

@@ -1,47 +1,39 @@
 -- Where exchanges of locks lead: those that take, and those that set WAITERS.
-use Rattle.std.proofs.Common.{◌≡◌, ◌≢◌, inl, inr, ℕ, ◌+◌, ◌*◌, ◌/◌, ◌%◌, ◌^◌, ◌<◌, ◌≤◌, ◌==◌, Bool, true, false, Some, List, [], ◌∷◌, ◌++◌, refl, sym, ap, ◌∙◌, subst, arith, eqb-true, eq-eqb}
-use Rattle.std.specs.Prelude.{if◌then◌else◌, not, ◌&&◌}
-use Rattle.lockword.specs.Cells.{Fields, bit, fields_of, word_of, low_of, waiting}
+use Rattle.std.proofs.Common.{◌≡◌, inl, inr, ℕ, ◌+◌, ◌*◌, ◌/◌, ◌%◌, ◌<◌, ◌==◌, Bool, true, false, [], ◌∷◌, refl, sym, ap, ◌∙◌, subst, arith}
+use Rattle.std.specs.Prelude.{if◌then◌else◌, ◌&&◌}
+use Rattle.lockword.specs.Cells.{bit, fields_of}
 use Rattle.lockword.specs.declared.reply.Reply.{Reply}
-use Rattle.lockword.specs.declared.reply.Reply.TheVariants.{OK, EOWNERDEAD, EBUSY, ENOTRECOVERABLE, ETIMEDOUT}
-use Rattle.stepprograms.specs.declared.access.Access.{Access}
-use Rattle.posixmutex.specs.declared.point.Operation.TheVariants as operation
+use Rattle.lockword.specs.declared.reply.Reply.TheVariants.{OK, EOWNERDEAD}
 use Rattle.memorymap.specs.Layouts.{cell_place}
 use Rattle.robustlist.specs.Link.{link_started}
 use Rattle.mutex.specs.declared.call.Call.TheVariants.{TimedLock, TryLock}
 use Rattle.mutex.specs.declared.phase.Phase.{Phase}
-use Rattle.mutex.specs.declared.phase.Phase.TheVariants.{AtCell, Clearing, Linking}
+use Rattle.mutex.specs.declared.phase.Phase.TheVariants.{AtCell, Linking}
 use Rattle.mutex.specs.Rows.{acquired}
 use Rattle.mutex.specs.Standings.{Whole}
 use Rattle.mutex.specs.Whole.{leaving}
 use Rattle.condvar.specs.declared.op.Op.{Op}
 use Rattle.condvar.specs.declared.op.Op.TheVariants.{OnMutex, OnCondition}
 use Rattle.condvar.specs.Ops.{mutex_of}
-use Rattle.protocol.specs.declared.event.Event.{Event}
 use Rattle.protocol.specs.declared.event.Event.TheVariants.{Step}
 use Rattle.protocol.specs.declared.thread.Stage.{Stage}
 use Rattle.protocol.specs.declared.thread.Stage.TheVariants.{Calling}
 use Rattle.protocol.specs.Machine.{State, run}
 use Rattle.protocol.proofs.Kept.{Kept}
-use Rattle.protocol.proofs.Seeing.{cell_in, entry_in, head_in}
+use Rattle.protocol.proofs.Seeing.{entry_in, head_in}
 use Rattle.slots.specs.Places.{cell_of, is_slot, our_own, slot_of}
-use Rattle.slots.specs.Rows.{Choice, How, Row, Taking, Then}
+use Rattle.slots.specs.Rows.{Choice, How, Row, Taking}
 use Rattle.slots.specs.Rows.How.{Tried, Later, Waited}
-use Rattle.slots.specs.Rows.Before.{Again}
-use Rattle.slots.specs.Rows.Then.{ToSleep, ToSlot}
 use Rattle.slots.specs.Shown.{Slots, shown}
-use Rattle.slots.specs.Stands.{HasChosen, IsIn, IsLinking, IsRetaking, IsTaking, IsToLook, StandsAs, at_load}
-use Rattle.slots.specs.Table.{Made, is_free, made, makes, seen_events, seen_row, taken_word, watched_row}
+use Rattle.slots.specs.Stands.{IsIn, IsToLook, StandsAs, at_load}
 use Rattle.slots.specs.Accesses.{Finds, IsAbout, IsAtRow}
-use Rattle.slots.specs.Each.{IsToTake, IsToTakeSlot}
 use Rattle.slots.specs.Further.{MayTake}
 use Rattle.slots.specs.Invariant.{fields_at}
 use Rattle.slots.proofs.Chains.{lock_or_try}
 use Rattle.slots.proofs.Decisions.{at_load_later}
-use Rattle.slots.proofs.Each.{finds, finds_slot}
 use Rattle.slots.proofs.Free.{reached_kept}
-use Rattle.slots.proofs.Leading.{IsAt, by_test, call_at, is_at, op_of}
-use Rattle.slots.proofs.Meets.{Says, cell_says}
+use Rattle.slots.proofs.Leading.{IsAt, call_at, is_at, op_of}
+use Rattle.slots.proofs.Meets.{cell_says}
 use Rattle.slots.proofs.Shows.{shown_cell}
 use Rattle.slots.proofs.Takes.{both_stage, load_of}
 

@@ -1,41 +1,38 @@
 -- Where an access of an unlink leads: on along the unlink, or to the release.
-use Rattle.std.proofs.Common.{◌≡◌, ◌≢◌, ◌⊎◌, inl, inr, ℕ, ◌+◌, ◌<◌, ◌≤◌, Bool, true, false, Some, List, [], ◌∷◌, refl, sym, ap, ◌∙◌, subst, arith}
-use Rattle.std.specs.Prelude.{if◌then◌else◌, ◌||◌}
-use Rattle.lockword.specs.declared.reply.Reply.{Reply}
-use Rattle.lockword.specs.declared.reply.Reply.TheVariants.{OK, EFAULT, EOWNERDEAD}
+use Rattle.std.proofs.Common.{◌≡◌, ◌≢◌, ◌⊎◌, inl, inr, ℕ, ◌+◌, ◌≤◌, Bool, [], ◌∷◌, refl, sym, ap, ◌∙◌, subst, arith}
+use Rattle.std.specs.Prelude.{if◌then◌else◌}
+use Rattle.lockword.specs.declared.reply.Reply.TheVariants.{EFAULT}
 use Rattle.stepprograms.specs.declared.access.Access.{Access}
-use Rattle.stepprograms.specs.Accesses.{address_of, answer_among}
-use Rattle.memorymap.specs.Layouts.{Layout', entry_place, head_place, place_in}
+use Rattle.stepprograms.specs.Accesses.{answer_among}
+use Rattle.memorymap.specs.Layouts.{Layout', entry_place, head_place}
 use Rattle.robustlist.specs.declared.unlink.UnlinkRow.{UnlinkRow}
 use Rattle.robustlist.specs.Standings.{UnlinkStanding}
 use Rattle.robustlist.specs.Unlink.{unlink_access, unlink_access_of, unlink_moved}
-use Rattle.mutex.specs.declared.phase.Phase.{Phase}
 use Rattle.mutex.specs.declared.phase.Phase.TheVariants.{AtCell, Ended, Unlinking}
 use Rattle.mutex.specs.Standings.{Whole}
 use Rattle.mutex.specs.declared.row.Row.TheVariants as mutex_row
 use Rattle.mutex.specs.declared.unlock.UnlockRow.TheVariants as unlock
 use Rattle.mutex.specs.Whole.{unlinked, unlinked_at, whole_access}
 use Rattle.condvar.specs.declared.op.Op.{Op}
-use Rattle.condvar.specs.declared.op.Op.TheVariants.{OnMutex, OnCondition}
 use Rattle.condvar.specs.Ops.{mutex_of}
 use Rattle.protocol.specs.declared.event.Event.TheVariants.{Step}
 use Rattle.protocol.specs.declared.thread.Thread.{Thread}
 use Rattle.protocol.specs.declared.thread.Stage.{Stage}
 use Rattle.protocol.specs.declared.thread.Stage.TheVariants.{Idle, Calling}
 use Rattle.protocol.specs.Machine.{State, After, happens, place_met, run, stage_after}
-use Rattle.protocol.proofs.Kept.{Kept, Fits, HasHead, Listed, PendsAs, pending_in}
+use Rattle.protocol.proofs.Kept.{Kept, Fits, Listed, PendsAs}
 use Rattle.protocol.proofs.Accesses.{fits_in}
 use Rattle.protocol.proofs.Leaving as leaving
-use Rattle.protocol.proofs.Puts.{put-same, put-other}
+use Rattle.protocol.proofs.Puts.{put-same}
 use Rattle.protocol.proofs.Queued.{out_awake}
 use Rattle.protocol.proofs.Runs.{sound}
-use Rattle.protocol.proofs.Seeing.{head_in, not_null, words_in}
+use Rattle.protocol.proofs.Seeing.{head_in, not_null}
 use Rattle.protocol.proofs.Steps.{after, call_step, done, thread_after}
 use Rattle.protocol.proofs.Working.{call_goes}
-use Rattle.slots.specs.Rows.{Choice, Row}
+use Rattle.slots.specs.Rows.{Row}
 use Rattle.slots.specs.Shown.{Slots}
 use Rattle.slots.specs.Stands.{StandsAs}
-use Rattle.slots.specs.Table.{Made, is_on_list}
+use Rattle.slots.specs.Table.{is_on_list}
 use Rattle.slots.specs.Accesses.{IsAtRow}
 use Rattle.slots.proofs.Free.{reached_kept}
 

@@ -1,10 +1,10 @@
 -- Where accesses of a wait lead until it has released its mutex, and a wake that is spared.
-use Rattle.std.proofs.Common.{◌≡◌, ◌≢◌, ◌⊎◌, inl, inr, ℕ, ◌+◌, ◌-◌, ◌<◌, ◌==◌, Bool, true, false, List, [], ◌∷◌, refl, sym, ap, ◌∙◌, subst}
-use Rattle.std.specs.Prelude.{if◌then◌else◌, not, ◌&&◌}
-use Rattle.lockword.specs.Cells.{Fields, fields_of}
+use Rattle.std.proofs.Common.{◌≡◌, ◌⊎◌, inl, inr, ℕ, ◌-◌, ◌<◌, Bool, true, false, [], ◌∷◌, refl, sym, ap, ◌∙◌, subst}
+use Rattle.std.specs.Prelude.{if◌then◌else◌, ◌&&◌}
+use Rattle.lockword.specs.Cells.{fields_of}
 use Rattle.lockword.specs.declared.reply.Reply.TheVariants.{OK}
 use Rattle.stepprograms.specs.declared.access.Access.{Access}
-use Rattle.stepprograms.specs.declared.access.Answer.TheVariants.{Count, Value}
+use Rattle.stepprograms.specs.declared.access.Answer.TheVariants.{Count}
 use Rattle.posixmutex.specs.declared.point.Operation.TheVariants as operation
 use Rattle.memorymap.specs.Layouts.{cell_place, place_in}
 use Rattle.robustlist.specs.Standings.{UnlinkStanding}
@@ -16,14 +16,12 @@ use Rattle.mutex.specs.Standings.{Whole}
 use Rattle.mutex.specs.Whole.{whole_led}
 use Rattle.condvar.specs.declared.call.CondCall.{CondCall}
 use Rattle.condvar.specs.declared.phase.CondPhase.{CondPhase}
-use Rattle.condvar.specs.declared.row.CondRow.{CondRow}
 use Rattle.condvar.specs.declared.row.CondRow.TheVariants as cond_row
 use Rattle.condvar.specs.declared.wait.WaitRow.TheVariants as wait
 use Rattle.condvar.specs.Programs as programs
 use Rattle.condvar.specs.Standings.{CondWhole}
 use Rattle.condvar.specs.Whole.{after_words, cond_led}
-use Rattle.condvar.specs.declared.op.Op.TheVariants.{OnMutex, OnCondition}
-use Rattle.condvar.specs.Ops.{mutex_of}
+use Rattle.condvar.specs.declared.op.Op.TheVariants.{OnMutex}
 use Rattle.protocol.specs.declared.event.Event.TheVariants.{Spare, Step}
 use Rattle.protocol.specs.declared.event.LeftTo.{LeftTo}
 use Rattle.protocol.specs.declared.thread.Thread.{Thread}
@@ -31,7 +29,7 @@ use Rattle.protocol.specs.declared.thread.Stage.{Stage}
 use Rattle.protocol.specs.declared.thread.Stage.TheVariants.{Calling, AtCondition}
 use Rattle.protocol.specs.Machine.{State, After, is_left_to, led, led_at, nothing, run, spared, sparing, stage_at}
 use Rattle.protocol.proofs.Kept.{Kept}
-use Rattle.protocol.proofs.CondAccesses.{IsBefore, Nears, by_access}
+use Rattle.protocol.proofs.CondAccesses.{IsBefore, by_access}
 use Rattle.protocol.proofs.CondSteps.{cond_of}
 use Rattle.protocol.proofs.Events.{is_known}
 use Rattle.protocol.proofs.Puts.{put-same}
@@ -42,13 +40,13 @@ use Rattle.slots.specs.Places.{cell_of, slot_of}
 use Rattle.slots.specs.Rows.{Choice, Giving, Row}
 use Rattle.slots.specs.Rows.Giving.{OfUnlock, OfWait}
 use Rattle.slots.specs.Shown.{Slots, shown}
-use Rattle.slots.specs.Stands.{IsAtWords, IsGiving, IsIn, IsWaking, StandsAs}
-use Rattle.slots.specs.Table.{Made, given_row, hands_row, heir_of, is_on_list, is_unlinking_at, made, makes, shows_heir, wait_of}
+use Rattle.slots.specs.Stands.{IsAtWords, IsIn, IsWaking, StandsAs}
+use Rattle.slots.specs.Table.{Made, hands_row, heir_of, is_on_list, is_unlinking_at, makes, shows_heir, wait_of}
 use Rattle.slots.specs.Accesses.{IsAbout, IsAtRow}
 use Rattle.slots.specs.Goes.{LeadsOn}
 use Rattle.slots.proofs.Free.{reached_kept}
 use Rattle.slots.proofs.Leading.{IsAt, IsAtWord, by_test, call_at, is_at, is_at_word}
-use Rattle.slots.proofs.Meets.{Says, cell_says}
+use Rattle.slots.proofs.Meets.{cell_says}
 use Rattle.slots.proofs.StepLeads.{step_at_word}
 
 -- a wait in its unlink, with this count

@@ -4,7 +4,7 @@ use Rattle.lockword.specs.Cells.{fields_of}
 use Rattle.memorymap.specs.Layouts.{cell_place}
 use Rattle.slots.specs.Places.{cell_of, slot_of}
 use Rattle.slots.specs.Rows.{Choice, Row}
-use Rattle.slots.specs.Rows.Before.{Linked, Mended, Again}
+use Rattle.slots.specs.Rows.Before.{Linked, Mended}
 use Rattle.slots.specs.Shown.{Slots}
 use Rattle.slots.specs.Table.{is_free}
 use Rattle.slots.specs.Invariant.{fields_at, HasRoom}

@@ -1,10 +1,10 @@
 -- Threads stand where their rows say, from one happening to the next.
-use Rattle.std.specs.Prelude.{ℕ, ◌≡◌, ◌≢◌, ◌+◌, ◌%◌, ◌^◌, ◌<◌, ◌≤◌, true, false, List, [], ◌∷◌}
+use Rattle.std.specs.Prelude.{ℕ, ◌≡◌, ◌≢◌, ◌%◌, ◌^◌, ◌<◌, ◌≤◌, true, false, List, [], ◌∷◌}
 use Rattle.memorymap.specs.Layouts.{Layout', IsLayout, cell_place, counter_place}
 use Rattle.protocol.specs.Machine.{run, is_alive, is_left_to}
 use Rattle.slots.specs.Rows.{Choice, Row}
 use Rattle.slots.specs.Rows.How.{Tried, Later}
-use Rattle.slots.specs.Rows.Then.{ToSleep, ToSlot}
+use Rattle.slots.specs.Rows.Then.{ToSlot}
 use Rattle.slots.specs.Rows.Giving.{OfUnlock, OfWait}
 use Rattle.slots.specs.Places.{cell_of, slot_of}
 use Rattle.slots.specs.Shown.{Slots, begin, shown}
