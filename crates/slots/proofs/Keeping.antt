@@ -20,6 +20,7 @@ use Rattle.protocol.specs.Machine.{State, After, departed, expired, happens, has
 use Rattle.protocol.proofs.Kept.{Kept}
 use Rattle.protocol.proofs.Events.{is_known}
 use Rattle.protocol.proofs.Puts.{put-same}
+use Rattle.protocol.proofs.Queued.{in_none}
 use Rattle.protocol.proofs.Steps.{thread_after}
 use Rattle.protocol.proofs.WalkSteps.{row_then, walk_of, walk_transition}
 use Rattle.slots.specs.Places.{cell_of}
@@ -30,8 +31,9 @@ use Rattle.slots.specs.Stands.{IsRetaking, IsThrough, IsToLook, StandsAs, at_loa
 use Rattle.slots.specs.Table.{made}
 use Rattle.slots.specs.Runs.{next, at_row, is_resting, lapse_events, lapse_row, made_by, may_call}
 use Rattle.slots.specs.Runs.Happening.{Calls, Goes, Interrupts, Lapses, Dies, Walks, Lives}
+use Rattle.slots.specs.Laws.{IsReached}
 use Rattle.slots.specs.Goes.{Grants, IsAtItsRow, SleepsLater, ThreadsKeepTheirRows}
-use Rattle.slots.proofs.Free.{reached_kept}
+use Rattle.slots.proofs.Free.{reached_kept, reached_queued}
 use Rattle.slots.proofs.HeirsStay.{walk_goes}
 use Rattle.slots.proofs.Leading.{by_test}
 use Rattle.slots.proofs.LeadsOn.{rows_lead}
@@ -136,9 +138,17 @@ module _ (x : Slots) (t : ℕ) (reached : Kept x.machine) where
         subst (λ (q : Row). StandsAs q g) (sym (put-same x.rows t r)) (subst (StandsAs r) (sym idle) (begins_at x h r four.fourth)))
         (λ e. here)
 
-    goes_so : (c : Choice) → Grants x (Goes t c) → IsAtItsRow (next x (Goes t c)) t
-    goes_so c (at, assumes, too) = by_test (λ (y : Slots). IsAtItsRow y t) (has_thread z t && is_alive g && not (is_asleep z t)) (made_by x t c (made x t c (x.rows t))) x
-        (λ e lives. subst (λ (q : Row). StandsAs q ((run z (made x t c (x.rows t)).events).threads t).stage) (sym (put-same x.rows t (made x t c (x.rows t)).next)) (rows_lead x t c at assumes too))
+    may_go : (a d e : Bool) → (a && d && not e) ≡ true → (d ≡ true) × (e ≡ false)
+    may_go true true false same = (refl, refl)
+    may_go true true true same = absurd cc
+    may_go true false e same = absurd cc
+    may_go false d e same = absurd cc
+
+    goes_so : (c : Choice) → IsReached z → Grants x (Goes t c) → IsAtItsRow (next x (Goes t c)) t
+    goes_so c from (about, assumes, too) = by_test (λ (y : Slots). IsAtItsRow y t) (has_thread z t && is_alive g && not (is_asleep z t)) (made_by x t c (made x t c (x.rows t))) x
+        (λ e lives. let may = may_go (has_thread z t) (is_alive g) (is_asleep z t) e in
+        subst (λ (q : Row). StandsAs q ((run z (made x t c (x.rows t)).events).threads t).stage) (sym (put-same x.rows t (made x t c (x.rows t)).next))
+        (rows_lead x t c (record { reached = from; first = pos; last = known; there = here may.0; about = about; out = in_none z t (reached_queued z from) may.1 }) assumes too))
         (λ e. here)
 
     leaves_so : IsAtItsRow (next x (Interrupts t)) t
@@ -194,7 +204,7 @@ module _ (x : Slots) (t : ℕ) (reached : Kept x.machine) where
 
 pub threads_keep : ThreadsKeepTheirRows
 threads_keep x (Calls t r) reached pos known grants here = calls_so x t (reached_kept x.machine reached) pos known here r
-threads_keep x (Goes t c) reached pos known grants here = goes_so x t (reached_kept x.machine reached) pos known here c grants
+threads_keep x (Goes t c) reached pos known grants here = goes_so x t (reached_kept x.machine reached) pos known here c reached grants
 threads_keep x (Interrupts t) reached pos known grants here = leaves_so x t (reached_kept x.machine reached) pos known here
 threads_keep x (Lapses t) reached pos known grants here = late_so x t (reached_kept x.machine reached) pos known here grants
 threads_keep x (Dies t) reached pos known grants here = dies_so x t (reached_kept x.machine reached) pos known here

@@ -11,7 +11,7 @@ use Rattle.slots.specs.Shown.{Slots, begin, shown}
 use Rattle.slots.specs.Invariant.{fields_at}
 use Rattle.slots.specs.Stands.{StandsAs}
 use Rattle.slots.specs.Table.{made, heir_of, shows_heir}
-use Rattle.slots.specs.Accesses.{IsAtRow}
+use Rattle.slots.specs.Accesses.{IsAboutIt, IsAtRow}
 use Rattle.slots.specs.Each.{Assumes}
 use Rattle.slots.specs.Further.{IsOfCell, OwnsInside}
 use Rattle.slots.specs.Runs.{Happening, next, reached}
@@ -79,10 +79,11 @@ abbrev pub SleepsLater : Row → Type 0
 SleepsLater (Row.Asleep k) = k.timed ≡ true → k.how ≡ Later
 SleepsLater r = Unit {0}
 
--- What a happening takes for granted. An access does what its row assumes. A timeout knows which lock sleeps. A dead
--- thread is in none of our calls
+-- What a happening takes for granted. At an access, the machine's call is about the row's mutex, and what the row assumes
+-- is so. At a timeout, it is known which lock sleeps. A dead thread is in none of our calls
 abbrev pub Grants : Slots → Happening → Type 0
-Grants x (Goes t c) = IsAtRow x t × Assumes x t (x.rows t) × AssumesToo x t (x.rows t)
+Grants x (Goes t c) =
+    IsAboutIt x.machine.layout (x.rows t) (x.machine.threads t).stage × Assumes x t (x.rows t) × AssumesToo x t (x.rows t)
 Grants x (Lapses t) = SleepsLater (x.rows t)
 Grants x (Lives t) = is_alive (x.machine.threads t).stage ≡ false → x.rows t ≡ Row.Rests
 Grants x h = Unit {0}
