@@ -3,18 +3,20 @@ use Rattle.std.proofs.Common.{◌≡◌, ℕ, ◌≤◌, ◌==◌, Bool, true, f
 use Rattle.memorymap.specs.Layouts.{Layout'}
 use Rattle.protocol.specs.declared.event.Event.{Event}
 use Rattle.protocol.specs.declared.thread.Thread.{Thread}
-use Rattle.protocol.specs.Machine.{State, happens, is_alive, run}
+use Rattle.protocol.specs.Machine.{State, happens, is_alive, run, start}
 use Rattle.protocol.proofs.Kept.{Kept}
-use Rattle.protocol.proofs.Runs.{sound}
+use Rattle.protocol.proofs.Queued.{in_none}
+use Rattle.protocol.proofs.Runs.{sound, start_kept}
+use Rattle.slots.proofs.Each.{each_access}
 use Rattle.slots.specs.Rows.{Row}
 use Rattle.slots.specs.Shown.{Slots, begin}
 use Rattle.slots.specs.Stands.{StandsAs}
-use Rattle.slots.specs.Runs.{Happening, events_of, next, reached_from}
+use Rattle.slots.specs.Runs.{Happening, all_events, events_of, next, reached, reached_from}
 use Rattle.slots.specs.Laws.{IsReached}
-use Rattle.slots.specs.Goes.{AllGranted, Grants, IsAtItsRow, RunsKeepTheirRows, StandsStill, who}
-use Rattle.slots.proofs.Free.{reached_kept, reached_next}
+use Rattle.slots.specs.Goes.{AccessesOfRunsAreEvents, AllGranted, Grants, IsAtItsRow, RunsKeepTheirRows, StandsStill, who}
+use Rattle.slots.proofs.Free.{reached_kept, reached_next, reached_queued}
 use Rattle.slots.proofs.Keeping.{threads_keep}
-use Rattle.slots.proofs.MachineRuns.{next_is}
+use Rattle.slots.proofs.MachineRuns.{next_is, runs_are}
 use Rattle.slots.proofs.Others.{others_still}
 
 -- a run from a reached state comes to one, of the same layout
@@ -51,3 +53,24 @@ from_any x (h ∷ hs) reached all ((pos, known, grants), granted) u first last =
 
 pub runs_keep : RunsKeepTheirRows
 runs_keep l hs t is first last granted = from_any (begin l) hs (record { layout = l; counters = λ c. 0; events = []; is = is; here = refl }) (λ v v_first v_last lives. refl) granted t first last
+
+-- ---- accesses of such a run
+
+pub runs_are_events : AccessesOfRunsAreEvents
+runs_are_events l hs t c is first last granted (about, assumes, too) lives awake = each_access x t c (record {
+  reached = from;
+  first = first;
+  last = subst (λ (k : Layout'). t ≤ k.threads) (sym layout) last;
+  there = runs_keep l hs t is first last granted lives;
+  about = about;
+  out = in_none x.machine t (reached_queued x.machine from) awake;
+}) assumes
+  where
+    x : Slots
+    x = reached l hs
+
+    from : IsReached x.machine
+    from = record { layout = l; counters = λ k. 0; events = all_events (begin l) hs; is = is; here = runs_are l hs }
+
+    layout : x.machine.layout ≡ l
+    layout = ap (λ (s : State). s.layout) (runs_are l hs) ∙ layout_run (start l (λ k. 0)) (all_events (begin l) hs) (start_kept l (λ k. 0) is)

@@ -1,7 +1,7 @@
 -- Threads stand where their rows say, from one happening to the next.
 use Rattle.std.specs.Prelude.{ℕ, ◌≡◌, ◌≢◌, ◌%◌, ◌^◌, ◌<◌, ◌≤◌, true, false, List, [], ◌∷◌}
 use Rattle.memorymap.specs.Layouts.{Layout', IsLayout, cell_place, counter_place}
-use Rattle.protocol.specs.Machine.{run, is_alive, is_left_to}
+use Rattle.protocol.specs.Machine.{run, is_alive, is_asleep, is_left_to}
 use Rattle.slots.specs.Rows.{Choice, Row}
 use Rattle.slots.specs.Rows.How.{Tried, Later}
 use Rattle.slots.specs.Rows.Then.{ToSlot}
@@ -16,7 +16,7 @@ use Rattle.slots.specs.Each.{Assumes}
 use Rattle.slots.specs.Further.{IsOfCell, OwnsInside}
 use Rattle.slots.specs.Runs.{Happening, next, reached}
 use Rattle.slots.specs.Runs.Happening.{Calls, Goes, Interrupts, Lapses, Dies, Walks, Lives}
-use Rattle.slots.specs.Laws.{IsReached}
+use Rattle.slots.specs.Laws.{IsEvents, IsReached}
 
 -- the thread of which it is
 abbrev pub who : Happening → ℕ
@@ -104,3 +104,11 @@ AllGranted x (h ∷ hs) = ((1 ≤ who h) × (who h ≤ x.machine.layout.threads)
 abbrev pub RunsKeepTheirRows : Type 0
 RunsKeepTheirRows = (l : Layout') (hs : List Happening) (t : ℕ) → IsLayout l → 1 ≤ t → t ≤ l.threads → AllGranted (begin l) hs
     → IsAtItsRow (reached l hs) t
+
+-- so each access of such a run is the events that the table has: of a thread that lives and is awake, if its row has what
+-- it takes for granted
+abbrev pub AccessesOfRunsAreEvents : Type 0
+AccessesOfRunsAreEvents = (l : Layout') (hs : List Happening) (t : ℕ) (c : Choice) → IsLayout l → 1 ≤ t → t ≤ l.threads
+    → AllGranted (begin l) hs → Grants (reached l hs) (Goes t c)
+    → is_alive ((reached l hs).machine.threads t).stage ≡ true → is_asleep (reached l hs).machine t ≡ false
+    → IsEvents (reached l hs) t c

@@ -5,7 +5,7 @@ ghost use Rattle.slots.specs.Accesses.{MissesAreNoEvents, PendingAgainIsNoEvent,
 ghost use Rattle.slots.specs.Accesses.{TakesAreEvents, WakesAreEvents};
 ghost use Rattle.slots.specs.Each.{EachAccessIsEvents};
 ghost use Rattle.slots.specs.Goes.{OthersStandStill, RowsLeadOn, RunsKeepTheirRows};
-ghost use Rattle.slots.specs.Goes.{ThreadsKeepTheirRows};
+ghost use Rattle.slots.specs.Goes.{AccessesOfRunsAreEvents, ThreadsKeepTheirRows};
 ghost use Rattle.slots.specs.Further.{AnnouncedReleasesAreEvents, CountsAreEvents, DecidingLooksAreEvents};
 ghost use Rattle.slots.specs.Further.{FirstLooksAreEvents, MarksAreEvents, MendsAreEvents, MovesAreEvents};
 ghost use Rattle.slots.specs.Further.{SleepsAreEvents, SparesAreEvents, TrimsAreEvents};
@@ -293,4 +293,10 @@ pub fn threads_keep_their_rows()
 /// After any run whose happenings have what they assume, each thread that lives is where its row says.
 pub fn runs_keep_their_rows()
     ensures { RunsKeepTheirRows }
+{}
+
+/// In any run whose happenings have what they assume, each access of a thread that lives and is awake is the events that the
+/// table has for it.
+pub fn accesses_of_runs_are_events()
+    ensures { AccessesOfRunsAreEvents }
 {}
