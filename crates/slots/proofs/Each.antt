@@ -157,6 +157,7 @@ module _ (x : Slots) (t : ℕ) (c : Choice) (at : IsAtRow x t) where
   each_row (Row.GiveFinds m y) there about a = load_so (Row.GiveFinds m y) (made x t c (Row.GiveFinds m y)).next (cell_in z.layout t (slot_of m)) (record { awake = λ a. refl; slept = λ a. refl; turns = λ d a. refl })
   each_row (Row.Gives m y) there about a = give_row x t c at (Row.Gives m y) there about a
   each_row (Row.HandsOn m y is) there about a = hand_row x t c at (Row.HandsOn m y is) tt
+  each_row (Row.LooksBack m y is) there about a = hand_row x t c at (Row.LooksBack m y is) tt
   each_row (Row.WakesOne m y is) there about a = wake_row x t c at (Row.WakesOne m y is) there about tt
   each_row (Row.Trims m is) there about a = trim_row x t c at (Row.Trims m is) there a
   each_row (Row.MendLooks m) there about a = first_row x t c at (Row.MendLooks m) there a

@@ -57,7 +57,7 @@ use Rattle.slots.proofs.Releasing.{freeing_at}
 use Rattle.slots.proofs.FirstLeads.{count_looks_lead, give_looks_lead, looks_lead, mend_looks_lead, try_looks_lead, wait_counts_lead, wait_looks_lead, wait_pends_lead}
 use Rattle.slots.proofs.LinkLeads.{along_leads}
 use Rattle.slots.proofs.UnlinkLeads.{off_leads}
-use Rattle.slots.proofs.WaitLeads.{gives_wait, hands_lead, wait_unlinks_lead}
+use Rattle.slots.proofs.WaitLeads.{gives_wait, hands_lead, looks_back_lead, wait_unlinks_lead}
 use Rattle.slots.proofs.StepLeads.{frees_slot, gives_cell, moves_lead, trims_lead, wait_wakes_lead}
 use Rattle.slots.proofs.TakeLeads.{cell_taken, heir_taken, slot_taken, tried_taken}
 use Rattle.slots.proofs.LookLeads.{Reaches, gives_up, loaded, lost_clears, lost_wakes, reach_later, reach_to_sleep, reach_tried, reach_waited}
@@ -488,6 +488,7 @@ module _ (x : Slots) (t : ℕ) (c : Choice) (at : IsAtRow x t) where
   lead_row (Row.GiveUnlinks m (OfWait k n slept timed)) (p, u, is, phase) about a leading = wait_unlinks_lead x t c at m k n slept timed p u is phase
   lead_row (Row.Gives m (OfWait k n slept timed)) there about owns leading = gives_wait x t c at m k n slept timed there about
   lead_row (Row.HandsOn m y is) there about a left = hands_lead x t c at m y is there about left
+  lead_row (Row.LooksBack m y is) there about a inside = looks_back_lead x t c at m y is there about inside
   lead_row (Row.Anews m v) is about to leading = anews_so x t c at m v is to
   lead_row (Row.WaitSleeps m k n timed) there about a leading = wait_sleeps_lead x t c at m k n timed there
   lead_row (Row.Counts m k all n) is about may leading = counts_lead x t c at m k n all may is

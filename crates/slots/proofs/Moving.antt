@@ -1,6 +1,7 @@
 -- A broadcast's move, and a look at the slot by which a wake may be spared.
 use Rattle.std.proofs.Common.{◌≡◌, ℕ, ◌+◌, ◌%◌, ◌^◌, ◌==◌, Bool, true, false, List, [], ◌∷◌, refl, sym, ap, ◌∙◌, subst}
 use Rattle.std.specs.Prelude.{if◌then◌else◌, take, drop, ◌&&◌}
+use Rattle.lockword.specs.Cells.{fields_of}
 use Rattle.lockword.specs.Threads.{most_threads}
 use Rattle.stepprograms.specs.declared.access.Access.{Access}
 use Rattle.memorymap.specs.Layouts.{place_in, cell_place}
@@ -19,6 +20,7 @@ use Rattle.stepprograms.specs.declared.access.Answer.TheVariants.{Count, Trimmed
 use Rattle.mutex.specs.Whole.{whole_access}
 use Rattle.protocol.specs.declared.event.Event.TheVariants.{Step, Spare, Decline}
 use Rattle.protocol.specs.declared.event.LeftTo.{LeftTo}
+use Rattle.protocol.specs.declared.event.LeftTo.TheVariants as left_to
 use Rattle.protocol.specs.declared.thread.Thread.{Thread}
 use Rattle.protocol.specs.declared.thread.Stage.{Stage}
 use Rattle.protocol.specs.declared.thread.Stage.TheVariants.{Calling, AtCondition}
@@ -143,25 +145,44 @@ decline_comes s t inv = (alone.0, first_more s t s.words s.queues alone.0 (Decli
     alone : IsThreadAlone s t (happens s (Decline t))
     alone = by_test (IsThreadAlone s t) (has_thread s t) (declined s t (s.threads t).held (s.threads t).stage) (nothing s) (λ e. decline_alone s t (s.threads t).held (s.threads t).stage) (λ e. nobody s t)
 
-pub hand_row : (x : Slots) (t : ℕ) (c : Choice) → IsAtRow x t → (r : Row) → IsHanding r → AreEvents x t c r (made x t c r)
-hand_row x t c at (Row.HandsOn m g is) handing =
-    by_test (AreEvents x t c (Row.HandsOn m g is)) (shows_heir (shown x (cell_place z.layout (slot_of m))) && c.yes)
-    (makes (Access.Load look) (Spare t (heir_of z t (cell_of m)) ∷ []) (given_row x t c m g)) (makes (Access.Load look) [] (Row.WakesOne m g is))
-    (λ e. let l = spare_comes z t (heir_of z t (cell_of m)) inv in nothing_events x t c (Row.HandsOn m g is) (given_row x t c m g) (Spare t (heir_of z t (cell_of m)) ∷ []) z.words z.queues l.0 quiet l.1 (Access.Load look) (load_idles x t look) (λ p. refl) (λ p. refl))
-    (λ e. nothing_events x t c (Row.HandsOn m g is) (Row.WakesOne m g is) [] z.words z.queues _ quiet (stays z t (z.threads t).stage inv refl) (Access.Load look) (load_idles x t look) (λ p. refl) (λ p. refl))
-  where
-    z : State
-    z = x.machine
+module _ (x : Slots) (t : ℕ) (c : Choice) (at : IsAtRow x t) where
+  abbrev here : State
+  here = x.machine
 
-    inv : Kept z
-    inv = reached_kept z at.reached
+  kept : Kept here
+  kept = reached_kept here at.reached
 
-    look : ℕ
-    look = cell_in z.layout t (slot_of m)
+  -- a load, after which the wake is spared, or nothing happens
+  spares_by : (r : Row) (p : ℕ) (to : Row) (by : LeftTo) → IsQuiet r → AreEvents x t c r (makes (Access.Load p) (Spare t by ∷ []) to)
+  spares_by r p to by quiet = let l = spare_comes here t by kept in nothing_events x t c r to (Spare t by ∷ []) here.words here.queues l.0 quiet l.1 (Access.Load p) (load_idles x t p) (λ q. refl) (λ q. refl)
 
-    quiet : IsQuiet (Row.HandsOn m g is)
-    quiet = record { awake = λ a. refl; slept = λ a. refl; turns = λ d a. refl }
-hand_row x t c at r handing = absurd handing
+  passes_by : (r : Row) (p : ℕ) (to : Row) → IsQuiet r → AreEvents x t c r (makes (Access.Load p) [] to)
+  passes_by r p to quiet = nothing_events x t c r to [] here.words here.queues _ quiet (stays here t (here.threads t).stage kept refl) (Access.Load p) (load_idles x t p) (λ q. refl) (λ q. refl)
+
+  pub hand_row : (r : Row) → IsHanding r → AreEvents x t c r (made x t c r)
+  hand_row (Row.HandsOn m g is) handing =
+      by_test (AreEvents x t c (Row.HandsOn m g is)) (shows_heir (shown x (cell_place here.layout (slot_of m))) && c.yes)
+      (makes (Access.Load look) (Spare t (heir_of here t (cell_of m)) ∷ []) (given_row x t c m g)) (makes (Access.Load look) [] (Row.LooksBack m g is))
+      (λ e. spares_by (Row.HandsOn m g is) look (given_row x t c m g) (heir_of here t (cell_of m)) quiet)
+      (λ e. passes_by (Row.HandsOn m g is) look (Row.LooksBack m g is) quiet)
+    where
+      look : ℕ
+      look = cell_in here.layout t (slot_of m)
+
+      quiet : IsQuiet (Row.HandsOn m g is)
+      quiet = record { awake = λ a. refl; slept = λ a. refl; turns = λ d a. refl }
+  hand_row (Row.LooksBack m g is) handing =
+      by_test (AreEvents x t c (Row.LooksBack m g is)) ((fields_of (shown x (cell_place here.layout (cell_of m)))).owner == 0)
+      (makes (Access.Load look) [] (Row.WakesOne m g is)) (makes (Access.Load look) (Spare t left_to.Owner ∷ []) (given_row x t c m g))
+      (λ e. passes_by (Row.LooksBack m g is) look (Row.WakesOne m g is) quiet)
+      (λ e. spares_by (Row.LooksBack m g is) look (given_row x t c m g) left_to.Owner quiet)
+    where
+      look : ℕ
+      look = cell_in here.layout t (cell_of m)
+
+      quiet : IsQuiet (Row.LooksBack m g is)
+      quiet = record { awake = λ a. refl; slept = λ a. refl; turns = λ d a. refl }
+  hand_row r handing = absurd handing
 
 pub spares_are : SparesAreEvents
 spares_are x t c at handing = let both = hand_row x t c at (x.rows t) handing in record { words = both.0; queues = both.1 }

@@ -111,6 +111,7 @@ events_are_of x t c (Row.GiveUnlinks m g) = (refl, tt)
 events_are_of x t c (Row.GiveFinds m g) = tt
 events_are_of x t c (Row.Gives m g) = (refl, tt)
 events_are_of x t c (Row.HandsOn m g is) = grind (arith)
+events_are_of x t c (Row.LooksBack m g is) = grind (arith)
 events_are_of x t c (Row.WakesOne m g is) = (refl, tt)
 events_are_of x t c (Row.Trims m is) = grind (arith)
 events_are_of x t c (Row.MendLooks m) = grind (arith)

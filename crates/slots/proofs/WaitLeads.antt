@@ -1,6 +1,6 @@
 -- Where accesses of a wait lead until it has released its mutex, and a wake that is spared.
 use Rattle.std.proofs.Common.{◌≡◌, ◌⊎◌, inl, inr, ℕ, ◌-◌, ◌<◌, Bool, true, false, [], ◌∷◌, refl, sym, ap, ◌∙◌, subst}
-use Rattle.std.specs.Prelude.{if◌then◌else◌, ◌&&◌}
+use Rattle.std.specs.Prelude.{if◌then◌else◌, ◌&&◌, ◌==◌, not}
 use Rattle.lockword.specs.Cells.{fields_of}
 use Rattle.lockword.specs.declared.reply.Reply.TheVariants.{OK}
 use Rattle.stepprograms.specs.declared.access.Access.{Access}
@@ -24,6 +24,7 @@ use Rattle.condvar.specs.Whole.{after_words, cond_led}
 use Rattle.condvar.specs.declared.op.Op.TheVariants.{OnMutex}
 use Rattle.protocol.specs.declared.event.Event.TheVariants.{Spare, Step}
 use Rattle.protocol.specs.declared.event.LeftTo.{LeftTo}
+use Rattle.protocol.specs.declared.event.LeftTo.TheVariants as left_to
 use Rattle.protocol.specs.declared.thread.Thread.{Thread}
 use Rattle.protocol.specs.declared.thread.Stage.{Stage}
 use Rattle.protocol.specs.declared.thread.Stage.TheVariants.{Calling, AtCondition}
@@ -139,13 +140,10 @@ module _ (x : Slots) (t : ℕ) (c : Choice) (at : IsAtRow x t) where
       go false alone = subst (λ (b : Bool). StandsAs (if b then hands_row x t c m (OfWait k n slept timed) (word - t) else Row.WaitSleeps m k n timed) ((run z (Step t ∷ [])).threads t).stage) (sym alone)
           (gives_so m k n slept timed (wait_of k timed) (is_at_word z t (wait_of k timed) p _ inv at.first at.last is phase) (subst (IsAbout z.layout m) is about) false alone)
 
-  -- ---- a look at the slot, by which a wake may be spared
+  -- ---- a look at the slot or at the cell, by which a wake may be spared
 
-  abbrev by : ℕ → LeftTo
-  by m = heir_of z t (cell_of m)
-
-  spares_unlock : (m : ℕ) → IsIn (Unlock (cell_of m)) (AtCell (mutex_row.Unlock (unlock.Wake false))) g → is_left_to z t (cell_of m) (by m) ≡ true → StandsAs (Row.Clears m OK) ((run z (Spare t (by m) ∷ [])).threads t).stage
-  spares_unlock m (p, is, phase) left = (OnMutex (Unlock (cell_of m)), call_at z.layout t operation.Unlock (cell_of m) (Clearing OK), OK, to, refl)
+  spares_unlock : (m : ℕ) (by : LeftTo) → IsIn (Unlock (cell_of m)) (AtCell (mutex_row.Unlock (unlock.Wake false))) g → is_left_to z t (cell_of m) by ≡ true → StandsAs (Row.Clears m OK) ((run z (Spare t by ∷ [])).threads t).stage
+  spares_unlock m by (p, is, phase) left = (OnMutex (Unlock (cell_of m)), call_at z.layout t operation.Unlock (cell_of m) (Clearing OK), OK, to, refl)
     where
       here : Whole
       here = call_at z.layout t operation.Unlock (cell_of m) (AtCell (mutex_row.Unlock (unlock.Wake false)))
@@ -153,36 +151,50 @@ module _ (x : Slots) (t : ℕ) (c : Choice) (at : IsAtRow x t) where
       a : IsAt z t (OnMutex (Unlock (cell_of m))) (cell_of m) (AtCell (mutex_row.Unlock (unlock.Wake false)))
       a = is_at z t (OnMutex (Unlock (cell_of m))) p (cell_of m) (AtCell (mutex_row.Unlock (unlock.Wake false))) inv at.first at.last is phase refl
 
-      to : ((run z (Spare t (by m) ∷ [])).threads t).stage ≡ Calling (OnMutex (Unlock (cell_of m))) (call_at z.layout t operation.Unlock (cell_of m) (Clearing OK))
+      to : ((run z (Spare t by ∷ [])).threads t).stage ≡ Calling (OnMutex (Unlock (cell_of m))) (call_at z.layout t operation.Unlock (cell_of m) (Clearing OK))
       to =
-          ap (λ (b : Bool). ((if b then sparing z t (by m) h g else nothing z).state.threads t).stage) (is_known z t at.first at.last)
-          ∙ ap (λ (f : Stage). ((sparing z t (by m) h f).state.threads t).stage) a.there
+          ap (λ (b : Bool). ((if b then sparing z t by h g else nothing z).state.threads t).stage) (is_known z t at.first at.last)
+          ∙ ap (λ (f : Stage). ((sparing z t by h f).state.threads t).stage) a.there
           ∙ ap (λ (b : Bool). ((if true && b then spared z t h (cell_of m) (led (OnMutex (Unlock (cell_of m))) here (whole_led here (Count 1))) else nothing z).state.threads t).stage) left
           ∙ ap (λ (y : Thread). y.stage) (put-same z.threads t _)
 
-  spares_wait : (m n : ℕ) (o : CondCall) → IsAtWord z t o (CondPhase.AtWords (cond_row.Wait (wait.Wake n))) → programs.mutex_of z.layout o ≡ cell_of m → is_left_to z t (cell_of m) (by m) ≡ true → IsAtWords o (cond_row.Wait (wait.Sleep n)) ((run z (Spare t (by m) ∷ [])).threads t).stage
-  spares_wait m n o a about left = (cond_of z.layout t o (CondPhase.AtWords (cond_row.Wait (wait.Sleep n))), to, refl)
+  spares_wait : (m n : ℕ) (by : LeftTo) (o : CondCall) → IsAtWord z t o (CondPhase.AtWords (cond_row.Wait (wait.Wake n))) → programs.mutex_of z.layout o ≡ cell_of m → is_left_to z t (cell_of m) by ≡ true → IsAtWords o (cond_row.Wait (wait.Sleep n)) ((run z (Spare t by ∷ [])).threads t).stage
+  spares_wait m n by o a about left = (cond_of z.layout t o (CondPhase.AtWords (cond_row.Wait (wait.Sleep n))), to, refl)
     where
       here : CondWhole
       here = cond_of z.layout t o (CondPhase.AtWords (cond_row.Wait (wait.Wake n)))
 
-      to : ((run z (Spare t (by m) ∷ [])).threads t).stage ≡ AtCondition o (cond_of z.layout t o (CondPhase.AtWords (cond_row.Wait (wait.Sleep n))))
+      to : ((run z (Spare t by ∷ [])).threads t).stage ≡ AtCondition o (cond_of z.layout t o (CondPhase.AtWords (cond_row.Wait (wait.Sleep n))))
       to =
-          ap (λ (b : Bool). ((if b then sparing z t (by m) h g else nothing z).state.threads t).stage) (is_known z t at.first at.last)
-          ∙ ap (λ (f : Stage). ((sparing z t (by m) h f).state.threads t).stage) a.there
-          ∙ ap (λ (b : Bool). ((if true && b then spared z t h (programs.mutex_of z.layout o) (led_at o here (cond_led here (Count 1))) else nothing z).state.threads t).stage) (ap (λ (j : ℕ). is_left_to z t j (by m)) about ∙ left)
+          ap (λ (b : Bool). ((if b then sparing z t by h g else nothing z).state.threads t).stage) (is_known z t at.first at.last)
+          ∙ ap (λ (f : Stage). ((sparing z t by h f).state.threads t).stage) a.there
+          ∙ ap (λ (b : Bool). ((if true && b then spared z t h (programs.mutex_of z.layout o) (led_at o here (cond_led here (Count 1))) else nothing z).state.threads t).stage) (ap (λ (j : ℕ). is_left_to z t j by) about ∙ left)
           ∙ ap (λ (y : Thread). y.stage) (put-same z.threads t _)
 
   first_so : (a b : Bool) → (a && b) ≡ true → a ≡ true
   first_so true b e = refl
   first_so false b e = absurd cc
 
-  pub hands_lead : (m : ℕ) (y : Giving) (is : ℕ) → IsWaking m y g → IsAbout z.layout m g → (shows_heir (shown x (cell_place z.layout (slot_of m))) ≡ true → is_left_to z t (cell_of m) (by m) ≡ true) → LeadsOn x t c (Row.HandsOn m y is)
+  pub hands_lead : (m : ℕ) (y : Giving) (is : ℕ) → IsWaking m y g → IsAbout z.layout m g → (shows_heir (shown x (cell_place z.layout (slot_of m))) ≡ true → is_left_to z t (cell_of m) (heir_of z t (cell_of m)) ≡ true) → LeadsOn x t c (Row.HandsOn m y is)
   hands_lead m (OfUnlock d) is there about left = by_test (λ (n : Made). StandsAs n.next ((run z n.events).threads t).stage) (shows_heir (shown x (cell_place z.layout (slot_of m))) && c.yes)
-      (makes (Access.Load (cell_in z.layout t (slot_of m))) (Spare t (by m) ∷ []) (Row.Clears m OK)) (makes (Access.Load (cell_in z.layout t (slot_of m))) [] (Row.WakesOne m (OfUnlock d) is))
-      (λ e. spares_unlock m there (left (first_so (shows_heir (shown x (cell_place z.layout (slot_of m)))) c.yes e)))
+      (makes (Access.Load (cell_in z.layout t (slot_of m))) (Spare t (heir_of z t (cell_of m)) ∷ []) (Row.Clears m OK)) (makes (Access.Load (cell_in z.layout t (slot_of m))) [] (Row.LooksBack m (OfUnlock d) is))
+      (λ e. spares_unlock m (heir_of z t (cell_of m)) there (left (first_so (shows_heir (shown x (cell_place z.layout (slot_of m)))) c.yes e)))
       (λ e. there)
   hands_lead m (OfWait k n slept timed) is (p, stage, phase) about left = by_test (λ (n : Made). StandsAs n.next ((run z n.events).threads t).stage) (shows_heir (shown x (cell_place z.layout (slot_of m))) && c.yes)
-      (makes (Access.Load (cell_in z.layout t (slot_of m))) (Spare t (by m) ∷ []) (Row.WaitSleeps m k n timed)) (makes (Access.Load (cell_in z.layout t (slot_of m))) [] (Row.WakesOne m (OfWait k n slept timed) is))
-      (λ e. spares_wait m n (wait_of k timed) (is_at_word z t (wait_of k timed) p _ inv at.first at.last stage phase) (subst (IsAbout z.layout m) stage about) (left (first_so (shows_heir (shown x (cell_place z.layout (slot_of m)))) c.yes e)))
+      (makes (Access.Load (cell_in z.layout t (slot_of m))) (Spare t (heir_of z t (cell_of m)) ∷ []) (Row.WaitSleeps m k n timed)) (makes (Access.Load (cell_in z.layout t (slot_of m))) [] (Row.LooksBack m (OfWait k n slept timed) is))
+      (λ e. spares_wait m n (heir_of z t (cell_of m)) (wait_of k timed) (is_at_word z t (wait_of k timed) p _ inv at.first at.last stage phase) (subst (IsAbout z.layout m) stage about) (left (first_so (shows_heir (shown x (cell_place z.layout (slot_of m)))) c.yes e)))
       (λ e. (p, stage, phase))
+
+  -- if the cell has an owner, the wake is left to it
+  owned : (m : ℕ) → cell_of m < z.layout.mutexes → ((fields_of (shown x (cell_place z.layout (cell_of m)))).owner == 0) ≡ false → is_left_to z t (cell_of m) left_to.Owner ≡ true
+  owned m inside some = ap (λ (o : ℕ). not (o == 0)) (sym (cell_says x m inside).owner) ∙ ap not some
+
+  pub looks_back_lead : (m : ℕ) (y : Giving) (is : ℕ) → IsWaking m y g → IsAbout z.layout m g → cell_of m < z.layout.mutexes → LeadsOn x t c (Row.LooksBack m y is)
+  looks_back_lead m (OfUnlock d) is there about inside = by_test (λ (n : Made). StandsAs n.next ((run z n.events).threads t).stage) ((fields_of (shown x (cell_place z.layout (cell_of m)))).owner == 0)
+      (makes (Access.Load (cell_in z.layout t (cell_of m))) [] (Row.WakesOne m (OfUnlock d) is)) (makes (Access.Load (cell_in z.layout t (cell_of m))) (Spare t left_to.Owner ∷ []) (Row.Clears m OK))
+      (λ e. there)
+      (λ e. spares_unlock m left_to.Owner there (owned m inside e))
+  looks_back_lead m (OfWait k n slept timed) is (p, stage, phase) about inside = by_test (λ (n : Made). StandsAs n.next ((run z n.events).threads t).stage) ((fields_of (shown x (cell_place z.layout (cell_of m)))).owner == 0)
+      (makes (Access.Load (cell_in z.layout t (cell_of m))) [] (Row.WakesOne m (OfWait k n slept timed) is)) (makes (Access.Load (cell_in z.layout t (cell_of m))) (Spare t left_to.Owner ∷ []) (Row.WaitSleeps m k n timed))
+      (λ e. (p, stage, phase))
+      (λ e. spares_wait m n left_to.Owner (wait_of k timed) (is_at_word z t (wait_of k timed) p _ inv at.first at.last stage phase) (subst (IsAbout z.layout m) stage about) (owned m inside e))

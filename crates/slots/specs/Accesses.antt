@@ -36,6 +36,7 @@ IsAboutIt l (Row.Asleep k) g = IsAbout l k.mutex g
 IsAboutIt l (Row.WaitAsleep m k timed) g = IsAbout l m g
 IsAboutIt l (Row.WakesAll m r) g = IsAbout l m g
 IsAboutIt l (Row.HandsOn m y is) g = IsAbout l m g
+IsAboutIt l (Row.LooksBack m y is) g = IsAbout l m g
 IsAboutIt l (Row.WakesOne m y is) g = IsAbout l m g
 IsAboutIt l (Row.Gives m y) g = IsAbout l m g
 IsAboutIt l (Row.AllMarks m k n) g = IsAbout l m g

@@ -118,9 +118,11 @@ MovesAreEvents = (x : Slots) (t : ℕ) (c : Choice) → IsAtRow x t → IsMoving
 
 abbrev pub IsHanding : Row → Type 0
 IsHanding (Row.HandsOn m g is) = Unit {0}
+IsHanding (Row.LooksBack m g is) = Unit {0}
 IsHanding r = ⊥
 
--- a look at the slot after a release changes nothing, whether the wake is left to the heir or not
+-- after a release, a look at the slot and one at the cell change nothing, whether the wake is left to the heir, or to the
+-- cell's owner, or to nobody
 abbrev pub SparesAreEvents : Type 0
 SparesAreEvents = (x : Slots) (t : ℕ) (c : Choice) → IsAtRow x t → IsHanding (x.rows t) → IsEvents x t c
 

@@ -62,6 +62,7 @@ AssumesToo x t (Row.FreeGives k f) = (fields_at x.machine (slot_of k.mutex)).wai
 AssumesToo x t (Row.HandsOn m g is) =
     shows_heir (shown x (cell_place x.machine.layout (slot_of m))) ≡ true
     → is_left_to x.machine t (cell_of m) (heir_of x.machine t (cell_of m)) ≡ true
+AssumesToo x t (Row.LooksBack m g is) = cell_of m < x.machine.layout.mutexes
 AssumesToo x t r = Unit {0}
 
 abbrev pub RowsLeadOn : Type 0

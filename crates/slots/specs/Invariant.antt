@@ -43,12 +43,14 @@ NobodySleeps x m = x.machine.queues (cell_place x.machine.layout (cell_of m)) �
 -- the mutex of a call after its release is one of the layout's
 abbrev pub IsInside : Slots → Row → Type 0
 IsInside x (Row.HandsOn m g is) = cell_of m < x.machine.layout.mutexes
+IsInside x (Row.LooksBack m g is) = cell_of m < x.machine.layout.mutexes
 IsInside x (Row.WakesOne m g is) = cell_of m < x.machine.layout.mutexes
 IsInside x (Row.Trims m is) = cell_of m < x.machine.layout.mutexes
 IsInside x r = Unit {0}
 
 abbrev pub KnowsTurn : Slots → Row → Type 0
 KnowsTurn x (Row.HandsOn m g is) = IsPast x m is ⊎ IsAsLeft x m is
+KnowsTurn x (Row.LooksBack m g is) = IsPast x m is ⊎ IsAsLeft x m is
 KnowsTurn x (Row.WakesOne m g is) = IsPast x m is ⊎ IsAsLeft x m is
 KnowsTurn x (Row.Trims m is) = IsPast x m is ⊎ (IsAsLeft x m is × NobodySleeps x m)
 KnowsTurn x r = Unit {0}

@@ -105,6 +105,7 @@ pub data Row : Type 0 where
   GiveFinds : ℕ → Giving → Row  -- find_heir: load_acquire(slot), for the hints
   Gives : ℕ → Giving → Row  -- pz_mutex_unlock, release: fetch_sub(cell, tid); make_unusable: fetch_add
   HandsOn : ℕ → Giving → ℕ → Row  -- pz_hand_on: load_in_order(slot); and the word that the release left
+  LooksBack : ℕ → Giving → ℕ → Row  -- pz_hand_on: load_in_order(cell), without an heir; and the same word
   WakesOne : ℕ → Giving → ℕ → Row  -- pz_hand_on: wake(cell, 1)
   Trims : ℕ → ℕ → Row  -- trim: compare_exchange(cell), without WAITERS
   -- ---- consistent, reinit (mutex.c)

@@ -163,6 +163,7 @@ StandsAs (Row.GiveUnlinks m y) g = IsGivingUnlinked m y g
 StandsAs (Row.GiveFinds m y) g = IsGiving m y g
 StandsAs (Row.Gives m y) g = IsGiving m y g
 StandsAs (Row.HandsOn m y is) g = IsWaking m y g
+StandsAs (Row.LooksBack m y is) g = IsWaking m y g
 StandsAs (Row.WakesOne m y is) g = IsWaking m y g
 StandsAs (Row.Trims m is) g = IsIn (call.Unlock (cell_of m)) (AtCell (mutex_row.Unlock unlock.Trim)) g
 StandsAs (Row.WaitSets m k n timed) g = IsAtWords (wait_of k timed) (cond_row.Wait (wait.Release n)) g

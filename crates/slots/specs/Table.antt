@@ -495,7 +495,11 @@ module _ (x : Slots) (t : ℕ) (c : Choice) where
   made (Row.HandsOn m g is) =
       if shows_heir (at_slot m) && c.yes
       then makes (access.Load (slot m)) (Spare t (heir_of x.machine t (cell_of m)) ∷ []) (given_row m g)
-      else makes (access.Load (slot m)) [] (Row.WakesOne m g is)
+      else makes (access.Load (slot m)) [] (Row.LooksBack m g is)
+  made (Row.LooksBack m g is) =
+      if (fields_of (at_cell m)).owner == 0
+      then makes (access.Load (cell m)) [] (Row.WakesOne m g is)
+      else makes (access.Load (cell m)) (Spare t left_to.Owner ∷ []) (given_row m g)
   made (Row.WakesOne m g is) = makes (access.Wake (cell m) 1) (Step t ∷ []) (woke_row m g is)
   made (Row.Trims m is) =
       makes (access.Exchange (cell m) is (is - waiters_alone)) (if at_cell m == is then Step t ∷ [] else Decline t ∷ [])
