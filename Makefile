@@ -96,8 +96,8 @@ out/libpazdrig.so.$(VERSION): out/pazdrig.o
 	$(Q)$(SHARED) -Wl,-soname,$(SONAME) -Wl,--version-script=lib/pazdrig.map -o $@ $<
 
 out/libpazdrig.so: out/libpazdrig.so.$(VERSION)
-	$(Q)ln -sf $(<F) out/$(SONAME)
-	$(Q)ln -sf $(SONAME) $@
+	$(Q)ln -f $< out/$(SONAME)
+	$(Q)ln -f $< $@
 
 out/libpazdrig_pthread.so: $(PRELOAD) lib/preload/shown.map
 	$(call say,LD,$@)
