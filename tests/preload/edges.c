@@ -53,7 +53,7 @@ static void initialised_again(void)
     EQUAL(pass(&m[0]), 0);
 }
 
-/* One that sleeps on a mutex learns that this has become one of the C library's. */
+/* A sleeper learns that its mutex has become one of the C library's. */
 static void initialised_as_another(void)
 {
     make(0);
