@@ -60,11 +60,27 @@ static void initialised_as_another(void)
     pthread_mutex_lock(&m[0]);
     pid_t p = start_child();
     if (!p)
-        _exit(pthread_mutex_lock(&m[0]));
+        _exit(pthread_mutex_lock(&m[0]) == EINVAL && entries() == 0 ? 0 : 1);
     until_it_sleeps(p);
     EQUAL(pthread_mutex_init(&m[0], NULL), 0);
-    EQUAL(status_of(p), EINVAL);
+    EQUAL(status_of(p), 0);
     EQUAL(pthread_mutex_lock(&m[0]) + pthread_mutex_unlock(&m[0]), 0);
+}
+
+/* One that sleeps on a mutex that becomes unusable learns of it. */
+static void unusable(void)
+{
+    pid_t p[2];
+    make(0);
+    in_thread(lock_it, &m[0]);
+    EQUAL(pthread_mutex_lock(&m[0]), EOWNERDEAD);
+    for (int i = 0; i < 2; i++) {
+        if (!(p[i] = start_child()))
+            _exit(pthread_mutex_lock(&m[0]) == ENOTRECOVERABLE && entries() == 0 ? 0 : 1);
+        until_it_sleeps(p[i]);
+    }
+    EQUAL(pthread_mutex_unlock(&m[0]), 0);
+    EQUAL(status_of(p[0]) + status_of(p[1]), 0);
 }
 
 /* Mutexes that have become unusable, or were initialised again by their owner, don't count among those that a thread
@@ -359,9 +375,9 @@ static void errno_stays(void)
     pid_t p = start_child();
     if (!p) {
         errno = 12345;
-        int a = pthread_mutex_timedlock(&m[0], &past), b = pthread_mutex_trylock(&m[0]);
-        int c = pthread_mutex_timedlock(&m[0], &before_1970);
-        _exit(a == ETIMEDOUT && b == EBUSY && c == ETIMEDOUT && errno == 12345 ? 0 : 1);
+        int a = pthread_mutex_timedlock(&m[0], &past), none = entries() == 0;
+        int b = pthread_mutex_trylock(&m[0]), c = (none &= entries() == 0, pthread_mutex_timedlock(&m[0], &before_1970));
+        _exit(none && a == ETIMEDOUT && b == EBUSY && c == ETIMEDOUT && errno == 12345 ? 0 : 1);
     }
     EQUAL(status_of(p), 0);
     pthread_mutex_unlock(&m[0]);
@@ -380,6 +396,7 @@ int main(int argc, char **argv)
     *strrchr(directory, '/') = 0;
     initialised_again();
     initialised_as_another();
+    unusable();
     forgotten();
     locked_again();
     destroyed();

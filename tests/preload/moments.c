@@ -203,6 +203,30 @@ static int use_again_after(int which, int more, unsigned char pattern)
     return !ended;
 }
 
+/* The thread that an unlock trusts is gone when the unlock has released the cell: then the unlock wakes a sleeper. One
+ * that sleeps isn't the heir any more. */
+static void a_trusted_thread_goes(void)
+{
+    int status;
+    start_over();
+    pid_t p = an_unlocker(), sleeper = a_sleeper();
+    EQUAL(bell_of(&s->m), 0);
+    if (!is_plain(&s->m)) {
+        prepare(ONE_COMES, 0);
+        ((volatile uint32_t *)&s->m)[3] += 9000; /* us: trusted for longer */
+    }
+    for (int n = 0; n < 5000 && owner_of(&s->m) == p; n++) {
+        ptrace(PTRACE_SINGLESTEP, p, 0, 0);
+        waitpid(p, &status, 0);
+    }
+    ((volatile uint32_t *)&s->m)[2] = 0;
+    ptrace(PTRACE_CONT, p, 0, 0);
+    waitpid(p, &status, 0);
+    CHECK(until(&s->had, 1));
+    kill_child(p);
+    kill_child(sleeper);
+}
+
 static void memory_is_used_again(int each)
 {
     static const unsigned char patterns[] = {0, 1, 0xff};
@@ -213,6 +237,37 @@ static void memory_is_used_again(int each)
                  more += each)
                 ;
         }
+}
+
+/* An unlock that woke nobody takes WAITERS from its own turn of the cell only: not after the mutex was taken and freed,
+ * or was made again, taken and freed. Here as if another thread slept since then. */
+static int take_turns_after(int more, int again)
+{
+    int status;
+    start_over();
+    pid_t p = an_unlocker();
+    prepare(NOBODY_SLEEPS, 0);
+    for (int left = more; left >= 0 && !atomic_load(&s->done);) {
+        ptrace(PTRACE_SINGLESTEP, p, 0, 0);
+        waitpid(p, &status, 0);
+        left -= owner_of(&s->m) != p;
+    }
+    int ended = atomic_load(&s->done);
+    if (again)
+        init_robust(&s->m, PTHREAD_MUTEX_NORMAL);
+    pass(&s->m);
+    *(volatile uint64_t *)&s->m |= 1ull << 31 | (is_plain(&s->m) ? 0 : 1ull << 33); /* WAITERS, OWED */
+    ptrace(PTRACE_CONT, p, 0, 0);
+    waitpid(p, &status, 0);
+    check_that(cell_of(&s->m) >> 31 & 1, __FILE__, __LINE__, "%d instructions after: WAITERS is gone", more);
+    kill_child(p);
+    return !ended;
+}
+static void turns_are_told_apart(int each)
+{
+    for (int again = 0; again < 2; again++)
+        for (int more = 0; more < 5000 && take_turns_after(more, again); more += each)
+            ;
 }
 
 /* ---- A handler uses another robust mutex during a wait. */
@@ -262,6 +317,8 @@ int main(int argc, char **argv)
     a_handler_comes();
     an_heir_is_stopped();
     a_woken_thread_is_stopped();
+    a_trusted_thread_goes();
     memory_is_used_again(argc > 1 ? atoi(argv[1]) : 1);
+    turns_are_told_apart(argc > 1 ? atoi(argv[1]) : 1);
     return end_checks();
 }
