@@ -13,8 +13,7 @@ struct caller {
     uint32_t owned;    /* how many mutexes it owns */
     uint32_t pause;    /* how long waiting awake pays, in ns */
     uint32_t waits;    /* how often it waited awake */
-    uint16_t spares;   /* how often it left a wake to an heir */
-    uint16_t was_heir; /* whether it last took a mutex as the heir */
+    uint32_t was_heir; /* whether it last took a mutex as the heir */
 };
 
 /* NEW_THREAD differs from the word of `pz_life` in every state: before the first call of a process (NO_LIFE), in a

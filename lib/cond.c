@@ -25,7 +25,7 @@ static void release(pz_cond *c, pz_mutex *m, struct caller *s, uint64_t seen, ui
         store_release(mutex_distance(c), distance(c, m));
         store_release(counter(c), count | SLEPT);
     }
-    int is_announced = (seen & WAITERS) && pz_announce_wake(m, s);
+    int is_announced = (seen & WAITERS) && announce_wake(m, s);
     uint64_t left = fetch_sub(cell(m), s->tid) - s->tid;
     if ((left & WAITERS) && !pz_hand_on(m, is_announced) && is_announced)
         pz_unannounce_wake(m);

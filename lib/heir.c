@@ -17,22 +17,20 @@ enum { LONGEST = 20000, SHORTEST = 2000, FIRST_LOOK = 500, LAST_LOOK = 10000 };
  * to the thread that takes it again and again until the heir is due. If others took it that often since the first look,
  * the heir also waits for as long as that. It sleeps through one interval, NAP and what Linux adds to it, by default
  * 50 us, unless a round takes less than SHORT_ROUND: then it would lose more than the others gain. */
-enum { HOT = 3, VERY_HOT = 12, HOT_LONGEST = 150000, HOT_LOOK = 5000, NAP = 25000, SHORT_ROUND = 1000 };
+enum { HOT = 3, HOT_LONGEST = 150000, HOT_LOOK = 12000, NAP = 25000, SHORT_ROUND = 1000 };
 /* When an heir is due, and how long others give way to it; how long a woken thread is waited for; after how long
- * without a wake a sleeper gets one in spite of an heir, which is asked at each TRY_ALL-th unlock. */
-enum { FAIR = 100000, WAY = 20000, COMING = 20000, LATE = 150000, LATE_BUSY = 600000, TRY_ALL = 16 };
+ * without a wake a sleeper gets one in spite of an heir, from a thread that got the mutex as the heir. */
+enum { FAIR = 100000, WAY = 20000, COMING = 20000, LATE = 1000000 };
+/* Each TRY_ALL-th wait is of full length. */
+enum { TRY_ALL = 16 };
 /* How often a thread looks again at a slot that is about to change hands. */
 enum { MOST_LOOKS = 60, MOST_LOOKS_INSIDE = 40 };
 /* How often an heir looks at the cell, and how often it relaxes between two looks, if a clock stands still. */
 enum { MOST_LOOKS_AWAKE = 1000, MOST_PAUSES = 2000 };
 
-/* A flag of the slot. Above it is when the slot's owner last said that it is awake. */
-#define AWAKE (1ull << 32)
-#define SINCE (1ull << 33)
-
-/* Flags of the hints. Above them is a time in us: when a sleeper was last woken. */
-#define COMES 2ull /* an unlock has woken a sleeper, which is on its way */
-#define BUSY  4ull /* the mutex changes hands so often that a woken sleeper would only be in the way */
+/* Another flag of the hints: an unlock has woken a sleeper, which is on its way. Above the flags is a time in us: when a
+ * sleeper was last woken. */
+#define COMES 2ull
 
 /* ---- The heir's clock. An unlock leaves its wake only to an heir that said less than ALIVE ago that it is awake: a
  * stopped one would keep the mutex from all sleepers. A wrong clock costs a wake, and nothing else. */
@@ -45,7 +43,6 @@ static inline void say_awake(pz_mutex *m, const struct caller *s)
     exchange(slot(m), ticks() * SINCE | AWAKE | s->tid);
 }
 
-static inline int is_heir(uint64_t slot) { return (slot & AWAKE) && (slot & OWNER) && !(slot & OWNER_DIED); }
 static inline int answers(uint64_t slot)
 {
     return is_heir(slot) && (ticks() + ALIVE) * SINCE - (slot & ~(SINCE - 1)) < 2 * ALIVE * SINCE;
@@ -157,12 +154,8 @@ static void wait_for_look(const struct pace *p)
 }
 
 /* Others took the mutex `turns` times since the last look, and `all` times in the `ns` since the first one. */
-static void set_pace(pz_mutex *m, struct pace *p, uint64_t turns, uint64_t all, uint64_t ns)
+static void set_pace(struct pace *p, uint64_t turns, uint64_t all, uint64_t ns)
 {
-    if (turns > VERY_HOT)
-        set_hint(m, BUSY);
-    else
-        clear_hint(m, BUSY);
     if (all > HOT && !p->is_due)
         p->most = HOT_LONGEST;
     p->step = turns > HOT ? HOT_LOOK : 2 * p->step < LAST_LOOK ? 2 * p->step : LAST_LOOK;
@@ -190,7 +183,7 @@ static int watch(pz_mutex *m, struct caller *s, uint64_t *seen, const struct dea
             s->pause = longer(s->pause);
             return 1;
         }
-        set_pace(m, &pace, turns, *seen / TURN - at_first / TURN, now - first);
+        set_pace(&pace, turns, *seen / TURN - at_first / TURN, now - first);
         if (!pace.is_due && now - began >= FAIR) {
             pace.is_due = 1;
             pace.most = pace.most > now - first + WAY ? pace.most : now - first + WAY;
@@ -356,12 +349,10 @@ static int find_heir(pz_mutex *m, struct caller *s)
 __attribute__((noinline)) int pz_announce_wake(pz_mutex *m, struct caller *s)
 {
     int has_heir = find_heir(m, s);
-    if (has_heir && ++s->spares % TRY_ALL)
-        return 0;
     uint64_t hints = load_acquire(hint(m));
-    if (has_heir && !is_older(hints, hints & BUSY ? LATE_BUSY : LATE))
+    if (has_heir && !is_older(hints, LATE))
         return 0;
-    store_release(hint(m), (has_heir ? hints & (DUE | BUSY) : 0) | COMES | hint_time(now_ns()));
+    store_release(hint(m), (has_heir ? hints & DUE : 0) | COMES | hint_time(now_ns()));
     return 1;
 }
 

@@ -95,7 +95,7 @@ int pz_mutex_unlock(pz_mutex *m)
     set_pending(s, cell_entry(m));
     if (UNLIKELY(!take_off(s, m)))
         return reply_with(s, EPERM);
-    int is_announced = UNLIKELY(seen & WAITERS) && pz_announce_wake(m, s);
+    int is_announced = UNLIKELY(seen & WAITERS) && announce_wake(m, s);
     uint64_t left = fetch_sub(cell(m), s->tid) - s->tid;
     if (UNLIKELY(left & WAITERS) && !pz_hand_on(m, is_announced))
         trim(m, left);

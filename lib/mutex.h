@@ -18,6 +18,10 @@
 /* A flag of the hints: an heir has waited long, and the thread that frees the mutex gives way to it. */
 #define DUE 1ull
 
+/* A flag of the slot: its owner is the *heir*. Above it is when the heir last said that it is awake. */
+#define AWAKE (1ull << 32)
+#define SINCE (1ull << 33)
+
 #define HIDDEN __attribute__((visibility("hidden")))
 
 static inline pz_word *cell(const pz_mutex *m) { return (pz_word *)&m->words[0]; }
@@ -30,6 +34,7 @@ static inline int is_aligned(const pz_mutex *m) { return (uintptr_t)m % sizeof *
 static inline int is_free(uint64_t cell) { return !(cell & (OWNER | UNUSABLE)); }
 static inline int is_own(uint64_t cell, const struct caller *s) { return (cell & OWNER) == s->tid; }
 static inline uint64_t taken(uint64_t cell, const struct caller *s) { return (cell + TURN) | s->tid; }
+static inline int is_heir(uint64_t slot) { return (slot & AWAKE) && (slot & OWNER) && !(slot & OWNER_DIED); }
 
 /* Ends a call. */
 static inline int reply_with(struct caller *s, int reply)
@@ -74,6 +79,10 @@ void pz_give_way(pz_mutex *, struct caller *) HIDDEN;
 /* Before the release of a cell with WAITERS. Returns 1 if the caller is to wake a sleeper whether there is an heir or
  * not; that one is announced in the hints. */
 int pz_announce_wake(pz_mutex *, struct caller *) HIDDEN;
+static inline int announce_wake(pz_mutex *m, struct caller *s)
+{
+    return (s->was_heir || !is_heir(load_acquire(slot(m)))) && pz_announce_wake(m, s);
+}
 /* Takes that announcement back, for a caller that is a user of the mutex still. */
 void pz_unannounce_wake(pz_mutex *) HIDDEN;
 
