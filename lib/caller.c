@@ -52,7 +52,8 @@ __attribute__((cold)) struct caller *pz_ask(void)
         uint64_t tid = (uint64_t)syscall(SYS_gettid), none = 0, life = (now_ns() ^ tid << 40) + NO_LIFE + 1;
         if (!compare_exchange(page, &none, life))
             life = none;
-        *s = (struct caller){.life = life, .tid = tid, .list = head, .pause = FIRST_PAUSE};
+        *s = (struct caller){
+            .life = life, .tid = tid, .list = head, .pause = FIRST_PAUSE, .lane = (uint32_t)tid};
     }
     errno = saved;
     return head ? s : NULL;

@@ -14,6 +14,8 @@ struct caller {
     uint32_t pause;    /* how long waiting awake pays, in ns */
     uint32_t waits;    /* how often it waited awake */
     uint32_t was_heir; /* whether it last took a mutex as the heir */
+    uint32_t rwlocks;  /* how many reader-writer locks it has */
+    uint32_t lane;     /* which lane of a reader-writer lock it tries first */
 };
 
 /* NEW_THREAD differs from the word of `pz_life` in every state: before the first call of a process (NO_LIFE), in a

@@ -45,28 +45,13 @@ int pz_mutex_timedlock(pz_mutex *m, const struct timespec *until)
 int pz_mutex_trylock(pz_mutex *m)
 {
     struct caller *s = caller();
-    if (UNLIKELY(!s))
-        return ENOTSUP;
-    if (UNLIKELY(s->owned >= PZ_MOST_OWNED || !is_aligned(m)))
-        return is_aligned(m) ? EAGAIN : EINVAL;
-    uint64_t seen = load_acquire(cell(m));
-    if (is_free(seen)) {
-        set_pending(s, cell_entry(m));
-        do
-            if (LIKELY(compare_exchange(cell(m), &seen, taken(seen, s))))
-                return acquired(s, m, seen);
-        while (is_free(seen));
-        set_pending(s, NULL);
-    }
-    return seen & UNUSABLE ? ENOTRECOVERABLE : EBUSY;
+    return LIKELY(s) ? try_lock(m, s) : ENOTSUP;
 }
 
-/* ---- Unlock. The next owner may be the last user of the mutex, and free its memory as soon as the cell is released.
- * So hints are stored before that, and after it only the trim stores, which does nothing if the mutex was taken since.
- */
+/* ---- Unlock. */
 
 /* The owner hasn't declared the mutex consistent. */
-static __attribute__((noinline, cold)) int make_unusable(pz_mutex *m, struct caller *s)
+__attribute__((noinline, cold)) int pz_make_unusable(pz_mutex *m, struct caller *s)
 {
     set_pending(s, cell_entry(m));
     if (!take_off(s, m))
@@ -76,30 +61,10 @@ static __attribute__((noinline, cold)) int make_unusable(pz_mutex *m, struct cal
     return reply_with(s, 0);
 }
 
-/* The release left `left`, and its wake woke nobody. Clears WAITERS if nobody has taken the mutex since: nobody starts
- * to sleep on a cell without an owner, and a broadcast moves sleepers to an owned one, so nobody sleeps there now. */
-static void trim(pz_mutex *m, uint64_t left) { compare_exchange(cell(m), &left, left & ~WAITERS); }
-
 int pz_mutex_unlock(pz_mutex *m)
 {
     struct caller *s = caller();
-    if (UNLIKELY(!s))
-        return ENOTSUP;
-    uint64_t seen = load_relaxed(cell(m));
-    if (UNLIKELY(!is_own(seen, s)))
-        return EPERM;
-    if (UNLIKELY(seen & OWNER_DIED))
-        return make_unusable(m, s);
-    if (UNLIKELY(load_relaxed(hint(m)) & DUE))
-        s->owes = m;
-    set_pending(s, cell_entry(m));
-    if (UNLIKELY(!take_off(s, m)))
-        return reply_with(s, EPERM);
-    int is_announced = UNLIKELY(seen & WAITERS) && announce_wake(m, s);
-    uint64_t left = fetch_sub(cell(m), s->tid) - s->tid;
-    if (UNLIKELY(left & WAITERS) && !pz_hand_on(m, is_announced))
-        trim(m, left);
-    return reply_with(s, 0);
+    return LIKELY(s) ? unlock(m, s) : ENOTSUP;
 }
 
 /* ---- What an owner's death leaves. */

@@ -1,4 +1,4 @@
-/* A mutex's eight words, and what mutex.c, heir.c and cond.c share.
+/* A mutex's eight words, and what mutex.c, heir.c, cond.c and rwlock.c share.
  *
  *   0     cell: owner's TID, OWNER_DIED, WAITERS; UNUSABLE; the turn (cell.h)
  *   1     hints: who is due, who comes, and since when. No promise depends on them
@@ -89,4 +89,50 @@ void pz_unannounce_wake(pz_mutex *) HIDDEN;
 /* After a release that left WAITERS. Returns 0 if nobody was woken, and neither an heir nor an owner answers for the
  * mutex. */
 int pz_hand_on(pz_mutex *, int is_announced) HIDDEN;
+
+/* ---- Calls, without the question who calls. */
+
+static inline __attribute__((always_inline)) int try_lock(pz_mutex *m, struct caller *s)
+{
+    if (UNLIKELY(s->owned >= PZ_MOST_OWNED || !is_aligned(m)))
+        return is_aligned(m) ? EAGAIN : EINVAL;
+    uint64_t seen = load_acquire(cell(m));
+    if (is_free(seen)) {
+        set_pending(s, cell_entry(m));
+        do
+            if (LIKELY(compare_exchange(cell(m), &seen, taken(seen, s))))
+                return acquired(s, m, seen);
+        while (is_free(seen));
+        set_pending(s, NULL);
+    }
+    return seen & UNUSABLE ? ENOTRECOVERABLE : EBUSY;
+}
+
+/* mutex.c: frees a mutex that its owner hasn't declared consistent. */
+int pz_make_unusable(pz_mutex *, struct caller *) HIDDEN;
+
+/* The release left `left`, and its wake woke nobody. Clears WAITERS if nobody has taken the mutex since: nobody starts
+ * to sleep on a cell without an owner, and a broadcast moves sleepers to an owned one, so nobody sleeps there now. */
+static inline void trim(pz_mutex *m, uint64_t left) { compare_exchange(cell(m), &left, left & ~WAITERS); }
+
+/* The next owner may be the last user of the mutex, and free its memory as soon as the cell is released. So hints are
+ * stored before that, and after it only the trim stores, which does nothing if the mutex was taken since. */
+static inline __attribute__((always_inline)) int unlock(pz_mutex *m, struct caller *s)
+{
+    uint64_t seen = load_relaxed(cell(m));
+    if (UNLIKELY(!is_own(seen, s)))
+        return EPERM;
+    if (UNLIKELY(seen & OWNER_DIED))
+        return pz_make_unusable(m, s);
+    if (UNLIKELY(load_relaxed(hint(m)) & DUE))
+        s->owes = m;
+    set_pending(s, cell_entry(m));
+    if (UNLIKELY(!take_off(s, m)))
+        return reply_with(s, EPERM);
+    int is_announced = UNLIKELY(seen & WAITERS) && announce_wake(m, s);
+    uint64_t left = fetch_sub(cell(m), s->tid) - s->tid;
+    if (UNLIKELY(left & WAITERS) && !pz_hand_on(m, is_announced))
+        trim(m, left);
+    return reply_with(s, 0);
+}
 #endif

@@ -1,4 +1,4 @@
-/* Robust, error-checking mutexes and condition variables in memory that processes share.
+/* Robust, error-checking mutexes, condition variables and reader-writer locks in memory that processes share.
  *
  * A pz_mutex is 64 bytes and a pz_cond 16; zeros are ready to use. A thread may die at any instruction, also by
  * SIGKILL: the kernel then hands the mutexes that it owned to the threads that lock them next, and these get
@@ -56,6 +56,37 @@ int pz_cond_timedwait(pz_cond *, pz_mutex *, const struct timespec *until); /* a
 int pz_cond_clockwait(pz_cond *, pz_mutex *, clockid_t, const struct timespec *until);
 int pz_cond_signal(pz_cond *, pz_mutex *);    /* EPERM, EINVAL: threads wait with another mutex */
 int pz_cond_broadcast(pz_cond *, pz_mutex *); /* the same */
+
+/* A reader-writer lock with a number of lanes, each a mutex. A reader owns one of them and a writer all, so at most that
+ * many readers are inside at a time. It has PZ_RWLOCK_SIZE(lanes) bytes, at a multiple of 64: zeros, and
+ * pz_rwlock_init. PZ_RWLOCK(8) is a type of that size, and its member `rw` the lock. */
+typedef struct {
+    pz_mutex gate;
+    PZ_ALIGNED(64) uint64_t words[8];
+} pz_rwlock;
+#define PZ_MOST_LANES         256
+#define PZ_RWLOCK_SIZE(lanes) (sizeof(pz_rwlock) + (lanes) * sizeof(pz_mutex))
+#define PZ_RWLOCK(lanes)            \
+    union {                         \
+        pz_rwlock rw;               \
+        pz_mutex parts[2 + (lanes)]; \
+    }
+
+/* EOWNERDEAD means that the caller has the lock as a writer, whichever lock it asked for, and that a writer died inside:
+ * repair the data, then call pz_rwlock_consistent. A lock that is unlocked without that call is unusable. The death of
+ * a reader isn't reported. */
+int pz_rwlock_init(pz_rwlock *, unsigned lanes); /* EINVAL: it has another number of lanes */
+int pz_rwlock_rdlock(pz_rwlock *);               /* EOWNERDEAD, ENOTRECOVERABLE, EDEADLK, EAGAIN, EINVAL */
+int pz_rwlock_tryrdlock(pz_rwlock *);            /* EOWNERDEAD, ENOTRECOVERABLE, EBUSY, EAGAIN, EINVAL */
+int pz_rwlock_timedrdlock(pz_rwlock *, const struct timespec *until); /* as rdlock, and ETIMEDOUT; by CLOCK_REALTIME */
+int pz_rwlock_clockrdlock(pz_rwlock *, clockid_t, const struct timespec *until);
+int pz_rwlock_wrlock(pz_rwlock *);    /* as rdlock */
+int pz_rwlock_trywrlock(pz_rwlock *); /* as tryrdlock */
+int pz_rwlock_timedwrlock(pz_rwlock *, const struct timespec *until);
+int pz_rwlock_clockwrlock(pz_rwlock *, clockid_t, const struct timespec *until);
+int pz_rwlock_unlock(pz_rwlock *);     /* a reader's or a writer's; EPERM, EINVAL */
+int pz_rwlock_consistent(pz_rwlock *); /* EPERM, EINVAL: no writer has died */
+int pz_rwlock_reinit(pz_rwlock *);     /* makes an unusable lock free; EBUSY: somebody has it */
 
 /* A file of mutexes, condition variables and data, for programs that want the library to create and open one. */
 typedef struct pz_file pz_file;
