@@ -1,4 +1,4 @@
-/* Files of mutexes, condition variables and data. */
+/* Files of mutexes, condition variables, reader-writer locks and data. */
 #include "file.h"
 #include "caller.h"
 #include "cell.h"
@@ -15,7 +15,7 @@
  * until the file is whole; if it is killed, the next process creates the file again. */
 #define LETTERS  0x676972647a6170ull /* "pazdrig" */
 #define CREATING (LETTERS | (uint64_t)'0' << 56)
-#define WHOLE    (LETTERS | (uint64_t)'4' << 56)
+#define WHOLE    (LETTERS | (uint64_t)'5' << 56)
 
 struct pz_file {
     char *mapped;
@@ -31,15 +31,23 @@ struct asked {
 
 static size_t round_up(size_t n, size_t to) { return (n + to - 1) / to * to; }
 
-/* Returns 0, or EINVAL: a file can't be that large. */
+/* Returns 0, or EINVAL: a file can't be that large, or its locks can't have that many lanes. */
 static int lay_out(const struct pz_layout *l, struct pz_parts *p)
 {
-    p->conds = PZ_MUTEXES_AT + (size_t)l->mutexes * sizeof(pz_mutex);
+    if (l->rwlocks && (l->lanes == 0 || l->lanes > PZ_MOST_LANES))
+        return EINVAL;
+    p->rwlocks = PZ_MUTEXES_AT + (size_t)l->mutexes * sizeof(pz_mutex);
+    p->conds = p->rwlocks + (size_t)l->rwlocks * PZ_RWLOCK_SIZE((size_t)l->lanes);
     p->data = round_up(p->conds + (size_t)l->conds * sizeof(pz_cond), 64);
     if (l->data > (size_t)PTRDIFF_MAX - p->data)
         return EINVAL;
     p->size = p->data + l->data;
     return 0;
+}
+
+static pz_rwlock *rwlock_at(char *mapped, const struct pz_parts *p, const struct pz_layout *l, unsigned number)
+{
+    return (pz_rwlock *)(mapped + p->rwlocks + number * PZ_RWLOCK_SIZE((size_t)l->lanes));
 }
 
 /* ---- What is there. */
@@ -55,6 +63,8 @@ static int compare(const struct pz_header *h, const struct asked *a, off_t size)
     if (h->version != a->layout->version)
         return ESTALE;
     if (h->mutexes != a->layout->mutexes || h->conds != a->layout->conds || h->data != a->layout->data)
+        return EEXIST;
+    if (h->rwlocks != a->layout->rwlocks || (h->rwlocks && h->lanes != a->layout->lanes))
         return EEXIST;
     return (size_t)size == a->parts.size ? 0 : EMEDIUMTYPE;
 }
@@ -114,7 +124,11 @@ static int create(struct pz_opening *o, const struct asked *a, const struct pz_s
     h->mutexes = a->layout->mutexes;
     h->conds = a->layout->conds;
     h->data = a->layout->data;
+    h->rwlocks = a->layout->rwlocks;
+    h->lanes = a->layout->lanes;
     h->system = *s;
+    for (unsigned i = 0; i < a->layout->rwlocks; i++)
+        pz_rwlock_init(rwlock_at(o->mapped, &a->parts, a->layout, i), a->layout->lanes);
     store_release(&h->magic, WHOLE);
     return 0;
 }
@@ -130,8 +144,7 @@ static int take_over(struct pz_opening *o, const struct asked *a, const struct p
     int error = pz_map(o, a->parts.size);
     if (error)
         return error;
-    pz_mark_all_dead((pz_mutex *)(o->mapped + PZ_MUTEXES_AT), a->layout->mutexes,
-                     (pz_cond *)(o->mapped + a->parts.conds), a->layout->conds);
+    pz_mark_all_dead(o->mapped, &a->parts, a->layout);
     fence();
     ((struct pz_header *)o->mapped)->system = *s;
     return 0;
@@ -234,6 +247,11 @@ pz_mutex *pz_mutex_at(pz_file *f, unsigned number)
 pz_cond *pz_cond_at(pz_file *f, unsigned number)
 {
     return number < f->layout.conds ? (pz_cond *)(f->mapped + f->parts.conds) + number : NULL;
+}
+
+pz_rwlock *pz_rwlock_at(pz_file *f, unsigned number)
+{
+    return number < f->layout.rwlocks ? rwlock_at(f->mapped, &f->parts, &f->layout, number) : NULL;
 }
 
 void *pz_data(pz_file *f) { return f->mapped + f->parts.data; }

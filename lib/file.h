@@ -1,4 +1,4 @@
-/* A file of mutexes, condition variables and data: what it begins with, and how a process opens one.
+/* A file of mutexes, condition variables, reader-writer locks and data: what it begins with, and how a process opens one.
  *
  * Two bytes of the file are locked with open file description locks (fcntl(2)). A process that creates the file, or
  * marks what dead owners left, has the first one for itself. The second one says who uses the file: a mapping keeps its
@@ -20,15 +20,15 @@ struct pz_header {
     pz_word magic;
     int32_t futex_offset; /* FUTEX_OFFSET: another C library may have chosen another one */
     uint32_t version;     /* of the program's data */
-    uint64_t mutexes, conds, data;
+    uint64_t mutexes, conds, data, rwlocks, lanes;
     struct pz_system system;
 };
 
-/* Where the parts of a file are, in bytes. The mutexes follow the header. */
+/* Where the parts of a file are, in bytes. The mutexes follow the header, and the reader-writer locks the mutexes. */
 enum { PZ_MUTEXES_AT = 128 };
 _Static_assert(sizeof(struct pz_header) <= PZ_MUTEXES_AT, "the header ends before the mutexes");
 struct pz_parts {
-    size_t conds, data, size;
+    size_t rwlocks, conds, data, size;
 };
 
 /* A file that a thread of this process is about to open. A forked child closes it, because its locks would otherwise
@@ -60,7 +60,7 @@ int pz_set_lock(int fd, enum pz_lock, enum pz_lock_kind, int waits);
 /* Reads which system this is. */
 int pz_this_system(struct pz_system *);
 /* Does what Linux's walk would have done if the system hadn't gone down: every owner is dead, and nobody sleeps. */
-void pz_mark_all_dead(pz_mutex *, unsigned mutexes, pz_cond *, unsigned conds);
+void pz_mark_all_dead(char *mapped, const struct pz_parts *, const struct pz_layout *);
 
 #pragma GCC visibility pop
 #endif

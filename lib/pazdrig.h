@@ -88,16 +88,19 @@ int pz_rwlock_unlock(pz_rwlock *);     /* a reader's or a writer's; EPERM, EINVA
 int pz_rwlock_consistent(pz_rwlock *); /* EPERM, EINVAL: no writer has died */
 int pz_rwlock_reinit(pz_rwlock *);     /* makes an unusable lock free; EBUSY: somebody has it */
 
-/* A file of mutexes, condition variables and data, for programs that want the library to create and open one. */
+/* A file of mutexes, condition variables, reader-writer locks and data, for programs that want the library to create
+ * and open one. */
 typedef struct pz_file pz_file;
 struct pz_layout {
     unsigned mutexes, conds;
     size_t data;      /* bytes of the program's own */
     uint32_t version; /* of what the program keeps there */
+    unsigned rwlocks, lanes; /* each reader-writer lock has that many lanes */
 };
 int pz_open(const char *path, mode_t mode, const struct pz_layout *, pz_file **);
 pz_mutex *pz_mutex_at(pz_file *, unsigned number); /* NULL: there is no such mutex */
 pz_cond *pz_cond_at(pz_file *, unsigned number);
+pz_rwlock *pz_rwlock_at(pz_file *, unsigned number);
 void *pz_data(pz_file *);
 void pz_close(pz_file *);
 

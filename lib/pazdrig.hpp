@@ -240,7 +240,7 @@ class condition
 class file
 {
   public:
-    explicit file(const char *path, pz_layout asked = {1, 0, 0, 0}, mode_t mode = 0600) : layout(asked)
+    explicit file(const char *path, pz_layout asked = {1, 0, 0, 0, 0, 0}, mode_t mode = 0600) : layout(asked)
     {
         check("pz_open", pz_open(path, mode, &asked, &opened));
     }

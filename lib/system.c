@@ -52,10 +52,22 @@ static void mark_dead(pz_mutex *m)
         store_release(words + hints_and_slot, 0);
 }
 
-void pz_mark_all_dead(pz_mutex *m, unsigned mutexes, pz_cond *c, unsigned conds)
+/* A reader-writer lock's gate, and its lanes, which follow its own words. */
+static void mark_all_lanes_dead(pz_rwlock *l, unsigned lanes)
 {
-    for (unsigned i = 0; i < mutexes; i++)
+    mark_dead(&l->gate);
+    for (unsigned i = 0; i < lanes; i++)
+        mark_dead((pz_mutex *)(l + 1) + i);
+}
+
+void pz_mark_all_dead(char *mapped, const struct pz_parts *p, const struct pz_layout *l)
+{
+    pz_mutex *m = (pz_mutex *)(mapped + PZ_MUTEXES_AT);
+    pz_cond *c = (pz_cond *)(mapped + p->conds);
+    for (unsigned i = 0; i < l->mutexes; i++)
         mark_dead(&m[i]);
-    for (unsigned i = 0; i < conds; i++)
+    for (size_t i = 0; i < l->rwlocks; i++)
+        mark_all_lanes_dead((pz_rwlock *)(mapped + p->rwlocks + i * PZ_RWLOCK_SIZE(l->lanes)), l->lanes);
+    for (unsigned i = 0; i < l->conds; i++)
         c[i].words[0] = (uint32_t)c[i].words[0]; /* the counter, without the bit that says that somebody may wait */
 }

@@ -296,7 +296,7 @@ static void a_full_disk(void)
     pz_file *f;
     SAME(open_with("small/f", LAYOUT, &f), ENOSPC);
     SAME(size_of("small/f"), 0);
-    SAME(open_with("small/f", (struct pz_layout){1, 0, 900000, 0}, &f), 0);
+    SAME(open_with("small/f", (struct pz_layout){1, 0, 900000, 0, 0, 0}, &f), 0);
     memset(pz_data(f), 1, 900000);
 }
 

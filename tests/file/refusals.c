@@ -1,7 +1,7 @@
 /* Which files are opened, created and refused, and what an open leaves as it was. */
 #include "cases.h"
 
-static const struct pz_layout TWO = {.mutexes = 2, .conds = 1, .data = 8, .version = 7};
+static const struct pz_layout TWO = {.mutexes = 2, .conds = 1, .data = 8, .version = 7, .rwlocks = 1, .lanes = 3};
 static char before[1 << 16], after[1 << 16];
 
 /* Refused with this error, and left as it is. */
@@ -19,11 +19,16 @@ static void other_numbers(void)
 {
     pz_file *f, *same;
     SAME(open_with("f", TWO, &f), 0);
-    is_refused("f", (struct pz_layout){3, 1, 8, 7}, EEXIST);
-    is_refused("f", (struct pz_layout){2, 2, 8, 7}, EEXIST);
-    is_refused("f", (struct pz_layout){2, 1, 9, 7}, EEXIST);
-    is_refused("f", (struct pz_layout){2, 1, 8, 6}, ESTALE);
-    is_refused("f", (struct pz_layout){9, 1, 9, 8}, ESTALE); /* the data's version explains the rest */
+    is_refused("f", (struct pz_layout){3, 1, 8, 7, 1, 3}, EEXIST);
+    is_refused("f", (struct pz_layout){2, 2, 8, 7, 1, 3}, EEXIST);
+    is_refused("f", (struct pz_layout){2, 1, 9, 7, 1, 3}, EEXIST);
+    is_refused("f", (struct pz_layout){2, 1, 8, 7, 2, 3}, EEXIST);
+    is_refused("f", (struct pz_layout){2, 1, 8, 7, 0, 0}, EEXIST);
+    is_refused("f", (struct pz_layout){2, 1, 8, 7, 1, 4}, EEXIST);
+    is_refused("f", (struct pz_layout){2, 1, 8, 7, 1, 0}, EINVAL);
+    is_refused("f", (struct pz_layout){2, 1, 8, 7, 1, PZ_MOST_LANES + 1}, EINVAL);
+    is_refused("f", (struct pz_layout){2, 1, 8, 6, 1, 3}, ESTALE);
+    is_refused("f", (struct pz_layout){9, 1, 9, 8, 1, 3}, ESTALE); /* the data's version explains the rest */
     SAME(open_with("f", TWO, &same), 0);
     SAME(pz_mutex_lock(pz_mutex_at(same, 0)), 0);
     SAME(pz_mutex_trylock(pz_mutex_at(f, 0)), EBUSY);
@@ -38,8 +43,8 @@ static void other_numbers(void)
 static void too_much_data(void)
 {
     pz_file *f;
-    SAME(open_with("f", (struct pz_layout){2, 1, SIZE_MAX, 7}, &f), EINVAL);
-    SAME(open_with("f", (struct pz_layout){2, 1, PTRDIFF_MAX, 7}, &f), EINVAL);
+    SAME(open_with("f", (struct pz_layout){2, 1, SIZE_MAX, 7, 1, 3}, &f), EINVAL);
+    SAME(open_with("f", (struct pz_layout){2, 1, PTRDIFF_MAX, 7, 1, 3}, &f), EINVAL);
     CHECK(access("f", F_OK) < 0 && errno == ENOENT);
 }
 
@@ -78,8 +83,8 @@ static void other_formats(void)
     SAME(open_with("f", TWO, &f), 0);
     SAME(pz_mutex_lock(pz_mutex_at(f, 1)), 0);
     read_file("f", before, 8);
-    CHECK(!memcmp(before, "pazdrig4", 8));
-    for (const char *digit = "3519/\xff"; *digit; digit++)
+    CHECK(!memcmp(before, "pazdrig5", 8));
+    for (const char *digit = "3419/\xff"; *digit; digit++)
         is_refused_with(7, digit, 1, EPROTO);
     is_refused_with(6, "G", 1, EMEDIUMTYPE);
     const int32_t offset = -28; /* another C library's */
@@ -105,6 +110,10 @@ static void parts_are_apart(pz_file *f, const struct pz_layout *l)
             SAME(pz_cond_signal(c, mutex), 0);
         SAME(pz_mutex_unlock(mutex), 0);
     }
+    for (unsigned n = 0; n < l->rwlocks; n++) {
+        SAME(pz_rwlock_wrlock(pz_rwlock_at(f, n)), 0);
+        SAME(pz_rwlock_unlock(pz_rwlock_at(f, n)), 0);
+    }
     for (size_t i = 0; i < l->data; i++)
         CHECK(own[i] == 0xff);
 }
@@ -113,13 +122,15 @@ static void sizes(void)
 {
     static const struct {
         struct pz_layout layout;
-        off_t size; /* 128, 64 a mutex and 16 a condition variable; the data at the next multiple of 64 */
+        /* 128, 64 a mutex, 128 a reader-writer lock and 64 a lane, 16 a condition variable; the data at the next
+         * multiple of 64 */
+        off_t size;
     } of[] = {
-        {{0, 0, 0, 0}, 128},
-        {{1, 0, 0, 0}, 192},
-        {{1, 1, 1, 0}, 257},
-        {{30, 4, 10000, 0}, 12112},
-        {{100000, 70000, 3, 0}, 128 + 6400000 + 1120000 + 3},
+        {{0, 0, 0, 0, 0, 0}, 128},
+        {{1, 0, 0, 0, 0, 9}, 192},
+        {{1, 1, 1, 0, 1, 8}, 257 + 640},
+        {{30, 4, 10000, 0, 0, 0}, 12112},
+        {{100000, 70000, 3, 0, 200, 2}, 128 + 6400000 + 1120000 + 200 * 256 + 3},
     };
     for (size_t i = 0; i < sizeof of / sizeof of[0]; i++) {
         const struct pz_layout *l = &of[i].layout;
@@ -128,6 +139,7 @@ static void sizes(void)
         SAME(size_of("f"), of[i].size);
         parts_are_apart(f, l);
         CHECK(!pz_mutex_at(f, l->mutexes) && !pz_cond_at(f, l->conds) && !pz_mutex_at(f, -1u));
+        CHECK(!pz_rwlock_at(f, l->rwlocks));
         for (unsigned m = 1; m < l->mutexes; m++)
             CHECK(pz_mutex_at(f, m) == pz_mutex_at(f, m - 1) + 1);
         pz_close(f);

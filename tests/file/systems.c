@@ -4,7 +4,8 @@
 #include "hooks.h"
 #include <sched.h>
 
-static const struct pz_layout LAYOUT = {.mutexes = 4, .conds = 2, .data = 8};
+static const struct pz_layout LAYOUT = {.mutexes = 4, .conds = 2, .data = 8, .rwlocks = 2, .lanes = 2};
+enum { READ, WRITTEN };
 enum { FREE, OWNED, LEFT, LOST };
 
 static void boot(const char *id) { CHECK(setenv("PZ_BOOT", id, 1) == 0); }
@@ -38,7 +39,12 @@ static pid_t start(const char *path, void (*does)(pz_file *))
     return child;
 }
 static void does_nothing(pz_file *f) { (void)f; }
-static void owns(pz_file *f) { SAME(pz_mutex_lock(mutex(f, OWNED)), 0); }
+static void owns(pz_file *f)
+{
+    SAME(pz_mutex_lock(mutex(f, OWNED)), 0);
+    SAME(pz_rwlock_rdlock(pz_rwlock_at(f, READ)), 0);
+    SAME(pz_rwlock_wrlock(pz_rwlock_at(f, WRITTEN)), 0);
+}
 static void dies_owning(pz_file *f)
 {
     for (unsigned m = LEFT; m <= LOST; m++)
@@ -95,6 +101,8 @@ static void a_reboot(void)
     SAME(pz_mutex_trylock(mutex(f, OWNED)), EOWNERDEAD);
     SAME(pz_mutex_trylock(mutex(f, LEFT)), EOWNERDEAD);
     SAME(pz_mutex_trylock(mutex(f, LOST)), ENOTRECOVERABLE);
+    SAME(pz_rwlock_trywrlock(pz_rwlock_at(f, READ)), 0);
+    SAME(pz_rwlock_tryrdlock(pz_rwlock_at(f, WRITTEN)), EOWNERDEAD);
     SAME(pz_cond_signal(pz_cond_at(f, 0), mutex(f, OWNED)), 0); /* nobody waits there with another mutex */
     pz_close(opened("f"));                                      /* the next to open it leaves owners alone */
     SAME(pz_mutex_trylock(mutex(f, FREE)), EBUSY);
