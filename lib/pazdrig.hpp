@@ -1,8 +1,8 @@
 /* pazdrig.h for C++17: a mutex that std::lock_guard, std::scoped_lock and std::unique_lock take, also with deadlines, a
- * condition variable, and a file of them.
+ * condition variable, a reader-writer lock that std::shared_lock takes, too, and a file of them.
  *
- * pazdrig::mutex and pazdrig::condition are handles. The pz_mutex and the pz_cond themselves are in memory that
- * processes share, for example in a struct of the program's own, and have no constructor.
+ * pazdrig::mutex, pazdrig::condition and pazdrig::shared_mutex are handles. The pz_mutex, the pz_cond and the pz_rwlock
+ * themselves are in memory that processes share, for example in a struct of the program's own, and have no constructor.
  *
  * A mutex handle is created with a function that repairs what the mutex guards, so no thread gets to see data that a
  * dead owner left: a lock or a wait that gets EOWNERDEAD calls it, and declares the mutex consistent, before it
@@ -98,6 +98,7 @@ class mutex
 
   private:
     friend class condition;
+    friend class shared_mutex;
 
     /* Takes a time in the past as now, and a time more than 250 years away as that, so that sums with a clock's time
      * don't overflow. Rounds up, so that no deadline comes early. */
@@ -235,7 +236,114 @@ class condition
     mutex &of;
 };
 
-/* An open file of mutexes, condition variables and data. It is closed at the end of its life, after all handles of its
+/* A reader-writer lock. A reader that finds that a writer died repairs as a writer, and then becomes a reader. */
+class shared_mutex
+{
+  public:
+    shared_mutex(pz_rwlock &l, std::function<void()> repairs) : own(&l), repair(std::move(repairs)) {}
+    shared_mutex(const shared_mutex &) = delete;
+    shared_mutex &operator=(const shared_mutex &) = delete;
+
+    void lock()
+    {
+        is_locked("pz_rwlock_wrlock", NEVER, WRITES, [&] { return pz_rwlock_wrlock(own); });
+    }
+    void lock_shared()
+    {
+        is_locked("pz_rwlock_rdlock", NEVER, READS, [&] { return pz_rwlock_rdlock(own); });
+    }
+    /* These return false if other threads have the lock. */
+    bool try_lock()
+    {
+        return is_locked("pz_rwlock_trywrlock", EBUSY, WRITES, [&] { return pz_rwlock_trywrlock(own); });
+    }
+    bool try_lock_shared()
+    {
+        return is_locked("pz_rwlock_tryrdlock", EBUSY, READS, [&] { return pz_rwlock_tryrdlock(own); });
+    }
+    /* These return false if the time has come, and other threads have the lock. */
+    template <class Rep, class Period> bool try_lock_for(const std::chrono::duration<Rep, Period> &time)
+    {
+        return try_lock_until(std::chrono::steady_clock::now() + mutex::in_range(time));
+    }
+    template <class Rep, class Period> bool try_lock_shared_for(const std::chrono::duration<Rep, Period> &time)
+    {
+        return try_lock_shared_until(std::chrono::steady_clock::now() + mutex::in_range(time));
+    }
+    template <class Clock, class Duration> bool try_lock_until(const std::chrono::time_point<Clock, Duration> &time)
+    {
+        return is_locked_until(time, "pz_rwlock_clockwrlock", WRITES, pz_rwlock_clockwrlock);
+    }
+    template <class Clock, class Duration>
+    bool try_lock_shared_until(const std::chrono::time_point<Clock, Duration> &time)
+    {
+        return is_locked_until(time, "pz_rwlock_clockrdlock", READS, pz_rwlock_clockrdlock);
+    }
+    void unlock() { check("pz_rwlock_unlock", pz_rwlock_unlock(own)); }
+    void unlock_shared() { unlock(); }
+    /* Makes an unusable lock free. The caller has rebuilt what the lock guards. */
+    void reinit() { check("pz_rwlock_reinit", pz_rwlock_reinit(own)); }
+    pz_rwlock *native_handle() const noexcept { return own; }
+
+  private:
+    enum purpose { READS, WRITES };
+    static constexpr int NEVER = -1; /* no call returns this */
+    using clocklock = int(pz_rwlock *, clockid_t, const timespec *);
+
+    /* Returns false if the call returned `otherwise`. */
+    template <class Call> bool is_locked(const char *name, int otherwise, purpose what, Call call)
+    {
+        for (;;) {
+            int number = call();
+            if (number == otherwise)
+                return false;
+            if (number != EOWNERDEAD) {
+                check(name, number);
+                return true;
+            }
+            recover();
+            if (what == WRITES)
+                return true;
+            unlock();
+        }
+    }
+    void recover()
+    {
+        try {
+            repair();
+        } catch (...) {
+            pz_rwlock_unlock(own);
+            throw;
+        }
+        check("pz_rwlock_consistent", pz_rwlock_consistent(own));
+    }
+    bool is_locked_by(clockid_t clock, std::chrono::nanoseconds time, const char *name, purpose what, clocklock *call)
+    {
+        timespec until = mutex::timespec_of(time);
+        return is_locked(name, ETIMEDOUT, what, [&] { return call(own, clock, &until); });
+    }
+    template <class Clock, class Duration>
+    bool is_locked_until(const std::chrono::time_point<Clock, Duration> &time, const char *name, purpose what,
+                         clocklock *call)
+    {
+        if constexpr (std::is_same_v<Clock, std::chrono::steady_clock>)
+            return is_locked_by(CLOCK_MONOTONIC, mutex::in_range(time.time_since_epoch()), name, what, call);
+        if constexpr (std::is_same_v<Clock, std::chrono::system_clock>)
+            return is_locked_by(CLOCK_REALTIME, mutex::in_range(time.time_since_epoch()), name, what, call);
+        for (;;) { /* the program's own clock may run at another rate: asks it again after each attempt */
+            auto left = mutex::in_range(time - Clock::now());
+            if (is_locked_until(std::chrono::steady_clock::now() + left, name, what, call))
+                return true;
+            if (Clock::now() >= time)
+                return false;
+        }
+    }
+
+    pz_rwlock *own;
+    std::function<void()> repair;
+};
+
+/* An open file of mutexes, condition variables, reader-writer locks and data. It is closed at the end of its life, after all handles of its
  * parts. */
 class file
 {
@@ -259,6 +367,7 @@ class file
 
     pz_mutex &mutex_at(unsigned number) const { return part(pz_mutex_at(opened, number)); }
     pz_cond &cond_at(unsigned number) const { return part(pz_cond_at(opened, number)); }
+    pz_rwlock &rwlock_at(unsigned number) const { return part(pz_rwlock_at(opened, number)); }
     void *data() const noexcept { return pz_data(opened); }
     pz_file *native_handle() const noexcept { return opened; }
 

@@ -109,14 +109,136 @@ static const struct {
      "condition variable isn't at a multiple of 16; nothing was done"},
     {"pz_cond_broadcast", ENOTSUP, "the kernel or the C library lacks something that the library needs; nothing was "
      "done"},
+    {"pz_rwlock_init", 0, "the lock has that number of lanes"},
+    {"pz_rwlock_init", EINVAL, "it has another number of lanes; or the number isn't 1 to 256 (PZ_MOST_LANES), or the "
+     "lock isn't at a multiple of 64"},
+    {"pz_rwlock_init", ENOTSUP, "the kernel or the C library lacks something that the library needs; nothing was done"},
+    {"pz_rwlock_rdlock", 0, "the caller has the lock, as a reader or as a writer"},
+    {"pz_rwlock_rdlock", EOWNERDEAD, "the caller has the lock as a writer; a writer died inside, and nobody has "
+     "called pz_rwlock_consistent since"},
+    {"pz_rwlock_rdlock", ENOTRECOVERABLE, "the lock is unusable: a thread that got EOWNERDEAD unlocked it without "
+     "pz_rwlock_consistent"},
+    {"pz_rwlock_rdlock", EDEADLK, "the caller has the lock already"},
+    {"pz_rwlock_rdlock", EAGAIN, "the caller would own more than 2,000 mutexes (PZ_MOST_OWNED); a writer owns one "
+     "more than there are lanes"},
+    {"pz_rwlock_rdlock", EINVAL, "the lock has no number of lanes yet, or isn't at a multiple of 64"},
+    {"pz_rwlock_rdlock", ENOTSUP, "the kernel or the C library lacks something that the library needs; nothing was "
+     "done"},
+    {"pz_rwlock_tryrdlock", 0, "the caller has the lock, as a reader or as a writer"},
+    {"pz_rwlock_tryrdlock", EOWNERDEAD, "the caller has the lock as a writer; a writer died inside, and nobody has "
+     "called pz_rwlock_consistent since"},
+    {"pz_rwlock_tryrdlock", ENOTRECOVERABLE, "the lock is unusable: a thread that got EOWNERDEAD unlocked it without "
+     "pz_rwlock_consistent"},
+    {"pz_rwlock_tryrdlock", EBUSY, "a writer has the lock or waits for it, or all lanes are taken, even if that is "
+     "by the caller"},
+    {"pz_rwlock_tryrdlock", EAGAIN, "the caller would own more than 2,000 mutexes (PZ_MOST_OWNED); a writer owns one "
+     "more than there are lanes"},
+    {"pz_rwlock_tryrdlock", EINVAL, "the lock has no number of lanes yet, or isn't at a multiple of 64"},
+    {"pz_rwlock_tryrdlock", ENOTSUP, "the kernel or the C library lacks something that the library needs; nothing "
+     "was done"},
+    {"pz_rwlock_timedrdlock", 0, "the caller has the lock, as a reader or as a writer"},
+    {"pz_rwlock_timedrdlock", EOWNERDEAD, "the caller has the lock as a writer; a writer died inside, and nobody has "
+     "called pz_rwlock_consistent since"},
+    {"pz_rwlock_timedrdlock", ENOTRECOVERABLE, "the lock is unusable: a thread that got EOWNERDEAD unlocked it "
+     "without pz_rwlock_consistent"},
+    {"pz_rwlock_timedrdlock", EDEADLK, "the caller has the lock already"},
+    {"pz_rwlock_timedrdlock", ETIMEDOUT, "the time came, and other threads had the lock until then"},
+    {"pz_rwlock_timedrdlock", EAGAIN, "the caller would own more than 2,000 mutexes (PZ_MOST_OWNED); a writer owns "
+     "one more than there are lanes"},
+    {"pz_rwlock_timedrdlock", EINVAL, "the lock has no number of lanes yet, or isn't at a multiple of 64; or the "
+     "call would have to wait, and tv_nsec isn't 0 to 999,999,999"},
+    {"pz_rwlock_timedrdlock", ENOTSUP, "the kernel or the C library lacks something that the library needs; nothing "
+     "was done"},
+    {"pz_rwlock_clockrdlock", 0, "the caller has the lock, as a reader or as a writer"},
+    {"pz_rwlock_clockrdlock", EOWNERDEAD, "the caller has the lock as a writer; a writer died inside, and nobody has "
+     "called pz_rwlock_consistent since"},
+    {"pz_rwlock_clockrdlock", ENOTRECOVERABLE, "the lock is unusable: a thread that got EOWNERDEAD unlocked it "
+     "without pz_rwlock_consistent"},
+    {"pz_rwlock_clockrdlock", EDEADLK, "the caller has the lock already"},
+    {"pz_rwlock_clockrdlock", ETIMEDOUT, "the time came, and other threads had the lock until then"},
+    {"pz_rwlock_clockrdlock", EAGAIN, "the caller would own more than 2,000 mutexes (PZ_MOST_OWNED); a writer owns "
+     "one more than there are lanes"},
+    {"pz_rwlock_clockrdlock", EINVAL, "the lock has no number of lanes yet, or isn't at a multiple of 64; or the "
+     "clock is neither CLOCK_REALTIME nor CLOCK_MONOTONIC; or the call would have to wait, and tv_nsec isn't 0 to "
+     "999,999,999"},
+    {"pz_rwlock_clockrdlock", ENOTSUP, "the kernel or the C library lacks something that the library needs; nothing "
+     "was done"},
+    {"pz_rwlock_wrlock", 0, "the caller has the lock, as a reader or as a writer"},
+    {"pz_rwlock_wrlock", EOWNERDEAD, "the caller has the lock as a writer; a writer died inside, and nobody has "
+     "called pz_rwlock_consistent since"},
+    {"pz_rwlock_wrlock", ENOTRECOVERABLE, "the lock is unusable: a thread that got EOWNERDEAD unlocked it without "
+     "pz_rwlock_consistent"},
+    {"pz_rwlock_wrlock", EDEADLK, "the caller has the lock already"},
+    {"pz_rwlock_wrlock", EAGAIN, "the caller would own more than 2,000 mutexes (PZ_MOST_OWNED); a writer owns one "
+     "more than there are lanes"},
+    {"pz_rwlock_wrlock", EINVAL, "the lock has no number of lanes yet, or isn't at a multiple of 64"},
+    {"pz_rwlock_wrlock", ENOTSUP, "the kernel or the C library lacks something that the library needs; nothing was "
+     "done"},
+    {"pz_rwlock_trywrlock", 0, "the caller has the lock, as a reader or as a writer"},
+    {"pz_rwlock_trywrlock", EOWNERDEAD, "the caller has the lock as a writer; a writer died inside, and nobody has "
+     "called pz_rwlock_consistent since"},
+    {"pz_rwlock_trywrlock", ENOTRECOVERABLE, "the lock is unusable: a thread that got EOWNERDEAD unlocked it without "
+     "pz_rwlock_consistent"},
+    {"pz_rwlock_trywrlock", EBUSY, "a thread has the lock, even if that is the caller"},
+    {"pz_rwlock_trywrlock", EAGAIN, "the caller would own more than 2,000 mutexes (PZ_MOST_OWNED); a writer owns one "
+     "more than there are lanes"},
+    {"pz_rwlock_trywrlock", EINVAL, "the lock has no number of lanes yet, or isn't at a multiple of 64"},
+    {"pz_rwlock_trywrlock", ENOTSUP, "the kernel or the C library lacks something that the library needs; nothing "
+     "was done"},
+    {"pz_rwlock_timedwrlock", 0, "the caller has the lock, as a reader or as a writer"},
+    {"pz_rwlock_timedwrlock", EOWNERDEAD, "the caller has the lock as a writer; a writer died inside, and nobody has "
+     "called pz_rwlock_consistent since"},
+    {"pz_rwlock_timedwrlock", ENOTRECOVERABLE, "the lock is unusable: a thread that got EOWNERDEAD unlocked it "
+     "without pz_rwlock_consistent"},
+    {"pz_rwlock_timedwrlock", EDEADLK, "the caller has the lock already"},
+    {"pz_rwlock_timedwrlock", ETIMEDOUT, "the time came, and other threads had the lock until then"},
+    {"pz_rwlock_timedwrlock", EAGAIN, "the caller would own more than 2,000 mutexes (PZ_MOST_OWNED); a writer owns "
+     "one more than there are lanes"},
+    {"pz_rwlock_timedwrlock", EINVAL, "the lock has no number of lanes yet, or isn't at a multiple of 64; or the "
+     "call would have to wait, and tv_nsec isn't 0 to 999,999,999"},
+    {"pz_rwlock_timedwrlock", ENOTSUP, "the kernel or the C library lacks something that the library needs; nothing "
+     "was done"},
+    {"pz_rwlock_clockwrlock", 0, "the caller has the lock, as a reader or as a writer"},
+    {"pz_rwlock_clockwrlock", EOWNERDEAD, "the caller has the lock as a writer; a writer died inside, and nobody has "
+     "called pz_rwlock_consistent since"},
+    {"pz_rwlock_clockwrlock", ENOTRECOVERABLE, "the lock is unusable: a thread that got EOWNERDEAD unlocked it "
+     "without pz_rwlock_consistent"},
+    {"pz_rwlock_clockwrlock", EDEADLK, "the caller has the lock already"},
+    {"pz_rwlock_clockwrlock", ETIMEDOUT, "the time came, and other threads had the lock until then"},
+    {"pz_rwlock_clockwrlock", EAGAIN, "the caller would own more than 2,000 mutexes (PZ_MOST_OWNED); a writer owns "
+     "one more than there are lanes"},
+    {"pz_rwlock_clockwrlock", EINVAL, "the lock has no number of lanes yet, or isn't at a multiple of 64; or the "
+     "clock is neither CLOCK_REALTIME nor CLOCK_MONOTONIC; or the call would have to wait, and tv_nsec isn't 0 to "
+     "999,999,999"},
+    {"pz_rwlock_clockwrlock", ENOTSUP, "the kernel or the C library lacks something that the library needs; nothing "
+     "was done"},
+    {"pz_rwlock_unlock", 0, "the caller no longer has the lock"},
+    {"pz_rwlock_unlock", EPERM, "the caller doesn't have it, or its links were overwritten"},
+    {"pz_rwlock_unlock", EINVAL, "the lock has no number of lanes yet, or isn't at a multiple of 64"},
+    {"pz_rwlock_unlock", ENOTSUP, "the kernel or the C library lacks something that the library needs; nothing was "
+     "done"},
+    {"pz_rwlock_consistent", 0, "the lock is declared consistent"},
+    {"pz_rwlock_consistent", EPERM, "the caller doesn't have it as a writer"},
+    {"pz_rwlock_consistent", EINVAL, "the caller has it as a writer, and no writer died; or the lock has no number "
+     "of lanes yet"},
+    {"pz_rwlock_consistent", ENOTSUP, "the kernel or the C library lacks something that the library needs; nothing "
+     "was done"},
+    {"pz_rwlock_reinit", 0, "the lock was unusable, or nobody had it: it is free"},
+    {"pz_rwlock_reinit", EBUSY, "a thread has it, or waits for it"},
+    {"pz_rwlock_reinit", EAGAIN, "the caller would own more than 2,000 mutexes"},
+    {"pz_rwlock_reinit", EINVAL, "the lock has no number of lanes yet, or isn't at a multiple of 64"},
+    {"pz_rwlock_reinit", ENOTSUP, "the kernel or the C library lacks something that the library needs; nothing was "
+     "done"},
     {"pz_open", 0, "the file is open, and *out set"},
     {"pz_open", EMEDIUMTYPE, "it isn't a file of this library, or it was truncated"},
     {"pz_open", EPROTO, "it has another format: another version of the library created it, or one for another C "
      "library"},
     {"pz_open", ESTALE, "it was created with another version"},
-    {"pz_open", EEXIST, "it was created with other numbers of mutexes, condition variables or bytes"},
+    {"pz_open", EEXIST, "it was created with other numbers of mutexes, condition variables, reader-writer locks, "
+     "lanes or bytes"},
     {"pz_open", EBUSY, "it is in use by processes of another PID namespace or another boot of the system"},
-    {"pz_open", EINVAL, "such a file would be too large for any file system"},
+    {"pz_open", EINVAL, "such a file would be too large for any file system, or has locks without lanes, or with "
+     "more than 256"},
     {"pz_open", ENOSPC, "there isn't enough space for all of the file"},
     {"pz_open", EDQUOT, "there isn't enough space for all of the file"},
     {"pz_open", EFBIG, "there isn't enough space for all of the file"},

@@ -3,6 +3,7 @@
 #include "pazdrig.hpp"
 #include <chrono>
 #include <cstdio>
+#include <shared_mutex>
 #include <cstdlib>
 #include <cstring>
 #include <signal.h>
@@ -28,6 +29,7 @@ struct shared_memory {
     pz_mutex mutexes[2];
     pz_cond cond;
     counter data;
+    PZ_RWLOCK(3) lock;
 };
 
 static shared_memory &fresh()
@@ -419,7 +421,7 @@ static void files()
     std::string name = std::string(room ? room : P_tmpdir) + "/pazdrig-cpp-XXXXXX";
     char *path = name.data();
     close(mkstemp(path));
-    pazdrig::file f(path, {2, 1, sizeof(counter), 7}), moved = std::move(f);
+    pazdrig::file f(path, {2, 1, sizeof(counter), 7, 1, 3}), moved = std::move(f);
     f = std::move(moved);
     CHECK(f.native_handle() && !moved.native_handle());
     pazdrig::mutex m(f.mutex_at(1), pazdrig::nothing_to_repair);
@@ -438,14 +440,20 @@ static void files()
     } catch (const std::out_of_range &) {
         thrown_as++;
     }
-    CHECK(thrown_as == 2 && thrown([] { pazdrig::file none("/no such directory/file"); }) == ENOENT);
     try {
-        pazdrig::file other(path, {2, 1, sizeof(counter), 8});
+        f.rwlock_at(1);
+    } catch (const std::out_of_range &) {
+        thrown_as++;
+    }
+    CHECK(pz_rwlock_tryrdlock(&f.rwlock_at(0)) == 0 && pz_rwlock_unlock(&f.rwlock_at(0)) == 0);
+    CHECK(thrown_as == 3 && thrown([] { pazdrig::file none("/no such directory/file"); }) == ENOENT);
+    try {
+        pazdrig::file other(path, {2, 1, sizeof(counter), 8, 1, 3});
     } catch (const pazdrig::error &e) {
         thrown_as +=
             e.code().value() == ESTALE && std::strstr(e.what(), "pz_open: it was created with another version");
     }
-    CHECK(thrown_as == 3);
+    CHECK(thrown_as == 4);
     unlink(path);
 }
 
@@ -460,6 +468,72 @@ static void several()
         CHECK(m.is_mine() && other.is_mine() && m.owner() == getpid());
     }
     CHECK(!m.is_mine() && !other.is_mine());
+}
+
+/* ---- Reader-writer locks. */
+
+static pz_rwlock &lock_of(shared_memory &f)
+{
+    CHECK(pz_rwlock_init(&f.lock.rw, 3) == 0);
+    return f.lock.rw;
+}
+static void dies_writing(shared_memory &f)
+{
+    ends_well(child([&] {
+        CHECK(pz_rwlock_wrlock(&f.lock.rw) == 0);
+        f.data.count++;
+    }));
+}
+static void readers_and_writers()
+{
+    shared_memory &f = fresh();
+    pazdrig::shared_mutex m(lock_of(f), pazdrig::nothing_to_repair);
+    {
+        std::shared_lock<pazdrig::shared_mutex> reads(m);
+        ends_well(child([&] { CHECK(m.try_lock_shared() && thrown([&] { m.lock_shared(); }) == EDEADLK); }));
+        ends_well(child([&] {
+            CHECK(!m.try_lock() && !m.try_lock_for(1ms) && !m.try_lock_until(system_clock::now() + 1ms) &&
+                  !m.try_lock_until(own_clock::now() + 1ms) && thrown([&] { m.unlock(); }) == EPERM);
+        }));
+    }
+    {
+        std::unique_lock<pazdrig::shared_mutex> writes(m, std::try_to_lock);
+        ends_well(child([&] {
+            CHECK(writes.owns_lock() && !m.try_lock_shared() && !m.try_lock_shared_for(1ms) &&
+                  !m.try_lock_shared_until(system_clock::now() + 1ms) &&
+                  !m.try_lock_shared_until(own_clock::now() + 1ms) && !m.try_lock());
+        }));
+    }
+    std::shared_lock<pazdrig::shared_mutex> again(m, 1h);
+    CHECK(again.owns_lock());
+}
+static void killed_writers()
+{
+    shared_memory &f = fresh();
+    int repairs = 0;
+    pazdrig::shared_mutex m(lock_of(f), [&] { f.data.copy = f.data.count, repairs++; });
+    dies_writing(f);
+    {
+        std::shared_lock<pazdrig::shared_mutex> reads(m);
+        CHECK(repairs == 1 && f.data.copy == 1);
+        ends_well(child([&] { CHECK(m.try_lock_shared()); })); /* it is a reader after the repair */
+    }
+    dies_writing(f);
+    {
+        std::unique_lock<pazdrig::shared_mutex> writes(m, 1h);
+        CHECK(writes.owns_lock() && repairs == 2 && f.data.copy == 2);
+        ends_well(child([&] { CHECK(!m.try_lock_shared()); }));
+    }
+    pazdrig::shared_mutex careless(f.lock.rw, [] { throw std::runtime_error("beyond repair"); });
+    dies_writing(f);
+    try {
+        careless.lock_shared();
+        CHECK(!"it threw");
+    } catch (const std::runtime_error &) {
+    }
+    CHECK(thrown([&] { m.lock(); }) == ENOTRECOVERABLE);
+    m.reinit();
+    CHECK(m.try_lock() && repairs == 2);
 }
 
 /* Runs a case in a process of its own, in which what hangs ends. */
@@ -498,6 +572,8 @@ int main()
         {"lost_in_late_waits", lost_in_late_waits},
         {"lost_in_waits", lost_in_waits},
         {"several", several},
+        {"readers_and_writers", readers_and_writers},
+        {"killed_writers", killed_writers},
         {"files", files},
     };
     int passed = 0, failed = 0;

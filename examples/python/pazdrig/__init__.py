@@ -1,4 +1,4 @@
-"""Robust mutexes and condition variables in memory that processes share: libpazdrig, through ctypes.
+"""Robust mutexes, condition variables and reader-writer locks in memory that processes share: libpazdrig, through ctypes.
 
     import pazdrig
 
@@ -22,10 +22,19 @@ A mutex can be in a file of the library, or anywhere in a shared memory map:
     memory = mmap.mmap(-1, 4096)
     mutex = pazdrig.Mutex(memory, repair, offset=64)
 
+A reader-writer lock lets several threads read at a time. The one that repairs is alone, even if it came to read:
+
+    lock = pazdrig.RwLock(memory, repair, lanes=8, offset=128)
+    with lock.read():
+        print(count[0])
+    with lock.write():
+        count[0] += 1
+
 The environment variable PAZDRIG_LIBRARY names the library; without it, this is libpazdrig.so.0 in the system's
 directories. A thread that waits lets other threads run. Python handles signals when it has the mutex, or timed out.
 """
 
+import contextlib
 import ctypes
 import errno
 import math
@@ -34,7 +43,7 @@ import threading
 import time
 import weakref
 
-__all__ = ["Condition", "Error", "File", "Mutex", "nothing_to_repair", "version"]
+__all__ = ["Condition", "Error", "File", "Mutex", "RwLock", "nothing_to_repair", "rwlock_size", "version"]
 
 MUTEX_SIZE, CONDITION_SIZE = 64, 16
 
@@ -49,6 +58,8 @@ class _Layout(ctypes.Structure):
         ("conds", ctypes.c_uint),
         ("data", ctypes.c_size_t),
         ("version", ctypes.c_uint32),
+        ("rwlocks", ctypes.c_uint),
+        ("lanes", ctypes.c_uint),
     ]
 
 
@@ -58,16 +69,21 @@ def _load():
     p, number, time_at = ctypes.c_void_p, ctypes.c_uint, ctypes.POINTER(_Timespec)
     library.pz_open.argtypes = [ctypes.c_char_p, number, ctypes.POINTER(_Layout), ctypes.POINTER(p)]
     library.pz_close.argtypes = library.pz_data.argtypes = [p]
-    library.pz_mutex_at.argtypes = library.pz_cond_at.argtypes = [p, number]
+    library.pz_mutex_at.argtypes = library.pz_cond_at.argtypes = library.pz_rwlock_at.argtypes = [p, number]
+    library.pz_rwlock_init.argtypes = [p, number]
     library.pz_strerror.argtypes = [ctypes.c_char_p, ctypes.c_int]
     for call in "lock", "trylock", "unlock", "consistent", "reinit", "owner":
         getattr(library, f"pz_mutex_{call}").argtypes = [p]
     for call in "wait", "signal", "broadcast":
         getattr(library, f"pz_cond_{call}").argtypes = [p, p]
+    for call in "rdlock", "tryrdlock", "wrlock", "trywrlock", "unlock", "consistent", "reinit":
+        getattr(library, f"pz_rwlock_{call}").argtypes = [p]
+    library.pz_rwlock_clockrdlock.argtypes = library.pz_rwlock_clockwrlock.argtypes = [p, ctypes.c_int, time_at]
     library.pz_mutex_clocklock.argtypes = [p, ctypes.c_int, time_at]
     library.pz_cond_clockwait.argtypes = [p, p, ctypes.c_int, time_at]
     library.pz_close.restype = None
     library.pz_data.restype = library.pz_mutex_at.restype = library.pz_cond_at.restype = p
+    library.pz_rwlock_at.restype = p
     library.pz_strerror.restype = library.pz_version.restype = ctypes.c_char_p
     return library
 
@@ -104,14 +120,19 @@ def nothing_to_repair():
     """For data that a single store changes."""
 
 
+def rwlock_size(lanes):
+    """How many bytes a reader-writer lock with that many lanes has."""
+    return MUTEX_SIZE * (2 + lanes)
+
+
 class _Place:
     """The address of a part of shared memory, and what keeps that memory mapped."""
 
-    def __init__(self, memory, size, offset=0):
+    def __init__(self, memory, size, offset=0, alignment=None):
         self._keeps = (ctypes.c_ubyte * size).from_buffer(memory, offset)
         self._at = ctypes.addressof(self._keeps)
-        if self._at % size:
-            raise ValueError(f"it has to be at a multiple of {size}")
+        if self._at % (alignment or size):
+            raise ValueError(f"it has to be at a multiple of {alignment or size}")
 
     def _set(self, at, keeps):
         if at is None:
@@ -121,12 +142,12 @@ class _Place:
 
 
 class File:
-    """A file of mutexes, condition variables and data, which is created if it doesn't exist.
+    """A file of mutexes, condition variables, reader-writer locks and data, which is created if it doesn't exist.
 
     All processes that open it ask for the same numbers. `version` is a number of the program's own, for its data."""
 
-    def __init__(self, path, mutexes=1, conditions=0, data=0, version=0, mode=0o600):
-        layout = _Layout(mutexes, conditions, data, version)
+    def __init__(self, path, mutexes=1, conditions=0, data=0, version=0, mode=0o600, rwlocks=0, lanes=8):
+        layout = _Layout(mutexes, conditions, data, version, rwlocks, lanes)
         opened = ctypes.c_void_p()
         _check("pz_open", _library.pz_open(os.fsencode(path), mode, ctypes.byref(layout), ctypes.byref(opened)))
         self._opened = opened
@@ -157,8 +178,14 @@ class File:
         condition.mutex = mutex
         return condition
 
+    def rwlock(self, number, repair):
+        """One of the file's reader-writer locks."""
+        lock = RwLock.__new__(RwLock)._set(_library.pz_rwlock_at(self._file(), number), self._bytes)
+        lock.repair = repair
+        return lock
+
     def close(self):
-        """Closes the file once the last view of its data, mutex and condition variable has gone."""
+        """Closes the file once the last view of its data, mutex, condition variable and lock has gone."""
         self._opened = self._bytes = None
 
     def __enter__(self):
@@ -269,3 +296,77 @@ class Condition(_Place):
 
     def notify_all(self):
         _check("pz_cond_broadcast", _library.pz_cond_broadcast(self._at, self.mutex._at))
+
+
+class RwLock(_Place):
+    """A reader-writer lock: rwlock_size(lanes) bytes at a multiple of 64 in writable shared memory, zeros at first. At most
+    `lanes` threads read at a time."""
+
+    def __init__(self, memory, repair, lanes=8, offset=0):
+        super().__init__(memory, rwlock_size(lanes), offset, MUTEX_SIZE)
+        self.repair = repair
+        _check("pz_rwlock_init", _library.pz_rwlock_init(self._at, lanes))
+
+    def _acquire(self, kind, blocking, timeout):
+        if not blocking:
+            if timeout != -1:
+                raise ValueError("an acquire that doesn't wait has no timeout")
+            return f"pz_rwlock_try{kind}", (), errno.EBUSY
+        if timeout == -1:
+            return f"pz_rwlock_{kind}", (), None
+        return f"pz_rwlock_clock{kind}", _until(timeout), errno.ETIMEDOUT
+
+    def _recover(self):
+        try:
+            self.repair()
+        except BaseException:
+            _library.pz_rwlock_unlock(self._at)
+            raise
+        _check("pz_rwlock_consistent", _library.pz_rwlock_consistent(self._at))
+
+    def acquire_read(self, blocking=True, timeout=-1):
+        """Returns whether the thread has the lock: if it doesn't wait, or only for `timeout` seconds, other threads may have
+        it. No timeout applies to a repair."""
+        call, more, otherwise = self._acquire("rdlock", blocking, timeout)
+        while (error := getattr(_library, call)(self._at, *more)) == errno.EOWNERDEAD:
+            self._recover()
+            self.release()  # others may read, too
+        if error == otherwise:
+            return False
+        _check(call, error)
+        return True
+
+    def acquire_write(self, blocking=True, timeout=-1):
+        """As acquire_read, for a thread that changes what the lock guards."""
+        call, more, otherwise = self._acquire("wrlock", blocking, timeout)
+        error = getattr(_library, call)(self._at, *more)
+        if error == otherwise:
+            return False
+        if error == errno.EOWNERDEAD:
+            self._recover()
+        else:
+            _check(call, error)
+        return True
+
+    def release(self):
+        _check("pz_rwlock_unlock", _library.pz_rwlock_unlock(self._at))
+
+    def reinit(self):
+        """Makes an unusable lock free. The caller has rebuilt what it guards."""
+        _check("pz_rwlock_reinit", _library.pz_rwlock_reinit(self._at))
+
+    @contextlib.contextmanager
+    def read(self):
+        self.acquire_read()
+        try:
+            yield self
+        finally:
+            self.release()
+
+    @contextlib.contextmanager
+    def write(self):
+        self.acquire_write()
+        try:
+            yield self
+        finally:
+            self.release()

@@ -297,6 +297,54 @@ class Owners(unittest.TestCase):
         self.assertRaises(ValueError, pazdrig.Condition, memory, mutex, 8)
         self.assertRaises(BufferError, memory.close)
 
+    def rwlock_held(self, acquire):
+        """Starts a child that has the lock, in the middle of a change."""
+
+        def hold(tell):
+            acquire()
+            self.count[0] += 1
+            tell()
+            signal.pause()
+
+        pid, told = self.child(hold)
+        told()
+        return pid
+
+    def test_readers_and_writers(self):
+        lock = pazdrig.RwLock(mmap.mmap(-1, 4096), self.repair, lanes=2, offset=192)
+        reader = self.rwlock_held(lock.acquire_read)
+        with lock.read():
+            self.assertFails(errno.EDEADLK, lock.acquire_read)
+        self.assertFalse(lock.acquire_write(blocking=False))
+        self.assertFalse(lock.acquire_write(timeout=0.001))
+        self.kill(reader)
+        with lock.write():
+            self.assertEqual(self.repairs, 0)
+        writer = self.rwlock_held(lock.acquire_write)
+        self.assertFalse(lock.acquire_read(blocking=False))
+        self.assertFalse(lock.acquire_read(timeout=0.001))
+        self.kill(writer)
+        with lock.read():
+            self.assertEqual((self.repairs, self.count[1]), (1, self.count[0]))
+            other = self.rwlock_held(lock.acquire_read)  # it is a reader after the repair
+        self.kill(other)
+        self.kill(self.rwlock_held(lock.acquire_write))
+        lock.repair = lambda: 1 // 0
+        self.assertRaises(ZeroDivisionError, lock.acquire_write)
+        self.assertFails(errno.ENOTRECOVERABLE, lock.acquire_read)
+        lock.reinit()
+        with lock.write():
+            pass
+        self.assertFails(errno.EPERM, lock.release)
+        self.assertRaises(ValueError, pazdrig.RwLock, mmap.mmap(-1, 4096), self.repair, 2, 8)
+        self.assertEqual(pazdrig.rwlock_size(2), 256)
+
+    def test_a_rwlock_in_a_file(self):
+        with pazdrig.File(self.path + "2", rwlocks=1, lanes=3) as file:
+            with file.rwlock(0, self.repair).write():
+                pass
+            self.assertRaises(IndexError, lambda: file.rwlock(1, self.repair))
+
     def test_numbers(self):
         self.assertIn("other numbers", self.assertFails(errno.EEXIST, lambda: self.open(mutexes=3)))
         self.assertFails(errno.ESTALE, lambda: self.open(version=1))
