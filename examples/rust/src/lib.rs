@@ -25,6 +25,8 @@
 //! # Ok::<(), std::io::Error>(())
 //! ```
 //!
+//! A value that is read more often than written goes into a [`SharedRw`], whose readers don't wait for each other.
+//!
 //! A program with shared memory of its own puts a [`Robust`] there, and uses it through [`Shared::in_memory`].
 //!
 //! A broken value can't be read, and a guard can't be sent to another thread:
@@ -52,6 +54,9 @@ use std::thread;
 use std::time::{Duration, SystemTime};
 
 mod ffi;
+mod rwlock;
+pub use rwlock::{Held, ReadGuard, SharedRw, Torn, WriteGuard};
+
 use ffi::{PzMutex, Timespec};
 
 const EOWNERDEAD: i32 = 130;
@@ -79,7 +84,7 @@ pub fn store<V: Plain>(to: &mut V, value: V) {
     unsafe { ptr::write_volatile(to, value) }
 }
 
-/// What a mutex guards: the value, and whether a thread panicked in the middle of a change.
+/// What a mutex or a lock guards: the value, and whether a thread panicked in the middle of a change.
 #[repr(C)]
 struct Guarded<T: Plain> {
     has_panicked: AtomicU64,
@@ -179,6 +184,8 @@ impl<T: Plain> Shared<T> {
             conds: 0,
             data: size_of::<Guarded<T>>(),
             version: 0,
+            rwlocks: 0,
+            lanes: 0,
         };
         let mut file = ptr::null_mut();
         // SAFETY: the path ends with a zero, and `layout` and `file` are there as long as the call lasts.
