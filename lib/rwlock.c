@@ -2,10 +2,10 @@
  *
  * Each lane is a mutex in a cache line of its own. A reader owns one of them: the one that it had last, or the first
  * free one. A writer owns the gate, and then all lanes. `state` says whether a writer is inside. Only a thread that owns
- * all lanes changes it, and only one that owns a lane relies on it. So a reader that finds a writer inside has found a
- * dead one's trace; it goes out again, takes all lanes, and gets EOWNERDEAD. No other death needs care, be it a
- * reader's, or that of a writer that was still taking lanes or already freeing them: what it owned is declared
- * consistent at once.
+ * all lanes changes it, and only one that owns a lane relies on it. So a reader that finds `state` set has found the
+ * trace of a writer that died inside; it frees its lane, takes all lanes, and gets EOWNERDEAD. No other death needs
+ * care, be it a reader's, or that of a writer that was still taking lanes or already freeing them: what it owned is
+ * declared consistent at once.
  *
  * The gate's owner says in `wanted` that it is a writer, and readers then come in by the gate, too. So a thread that
  * reads again and again keeps a writer waiting at most once. A dead writer's `wanted` goes with the gate's next owner.

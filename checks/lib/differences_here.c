@@ -13,6 +13,7 @@ enum { LIMIT = PZ_MOST_OWNED };
 static struct {
     pz_mutex mutex[LIMIT + 1];
     pz_cond cond;
+    PZ_RWLOCK(4) lock;
 } * p;
 
 static int lock(void) { return pz_mutex_lock(&p->mutex[0]); }
@@ -21,6 +22,8 @@ static int unlock(void) { return pz_mutex_unlock(&p->mutex[0]); }
 static int consistent(void) { return pz_mutex_consistent(&p->mutex[0]); }
 static int wait_there(void) { return pz_cond_wait(&p->cond, &p->mutex[0]); }
 static int signal_it(void) { return pz_cond_signal(&p->cond, &p->mutex[0]); }
+static int read_lock(void) { return pz_rwlock_init(&p->lock.rw, 4) ?: pz_rwlock_rdlock(&p->lock.rw); }
+static int write_lock(void) { return pz_rwlock_init(&p->lock.rw, 4) ?: pz_rwlock_wrlock(&p->lock.rw); }
 static int signal_as_the_owner(void) { return lock() ?: signal_it() ?: unlock(); }
 
 static void lock_all_but_one(void)
@@ -93,6 +96,8 @@ static const struct row {
     {"a signal by a thread that doesn't own the mutex", signal_of_another, "EPERM, broadcast EPERM"},
     {"trylock by the owner", trylock_of_the_owner, "EBUSY"},
     {"lock by the owner, who holds 2,048 mutexes", lock_again_at_the_limit, "EDEADLK"},
+    {"a reader of a reader-writer lock is killed", killed_reader, "a writer's lock OK"},
+    {"a writer of a reader-writer lock is killed", killed_writer, "a reader's lock EOWNERDEAD"},
 };
 
 /* A row over fresh memory. */

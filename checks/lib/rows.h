@@ -8,6 +8,8 @@ static int trylock(void);
 static int unlock(void);
 static int consistent(void);
 static int wait_there(void);
+static int read_lock(void);
+static int write_lock(void);
 
 enum { SLEEPERS = 3 };
 
@@ -28,6 +30,26 @@ static void spoil(void)
 {
     inherit();
     unlock();
+}
+
+/* A reader-writer lock whose reader or writer is killed. */
+static int read_and_sleep(void) { return read_lock() ?: pause(); }
+static int write_and_sleep(void) { return write_lock() ?: pause(); }
+static void killed_inside(int (*does)(void))
+{
+    pid_t it = begin(does);
+    settle(it);
+    kill_it(it);
+}
+static void killed_reader(void)
+{
+    killed_inside(read_and_sleep);
+    say("a writer's lock %s", name(came_of(begin(write_lock))));
+}
+static void killed_writer(void)
+{
+    killed_inside(write_and_sleep);
+    say("a reader's lock %s", name(came_of(begin(read_lock))));
 }
 
 static int lock_traced(void) { return be_traced() ?: lock(); }
