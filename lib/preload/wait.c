@@ -47,8 +47,9 @@
  * The next owner may be the last user of a mutex, and free its memory. So nothing is stored after the release except by
  * an exchange of all 64 bits of the cell, which the turn lets fail if anybody has taken it since.
  *
- * An heir or a thread that comes is trusted for a while only, since it may be stopped. No promise depends on a clock:
- * one that is wrong costs wakes. tests/preload/model explores both modes step by step. */
+ * An heir or a thread that comes is trusted for a while only, since it may be stopped. The time is kept in 32 bits, so
+ * such a moment comes again every 72 minutes. No promise depends on a clock: one that is wrong costs wakes.
+ * tests/preload/model explores both modes step by step. */
 #include "mutex.h"
 
 /* In ns: how long a thread waits awake at most, and at least if that didn't pay; the first and the longest time between

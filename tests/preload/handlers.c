@@ -84,6 +84,12 @@ static void use_theirs(int number)
     pass(&s->theirs);
     atomic_fetch_add(&s->handled, 1);
 }
+static void use_theirs_and_stay(int number)
+{
+    use_theirs(number);
+    for (;;)
+        pause();
+}
 static void use_other_and_stay(int number)
 {
     use_other(number);
@@ -187,6 +193,21 @@ static void a_thread_is_killed_in_a_handler(void)
     kill_child(owner);
 }
 
+/* The C library leaves nothing pending. So the wake may be lost, until an unlock that doesn't trust the woken thread
+ * any more. */
+static void a_thread_is_killed_after_theirs(void)
+{
+    start_over();
+    pid_t owner = an_owner(&s->m, &s->go), second, first = wake_first(use_theirs_and_stay, do_nothing, &second);
+    CHECK(until(&s->handled, 1));
+    kill_child(first);
+    nap(20000);
+    EQUAL(pass(&s->m), 0);
+    CHECK(until(&s->had, 1));
+    kill_child(second);
+    kill_child(owner);
+}
+
 /* The woken thread sleeps in its handler, for the other mutex, and then a second handler comes. */
 static void a_handler_waits(void)
 {
@@ -235,6 +256,7 @@ int main(void)
     a_handler_comes(use_theirs, 0);
     each_call_leaves_what_was_pending();
     a_thread_is_killed_in_a_handler();
+    a_thread_is_killed_after_theirs();
     a_handler_waits();
     an_heir_handles();
     return end_checks();
