@@ -10,6 +10,7 @@ struct caller {
     uint64_t tid;      /* gettid(2) */
     pz_word *list;     /* the list's head: first entry, futex offset, pending entry */
     const void *owes;  /* a mutex that the thread freed while another one was due to get it */
+    void *waits_for;   /* a mutex of libpazdrig_pthread.so for which the thread waits, which a handler may interrupt */
     uint32_t owned;    /* how many mutexes it owns */
     uint32_t pause;    /* how long waiting awake pays, in ns */
     uint32_t waits;    /* how often it waited awake */

@@ -198,18 +198,26 @@ static inline int is_for_us(pthread_cond_t *c, pthread_mutex_t *m) { return is_c
 
 /* ---- What programs call. */
 
-/* Threads that wait there, or were about to, are woken: they would sleep forever. */
+/* Threads that wait there, or were about to, are woken: they would sleep forever. The variable is this library's until
+ * they have been, so if the caller is killed before that, the next signal, or the next call of this one, wakes them.
+ * Then those are woken that came meanwhile. */
+static void end(pthread_cond_t *c)
+{
+    if (!is_counted(c))
+        return;
+    wake_all((union cond *)c, COUNTED);
+    wake_all((union cond *)c, 0);
+}
+
 SHOWN int pthread_cond_init(pthread_cond_t *c, const pthread_condattr_t *a)
 {
-    if (is_counted(c))
-        wake_all((union cond *)c, 0);
+    end(c);
     return pre_real.pthread_cond_init(c, a);
 }
 
 SHOWN int pthread_cond_destroy(pthread_cond_t *c)
 {
-    if (is_counted(c))
-        wake_all((union cond *)c, 0);
+    end(c);
     return pre_real.pthread_cond_destroy(c);
 }
 

@@ -24,12 +24,17 @@ static __attribute__((cold)) int lock_again(struct mutex *m, const struct deadli
     return ETIMEDOUT;
 }
 
+static __attribute__((noinline, cold)) int lock_in_handler(struct mutex *, struct caller *, const struct deadline *,
+                                                           int);
+
 static inline __attribute__((always_inline)) int lock(struct mutex *m, const struct deadline *d, int tries)
 {
     struct caller *s = here();
     int refused;
     if (UNLIKELY(!s || s->owned >= PZ_MOST_OWNED || m->space != pre_space) && (refused = pre_refuse(m, s)))
         return refused;
+    if (UNLIKELY(s->waits_for))
+        return lock_in_handler(m, s, d, tries);
     uint64_t v = load_acquire(&m->cell);
     if (UNLIKELY((v & OWNER) == s->tid))
         return lock_again(m, d, tries);
@@ -41,6 +46,14 @@ static inline __attribute__((always_inline)) int lock(struct mutex *m, const str
         return pre_wait(m, s, d);
     set_pending(s, NULL);
     return v & UNUSABLE ? ENOTRECOVERABLE : tries ? EBUSY : EINVAL;
+}
+
+static int lock_in_handler(struct mutex *m, struct caller *s, const struct deadline *d, int tries)
+{
+    struct interrupted was = pre_interrupt(s);
+    int reply = lock(m, d, tries);
+    pre_resume(s, was);
+    return reply;
 }
 
 int pre_lock(struct mutex *m) { return lock(m, NULL, 0); }
@@ -80,6 +93,14 @@ static __attribute__((cold)) void make_unusable(struct mutex *m, struct caller *
         wake(&m->cell, INT_MAX);
 }
 
+static __attribute__((noinline, cold)) int unlock_in_handler(struct mutex *m, struct caller *s)
+{
+    struct interrupted was = pre_interrupt(s);
+    int reply = pre_unlock(m);
+    pre_resume(s, was);
+    return reply;
+}
+
 /* Not inlined, so that the unlock of a private mutex saves no registers. */
 __attribute__((noinline)) int pre_unlock(struct mutex *m)
 {
@@ -89,6 +110,8 @@ __attribute__((noinline)) int pre_unlock(struct mutex *m)
         return EPERM;
     if (UNLIKELY(m->again))
         return m->again--, 0;
+    if (UNLIKELY(s->waits_for))
+        return unlock_in_handler(m, s);
     set_pending(s, cell_entry(m));
     if (UNLIKELY(!take_off_list(s, cell_entry(m))))
         return set_pending(s, NULL), EPERM;

@@ -75,6 +75,13 @@ static inline int is_owner(struct mutex *m, struct caller *s)
 void pre_report(const char *what);
 
 /* ---- wait.c */
+/* A wait that a signal handler has interrupted, and what it has pending. Without a wait, all is NULL. */
+struct interrupted {
+    struct mutex *waits_for;
+    pz_word *pending;
+};
+struct interrupted pre_interrupt(struct caller *s);
+void pre_resume(struct caller *s, struct interrupted was);
 int pre_wait(struct mutex *m, struct caller *s, const struct deadline *d);
 int pre_call(struct mutex *m, uint64_t v, uint32_t now);
 void pre_hand_on(struct mutex *m, uint64_t is, int calls, uint32_t now);

@@ -25,6 +25,8 @@
  *            Releases the cell. If it called, or if nobody answers at the bell and nobody owns the cell now: wakes one
  *            thread. If one woke, OWED goes from the cell; if none did, OWED and WAITERS; each only if all 64 bits are
  *            as the release left them
+ *   init     By its owner: pending := cell, until the end. Takes it off the list, bell := 0. Releases the cell, with a
+ * new turn, without OWED, and with WAITERS if it has that; wakes all. So in both modes
  *
  * Why no wake is lost. As a thread dies, Linux marks each listed or pending word that the thread owns, and wakes one
  * that sleeps there if the word has WAITERS or COMES; at a pending word that nobody owns it wakes one; at a pending
@@ -45,8 +47,9 @@
  * The next owner may be the last user of a mutex, and free its memory. So nothing is stored after the release except by
  * an exchange of all 64 bits of the cell, which the turn lets fail if anybody has taken it since.
  *
- * An heir or a thread that comes is trusted for a while only, since it may be stopped. No promise depends on a clock:
- * one that is wrong costs wakes. tests/preload/model explores both modes step by step. */
+ * An heir or a thread that comes is trusted for a while only, since it may be stopped. The time is kept in 32 bits, so
+ * such a moment comes again every 72 minutes. No promise depends on a clock: one that is wrong costs wakes.
+ * tests/preload/model explores both modes step by step. */
 #include "mutex.h"
 
 /* In ns: how long a thread waits awake at most, and at least if that didn't pay; the first and the longest time between
@@ -164,13 +167,13 @@ static int take_free(struct mutex *m, struct caller *s)
     if (v & WAITERS)
         wake(&m->cell, INT_MAX);
     set_pending(s, NULL);
-    return ENOTRECOVERABLE;
+    return is_ours(m) ? ENOTRECOVERABLE : EINVAL;
 }
 
-/* Waits until the thread has the mutex, and returns as lock does, or EINVAL if the mutex was initialised meanwhile as one
- * of the C library's. What is pending is set before each look, as a handler that ran during a sleep or a pause may have
- * used another mutex. */
-__attribute__((noinline)) int pre_wait(struct mutex *m, struct caller *s, const struct deadline *d)
+/* Waits until the thread has the mutex, and returns as lock does; or EINVAL if the mutex was destroyed, or initialised
+ * as one of the C library's, of which all who sleep there learn. What is pending is set before each look, as a handler
+ * that ran during a sleep or a pause may have used a robust mutex of the C library's. */
+static int wait_until_taken(struct mutex *m, struct caller *s, const struct deadline *d)
 {
     for (int paused = 0; is_ours(m);) {
         int plain = is_plain(m), end;
@@ -188,8 +191,42 @@ __attribute__((noinline)) int pre_wait(struct mutex *m, struct caller *s, const 
             return end;
         }
     }
+    wake(&m->cell, INT_MAX);
     set_pending(s, NULL);
     return EINVAL;
+}
+
+__attribute__((noinline)) int pre_wait(struct mutex *m, struct caller *s, const struct deadline *d)
+{
+    s->waits_for = m;
+    atomic_signal_fence(memory_order_seq_cst);
+    int reply = wait_until_taken(m, s, d);
+    atomic_signal_fence(memory_order_seq_cst);
+    s->waits_for = NULL;
+    return reply;
+}
+
+/* ---- A handler's call during a wait has its own mutex pending until it ends. So before it begins, the wait gives up
+ * what it may have been given, just as Linux would if the thread died; it looks again after the handler. */
+
+struct interrupted pre_interrupt(struct caller *s)
+{
+    struct interrupted was = {s->waits_for, NULL};
+    if (!was.waits_for)
+        return was;
+    uint32_t heir = COMES | (uint32_t)s->tid;
+    was.pending = linked(load_relaxed(s->list + 2));
+    s->waits_for = NULL;
+    atomic_compare_exchange_strong(&was.waits_for->bell, &heir, 0);
+    if (was.pending)
+        wake(was.pending + FUTEX_OFFSET / (int)sizeof *was.pending, 1);
+    return was;
+}
+
+void pre_resume(struct caller *s, struct interrupted was)
+{
+    set_pending(s, was.pending);
+    s->waits_for = was.waits_for;
 }
 
 /* ---- Unlock. */

@@ -1,6 +1,5 @@
 /* Edges: mutexes that are initialised again, destroyed, copied, overwritten, of another PID namespace or mode;
- * thousands of them; children of all kinds. The library is loaded in front. usage:
- * edges */
+ * thousands of them; children of all kinds. The library is loaded in front. usage: edges */
 #include "filter.h"
 #include "robust.h"
 #include <dlfcn.h>
@@ -50,6 +49,24 @@ static void initialised_again(void)
     EQUAL(status_of(p), 0);
     in_thread(lock_it, &m[0]);
     make(0);
+    EQUAL(pass(&m[0]), 0);
+}
+
+/* Threads that sleep there do so by its mode, so that stays if the mutex is owned. */
+static void initialised_again_in_its_mode(void)
+{
+    make(0);
+    int plain = is_plain(&m[0]);
+    pthread_mutex_lock(&m[0]);
+    setenv("PAZDRIG_PLAIN", "1", 1);
+    make(0);
+    EQUAL(is_plain(&m[0]), plain);
+    make(0);
+    CHECK(is_plain(&m[0]));
+    pthread_mutex_lock(&m[0]);
+    unsetenv("PAZDRIG_PLAIN");
+    make(0);
+    CHECK(is_plain(&m[0]));
     EQUAL(pass(&m[0]), 0);
 }
 
@@ -112,6 +129,21 @@ static void locked_again(void)
     EQUAL(pthread_mutex_timedlock(&m[0], &until), ETIMEDOUT);
     CHECK(time(NULL) >= until.tv_sec);
     EQUAL(pthread_mutex_unlock(&m[0]), 0);
+}
+
+static void locked_often(void)
+{
+    int refused = 0;
+    init_robust(&m[0], PTHREAD_MUTEX_RECURSIVE);
+    for (int i = 0; i < 65536; i++)
+        refused += pthread_mutex_lock(&m[0]) != 0;
+    EQUAL(refused, 0);
+    EQUAL(pthread_mutex_lock(&m[0]), EAGAIN);
+    EQUAL(pthread_mutex_trylock(&m[0]), EAGAIN);
+    for (int i = 0; i < 65536; i++)
+        refused += pthread_mutex_unlock(&m[0]) != 0;
+    EQUAL(refused, 0);
+    EQUAL(pthread_mutex_unlock(&m[0]), EPERM);
 }
 
 static void destroyed(void)
@@ -395,10 +427,12 @@ int main(int argc, char **argv)
     directory = strdup(argv[0]);
     *strrchr(directory, '/') = 0;
     initialised_again();
+    initialised_again_in_its_mode();
     initialised_as_another();
     unusable();
     forgotten();
     locked_again();
+    locked_often();
     destroyed();
     copied();
     two_thousand();

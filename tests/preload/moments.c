@@ -1,9 +1,7 @@
-/* Moments that chance doesn't reach: a thread is stopped in the middle of a call, memory is used again right after the
- * release, a handler runs during a wait. The library is loaded in front.
- * usage: moments [EACH]: memory is used again after each EACH-th instruction */
-#include "robust.h"
-#include <sys/ptrace.h>
-#include <sys/uio.h>
+/* Moments that chance doesn't reach: a thread is stopped in the middle of a call, and memory is used again right after
+ * the release. The library is loaded in front. usage: moments [EACH]: memory is used again after each EACH-th
+ * instruction */
+#include "traced.h"
 
 enum { PAGE = 4096, SLEEPERS = 2 };
 static struct shared {
@@ -12,7 +10,7 @@ static struct shared {
         unsigned char bytes[PAGE];
     };
     pthread_mutex_t other;
-    _Atomic int ready, go, had, handled, done;
+    _Atomic int ready, go, had, done;
 } * s;
 
 static void start_over(void)
@@ -61,23 +59,20 @@ static pid_t a_sleeper(void)
 /* A child that stops before its lock, to be traced. */
 static pid_t a_traced_locker(void)
 {
-    int status;
     pid_t p = start_child();
     if (!p) {
         pass(&s->other);
-        ptrace(PTRACE_TRACEME, 0, 0, 0);
-        raise(SIGSTOP);
+        be_traced();
         pthread_mutex_lock(&s->m);
         _exit(0);
     }
-    waitpid(p, &status, 0);
+    wait_for_stop(p);
     return p;
 }
 
 /* An heir stops as soon as it is one. It isn't left a wake for longer than an heir waits awake. */
 static void an_heir_is_stopped(void)
 {
-    int status;
     start_over();
     if (is_plain(&s->m))
         return;
@@ -86,8 +81,7 @@ static void an_heir_is_stopped(void)
         sleeper[i] = a_sleeper();
     pid_t heir = a_traced_locker();
     for (int i = 0; i < 10000 && (pid_t)(bell_of(&s->m) & 0x3fffffff) != heir; i++) {
-        ptrace(PTRACE_SINGLESTEP, heir, 0, 0);
-        waitpid(heir, &status, 0);
+        one_step(heir);
     }
     EQUAL(bell_of(&s->m) & 0x3fffffff, heir);
     nap(1000);
@@ -99,21 +93,73 @@ static void an_heir_is_stopped(void)
     kill_child(owner);
 }
 
+/* An owner that frees the mutex just after the heir came, as far as it can see. */
+static pid_t an_owner_that_trusts(void)
+{
+    pid_t p = start_child();
+    if (p) {
+        until(&s->ready, 1);
+        return p;
+    }
+    pthread_mutex_lock(&s->m);
+    atomic_store(&s->ready, 1);
+    until(&s->go, 1);
+    struct timespec t;
+    clock_gettime(CLOCK_MONOTONIC, &t);
+    ((volatile uint32_t *)&s->m)[3] = (uint32_t)(t.tv_sec * 1000000 + t.tv_nsec / 1000);
+    pthread_mutex_unlock(&s->m);
+    atomic_store(&s->done, 1);
+    for (;;)
+        pause();
+}
+
+enum { GOES_ON, DIES, ANOTHER_UNLOCKS, ENDS };
+
+/* An heir stops as soon as it is one, and is left a wake. The sleeper sleeps until the heir goes on or dies, or another
+ * thread unlocks. Returns 0 if the unlock came too late to leave it a wake. */
+static int a_stopped_heir_is_left_a_wake(int how)
+{
+    start_over();
+    pid_t owner = an_owner_that_trusts(), sleeper = a_sleeper(), heir = a_traced_locker();
+    for (int i = 0; i < MOST_STEPS && (pid_t)(bell_of(&s->m) & 0x3fffffff) != heir; i++)
+        one_step(heir);
+    atomic_store(&s->go, 1);
+    until(&s->done, 1);
+    until_it_sleeps(sleeper);
+    int left = !atomic_load(&s->had);
+    if (how == GOES_ON)
+        let_go(heir);
+    else if (how == DIES)
+        kill_child(heir);
+    else
+        nap(1000);
+    if (how == ANOTHER_UNLOCKS)
+        EQUAL(pass(&s->m), 0);
+    check_that(until(&s->had, 1), __FILE__, __LINE__, "a stopped heir: case %d: the sleeper sleeps on", how);
+    if (how != DIES)
+        kill_child(heir);
+    kill_child(sleeper);
+    kill_child(owner);
+    return left;
+}
+static void stopped_heirs_are_left_a_wake(void)
+{
+    for (int how = 0; how < ENDS && !is_plain(&s->m); how++) {
+        int tries = 0;
+        while (tries < 100 && !checks_failed && !a_stopped_heir_is_left_a_wake(how))
+            tries++;
+        if (tries == 100)
+            printf("a stopped heir: case %d: this machine is too busy\n", how);
+    }
+}
+
 /* A thread that was woken stops before it does anything. The owner takes the mutex again; once it has had it for long,
  * its unlock wakes another one. */
 static void a_woken_thread_is_stopped(void)
 {
-    int status;
     start_over();
     pid_t owner = an_owner(1), first = a_traced_locker();
-    ptrace(PTRACE_CONT, first, 0, 0);
-    until_it_sleeps(first);
-    kill(first, SIGSTOP); /* from here on, the tracer learns of each system call */
-    waitpid(first, &status, 0);
-    ptrace(PTRACE_SYSCALL, first, 0, 0);
-    waitpid(first, &status, 0);
-    ptrace(PTRACE_SYSCALL, first, 0, 0);
-    until_it_sleeps(first);
+    let_sleep(first);
     pid_t second = a_sleeper();
     atomic_store(&s->go, 1);
     until(&s->ready, 2);
@@ -144,19 +190,17 @@ static pid_t a_plain_sleeper(void)
 
 static pid_t an_unlocker(void)
 {
-    int status;
     pid_t p = start_child();
     if (!p) {
         pass(&s->other);
         pthread_mutex_lock(&s->m);
-        ptrace(PTRACE_TRACEME, 0, 0, 0);
-        raise(SIGSTOP);
+        be_traced();
         pthread_mutex_unlock(&s->m);
         atomic_store(&s->done, 1);
         raise(SIGSTOP);
         _exit(0);
     }
-    waitpid(p, &status, 0);
+    wait_for_stop(p);
     return p;
 }
 
@@ -174,15 +218,14 @@ static void prepare(int which, pid_t heir)
 /* Writes a pattern over the mutex `more` instructions after its release. Returns 0 if the unlock had ended before. */
 static int use_again_after(int which, int more, unsigned char pattern)
 {
-    int status, changed = 0;
+    int changed = 0;
     start_over();
     pid_t p = an_unlocker(), sleeper = 0;
     prepare(which, getpid());
     if (which == ONE_SLEEPS)
         sleeper = a_plain_sleeper();
     for (int left = more; left >= 0 && !atomic_load(&s->done);) {
-        ptrace(PTRACE_SINGLESTEP, p, 0, 0);
-        waitpid(p, &status, 0);
+        one_step(p);
         left -= owner_of(&s->m) != p;
     }
     int ended = atomic_load(&s->done);
@@ -192,11 +235,11 @@ static int use_again_after(int which, int more, unsigned char pattern)
         s->bytes[11] = 0x80;
     }
     ptrace(PTRACE_CONT, p, 0, 0);
-    waitpid(p, &status, 0);
+    int stopped = wait_for_stop(p) >= 0;
     for (int i = 0; i < PAGE; i++)
         changed += s->bytes[i] != (pattern == 1 ? (i == 11 ? 0x80 : 0) : pattern);
-    check_that(WIFSTOPPED(status) && changed == 0, __FILE__, __LINE__,
-               "case %d: %d instructions after: %d bytes changed", which, more, changed);
+    check_that(stopped && changed == 0, __FILE__, __LINE__, "case %d: %d instructions after: %d bytes changed", which,
+               more, changed);
     kill_child(p);
     if (sleeper)
         kill_child(sleeper);
@@ -207,7 +250,6 @@ static int use_again_after(int which, int more, unsigned char pattern)
  * that sleeps isn't the heir any more. */
 static void a_trusted_thread_goes(void)
 {
-    int status;
     start_over();
     pid_t p = an_unlocker(), sleeper = a_sleeper();
     EQUAL(bell_of(&s->m), 0);
@@ -216,12 +258,11 @@ static void a_trusted_thread_goes(void)
         ((volatile uint32_t *)&s->m)[3] += 9000; /* us: trusted for longer */
     }
     for (int n = 0; n < 5000 && owner_of(&s->m) == p; n++) {
-        ptrace(PTRACE_SINGLESTEP, p, 0, 0);
-        waitpid(p, &status, 0);
+        one_step(p);
     }
     ((volatile uint32_t *)&s->m)[2] = 0;
     ptrace(PTRACE_CONT, p, 0, 0);
-    waitpid(p, &status, 0);
+    wait_for_stop(p);
     CHECK(until(&s->had, 1));
     kill_child(p);
     kill_child(sleeper);
@@ -243,13 +284,11 @@ static void memory_is_used_again(int each)
  * or was made again, taken and freed. Here as if another thread slept since then. */
 static int take_turns_after(int more, int again)
 {
-    int status;
     start_over();
     pid_t p = an_unlocker();
     prepare(NOBODY_SLEEPS, 0);
     for (int left = more; left >= 0 && !atomic_load(&s->done);) {
-        ptrace(PTRACE_SINGLESTEP, p, 0, 0);
-        waitpid(p, &status, 0);
+        one_step(p);
         left -= owner_of(&s->m) != p;
     }
     int ended = atomic_load(&s->done);
@@ -258,7 +297,7 @@ static int take_turns_after(int more, int again)
     pass(&s->m);
     *(volatile uint64_t *)&s->m |= 1ull << 31 | (is_plain(&s->m) ? 0 : 1ull << 33); /* WAITERS, OWED */
     ptrace(PTRACE_CONT, p, 0, 0);
-    waitpid(p, &status, 0);
+    wait_for_stop(p);
     check_that(cell_of(&s->m) >> 31 & 1, __FILE__, __LINE__, "%d instructions after: WAITERS is gone", more);
     kill_child(p);
     return !ended;
@@ -270,52 +309,12 @@ static void turns_are_told_apart(int each)
             ;
 }
 
-/* ---- A handler uses another robust mutex during a wait. */
-
-static void use_other(int number)
-{
-    (void)number;
-    pass(&s->other);
-    atomic_fetch_add(&s->handled, 1);
-}
-
-/* What the kernel would look at if the thread died now. */
-static uint64_t pending_of(pid_t p)
-{
-    uint64_t head = 0, pending = 0;
-    size_t size;
-    if (syscall(SYS_get_robust_list, p, &head, &size))
-        return 1;
-    struct iovec here = {&pending, sizeof pending}, there = {(void *)(uintptr_t)(head + 16), sizeof pending};
-    return process_vm_readv(p, &here, 1, &there, 1, 0) == sizeof pending ? pending : 1;
-}
-
-static void a_handler_comes(void)
-{
-    start_over();
-    pid_t owner = an_owner(0), p = start_child();
-    if (!p) {
-        sigaction(SIGUSR1, &(struct sigaction){.sa_handler = use_other}, NULL);
-        pthread_mutex_lock(&s->m);
-        _exit(0);
-    }
-    until_it_sleeps(p);
-    uint64_t wanted = (uint64_t)&s->m + (is_plain(&s->m) ? 32 : 40);
-    EQUAL(pending_of(p), wanted);
-    kill(p, SIGUSR1);
-    CHECK(until(&s->handled, 1));
-    until_it_sleeps(p);
-    EQUAL(pending_of(p), wanted);
-    kill_child(p);
-    kill_child(owner);
-}
-
 int main(int argc, char **argv)
 {
     begin_checks(900);
     s = shared_memory(sizeof *s);
-    a_handler_comes();
     an_heir_is_stopped();
+    stopped_heirs_are_left_a_wake();
     a_woken_thread_is_stopped();
     a_trusted_thread_goes();
     memory_is_used_again(argc > 1 ? atoi(argv[1]) : 1);

@@ -5,10 +5,12 @@
 // Wrong are: two owners; a death that the next owner doesn't learn of, or learns of without one; an end at which a
 // thread sleeps (a lost wake), or the mutex is owned. Time is a free choice: an unlock may trust an heir or not.
 //
-// usage: model [threads=3] [kills=1] [calls=1] [first-calls=N] [plain] [timed] [unusable] [no-heir] [new-walk] [way]
-// [mistake=NAME]
+// usage: model [threads=3] [kills=1] [calls=1] [first-calls=N] [plain] [timed] [unusable] [no-heir] [new-walk] [init]
+// [handler] [way] [mistake=NAME]
 //   plain     the mode without a bell                   timed     the last thread's sleeps may time out
 //   unusable  owners may unlock without consistent      no-heir   nobody waits awake
+//   init      an owner may initialise the mutex again, once
+//   handler   a handler interrupts one wait, once, and uses another robust mutex
 //   new-walk  newer kernels: a pending word that another thread owns without WAITERS also wakes one
 //   way       prints how the first wrong state came about
 #include "unlocks.h"
@@ -25,10 +27,14 @@ static void step(const State &s, int i)
         sleep_step(s, i);
     else if (at <= UNUSABLE_FOUND)
         free_step(s, i);
+    else if (at <= HANDLER_CALLS)
+        handler_step(s, i);
     else if (at == INSIDE)
         inside_step(s, i);
     else if (at <= RELEASE)
         unlock_step(s, i);
+    else if (at <= INIT_WAKE)
+        init_step(s, i);
     else if (at <= END)
         hand_on_step(s, i);
     else if (at != DONE && at != DEAD)
@@ -66,9 +72,9 @@ static void explore(const State &s)
 
 static bool read(const char *word)
 {
-    bool *flags[] = {&plain, &timed, &may_spoil, &no_heir, &new_walk, &show_way};
-    const char *names[] = {"plain", "timed", "unusable", "no-heir", "new-walk", "way"};
-    for (size_t i = 0; i < 6; i++)
+    bool *flags[] = {&plain, &timed, &may_spoil, &no_heir, &new_walk, &may_init, &may_handle, &show_way};
+    const char *names[] = {"plain", "timed", "unusable", "no-heir", "new-walk", "init", "handler", "way"};
+    for (size_t i = 0; i < sizeof names / sizeof *names; i++)
         if (!strcmp(word, names[i]))
             return *flags[i] = true;
     if (!strncmp(word, "mistake=", 8))

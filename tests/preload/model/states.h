@@ -33,6 +33,11 @@ enum Place : uint8_t {
     FREE_LOOK,
     FREE_TRY,
     UNUSABLE_FOUND,
+    // a signal handler interrupts a wait, and uses another mutex
+    HANDLER,
+    HANDLER_WAKES,
+    HANDLER_PENDING,
+    HANDLER_CALLS,
     // unlock
     INSIDE,
     UNLOCK,
@@ -41,6 +46,14 @@ enum Place : uint8_t {
     CALL_OWED,
     CALL_BELL,
     RELEASE,
+    // an initialisation by the owner
+    INIT,
+    INIT_LIST,
+    INIT_FILL,
+    INIT_KIND,
+    INIT_CELL,
+    INIT_WAKE,
+    // the rest of an unlock
     RELEASED,
     RELEASED_LOOK,
     WAKE,
@@ -68,18 +81,18 @@ struct Cell {
 };
 struct Thread {
     Place at;
-    uint8_t pending, listed, queued, woken, calls_left, bell, paused, calls;
+    uint8_t pending, listed, queued, woken, calls_left, bell, paused, calls, was_heir;
     Cell seen;
 };
 enum { MOST = 4 };
 struct State {
     Cell cell;
-    uint8_t bell, dirty, kills;
+    uint8_t bell, dirty, kills, inits, handlers, has_no_kind;
     Thread thread[MOST];
 };
 
 static int threads = 3, most_kills = 1, calls_each = 1, calls_of_first;
-static bool plain, timed, may_spoil, no_heir, new_walk, show_way;
+static bool plain, timed, may_spoil, no_heir, new_walk, may_init, may_handle, show_way;
 static std::string mistake;
 static bool is(const char *name) { return mistake == name; }
 

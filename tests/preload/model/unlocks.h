@@ -13,6 +13,11 @@ static void inside_step(const State &s, int i)
         fail("a thread is inside, and doesn't own the mutex", s);
     if (s.cell.died && may_spoil)
         Step(s, i).go(UNLOCK);
+    if (may_init && !s.inits) {
+        Step again(s, i);
+        again.n.inits = 1;
+        again.go(INIT);
+    }
     if (s.cell.died)
         x.n.cell.died = x.n.dirty = 0;
     x.go(UNLOCK);
@@ -74,6 +79,47 @@ static void unlock_step(const State &s, int i)
         return x.go(is("comes_is_set_before_owed") ? CALL_OWED : RELEASE);
     default: // RELEASE
         return release(s, i);
+    }
+}
+
+// The cell's last value: free, with WAITERS if it had that.
+static void init_cell(State &n)
+{
+    Cell fresh = Cell();
+    fresh.waiters = n.cell.waiters && !is("init_drops_waiters");
+    fresh.turn = (n.cell.turn + 1) & 31;
+    n.cell = fresh;
+    n.dirty = 0;
+}
+
+static void init_step(const State &s, int i)
+{
+    Step x(s, i);
+    switch (x.t.at) {
+    case INIT:
+        x.t.pending = is("init_has_nothing_pending") ? NONE : CELL;
+        return x.go(INIT_LIST);
+    case INIT_LIST:
+        x.t.listed = 0;
+        return x.go(INIT_FILL);
+    case INIT_FILL:
+        x.n.bell = NOBODY;
+        x.n.has_no_kind = is("init_clears_the_kind");
+        if (is("init_shows_a_free_cell"))
+            init_cell(x.n);
+        return x.go(INIT_KIND);
+    case INIT_KIND:
+        x.n.has_no_kind = 0;
+        return x.go(INIT_CELL);
+    case INIT_CELL:
+        init_cell(x.n);
+        if (is("init_wakes_with_nothing_pending"))
+            x.t.pending = NONE;
+        return x.go(INIT_WAKE);
+    default: // INIT_WAKE
+        if (!is("init_wakes_nobody"))
+            wake_all(x.n);
+        return x.go(END);
     }
 }
 

@@ -66,11 +66,53 @@ static void decide(const State &s, int i)
     x.go(QUEUE);
 }
 
+// A handler comes, once, if it may: to one that pauses, sleeps, or has been woken.
+static void interrupt(const State &s, int i)
+{
+    Step x(s, i);
+    if (!may_handle || s.handlers)
+        return;
+    x.n.handlers = 1;
+    x.t.was_heir = x.t.at == HEIR_PAUSES;
+    x.t.queued = NONE;
+    x.t.woken = 0;
+    x.go(HANDLER);
+}
+
+static void handler_step(const State &s, int i)
+{
+    Step x(s, i);
+    switch (x.t.at) {
+    case HANDLER:
+        if (s.bell == HEIR + i && !is("handler_keeps_the_heirs_mark"))
+            x.n.bell = NOBODY;
+        return x.go(is("handler_keeps_a_wake") ? HANDLER_PENDING : HANDLER_WAKES);
+    case HANDLER_WAKES:
+        return wake_one(s, x.t.pending, [i](State n, int) {
+            n.thread[i].at = HANDLER_PENDING;
+            add(n);
+        });
+    case HANDLER_PENDING: // the other mutex's
+        x.t.pending = NONE;
+        return x.go(HANDLER_CALLS);
+    default: // HANDLER_CALLS
+        if (!is("handler_leaves_nothing_pending"))
+            x.t.pending = plain ? CELL : BELL;
+        if (!x.t.was_heir) { // with SA_RESTART, the sleep goes on
+            Step sleeps(x.n, i);
+            sleeps.go(QUEUE);
+        }
+        x.go(x.t.was_heir ? HEIR_PAUSES : WAIT);
+    }
+}
+
 static void wait_step(const State &s, int i)
 {
     Step x(s, i);
     switch (x.t.at) {
     case WAIT:
+        if (s.has_no_kind)
+            fail("a thread waits for what is no mutex", s);
         x.t.pending = plain || is("waits_with_the_cell_pending") ? CELL : BELL;
         if (is("waits_with_nothing_pending"))
             x.t.pending = NONE;
@@ -84,6 +126,7 @@ static void wait_step(const State &s, int i)
     case DECIDE:
         return decide(s, i);
     default: // HEIR_PAUSES
+        interrupt(s, i);
         x.n.bell = NOBODY;
         return x.go(is("heir_sleeps_without_a_look") && x.t.seen.waiters ? QUEUE : WAIT);
     }
@@ -110,6 +153,7 @@ static void sleep_step(const State &s, int i)
         x.t.queued = NONE;
         return x.go(WAIT);
     default: // ASLEEP
+        interrupt(s, i);
         if (x.t.woken || (timed && i == threads - 1)) {
             Place next = x.t.woken ? WAIT : END;
             x.t.queued = NONE;
