@@ -8,7 +8,7 @@ struct counter { volatile long count, copy; };  /* the same, except in the middl
 
 int main(int argc, char **argv)
 try {
-    pazdrig::file file(argc > 1 ? argv[1] : "counter.pz", {1, 0, sizeof(counter), 1});
+    pazdrig::file file(argc > 1 ? argv[1] : "counter.pz", {1, 0, sizeof(counter), 1, 0, 0});
     counter &c = file.as<counter>();
     pazdrig::mutex mutex(file.mutex_at(0), [&] { c.copy = c.count; });  /* its owner was killed: repair */
     std::lock_guard<pazdrig::mutex> guard(mutex);
