@@ -41,6 +41,15 @@ static struct shared *map_elsewhere(void)
 
 /* ---- A thread's rounds. */
 
+/* Stays inside, now and then long enough for the parent to see it there. */
+static void stay(unsigned long_ones)
+{
+    if (chance(long_ones))
+        nap(300);
+    else
+        spin(a_random(3000));
+}
+
 static int lock_somehow(int writes)
 {
     pz_rwlock *l = &all->lock.rw;
@@ -77,7 +86,7 @@ static void change(void)
     all->inside = tid;
     all->writes_in = 1 + self;
     all->a++;
-    spin(a_random(3000));
+    stay(2);
     all->b++;
     if (all->inside != tid)
         fail("another writer came in", all->inside, tid);
@@ -95,7 +104,7 @@ static int repair(void)
         fail("torn by more than one writer", all->a, all->b);
     all->inside = tid;
     all->repairs = 1 + self;
-    spin(a_random(3000));
+    stay(500);
     all->a = all->b;
     if (all->inside != tid)
         fail("another writer came in to repair", all->inside, tid);
@@ -116,13 +125,17 @@ static void rebuild(void)
         r = pz_mutex_consistent(&all->rebuilds);
     if (r)
         fail("the mutex of those that rebuild", r, 0);
-    if (pz_rwlock_tryrdlock(&all->lock.rw) == ENOTRECOVERABLE) {
+    r = pz_rwlock_tryrdlock(&all->lock.rw);
+    if (r == ENOTRECOVERABLE) {
         atomic_fetch_add(&all->lost, 1);
-        if ((r = pz_rwlock_reinit(&all->lock.rw)) && r != EBUSY)
-            fail("reinit", r, 0);
-    } else {
+        r = pz_rwlock_reinit(&all->lock.rw);
+    } else if (r == EOWNERDEAD || r == 0) {
+        if (r == EOWNERDEAD)
+            repair();
         r = pz_rwlock_unlock(&all->lock.rw);
     }
+    if (r && r != EBUSY)
+        fail("to rebuild", r, 0);
     pz_mutex_unlock(&all->rebuilds);
 }
 static void *thread(void *);
