@@ -286,6 +286,22 @@ static void deaths_that_nobody_is_told(void)
     EQUAL(status_of(reader), 0);
     EQUAL(tries_to_write(), 0);
 }
+/* A reader comes back to its lane, and another one has died there. */
+static void a_dead_reader_had_the_same_lane(void)
+{
+    begin();
+    EQUAL(pz_rwlock_rdlock(lock), 0);
+    pz_mutex *own = &all->lock.parts[2];
+    while (pz_mutex_owner(own) != getpid())
+        own++;
+    EQUAL(pz_rwlock_unlock(lock), 0);
+    pid_t p = start_child();
+    if (p == 0)
+        _exit(pz_mutex_lock(own));
+    EQUAL(status_of(p), 0);
+    EQUAL(tries_to_read(), 0);
+    EQUAL(tries_to_write(), 0);
+}
 static int repairs(int (*call)(pz_rwlock *))
 {
     int r = call(lock);
@@ -384,6 +400,7 @@ int main(void)
     a_writer_isnt_starved();
     a_stopped_reader();
     deaths_that_nobody_is_told();
+    a_dead_reader_had_the_same_lane();
     a_writer_dies_inside();
     others_come_in_after_a_repair();
     a_reader_stays_one_after_anothers_repair();
