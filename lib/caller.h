@@ -14,7 +14,8 @@ struct caller {
     uint32_t owned;    /* how many mutexes it owns */
     uint32_t pause;    /* how long waiting awake pays, in ns */
     uint32_t waits;    /* how often it waited awake */
-    uint32_t was_heir; /* whether it last took a mutex as the heir */
+    uint16_t spares;   /* how often it left a wake to an heir */
+    uint16_t was_heir; /* whether it last took a mutex as the heir */
     uint32_t rwlocks;  /* how many reader-writer locks it has */
     uint32_t lane;     /* which lane of a reader-writer lock it tries first */
 };

@@ -19,8 +19,8 @@ enum { LONGEST = 20000, SHORTEST = 2000, FIRST_LOOK = 500, LAST_LOOK = 10000 };
  * 50 us, unless a round takes less than SHORT_ROUND: then it would lose more than the others gain. */
 enum { HOT = 3, HOT_LONGEST = 150000, HOT_LOOK = 12000, NAP = 25000, SHORT_ROUND = 1000 };
 /* When an heir is due, and how long others give way to it; how long a woken thread is waited for; after how long
- * without a wake a sleeper gets one in spite of an heir, from a thread that got the mutex as the heir. */
-enum { FAIR = 100000, WAY = 20000, COMING = 20000, LATE = 1000000 };
+ * without a wake a sleeper gets one in spite of an heir. */
+enum { FAIR = 100000, WAY = 20000, COMING = 20000, LATE = 300000 };
 /* Each TRY_ALL-th wait is of full length. */
 enum { TRY_ALL = 16 };
 /* How often a thread looks again at a slot that is about to change hands. */

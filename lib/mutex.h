@@ -79,9 +79,12 @@ void pz_give_way(pz_mutex *, struct caller *) HIDDEN;
 /* Before the release of a cell with WAITERS. Returns 1 if the caller is to wake a sleeper whether there is an heir or
  * not; that one is announced in the hints. */
 int pz_announce_wake(pz_mutex *, struct caller *) HIDDEN;
+/* The same. If there is an heir, each ASK_AFTER-th unlock asks whether a sleeper has waited long. */
+enum { ASK_AFTER = 16 };
 static inline int announce_wake(pz_mutex *m, struct caller *s)
 {
-    return (s->was_heir || !is_heir(load_acquire(slot(m)))) && pz_announce_wake(m, s);
+    int is_left_to_heir = !s->was_heir && is_heir(load_acquire(slot(m))) && ++s->spares % ASK_AFTER;
+    return !is_left_to_heir && pz_announce_wake(m, s);
 }
 /* Takes that announcement back, for a caller that is a user of the mutex still. */
 void pz_unannounce_wake(pz_mutex *) HIDDEN;
