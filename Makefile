@@ -157,6 +157,7 @@ check-all: all
 speed:
 	tests/speed/run speed
 	tests/speed/run load
+	tests/speed/run rwlock
 
 TO = $(DESTDIR)$(BINDIR) $(DESTDIR)$(LIBDIR)/pkgconfig $(DESTDIR)$(INCLUDEDIR) \
     $(addprefix $(DESTDIR)$(MANDIR)/,man1 man3 man7) $(DESTDIR)$(COMPLETIONS)
