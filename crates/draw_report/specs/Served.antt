@@ -1,5 +1,6 @@
 -- What the program did with the bytes of its reader.
-use Rattle.std.specs.Prelude.{ℕ, ◌≡◌, ◌≤◌, ◌⊎◌, ⊤, true, false, List, length, Option, Result, Ok, Err, MatchResult}
+use Rattle.std.specs.Prelude.{ℕ, ◌≡◌, ◌≤◌, ◌⊎◌, ⊤, true, false, List, [], ◌∷◌, ◌++◌, codes, decimal, length, Option, Result, Ok, Err, MatchResult}
+use Rattle.std.specs.List.{concat}
 use Rattle.std.specs.Io.KnownBytes.{Appends, Consumes, IsAtEnd}
 use Rattle.streams.specs.Leaves.{AppendsFront}
 use Rattle.streams.specs.declared.reading.ReadFault.{ReadFault}
@@ -9,6 +10,7 @@ use Rattle.verdict.specs.Limits.{max_bytes}
 use Rattle.verdict.specs.Reading.{trace_read}
 use Rattle.verdict.specs.Told.{Gives, IsWithin, trace_of}
 use Rattle.verdict.specs.declared.checking.Finding.{Finding}
+use Rattle.verdict.specs.declared.checking.Finding.TheVariants.{Legal, Illegal}
 use Rattle.verdict.specs.Verdicts.{Tells}
 use Rattle.page.specs.Pages.{page_text}
 use Rattle.draw_report.specs.declared.asking.Kind.{Kind}
@@ -43,15 +45,20 @@ IsUnread (Script e) = ⊥
 IsUnread Unlike = ⊥
 IsUnread (Trace e) = ⊥
 
--- a page tells what the judge of traces found
+-- below a picture in text: which line doesn't fit, if the judge of traces found one
+abbrev pub misfit_text : Finding → List ℕ
+misfit_text (Legal points) = []
+misfit_text (Illegal why) = concat (codes "        line " ∷ decimal why.line ∷ codes " doesn't fit those before it\n" ∷ [])
+
+-- a picture in text and a page tell what the judge of traces found
 abbrev pub picture : Kind → Called → Told → Finding → List ℕ
-picture Text n t f = drawn n t.head.threads t.head.mutexes t.lines.items t.last
+picture Text n t f = drawn n t.head.threads t.head.mutexes t.lines.items t.last ++ misfit_text f
 picture Svg n t f = svg_drawn n t.head.threads t.head.mutexes t.lines.items t.last
 picture Html n t f = page_text n t f
 
 -- of all of the trace that these bytes are
 abbrev pub IsJudged : Kind → List ℕ → Finding → Type 0
-IsJudged Text bytes f = ⊤
+IsJudged Text bytes f = Tells (trace_read bytes) (Ok f)
 IsJudged Svg bytes f = ⊤
 IsJudged Html bytes f = Tells (trace_read bytes) (Ok f)
 

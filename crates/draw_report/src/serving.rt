@@ -1,6 +1,6 @@
 //! The program, but for opening its file.
 
-ghost use Rattle.std.specs.Prelude.{◌≡◌, ◌≤◌, ◌<◌, ◌^◌, ◌+◌, vec_len, IfOk, IfErr, OnOk};
+ghost use Rattle.std.specs.Prelude.{◌≡◌, ◌++◌, ◌≤◌, ◌<◌, ◌^◌, ◌+◌, vec_len, IfOk, IfErr, OnOk};
 ghost use Rattle.std.specs.Io.KnownBytes.{Consumes, IsAtEnd};
 ghost use Rattle.streams.specs.Leaves.{Leaves};
 ghost use Rattle.streams.specs.Taken.{TakesAtMost};
@@ -10,20 +10,23 @@ ghost use Rattle.script.specs.Limits as scripts;
 ghost use Rattle.draw_report.specs.Names.{called_by};
 ghost use Rattle.draw_report.specs.Scripts.{FailsScript, GivesScript};
 ghost use Rattle.draw_report.specs.Served.{Draws, Fails, FailsDrawing, IsUnread};
-ghost use Rattle.draw_report.specs.Served.{LeavesPicture, Serves, failed_by, undrawn_by};
+ghost use Rattle.draw_report.specs.Served.{LeavesPicture, Serves, failed_by, misfit_text, undrawn_by};
+ghost use Rattle.picture.specs.Drawn.{drawn};
 ghost use Rattle.verdict.specs.Told.{IsWithin};
 
 use crate::asking::Kind;
 use crate::legend::{lanes_legend, marks_legend};
 use crate::messages::Failure;
 use crate::names::{is_like, names_of};
+use facts::Line;
 use page::write_page;
 use picture::{Names, Unwritten, draw, draw_svg};
 use script::{Mode, Script, parse};
 use std::alloc::Global;
-use std::io::{self, Read};
-use streams::{Output, ReadFault, put, read_below};
-use verdict::{MAX_BYTES, Told, explain, read_trace};
+use std::io::{self, Read, Write};
+use streams::Piece::{Number, Word};
+use streams::{Output, ReadFault, put, put_pieces, read_below};
+use verdict::{Finding, MAX_BYTES, Told, explain, read_trace};
 
 /// What a fault of reading is told as.
 fn failed_by(fault: ReadFault) -> Failure
@@ -93,6 +96,64 @@ fn draw_page<W: Output>(
     }
 }
 
+/// Which line of a trace doesn't fit, if one doesn't.
+fn write_misfit<W: Write>(out: &mut W, finding: &Finding) -> Result<(), Unwritten>
+    ensures { Leaves (W.contents out.old) (W.contents out.new) result (misfit_text finding.now) }
+{
+    match *finding {
+        Finding::Legal { .. } => Ok(()),
+        Finding::Illegal(why) => {
+            let line = Number(why.line as u64);
+            match put_pieces(
+                out,
+                &[
+                    Word("        line "),
+                    line,
+                    Word(" doesn't fit those before it\n"),
+                ],
+            ) {
+                Ok(()) => Ok(()),
+                Err(_unwritten) => Err(Unwritten::Failed),
+            }
+        }
+    }
+}
+
+/// A picture in text of a trace with these lines, and which of them doesn't fit.
+fn write_judged<W: Write>(
+    alloc: Global,
+    names: &Names,
+    trace: &Told,
+    lines: &[Line],
+    finding: &Finding,
+    out: &mut W,
+) -> Result<(), Unwritten>
+    ensures { Leaves (W.contents out.old) (W.contents out.new) result
+        (drawn names.now trace.now.head.threads trace.now.head.mutexes lines.now trace.now.last ++ misfit_text finding.now) }
+{
+    let (threads, mutexes) = (trace.head.threads, trace.head.mutexes);
+    draw(alloc, names, threads, mutexes, lines, trace.last, out)?;
+    write_misfit(out, finding)
+}
+
+/// A picture in text of a trace, with how it is judged.
+fn draw_text<W: Output>(
+    alloc: Global,
+    names: &Names,
+    bytes: &[u8],
+    trace: &Told,
+    out: &mut W,
+) -> Result<(), Unwritten>
+    ensures { LeavesPicture Kind.Text names.now bytes.now trace.now (W.contents out.old) (W.contents out.new) result }
+{
+    let lines = trace.lines.as_slice();
+    match explain(alloc, bytes) {
+        Ok(finding) => write_judged(alloc, names, trace, lines, &finding, out),
+        // the bytes are a trace: it has no fault
+        Err(_wanted) => Err(Unwritten::OutOfMemory),
+    }
+}
+
 fn draw_as<W: Output>(
     alloc: Global,
     kind: Kind,
@@ -107,7 +168,7 @@ fn draw_as<W: Output>(
     let lines = trace.lines.as_slice();
     let (threads, mutexes) = (trace.head.threads, trace.head.mutexes);
     match kind {
-        Kind::Text => draw(alloc, names, threads, mutexes, lines, trace.last, out),
+        Kind::Text => draw_text(alloc, names, bytes, trace, out),
         Kind::Svg => draw_svg(alloc, names, threads, mutexes, lines, trace.last, out),
         Kind::Html => draw_page(alloc, names, bytes, trace, out),
     }

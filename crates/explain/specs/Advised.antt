@@ -16,10 +16,15 @@ use Rattle.script.specs.declared.fault.Fault.{Fault as ScriptReason}
 use Rattle.script.specs.Limits as script
 use Rattle.verdict.specs.declared.fault.Fault.TheVariants as of_trace
 use Rattle.verdict.specs.declared.fault.Fault.{Fault as TraceReason}
+use Rattle.std.specs.Prelude.{false, slice_get}
 use Rattle.posixmutex.specs.declared.point.Decision.{Decision}
+use Rattle.posixmutex.specs.declared.point.Operation.{Operation}
+use Rattle.posixmutex.specs.declared.point.Operation.TheVariants.{Unlock, Wait, TimedWait}
+use Rattle.facts.specs.declared.fact.Fact.{Fact}
+use Rattle.facts.specs.declared.fact.Fact.TheVariants.{Begin}
 use Rattle.facts.specs.declared.fact.Line.{Line}
 use Rattle.verdict.specs.declared.misfit.Misfit.{Misfit}
-use Rattle.verdict.specs.declared.misfit.Misfit.TheVariants.{NotAllowed}
+use Rattle.verdict.specs.declared.misfit.Misfit.TheVariants.{NotAllowed, Undecided}
 use Rattle.verdict.specs.declared.misfit.TraceMisfit.{TraceMisfit}
 use Rattle.verdict.specs.Limits as trace
 use Rattle.verdict.specs.Reading.{Trace, trace_read}
@@ -37,6 +42,7 @@ use Rattle.explain.specs.declared.explanation.Note.TheVariants.{Range, TooMany, 
 use Rattle.explain.specs.declared.explanation.Note.TheVariants.{NothingDeclared, Undeclared, OtherThing}
 use Rattle.explain.specs.declared.explanation.Note.TheVariants.{DeclaredTwice, DiesTwice, Allowed, SpoilingWait}
 use Rattle.explain.specs.declared.explanation.Note.TheVariants.{Bytes, Lines, Events, Uncounted, NoEnd, BehindEnd}
+use Rattle.explain.specs.declared.explanation.Standing.{Standing}
 use Rattle.explain.specs.declared.explanation.Title.{Title}
 use Rattle.explain.specs.declared.explanation.Title.TheVariants.{Good, Script, Legal, Illegal, Trace as TraceTitle}
 use Rattle.explain.specs.declared.explanation.Things.{Things}
@@ -342,15 +348,42 @@ IsTraceAdvice bytes text n of_trace.TooLong a = a ≡ saying (Bytes trace.max_by
 IsTraceAdvice bytes text n of_trace.Cut a = a ≡ cut_short text n
 IsTraceAdvice bytes text n of_trace.OutOfMemory a = a ≡ nothing
 
--- of a reply that a mutex doesn't allow, those are told that it does
-abbrev pub allowed_note : Misfit → Option Decision → Option Note
-allowed_note (NotAllowed o x) (Some d) = Some (Allowed (standing_of o d.thread) d.operation)
-allowed_note m d = None
+-- the operation of a call that a line begins
+abbrev pub operation_begun : Fact → Option Operation
+operation_begun (Begin t c) = Some c.operation
+operation_begun f = None
+
+abbrev pub begun_operation : Option Line → Option Operation
+begun_operation None = None
+begun_operation (Some l) = operation_begun l.fact
+
+-- that of the line with this number, if there is one
+abbrev pub operation_at : List Line → Option ℕ → Option Operation
+operation_at es None = None
+operation_at es (Some n) = begun_operation (slice_get es (n - 2))
+
+-- the operation of the call that the thread of line n began last before it: what an undecided call goes back to
+abbrev pub call_at : List Line → ℕ → Option Operation
+call_at es n = operation_at es (origin_of es (record { line = n; misfit = Undecided }))
+
+-- what the thread asks of the mutex at a point: a wait unlocks it, and is refused as a wait where its thread doesn't own it
+abbrev pub asked_at : Bool → Operation → Option Operation → Operation
+asked_at false Unlock (Some Wait) = Wait
+asked_at false Unlock (Some TimedWait) = Wait
+asked_at owns op call = op
+
+abbrev pub replies_note : Standing → Operation → Option Operation → Note
+replies_note s op call = Allowed s (asked_at s.owns op call)
+
+-- of a reply that a mutex doesn't allow in such a call, those are told that it does
+abbrev pub allowed_note : Misfit → Option Decision → Option Operation → Option Note
+allowed_note (NotAllowed o x) (Some d) call = Some (replies_note (standing_of o d.thread) d.operation call)
+allowed_note m d call = None
 
 abbrev pub misfit_advice : List Line → TraceMisfit → Advice
 misfit_advice es why = record {
   mark = None;
-  note = allowed_note why.misfit (step_at es why.line);
+  note = allowed_note why.misfit (step_at es why.line) (call_at es why.line);
   also = None;
   origin = origin_of es why;
 }

@@ -5,7 +5,8 @@ ghost use Rattle.lines.specs.Lines.{words_of};
 ghost use Rattle.verdict.specs.Reading.{trace_read};
 ghost use Rattle.verdict.specs.Verdicts.{Tells};
 ghost use Rattle.explain.specs.Advised.{IsAdvised, IsMisfitAdvice, IsTraceAdvice, cut_short};
-ghost use Rattle.explain.specs.Advised.{allowed_note, head_range, kind_of, line_range, misfit_advice};
+ghost use Rattle.explain.specs.Advised.{allowed_note, asked_at, call_at, head_range, kind_of, line_range};
+ghost use Rattle.explain.specs.Advised.{misfit_advice, operation_at};
 ghost use Rattle.explain.specs.Advised.{trace_range, uncounted_at};
 ghost use Rattle.explain.specs.Explains.{IsOfKind, IsTitle};
 ghost use Rattle.explain.specs.Origins.{step_at};
@@ -19,9 +20,9 @@ use crate::ranges::{ranged, uncounted};
 use crate::sought::word_of;
 use crate::spoiling::first_spoiling;
 use crate::stray::stray_advice;
-use facts::Line;
+use facts::{Fact, Line};
 use grammar::Kind;
-use posixmutex::Decision;
+use posixmutex::{Decision, Operation};
 use std::alloc::{AllocError, Global};
 use verdict::{
     Fault, Finding, MAX_BYTES, MAX_CONDITIONS, MAX_EVENTS, MAX_MUTEXES, MAX_THREADS, Misfit,
@@ -128,13 +129,62 @@ fn step_at(entries: &[Line], line: usize) -> Option<Decision>
     }
 }
 
-/// What is said of a line that doesn't fit: of a reply that its mutex doesn't allow, those that it does.
-fn allowed_note(misfit: &Misfit, step: Option<Decision>) -> Option<Note>
-    ensures { result ≡ allowed_note misfit.now step }
+/// The operation of the call that the line with this number begins, if there is one.
+fn operation_at(entries: &[Line], line: Option<usize>) -> Option<Operation>
+    ensures { result ≡ operation_at entries.now line }
+{
+    let Some(line) = line else {
+        return None;
+    };
+    match entries.get(line.saturating_sub(2)) {
+        Some(entry) => match entry.fact {
+            Fact::Begin(_, call) => Some(call.operation),
+            _ => None,
+        },
+        None => None,
+    }
+}
+
+/// The operation of the call that the thread of the line with this number began last before it: what a call goes back to
+/// that isn't decided.
+fn call_at(entries: &[Line], line: usize) -> Option<Operation>
+    ensures { result ≡ call_at entries.now line }
+{
+    let undecided = TraceMisfit {
+        line,
+        misfit: Misfit::Undecided,
+    };
+    operation_at(entries, origin_of(entries, undecided))
+}
+
+/// What the thread asks of the mutex at a point of its call: a wait unlocks it, and is refused as a wait where its thread
+/// doesn't own it.
+fn asked_at(owns: bool, operation: Operation, call: Option<Operation>) -> Operation
+    ensures { result ≡ asked_at owns operation call }
+{
+    if owns {
+        return operation;
+    }
+    match operation {
+        Operation::Unlock => match call {
+            Some(Operation::Wait | Operation::TimedWait) => Operation::Wait,
+            _ => operation,
+        },
+        _ => operation,
+    }
+}
+
+/// What is said of a line that doesn't fit: of a reply that its mutex doesn't allow in such a call, those that it does.
+fn allowed_note(misfit: &Misfit, step: Option<Decision>, call: Option<Operation>) -> Option<Note>
+    ensures { result ≡ allowed_note misfit.now step call }
 {
     match *misfit {
         Misfit::NotAllowed { object, .. } => match step {
-            Some(step) => Some(Note::Allowed(standing_of(&object, step.thread), step.operation)),
+            Some(step) => {
+                let standing = standing_of(&object, step.thread);
+                let operation = asked_at(standing.owns, step.operation, call);
+                Some(Note::Allowed(standing, operation))
+            }
             None => None,
         },
         _ => None,
@@ -145,9 +195,11 @@ fn allowed_note(misfit: &Misfit, step: Option<Decision>) -> Option<Note>
 fn misfit_advice(entries: &[Line], why: TraceMisfit) -> Advice<'static>
     ensures { result ≡ misfit_advice entries.now why }
 {
+    let step = step_at(entries, why.line);
+    let call = call_at(entries, why.line);
     Advice {
         mark: None,
-        note: allowed_note(&why.misfit, step_at(entries, why.line)),
+        note: allowed_note(&why.misfit, step, call),
         also: None,
         origin: origin_of(entries, why),
     }

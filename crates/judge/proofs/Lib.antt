@@ -1,3 +1,4 @@
+pub mod Behind
 pub mod Legal
 pub mod Lines
 pub mod Some

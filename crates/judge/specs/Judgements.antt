@@ -4,12 +4,13 @@
 -- legal up to the line that is named, and with that line no trace shows it; the reason is that of the thread's own lines;
 -- and with each reply that is named in place of the line's the history is legal. One that isn't decided is legal up to
 -- the line that is named.
-use Rattle.std.specs.Prelude.{ℕ, ◌≡◌, ◌<◌, ◌≤◌, ◌+◌, Some, List, [], ◌∷◌, All, length, reverse, take}
+use Rattle.std.specs.Prelude.{ℕ, ◌≡◌, ◌<◌, ◌≤◌, ◌+◌, Some, List, [], ◌∷◌, ◌++◌, All, length, reverse, take}
 use Rattle.std.specs.List.{slice_get}
 use Rattle.lockword.specs.declared.reply.Reply.{Reply}
-use Rattle.facts.specs.declared.fact.Fact.TheVariants.{Return}
+use Rattle.facts.specs.declared.fact.Fact.TheVariants.{Return, Kill}
 use Rattle.histories.specs.declared.head.Head.{Head}
-use Rattle.histories.specs.declared.entry.Entry.TheVariants.{Told}
+use Rattle.histories.specs.declared.entry.Entry.{Entry}
+use Rattle.histories.specs.declared.entry.Entry.TheVariants.{Told, Doom}
 use Rattle.histories.specs.declared.entry.HistoryLine.{HistoryLine}
 use Rattle.histories.specs.Histories.{LegalHistory}
 use Rattle.certificates.specs.Certificates.{IsCertificate, entries, whose}
@@ -50,17 +51,29 @@ abbrev pub ArePossible : Head → List HistoryLine → ℕ → Reason → List R
 ArePossible h lines t (OutOfTurn why) ys = ys ≡ []
 ArePossible h lines t (NoOrder op m x n) ys = AreSome h lines t (replies_of op) ys
 
--- the line at this place is the first with which no trace shows the history, for this reason; and these replies it could
--- have told
-pub record IsIllegal (h : Head) (history : List HistoryLine) (at : ℕ) (why : Reason) (possible : List Reply) : Type 0 where
+-- a line as a trace tells it: a doom is the kill
+abbrev pub told_of : Entry → Entry
+told_of (Told f) = Told f
+told_of (Doom t) = Told (Kill t)
+
+-- these steps are a certificate of the lines, and behind it one line more
+abbrev pub EndsIn : Head → List HistoryLine → Entry → List Entry → Type 0
+EndsIn h lines e steps =
+    (before : List Entry) × IsCertificate h.mutexes lines before × (steps ≡ before ++ told_of e ∷ [])
+
+-- the line at this place is the first with which no trace shows the history, for this reason; these replies it could
+-- have told; and the steps show the lines before it, and end with it
+pub record IsIllegal (h : Head) (history : List HistoryLine) (at : ℕ) (why : Reason) (possible : List Reply)
+    (steps : List Entry) : Type 0 where
   pub before : IsLegalBefore h history at
   pub never : IsNeverLegal h history at
   pub line : HistoryLine
   pub stands : slice_get history at ≡ Some line
   pub reason : reason_of (reverse (entries (take at history))) line.entry ≡ Some why
   pub could : ArePossible h (take at history) (whose line.entry) why possible
+  pub shown : EndsIn h (take at history) line.entry steps
 
 abbrev pub IsJudged : Head → List HistoryLine → Judgement → Type 0
 IsJudged h history (Legal steps) = IsCertificate h.mutexes history steps.items
-IsJudged h history (Illegal at why possible) = IsIllegal h history at why possible.items
+IsJudged h history (Illegal at why possible steps) = IsIllegal h history at why possible.items steps.items
 IsJudged h history (Undecided at) = IsLegalBefore h history at

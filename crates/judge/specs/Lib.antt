@@ -1,3 +1,4 @@
 pub mod Reasons
 pub mod Replies
+pub mod Evidence
 pub mod Judgements

@@ -3,12 +3,13 @@
 ghost use Rattle.std.specs.List.{slice_get};
 ghost use Rattle.std.specs.Prelude.{◌≡◌, true, IfOk};
 ghost use Rattle.histories.specs.Reading.{IsHead};
-ghost use Rattle.judge.specs.Judgements.{IsJudged, IsLegal, IsNeverLegal};
+ghost use Rattle.judge.specs.Judgements.{EndsIn, IsJudged, IsLegal, IsNeverLegal, told_of};
 
 use crate::certificate::{certificate_of, has_certificate, pass_over};
 use crate::reason::{Reason, reason_of};
 use crate::replies::possible_at;
 use completing::{Pass, Stop};
+use facts::Fact;
 use histories::{Entry, Head, HistoryLine};
 use lockword::Reply;
 use refuting::refutes;
@@ -20,11 +21,13 @@ pub enum Judgement {
     /// Some trace shows it: these are its steps, a certificate.
     Legal(Vec<Entry>),
     /// The history is legal up to this place of a line, counted from 0; with that line no order of the calls explains
-    /// it. With each of these replies in place of the line's own some order does; there may be others.
+    /// it. With each of these replies in place of the line's own some order does; there may be others. The steps are a
+    /// certificate of the lines before it, and behind them that line, a doom as the kill.
     Illegal {
         at: usize,
         why: Reason,
         possible: Vec<Reply>,
+        steps: Vec<Entry>,
     },
     /// The history is legal up to this place of a line, counted from 0; with that line no certificate was found, and it
     /// wasn't refuted.
@@ -156,6 +159,35 @@ fn line_at(lines: &[HistoryLine], at: usize) -> Option<HistoryLine>
     }
 }
 
+/// The line as a trace tells it: a doom is the kill.
+fn told_of(entry: Entry) -> Entry
+    ensures { result ≡ told_of entry }
+{
+    match entry {
+        Entry::Told(_) => entry,
+        Entry::Doom(thread) => Entry::Told(Fact::Kill(thread)),
+    }
+}
+
+/// A certificate of the lines, and behind it one line more.
+fn steps_to(
+    alloc: Global,
+    head: &Head,
+    lines: &[HistoryLine],
+    entry: Entry,
+) -> Result<Vec<Entry>, Stop>
+    requires { IsHead head.now }
+    ensures { IfOk result (λ steps. EndsIn head.now lines.now entry steps.items) }
+{
+    let Some(mut steps) = certificate_of(alloc, head, lines)? else {
+        return Err(Stop::Lost);
+    };
+    match steps.push(told_of(entry)) {
+        Ok(()) => Ok(steps),
+        Err(_) => Err(Stop::Memory),
+    }
+}
+
 /// What is said where a certificate reaches up to this place.
 fn judged_at(
     alloc: Global,
@@ -180,7 +212,13 @@ fn judged_at(
     let refuted = is_refuted(alloc, head, lines, at, &why)?;
     if refuted {
         let possible = possible_at(alloc, head, earlier, &line, &why)?;
-        return Ok(Judgement::Illegal { at, why, possible });
+        let steps = steps_to(alloc, head, earlier, line.entry)?;
+        return Ok(Judgement::Illegal {
+            at,
+            why,
+            possible,
+            steps,
+        });
     }
     Ok(Judgement::Undecided(at))
 }

@@ -24,11 +24,13 @@
 #![tactic(auto)]
 
 mod certificate;
+mod evidence;
 mod judging;
 mod laws;
 mod reason;
 mod replies;
 
+pub use evidence::{Change, EarlierReply, Evidence, evidence_of};
 pub use judging::{Judgement, judge};
 pub use laws::{points_have_these_replies, reasons_hold};
 pub use reason::{OutOfTurn, Reason};

@@ -1,6 +1,6 @@
 //! Why no order of the calls explains a line, as its thread's own lines say.
 
-ghost use Rattle.std.specs.Prelude.{◌≡◌, ◌==◌, reverse, if◌then◌else◌};
+ghost use Rattle.std.specs.Prelude.{◌≡◌, reverse};
 ghost use Rattle.certificates.specs.Certificates.{entries, whose};
 ghost use Rattle.judge.specs.Reasons.{begin_reason, death_reason, reap_reason, reason_by, reason_of, renewal_reason};
 ghost use Rattle.judge.specs.Reasons.{return_reason, standing_after, standing_behind};
@@ -78,28 +78,18 @@ fn standing_after(entry: &Entry, line: usize) -> Standing
     }
 }
 
-/// Where the thread is with one line more, which is at this place.
-fn standing_with(standing: Standing, entry: &Entry, line: usize, thread: Tid) -> Standing
-    ensures { result ≡ (if whose entry.now == thread then standing_after entry.now line else standing) }
-{
-    if whose(entry) == thread {
-        standing_after(entry, line)
-    } else {
-        standing
-    }
-}
-
 /// Where the thread is behind these lines.
-fn standing_behind(lines: &[HistoryLine], thread: Tid) -> Standing
+pub fn standing_behind(lines: &[HistoryLine], thread: Tid) -> Standing
     ensures { result ≡ standing_behind thread (reverse (entries lines.now)) }
 {
-    let mut standing = Standing::Resting;
-    let mut place: usize = 0;
-    for line in lines {
-        place += 1;
-        standing = standing_with(standing, &line.entry, place, thread);
+    let mut rest = lines;
+    'lines: while let Some((line, before)) = rest.split_last() {
+        if whose(&line.entry) == thread {
+            return standing_after(&line.entry, rest.len());
+        }
+        rest = before;
     }
-    standing
+    Standing::Resting
 }
 
 /// Why a dead or reaped thread can't tell a line that only the living tell.

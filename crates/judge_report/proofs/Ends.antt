@@ -1,5 +1,5 @@
 -- What is known where something was told, or wasn't.
-use Rattle.std.proofs.Common.{◌≡◌, ℕ, ◌<◌, Bool, List, [], ◌++◌, length, reverse, get_or, Option, Some, None, IfSome, Result, Ok, Err, IsErr, refl, sym, ap, subst, ◌∙◌}
+use Rattle.std.proofs.Common.{◌≡◌, ℕ, ◌<◌, Bool, List, [], ◌++◌, length, reverse, take, get_or, Option, Some, None, IfSome, Result, Ok, Err, IsErr, refl, sym, ap, subst, ◌∙◌}
 use Rattle.std.specs.Prelude.{count_by, Vec}
 use Rattle.std.specs.declared.alloc.Global.{Global}
 use Rattle.std.specs.Prelude.{if◌then◌else◌, ◌==◌}
@@ -19,7 +19,7 @@ use Rattle.judge.specs.declared.judging.Judgement.TheVariants.{Legal, Illegal, U
 use Rattle.judge.specs.declared.reason.Reason.{Reason}
 use Rattle.judge.specs.Judgements.{IsIllegal, IsJudged, IsLegalBefore}
 use Rattle.judge_report.specs.declared.messages.Failure.{Failure}
-use Rattle.judge_report.specs.declared.messages.Failure.TheVariants.{Usage, CannotRead, CannotWrite, CannotKeep, TooMany, NoPlace, OutOfMemory, Ill}
+use Rattle.judge_report.specs.declared.messages.Failure.TheVariants.{Usage, Overwriting, CannotRead, CannotWrite, CannotKeep, TooMany, NoPlace, OutOfMemory, Ill}
 use Rattle.judge_report.specs.declared.reading.History.{History}
 use Rattle.judge_report.specs.declared.reading.ReadFault.{ReadFault}
 use Rattle.judge_report.specs.declared.reading.ReadFault.TheVariants as read
@@ -30,7 +30,7 @@ use Rattle.judge_report.specs.Kept.{IsFilled, IsUnkept}
 use Rattle.judge_report.specs.Said.{AreNamed, IsSaid, Tells, named, status_of}
 use Rattle.judge_report.specs.Served.{Fails, IsRead, Serves, ServesFront, Unread, failed_by}
 use Rattle.judge_report.specs.Texts.{cuts_text, illegal_text, legal_text, undecided_text, waiters_text}
-use Rattle.judge_report.proofs.Saying.{is_illegal, is_legal, is_legal_before}
+use Rattle.judge_report.proofs.Saying.{illegal_so, is_legal, is_legal_before}
 
 -- whatever came of a text and of what was done then, a beginning of it stands, if that kept it
 pub leaves_is_front : {X E : Type 0} (a b c : Option (List ℕ)) (r : Result X E) (text : List ℕ) → Leaves a b r text → Keeps b c → AppendsFront a c text
@@ -40,24 +40,26 @@ leaves_is_front a b c (Err e) text h k = (h.0, Appends-kept a b c _ h.1 k)
 -- ---- what is said
 
 legal_so : (waiting : Bool) (h : History) (steps : List Entry) (points : ℕ) (cs : List Cut) (ws : List Waiter) → points ≡ count_by is_point_step steps → ws ≡ named waiting steps
-    → legal_text points ++ (cuts_text cs ++ waiters_text h.lines.items ws) ≡ legal_text (count_by is_point_step steps) ++ (cuts_text cs ++ waiters_text (reverse (heard_of h).seen) (named waiting steps))
+    → legal_text points h.lines.items ++ (cuts_text cs ++ waiters_text h.lines.items ws)
+    ≡ legal_text (count_by is_point_step steps) (reverse (heard_of h).seen) ++ (cuts_text cs ++ waiters_text (reverse (heard_of h).seen) (named waiting steps))
 legal_so waiting h steps points cs ws count names =
-    ap (λ (n : ℕ). legal_text n ++ (cuts_text cs ++ waiters_text h.lines.items ws)) count
-    ∙ ap (λ (us : List Waiter). legal_text (count_by is_point_step steps) ++ (cuts_text cs ++ waiters_text h.lines.items us)) names
-    ∙ ap (λ (ls : List HistoryLine). legal_text (count_by is_point_step steps) ++ (cuts_text cs ++ waiters_text ls (named waiting steps))) (sym (reverse-reverse h.lines.items))
+    ap (λ (n : ℕ). legal_text n h.lines.items ++ (cuts_text cs ++ waiters_text h.lines.items ws)) count
+    ∙ ap (λ (us : List Waiter). legal_text (count_by is_point_step steps) h.lines.items ++ (cuts_text cs ++ waiters_text h.lines.items us)) names
+    ∙ ap (λ (ls : List HistoryLine). legal_text (count_by is_point_step steps) ls ++ (cuts_text cs ++ waiters_text ls (named waiting steps))) (sym (reverse-reverse h.lines.items))
 
 pub tells_legal : {E : Type 0} (waiting : Bool) (h : History) (j : Judgement) (steps : Vec Entry Global) (points : ℕ) (cs : List Cut) (ws : List Waiter) (old new : Option (List ℕ)) (r : Result (Unit {0}) E) → j ≡ Legal steps
-    → IsJudged h.head h.lines.items j → AreNamed waiting j ws → points ≡ count_by is_point_step steps.items → Leaves old new r (legal_text points ++ (cuts_text cs ++ waiters_text h.lines.items ws)) → Tells waiting (heard_of h) j cs old new r
+    → IsJudged h.head h.lines.items j → AreNamed waiting j ws → points ≡ count_by is_point_step steps.items → Leaves old new r (legal_text points h.lines.items ++ (cuts_text cs ++ waiters_text h.lines.items ws)) → Tells waiting (heard_of h) j cs old new r
 tells_legal waiting h j steps points cs ws old new r is judged names count leaves =
     let so : ws ≡ named waiting steps.items = subst (λ (k : Judgement). AreNamed waiting k ws) is names in
     subst (λ (k : Judgement). Tells waiting (heard_of h) k cs old new r) (sym is)
-    (legal_text points ++ (cuts_text cs ++ waiters_text h.lines.items ws), (is_legal h steps.items (subst (IsJudged h.head h.lines.items) is judged), legal_so waiting h steps.items points cs ws count so), leaves)
+    (legal_text points h.lines.items ++ (cuts_text cs ++ waiters_text h.lines.items ws), (is_legal h steps.items (subst (IsJudged h.head h.lines.items) is judged), legal_so waiting h steps.items points cs ws count so), leaves)
 
-pub tells_illegal : {E : Type 0} (waiting : Bool) (h : History) (j : Judgement) (at : ℕ) (why : Reason) (possible : Vec Reply Global) (l : HistoryLine) (cs : List Cut) (old new : Option (List ℕ)) (r : Result (Unit {0}) E) → j ≡ Illegal at why possible
-    → IsJudged h.head h.lines.items j → l ≡ get_or h.lines.items at l → Leaves old new r (illegal_text h.lines.items l why possible.items) → Tells waiting (heard_of h) j cs old new r
-tells_illegal waiting h j at why possible l cs old new r is judged line leaves =
+pub tells_illegal : {E : Type 0} (waiting : Bool) (h : History) (j : Judgement) (at : ℕ) (why : Reason) (possible : Vec Reply Global) (steps : Vec Entry Global) (l : HistoryLine) (cs : List Cut) (old new : Option (List ℕ)) (r : Result (Unit {0}) E) → j ≡ Illegal at why possible steps
+    → IsJudged h.head h.lines.items j → l ≡ get_or h.lines.items at l → Leaves old new r (illegal_text (take at h.lines.items) l why possible.items) → Tells waiting (heard_of h) j cs old new r
+tells_illegal waiting h j at why possible steps l cs old new r is judged line leaves =
+    let so = illegal_so h at l why possible.items steps.items (subst (IsJudged h.head h.lines.items) is judged) line in
     subst (λ (k : Judgement). Tells waiting (heard_of h) k cs old new r) (sym is)
-    (illegal_text h.lines.items l why possible.items, (l, is_illegal h at l why possible.items (subst (IsJudged h.head h.lines.items) is judged) line, ap (λ (ls : List HistoryLine). illegal_text ls l why possible.items) (sym (reverse-reverse h.lines.items))), leaves)
+    (illegal_text (take at h.lines.items) l why possible.items, (l, so.0, ap (λ (ls : List HistoryLine). illegal_text ls l why possible.items) so.1), leaves)
 
 pub tells_undecided : {E : Type 0} (waiting : Bool) (h : History) (j : Judgement) (at : ℕ) (l : HistoryLine) (cs : List Cut) (old new : Option (List ℕ)) (r : Result (Unit {0}) E) → j ≡ Undecided at → IsJudged h.head h.lines.items j
     → l ≡ get_or h.lines.items at l → Leaves old new r (undecided_text l) → Tells waiting (heard_of h) j cs old new r
@@ -65,8 +67,8 @@ tells_undecided waiting h j at l cs old new r is judged line leaves =
     subst (λ (k : Judgement). Tells waiting (heard_of h) k cs old new r) (sym is)
     (undecided_text l, (l, is_legal_before h at l (subst (IsJudged h.head h.lines.items) is judged) line, refl), leaves)
 
-pub illegal_within : (h : History) (j : Judgement) (at : ℕ) (why : Reason) (possible : Vec Reply Global) → j ≡ Illegal at why possible → IsJudged h.head h.lines.items j → at < length h.lines.items
-illegal_within h j at why possible is judged = let found : IsIllegal h.head h.lines.items at why possible.items = subst (IsJudged h.head h.lines.items) is judged in found.before.0
+pub illegal_within : (h : History) (j : Judgement) (at : ℕ) (why : Reason) (possible : Vec Reply Global) (steps : Vec Entry Global) → j ≡ Illegal at why possible steps → IsJudged h.head h.lines.items j → at < length h.lines.items
+illegal_within h j at why possible steps is judged = let found : IsIllegal h.head h.lines.items at why possible.items steps.items = subst (IsJudged h.head h.lines.items) is judged in found.before.0
 
 pub undecided_within : (h : History) (j : Judgement) (at : ℕ) → j ≡ Undecided at → IsJudged h.head h.lines.items j → at < length h.lines.items
 undecided_within h j at is judged = let before : IsLegalBefore h.head h.lines.items at = subst (IsJudged h.head h.lines.items) is judged in before.0
@@ -110,6 +112,7 @@ is_unread remaining r input e f inner empty capacity gives is =
 
 pub unread_fails : (Makes Fills : List ℕ → Option (List ℕ) → Type 0) (waiting : Bool) (kept : Kept) (had old : Option (List ℕ)) (f : Failure) → Unread had f → Fails Makes Fills waiting kept had old old f
 unread_fails Makes Fills waiting kept had old Usage h = h
+unread_fails Makes Fills waiting kept had old Overwriting h = absurd h
 unread_fails Makes Fills waiting kept had old CannotRead h = refl
 unread_fails Makes Fills waiting kept had old CannotWrite h = absurd h
 unread_fails Makes Fills waiting kept had old CannotKeep h = absurd h
@@ -120,6 +123,7 @@ unread_fails Makes Fills waiting kept had old (Ill f) h = (refl, h)
 
 pub unkept_fails : (Makes Fills : List ℕ → Option (List ℕ) → Type 0) (waiting : Bool) (kept : Kept) (had old : Option (List ℕ)) (f : Failure) → IsUnkept f → Fails Makes Fills waiting kept had old old f
 unkept_fails Makes Fills waiting kept had old Usage h = absurd h
+unkept_fails Makes Fills waiting kept had old Overwriting h = absurd h
 unkept_fails Makes Fills waiting kept had old CannotRead h = absurd h
 unkept_fails Makes Fills waiting kept had old CannotWrite h = absurd h
 unkept_fails Makes Fills waiting kept had old CannotKeep h = refl

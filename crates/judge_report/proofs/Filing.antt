@@ -7,13 +7,15 @@ use Rattle.std.proofs.lemmas.List.{length-reverse, reverse-append}
 use Rattle.histories.specs.declared.head.Head.{Head}
 use Rattle.histories.specs.declared.entry.Entry.{Entry}
 use Rattle.judge.specs.declared.judging.Judgement.{Judgement}
-use Rattle.judge.specs.declared.judging.Judgement.TheVariants.{Legal}
+use Rattle.lockword.specs.declared.reply.Reply.{Reply}
+use Rattle.judge.specs.declared.judging.Judgement.TheVariants.{Legal, Illegal}
+use Rattle.judge.specs.declared.reason.Reason.{Reason}
 use Rattle.windows.specs.declared.cutting.Window.{Window}
 use Rattle.judge_report.specs.declared.asking.Keeping.{Keeping}
 use Rattle.judge_report.specs.declared.keeping.Cut.{Cut}
 use Rattle.judge_report.specs.Asked.{Kept, kept_of}
 use Rattle.judge_report.specs.Heard.{Heard}
-use Rattle.judge_report.specs.Kept.{AreKept, IsFilled, IsKept, IsWindowKept, IsWritten}
+use Rattle.judge_report.specs.Kept.{AreKept, IsFilled, IsIllegalKept, IsKept, IsWindowKept, IsWritten}
 
 pub written_so : {E : Type 0} (Makes Fills : List ℕ → Option (List ℕ) → Type 0) (name text : List ℕ) (a b : Option (List ℕ)) (r : Result (Unit {0}) E) → Makes name a → Appends a b text → IfOk r (λ _. Fills name b)
     → IfOk r (λ _. IsWritten Makes Fills name text)
@@ -33,6 +35,12 @@ pub filled_so : {E : Type 0} (Makes Fills : List ℕ → Option (List ℕ) → T
     → IfOk r (λ cuts. IsKept Makes Fills kept k.head steps.items cuts.items) → IfOk r (λ cuts. IsFilled Makes Fills kept k j cuts.items)
 filled_so Makes Fills kept k j steps r legal holds =
     subst (λ (q : Judgement). IfOk r (λ cuts. IsFilled Makes Fills kept k q cuts.items)) (sym legal) holds
+
+-- a trace of an illegal history
+pub filled_illegal : {E : Type 0} (Makes Fills : List ℕ → Option (List ℕ) → Type 0) (kept : Kept) (k : Heard) (j : Judgement) (at : ℕ) (why : Reason) (possible : Vec Reply Global) (steps : Vec Entry Global) (r : Result (Vec Cut Global) E) → j ≡ Illegal at why possible steps
+    → IfOk r (λ cuts. IsIllegalKept Makes Fills kept k.head steps.items × (cuts.items ≡ [])) → IfOk r (λ cuts. IsFilled Makes Fills kept k j cuts.items)
+filled_illegal Makes Fills kept k j at why possible steps r illegal holds =
+    subst (λ (q : Judgement). IfOk r (λ cuts. IsFilled Makes Fills kept k q cuts.items)) (sym illegal) holds
 
 pub kept_so : (Makes Fills : List ℕ → Option (List ℕ) → Type 0) (keeping is : Keeping) (h : Head) (steps : List Entry) (cs : List Cut) → keeping ≡ is → IsKept Makes Fills (kept_of is) h steps cs → IsKept Makes Fills (kept_of keeping) h steps cs
 kept_so Makes Fills keeping is h steps cs same holds = subst (λ (q : Keeping). IsKept Makes Fills (kept_of q) h steps cs) (sym same) holds

@@ -8,7 +8,7 @@ use Rattle.histories.specs.declared.entry.HistoryLine.{HistoryLine}
 use Rattle.histories.specs.Histories.{LegalHistory}
 use Rattle.certificates.specs.Certificates.{IsCertificate, entries, whose}
 use Rattle.judge.specs.declared.reason.Reason.{Reason}
-use Rattle.judge.specs.Judgements.{ArePossible, IsIllegal as IsJudgedIllegal, IsLegalBefore as IsJudgedBefore, IsNeverLegal}
+use Rattle.judge.specs.Judgements.{ArePossible, EndsIn, IsIllegal as IsJudgedIllegal, IsLegalBefore as IsJudgedBefore, IsNeverLegal}
 use Rattle.judge.specs.Reasons.{reason_of}
 use Rattle.judge.proofs.Legal.{legal}
 use Rattle.judge_report.specs.declared.reading.History.{History}
@@ -60,13 +60,21 @@ is_first_illegal h at l judged is =
       never = λ legal. judged.1 (subst (LegalHistory h.head.mutexes) same legal);
     }
 
-pub is_illegal : (h : History) (at : ℕ) (l : HistoryLine) (why : Reason) (possible : List Reply) → IsJudgedIllegal h.head h.lines.items at why possible → l ≡ get_or h.lines.items at l → IsIllegal (heard_of h) l why possible
+pub is_illegal : (h : History) (at : ℕ) (l : HistoryLine) (why : Reason) (possible : List Reply) (steps : List Entry) → IsJudgedIllegal h.head h.lines.items at why possible steps → l ≡ get_or h.lines.items at l
+    → IsIllegal (heard_of h) l why possible steps
 unfolding is_first_illegal is_legal_before
-is_illegal h at l why possible judged is =
+is_illegal h at l why possible steps judged is =
     let ls = h.lines.items in
     let same : l ≡ judged.line = is ∙ get_or_from_slice_get ls at judged.line l judged.stands in
     record {
       first = is_first_illegal h at l (judged.before, judged.never) is;
       reason = ap₂ (λ (es : List Entry) (x : HistoryLine). reason_of es x.entry) (sym (told-reverse (take at ls))) same ∙ judged.reason;
       could = subst₂ (λ (xs : List HistoryLine) (x : HistoryLine). ArePossible h.head xs (whose x.entry) why possible) (sym (reverse-reverse (take at ls))) (sym same) judged.could;
+      shown = subst₂ (λ (xs : List HistoryLine) (x : HistoryLine). EndsIn h.head xs x.entry steps) (sym (reverse-reverse (take at ls))) (sym same) judged.shown;
     }
+
+-- and the lines before it are those up to its place
+pub illegal_so : (h : History) (at : ℕ) (l : HistoryLine) (why : Reason) (possible : List Reply) (steps : List Entry) → IsJudgedIllegal h.head h.lines.items at why possible steps → l ≡ get_or h.lines.items at l
+    → (i : IsIllegal (heard_of h) l why possible steps) × (take at h.lines.items ≡ reverse i.first.before.earlier)
+unfolding is_illegal is_first_illegal is_legal_before
+illegal_so h at l why possible steps judged is = (is_illegal h at l why possible steps judged is, sym (reverse-reverse (take at h.lines.items)))

@@ -1,9 +1,12 @@
 -- The forms of a command line.
 use Rattle.std.specs.Prelude.{ℕ, Bool, true, false, List, [], ◌∷◌, codes, Option, Some, None}
-use Rattle.std.specs.Prelude.{if◌then◌else◌}
+use Rattle.std.specs.Prelude.{◌==◌, ◌&&◌, drop, length, nat_eq, if◌then◌else◌}
+use Rattle.std.specs.Char.{is_ascii_digit}
+use Rattle.std.specs.List.{list_all, starts_with}
 use Rattle.std.specs.Str.{bytes_eq}
 use Rattle.judge_report.specs.declared.asking.Form.{Form}
 use Rattle.judge_report.specs.declared.asking.Form.TheVariants.{History, Usage}
+use Rattle.judge_report.specs.declared.asking.Form.TheVariants as form
 use Rattle.judge_report.specs.declared.asking.Keeping.{Keeping}
 use Rattle.judge_report.specs.declared.asking.Keeping.TheVariants as keeping
 use Rattle.streams.specs.Words.{is_file_word}
@@ -16,9 +19,10 @@ pub data Kept : Type 0 where
   Windows : List ℕ → Kept
 
 -- a judgement of the history in this file, whether with the calls that still wait and shouldn't, and where its
--- certificate is kept; or the usage
+-- certificate is kept; or one whose certificate would be written over that file; or the usage
 pub data Asked : Type 0 where
   Judging : Bool → Kept → List ℕ → Asked
+  Overwrites : List ℕ → Asked
   Nothing : Asked
 
 -- the word asks for the calls that still wait and shouldn't
@@ -33,9 +37,28 @@ place_words word out = if is_file_word out
     else (if bytes_eq word (codes "--windows") then Some (Windows out) else None))
     else None
 
--- a judgement of the history in this file, if it is a file's name
+-- a point and a number
+abbrev pub is_number_part : List ℕ → Bool
+is_number_part [] = false
+is_number_part (b ∷ bs) = (b == 46) && list_all is_ascii_digit bs
+
+-- a window that is kept in OUT.1, OUT.2 and so on could be in the file of this name: behind OUT and a point it has digits
+abbrev pub is_window : List ℕ → List ℕ → Bool
+is_window out file = starts_with nat_eq file out && is_number_part (drop (length out) file)
+
+-- the certificate would be written over the file of this name, as names are written
+abbrev pub is_overwritten : Kept → List ℕ → Bool
+is_overwritten Nowhere file = false
+is_overwritten (Whole out) file = bytes_eq out file
+is_overwritten (Windows out) file = is_window out file
+
+-- a judgement of the history in the file of this name, if that isn't overwritten
+abbrev pub placed : Bool → Kept → List ℕ → Asked
+placed waiting kept file = if is_overwritten kept file then Overwrites file else Judging waiting kept file
+
+-- the same, if it is a file's name
 abbrev pub judging : Bool → Kept → List ℕ → Asked
-judging waiting kept file = if is_file_word file then Judging waiting kept file else Nothing
+judging waiting kept file = if is_file_word file then placed waiting kept file else Nothing
 
 -- the same, if the certificate is to be kept somewhere
 abbrev pub with_place : Bool → Option Kept → List ℕ → Asked
@@ -62,4 +85,5 @@ kept_of (keeping.Windows out) = Windows out.now
 -- what a form says
 abbrev pub asked_by : Form → Asked
 asked_by (History waiting kept file) = Judging waiting (kept_of kept) file.now
+asked_by (form.Overwriting file) = Overwrites file.now
 asked_by Usage = Nothing

@@ -16,7 +16,7 @@ use Rattle.windows.specs.Texts.{certificate_text, steps_count}
 use Rattle.windows.specs.Windows.{IsWindow}
 use Rattle.judge_report.specs.declared.keeping.Cut.{Cut}
 use Rattle.judge_report.specs.declared.messages.Failure.{Failure}
-use Rattle.judge_report.specs.declared.messages.Failure.TheVariants.{Usage, CannotRead, CannotWrite, CannotKeep}
+use Rattle.judge_report.specs.declared.messages.Failure.TheVariants.{Usage, Overwriting, CannotRead, CannotWrite, CannotKeep}
 use Rattle.judge_report.specs.declared.messages.Failure.TheVariants.{TooMany, NoPlace, OutOfMemory, Ill}
 use Rattle.judge_report.specs.Asked.{Kept, Nowhere, Whole, Windows}
 use Rattle.judge_report.specs.Heard.{Heard}
@@ -60,11 +60,19 @@ IsKept Makes Fills Nowhere h steps cuts = cuts ≡ []
 IsKept Makes Fills (Whole name) h steps cuts = IsWritten Makes Fills name (certificate_text h steps) × (cuts ≡ [])
 IsKept Makes Fills (Windows out) h steps cuts = AreKept Makes Fills out h steps (length steps) (reverse cuts)
 
+-- a trace of an illegal history is kept, which ends with the illegal line, if it is to be kept whole
+abbrev pub IsIllegalKept : (List ℕ → Option (List ℕ) → Type 0) → (List ℕ → Option (List ℕ) → Type 0) → Kept → Head
+    → List Entry → Type 0
+IsIllegalKept Makes Fills (Whole name) h steps = IsWritten Makes Fills name (certificate_text h steps)
+IsIllegalKept Makes Fills Nowhere h steps = Unit {0}
+IsIllegalKept Makes Fills (Windows out) h steps = Unit {0}
+
 -- so it is where there is one
 abbrev pub IsFilled : (List ℕ → Option (List ℕ) → Type 0) → (List ℕ → Option (List ℕ) → Type 0) → Kept → Heard
     → Judgement → List Cut → Type 0
 IsFilled Makes Fills kept k (Legal steps) cuts = IsKept Makes Fills kept k.head steps.items cuts
-IsFilled Makes Fills kept k (Illegal at why possible) cuts = cuts ≡ []
+IsFilled Makes Fills kept k (Illegal at why possible steps) cuts =
+    IsIllegalKept Makes Fills kept k.head steps.items × (cuts ≡ [])
 IsFilled Makes Fills kept k (Undecided at) cuts = cuts ≡ []
 
 -- what it is told as that a certificate isn't cut
@@ -77,6 +85,7 @@ uncut_by stop.Refused = NoPlace
 -- why a certificate wasn't kept
 abbrev pub IsUnkept : Failure → Type 0
 IsUnkept Usage = ⊥
+IsUnkept Overwriting = ⊥
 IsUnkept CannotRead = ⊥
 IsUnkept CannotWrite = ⊥
 IsUnkept CannotKeep = Unit {0}

@@ -4,7 +4,7 @@ use Rattle.std.specs.List.{concat}
 use Rattle.histories.specs.declared.fault.HistoryFault.{HistoryFault}
 use Rattle.histories.specs.Faults.{number_of, words_of}
 use Rattle.judge_report.specs.declared.messages.Failure.{Failure}
-use Rattle.judge_report.specs.declared.messages.Failure.TheVariants.{Usage, CannotRead, CannotWrite, CannotKeep}
+use Rattle.judge_report.specs.declared.messages.Failure.TheVariants.{Usage, Overwriting, CannotRead, CannotWrite, CannotKeep}
 use Rattle.judge_report.specs.declared.messages.Failure.TheVariants.{TooMany, NoPlace, OutOfMemory, Ill}
 
 -- a fault of a history's text, and its line
@@ -18,6 +18,7 @@ history_fault_text at = fault_text (codes "rfx-judge: line ") at.line (number_of
 -- why the history in a file of this name wasn't judged, or that wasn't told
 abbrev pub failure_text : List ℕ → Failure → List ℕ
 failure_text file Usage = concat (codes "usage: rfx-judge [--waiting] [--trace OUT | --windows OUT] FILE\n" ∷ [])
+failure_text file Overwriting = concat (codes "rfx-judge: the trace would be written over " ∷ file ∷ codes "\n" ∷ [])
 failure_text file CannotRead = concat (codes "rfx-judge: cannot read " ∷ file ∷ codes "\n" ∷ [])
 failure_text file CannotWrite = concat (codes "rfx-judge: cannot write\n" ∷ [])
 failure_text file CannotKeep = concat (codes "rfx-judge: cannot write the certificate\n" ∷ [])
@@ -31,6 +32,7 @@ failure_text file (Ill at) = history_fault_text at
 -- the exit status after it
 abbrev pub failure_status : Failure → ℕ
 failure_status Usage = 2
+failure_status Overwriting = 2
 failure_status CannotRead = 1
 failure_status CannotWrite = 1
 failure_status CannotKeep = 1

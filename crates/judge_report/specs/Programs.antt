@@ -12,8 +12,8 @@ use Rattle.std.specs.declared.io.ErrorKind.{ErrorKind}
 use Rattle.std.specs.declared.io.ErrorKind.TheVariants as kind
 use Rattle.streams.specs.Leaves.{AppendsFront}
 use Rattle.judge_report.specs.declared.messages.Failure.{Failure}
-use Rattle.judge_report.specs.declared.messages.Failure.TheVariants.{Usage, CannotRead, OutOfMemory}
-use Rattle.judge_report.specs.Asked.{Asked, Judging, Kept, Nothing, asked_of}
+use Rattle.judge_report.specs.declared.messages.Failure.TheVariants.{Usage, Overwriting, CannotRead, OutOfMemory}
+use Rattle.judge_report.specs.Asked.{Asked, Judging, Kept, Nothing, Overwrites, asked_of}
 use Rattle.judge_report.specs.Messages.{failure_text, failure_status}
 use Rattle.judge_report.specs.Served.{Fails, Serves}
 
@@ -48,6 +48,8 @@ abbrev pub AskedEnds : (List ℕ → Result (Option (List ℕ)) ErrorKind → Ty
     → (List ℕ → Option (List ℕ) → Type 0) → Asked → Option (List ℕ) → Option (List ℕ) → Type 0 → Type 0
     → Option (List ℕ) → Option (List ℕ) → ℕ → Type 0
 AskedEnds Opens Makes Fills Nothing old new LetGo Quiet told told' status = (new ≡ old) × IsTold [] Usage told told' status
+AskedEnds Opens Makes Fills (Overwrites file) old new LetGo Quiet told told' status =
+    (new ≡ old) × IsTold file Overwriting told told' status
 AskedEnds Opens Makes Fills (Judging waiting kept file) old new LetGo Quiet told told' status =
     FileEnds Opens Makes Fills waiting kept file old new LetGo Quiet told told' status
 

@@ -18,7 +18,7 @@ use Rattle.certificates.specs.Waiters.{waiters}
 use Rattle.judge.specs.declared.judging.Judgement.{Judgement}
 use Rattle.judge.specs.declared.judging.Judgement.TheVariants.{Legal, Illegal, Undecided}
 use Rattle.judge.specs.declared.reason.Reason.{Reason}
-use Rattle.judge.specs.Judgements.{ArePossible}
+use Rattle.judge.specs.Judgements.{ArePossible, EndsIn}
 use Rattle.judge.specs.Reasons.{reason_of}
 use Rattle.judge_report.specs.declared.keeping.Cut.{Cut}
 use Rattle.judge_report.specs.Heard.{Heard}
@@ -45,11 +45,13 @@ pub record IsFirstIllegal (k : Heard) (line : HistoryLine) : Type 0 where
   pub before : IsLegalBefore k line
   pub never : LegalHistory k.head.mutexes (told (line ∷ before.earlier)) → ⊥
 
--- for this reason, and these replies its thread could be told
-pub record IsIllegal (k : Heard) (line : HistoryLine) (why : Reason) (possible : List Reply) : Type 0 where
+-- for this reason, and these replies its thread could be told; and these steps show the lines before it, and end with it
+pub record IsIllegal (k : Heard) (line : HistoryLine) (why : Reason) (possible : List Reply) (steps : List Entry)
+    : Type 0 where
   pub first : IsFirstIllegal k line
   pub reason : reason_of (told first.before.earlier) line.entry ≡ Some why
   pub could : ArePossible k.head (reverse first.before.earlier) (whose line.entry) why possible
+  pub shown : EndsIn k.head (reverse first.before.earlier) line.entry steps
 
 -- the calls that are named behind these steps, if they are asked for
 abbrev pub named : Bool → List Entry → List Waiter
@@ -60,22 +62,23 @@ named false steps = []
 -- shouldn't or without them
 abbrev pub IsSaid : Bool → Heard → Judgement → List Cut → List ℕ → Type 0
 IsSaid waiting k (Legal steps) cuts text = IsLegal k steps.items
-    × (text ≡ legal_text (count_by is_point_step steps.items)
+    × (text ≡ legal_text (count_by is_point_step steps.items) (reverse k.seen)
     ++ (cuts_text cuts ++ waiters_text (reverse k.seen) (named waiting steps.items)))
-IsSaid waiting k (Illegal at why possible) cuts text = (line : HistoryLine) × IsIllegal k line why possible.items
-    × (text ≡ illegal_text (reverse k.seen) line why possible.items)
+IsSaid waiting k (Illegal at why possible steps) cuts text = (line : HistoryLine)
+    × (is : IsIllegal k line why possible.items steps.items)
+    × (text ≡ illegal_text (reverse is.first.before.earlier) line why possible.items)
 IsSaid waiting k (Undecided at) cuts text = (line : HistoryLine) × IsLegalBefore k line × (text ≡ undecided_text line)
 
 -- these are the calls that are named of a history that is so judged
 abbrev pub AreNamed : Bool → Judgement → List Waiter → Type 0
 AreNamed waiting (Legal steps) ws = ws ≡ named waiting steps.items
-AreNamed waiting (Illegal at why possible) ws = Unit {0}
+AreNamed waiting (Illegal at why possible steps) ws = Unit {0}
 AreNamed waiting (Undecided at) ws = Unit {0}
 
 -- the exit status then
 abbrev pub status_of : Judgement → ℕ
 status_of (Legal steps) = 0
-status_of (Illegal at why possible) = 1
+status_of (Illegal at why possible steps) = 1
 status_of (Undecided at) = 1
 
 -- what is said of a history was written, or a beginning of it

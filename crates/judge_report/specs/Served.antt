@@ -4,7 +4,7 @@ use Rattle.std.specs.Io.KnownBytes.{Appends}
 use Rattle.streams.specs.Leaves.{AppendsFront}
 use Rattle.judge.specs.declared.judging.Judgement.{Judgement}
 use Rattle.judge_report.specs.declared.messages.Failure.{Failure}
-use Rattle.judge_report.specs.declared.messages.Failure.TheVariants.{Usage, CannotRead, CannotWrite, CannotKeep}
+use Rattle.judge_report.specs.declared.messages.Failure.TheVariants.{Usage, Overwriting, CannotRead, CannotWrite, CannotKeep}
 use Rattle.judge_report.specs.declared.messages.Failure.TheVariants.{TooMany, NoPlace, OutOfMemory, Ill}
 use Rattle.judge_report.specs.declared.reading.ReadFault.{ReadFault}
 use Rattle.judge_report.specs.declared.reading.ReadFault.TheVariants as read
@@ -52,6 +52,7 @@ failed_by (read.Ill at) = Ill at
 -- why there is no history: it couldn't be read, or memory was wanted, or the bytes have this fault
 abbrev pub Unread : Option (List ℕ) → Failure → Type 0
 Unread had Usage = ⊥
+Unread had Overwriting = ⊥
 Unread had CannotRead = Unit {0}
 Unread had CannotWrite = ⊥
 Unread had CannotKeep = ⊥
@@ -65,6 +66,7 @@ Unread had (Ill f) = IfSome had (λ bytes. history_read bytes ≡ Err f)
 abbrev pub Fails : (List ℕ → Option (List ℕ) → Type 0) → (List ℕ → Option (List ℕ) → Type 0) → Bool → Kept
     → Option (List ℕ) → Option (List ℕ) → Option (List ℕ) → Failure → Type 0
 Fails Makes Fills waiting kept had old new Usage = ⊥
+Fails Makes Fills waiting kept had old new Overwriting = ⊥
 Fails Makes Fills waiting kept had old new CannotRead = new ≡ old
 Fails Makes Fills waiting kept had old new CannotWrite = ServesFront Makes Fills waiting kept had old new
 Fails Makes Fills waiting kept had old new CannotKeep = new ≡ old

@@ -1,6 +1,7 @@
 -- The texts of histories' lines, and of what is said of a history.
 use Rattle.std.specs.Prelude.{ℕ, ◌-◌, Bool, true, false, Option, Some, None, List, [], ◌∷◌, ◌++◌, map, codes, decimal}
-use Rattle.std.specs.List.{concat, slice_get}
+use Rattle.std.specs.Prelude.{reverse, if◌then◌else◌}
+use Rattle.std.specs.List.{concat, list_any, slice_get}
 use Rattle.lockword.specs.declared.reply.Reply.{Reply}
 use Rattle.lockword.specs.Replies.{reply_word}
 use Rattle.posixmutex.specs.Words.{operation_word}
@@ -10,10 +11,15 @@ use Rattle.histories.specs.declared.entry.Entry.{Entry}
 use Rattle.histories.specs.declared.entry.Entry.TheVariants.{Told, Doom}
 use Rattle.histories.specs.declared.entry.HistoryLine.{HistoryLine}
 use Rattle.certificates.specs.declared.waiting.Waiter.{Waiter}
+use Rattle.certificates.specs.Certificates.{entries}
+use Rattle.judge.specs.declared.evidence.EarlierReply.{EarlierReply}
+use Rattle.judge.specs.declared.evidence.Evidence.{Evidence}
 use Rattle.judge.specs.declared.reason.OutOfTurn.{OutOfTurn}
 use Rattle.judge.specs.declared.reason.OutOfTurn.TheVariants.{InCall, NoCall, Dead, Reaped, Alive, NotReaped}
 use Rattle.judge.specs.declared.reason.Reason.{Reason}
 use Rattle.judge.specs.declared.reason.Reason.TheVariants as reason
+use Rattle.judge.specs.Evidence.{evidence_of}
+use Rattle.judge.specs.Reasons.{begins}
 use Rattle.judge_report.specs.declared.keeping.Cut.{Cut}
 
 -- ---- lines of a history
@@ -36,8 +42,14 @@ quote l = concat (codes "  | " ∷ []) ++ entry_text l.event l.entry
 
 -- ---- what is said of a history
 
-abbrev pub legal_text : ℕ → List ℕ
-legal_text points = concat (codes "legal " ∷ decimal points ∷ codes " points\n" ∷ [])
+abbrev pub is_begin : HistoryLine → Bool
+is_begin l = begins l.entry
+
+-- how many points a history has that is legal, and that one without calls is legal for that reason
+abbrev pub legal_text : ℕ → List HistoryLine → List ℕ
+legal_text points ls = if list_any is_begin ls
+    then concat (codes "legal " ∷ decimal points ∷ codes " points\n" ∷ [])
+    else concat (codes "legal " ∷ decimal points ∷ codes " points: the history is empty, it has no calls\n" ∷ [])
 
 -- which of the certificate's events a window has, and how many of its own stand before them
 abbrev pub cut_text : Cut → List ℕ
@@ -48,17 +60,19 @@ cut_text c = concat
 abbrev pub cuts_text : List Cut → List ℕ
 cuts_text cs = concat (map cut_text cs)
 
--- the line that the mutex has had no owner since: the last before it was left, if it ever was
-abbrev pub since_line : List HistoryLine → Option ℕ → Option HistoryLine
-since_line ls None = None
-since_line ls (Some n) = slice_get ls (n - 1)
+-- the history's line at this place, counted from 1, if there is one
+abbrev pub line_of : List HistoryLine → Option ℕ → Option HistoryLine
+line_of ls None = None
+line_of ls (Some n) = slice_get ls (n - 1)
 
 -- what the mutex is that a call still waits for, since that line; an unusable one was left
 abbrev pub since_words : Bool → Option HistoryLine → List ℕ
 since_words true None = concat (codes ", which is unusable\n" ∷ [])
 since_words false None = concat (codes ", which nobody has owned\n" ∷ [])
-since_words true (Some l) = concat (codes ", which is unusable since line " ∷ decimal l.number ∷ codes "\n" ∷ [])
-since_words false (Some l) = concat (codes ", which nobody owns since line " ∷ decimal l.number ∷ codes "\n" ∷ [])
+since_words true (Some l) = concat
+    (codes ", which is unusable since line " ∷ decimal l.number ∷ codes " (event " ∷ decimal l.event ∷ codes ")\n" ∷ [])
+since_words false (Some l) = concat
+    (codes ", which nobody owns since line " ∷ decimal l.number ∷ codes " (event " ∷ decimal l.event ∷ codes ")\n" ∷ [])
 
 abbrev pub quote_of : Option HistoryLine → List ℕ
 quote_of None = []
@@ -66,7 +80,8 @@ quote_of (Some l) = quote l
 
 abbrev pub since_note : Option HistoryLine → List ℕ
 since_note None = []
-since_note (Some l) = concat (codes "  = see line " ∷ decimal l.number ∷ codes ":\n" ∷ []) ++ quote l
+since_note (Some l) = concat
+    (codes "  = see line " ∷ decimal l.number ∷ codes " (event " ∷ decimal l.event ∷ codes "):\n" ∷ []) ++ quote l
 
 abbrev pub waiter_title : Waiter → List ℕ
 waiter_title w = concat (codes "still waits: t" ∷ decimal w.thread ∷ codes " for m" ∷ decimal w.mutex ∷ [])
@@ -77,7 +92,7 @@ waiter_lines w begin since =
     waiter_title w ++ (since_words w.unusable since ++ (quote_of begin ++ since_note since))
 
 abbrev pub waiter_text : List HistoryLine → Waiter → List ℕ
-waiter_text ls w = waiter_lines w (slice_get ls (w.begin - 1)) (since_line ls w.since)
+waiter_text ls w = waiter_lines w (slice_get ls (w.begin - 1)) (line_of ls w.since)
 
 abbrev pub waiters_text : List HistoryLine → List Waiter → List ℕ
 waiters_text ls ws = concat (map (waiter_text ls) ws)
@@ -94,20 +109,55 @@ turn_words NotReaped = codes " isn't reaped there\n"
 -- where the call began; the history's lines are counted from 1
 abbrev pub begin_note : Option HistoryLine → List ℕ
 begin_note None = []
-begin_note (Some l) = concat (codes "  = see line " ∷ decimal l.number ∷ codes ": the call began\n" ∷ []) ++ quote l
+begin_note (Some l) = concat
+    (codes "  = see line " ∷ decimal l.number ∷ codes " (event " ∷ decimal l.event ∷ codes "): the call began\n" ∷ [])
+    ++ quote l
+
+-- where a thread died that may have owned the mutex
+abbrev pub death_title : ℕ → HistoryLine → List ℕ
+death_title m l = concat
+    (codes "  = see line " ∷ decimal l.number ∷ codes " (event " ∷ decimal l.event ∷ codes "): t" ∷ decimal (entry_thread l.entry)
+    ∷ codes " may have owned m" ∷ decimal m ∷ codes " when it died\n" ∷ [])
+
+abbrev pub death_note : ℕ → Option HistoryLine → List ℕ
+death_note m None = []
+death_note m (Some l) = death_title m l ++ quote l
+
+-- what another call's reply did to the mutex
+abbrev pub reply_title : ℕ → EarlierReply → HistoryLine → List ℕ
+reply_title m r l = concat
+    (codes "  = see line " ∷ decimal l.number ∷ codes " (event " ∷ decimal l.event ∷ codes "): t" ∷ decimal r.thread
+    ∷ codes " was told " ∷ reply_word r.reply ∷ codes " for its " ∷ operation_word r.operation ∷ codes " of m" ∷ decimal m
+    ∷ codes "\n" ∷ [])
+
+abbrev pub reply_note : ℕ → EarlierReply → Option HistoryLine → List ℕ
+reply_note m r None = []
+reply_note m r (Some l) = reply_title m r l ++ quote l
+
+abbrev pub earlier_note : List HistoryLine → ℕ → Option EarlierReply → List ℕ
+earlier_note ls m None = []
+earlier_note ls m (Some r) = reply_note m r (slice_get ls (r.place - 1))
+
+-- how the mutex stood: who died that may have owned it, who got it last, and who left it since
+abbrev pub evidence_notes : List HistoryLine → ℕ → Evidence → List ℕ
+evidence_notes ls m e =
+    death_note m (line_of ls e.death) ++ (earlier_note ls m e.got ++ earlier_note ls m e.left)
 
 -- what is said of an illegal line, and behind its quotation
 abbrev pub illegal_title : HistoryLine → Reason → List ℕ
 illegal_title l (reason.OutOfTurn why) = concat
-    (codes "illegal at line " ∷ decimal l.number ∷ codes ": t" ∷ decimal (entry_thread l.entry) ∷ turn_words why ∷ [])
+    (codes "illegal at line " ∷ decimal l.number ∷ codes " (event " ∷ decimal l.event ∷ codes "): t"
+    ∷ decimal (entry_thread l.entry) ∷ turn_words why ∷ [])
 illegal_title l (reason.NoOrder op m x begin) = concat
-    (codes "illegal at line " ∷ decimal l.number ∷ codes ": no order of the calls gives t"
-    ∷ decimal (entry_thread l.entry) ∷ codes " " ∷ reply_word x ∷ codes " for its " ∷ operation_word op ∷ codes " of m"
+    (codes "illegal at line " ∷ decimal l.number ∷ codes " (event " ∷ decimal l.event
+    ∷ codes "): no order of the calls gives t" ∷ decimal (entry_thread l.entry) ∷ codes " " ∷ reply_word x ∷ codes " for its " ∷ operation_word op ∷ codes " of m"
     ∷ decimal m ∷ codes "\n" ∷ [])
 
+-- the lines behind which the line stands say how its mutex stood, and where its call began
 abbrev pub why_note : List HistoryLine → Reason → List ℕ
 why_note ls (reason.OutOfTurn why) = []
-why_note ls (reason.NoOrder op m x begin) = begin_note (slice_get ls (begin - 1))
+why_note ls (reason.NoOrder op m x begin) =
+    evidence_notes ls m (evidence_of m (reverse (entries ls))) ++ begin_note (slice_get ls (begin - 1))
 
 -- what the thread could be told there, if anything was found: one reply, or another
 abbrev pub or_text : Reply → List ℕ
@@ -133,4 +183,5 @@ abbrev pub illegal_text : List HistoryLine → HistoryLine → Reason → List R
 illegal_text ls l why possible = illegal_title l why ++ (quote l ++ illegal_notes ls l why possible)
 
 abbrev pub undecided_text : HistoryLine → List ℕ
-undecided_text l = concat (codes "undecided at line " ∷ decimal l.number ∷ codes "\n" ∷ []) ++ quote l
+undecided_text l = concat
+    (codes "undecided at line " ∷ decimal l.number ∷ codes " (event " ∷ decimal l.event ∷ codes ")\n" ∷ []) ++ quote l

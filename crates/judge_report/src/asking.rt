@@ -1,7 +1,10 @@
 //! What the words of a command line ask for.
 
 ghost use Rattle.std.specs.Prelude.{◌≡◌, map, option_map};
-ghost use Rattle.judge_report.specs.Asked.{asked_by, asked_of, is_waiting_word, judging, kept_of, place_words, with_place};
+ghost use Rattle.std.specs.Char.{is_ascii_digit};
+ghost use Rattle.std.specs.List.{list_all};
+ghost use Rattle.judge_report.specs.Asked.{asked_by, asked_of, is_number_part, is_waiting_word, is_window, judging};
+ghost use Rattle.judge_report.specs.Asked.{kept_of, place_words, placed, with_place};
 
 use streams::is_file;
 
@@ -22,6 +25,8 @@ pub enum Form<'a> {
     /// judged, and its certificate is kept, if it has one. Where it is true, the calls are named that still wait and
     /// shouldn't. No name begins with a hyphen.
     History(bool, Keeping<'a>, &'a str),
+    /// The same, but the certificate would be written over the history in this file.
+    Overwriting(&'a str),
     /// Every other command line, those that ask for help or the version among them.
     Usage,
 }
@@ -47,12 +52,59 @@ fn place_words<'a>(word: &str, out: &'a str) -> Option<Keeping<'a>>
     }
 }
 
-/// A judgement of the history in this file, if it is a file's name.
+fn are_digits(bytes: &[u8]) -> bool
+    ensures { result ≡ list_all is_ascii_digit bytes.now }
+{
+    bytes.iter().all(|b| b.is_ascii_digit())
+}
+
+/// Whether a point stands there, and a number behind it.
+fn is_number_part(bytes: &[u8]) -> bool
+    ensures { result ≡ is_number_part bytes.now }
+{
+    match bytes.split_first() {
+        Some((first, digits)) => *first == b'.' && are_digits(digits),
+        None => false,
+    }
+}
+
+/// Whether a window of a certificate that is kept in OUT.1, OUT.2 and so on could be written to this file: behind OUT and
+/// a point its name has a number.
+fn is_window(out: &[u8], file: &[u8]) -> bool
+    ensures { result ≡ is_window out.now file.now }
+{
+    file.starts_with(out) && is_number_part(&file[out.len()..])
+}
+
+/// A judgement of the history in the file of this name, if the certificate isn't written over it.
+fn placed<'a>(waiting: bool, keeping: Keeping<'a>, file: &'a str) -> Form<'a>
+    ensures { asked_by result ≡ placed waiting (kept_of keeping.entry) file.now }
+{
+    match keeping {
+        Keeping::Nowhere => Form::History(waiting, Keeping::Nowhere, file),
+        Keeping::Whole(out) => {
+            if out == file {
+                Form::Overwriting(file)
+            } else {
+                Form::History(waiting, Keeping::Whole(out), file)
+            }
+        }
+        Keeping::Windows(out) => {
+            if is_window(out.as_bytes(), file.as_bytes()) {
+                Form::Overwriting(file)
+            } else {
+                Form::History(waiting, Keeping::Windows(out), file)
+            }
+        }
+    }
+}
+
+/// A judgement of the history in this file, if it is a file's name, and the certificate isn't written over it.
 fn judging<'a>(waiting: bool, keeping: Keeping<'a>, file: &'a str) -> Form<'a>
     ensures { asked_by result ≡ judging waiting (kept_of keeping.entry) file.now }
 {
     if is_file(file) {
-        Form::History(waiting, keeping, file)
+        placed(waiting, keeping, file)
     } else {
         Form::Usage
     }

@@ -1,12 +1,13 @@
 //! Keeping a certificate: in one file, or in a file for each of its windows.
 
-ghost use Rattle.std.specs.Prelude.{◌≡◌, ◌≤◌, length, reverse, string_bytes, IfOk, IfErr};
+ghost use Rattle.std.specs.Prelude.{◌≡◌, ◌≤◌, [], length, reverse, string_bytes, IfOk, IfErr};
 ghost use Rattle.histories.specs.Reading.{IsHead};
 ghost use Rattle.windows.specs.Texts.{certificate_text, steps_count};
 ghost use Rattle.windows.specs.Windows.{IsWindow};
 ghost use Rattle.judge_report.specs.Asked.{kept_of};
 ghost use Rattle.judge_report.specs.Heard.{heard_of};
-ghost use Rattle.judge_report.specs.Kept.{AreKept, IsCutOf, IsFilled, IsKept, IsUnkept, IsWindowKept, IsWritten};
+ghost use Rattle.judge_report.specs.Kept.{AreKept, IsCutOf, IsFilled, IsIllegalKept, IsKept, IsUnkept};
+ghost use Rattle.judge_report.specs.Kept.{IsWindowKept, IsWritten};
 ghost use Rattle.judge_report.specs.Kept.{uncut_by, window_name};
 
 use crate::asking::Keeping;
@@ -167,7 +168,30 @@ fn keep_steps<M: Maker>(
     }
 }
 
-/// Keeps the certificate, where there is one, where it is to be kept; which windows it was cut into.
+/// Keeps the trace of an illegal history up to its illegal line, if it is to be kept whole; windows it has none.
+fn keep_illegal<M: Maker>(
+    alloc: Global,
+    maker: &M,
+    keeping: Keeping<'_>,
+    head: &Head,
+    steps: &[Entry],
+) -> Result<Vec<Cut>, Failure>
+    ensures kept { IfOk result (λ cuts. IsIllegalKept (M.makes maker.now) (M.fills maker.now) (kept_of keeping.entry)
+        head.now steps.now × (cuts.items ≡ [])) }
+    ensures fails { IfErr result IsUnkept }
+{
+    match keeping {
+        Keeping::Nowhere => Ok(Vec::new(alloc)),
+        Keeping::Whole(name) => match fill(maker, name, head, steps) {
+            Ok(()) => Ok(Vec::new(alloc)),
+            Err(_unwritten) => Err(Failure::CannotKeep),
+        },
+        Keeping::Windows(_) => Ok(Vec::new(alloc)),
+    }
+}
+
+/// Keeps the certificate, where there is one, where it is to be kept, or a trace of an illegal history up to its illegal
+/// line; which windows the certificate was cut into.
 pub fn keep<M: Maker>(
     alloc: Global,
     maker: &M,
@@ -182,6 +206,9 @@ pub fn keep<M: Maker>(
 {
     match judgement {
         Judgement::Legal(steps) => keep_steps(alloc, maker, keeping, &history.head, steps),
-        Judgement::Illegal { .. } | Judgement::Undecided(_) => Ok(Vec::new(alloc)),
+        Judgement::Illegal { steps, .. } => {
+            keep_illegal(alloc, maker, keeping, &history.head, steps)
+        }
+        Judgement::Undecided(_) => Ok(Vec::new(alloc)),
     }
 }

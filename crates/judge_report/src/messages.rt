@@ -17,6 +17,8 @@ pub const OUT_OF_MEMORY: &str = "rfx-judge: out of memory\n";
 pub enum Failure {
     /// The command line has none of the program's forms.
     Usage,
+    /// The certificate would be written over the history.
+    Overwriting,
     /// The file couldn't be opened, or a read of it failed.
     CannotRead,
     /// A write failed, or the writer didn't let go of what it kept back.
@@ -74,6 +76,10 @@ fn write_failure<E: Write>(err: &mut E, file: &str, failure: Failure) -> io::Res
             err,
             &["usage: rfx-judge [--waiting] [--trace OUT | --windows OUT] FILE\n"],
         ),
+        Failure::Overwriting => put(
+            err,
+            &["rfx-judge: the trace would be written over ", file, "\n"],
+        ),
         Failure::CannotRead => put(err, &["rfx-judge: cannot read ", file, "\n"]),
         Failure::CannotWrite => put(err, &["rfx-judge: cannot write\n"]),
         Failure::CannotKeep => put(err, &["rfx-judge: cannot write the certificate\n"]),
@@ -97,7 +103,7 @@ fn status_after(failure: Failure) -> u8
     ensures { result ≡ failure_status failure }
 {
     match failure {
-        Failure::Usage => 2,
+        Failure::Usage | Failure::Overwriting => 2,
         Failure::CannotRead
         | Failure::CannotWrite
         | Failure::CannotKeep

@@ -78,6 +78,7 @@ pub fn run<F: Opener, M: Maker, W: Output, E: Write>(
         Form::History(waiting, keeping, file) => {
             run_file(alloc, waiting, keeping, file, files, maker, out, err)
         }
+        Form::Overwriting(file) => fail(err, file, Failure::Overwriting),
         Form::Usage => fail(err, "", Failure::Usage),
     }
 }

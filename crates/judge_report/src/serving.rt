@@ -1,6 +1,6 @@
 //! The program, but for opening its file.
 
-ghost use Rattle.std.specs.Prelude.{◌≡◌, ◌<◌, get_or, length, IfOk, IfErr, OnOk};
+ghost use Rattle.std.specs.Prelude.{◌≡◌, ◌<◌, get_or, length, take, IfOk, IfErr, OnOk};
 ghost use Rattle.histories.specs.Reading.{IsHead};
 ghost use Rattle.judge.specs.Judgements.{IsJudged};
 ghost use Rattle.judge_report.specs.Heard.{heard_of};
@@ -71,6 +71,14 @@ fn line_of(history: &History, at: usize) -> HistoryLine
     history.lines[at]
 }
 
+/// The lines before this place, counted from 0.
+fn lines_before(history: &History, at: usize) -> &[HistoryLine]
+    requires { at < length history.now.lines.items }
+    ensures { result.now ≡ take at history.now.lines.items }
+{
+    &history.lines[..at]
+}
+
 /// Tells what the history was found to be, with the windows that its certificate was cut into, and the calls that still
 /// wait and shouldn't, if they are to be named.
 fn tell<W: Write>(
@@ -87,8 +95,19 @@ fn tell<W: Write>(
 {
     match judgement {
         Judgement::Legal(steps) => tell_legal(out, points_of(steps), cuts, &history.lines, waiters),
-        Judgement::Illegal { at, why, possible } => {
-            tell_illegal(out, &history.lines, &line_of(history, *at), why, possible)
+        Judgement::Illegal {
+            at,
+            why,
+            possible,
+            ..
+        } => {
+            tell_illegal(
+                out,
+                lines_before(history, *at),
+                &line_of(history, *at),
+                why,
+                possible,
+            )
         }
         Judgement::Undecided(at) => tell_undecided(out, &line_of(history, *at)),
     }

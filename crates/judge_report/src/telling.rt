@@ -1,19 +1,23 @@
 //! What is told of a history.
 
-ghost use Rattle.std.specs.Prelude.{◌≡◌, ◌-◌, ◌∷◌, ◌++◌, Some, None};
+ghost use Rattle.std.specs.Prelude.{◌≡◌, ◌-◌, ◌∷◌, ◌++◌, Some, None, reverse};
 ghost use Rattle.streams.specs.Leaves.{Leaves};
-ghost use Rattle.std.specs.List.{slice_get};
+ghost use Rattle.std.specs.List.{list_any, slice_get};
+ghost use Rattle.certificates.specs.Certificates.{entries};
+ghost use Rattle.judge.specs.Evidence.{evidence_of};
 ghost use Rattle.judge_report.specs.Texts.{begin_note, entry_thread, illegal_notes, illegal_text, illegal_title};
 ghost use Rattle.judge_report.specs.Texts.{first_text, here_text, or_text, ors_text, possible_note, why_note};
-ghost use Rattle.judge_report.specs.Texts.{legal_text, quote_of, since_line, since_note, since_words, turn_words};
+ghost use Rattle.judge_report.specs.Texts.{death_note, death_title, earlier_note, evidence_notes, reply_note, reply_title};
+ghost use Rattle.judge_report.specs.Texts.{is_begin, legal_text, line_of, quote_of, since_note, since_words, turn_words};
 ghost use Rattle.judge_report.specs.Texts.{cut_text, cuts_text};
 ghost use Rattle.judge_report.specs.Texts.{undecided_text, waiter_lines, waiter_text, waiter_title, waiters_text};
 
 use crate::keeping::Cut;
 use crate::writing::write_quote;
 use certificates::Waiter;
+use facts::Fact;
 use histories::{Entry, HistoryLine};
-use judge::{OutOfTurn, Reason};
+use judge::{EarlierReply, Evidence, OutOfTurn, Reason, evidence_of};
 use lockword::{Reply, Tid};
 use std::io::{self, Write};
 use streams::Piece::{Number, Word};
@@ -53,6 +57,16 @@ fn line_at(lines: &[HistoryLine], place: usize) -> Option<HistoryLine>
     }
 }
 
+/// The line at this place, counted from 1, if there is one.
+fn line_of(lines: &[HistoryLine], place: Option<usize>) -> Option<HistoryLine>
+    ensures { result ≡ line_of lines.now place }
+{
+    match place {
+        Some(place) => line_at(lines, place),
+        None => None,
+    }
+}
+
 /// Where the call began.
 fn write_begin<W: Write>(out: &mut W, line: &HistoryLine) -> io::Result<()>
     ensures { Leaves (W.contents out.old) (W.contents out.new) result (begin_note (Some line.now)) }
@@ -62,7 +76,9 @@ fn write_begin<W: Write>(out: &mut W, line: &HistoryLine) -> io::Result<()>
         &[
             Word("  = see line "),
             Number(line.number),
-            Word(": the call began\n"),
+            Word(" (event "),
+            Number(line.event),
+            Word("): the call began\n"),
         ],
     )?;
     write_quote(out, line)
@@ -83,6 +99,7 @@ fn write_title<W: Write>(out: &mut W, line: &HistoryLine, why: &Reason) -> io::R
     ensures { Leaves (W.contents out.old) (W.contents out.new) result (illegal_title line.now why.now) }
 {
     let at = Number(line.number);
+    let event = Number(line.event);
     let thread = Number(thread_of(line).get().into());
     match *why {
         Reason::OutOfTurn(why) => put_pieces(
@@ -90,7 +107,9 @@ fn write_title<W: Write>(out: &mut W, line: &HistoryLine, why: &Reason) -> io::R
             &[
                 Word("illegal at line "),
                 at,
-                Word(": t"),
+                Word(" (event "),
+                event,
+                Word("): t"),
                 thread,
                 Word(turn_words(why)),
             ],
@@ -105,7 +124,9 @@ fn write_title<W: Write>(out: &mut W, line: &HistoryLine, why: &Reason) -> io::R
             &[
                 Word("illegal at line "),
                 at,
-                Word(": no order of the calls gives t"),
+                Word(" (event "),
+                event,
+                Word("): no order of the calls gives t"),
                 thread,
                 Word(" "),
                 Word(reply.name()),
@@ -119,13 +140,187 @@ fn write_title<W: Write>(out: &mut W, line: &HistoryLine, why: &Reason) -> io::R
     }
 }
 
-/// Where the call began that returns there.
+/// That a thread died there which may have owned the mutex.
+fn write_death_title<W: Write>(out: &mut W, mutex: u16, line: &HistoryLine) -> io::Result<()>
+    ensures { Leaves (W.contents out.old) (W.contents out.new) result (death_title mutex line.now) }
+{
+    let at = Number(line.number);
+    let event = Number(line.event);
+    let thread = Number(thread_of(line).get().into());
+    put_pieces(
+        out,
+        &[
+            Word("  = see line "),
+            at,
+            Word(" (event "),
+            event,
+            Word("): t"),
+            thread,
+            Word(" may have owned m"),
+            Number(mutex.into()),
+            Word(" when it died\n"),
+        ],
+    )
+}
+
+/// Where a thread died that may have owned the mutex.
+fn write_death<W: Write>(out: &mut W, mutex: u16, line: &HistoryLine) -> io::Result<()>
+    ensures { Leaves (W.contents out.old) (W.contents out.new) result (death_note mutex (Some line.now)) }
+{
+    write_death_title(out, mutex, line)?;
+    write_quote(out, line)
+}
+
+/// Where a thread died that may have owned the mutex, if that line is there.
+fn write_death_at<W: Write>(out: &mut W, mutex: u16, line: Option<HistoryLine>) -> io::Result<()>
+    ensures { Leaves (W.contents out.old) (W.contents out.new) result (death_note mutex line) }
+{
+    match line {
+        Some(line) => write_death(out, mutex, &line),
+        None => Ok(()),
+    }
+}
+
+/// What another call's reply was, which this line tells.
+fn write_reply_title<W: Write>(
+    out: &mut W,
+    mutex: u16,
+    told: &EarlierReply,
+    line: &HistoryLine,
+) -> io::Result<()>
+    ensures { Leaves (W.contents out.old) (W.contents out.new) result (reply_title mutex told.now line.now) }
+{
+    let EarlierReply {
+        place: _,
+        thread,
+        operation,
+        reply,
+    } = *told;
+    put_pieces(
+        out,
+        &[
+            Word("  = see line "),
+            Number(line.number),
+            Word(" (event "),
+            Number(line.event),
+            Word("): t"),
+            Number(thread.get().into()),
+            Word(" was told "),
+            Word(reply.name()),
+            Word(" for its "),
+            Word(operation.word()),
+            Word(" of m"),
+            Number(mutex.into()),
+            Word("\n"),
+        ],
+    )
+}
+
+/// What another call's reply did to the mutex, and the line that tells it.
+fn write_reply<W: Write>(
+    out: &mut W,
+    mutex: u16,
+    told: &EarlierReply,
+    line: &HistoryLine,
+) -> io::Result<()>
+    ensures { Leaves (W.contents out.old) (W.contents out.new) result (reply_note mutex told.now (Some line.now)) }
+{
+    write_reply_title(out, mutex, told, line)?;
+    write_quote(out, line)
+}
+
+/// What another call's reply did to the mutex, if its line is there.
+fn write_reply_at<W: Write>(
+    out: &mut W,
+    mutex: u16,
+    told: &EarlierReply,
+    line: Option<HistoryLine>,
+) -> io::Result<()>
+    ensures { Leaves (W.contents out.old) (W.contents out.new) result (reply_note mutex told.now line) }
+{
+    match line {
+        Some(line) => write_reply(out, mutex, told, &line),
+        None => Ok(()),
+    }
+}
+
+/// What another call's reply did to the mutex, if there is one.
+fn write_earlier<W: Write>(
+    out: &mut W,
+    lines: &[HistoryLine],
+    mutex: u16,
+    told: &Option<EarlierReply>,
+) -> io::Result<()>
+    ensures { Leaves (W.contents out.old) (W.contents out.new) result (earlier_note lines.now mutex told.now) }
+{
+    match told {
+        Some(told) => write_reply_at(out, mutex, told, line_at(lines, told.place)),
+        None => Ok(()),
+    }
+}
+
+/// Who left the mutex since somebody got it.
+fn write_left_since<W: Write>(
+    out: &mut W,
+    lines: &[HistoryLine],
+    mutex: u16,
+    evidence: &Evidence,
+) -> io::Result<()>
+    ensures { Leaves (W.contents out.old) (W.contents out.new) result (earlier_note lines.now mutex evidence.now.left) }
+{
+    write_earlier(out, lines, mutex, &evidence.left)
+}
+
+/// Who got the mutex last, and who left it since.
+fn write_replies<W: Write>(
+    out: &mut W,
+    lines: &[HistoryLine],
+    mutex: u16,
+    evidence: &Evidence,
+) -> io::Result<()>
+    ensures { Leaves (W.contents out.old) (W.contents out.new) result
+        (earlier_note lines.now mutex evidence.now.got ++ earlier_note lines.now mutex evidence.now.left) }
+{
+    write_earlier(out, lines, mutex, &evidence.got)?;
+    write_left_since(out, lines, mutex, evidence)
+}
+
+/// How the mutex stood behind these lines.
+fn write_evidence<W: Write>(
+    out: &mut W,
+    lines: &[HistoryLine],
+    mutex: u16,
+    evidence: &Evidence,
+) -> io::Result<()>
+    ensures { Leaves (W.contents out.old) (W.contents out.new) result (evidence_notes lines.now mutex evidence.now) }
+{
+    write_death_at(out, mutex, line_of(lines, evidence.death))?;
+    write_replies(out, lines, mutex, evidence)
+}
+
+/// How the mutex stood behind these lines, and where the call began that returns there.
+fn write_call<W: Write>(
+    out: &mut W,
+    lines: &[HistoryLine],
+    mutex: u16,
+    begin: usize,
+) -> io::Result<()>
+    ensures { Leaves (W.contents out.old) (W.contents out.new) result
+        (evidence_notes lines.now mutex (evidence_of mutex (reverse (entries lines.now)))
+        ++ begin_note (slice_get lines.now (begin - 1))) }
+{
+    let evidence = evidence_of(lines, mutex);
+    write_evidence(out, lines, mutex, &evidence)?;
+    write_begin_at(out, line_at(lines, begin))
+}
+
+/// How the mutex of the call stood that returns there, and where the call began.
 fn write_why<W: Write>(out: &mut W, lines: &[HistoryLine], why: &Reason) -> io::Result<()>
     ensures { Leaves (W.contents out.old) (W.contents out.new) result (why_note lines.now why.now) }
 {
     match *why {
         Reason::OutOfTurn(_) => Ok(()),
-        Reason::NoOrder { begin, .. } => write_begin_at(out, line_at(lines, begin)),
+        Reason::NoOrder { mutex, begin, .. } => write_call(out, lines, mutex, begin),
     }
 }
 
@@ -209,30 +404,33 @@ fn write_notes<W: Write>(
     write_why(out, lines, why)
 }
 
-/// The last line before the mutex was left without an owner, if it was.
-fn since_line(lines: &[HistoryLine], since: Option<usize>) -> Option<HistoryLine>
-    ensures { result ≡ since_line lines.now since }
-{
-    match since {
-        Some(place) => line_at(lines, place),
-        None => None,
-    }
-}
-
 /// What the mutex is that a call still waits for, since this line.
 fn write_left<W: Write>(out: &mut W, unusable: bool, line: &HistoryLine) -> io::Result<()>
     ensures { Leaves (W.contents out.old) (W.contents out.new) result (since_words unusable (Some line.now)) }
 {
     let number = Number(line.number);
+    let event = Number(line.event);
     if unusable {
         put_pieces(
             out,
-            &[Word(", which is unusable since line "), number, Word("\n")],
+            &[
+                Word(", which is unusable since line "),
+                number,
+                Word(" (event "),
+                event,
+                Word(")\n"),
+            ],
         )
     } else {
         put_pieces(
             out,
-            &[Word(", which nobody owns since line "), number, Word("\n")],
+            &[
+                Word(", which nobody owns since line "),
+                number,
+                Word(" (event "),
+                event,
+                Word(")\n"),
+            ],
         )
     }
 }
@@ -278,7 +476,13 @@ fn write_since<W: Write>(out: &mut W, line: &HistoryLine) -> io::Result<()>
 {
     put_pieces(
         out,
-        &[Word("  = see line "), Number(line.number), Word(":\n")],
+        &[
+            Word("  = see line "),
+            Number(line.number),
+            Word(" (event "),
+            Number(line.event),
+            Word("):\n"),
+        ],
     )?;
     write_quote(out, line)
 }
@@ -328,7 +532,7 @@ fn write_waiter<W: Write>(out: &mut W, lines: &[HistoryLine], waiter: &Waiter) -
     ensures { Leaves (W.contents out.old) (W.contents out.new) result (waiter_text lines.now waiter.now) }
 {
     let begin = line_at(lines, waiter.begin);
-    let since = since_line(lines, waiter.since);
+    let since = line_of(lines, waiter.since);
     write_waiter_lines(out, waiter, begin, &since)
 }
 
@@ -342,14 +546,40 @@ fn write_waiters<W: Write>(out: &mut W, lines: &[HistoryLine], waiters: &[Waiter
     Ok(())
 }
 
-/// How many points a legal history has.
-fn write_legal<W: Write>(out: &mut W, points: usize) -> io::Result<()>
-    ensures { Leaves (W.contents out.old) (W.contents out.new) result (legal_text points) }
+/// Whether the line begins a call.
+fn is_begin(line: &HistoryLine) -> bool
+    ensures { result ≡ is_begin line.now }
 {
-    put_pieces(
-        out,
-        &[Word("legal "), Number(points as u64), Word(" points\n")],
-    )
+    match line.entry {
+        Entry::Told(fact) => matches!(fact, Fact::Begin(..)),
+        Entry::Doom(_) => false,
+    }
+}
+
+/// Whether the history has a call.
+fn has_calls(lines: &[HistoryLine]) -> bool
+    ensures { result ≡ list_any is_begin lines.now }
+{
+    lines.iter().any(|line| is_begin(line))
+}
+
+/// How many points a legal history has, and that one without calls is legal for that reason.
+fn write_legal<W: Write>(out: &mut W, points: usize, lines: &[HistoryLine]) -> io::Result<()>
+    ensures { Leaves (W.contents out.old) (W.contents out.new) result (legal_text points lines.now) }
+{
+    let points = Number(points as u64);
+    if has_calls(lines) {
+        put_pieces(out, &[Word("legal "), points, Word(" points\n")])
+    } else {
+        put_pieces(
+            out,
+            &[
+                Word("legal "),
+                points,
+                Word(" points: the history is empty, it has no calls\n"),
+            ],
+        )
+    }
 }
 
 /// Which of the certificate's events a window has.
@@ -406,14 +636,14 @@ pub fn tell_legal<W: Write>(
     waiters: &[Waiter],
 ) -> io::Result<()>
     ensures { Leaves (W.contents out.old) (W.contents out.new) result
-        (legal_text points ++ (cuts_text cuts.now ++ waiters_text lines.now waiters.now)) }
+        (legal_text points lines.now ++ (cuts_text cuts.now ++ waiters_text lines.now waiters.now)) }
 {
-    write_legal(out, points)?;
+    write_legal(out, points, lines)?;
     write_rest(out, cuts, lines, waiters)
 }
 
-/// Tells that no order of the calls explains the lines up to this one, why, and which replies its thread could have been
-/// told.
+/// Tells that no order of the calls explains these lines and this one behind them, why, and which replies its thread could
+/// have been told.
 pub fn tell_illegal<W: Write>(
     out: &mut W,
     lines: &[HistoryLine],
@@ -435,7 +665,13 @@ pub fn tell_undecided<W: Write>(out: &mut W, line: &HistoryLine) -> io::Result<(
 {
     put_pieces(
         out,
-        &[Word("undecided at line "), Number(line.number), Word("\n")],
+        &[
+            Word("undecided at line "),
+            Number(line.number),
+            Word(" (event "),
+            Number(line.event),
+            Word(")\n"),
+        ],
     )?;
     write_quote(out, line)
 }

@@ -282,6 +282,19 @@ if (isCut) {
   element("cut").textContent = "Of " + end[2] + " lines the first " + lines.length + " are shown here; the picture has all." + judged;
   element("cut").className = illegal ? "misfit" : "";
 }
+// the title: whose death is told first, of which mutex, and what its next owner is told
+function story() {
+  const first = lines.findIndex(line => line[1][0] === "death");
+  if (first < 0) return "";
+  const [, dead, m] = lines[first][1];
+  const next = lines.find((line, i) => i > first && line[1][0] === "point" && line[1][2] === m && line[3][0] === line[1][1]);
+  return thread(dead) + " dies owning " + mutex(m) + (next ? "; " + thread(next[1][1]) + " gets " + next[1][4] : "");
+}
+const title = story();
+if (title) {
+  document.title = title;
+  document.querySelector("h1").textContent = title;
+}
 window.addEventListener("hashchange", () => step(Number(location.hash.slice(1))));
 show(location.hash.length > 1 ? Number(location.hash.slice(1)) : stops ? last : 0);
 document.addEventListener("DOMContentLoaded", findLanes);

@@ -83,18 +83,54 @@ end 11
 ";
 
 const TEXT: &str =
-    "illegal at line 12: no order of the calls gives t3 EOWNERDEAD for its lock of m0\n  | 11 return t3 EOWNERDEAD\n  = t3 could be told OK here\n  = see line 11: the call began\n  | 10 begin t3 lock m0\n";
+    "illegal at line 12 (event 11): no order of the calls gives t3 EOWNERDEAD for its lock of m0\n  | 11 return t3 EOWNERDEAD\n  = t3 could be told OK here\n  = see line 4 (event 3): t1 may have owned m0 when it died\n  | 3 doom t1\n  = see line 6 (event 5): t2 was told EOWNERDEAD for its lock of m0\n  | 5 return t2 EOWNERDEAD\n  = see line 10 (event 9): t2 was told OK for its unlock of m0\n  | 9 return t2 OK\n  = see line 11 (event 10): the call began\n  | 10 begin t3 lock m0\n";
+
+/// There is one moment for each point; the doomed thread dies before its mutex is handed on.
+const TRACE: &str = "trace 3 1 0
+1 begin t1 lock m0
+2 point t1 m0 lock OK
+3 return t1 OK
+4 kill t1
+5 death t1 m0
+6 begin t2 lock m0
+7 point t2 m0 lock EOWNERDEAD
+8 return t2 EOWNERDEAD
+9 begin t2 consistent m0
+10 point t2 m0 consistent OK
+11 return t2 OK
+12 begin t2 unlock m0
+13 point t2 m0 unlock OK
+14 return t2 OK
+15 begin t3 lock m0
+16 return t3 EOWNERDEAD
+end 16
+";
 
 const USAGE: &str = "usage: rfx-judge [--waiting] [--trace OUT | --windows OUT] FILE\n";
 
-/// Of an illegal history no certificate is made, and by another command line none is.
+/// Of an illegal history a trace is written that ends with its illegal line.
 #[test]
-fn no_certificate_is_made_of_an_illegal_history(rt: HostRuntime) {
+fn a_trace_of_an_illegal_history_is_written(rt: HostRuntime) {
+    let shelf = Shelf::new(rt.alloc(), TRACE);
+    let line = words(rt.alloc(), &["rfx-judge", "--trace", "out", "f"]);
+    let answered = answer_of(rt.alloc(), line, HISTORY, &shelf);
+    assert!(rt; answered.is(1, TEXT, "") && shelf.filled.get() == 1);
+}
+
+/// Nothing is written by another command line, nor over the history.
+#[test]
+fn nothing_is_written_over_the_history(rt: HostRuntime) {
     let shelf = Shelf::new(rt.alloc(), "");
-    let line = words(rt.alloc(), &["rfx-judge", "--trace", "none", "f"]);
-    assert!(rt; answer_of(rt.alloc(), line, HISTORY, &shelf).is(1, TEXT, ""));
     let line = words(rt.alloc(), &["rfx-judge", "--trace", "out", "f", "f"]);
     assert!(rt; answer_of(rt.alloc(), line, HISTORY, &shelf).is(2, "", USAGE));
+    let line = words(rt.alloc(), &["rfx-judge", "--trace", "f", "f"]);
+    assert!(rt;
+        answer_of(rt.alloc(), line, HISTORY, &shelf).is(
+            2,
+            "",
+            "rfx-judge: the trace would be written over f\n",
+        )
+    );
     assert!(rt; shelf.made.get() == 0);
 }
 

@@ -9,4 +9,5 @@ returns-then-refuted c = record {
   stands = sym c.in-Some.ensures;
   reason = sym c.in-Some-reason_of.ensures;
   could = c.in_ok-possible.ensures;
+  shown = c.in_ok-steps.ensures;
 }

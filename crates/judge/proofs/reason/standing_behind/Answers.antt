@@ -1,26 +1,11 @@
-use Rattle.std.proofs.Common.{◌≡◌, ℕ, ◌+◌, ◌==◌, List, reverse, if◌then◌else◌, sym, ap, ap₂, ◌∙◌, arith}
-use Rattle.std.proofs.lemmas.List.{take_all}
-use Rattle.histories.specs.declared.entry.HistoryLine.{HistoryLine}
-use Rattle.certificates.specs.Certificates.{entries, whose}
-use Rattle.judge.specs.declared.reason.Standing.{Standing}
-use Rattle.judge.specs.Reasons.{standing_after, standing_behind}
-use Rattle.judge.proofs.Lines.{one_more}
+use Rattle.std.proofs.Common.{sym, ◌∙◌, rules}
+use Rattle.judge.proofs.Behind.{standing_further, standing_here}
 use Rattle.judge.proofs.reason.standing_behind.Goals as goal
 
-pub loop-line-preserved : goal.loop-line-preserved
-loop-line-preserved c =
-    let i = c.loop-line.invariant in
-    let n = c.loop-line.line-index in
-    let l = c.line-item.result in
-    let t = c.args.thread in
-    let next : c.loop-line.place + 1 ≡ n + 1 = omega (arith, i.place) in
-    record {
-      place = next;
-      standing = c.standing_with-standing.ensures ∙ ap₂ (λ (p : ℕ) (s : Standing). if whose l.entry == t then standing_after l.entry p else s) next i.standing
-          ∙ sym (one_more t c.args.lines.now n l (omega arith) c.line-item.is);
-    }
+pub returns-then-eq : goal.returns-then-eq
+returns-then-eq c =
+    c.standing_after.ensures ∙ sym (standing_here c.args.thread c.lines.rest.now c.in-Some.before.now c.in-Some.line.now c.in-Some.ensures.cases.0 c.in-Some.ensures.cases.1 (search rules)) ∙ c.lines.invariant
 
-pub returns : goal.returns
-returns c =
-    c.loop-line.invariant.standing
-    ∙ ap (λ (ls : List HistoryLine). standing_behind c.args.thread (reverse (entries ls))) (take_all c.loop-line.line-index c.args.lines.now c.loop-line-test.false)
+pub lines-preserved : goal.lines-preserved
+lines-preserved c =
+    sym (standing_further c.args.thread c.lines.rest.now c.in-Some.before.now c.in-Some.line.now c.in-Some.ensures.cases.0 (search rules)) ∙ c.lines.invariant

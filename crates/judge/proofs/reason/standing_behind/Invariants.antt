@@ -1,10 +1,10 @@
-use Rattle.std.proofs.Common.{◌≡◌, reverse, take}
+use Rattle.std.proofs.Common.{◌≡◌, length, reverse}
 use Rattle.certificates.specs.Certificates.{entries}
 use Rattle.judge.specs.Reasons.{standing_behind}
 use Rattle.judge.proofs.reason.standing_behind.Given as goal
 
-abbrev pub invariant-loop-line : goal.invariant-loop-line
-invariant-loop-line l = record {
-  place : l.place ≡ l.line-index;
-  standing : l.standing ≡ standing_behind l.thread (reverse (entries (take l.line-index l.lines)));
-}
+abbrev pub invariant-lines : goal.invariant-lines
+invariant-lines l = standing_behind l.thread (reverse (entries l.rest)) ≡ standing_behind l.thread (reverse (entries l.fn.lines))
+
+abbrev pub decreases-lines : goal.decreases-lines
+decreases-lines l = length l.rest

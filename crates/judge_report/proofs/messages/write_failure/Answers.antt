@@ -20,3 +20,6 @@ returns-in-TooMany g c = rw c.in-TooMany.is c.put-in-TooMany.ensures
 
 pub returns-in-NoPlace : goal.returns-in-NoPlace
 returns-in-NoPlace g c = rw c.in-NoPlace.is c.put-in-NoPlace.ensures
+
+pub returns-in-Overwriting : goal.returns-in-Overwriting
+returns-in-Overwriting g c = rw c.in-Overwriting.is c.put-in-Overwriting.ensures

@@ -12,15 +12,18 @@ pub returns-in-Legal : goal.returns-in-Legal
 returns-in-Legal g c =
     tells_legal c.args.waiting c.args.history.now c.args.judgement.now c.in-Legal.steps c.points_of.result c.args.cuts.now c.args.waiters.now _ _ c.tell_legal.result c.in-Legal.is c.requires.judged c.requires.named
     (c.points_of.ensures ∙ ap (count_by is_point_step) c.deref.ensures.value)
-    (subst (λ (ls : List HistoryLine). Leaves (g.W.Write.contents c.args.out.now) (g.W.Write.contents c.tell_legal.new.out) c.tell_legal.result (legal_text c.points_of.result ++ (cuts_text c.args.cuts.now ++ waiters_text ls c.args.waiters.now))) c.deref-in-Legal.ensures.value c.tell_legal.ensures)
+    (subst (λ (ls : List HistoryLine). Leaves (g.W.Write.contents c.args.out.now) (g.W.Write.contents c.tell_legal.new.out) c.tell_legal.result (legal_text c.points_of.result ls ++ (cuts_text c.args.cuts.now ++ waiters_text ls c.args.waiters.now))) c.deref-in-Legal.ensures.value c.tell_legal.ensures)
+
+pub lines_before-requires : goal.lines_before-requires
+lines_before-requires g c = illegal_within c.args.history.now c.args.judgement.now c.in-Illegal.at c.in-Illegal.why c.in-Illegal.possible _ c.in-Illegal.is c.requires.judged
 
 pub line_of-requires : goal.line_of-requires
-line_of-requires g c = illegal_within c.args.history.now c.args.judgement.now c.in-Illegal.at c.in-Illegal.why c.in-Illegal.possible c.in-Illegal.is c.requires.judged
+line_of-requires g c = illegal_within c.args.history.now c.args.judgement.now c.in-Illegal.at c.in-Illegal.why c.in-Illegal.possible _ c.in-Illegal.is c.requires.judged
 
 pub returns-in-Illegal : goal.returns-in-Illegal
 returns-in-Illegal g c =
-    tells_illegal c.args.waiting c.args.history.now c.args.judgement.now c.in-Illegal.at c.in-Illegal.why c.in-Illegal.possible c.line_of.result c.args.cuts.now _ _ c.tell_illegal.result c.in-Illegal.is c.requires.judged c.line_of.ensures
-    (subst₂ (λ (ls : List HistoryLine) (xs : List Reply). Leaves (g.W.Write.contents c.args.out.now) (g.W.Write.contents c.tell_illegal.new.out) c.tell_illegal.result (illegal_text ls c.line_of.result c.in-Illegal.why xs)) c.deref-in-Illegal.ensures.value c.deref-in-Illegal-2.ensures.value c.tell_illegal.ensures)
+    tells_illegal c.args.waiting c.args.history.now c.args.judgement.now c.in-Illegal.at c.in-Illegal.why c.in-Illegal.possible _ c.line_of.result c.args.cuts.now _ _ c.tell_illegal.result c.in-Illegal.is c.requires.judged c.line_of.ensures
+    (subst₂ (λ (ls : List HistoryLine) (xs : List Reply). Leaves (g.W.Write.contents c.args.out.now) (g.W.Write.contents c.tell_illegal.new.out) c.tell_illegal.result (illegal_text ls c.line_of.result c.in-Illegal.why xs)) c.lines_before.ensures c.deref-in-Illegal.ensures.value c.tell_illegal.ensures)
 
 pub returns-in-Undecided : goal.returns-in-Undecided
 returns-in-Undecided g c =

@@ -8,9 +8,9 @@ use Rattle.judge_report.proofs.telling.tell_undecided.Goals as goal
 pub returns-in_err-put_pieces : goal.returns-in_err-put_pieces
 returns-in_err-put_pieces g c =
     let l = c.args.line.now in
-    ends_at_first _ _ c.from_residual.result (concat (codes "undecided at line " ∷ decimal l.number ∷ codes "\n" ∷ [])) (quote l) c.from_residual.ensures.0 c.in_err-put_pieces.ensures
+    ends_at_first _ _ c.from_residual.result (concat (codes "undecided at line " ∷ decimal l.number ∷ codes " (event " ∷ decimal l.event ∷ codes ")\n" ∷ [])) (quote l) c.from_residual.ensures.0 c.in_err-put_pieces.ensures
 
 pub returns : goal.returns
 returns g c =
     let l = c.args.line.now in
-    then_leaves _ _ _ c.write_quote.result (concat (codes "undecided at line " ∷ decimal l.number ∷ codes "\n" ∷ [])) (quote l) c.in_ok-put_pieces.ensures c.write_quote.ensures
+    then_leaves _ _ _ c.write_quote.result (concat (codes "undecided at line " ∷ decimal l.number ∷ codes " (event " ∷ decimal l.event ∷ codes ")\n" ∷ [])) (quote l) c.in_ok-put_pieces.ensures c.write_quote.ensures

@@ -8,6 +8,6 @@ pub returns : goal.returns
 returns g c =
     let w = c.args.waiter.now in
     let ls = c.args.lines.now in
-    let whole : waiter_lines w c.line_at-begin.result c.since_line-since.result ≡ waiter_text ls w =
-    ap (λ b. waiter_lines w b c.since_line-since.result) c.line_at-begin.ensures ∙ ap (waiter_lines w (slice_get ls (w.begin - 1))) c.since_line-since.ensures in
+    let whole : waiter_lines w c.line_at-begin.result c.line_of-since.result ≡ waiter_text ls w =
+    ap (λ b. waiter_lines w b c.line_of-since.result) c.line_at-begin.ensures ∙ ap (waiter_lines w (slice_get ls (w.begin - 1))) c.line_of-since.ensures in
     subst (Leaves (g.W.Write.contents c.args.out.now) (g.W.Write.contents c.write_waiter_lines.new.out) c.write_waiter_lines.result) whole c.write_waiter_lines.ensures

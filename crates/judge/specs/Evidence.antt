@@ -1,0 +1,155 @@
+-- Which earlier lines say how a mutex stood: who got it, who left it, and who may have owned it and died.
+--
+-- *Who gets and who leaves a mutex.* A lock or a wait that returns OK or EOWNERDEAD gives its thread the mutex, and so does
+-- a wait whose time limit came. An unlock that returns OK leaves it, and so do a wait that returns ENOTRECOVERABLE, whose
+-- thread had unlocked it, and the call that makes it anew.
+--
+-- *Who may own a mutex.* A thread in a call on it; or one whose newest reply that changed the mutex gave it the mutex,
+-- in this life.
+--
+-- Lines stand newest first.
+use Rattle.std.specs.Prelude.{ℕ, ◌+◌, ◌==◌, nat_lt, Bool, true, false, ◌&&◌, Option, Some, None}
+use Rattle.std.specs.Prelude.{List, [], ◌∷◌, length, if◌then◌else◌}
+use Rattle.lockword.specs.declared.reply.Reply.{Reply}
+use Rattle.lockword.specs.declared.reply.Reply.TheVariants.{OK, ETIMEDOUT, EOWNERDEAD, ENOTRECOVERABLE}
+use Rattle.posixmutex.specs.declared.point.Operation.{Operation}
+use Rattle.posixmutex.specs.declared.point.Operation.TheVariants.{Lock, TryLock, TimedLock, Unlock, Wait, TimedWait, Reinit}
+use Rattle.facts.specs.declared.fact.Fact.TheVariants.{Return, Renew}
+use Rattle.histories.specs.declared.entry.Entry.{Entry}
+use Rattle.histories.specs.declared.entry.Entry.TheVariants.{Told}
+use Rattle.certificates.specs.Certificates.{whose}
+use Rattle.judge.specs.declared.reason.Standing.{Standing}
+use Rattle.judge.specs.declared.reason.Standing.TheVariants.{Calling}
+use Rattle.judge.specs.declared.evidence.Change.{Change}
+use Rattle.judge.specs.declared.evidence.Change.TheVariants.{Gets, Leaves}
+use Rattle.judge.specs.declared.evidence.EarlierReply.{EarlierReply}
+use Rattle.judge.specs.declared.evidence.Evidence.{Evidence}
+use Rattle.judge.specs.Reasons.{dies, standing_behind}
+
+-- ---- a reply and its mutex
+
+-- a lock or a wait, which gives its thread the mutex
+abbrev pub gives : Reply → Bool
+gives OK = true
+gives EOWNERDEAD = true
+gives x = false
+
+-- a wait with a time limit, which may return as the owner though its limit came
+abbrev pub gives_late : Reply → Bool
+gives_late ETIMEDOUT = true
+gives_late x = gives x
+
+abbrev pub gets : Operation → Reply → Bool
+gets Lock x = gives x
+gets TryLock x = gives x
+gets TimedLock x = gives x
+gets Wait x = gives x
+gets TimedWait x = gives_late x
+gets op x = false
+
+abbrev pub is_ok : Reply → Bool
+is_ok OK = true
+is_ok x = false
+
+abbrev pub is_spoilt : Reply → Bool
+is_spoilt ENOTRECOVERABLE = true
+is_spoilt x = false
+
+abbrev pub leaves : Operation → Reply → Bool
+leaves Unlock x = is_ok x
+leaves Reinit x = is_ok x
+leaves Wait x = is_spoilt x
+leaves TimedWait x = is_spoilt x
+leaves op x = false
+
+abbrev pub changes : Change → Operation → Reply → Bool
+changes Gets op x = gets op x
+changes Leaves op x = leaves op x
+
+-- ---- who may own it
+
+-- the thread is in a call on mutex m
+abbrev pub is_calling : ℕ → Standing → Bool
+is_calling m (Calling c n) = c.mutex == m
+is_calling m s = false
+
+-- what this reply, of a thread that was there, says of its owning mutex m, if it says anything
+abbrev pub owned_after : ℕ → Standing → Reply → Option Bool
+owned_after m (Calling c n) x = if c.mutex == m
+    then
+    (if gets c.operation x then Some true
+    else (if leaves c.operation x then Some false else None))
+    else None
+owned_after m s x = None
+
+-- what this line of a thread that was there says of that; a new life owns nothing
+abbrev pub owned_by : ℕ → Standing → Entry → Option Bool
+owned_by m s (Told (Return t x)) = owned_after m s x
+owned_by m s (Told (Renew t)) = Some false
+owned_by m s e = None
+
+-- what this line says of thread t's owning it
+abbrev pub owned_at : ℕ → ℕ → Entry → List Entry → Option Bool
+owned_at m t e es = if whose e == t then owned_by m (standing_behind t es) e else None
+
+abbrev pub known_or : Option Bool → Option Bool → Option Bool
+known_or (Some b) other = Some b
+known_or None other = other
+
+-- what its newest line says of that which says anything of it
+abbrev pub owned : ℕ → ℕ → List Entry → Option Bool
+owned m t [] = None
+owned m t (e ∷ es) = known_or (owned_at m t e es) (owned m t es)
+
+abbrev pub is_yes : Option Bool → Bool
+is_yes (Some b) = b
+is_yes None = false
+
+abbrev pub may_own : ℕ → ℕ → List Entry → Bool
+may_own m t es = if is_calling m (standing_behind t es) then true else is_yes (owned m t es)
+
+-- ---- the lines
+
+-- this line tells of the death of a thread which may have owned mutex m
+abbrev pub is_death : ℕ → Entry → List Entry → Bool
+is_death m e es = dies e && may_own m (whose e) es
+
+-- the place, counted from 1, of the newest such line
+abbrev pub death_behind : ℕ → List Entry → Option ℕ
+death_behind m [] = None
+death_behind m (e ∷ es) = if is_death m e es then Some (length es + 1) else death_behind m es
+
+-- this reply, of thread t, which was there, at place n, where it changes mutex m so
+abbrev pub changed_by : Change → ℕ → Standing → ℕ → Reply → ℕ → Option EarlierReply
+changed_by k m (Calling c b) t x n = if (c.mutex == m) && changes k c.operation x
+    then Some (record { place = n; thread = t; operation = c.operation; reply = x }) else None
+changed_by k m s t x n = None
+
+abbrev pub reply_by : Change → ℕ → Standing → Entry → ℕ → Option EarlierReply
+reply_by k m s (Told (Return t x)) n = changed_by k m s t x n
+reply_by k m s e n = None
+
+abbrev pub first_of : Option EarlierReply → Option EarlierReply → Option EarlierReply
+first_of (Some r) other = Some r
+first_of None other = other
+
+abbrev pub reply_at : Change → ℕ → Entry → List Entry → ℕ → Option EarlierReply
+reply_at k m e es n = reply_by k m (standing_behind (whose e) es) e n
+
+-- the newest reply that changed mutex m so
+abbrev pub reply_behind : Change → ℕ → List Entry → Option EarlierReply
+reply_behind k m [] = None
+reply_behind k m (e ∷ es) = first_of (reply_at k m e es (length es + 1)) (reply_behind k m es)
+
+-- the reply that left the mutex, where none that gave it is newer
+abbrev pub left_since : Option EarlierReply → Option EarlierReply → Option EarlierReply
+left_since None left = left
+left_since (Some got) None = None
+left_since (Some got) (Some left) = if nat_lt got.place left.place then Some left else None
+
+abbrev pub evidence_of : ℕ → List Entry → Evidence
+evidence_of m es = record {
+  death = death_behind m es;
+  got = reply_behind Gets m es;
+  left = left_since (reply_behind Gets m es) (reply_behind Leaves m es);
+}
