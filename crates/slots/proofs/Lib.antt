@@ -44,3 +44,8 @@ pub mod UnlinkLeads
 pub mod WaitLeads
 pub mod Keeping
 pub mod AllRows
+pub mod FitsOn
+pub mod Abouts
+pub mod Alive
+pub mod Allowed
+pub mod Following

@@ -1,5 +1,6 @@
 pub mod Accesses
 pub mod Each
+pub mod Fits
 pub mod Further
 pub mod Goes
 pub mod Heirs
@@ -7,6 +8,7 @@ pub mod Invariant
 pub mod Laws
 pub mod Moments
 pub mod Places
+pub mod Premises
 pub mod Rows
 pub mod Runs
 pub mod Shown

@@ -4,6 +4,8 @@ ghost use Rattle.slots.specs.Accesses.{ClearingRowsAreEvents, ListRowsAreEvents,
 ghost use Rattle.slots.specs.Accesses.{MissesAreNoEvents, PendingAgainIsNoEvent, ReleasesAreEvents};
 ghost use Rattle.slots.specs.Accesses.{TakesAreEvents, WakesAreEvents};
 ghost use Rattle.slots.specs.Each.{EachAccessIsEvents};
+ghost use Rattle.slots.specs.Fits.{NextRowsFit};
+ghost use Rattle.slots.specs.Premises.{PremisesFollow};
 ghost use Rattle.slots.specs.Goes.{OthersStandStill, RowsLeadOn, RunsKeepTheirRows};
 ghost use Rattle.slots.specs.Goes.{AccessesOfRunsAreEvents, ThreadsKeepTheirRows};
 ghost use Rattle.slots.specs.Further.{AnnouncedReleasesAreEvents, CountsAreEvents, DecidingLooksAreEvents};
@@ -299,4 +301,17 @@ pub fn runs_keep_their_rows()
 /// table has for it.
 pub fn accesses_of_runs_are_events()
     ensures { AccessesOfRunsAreEvents }
+{}
+
+/// A row's mutex and condition variable are the layout's, and the words that its call has seen say what led the call there.
+/// After each access, whatever it finds, this holds of the next row.
+pub fn next_rows_fit()
+    ensures { NextRowsFit }
+{}
+
+/// In any run, what happenings assume follows from less: rows fit, calls are about their rows' mutexes, sleeps with a deadline
+/// are of locks that have been to the slot or have slept, and dead threads are in none of our calls. What is still assumed
+/// of an access is named (`specs/Premises.antt`).
+pub fn premises_follow()
+    ensures { PremisesFollow }
 {}
