@@ -21,9 +21,10 @@ use Rattle.slots.specs.Further.{MayTake, OwnsMarked}
 use Rattle.slots.specs.Each.{Assumes, IsToTake, SlotIsSmall}
 use Rattle.slots.specs.Goes.{AssumesToo, SleepsLater}
 use Rattle.slots.specs.Fits.{Fits, IsApart, IsOurs}
-use Rattle.slots.specs.Premises.{Holds, Trusts}
+use Rattle.slots.specs.Premises.{Holds, Trusts, WordsAreSound}
 use Rattle.slots.proofs.Free.{reached_kept}
 use Rattle.slots.proofs.Meets.{usable_if_owned}
+use Rattle.slots.proofs.Rooms.{words_sound}
 use Rattle.slots.proofs.Owned.{our_cell, our_slot}
 
 -- a usable mutex's word has 32 bits
@@ -50,6 +51,9 @@ module _ (x : Slots) (t : ℕ) (from : IsReached x.machine) (first : 1 ≤ t) wh
   inv : Kept z
   inv = reached_kept z from
 
+  words : WordsAreSound z
+  words = words_sound z from
+
   may : (m : ℕ) → IsOurs l m → (z.threads t).held < 2048 → MayTake x t m
   may m ours room = record { inside = our_cell l m ours; room = room }
 
@@ -65,7 +69,7 @@ module _ (x : Slots) (t : ℕ) (from : IsReached x.machine) (first : 1 ≤ t) wh
   slot_small : (m : ℕ) (r : Row) → IsOurs l m → Trusts x t r → x.turns (slot_of m) < 2147483648 → SlotIsSmall x m
   slot_small m r ours w few = record {
     inside = our_slot l m ours;
-    small = small_word (z.words (cell_place l (slot_of m))) (w.slots m ours).usable (w.words.room (slot_of m) (our_slot l m ours));
+    small = small_word (z.words (cell_place l (slot_of m))) (w.slots m ours).usable (words.room (slot_of m) (our_slot l m ours));
     few = few;
   }
 
@@ -74,12 +78,12 @@ module _ (x : Slots) (t : ℕ) (from : IsReached x.machine) (first : 1 ≤ t) wh
     inside = inside;
     owner = h.owner;
     died = h.died;
-    small = small_word (z.words (cell_place l k)) (usable k inside h.owner) (w.words.room k inside);
+    small = small_word (z.words (cell_place l k)) (usable k inside h.owner) (words.room k inside);
     few = few;
   }
 
   free_one : (m v : ℕ) (r : Row) → IsOurs l m → Trusts x t r → is_free v ≡ true → IsToTake x m v
-  free_one m v r ours w free = record { free = free; room = w.words.room (cell_of m) (our_cell l m ours) }
+  free_one m v r ours w free = record { free = free; room = words.room (cell_of m) (our_cell l m ours) }
 
   pub assume_row : (r : Row) → Fits l t r g → Trusts x t r → Assumes x t r
   assume_row (Row.Pends k v) o w = may k.mutex o.0.ours w.room
@@ -89,7 +93,7 @@ module _ (x : Slots) (t : ℕ) (from : IsReached x.machine) (first : 1 ≤ t) wh
   assume_row (Row.Marks k v ToSleep) o w = (may k.mutex o.0.ours w.room, o.1)
   assume_row (Row.Marks k v (ToSlot sl)) o w = (may k.mutex o.0.ours w.room, o.1.0)
   assume_row (Row.SlotPends k sl) o w = (our_slot l k.mutex o.0.ours, w.room)
-  assume_row (Row.SlotTakes k sl) o w = record { inside = our_slot l k.mutex o.0.ours; nobody = o.1; usable = (w.slots k.mutex o.0.ours).usable; room = w.words.room (slot_of k.mutex) (our_slot l k.mutex o.0.ours) }
+  assume_row (Row.SlotTakes k sl) o w = record { inside = our_slot l k.mutex o.0.ours; nobody = o.1; usable = (w.slots k.mutex o.0.ours).usable; room = words.room (slot_of k.mutex) (our_slot l k.mutex o.0.ours) }
   assume_row (Row.SlotLeft k) o w = may k.mutex o.ours w.room
   assume_row (Row.SeesToSleep k) o w = may k.mutex o.0.ours w.room
   assume_row (Row.SlotQuiets k) o w = slot_small k.mutex _ o.ours w w.few
@@ -99,7 +103,7 @@ module _ (x : Slots) (t : ℕ) (from : IsReached x.machine) (first : 1 ≤ t) wh
   assume_row (Row.HeirPends k Again) o w = tt
   assume_row (Row.HeirSets k) o w = record {
     inside = our_slot l k.mutex o.ours;
-    word = owner_alone (z.words (cell_place l (slot_of k.mutex))) t w.owning.0.owner w.owning.0.died (w.slots k.mutex o.ours).waiters (w.slots k.mutex o.ours).usable (w.words.room (slot_of k.mutex) (our_slot l k.mutex o.ours));
+    word = owner_alone (z.words (cell_place l (slot_of k.mutex))) t w.owning.0.owner w.owning.0.died (w.slots k.mutex o.ours).waiters (w.slots k.mutex o.ours).usable (words.room (slot_of k.mutex) (our_slot l k.mutex o.ours));
   }
   assume_row (Row.HeirTakes k v) o w = (may k.mutex o.0.ours w.room, free_one k.mutex v _ o.0.ours w o.1)
   assume_row (Row.HeirHas k r) o w = slot_small k.mutex _ o.ours w w.few
@@ -108,7 +112,7 @@ module _ (x : Slots) (t : ℕ) (from : IsReached x.machine) (first : 1 ≤ t) wh
   assume_row (Row.LastMarks k v) o w = (may k.mutex o.0.ours w.room, o.1)
   assume_row (Row.TryPends m v) o w = may m o.0 w.room
   assume_row (Row.TryTakes m v) o w = (may m o.0 w.room, free_one m v _ o.0 w o.1)
-  assume_row (Row.Anews m v) o w = record { inside = our_cell l m o.0; unusable = o.1; died = w.words.lost (cell_of m) (our_cell l m o.0); room = w.words.room (cell_of m) (our_cell l m o.0) }
+  assume_row (Row.Anews m v) o w = record { inside = our_cell l m o.0; unusable = o.1; died = words.lost (cell_of m) (our_cell l m o.0); room = words.room (cell_of m) (our_cell l m o.0) }
   assume_row (Row.Mends m) o w = marked (cell_of m) _ (our_cell l m o) w w.owning w.few
   assume_row (Row.Looks k) o w = (our_cell l k.mutex o.0.ours, w.room)
   assume_row (Row.TryLooks m) o w = (our_cell l m o, w.room)
@@ -125,7 +129,7 @@ module _ (x : Slots) (t : ℕ) (from : IsReached x.machine) (first : 1 ≤ t) wh
   assume_row (Row.Gives m (OfUnlock true)) o w = (owns (cell_of m) true (our_cell l m o) w.owning, w.owning.died)
   assume_row (Row.Gives m (OfWait k n slept timed)) o w = owns (cell_of m) false (our_cell l m o.ours) w.owning
   assume_row (Row.SleepsOn k v) o w = (may k.mutex o.0.ours w.room, o.1)
-  assume_row (Row.Trims m is) o w = record { inside = our_cell l m o; room = w.words.room (cell_of m) (our_cell l m o); knows = w.turn.0; turn = w.turn.1.0; left = w.turn.1.1 }
+  assume_row (Row.Trims m is) o w = record { inside = our_cell l m o; room = words.room (cell_of m) (our_cell l m o); knows = w.turn.0; turn = w.turn.1.0; left = w.turn.1.1 }
   assume_row (Row.WaitSets m k n timed) o w = record { inside = o.cell.inside; says = w.count }
   assume_row (Row.Counts m k all n) o w = record { inside = o.cell.inside; cell = o.cell.cell; owns = record { inside = our_cell l m o.ours; owner = w.owning }; found = w.count.0; few = w.count.1; quiet = w.count.2 }
   assume_row (Row.Unsets m k n) o w = record { inside = o.cell.inside; says = w.count }

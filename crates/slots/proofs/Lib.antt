@@ -47,5 +47,6 @@ pub mod AllRows
 pub mod FitsOn
 pub mod Abouts
 pub mod Alive
+pub mod Rooms
 pub mod Allowed
 pub mod Following

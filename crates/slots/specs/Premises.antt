@@ -12,6 +12,7 @@ use Rattle.slots.specs.Shown.{Slots, begin, shown}
 use Rattle.slots.specs.Table.{heir_of, shows_heir}
 use Rattle.slots.specs.Invariant.{fields_at, HasRoom, KnowsTurn, SlotIsQuiet}
 use Rattle.slots.specs.Fits.{IsOurs}
+use Rattle.slots.specs.Laws.{IsReached}
 use Rattle.slots.specs.Runs.{Happening, next}
 use Rattle.slots.specs.Runs.Happening.{Goes}
 use Rattle.slots.specs.Goes.{AllGranted, who}
@@ -45,6 +46,10 @@ MayOwnMore x t r = Unit {0}
 pub record WordsAreSound (s : State) : Type 0 where
   pub room : (k : ℕ) → k < s.layout.mutexes → HasRoom s k
   pub lost : (k : ℕ) → k < s.layout.mutexes → (fields_at s k).unusable ≡ true → (fields_at s k).died ≡ false
+
+-- so it is in every state of the machine
+abbrev pub WordsStaySound : Type 0
+WordsStaySound = (s : State) → IsReached s → WordsAreSound s
 
 -- nobody sleeps on a slot
 abbrev pub SlotsAreQuiet : State → Type 0
@@ -156,7 +161,6 @@ KnowsCount x r = Unit {0}
 -- thread t's next access, at its row
 pub record Trusts (x : Slots) (t : ℕ) (r : Row) : Type 0 where
   pub room : MayOwnMore x t r
-  pub words : WordsAreSound x.machine
   pub slots : SlotsAreQuiet x.machine
   pub owning : Owning x t r
   pub turn : KnowsItsTurn x r

@@ -5,7 +5,7 @@ ghost use Rattle.slots.specs.Accesses.{MissesAreNoEvents, PendingAgainIsNoEvent,
 ghost use Rattle.slots.specs.Accesses.{TakesAreEvents, WakesAreEvents};
 ghost use Rattle.slots.specs.Each.{EachAccessIsEvents};
 ghost use Rattle.slots.specs.Fits.{NextRowsFit};
-ghost use Rattle.slots.specs.Premises.{PremisesFollow};
+ghost use Rattle.slots.specs.Premises.{PremisesFollow, WordsStaySound};
 ghost use Rattle.slots.specs.Goes.{OthersStandStill, RowsLeadOn, RunsKeepTheirRows};
 ghost use Rattle.slots.specs.Goes.{AccessesOfRunsAreEvents, ThreadsKeepTheirRows};
 ghost use Rattle.slots.specs.Further.{AnnouncedReleasesAreEvents, CountsAreEvents, DecidingLooksAreEvents};
@@ -314,4 +314,9 @@ pub fn next_rows_fit()
 /// of an access is named (`specs/Premises.antt`).
 pub fn premises_follow()
     ensures { PremisesFollow }
+{}
+
+/// In every state of the machine, nothing is above UNUSABLE in the word of a mutex, and an unusable mutex has no OWNER_DIED.
+pub fn words_stay_sound()
+    ensures { WordsStaySound }
 {}

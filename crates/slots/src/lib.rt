@@ -18,7 +18,7 @@
 //!   (`moves_are_events`); counters (`counts_are_events`); AWAKE (`awake_is_set`, `awake_is_cleared`).
 //! - *Runs of the layer*: `others_stand_still`, `rows_lead_on`, `threads_keep_their_rows`,
 //!   `runs_keep_their_rows`, `accesses_of_runs_are_events`; `next_rows_fit`, and so `premises_follow`: what rows assume of
-//!   their mutexes and of the words that they have seen.
+//!   their mutexes and of the words that they have seen. `words_stay_sound`: the machine's words of mutexes.
 //! - *Several events at one moment*: `giving_up_leaves_nothing`, `giving_up_is_a_look`, `takes_are_one_exchange`,
 //!   `takes_are_the_exchange`, `announcing_is_one_store`.
 //! - *The turn*: `trims_are_the_machines`, with `releases_tell`, `wakes_of_nobody_tell`, `turns_stay_known`,
@@ -49,5 +49,5 @@ pub use laws::{
     standing_heirs_answer, takes_are_events, takes_are_one_exchange, takes_are_the_exchange,
     threads_keep_their_rows, trims_are_events, trims_are_the_machines, turns_stay_known,
     turns_stay_known_by_all, wakes_are_events, wakes_of_nobody_tell, walks_leave_all,
-    walks_leave_heirs,
+    walks_leave_heirs, words_stay_sound,
 };
