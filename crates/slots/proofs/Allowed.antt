@@ -21,7 +21,7 @@ use Rattle.slots.specs.Further.{MayTake, OwnsMarked}
 use Rattle.slots.specs.Each.{Assumes, IsToTake, SlotIsSmall}
 use Rattle.slots.specs.Goes.{AssumesToo, SleepsLater}
 use Rattle.slots.specs.Fits.{Fits, IsApart, IsOurs}
-use Rattle.slots.specs.Premises.{Holds, Trusts, WordsAreSound}
+use Rattle.slots.specs.Premises.{Holds, Owning, SlotsAreQuiet, Trusts, WordsAreSound}
 use Rattle.slots.proofs.Free.{reached_kept}
 use Rattle.slots.proofs.Meets.{usable_if_owned}
 use Rattle.slots.proofs.Rooms.{words_sound}
@@ -63,17 +63,17 @@ module _ (x : Slots) (t : ℕ) (from : IsReached x.machine) (first : 1 ≤ t) wh
   usable : (k : ℕ) → k < l.mutexes → (fields_at z k).owner ≡ t → (fields_at z k).unusable ≡ false
   usable k inside own = usable_if_owned z k inv inside (some k own)
 
-  owns : (k : ℕ) (d : Bool) → k < l.mutexes → Holds x t k d → Owns z t k
+  owns : (k : ℕ) (d : Bool) → k < l.mutexes → Holds z t k d → Owns z t k
   owns k d inside h = record { owner = h.owner; usable = usable k inside h.owner }
 
-  slot_small : (m : ℕ) (r : Row) → IsOurs l m → Trusts x t r → x.turns (slot_of m) < 2147483648 → SlotIsSmall x m
-  slot_small m r ours w few = record {
+  slot_small : (m : ℕ) → IsOurs l m → SlotsAreQuiet z → x.turns (slot_of m) < 2147483648 → SlotIsSmall x m
+  slot_small m ours quiet few = record {
     inside = our_slot l m ours;
-    small = small_word (z.words (cell_place l (slot_of m))) (w.slots m ours).usable (words.room (slot_of m) (our_slot l m ours));
+    small = small_word (z.words (cell_place l (slot_of m))) (quiet m ours).usable (words.room (slot_of m) (our_slot l m ours));
     few = few;
   }
 
-  marked : (k : ℕ) (r : Row) → k < l.mutexes → Trusts x t r → Holds x t k true → x.turns k < 2147483648 → OwnsMarked x t k
+  marked : (k : ℕ) (r : Row) → k < l.mutexes → Trusts x t r → Holds z t k true → x.turns k < 2147483648 → OwnsMarked x t k
   marked k r inside w h few = record {
     inside = inside;
     owner = h.owner;
@@ -85,76 +85,76 @@ module _ (x : Slots) (t : ℕ) (from : IsReached x.machine) (first : 1 ≤ t) wh
   free_one : (m v : ℕ) (r : Row) → IsOurs l m → Trusts x t r → is_free v ≡ true → IsToTake x m v
   free_one m v r ours w free = record { free = free; room = words.room (cell_of m) (our_cell l m ours) }
 
-  pub assume_row : (r : Row) → Fits l t r g → Trusts x t r → Assumes x t r
-  assume_row (Row.Pends k v) o w = may k.mutex o.0.ours w.room
-  assume_row (Row.Sees k) o w = may k.mutex o.ours w.room
-  assume_row (Row.Takes k v) o w = (may k.mutex o.0.ours w.room, free_one k.mutex v _ o.0.ours w o.1)
-  assume_row (Row.SeesAgain k v) o w = (may k.mutex o.0.ours w.room, o.1)
-  assume_row (Row.Marks k v ToSleep) o w = (may k.mutex o.0.ours w.room, o.1)
-  assume_row (Row.Marks k v (ToSlot sl)) o w = (may k.mutex o.0.ours w.room, o.1.0)
-  assume_row (Row.SlotPends k sl) o w = (our_slot l k.mutex o.0.ours, w.room)
-  assume_row (Row.SlotTakes k sl) o w = record { inside = our_slot l k.mutex o.0.ours; nobody = o.1; usable = (w.slots k.mutex o.0.ours).usable; room = words.room (slot_of k.mutex) (our_slot l k.mutex o.0.ours) }
-  assume_row (Row.SlotLeft k) o w = may k.mutex o.ours w.room
-  assume_row (Row.SeesToSleep k) o w = may k.mutex o.0.ours w.room
-  assume_row (Row.SlotQuiets k) o w = slot_small k.mutex _ o.ours w w.few
-  assume_row (Row.SlotMends k) o w = marked (slot_of k.mutex) _ (our_slot l k.mutex o.ours) w w.owning.0 w.few
-  assume_row (Row.HeirPends k Linked) o w = may k.mutex o.ours w.room
-  assume_row (Row.HeirPends k Mended) o w = may k.mutex o.ours w.room
-  assume_row (Row.HeirPends k Again) o w = tt
-  assume_row (Row.HeirSets k) o w = record {
+  pub assume_row : (r : Row) → Fits l t r g → Owning z t r → SlotsAreQuiet z → Trusts x t r → Assumes x t r
+  assume_row (Row.Pends k v) o own quiet w = may k.mutex o.0.ours w.room
+  assume_row (Row.Sees k) o own quiet w = may k.mutex o.ours w.room
+  assume_row (Row.Takes k v) o own quiet w = (may k.mutex o.0.ours w.room, free_one k.mutex v _ o.0.ours w o.1)
+  assume_row (Row.SeesAgain k v) o own quiet w = (may k.mutex o.0.ours w.room, o.1)
+  assume_row (Row.Marks k v ToSleep) o own quiet w = (may k.mutex o.0.ours w.room, o.1)
+  assume_row (Row.Marks k v (ToSlot sl)) o own quiet w = (may k.mutex o.0.ours w.room, o.1.0)
+  assume_row (Row.SlotPends k sl) o own quiet w = (our_slot l k.mutex o.0.ours, w.room)
+  assume_row (Row.SlotTakes k sl) o own quiet w = record { inside = our_slot l k.mutex o.0.ours; nobody = o.1; usable = (quiet k.mutex o.0.ours).usable; room = words.room (slot_of k.mutex) (our_slot l k.mutex o.0.ours) }
+  assume_row (Row.SlotLeft k) o own quiet w = may k.mutex o.ours w.room
+  assume_row (Row.SeesToSleep k) o own quiet w = may k.mutex o.0.ours w.room
+  assume_row (Row.SlotQuiets k) o own quiet w = slot_small k.mutex o.ours quiet w.few
+  assume_row (Row.SlotMends k) o own quiet w = marked (slot_of k.mutex) _ (our_slot l k.mutex o.ours) w own.0 w.few
+  assume_row (Row.HeirPends k Linked) o own quiet w = may k.mutex o.ours w.room
+  assume_row (Row.HeirPends k Mended) o own quiet w = may k.mutex o.ours w.room
+  assume_row (Row.HeirPends k Again) o own quiet w = tt
+  assume_row (Row.HeirSets k) o own quiet w = record {
     inside = our_slot l k.mutex o.ours;
-    word = owner_alone (z.words (cell_place l (slot_of k.mutex))) t w.owning.0.owner w.owning.0.died (w.slots k.mutex o.ours).waiters (w.slots k.mutex o.ours).usable (words.room (slot_of k.mutex) (our_slot l k.mutex o.ours));
+    word = owner_alone (z.words (cell_place l (slot_of k.mutex))) t own.0.owner own.0.died (quiet k.mutex o.ours).waiters (quiet k.mutex o.ours).usable (words.room (slot_of k.mutex) (our_slot l k.mutex o.ours));
   }
-  assume_row (Row.HeirTakes k v) o w = (may k.mutex o.0.ours w.room, free_one k.mutex v _ o.0.ours w o.1)
-  assume_row (Row.HeirHas k r) o w = slot_small k.mutex _ o.ours w w.few
-  assume_row (Row.GivesUp k) o w = slot_small k.mutex _ o.ours w w.few
-  assume_row (Row.LastLooks k) o w = (may k.mutex o.ours w.room, w.owning.1)
-  assume_row (Row.LastMarks k v) o w = (may k.mutex o.0.ours w.room, o.1)
-  assume_row (Row.TryPends m v) o w = may m o.0 w.room
-  assume_row (Row.TryTakes m v) o w = (may m o.0 w.room, free_one m v _ o.0 w o.1)
-  assume_row (Row.Anews m v) o w = record { inside = our_cell l m o.0; unusable = o.1; died = words.lost (cell_of m) (our_cell l m o.0); room = words.room (cell_of m) (our_cell l m o.0) }
-  assume_row (Row.Mends m) o w = marked (cell_of m) _ (our_cell l m o) w w.owning w.few
-  assume_row (Row.Looks k) o w = (our_cell l k.mutex o.0.ours, w.room)
-  assume_row (Row.TryLooks m) o w = (our_cell l m o, w.room)
-  assume_row (Row.GiveLooks m) o w = our_cell l m o
-  assume_row (Row.MendLooks m) o w = our_cell l m o
-  assume_row (Row.WaitLooks m k timed) o w = o.cell.inside
-  assume_row (Row.WaitCounts m k timed died) o w = o.cell.inside
-  assume_row (Row.CountLooks m k all) o w = o.cell.inside
-  assume_row (Row.Frees k f) o w = record { inside = our_slot l k.mutex o.ours; owner = w.owning.0.owner }
-  assume_row (Row.GivePends m (OfUnlock d)) o w = record { inside = our_cell l m o; owner = w.owning.owner }
-  assume_row (Row.GivePends m (OfWait k n slept timed)) o w = (o.cell, record { inside = our_cell l m o.ours; owner = w.owning.owner }, w.owning.died)
-  assume_row (Row.FreeGives k f) o w = owns (slot_of k.mutex) false (our_slot l k.mutex o.ours) w.owning.0
-  assume_row (Row.Gives m (OfUnlock false)) o w = owns (cell_of m) false (our_cell l m o) w.owning
-  assume_row (Row.Gives m (OfUnlock true)) o w = (owns (cell_of m) true (our_cell l m o) w.owning, w.owning.died)
-  assume_row (Row.Gives m (OfWait k n slept timed)) o w = owns (cell_of m) false (our_cell l m o.ours) w.owning
-  assume_row (Row.SleepsOn k v) o w = (may k.mutex o.0.ours w.room, o.1)
-  assume_row (Row.Trims m is) o w = record { inside = our_cell l m o; room = words.room (cell_of m) (our_cell l m o); knows = w.turn.0; turn = w.turn.1.0; left = w.turn.1.1 }
-  assume_row (Row.WaitSets m k n timed) o w = record { inside = o.cell.inside; says = w.count }
-  assume_row (Row.Counts m k all n) o w = record { inside = o.cell.inside; cell = o.cell.cell; owns = record { inside = our_cell l m o.ours; owner = w.owning }; found = w.count.0; few = w.count.1; quiet = w.count.2 }
-  assume_row (Row.Unsets m k n) o w = record { inside = o.cell.inside; says = w.count }
-  assume_row r o w = tt
+  assume_row (Row.HeirTakes k v) o own quiet w = (may k.mutex o.0.ours w.room, free_one k.mutex v _ o.0.ours w o.1)
+  assume_row (Row.HeirHas k r) o own quiet w = slot_small k.mutex o.ours quiet w.few
+  assume_row (Row.GivesUp k) o own quiet w = slot_small k.mutex o.ours quiet w.few
+  assume_row (Row.LastLooks k) o own quiet w = (may k.mutex o.ours w.room, own.1)
+  assume_row (Row.LastMarks k v) o own quiet w = (may k.mutex o.0.ours w.room, o.1)
+  assume_row (Row.TryPends m v) o own quiet w = may m o.0 w.room
+  assume_row (Row.TryTakes m v) o own quiet w = (may m o.0 w.room, free_one m v _ o.0 w o.1)
+  assume_row (Row.Anews m v) o own quiet w = record { inside = our_cell l m o.0; unusable = o.1; died = words.lost (cell_of m) (our_cell l m o.0); room = words.room (cell_of m) (our_cell l m o.0) }
+  assume_row (Row.Mends m) o own quiet w = marked (cell_of m) _ (our_cell l m o) w own w.few
+  assume_row (Row.Looks k) o own quiet w = (our_cell l k.mutex o.0.ours, w.room)
+  assume_row (Row.TryLooks m) o own quiet w = (our_cell l m o, w.room)
+  assume_row (Row.GiveLooks m) o own quiet w = our_cell l m o
+  assume_row (Row.MendLooks m) o own quiet w = our_cell l m o
+  assume_row (Row.WaitLooks m k timed) o own quiet w = o.cell.inside
+  assume_row (Row.WaitCounts m k timed died) o own quiet w = o.cell.inside
+  assume_row (Row.CountLooks m k all) o own quiet w = o.cell.inside
+  assume_row (Row.Frees k f) o own quiet w = record { inside = our_slot l k.mutex o.ours; owner = own.0.owner }
+  assume_row (Row.GivePends m (OfUnlock d)) o own quiet w = record { inside = our_cell l m o; owner = own.owner }
+  assume_row (Row.GivePends m (OfWait k n slept timed)) o own quiet w = (o.cell, record { inside = our_cell l m o.ours; owner = own.owner }, own.died)
+  assume_row (Row.FreeGives k f) o own quiet w = owns (slot_of k.mutex) false (our_slot l k.mutex o.ours) own.0
+  assume_row (Row.Gives m (OfUnlock false)) o own quiet w = owns (cell_of m) false (our_cell l m o) own
+  assume_row (Row.Gives m (OfUnlock true)) o own quiet w = (owns (cell_of m) true (our_cell l m o) own, own.died)
+  assume_row (Row.Gives m (OfWait k n slept timed)) o own quiet w = owns (cell_of m) false (our_cell l m o.ours) own
+  assume_row (Row.SleepsOn k v) o own quiet w = (may k.mutex o.0.ours w.room, o.1)
+  assume_row (Row.Trims m is) o own quiet w = record { inside = our_cell l m o; room = words.room (cell_of m) (our_cell l m o); knows = w.turn.0; turn = w.turn.1.0; left = w.turn.1.1 }
+  assume_row (Row.WaitSets m k n timed) o own quiet w = record { inside = o.cell.inside; says = w.count }
+  assume_row (Row.Counts m k all n) o own quiet w = record { inside = o.cell.inside; cell = o.cell.cell; owns = record { inside = our_cell l m o.ours; owner = own }; found = w.count.0; few = w.count.1; quiet = w.count.2 }
+  assume_row (Row.Unsets m k n) o own quiet w = record { inside = o.cell.inside; says = w.count }
+  assume_row r o own quiet w = tt
 
-  pub assume_too : (r : Row) → Fits l t r g → Trusts x t r → AssumesToo x t r
-  assume_too (Row.Pends k v) o w = o.1
-  assume_too (Row.Marks k v (ToSlot sl)) o w = o.1.1
-  assume_too (Row.SeesToSleep k) o w = (o.1, w.owning)
-  assume_too (Row.WaitLooks m k timed) o w = (o.cell, our_cell l m o.ours)
-  assume_too (Row.WaitCounts m k timed true) o w = (o.cell, record { inside = our_cell l m o.ours; owner = w.owning.owner }, w.owning.died)
-  assume_too (Row.CountLooks m k all) o w = (o.cell, our_cell l m o.ours)
-  assume_too (Row.GivePends m (OfWait k n slept timed)) o w = w.count
-  assume_too (Row.Frees k f) o w = w.owning.0.died
-  assume_too (Row.GivePends m (OfUnlock d)) o w = w.owning.died
-  assume_too (Row.FreeGives k f) o w = (w.slots k.mutex o.ours).waiters
-  assume_too (Row.HandsOn m y is) o w = w.heir
-  assume_too (Row.LooksBack m (OfUnlock d) is) o w = our_cell l m o
-  assume_too (Row.LooksBack m (OfWait k n slept timed) is) o w = our_cell l m o.ours
-  assume_too r o w = tt
+  pub assume_too : (r : Row) → Fits l t r g → Owning z t r → SlotsAreQuiet z → Trusts x t r → AssumesToo x t r
+  assume_too (Row.Pends k v) o own quiet w = o.1
+  assume_too (Row.Marks k v (ToSlot sl)) o own quiet w = o.1.1
+  assume_too (Row.SeesToSleep k) o own quiet w = (o.1, own)
+  assume_too (Row.WaitLooks m k timed) o own quiet w = (o.cell, our_cell l m o.ours)
+  assume_too (Row.WaitCounts m k timed true) o own quiet w = (o.cell, record { inside = our_cell l m o.ours; owner = own.owner }, own.died)
+  assume_too (Row.CountLooks m k all) o own quiet w = (o.cell, our_cell l m o.ours)
+  assume_too (Row.GivePends m (OfWait k n slept timed)) o own quiet w = w.count
+  assume_too (Row.Frees k f) o own quiet w = own.0.died
+  assume_too (Row.GivePends m (OfUnlock d)) o own quiet w = own.died
+  assume_too (Row.FreeGives k f) o own quiet w = (quiet k.mutex o.ours).waiters
+  assume_too (Row.HandsOn m y is) o own quiet w = w.heir
+  assume_too (Row.LooksBack m (OfUnlock d) is) o own quiet w = our_cell l m o
+  assume_too (Row.LooksBack m (OfWait k n slept timed) is) o own quiet w = our_cell l m o.ours
+  assume_too r o own quiet w = tt
 
-  pub apart_row : (r : Row) → Trusts x t r → IsApart x t r
-  apart_row (Row.SeesToSleep k) w = w.owning
-  apart_row (Row.LastLooks k) w = w.owning.1
-  apart_row r w = tt
+  pub apart_row : (r : Row) → Owning z t r → IsApart x t r
+  apart_row (Row.SeesToSleep k) own = own
+  apart_row (Row.LastLooks k) own = own.1
+  apart_row r own = tt
 
 pub sleeps_later : (l : Layout') (t : ℕ) (r : Row) (g : Stage) → Fits l t r g → SleepsLater r
 sleeps_later l t (Row.Asleep k) g o = o.1

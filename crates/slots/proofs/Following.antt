@@ -1,46 +1,63 @@
 -- What a run keeps, and what of the premises of its accesses follows from that.
-use Rattle.std.proofs.Common.{◌≡◌, ℕ, ◌<◌, ◌≤◌, ◌==◌, Bool, true, false, List, [], ◌∷◌, refl, sym, ap, ◌∙◌, subst, arith, eqb-true, eq-eqb}
+use Rattle.std.proofs.Common.{◌≡◌, ◌≢◌, ◌⊎◌, inl, inr, ℕ, ◌<◌, ◌≤◌, ◌==◌, Bool, true, false, List, [], ◌∷◌, refl, sym, ap, ◌∙◌, subst, arith, eqb-true, eq-eqb}
 use Rattle.std.specs.Prelude.{not, ◌&&◌, nat_lt, slice_index, length}
 use Rattle.std.proofs.lemmas.Bool.Decides.{nat_tests}
-use Rattle.memorymap.specs.Layouts.{Layout'}
-use Rattle.protocol.specs.declared.event.Event.TheVariants.{Step, Kill}
+use Rattle.memorymap.specs.Layouts.{IsLayout, Layout', address_in, cell_place, counter_place, head_place}
+use Rattle.protocol.specs.declared.event.Event.{Event}
+use Rattle.protocol.specs.declared.event.Event.TheVariants.{Step, Kill, Leave, Expire}
 use Rattle.protocol.specs.declared.thread.Thread.{Thread}
 use Rattle.protocol.specs.declared.thread.Stage.{Stage}
 use Rattle.protocol.specs.declared.thread.Stage.TheVariants.{Calling, Dying, Reaped}
-use Rattle.protocol.specs.Machine.{State, After, departed, has_thread, is_alive, is_asleep, is_dying, is_exiting, is_gone, nothing, renewed, run, sleeps}
+use Rattle.protocol.specs.Machine.{State, After, departed, has_thread, is_alive, is_asleep, is_dying, is_exiting, is_gone, nothing, place_met, renewed, run, sleeps, stands_in, words_after}
+use Rattle.protocol.proofs.Kept.{Kept, last_thread}
 use Rattle.protocol.proofs.Events.{is_known}
 use Rattle.protocol.proofs.Puts.{put-same}
 use Rattle.protocol.proofs.Queued.{in_none}
-use Rattle.slots.specs.Places.{cell_of, our_mutexes}
+use Rattle.lockword.specs.Cells.{fields_of}
+use Rattle.slots.specs.Places.{slot_of, cell_of, our_mutexes}
 use Rattle.slots.specs.Rows.{Choice, How, Row}
 use Rattle.slots.specs.Rows.How.{Tried, Later, Waited}
-use Rattle.slots.specs.Shown.{Slots, after, begin}
-use Rattle.slots.specs.Table.{made}
-use Rattle.slots.specs.Runs.{Happening, at_row, events_of, is_first, is_of, is_ours, is_resting, lapse_events, lapse_row, made_by, may_call, next}
+use Rattle.slots.specs.Shown.{memory, shown, Slots, after, begin}
+use Rattle.slots.specs.Table.{access_of_stage, made}
+use Rattle.slots.specs.Heirs.{AreOf}
+use Rattle.slots.specs.Runs.{Happening, at_row, events_of, is_first, is_of, is_ours, is_resting, lapse_events, lapse_row, made_by, may_call, next, reached, reached_from}
 use Rattle.slots.specs.Runs.Happening.{Calls, Goes, Interrupts, Lapses, Dies, Walks, Lives}
 use Rattle.slots.specs.Laws.{IsReached}
-use Rattle.slots.specs.Accesses.{IsAboutIt}
+use Rattle.slots.specs.Accesses.{IsAboutIt, IsAlongList, IsAtRow}
 use Rattle.slots.specs.Goes.{AllGranted, Grants, IsAtItsRow, StandsStill, who}
-use Rattle.slots.specs.Fits.{AreOfUs, Fits}
-use Rattle.slots.specs.Premises.{AllTrusted, PremisesFollow, Trusts, TrustsIn}
+use Rattle.slots.specs.Runs.{awake_after}
+use Rattle.slots.specs.Fits.{IsOurs, AreOfUs, Fits}
+use Rattle.slots.specs.Premises.{AllHold, RunsKeepOwners, SlotsStayQuiet, SlotsAreQuiet, AllTrusted, Owning, PremisesFollow, Trusts, TrustsIn}
 use Rattle.slots.proofs.Abouts.{about_it, wakes_its_own}
 use Rattle.slots.proofs.Alive.{standing_lives}
-use Rattle.slots.proofs.AllRows.{layout_run, one_more, reached_run}
+use Rattle.slots.proofs.AllRows.{layout_run, one_more, reached_run, runs_are_events}
 use Rattle.slots.proofs.Allowed.{apart_row, assume_row, assume_too, sleeps_later}
 use Rattle.slots.proofs.FitsOn.{next_rows_fit}
 use Rattle.slots.proofs.Free.{reached_kept, reached_queued}
-use Rattle.slots.proofs.Keeping.{all_four, lapses_so}
+use Rattle.slots.proofs.Keeping.{all_four, dying_at, lapses_so}
 use Rattle.slots.proofs.Leading.{by_test}
 use Rattle.slots.proofs.LeadsOn.{rows_lead}
 use Rattle.slots.proofs.MachineRuns.{next_is}
-use Rattle.slots.proofs.Others.{others_still}
+use Rattle.slots.proofs.Each.{each_access}
+use Rattle.slots.proofs.ListPlaces.{list_apart}
+use Rattle.slots.proofs.OthersKeep.{LeavesIt, owning_kept, run_leaves}
+use Rattle.slots.proofs.OwnKeep.{owning_row}
+use Rattle.slots.proofs.Quiet.{Alike, quiet_row}
+use Rattle.slots.proofs.PlainSlots.{ArePlain, IsPlain, alike_plain, expire_plain, kill_plain, leave_plain, plain_quiet, still_plain, walk_plain}
+use Rattle.slots.proofs.Rooms.{first_cell}
+use Rattle.slots.proofs.Owned.{our_slot}
+use Rattle.protocol.proofs.Renewals.{renewed_cell}
+use Rattle.slots.proofs.Others.{events_are_of, others_still}
 
--- each row fits, each living thread is at its row, and a dead one at none
+-- Each row fits, each living thread is at its row, and a dead one at none. Each owns what its row says. And slots have neither
+-- WAITERS nor UNUSABLE
 pub record Steady (x : Slots) : Type 0 where
   pub reached : IsReached x.machine
   pub fits : (t : ℕ) → 1 ≤ t → t ≤ x.machine.layout.threads → Fits x.machine.layout t (x.rows t) (x.machine.threads t).stage
   pub there : (t : ℕ) → 1 ≤ t → t ≤ x.machine.layout.threads → IsAtItsRow x t
   pub rests : (t : ℕ) → 1 ≤ t → t ≤ x.machine.layout.threads → is_alive (x.machine.threads t).stage ≡ false → x.rows t ≡ Row.Rests
+  pub owning : (t : ℕ) → 1 ≤ t → t ≤ x.machine.layout.threads → Owning x.machine t (x.rows t)
+  pub plain : ArePlain x.machine
 
 -- ---- a call begins
 
@@ -86,6 +103,9 @@ calls_fit l t held r g e = absurd cc
 
 -- ---- one happening
 
+small : (s : State) (t : ℕ) → Kept s → t ≤ s.layout.threads → t < 1073741824
+small s t inv known = let most = last_thread s t inv known in omega (arith, most)
+
 module _ (x : Slots) (t : ℕ) (pos : 1 ≤ t) (known : t ≤ x.machine.layout.threads) (s : Steady x) where
   abbrev z : State
   z = x.machine
@@ -102,15 +122,21 @@ module _ (x : Slots) (t : ℕ) (pos : 1 ≤ t) (known : t ≤ x.machine.layout.t
   resting : is_alive g ≡ false → x.rows t ≡ Row.Rests
   resting = s.rests t pos known
 
+  own : Owning z t (x.rows t)
+  own = s.owning t pos known
+
+  quiet : SlotsAreQuiet z
+  quiet = plain_quiet z s.reached s.plain
+
   granted : (c : Choice) → Trusts x t (x.rows t) → Grants x (Goes t c)
   granted c w = go (is_alive g) refl
     where
       go : (b : Bool) → is_alive g ≡ b → Grants x (Goes t c)
-      go true lives = (about_it z.layout t (x.rows t) g fit (here lives), assume_row x t s.reached pos (x.rows t) fit w, assume_too x t s.reached pos (x.rows t) fit w)
+      go true lives = (about_it z.layout t (x.rows t) g fit (here lives), assume_row x t s.reached pos (x.rows t) fit own quiet w, assume_too x t s.reached pos (x.rows t) fit own quiet w)
       go false dead = (
         subst (λ (r : Row). IsAboutIt z.layout r g) (sym (resting dead)) tt,
-        assume_row x t s.reached pos (x.rows t) fit w,
-        assume_too x t s.reached pos (x.rows t) fit w,
+        assume_row x t s.reached pos (x.rows t) fit own quiet w,
+        assume_too x t s.reached pos (x.rows t) fit own quiet w,
       )
 
   -- how its row fits afterwards, in the same layout
@@ -121,21 +147,33 @@ module _ (x : Slots) (t : ℕ) (pos : 1 ≤ t) (known : t ≤ x.machine.layout.t
   RestsIn y = is_alive (y.machine.threads t).stage ≡ false → y.rows t ≡ Row.Rests
 
   abbrev Both : Slots → Type 0
-  Both y = FitsIn y × RestsIn y
+  Both y = FitsIn y × RestsIn y × Owning y.machine t (y.rows t) × ((m : ℕ) → IsOurs z.layout m → IsPlain y.machine m)
 
   unchanged : Both x
-  unchanged = (fit, resting)
+  unchanged = (fit, resting, own, s.plain)
 
-  at_new : (y : Slots) (r : Row) → Fits z.layout t r (y.machine.threads t).stage → (is_alive (y.machine.threads t).stage ≡ false → r ≡ Row.Rests) → Both (at_row y t r)
-  at_new y r fits_there rests_there = (
+  at_new : (y : Slots) (r : Row) → Fits z.layout t r (y.machine.threads t).stage → (is_alive (y.machine.threads t).stage ≡ false → r ≡ Row.Rests) → Owning y.machine t r → ((m : ℕ) → IsOurs z.layout m → IsPlain y.machine m) → Both (at_row y t r)
+  at_new y r fits_there rests_there owns_there plain_there = (
     subst (λ (q : Row). Fits z.layout t q (y.machine.threads t).stage) (sym (put-same y.rows t r)) fits_there,
     λ dead. put-same y.rows t r ∙ rests_there dead,
+    subst (Owning y.machine t) (sym (put-same y.rows t r)) owns_there,
+    plain_there,
   )
+
+  first_owns : (held : ℕ) (r : Row) → may_call z.layout held r ≡ true → Owning z t r
+  first_owns held (Row.Looks k) e = tt
+  first_owns held (Row.TryLooks m) e = tt
+  first_owns held (Row.GiveLooks m) e = tt
+  first_owns held (Row.MendLooks m) e = tt
+  first_owns held (Row.AnewLooks m) e = tt
+  first_owns held (Row.WaitLooks m k timed) e = tt
+  first_owns held (Row.CountLooks m k all) e = tt
+  first_owns held r e = absurd cc
 
   calls : (r : Row) → Both (next x (Calls t r))
   calls r = by_test Both (has_thread z t && is_alive g && is_resting (x.rows t) && may_call z.layout (z.threads t).held r) (at_row x t r) x
       (λ e. let four = all_four (has_thread z t) (is_alive g) (is_resting (x.rows t)) (may_call z.layout (z.threads t).held r) e in
-      at_new x r (calls_fit z.layout t (z.threads t).held r g four.fourth) (λ dead. absurd (cc (sym dead ∙ four.second))))
+      at_new x r (calls_fit z.layout t (z.threads t).held r g four.fourth) (λ dead. absurd (cc (sym dead ∙ four.second))) (first_owns (z.threads t).held r four.fourth) s.plain)
       (λ e. unchanged)
 
   may_go : (a d e : Bool) → (a && d && not e) ≡ true → (d ≡ true) × (e ≡ false)
@@ -152,17 +190,68 @@ module _ (x : Slots) (t : ℕ) (pos : 1 ≤ t) (known : t ≤ x.machine.layout.t
       on_row : is_alive g ≡ true → is_asleep z t ≡ false → Both (made_by x t c (made x t c (x.rows t)))
       on_row lives awake = (
         subst (λ (q : Row). Fits z.layout t q ((run z (made x t c (x.rows t)).events).threads t).stage) (sym (put-same x.rows t (made x t c (x.rows t)).next))
-            (next_rows_fit x t c (x.rows t) g ((run z (made x t c (x.rows t)).events).threads t).stage fit (apart_row x t s.reached pos (x.rows t) w)
+            (next_rows_fit x t c (x.rows t) g ((run z (made x t c (x.rows t)).events).threads t).stage fit (apart_row x t s.reached pos (x.rows t) own)
             (λ m is. wakes_its_own x t c (x.rows t) m grant.0 is)),
         λ dead. absurd (cc (sym dead ∙ standing_lives ((run z (made x t c (x.rows t)).events).threads t).stage (made x t c (x.rows t)).next
-            (rows_lead x t c (record { reached = s.reached; first = pos; last = known; there = here lives; about = grant.0; out = in_none z t (reached_queued z s.reached) awake }) grant.1 grant.2))),
+            (rows_lead x t c at grant.1 grant.2))),
+        subst (Owning (run z (made x t c (x.rows t)).events) t) (sym (put-same x.rows t (made x t c (x.rows t)).next))
+            (owning_row x (made_by x t c (made x t c (x.rows t))) t c (reached_kept z s.reached) pos known (small z t (reached_kept z s.reached) known) (layout_run z (made x t c (x.rows t)).events (reached_kept z s.reached)) (x.rows t) g fit own
+            on_list
+            is none_then),
+        plain_then,
       )
         where
           grant : Grants x (Goes t c)
           grant = granted c w
 
+          at : IsAtRow x t
+          at = record { reached = s.reached; first = pos; last = known; there = here lives; about = grant.0; out = in_none z t (reached_queued z s.reached) awake }
+
+          y : Slots
+          y = made_by x t c (made x t c (x.rows t))
+
+          same : y.machine.layout ≡ z.layout
+          same = layout_run z (made x t c (x.rows t)).events (reached_kept z s.reached)
+
+          none_then : (made x t c (x.rows t)).events ≡ [] → y.machine ≡ z
+          none_then none = ap (λ (es : List Event). run z es) none
+
+          is : (p : ℕ) → shown y p ≡ words_after (memory x) t (made x t c (x.rows t)).access p
+          is = (each_access x t c at grant.1).words
+
+          list_access : (r : Row) → IsAlongList r → ((at k : ℕ) → k < z.layout.mutexes → cell_place z.layout k ≢ place_met z.layout t (access_of_stage g at)) → (k : ℕ) → k < z.layout.mutexes → cell_place z.layout k ≢ place_met z.layout t (made x t c r).access
+          list_access (Row.Links m r) along apart k inside = apart (address_in z.layout t (head_place t)) k inside
+          list_access (Row.SlotLinks j d) along apart k inside = apart (address_in z.layout t (head_place t)) k inside
+          list_access (Row.HeirLinks j r) along apart k inside = apart (address_in z.layout t (head_place t)) k inside
+          list_access (Row.FreeUnlinks j f) along apart k inside = apart (address_in z.layout t (head_place t)) k inside
+          list_access (Row.GiveUnlinks m y) along apart k inside = apart (address_in z.layout t (head_place t)) k inside
+          list_access r along apart k inside = absurd along
+
+          on_list : IsAlongList (x.rows t) → (k : ℕ) → k < z.layout.mutexes → cell_place z.layout k ≢ place_met z.layout t (made x t c (x.rows t)).access
+          on_list along k inside = list_access (x.rows t) along (list_apart z t (reached_kept z s.reached) pos known (x.rows t) along (here lives)) k inside
+
+          -- AWAKE changes only without events
+          awake_or : (r : Row) → ((made x t c r).events ≡ []) ⊎ (awake_after r x.awake ≡ x.awake)
+          awake_or (Row.HeirSets k) = inl refl
+          awake_or (Row.SlotQuiets k) = inl refl
+          awake_or (Row.HeirHas k r) = inl refl
+          awake_or (Row.GivesUp k) = inl refl
+          awake_or r = inr refl
+
+          without : (made x t c (x.rows t)).events ≡ [] → (m : ℕ) → IsOurs z.layout m → IsPlain y.machine m
+          without none m ours = subst (λ (q : State). IsPlain q m) (sym (none_then none)) (s.plain m ours)
+
+          plain_then : (m : ℕ) → IsOurs z.layout m → IsPlain y.machine m
+          plain_then = go (awake_or (x.rows t)) (quiet_row x y t c (reached_kept z s.reached) pos known (small z t (reached_kept z s.reached) known) same (x.rows t) g fit own on_list is)
+            where
+              go : ((made x t c (x.rows t)).events ≡ []) ⊎ (awake_after (x.rows t) x.awake ≡ x.awake) → ((made x t c (x.rows t)).events ≡ []) ⊎ ((m : ℕ) → IsOurs z.layout m → Alike (shown y (cell_place z.layout (slot_of m))) (shown x (cell_place z.layout (slot_of m)))) → (m : ℕ) → IsOurs z.layout m → IsPlain y.machine m
+              go (inl none) q = without none
+              go (inr awake) (inl none) = without none
+              go (inr awake) (inr alike) = alike_plain x y same s.reached (reached_run z (made x t c (x.rows t)).events s.reached) s.plain alike awake
+
   interrupts : Both (next x (Interrupts t))
-  interrupts = by_test (λ (a : After). Fits z.layout t (x.rows t) (a.state.threads t).stage × (is_alive (a.state.threads t).stage ≡ false → x.rows t ≡ Row.Rests)) (has_thread z t && is_asleep z t) (departed z t) (nothing z) (λ e. unchanged) (λ e. unchanged)
+  interrupts = by_test (λ (a : After). Fits z.layout t (x.rows t) (a.state.threads t).stage × (is_alive (a.state.threads t).stage ≡ false → x.rows t ≡ Row.Rests) × Owning a.state t (x.rows t) × ((m : ℕ) → IsOurs z.layout m → IsPlain a.state m)) (has_thread z t && is_asleep z t) (departed z t) (nothing z)
+      (λ e. (fit, resting, owning_kept x (record x { machine = (departed z t).state }) t pos refl (record { same = λ k o. refl; none = λ k o. o }) (x.rows t) g fit own, λ m ours. still_plain z (departed z t).state m refl (s.plain m ours))) (λ e. unchanged)
 
   lapse_fits : (r : Row) → Fits z.layout t r g → Fits z.layout t (lapse_row r) ((run z (lapse_events x t r)).threads t).stage
   lapse_fits (Row.Asleep k) o = by_test (λ (r : Row). Fits z.layout t r ((run z (lapse_events x t (Row.Asleep k))).threads t).stage) k.timed (Row.Late k) (Row.Asleep k) (λ e. tt) (λ e. o)
@@ -170,11 +259,24 @@ module _ (x : Slots) (t : ℕ) (pos : 1 ≤ t) (known : t ≤ x.machine.layout.t
   lapse_fits (Row.WaitAsleep m k false) o = o
   lapse_fits r o = o
 
+  lapse_owns : (r : Row) → Owning z t r → Owning (run z (lapse_events x t r)) t (lapse_row r)
+  lapse_owns (Row.Asleep k) o = by_test (λ (r : Row). Owning (run z (lapse_events x t (Row.Asleep k))) t r) k.timed (Row.Late k) (Row.Asleep k) (λ e. tt) (λ e. tt)
+  lapse_owns (Row.WaitAsleep m k true) o = tt
+  lapse_owns (Row.WaitAsleep m k false) o = tt
+  lapse_owns r o = o
+
+  lapse_plain : (r : Row) (m : ℕ) → IsOurs z.layout m → IsPlain (run z (lapse_events x t r)) m
+  lapse_plain (Row.Asleep k) m ours = by_test (λ (es : List Event). IsPlain (run z es) m) k.timed (Expire t ∷ []) [] (λ e. expire_plain z t m (s.plain m ours)) (λ e. s.plain m ours)
+  lapse_plain (Row.WaitAsleep j k true) m ours = by_test (λ (es : List Event). IsPlain (run z es) m) (stands_in t (z.queues (counter_place z.layout k))) (Expire t ∷ []) (Leave t ∷ []) (λ e. expire_plain z t m (s.plain m ours)) (λ e. leave_plain z t m (s.plain m ours))
+  lapse_plain (Row.WaitAsleep j k false) m ours = s.plain m ours
+  lapse_plain r m ours = s.plain m ours
+
   lapses : Both (next x (Lapses t))
   lapses = by_test Both (is_asleep z t) (at_row (after x (lapse_events x t (x.rows t))) t (lapse_row (x.rows t))) x
       (λ asleep. at_new (after x (lapse_events x t (x.rows t))) (lapse_row (x.rows t)) (lapse_fits (x.rows t) fit)
       (λ dead. absurd (cc (sym dead ∙ standing_lives ((run z (lapse_events x t (x.rows t))).threads t).stage (lapse_row (x.rows t))
-      (lapses_so x t (reached_kept z s.reached) (x.rows t) (here (alive_asleep g asleep)) (sleeps_later z.layout t (x.rows t) g fit) (is_known z t pos known) asleep)))))
+      (lapses_so x t (reached_kept z s.reached) (x.rows t) (here (alive_asleep g asleep)) (sleeps_later z.layout t (x.rows t) g fit) (is_known z t pos known) asleep))))
+      (lapse_owns (x.rows t) own) (lapse_plain (x.rows t)))
       (λ e. unchanged)
     where
       alive_asleep : (f : Stage) → sleeps z t f ≡ true → is_alive f ≡ true
@@ -182,11 +284,11 @@ module _ (x : Slots) (t : ℕ) (pos : 1 ≤ t) (known : t ≤ x.machine.layout.t
       alive_asleep f e = absurd cc
 
   dies : Both (next x (Dies t))
-  dies = by_test Both (has_thread z t && is_alive g) (at_row (after x (Kill t ∷ [])) t Row.Rests) x (λ e. at_new (after x (Kill t ∷ [])) Row.Rests tt (λ dead. refl)) (λ e. unchanged)
+  dies = by_test Both (has_thread z t && is_alive g) (at_row (after x (Kill t ∷ [])) t Row.Rests) x (λ e. at_new (after x (Kill t ∷ [])) Row.Rests tt (λ dead. refl) tt (λ m ours. kill_plain z t m (s.plain m ours))) (λ e. unchanged)
 
   -- a dead thread is at no row
-  at_none : (y : Slots) → is_alive g ≡ false → y.rows t ≡ x.rows t → Both y
-  at_none y dead same = (subst (λ (r : Row). Fits z.layout t r (y.machine.threads t).stage) (sym (same ∙ resting dead)) tt, λ e. same ∙ resting dead)
+  at_none : (y : Slots) → is_alive g ≡ false → y.rows t ≡ x.rows t → ((m : ℕ) → IsOurs z.layout m → IsPlain y.machine m) → Both y
+  at_none y dead same plain_there = (subst (λ (r : Row). Fits z.layout t r (y.machine.threads t).stage) (sym (same ∙ resting dead)) tt, λ e. same ∙ resting dead, subst (Owning y.machine t) (sym (same ∙ resting dead)) tt, plain_there)
 
   exiting_dead : (f : Stage) → is_exiting f ≡ true → is_alive f ≡ false
   exiting_dead (Dying w) e = refl
@@ -201,19 +303,22 @@ module _ (x : Slots) (t : ℕ) (pos : 1 ≤ t) (known : t ≤ x.machine.layout.t
   second false b e = absurd cc
 
   walks : Both (next x (Walks t))
-  walks = by_test Both (is_dying z t) (after x (Step t ∷ [])) x (λ e. at_none (after x (Step t ∷ [])) (exiting_dead g (second (has_thread z t) (is_exiting g) e)) refl) (λ e. unchanged)
+  walks = by_test Both (is_dying z t) (after x (Step t ∷ [])) x (λ e. at_none (after x (Step t ∷ [])) (exiting_dead g (second (has_thread z t) (is_exiting g) e)) refl (λ m ours. let at = dying_at g (second (has_thread z t) (is_exiting g) e) in walk_plain z t m (s.plain m ours) (reached_kept z s.reached) pos known at.0 at.1)) (λ e. unchanged)
 
   lives : Both (next x (Lives t))
-  lives = by_test (λ (a : After). Fits z.layout t (x.rows t) (a.state.threads t).stage × (is_alive (a.state.threads t).stage ≡ false → x.rows t ≡ Row.Rests)) (has_thread z t && is_gone g) (renewed z t) (nothing z)
+  lives = by_test (λ (a : After). Fits z.layout t (x.rows t) (a.state.threads t).stage × (is_alive (a.state.threads t).stage ≡ false → x.rows t ≡ Row.Rests) × Owning a.state t (x.rows t) × ((m : ℕ) → IsOurs z.layout m → IsPlain a.state m)) (has_thread z t && is_gone g) (renewed z t) (nothing z)
       (λ e. let none : x.rows t ≡ Row.Rests = resting (gone_dead g (second (has_thread z t) (is_gone g) e)) in
-      (subst (λ (r : Row). Fits z.layout t r ((renewed z t).state.threads t).stage) (sym none) tt, λ dead. none))
+      (subst (λ (r : Row). Fits z.layout t r ((renewed z t).state.threads t).stage) (sym none) tt, λ dead. none, subst (Owning (renewed z t).state t) (sym none) tt, λ m ours. still_plain z (renewed z t).state m (renewed_cell z t pos known (slot_of m)) (s.plain m ours)))
       (λ e. unchanged)
 
 -- whatever happens to it
 abbrev OwnThen : Slots → ℕ → Slots → Type 0
-OwnThen x t y = Fits x.machine.layout t (y.rows t) (y.machine.threads t).stage × (is_alive (y.machine.threads t).stage ≡ false → y.rows t ≡ Row.Rests)
+OwnThen x t y = Fits x.machine.layout t (y.rows t) (y.machine.threads t).stage × (is_alive (y.machine.threads t).stage ≡ false → y.rows t ≡ Row.Rests) × Owning y.machine t (y.rows t)
 
-own_then : (x : Slots) (h : Happening) → Steady x → 1 ≤ who h → who h ≤ x.machine.layout.threads → TrustsIn x h → OwnThen x (who h) (next x h)
+abbrev AllThen : Slots → ℕ → Slots → Type 0
+AllThen x t y = Fits x.machine.layout t (y.rows t) (y.machine.threads t).stage × (is_alive (y.machine.threads t).stage ≡ false → y.rows t ≡ Row.Rests) × Owning y.machine t (y.rows t) × ((m : ℕ) → IsOurs x.machine.layout m → IsPlain y.machine m)
+
+own_then : (x : Slots) (h : Happening) → Steady x → 1 ≤ who h → who h ≤ x.machine.layout.threads → TrustsIn x h → AllThen x (who h) (next x h)
 own_then x (Calls t r) s pos known w = calls x t pos known s r
 own_then x (Goes t c) s pos known w = goes x t pos known s c w
 own_then x (Interrupts t) s pos known w = interrupts x t pos known s
@@ -232,10 +337,23 @@ grants_then x (Walks t) s pos known w = tt
 grants_then x (Lives t) s pos known w = s.rests t pos known
 
 -- whatever happens to another
-still_then : (x y : Slots) (u : ℕ) → StandsStill x y u → OwnThen x u x → OwnThen x u y
-still_then x y u still here = (
+lapse_are_of : (x : Slots) (t : ℕ) (r : Row) → AreOf t (lapse_events x t r)
+lapse_are_of x t r = grind (arith)
+
+events_of_it : (x : Slots) (h : Happening) → AreOf (who h) (events_of x h)
+events_of_it x (Calls t r) = tt
+events_of_it x (Goes t c) = by_test (AreOf t) (has_thread x.machine t && is_alive (x.machine.threads t).stage && not (is_asleep x.machine t)) (made x t c (x.rows t)).events [] (λ e. events_are_of x t c (x.rows t)) (λ e. tt)
+events_of_it x (Interrupts t) = (refl, tt)
+events_of_it x (Lapses t) = by_test (AreOf t) (is_asleep x.machine t) (lapse_events x t (x.rows t)) [] (λ e. lapse_are_of x t (x.rows t)) (λ e. tt)
+events_of_it x (Dies t) = by_test (AreOf t) (has_thread x.machine t && is_alive (x.machine.threads t).stage) (Kill t ∷ []) [] (λ e. (refl, tt)) (λ e. tt)
+events_of_it x (Walks t) = by_test (AreOf t) (is_dying x.machine t) (Step t ∷ []) [] (λ e. (refl, tt)) (λ e. tt)
+events_of_it x (Lives t) = (refl, tt)
+
+still_then : (x y : Slots) (u : ℕ) → 1 ≤ u → y.machine.layout ≡ x.machine.layout → LeavesIt x.machine y.machine u → StandsStill x y u → OwnThen x u x → OwnThen x u y
+still_then x y u first layout leaves still here = (
   subst (λ (r : Row). Fits x.machine.layout u r (y.machine.threads u).stage) (sym still.row) (subst (λ (v : Thread). Fits x.machine.layout u (x.rows u) v.stage) (sym still.thread) here.0),
   λ dead. still.row ∙ here.1 (sym (ap (λ (v : Thread). is_alive v.stage) still.thread) ∙ dead),
+  subst (Owning y.machine u) (sym still.row) (owning_kept x y u first layout leaves (x.rows u) (x.machine.threads u).stage here.0 here.2),
 )
 
 pub steady_next : (x : Slots) (h : Happening) → Steady x → 1 ≤ who h → who h ≤ x.machine.layout.threads → TrustsIn x h → Steady (next x h)
@@ -244,10 +362,15 @@ steady_next x h s pos known w = record {
   fits = λ u first last. subst (λ (l : Layout'). Fits l u ((next x h).rows u) ((next x h).machine.threads u).stage) (sym layout) (each u first (before u last)).0;
   there = λ u first last. one_more x h u s.reached pos known (grants_then x h s pos known w) s.there first (before u last);
   rests = λ u first last. (each u first (before u last)).1;
+  owning = λ u first last. (each u first (before u last)).2;
+  plain = λ m ours. own_all.3 m (subst (λ (l : Layout'). IsOurs l m) layout ours);
 }
   where
     layout : (next x h).machine.layout ≡ x.machine.layout
     layout = ap (λ (z : State). z.layout) (next_is x h) ∙ layout_run x.machine (events_of x h) (reached_kept x.machine s.reached)
+
+    own_all : AllThen x (who h) (next x h)
+    own_all = own_then x h s pos known w
 
     before : (u : ℕ) → u ≤ (next x h).machine.layout.threads → u ≤ x.machine.layout.threads
     before u last = subst (λ (l : Layout'). u ≤ l.threads) layout last
@@ -256,17 +379,40 @@ steady_next x h s pos known w = record {
     each u first last = go (who h == u) refl
       where
         go : (b : Bool) → (who h == u) ≡ b → OwnThen x u (next x h)
-        go true e = subst (λ (v : ℕ). OwnThen x v (next x h)) (eqb-true (who h) u e) (own_then x h s pos known w)
-        go false e = still_then x (next x h) u (others_still x h u s.reached (λ same. cc (sym e ∙ eq-eqb (who h) u same))) (s.fits u first last, s.rests u first last)
+        go true e = subst (λ (v : ℕ). OwnThen x v (next x h)) (eqb-true (who h) u e) (own_all.0, own_all.1, own_all.2)
+        go false e = still_then x (next x h) u first layout (subst (λ (z : State). LeavesIt x.machine z u) (sym (next_is x h)) (run_leaves x.machine (events_of x h) (who h) u s.reached (events_of_it x h) (λ same. cc (sym e ∙ eq-eqb (who h) u same)))) (others_still x h u s.reached (λ same. cc (sym e ∙ eq-eqb (who h) u same))) (s.fits u first last, s.rests u first last, s.owning u first last)
 
 follow : (x : Slots) (hs : List Happening) → Steady x → AllTrusted x hs → AllGranted x hs
 follow x [] s trusted = tt
 follow x (h ∷ hs) s ((pos, known, w), trusted) = ((pos, known, grants_then x h s pos known w), follow (next x h) hs (steady_next x h s pos known w) trusted)
 
-pub premises_follow : PremisesFollow
-premises_follow l hs is = follow (begin l) hs (record {
+steady_run : (x : Slots) (hs : List Happening) → Steady x → AllTrusted x hs → Steady (reached_from x hs)
+steady_run x [] s trusted = s
+steady_run x (h ∷ hs) s ((pos, known, w), trusted) = steady_run (next x h) hs (steady_next x h s pos known w) trusted
+
+layout_then : (x : Slots) (hs : List Happening) → Steady x → AllTrusted x hs → (reached_from x hs).machine.layout ≡ x.machine.layout
+layout_then x [] s trusted = refl
+layout_then x (h ∷ hs) s ((pos, known, w), trusted) = layout_then (next x h) hs (steady_next x h s pos known w) trusted ∙ ap (λ (z : State). z.layout) (next_is x h) ∙ layout_run x.machine (events_of x h) (reached_kept x.machine s.reached)
+
+begins_steady : (l : Layout') → IsLayout l → Steady (begin l)
+begins_steady l is = record {
   reached = record { layout = l; counters = λ c. 0; events = []; is = is; here = refl };
   fits = λ t first last. tt;
   there = λ t first last lives. refl;
   rests = λ t first last dead. refl;
-})
+  owning = λ t first last. tt;
+  plain = λ m ours. record { waiters = ap (λ (w : ℕ). (fields_of w).waiters) (first_cell l (λ c. 0) (slot_of m) (our_slot l m ours)); usable = ap (λ (w : ℕ). (fields_of w).unusable) (first_cell l (λ c. 0) (slot_of m) (our_slot l m ours)) };
+}
+
+pub premises_follow : PremisesFollow
+premises_follow l hs is trusted = follow (begin l) hs (begins_steady l is) trusted
+
+pub slots_quiet : SlotsStayQuiet
+slots_quiet l hs is trusted = let s = steady_run (begin l) hs (begins_steady l is) trusted in plain_quiet (reached l hs).machine s.reached s.plain
+
+pub owners_kept : RunsKeepOwners
+owners_kept l hs t is first last trusted = (steady_run (begin l) hs (begins_steady l is) trusted).owning t first (subst (λ (k : Layout'). t ≤ k.threads) (sym (layout_then (begin l) hs (begins_steady l is) trusted)) last)
+
+pub all_hold : AllHold
+all_hold l hs t c is first last trusted w lives awake = runs_are_events l hs t c is first last (premises_follow l hs is trusted)
+    (granted (reached l hs) t first (subst (λ (k : Layout'). t ≤ k.threads) (sym (layout_then (begin l) hs (begins_steady l is) trusted)) last) (steady_run (begin l) hs (begins_steady l is) trusted) c w) lives awake

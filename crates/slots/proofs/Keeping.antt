@@ -69,7 +69,7 @@ all_four false b c d e = absurd cc
 dead_still : (w : walks.Standing) (r : walk_row.Row) → is_alive (stage_walked w r) ≡ false
 dead_still w r = grind (arith)
 
-dying_at : (g : Stage) → is_exiting g ≡ true → (w : walks.Standing) × (g ≡ Dying w)
+pub dying_at : (g : Stage) → is_exiting g ≡ true → (w : walks.Standing) × (g ≡ Dying w)
 dying_at (Dying w) e = (w, refl)
 dying_at g e = absurd cc
 

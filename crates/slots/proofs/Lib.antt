@@ -50,3 +50,8 @@ pub mod Alive
 pub mod Rooms
 pub mod Allowed
 pub mod Following
+pub mod OthersKeep
+pub mod OwnKeep
+pub mod ListPlaces
+pub mod Quiet
+pub mod PlainSlots

@@ -304,7 +304,7 @@ run_both s [] inv b = b
 run_both s (e ∷ es) inv b = run_both (happens s e).state es (sound s e inv).kept (record { roomy = events_room s e inv b.roomy; cleared = events_cleared s e inv b.cleared })
 
 -- at first the words of mutexes are zeros
-first_cell : (l : Layout') (counters : ℕ → ℕ) (k : ℕ) → k < l.mutexes → first_word l counters (cell_place l k) ≡ 0
+pub first_cell : (l : Layout') (counters : ℕ → ℕ) (k : ℕ) → k < l.mutexes → first_word l counters (cell_place l k) ≡ 0
 first_cell l counters k inside = grind (arith, nat_tests)
 
 start_both : (l : Layout') (counters : ℕ → ℕ) → Both (start l counters)

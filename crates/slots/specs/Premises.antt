@@ -3,17 +3,17 @@
 use Rattle.std.specs.Prelude.{ℕ, ◌≡◌, ◌≢◌, ◌<◌, ◌≤◌, ◌+◌, ◌*◌, ◌%◌, ◌^◌, Bool, true, false, List, [], ◌∷◌}
 use Rattle.lockword.specs.Cells.{waiters_alone}
 use Rattle.memorymap.specs.Layouts.{Layout', IsLayout, cell_place, counter_place}
-use Rattle.protocol.specs.Machine.{State, is_left_to}
+use Rattle.protocol.specs.Machine.{State, is_alive, is_asleep, is_left_to}
 use Rattle.slots.specs.Places.{cell_of, slot_of}
-use Rattle.slots.specs.Rows.{Onward, Giving, Row}
+use Rattle.slots.specs.Rows.{Choice, Onward, Giving, Row}
 use Rattle.slots.specs.Rows.Onward.{Has, Fails, Sleeps}
 use Rattle.slots.specs.Rows.Giving.{OfUnlock, OfWait}
 use Rattle.slots.specs.Shown.{Slots, begin, shown}
 use Rattle.slots.specs.Table.{heir_of, shows_heir}
 use Rattle.slots.specs.Invariant.{fields_at, HasRoom, KnowsTurn, SlotIsQuiet}
 use Rattle.slots.specs.Fits.{IsOurs}
-use Rattle.slots.specs.Laws.{IsReached}
-use Rattle.slots.specs.Runs.{Happening, next}
+use Rattle.slots.specs.Laws.{IsEvents, IsReached}
+use Rattle.slots.specs.Runs.{Happening, next, reached}
 use Rattle.slots.specs.Runs.Happening.{Goes}
 use Rattle.slots.specs.Goes.{AllGranted, who}
 
@@ -58,65 +58,65 @@ SlotsAreQuiet s = (m : ℕ) → IsOurs s.layout m → SlotIsQuiet s m
 -- ---- what the thread owns
 
 -- thread t owns mutex k of the machine, which is marked or not
-pub record Holds (x : Slots) (t k : ℕ) (d : Bool) : Type 0 where
-  pub owner : (fields_at x.machine k).owner ≡ t
-  pub died : (fields_at x.machine k).died ≡ d
+pub record Holds (s : State) (t k : ℕ) (d : Bool) : Type 0 where
+  pub owner : (fields_at s k).owner ≡ t
+  pub died : (fields_at s k).died ≡ d
 
 -- a release of a marked mutex is an unlock that makes it unusable
 abbrev pub died_of : Giving → Bool
 died_of (OfUnlock d) = d
 died_of (OfWait k n slept timed) = false
 
-abbrev pub OwnsNot : Slots → ℕ → ℕ → Type 0
-OwnsNot x t m = (fields_at x.machine (cell_of m)).owner ≢ t
+abbrev pub OwnsNot : State → ℕ → ℕ → Type 0
+OwnsNot s t m = (fields_at s (cell_of m)).owner ≢ t
 
 -- a lock that gives its slot up to sleep doesn't own the cell
-abbrev pub SleepsWithout : Slots → ℕ → ℕ → Onward → Type 0
-SleepsWithout x t m (Has r) = Unit {0}
-SleepsWithout x t m (Fails r) = Unit {0}
-SleepsWithout x t m Sleeps = OwnsNot x t m
+abbrev pub SleepsWithout : State → ℕ → ℕ → Onward → Type 0
+SleepsWithout s t m (Has r) = Unit {0}
+SleepsWithout s t m (Fails r) = Unit {0}
+SleepsWithout s t m Sleeps = OwnsNot s t m
 
 -- the slot and the cell that the thread owns, or doesn't own
-abbrev pub Owning : Slots → ℕ → Row → Type 0
-Owning x t (Row.Chooses k v) = OwnsNot x t k.mutex
-Owning x t (Row.SeesAgain k v) = OwnsNot x t k.mutex
-Owning x t (Row.Marks k v n) = OwnsNot x t k.mutex
-Owning x t (Row.SlotPends k g) = OwnsNot x t k.mutex
-Owning x t (Row.SlotTakes k g) = OwnsNot x t k.mutex
-Owning x t (Row.SlotLeft k) = OwnsNot x t k.mutex
-Owning x t (Row.SeesToSleep k) = OwnsNot x t k.mutex
-Owning x t (Row.SlotLinks k d) = Holds x t (slot_of k.mutex) d × OwnsNot x t k.mutex
-Owning x t (Row.SlotClears k) = Holds x t (slot_of k.mutex) true × OwnsNot x t k.mutex
-Owning x t (Row.SlotQuiets k) = Holds x t (slot_of k.mutex) true × OwnsNot x t k.mutex
-Owning x t (Row.SlotMends k) = Holds x t (slot_of k.mutex) true × OwnsNot x t k.mutex
-Owning x t (Row.HeirPends k b) = Holds x t (slot_of k.mutex) false × OwnsNot x t k.mutex
-Owning x t (Row.HeirSets k) = Holds x t (slot_of k.mutex) false × OwnsNot x t k.mutex
-Owning x t (Row.HeirLooks k) = Holds x t (slot_of k.mutex) false × OwnsNot x t k.mutex
-Owning x t (Row.HeirPendsOn k v over) = Holds x t (slot_of k.mutex) false × OwnsNot x t k.mutex
-Owning x t (Row.HeirTakes k v) = Holds x t (slot_of k.mutex) false × OwnsNot x t k.mutex
-Owning x t (Row.GivesUp k) = Holds x t (slot_of k.mutex) false × OwnsNot x t k.mutex
-Owning x t (Row.LastLooks k) = Holds x t (slot_of k.mutex) false × OwnsNot x t k.mutex
-Owning x t (Row.LastMarks k v) = Holds x t (slot_of k.mutex) false × OwnsNot x t k.mutex
-Owning x t (Row.HeirWakes k) = Holds x t (slot_of k.mutex) false
-Owning x t (Row.HeirHas k r) = Holds x t (slot_of k.mutex) false
-Owning x t (Row.HeirLinks k r) = Holds x t (slot_of k.mutex) false
-Owning x t (Row.Frees k f) = Holds x t (slot_of k.mutex) false × SleepsWithout x t k.mutex f
-Owning x t (Row.FreeUnlinks k f) = Holds x t (slot_of k.mutex) false × SleepsWithout x t k.mutex f
-Owning x t (Row.FreeGives k f) = Holds x t (slot_of k.mutex) false × SleepsWithout x t k.mutex f
-Owning x t (Row.GivePends m y) = Holds x t (cell_of m) (died_of y)
-Owning x t (Row.GiveUnlinks m y) = Holds x t (cell_of m) (died_of y)
-Owning x t (Row.GiveFinds m y) = Holds x t (cell_of m) (died_of y)
-Owning x t (Row.Gives m y) = Holds x t (cell_of m) (died_of y)
-Owning x t (Row.Mends m) = Holds x t (cell_of m) true
-Owning x t (Row.WaitCounts m k timed died) = Holds x t (cell_of m) died
-Owning x t (Row.WaitSets m k n timed) = Holds x t (cell_of m) false
-Owning x t (Row.CountLoads m k all) = (fields_at x.machine (cell_of m)).owner ≡ t
-Owning x t (Row.Counts m k all n) = (fields_at x.machine (cell_of m)).owner ≡ t
-Owning x t (Row.CountWakes m k n) = (fields_at x.machine (cell_of m)).owner ≡ t
-Owning x t (Row.AllMarks m k n) = (fields_at x.machine (cell_of m)).owner ≡ t
-Owning x t (Row.AllMoves m k n) = (fields_at x.machine (cell_of m)).owner ≡ t
-Owning x t (Row.Unsets m k n) = (fields_at x.machine (cell_of m)).owner ≡ t
-Owning x t r = Unit {0}
+abbrev pub Owning : State → ℕ → Row → Type 0
+Owning s t (Row.Chooses k v) = OwnsNot s t k.mutex
+Owning s t (Row.SeesAgain k v) = OwnsNot s t k.mutex
+Owning s t (Row.Marks k v n) = OwnsNot s t k.mutex
+Owning s t (Row.SlotPends k g) = OwnsNot s t k.mutex
+Owning s t (Row.SlotTakes k g) = OwnsNot s t k.mutex
+Owning s t (Row.SlotLeft k) = OwnsNot s t k.mutex
+Owning s t (Row.SeesToSleep k) = OwnsNot s t k.mutex
+Owning s t (Row.SlotLinks k d) = Holds s t (slot_of k.mutex) d × OwnsNot s t k.mutex
+Owning s t (Row.SlotClears k) = Holds s t (slot_of k.mutex) true × OwnsNot s t k.mutex
+Owning s t (Row.SlotQuiets k) = Holds s t (slot_of k.mutex) true × OwnsNot s t k.mutex
+Owning s t (Row.SlotMends k) = Holds s t (slot_of k.mutex) true × OwnsNot s t k.mutex
+Owning s t (Row.HeirPends k b) = Holds s t (slot_of k.mutex) false × OwnsNot s t k.mutex
+Owning s t (Row.HeirSets k) = Holds s t (slot_of k.mutex) false × OwnsNot s t k.mutex
+Owning s t (Row.HeirLooks k) = Holds s t (slot_of k.mutex) false × OwnsNot s t k.mutex
+Owning s t (Row.HeirPendsOn k v over) = Holds s t (slot_of k.mutex) false × OwnsNot s t k.mutex
+Owning s t (Row.HeirTakes k v) = Holds s t (slot_of k.mutex) false × OwnsNot s t k.mutex
+Owning s t (Row.GivesUp k) = Holds s t (slot_of k.mutex) false × OwnsNot s t k.mutex
+Owning s t (Row.LastLooks k) = Holds s t (slot_of k.mutex) false × OwnsNot s t k.mutex
+Owning s t (Row.LastMarks k v) = Holds s t (slot_of k.mutex) false × OwnsNot s t k.mutex
+Owning s t (Row.HeirWakes k) = Holds s t (slot_of k.mutex) false
+Owning s t (Row.HeirHas k r) = Holds s t (slot_of k.mutex) false
+Owning s t (Row.HeirLinks k r) = Holds s t (slot_of k.mutex) false
+Owning s t (Row.Frees k f) = Holds s t (slot_of k.mutex) false × SleepsWithout s t k.mutex f
+Owning s t (Row.FreeUnlinks k f) = Holds s t (slot_of k.mutex) false × SleepsWithout s t k.mutex f
+Owning s t (Row.FreeGives k f) = Holds s t (slot_of k.mutex) false × SleepsWithout s t k.mutex f
+Owning s t (Row.GivePends m y) = Holds s t (cell_of m) (died_of y)
+Owning s t (Row.GiveUnlinks m y) = Holds s t (cell_of m) (died_of y)
+Owning s t (Row.GiveFinds m y) = Holds s t (cell_of m) (died_of y)
+Owning s t (Row.Gives m y) = Holds s t (cell_of m) (died_of y)
+Owning s t (Row.Mends m) = Holds s t (cell_of m) true
+Owning s t (Row.WaitCounts m k timed died) = Holds s t (cell_of m) died
+Owning s t (Row.WaitSets m k n timed) = Holds s t (cell_of m) false
+Owning s t (Row.CountLoads m k all) = (fields_at s (cell_of m)).owner ≡ t
+Owning s t (Row.Counts m k all n) = (fields_at s (cell_of m)).owner ≡ t
+Owning s t (Row.CountWakes m k n) = (fields_at s (cell_of m)).owner ≡ t
+Owning s t (Row.AllMarks m k n) = (fields_at s (cell_of m)).owner ≡ t
+Owning s t (Row.AllMoves m k n) = (fields_at s (cell_of m)).owner ≡ t
+Owning s t (Row.Unsets m k n) = (fields_at s (cell_of m)).owner ≡ t
+Owning s t r = Unit {0}
 
 -- ---- the turn
 
@@ -161,8 +161,6 @@ KnowsCount x r = Unit {0}
 -- thread t's next access, at its row
 pub record Trusts (x : Slots) (t : ℕ) (r : Row) : Type 0 where
   pub room : MayOwnMore x t r
-  pub slots : SlotsAreQuiet x.machine
-  pub owning : Owning x t r
   pub turn : KnowsItsTurn x r
   pub few : HasFewTurns x r
   pub heir : HeirTakesOver x t r
@@ -180,3 +178,19 @@ AllTrusted x (h ∷ hs) = ((1 ≤ who h) × (who h ≤ x.machine.layout.threads)
 -- then each has all that it takes for granted
 abbrev pub PremisesFollow : Type 0
 PremisesFollow = (l : Layout') (hs : List Happening) → IsLayout l → AllTrusted (begin l) hs → AllGranted (begin l) hs
+
+-- nobody sleeps on a slot after such a run
+abbrev pub SlotsStayQuiet : Type 0
+SlotsStayQuiet = (l : Layout') (hs : List Happening) → IsLayout l → AllTrusted (begin l) hs → SlotsAreQuiet (reached l hs).machine
+
+-- each thread owns the slot and the cell that its row says, marked or not, and doesn't own those that its row says
+abbrev pub RunsKeepOwners : Type 0
+RunsKeepOwners = (l : Layout') (hs : List Happening) (t : ℕ) → IsLayout l → 1 ≤ t → t ≤ l.threads → AllTrusted (begin l) hs
+    → Owning (reached l hs).machine t ((reached l hs).rows t)
+
+-- each access of such a run, of a thread that lives and is awake, is the events that the table has
+abbrev pub AllHold : Type 0
+AllHold = (l : Layout') (hs : List Happening) (t : ℕ) (c : Choice) → IsLayout l → 1 ≤ t → t ≤ l.threads
+    → AllTrusted (begin l) hs → Trusts (reached l hs) t ((reached l hs).rows t)
+    → is_alive ((reached l hs).machine.threads t).stage ≡ true → is_asleep (reached l hs).machine t ≡ false
+    → IsEvents (reached l hs) t c

@@ -5,7 +5,7 @@ ghost use Rattle.slots.specs.Accesses.{MissesAreNoEvents, PendingAgainIsNoEvent,
 ghost use Rattle.slots.specs.Accesses.{TakesAreEvents, WakesAreEvents};
 ghost use Rattle.slots.specs.Each.{EachAccessIsEvents};
 ghost use Rattle.slots.specs.Fits.{NextRowsFit};
-ghost use Rattle.slots.specs.Premises.{PremisesFollow, WordsStaySound};
+ghost use Rattle.slots.specs.Premises.{AllHold, PremisesFollow, RunsKeepOwners, SlotsStayQuiet, WordsStaySound};
 ghost use Rattle.slots.specs.Goes.{OthersStandStill, RowsLeadOn, RunsKeepTheirRows};
 ghost use Rattle.slots.specs.Goes.{AccessesOfRunsAreEvents, ThreadsKeepTheirRows};
 ghost use Rattle.slots.specs.Further.{AnnouncedReleasesAreEvents, CountsAreEvents, DecidingLooksAreEvents};
@@ -319,4 +319,21 @@ pub fn premises_follow()
 /// In every state of the machine, nothing is above UNUSABLE in the word of a mutex, and an unusable mutex has no OWNER_DIED.
 pub fn words_stay_sound()
     ensures { WordsStaySound }
+{}
+
+/// In any run, nobody sleeps on a slot: its WAITERS is never set, and it is never unusable.
+pub fn slots_stay_quiet()
+    ensures { SlotsStayQuiet }
+{}
+
+/// In any run, each thread owns the slot and the cell that its row says, marked or not. A lock that has been to the slot
+/// doesn't own the cell.
+pub fn runs_keep_owners()
+    ensures { RunsKeepOwners }
+{}
+
+/// In any run, each access of a thread that lives and is awake is the events that the table has for it. What is still assumed
+/// is named (`specs/Premises.antt`).
+pub fn all_hold()
+    ensures { AllHold }
 {}
