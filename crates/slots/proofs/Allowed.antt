@@ -21,7 +21,7 @@ use Rattle.slots.specs.Further.{MayTake, OwnsMarked}
 use Rattle.slots.specs.Each.{Assumes, IsToTake, SlotIsSmall}
 use Rattle.slots.specs.Goes.{AssumesToo, SleepsLater}
 use Rattle.slots.specs.Fits.{Fits, IsApart, IsOurs}
-use Rattle.slots.specs.Premises.{Holds, Owning, SlotsAreQuiet, Trusts, WordsAreSound}
+use Rattle.slots.specs.Premises.{KnowsItsTurn, Holds, Owning, SlotsAreQuiet, Trusts, WordsAreSound}
 use Rattle.slots.proofs.Free.{reached_kept}
 use Rattle.slots.proofs.Meets.{usable_if_owned}
 use Rattle.slots.proofs.Rooms.{words_sound}
@@ -85,71 +85,71 @@ module _ (x : Slots) (t : ℕ) (from : IsReached x.machine) (first : 1 ≤ t) wh
   free_one : (m v : ℕ) (r : Row) → IsOurs l m → Trusts x t r → is_free v ≡ true → IsToTake x m v
   free_one m v r ours w free = record { free = free; room = words.room (cell_of m) (our_cell l m ours) }
 
-  pub assume_row : (r : Row) → Fits l t r g → Owning z t r → SlotsAreQuiet z → Trusts x t r → Assumes x t r
-  assume_row (Row.Pends k v) o own quiet w = may k.mutex o.0.ours w.room
-  assume_row (Row.Sees k) o own quiet w = may k.mutex o.ours w.room
-  assume_row (Row.Takes k v) o own quiet w = (may k.mutex o.0.ours w.room, free_one k.mutex v _ o.0.ours w o.1)
-  assume_row (Row.SeesAgain k v) o own quiet w = (may k.mutex o.0.ours w.room, o.1)
-  assume_row (Row.Marks k v ToSleep) o own quiet w = (may k.mutex o.0.ours w.room, o.1)
-  assume_row (Row.Marks k v (ToSlot sl)) o own quiet w = (may k.mutex o.0.ours w.room, o.1.0)
-  assume_row (Row.SlotPends k sl) o own quiet w = (our_slot l k.mutex o.0.ours, w.room)
-  assume_row (Row.SlotTakes k sl) o own quiet w = record { inside = our_slot l k.mutex o.0.ours; nobody = o.1; usable = (quiet k.mutex o.0.ours).usable; room = words.room (slot_of k.mutex) (our_slot l k.mutex o.0.ours) }
-  assume_row (Row.SlotLeft k) o own quiet w = may k.mutex o.ours w.room
-  assume_row (Row.SeesToSleep k) o own quiet w = may k.mutex o.0.ours w.room
-  assume_row (Row.SlotQuiets k) o own quiet w = slot_small k.mutex o.ours quiet w.few
-  assume_row (Row.SlotMends k) o own quiet w = marked (slot_of k.mutex) _ (our_slot l k.mutex o.ours) w own.0 w.few
-  assume_row (Row.HeirPends k Linked) o own quiet w = may k.mutex o.ours w.room
-  assume_row (Row.HeirPends k Mended) o own quiet w = may k.mutex o.ours w.room
-  assume_row (Row.HeirPends k Again) o own quiet w = tt
-  assume_row (Row.HeirSets k) o own quiet w = record {
+  pub assume_row : (r : Row) → Fits l t r g → Owning z t r → SlotsAreQuiet z → KnowsItsTurn x r → Trusts x t r → Assumes x t r
+  assume_row (Row.Pends k v) o own quiet knows w = may k.mutex o.0.ours w.room
+  assume_row (Row.Sees k) o own quiet knows w = may k.mutex o.ours w.room
+  assume_row (Row.Takes k v) o own quiet knows w = (may k.mutex o.0.ours w.room, free_one k.mutex v _ o.0.ours w o.1)
+  assume_row (Row.SeesAgain k v) o own quiet knows w = (may k.mutex o.0.ours w.room, o.1)
+  assume_row (Row.Marks k v ToSleep) o own quiet knows w = (may k.mutex o.0.ours w.room, o.1)
+  assume_row (Row.Marks k v (ToSlot sl)) o own quiet knows w = (may k.mutex o.0.ours w.room, o.1.0)
+  assume_row (Row.SlotPends k sl) o own quiet knows w = (our_slot l k.mutex o.0.ours, w.room)
+  assume_row (Row.SlotTakes k sl) o own quiet knows w = record { inside = our_slot l k.mutex o.0.ours; nobody = o.1; usable = (quiet k.mutex o.0.ours).usable; room = words.room (slot_of k.mutex) (our_slot l k.mutex o.0.ours) }
+  assume_row (Row.SlotLeft k) o own quiet knows w = may k.mutex o.ours w.room
+  assume_row (Row.SeesToSleep k) o own quiet knows w = may k.mutex o.0.ours w.room
+  assume_row (Row.SlotQuiets k) o own quiet knows w = slot_small k.mutex o.ours quiet w.few
+  assume_row (Row.SlotMends k) o own quiet knows w = marked (slot_of k.mutex) _ (our_slot l k.mutex o.ours) w own.0 w.few
+  assume_row (Row.HeirPends k Linked) o own quiet knows w = may k.mutex o.ours w.room
+  assume_row (Row.HeirPends k Mended) o own quiet knows w = may k.mutex o.ours w.room
+  assume_row (Row.HeirPends k Again) o own quiet knows w = tt
+  assume_row (Row.HeirSets k) o own quiet knows w = record {
     inside = our_slot l k.mutex o.ours;
     word = owner_alone (z.words (cell_place l (slot_of k.mutex))) t own.0.owner own.0.died (quiet k.mutex o.ours).waiters (quiet k.mutex o.ours).usable (words.room (slot_of k.mutex) (our_slot l k.mutex o.ours));
   }
-  assume_row (Row.HeirTakes k v) o own quiet w = (may k.mutex o.0.ours w.room, free_one k.mutex v _ o.0.ours w o.1)
-  assume_row (Row.HeirHas k r) o own quiet w = slot_small k.mutex o.ours quiet w.few
-  assume_row (Row.GivesUp k) o own quiet w = slot_small k.mutex o.ours quiet w.few
-  assume_row (Row.LastLooks k) o own quiet w = (may k.mutex o.ours w.room, own.1)
-  assume_row (Row.LastMarks k v) o own quiet w = (may k.mutex o.0.ours w.room, o.1)
-  assume_row (Row.TryPends m v) o own quiet w = may m o.0 w.room
-  assume_row (Row.TryTakes m v) o own quiet w = (may m o.0 w.room, free_one m v _ o.0 w o.1)
-  assume_row (Row.Anews m v) o own quiet w = record { inside = our_cell l m o.0; unusable = o.1; died = words.lost (cell_of m) (our_cell l m o.0); room = words.room (cell_of m) (our_cell l m o.0) }
-  assume_row (Row.Mends m) o own quiet w = marked (cell_of m) _ (our_cell l m o) w own w.few
-  assume_row (Row.Looks k) o own quiet w = (our_cell l k.mutex o.0.ours, w.room)
-  assume_row (Row.TryLooks m) o own quiet w = (our_cell l m o, w.room)
-  assume_row (Row.GiveLooks m) o own quiet w = our_cell l m o
-  assume_row (Row.MendLooks m) o own quiet w = our_cell l m o
-  assume_row (Row.WaitLooks m k timed) o own quiet w = o.cell.inside
-  assume_row (Row.WaitCounts m k timed died) o own quiet w = o.cell.inside
-  assume_row (Row.CountLooks m k all) o own quiet w = o.cell.inside
-  assume_row (Row.Frees k f) o own quiet w = record { inside = our_slot l k.mutex o.ours; owner = own.0.owner }
-  assume_row (Row.GivePends m (OfUnlock d)) o own quiet w = record { inside = our_cell l m o; owner = own.owner }
-  assume_row (Row.GivePends m (OfWait k n slept timed)) o own quiet w = (o.cell, record { inside = our_cell l m o.ours; owner = own.owner }, own.died)
-  assume_row (Row.FreeGives k f) o own quiet w = owns (slot_of k.mutex) false (our_slot l k.mutex o.ours) own.0
-  assume_row (Row.Gives m (OfUnlock false)) o own quiet w = owns (cell_of m) false (our_cell l m o) own
-  assume_row (Row.Gives m (OfUnlock true)) o own quiet w = (owns (cell_of m) true (our_cell l m o) own, own.died)
-  assume_row (Row.Gives m (OfWait k n slept timed)) o own quiet w = owns (cell_of m) false (our_cell l m o.ours) own
-  assume_row (Row.SleepsOn k v) o own quiet w = (may k.mutex o.0.ours w.room, o.1)
-  assume_row (Row.Trims m is) o own quiet w = record { inside = our_cell l m o; room = words.room (cell_of m) (our_cell l m o); knows = w.turn.0; turn = w.turn.1.0; left = w.turn.1.1 }
-  assume_row (Row.WaitSets m k n timed) o own quiet w = record { inside = o.cell.inside; says = w.count }
-  assume_row (Row.Counts m k all n) o own quiet w = record { inside = o.cell.inside; cell = o.cell.cell; owns = record { inside = our_cell l m o.ours; owner = own }; found = w.count.0; few = w.count.1; quiet = w.count.2 }
-  assume_row (Row.Unsets m k n) o own quiet w = record { inside = o.cell.inside; says = w.count }
-  assume_row r o own quiet w = tt
+  assume_row (Row.HeirTakes k v) o own quiet knows w = (may k.mutex o.0.ours w.room, free_one k.mutex v _ o.0.ours w o.1)
+  assume_row (Row.HeirHas k r) o own quiet knows w = slot_small k.mutex o.ours quiet w.few
+  assume_row (Row.GivesUp k) o own quiet knows w = slot_small k.mutex o.ours quiet w.few
+  assume_row (Row.LastLooks k) o own quiet knows w = (may k.mutex o.ours w.room, own.1)
+  assume_row (Row.LastMarks k v) o own quiet knows w = (may k.mutex o.0.ours w.room, o.1)
+  assume_row (Row.TryPends m v) o own quiet knows w = may m o.0 w.room
+  assume_row (Row.TryTakes m v) o own quiet knows w = (may m o.0 w.room, free_one m v _ o.0 w o.1)
+  assume_row (Row.Anews m v) o own quiet knows w = record { inside = our_cell l m o.0; unusable = o.1; died = words.lost (cell_of m) (our_cell l m o.0); room = words.room (cell_of m) (our_cell l m o.0) }
+  assume_row (Row.Mends m) o own quiet knows w = marked (cell_of m) _ (our_cell l m o) w own w.few
+  assume_row (Row.Looks k) o own quiet knows w = (our_cell l k.mutex o.0.ours, w.room)
+  assume_row (Row.TryLooks m) o own quiet knows w = (our_cell l m o, w.room)
+  assume_row (Row.GiveLooks m) o own quiet knows w = our_cell l m o
+  assume_row (Row.MendLooks m) o own quiet knows w = our_cell l m o
+  assume_row (Row.WaitLooks m k timed) o own quiet knows w = o.cell.inside
+  assume_row (Row.WaitCounts m k timed died) o own quiet knows w = o.cell.inside
+  assume_row (Row.CountLooks m k all) o own quiet knows w = o.cell.inside
+  assume_row (Row.Frees k f) o own quiet knows w = record { inside = our_slot l k.mutex o.ours; owner = own.0.owner }
+  assume_row (Row.GivePends m (OfUnlock d)) o own quiet knows w = record { inside = our_cell l m o; owner = own.owner }
+  assume_row (Row.GivePends m (OfWait k n slept timed)) o own quiet knows w = (o.cell, record { inside = our_cell l m o.ours; owner = own.owner }, own.died)
+  assume_row (Row.FreeGives k f) o own quiet knows w = owns (slot_of k.mutex) false (our_slot l k.mutex o.ours) own.0
+  assume_row (Row.Gives m (OfUnlock false)) o own quiet knows w = owns (cell_of m) false (our_cell l m o) own
+  assume_row (Row.Gives m (OfUnlock true)) o own quiet knows w = (owns (cell_of m) true (our_cell l m o) own, own.died)
+  assume_row (Row.Gives m (OfWait k n slept timed)) o own quiet knows w = owns (cell_of m) false (our_cell l m o.ours) own
+  assume_row (Row.SleepsOn k v) o own quiet knows w = (may k.mutex o.0.ours w.room, o.1)
+  assume_row (Row.Trims m is) o own quiet knows w = record { inside = our_cell l m o; room = words.room (cell_of m) (our_cell l m o); knows = knows.0; turn = knows.1.0; left = knows.1.1 }
+  assume_row (Row.WaitSets m k n timed) o own quiet knows w = record { inside = o.cell.inside; says = w.count }
+  assume_row (Row.Counts m k all n) o own quiet knows w = record { inside = o.cell.inside; cell = o.cell.cell; owns = record { inside = our_cell l m o.ours; owner = own }; found = w.count.0; few = w.count.1; quiet = w.count.2 }
+  assume_row (Row.Unsets m k n) o own quiet knows w = record { inside = o.cell.inside; says = w.count }
+  assume_row r o own quiet knows w = tt
 
-  pub assume_too : (r : Row) → Fits l t r g → Owning z t r → SlotsAreQuiet z → Trusts x t r → AssumesToo x t r
-  assume_too (Row.Pends k v) o own quiet w = o.1
-  assume_too (Row.Marks k v (ToSlot sl)) o own quiet w = o.1.1
-  assume_too (Row.SeesToSleep k) o own quiet w = (o.1, own)
-  assume_too (Row.WaitLooks m k timed) o own quiet w = (o.cell, our_cell l m o.ours)
-  assume_too (Row.WaitCounts m k timed true) o own quiet w = (o.cell, record { inside = our_cell l m o.ours; owner = own.owner }, own.died)
-  assume_too (Row.CountLooks m k all) o own quiet w = (o.cell, our_cell l m o.ours)
-  assume_too (Row.GivePends m (OfWait k n slept timed)) o own quiet w = w.count
-  assume_too (Row.Frees k f) o own quiet w = own.0.died
-  assume_too (Row.GivePends m (OfUnlock d)) o own quiet w = own.died
-  assume_too (Row.FreeGives k f) o own quiet w = (quiet k.mutex o.ours).waiters
-  assume_too (Row.HandsOn m y is) o own quiet w = w.heir
-  assume_too (Row.LooksBack m (OfUnlock d) is) o own quiet w = our_cell l m o
-  assume_too (Row.LooksBack m (OfWait k n slept timed) is) o own quiet w = our_cell l m o.ours
-  assume_too r o own quiet w = tt
+  pub assume_too : (r : Row) → Fits l t r g → Owning z t r → SlotsAreQuiet z → KnowsItsTurn x r → Trusts x t r → AssumesToo x t r
+  assume_too (Row.Pends k v) o own quiet knows w = o.1
+  assume_too (Row.Marks k v (ToSlot sl)) o own quiet knows w = o.1.1
+  assume_too (Row.SeesToSleep k) o own quiet knows w = (o.1, own)
+  assume_too (Row.WaitLooks m k timed) o own quiet knows w = (o.cell, our_cell l m o.ours)
+  assume_too (Row.WaitCounts m k timed true) o own quiet knows w = (o.cell, record { inside = our_cell l m o.ours; owner = own.owner }, own.died)
+  assume_too (Row.CountLooks m k all) o own quiet knows w = (o.cell, our_cell l m o.ours)
+  assume_too (Row.GivePends m (OfWait k n slept timed)) o own quiet knows w = w.count
+  assume_too (Row.Frees k f) o own quiet knows w = own.0.died
+  assume_too (Row.GivePends m (OfUnlock d)) o own quiet knows w = own.died
+  assume_too (Row.FreeGives k f) o own quiet knows w = (quiet k.mutex o.ours).waiters
+  assume_too (Row.HandsOn m y is) o own quiet knows w = w.heir
+  assume_too (Row.LooksBack m (OfUnlock d) is) o own quiet knows w = our_cell l m o
+  assume_too (Row.LooksBack m (OfWait k n slept timed) is) o own quiet knows w = our_cell l m o.ours
+  assume_too r o own quiet knows w = tt
 
   pub apart_row : (r : Row) → Owning z t r → IsApart x t r
   apart_row (Row.SeesToSleep k) own = own

@@ -1,37 +1,38 @@
 -- What a run keeps, and what of the premises of its accesses follows from that.
 use Rattle.std.proofs.Common.{◌≡◌, ◌≢◌, ◌⊎◌, inl, inr, ℕ, ◌<◌, ◌≤◌, ◌==◌, Bool, true, false, List, [], ◌∷◌, refl, sym, ap, ◌∙◌, subst, arith, eqb-true, eq-eqb}
-use Rattle.std.specs.Prelude.{not, ◌&&◌, nat_lt, slice_index, length}
-use Rattle.std.proofs.lemmas.Bool.Decides.{nat_tests}
+use Rattle.std.specs.Prelude.{not, ◌&&◌}
 use Rattle.memorymap.specs.Layouts.{IsLayout, Layout', address_in, cell_place, counter_place, head_place}
 use Rattle.protocol.specs.declared.event.Event.{Event}
-use Rattle.protocol.specs.declared.event.Event.TheVariants.{Step, Kill, Leave, Expire}
+use Rattle.protocol.specs.declared.event.Event.TheVariants.{Step, Kill, Leave, Expire, Renew}
 use Rattle.protocol.specs.declared.thread.Thread.{Thread}
 use Rattle.protocol.specs.declared.thread.Stage.{Stage}
 use Rattle.protocol.specs.declared.thread.Stage.TheVariants.{Calling, Dying, Reaped}
-use Rattle.protocol.specs.Machine.{State, After, departed, has_thread, is_alive, is_asleep, is_dying, is_exiting, is_gone, nothing, place_met, renewed, run, sleeps, stands_in, words_after}
+use Rattle.protocol.specs.Machine.{State, After, departed, has_thread, is_alive, is_asleep, is_dying, is_exiting, is_gone, nothing, place_met, put, renewed, run, sleeps, stands_in, words_after}
 use Rattle.protocol.proofs.Kept.{Kept, last_thread}
 use Rattle.protocol.proofs.Events.{is_known}
 use Rattle.protocol.proofs.Puts.{put-same}
 use Rattle.protocol.proofs.Queued.{in_none}
 use Rattle.lockword.specs.Cells.{fields_of}
-use Rattle.slots.specs.Places.{slot_of, cell_of, our_mutexes}
-use Rattle.slots.specs.Rows.{Choice, How, Row}
-use Rattle.slots.specs.Rows.How.{Tried, Later, Waited}
+use Rattle.slots.specs.Places.{slot_of}
+use Rattle.slots.specs.Rows.{Choice, Row}
+use Rattle.slots.specs.Rows.Giving.{OfUnlock, OfWait}
 use Rattle.slots.specs.Shown.{memory, shown, Slots, after, begin}
 use Rattle.slots.specs.Table.{access_of_stage, made}
 use Rattle.slots.specs.Heirs.{AreOf}
-use Rattle.slots.specs.Runs.{Happening, at_row, events_of, is_first, is_of, is_ours, is_resting, lapse_events, lapse_row, made_by, may_call, next, reached, reached_from}
+use Rattle.slots.specs.Runs.{Happening, at_row, events_of, is_resting, lapse_events, lapse_row, made_by, may_call, next, reached, reached_from}
 use Rattle.slots.specs.Runs.Happening.{Calls, Goes, Interrupts, Lapses, Dies, Walks, Lives}
 use Rattle.slots.specs.Laws.{IsReached}
+use Rattle.slots.specs.Stands.{StandsAs}
 use Rattle.slots.specs.Accesses.{IsAboutIt, IsAlongList, IsAtRow}
 use Rattle.slots.specs.Goes.{AllGranted, Grants, IsAtItsRow, StandsStill, who}
-use Rattle.slots.specs.Runs.{awake_after}
-use Rattle.slots.specs.Fits.{IsOurs, AreOfUs, Fits}
-use Rattle.slots.specs.Premises.{AllHold, RunsKeepOwners, SlotsStayQuiet, SlotsAreQuiet, AllTrusted, Owning, PremisesFollow, Trusts, TrustsIn}
+use Rattle.slots.specs.Runs.{awake_after, slept_after, turns_after}
+use Rattle.slots.specs.Fits.{IsOurs, Fits}
+use Rattle.slots.specs.Premises.{KnowsItsTurn, RunsKeepTurns, AllHold, RunsKeepOwners, SlotsStayQuiet, SlotsAreQuiet, AllTrusted, Owning, PremisesFollow, Trusts, TrustsIn}
 use Rattle.slots.proofs.Abouts.{about_it, wakes_its_own}
 use Rattle.slots.proofs.Alive.{standing_lives}
 use Rattle.slots.proofs.AllRows.{layout_run, one_more, reached_run, runs_are_events}
 use Rattle.slots.proofs.Allowed.{apart_row, assume_row, assume_too, sleeps_later}
+use Rattle.slots.proofs.CallsFit.{calls_fit}
 use Rattle.slots.proofs.FitsOn.{next_rows_fit}
 use Rattle.slots.proofs.Free.{reached_kept, reached_queued}
 use Rattle.slots.proofs.Keeping.{all_four, dying_at, lapses_so}
@@ -42,6 +43,8 @@ use Rattle.slots.proofs.Each.{each_access}
 use Rattle.slots.proofs.ListPlaces.{list_apart}
 use Rattle.slots.proofs.OthersKeep.{LeavesIt, owning_kept, run_leaves}
 use Rattle.slots.proofs.OwnKeep.{owning_row}
+use Rattle.slots.proofs.TurnRows.{Needs, turn_row}
+use Rattle.slots.proofs.TurnsKept.{gives_tell, next_turns, turn_after, turn_like, wake_tells}
 use Rattle.slots.proofs.Quiet.{Alike, quiet_row}
 use Rattle.slots.proofs.PlainSlots.{ArePlain, IsPlain, alike_plain, expire_plain, kill_plain, leave_plain, plain_quiet, still_plain, walk_plain}
 use Rattle.slots.proofs.Rooms.{first_cell}
@@ -58,48 +61,7 @@ pub record Steady (x : Slots) : Type 0 where
   pub rests : (t : ℕ) → 1 ≤ t → t ≤ x.machine.layout.threads → is_alive (x.machine.threads t).stage ≡ false → x.rows t ≡ Row.Rests
   pub owning : (t : ℕ) → 1 ≤ t → t ≤ x.machine.layout.threads → Owning x.machine t (x.rows t)
   pub plain : ArePlain x.machine
-
--- ---- a call begins
-
-record Three (a b c : Bool) : Type 0 where
-  one : a ≡ true
-  two : b ≡ true
-  three : c ≡ true
-
-all_three : (a b c : Bool) → (a && b && c) ≡ true → Three a b c
-all_three true true true e = record { one = refl; two = refl; three = refl }
-all_three true true false e = absurd cc
-all_three true false c e = absurd cc
-all_three false b c e = absurd cc
-
-first_how : (h : How) → is_first h ≡ true → h ≡ Tried
-first_how Tried e = refl
-first_how Later e = absurd cc
-first_how (Waited z) e = absurd cc
-
-is_less : (a b : ℕ) → nat_lt a b ≡ true → a < b
-is_less a b e = grind (arith, nat_tests)
-
-first_of : (a b : Bool) → (a && b) ≡ true → a ≡ true
-first_of true b e = refl
-first_of false b e = absurd cc
-
-of_us : (l : Layout') (m k : ℕ) → is_of l m k ≡ true → AreOfUs l m k
-of_us l m k e = let three = all_three (is_ours l m) (nat_lt k (length l.conditions)) (slice_index l.conditions k == cell_of m) e in record {
-  ours = is_less m (our_mutexes l) three.one;
-  cell = record { inside = is_less k (length l.conditions) three.two; cell = eqb-true (slice_index l.conditions k) (cell_of m) three.three };
-}
-
-calls_fit : (l : Layout') (t held : ℕ) (r : Row) (g : Stage) → may_call l held r ≡ true → Fits l t r g
-calls_fit l t held (Row.Looks k) g e = let three = all_three (is_first k.how) (is_ours l k.mutex) (nat_lt held 2046) e in let tried : k.how ≡ Tried = first_how k.how three.one in
-    (record { ours = is_less k.mutex (our_mutexes l) three.two; wait = λ z waited. absurd (cc (sym tried ∙ waited)) }, tried)
-calls_fit l t held (Row.TryLooks m) g e = is_less m (our_mutexes l) (first_of (is_ours l m) (nat_lt held 2046) e)
-calls_fit l t held (Row.GiveLooks m) g e = is_less m (our_mutexes l) e
-calls_fit l t held (Row.MendLooks m) g e = is_less m (our_mutexes l) e
-calls_fit l t held (Row.AnewLooks m) g e = is_less m (our_mutexes l) e
-calls_fit l t held (Row.WaitLooks m k timed) g e = of_us l m k e
-calls_fit l t held (Row.CountLooks m k all) g e = of_us l m k e
-calls_fit l t held r g e = absurd cc
+  pub turns : (t : ℕ) → 1 ≤ t → t ≤ x.machine.layout.threads → KnowsItsTurn x (x.rows t)
 
 -- ---- one happening
 
@@ -128,15 +90,18 @@ module _ (x : Slots) (t : ℕ) (pos : 1 ≤ t) (known : t ≤ x.machine.layout.t
   quiet : SlotsAreQuiet z
   quiet = plain_quiet z s.reached s.plain
 
+  knows : KnowsItsTurn x (x.rows t)
+  knows = s.turns t pos known
+
   granted : (c : Choice) → Trusts x t (x.rows t) → Grants x (Goes t c)
   granted c w = go (is_alive g) refl
     where
       go : (b : Bool) → is_alive g ≡ b → Grants x (Goes t c)
-      go true lives = (about_it z.layout t (x.rows t) g fit (here lives), assume_row x t s.reached pos (x.rows t) fit own quiet w, assume_too x t s.reached pos (x.rows t) fit own quiet w)
+      go true lives = (about_it z.layout t (x.rows t) g fit (here lives), assume_row x t s.reached pos (x.rows t) fit own quiet knows w, assume_too x t s.reached pos (x.rows t) fit own quiet knows w)
       go false dead = (
         subst (λ (r : Row). IsAboutIt z.layout r g) (sym (resting dead)) tt,
-        assume_row x t s.reached pos (x.rows t) fit own quiet w,
-        assume_too x t s.reached pos (x.rows t) fit own quiet w,
+        assume_row x t s.reached pos (x.rows t) fit own quiet knows w,
+        assume_too x t s.reached pos (x.rows t) fit own quiet knows w,
       )
 
   -- how its row fits afterwards, in the same layout
@@ -311,6 +276,71 @@ module _ (x : Slots) (t : ℕ) (pos : 1 ≤ t) (known : t ≤ x.machine.layout.t
       (subst (λ (r : Row). Fits z.layout t r ((renewed z t).state.threads t).stage) (sym none) tt, λ dead. none, subst (Owning (renewed z t).state t) (sym none) tt, λ m ours. still_plain z (renewed z t).state m (renewed_cell z t pos known (slot_of m)) (s.plain m ours)))
       (λ e. unchanged)
 
+  -- ---- what it knows of the turn
+
+  first_turn : (y : Slots) (held : ℕ) (r : Row) → may_call z.layout held r ≡ true → KnowsItsTurn y r
+  first_turn y held (Row.Looks k) e = tt
+  first_turn y held (Row.TryLooks m) e = tt
+  first_turn y held (Row.GiveLooks m) e = tt
+  first_turn y held (Row.MendLooks m) e = tt
+  first_turn y held (Row.AnewLooks m) e = tt
+  first_turn y held (Row.WaitLooks m k timed) e = tt
+  first_turn y held (Row.CountLooks m k all) e = tt
+  first_turn y held r e = absurd cc
+
+  abbrev Turns : Slots → Type 0
+  Turns y = KnowsItsTurn y (y.rows t)
+
+  turns_then : (es : List Event) → KnowsItsTurn (after x es) (x.rows t)
+  turns_then es = turn_after x es t (x.rows t) g s.reached fit knows
+
+  call_turns : (r : Row) → Turns (next x (Calls t r))
+  call_turns r = by_test Turns (has_thread z t && is_alive g && is_resting (x.rows t) && may_call z.layout (z.threads t).held r) (at_row x t r) x
+      (λ e. let four = all_four (has_thread z t) (is_alive g) (is_resting (x.rows t)) (may_call z.layout (z.threads t).held r) e in
+      subst (KnowsItsTurn (at_row x t r)) (sym (put-same x.rows t r)) (first_turn (at_row x t r) (z.threads t).held r four.fourth))
+      (λ e. knows)
+
+  go_turns : (c : Choice) → Trusts x t (x.rows t) → Turns (next x (Goes t c))
+  go_turns c w = by_test Turns (has_thread z t && is_alive g && not (is_asleep z t)) (made_by x t c (made x t c (x.rows t))) x
+      (λ e. let may = may_go (has_thread z t) (is_alive g) (is_asleep z t) e in
+      subst (KnowsItsTurn (made_by x t c (made x t c (x.rows t)))) (sym (put-same x.rows t (made x t c (x.rows t)).next)) (on_row (at_it may.0 may.1) (x.rows t) fit own knows (here may.0)))
+      (λ e. knows)
+    where
+      at_it : is_alive g ≡ true → is_asleep z t ≡ false → IsAtRow x t
+      at_it lives awake = record { reached = s.reached; first = pos; last = known; there = here lives; about = (granted c w).0; out = in_none z t (reached_queued z s.reached) awake }
+
+      then_at : Row → Slots
+      then_at r = record (after x (made x t c r).events) { turns = turns_after r c (after x (made x t c r).events).turns; awake = awake_after r x.awake; slept = slept_after r x.slept; rows = put x.rows t (made x t c r).next }
+
+      needs : IsAtRow x t → (r : Row) → Fits z.layout t r g → Owning z t r → KnowsItsTurn x r → StandsAs r g → Needs x (then_at r) t c r
+      needs at (Row.Gives m d) o owns tells there = gives_tell x t c at (then_at (Row.Gives m d)) m d o there owns refl (λ j. refl)
+      needs at (Row.WakesOne m d n) o owns tells there = wake_tells x t c at (then_at (Row.WakesOne m d n)) m d n o tells refl (λ j. refl)
+      needs at (Row.HandsOn m (OfUnlock d) n) o owns tells there = turn_like (after x (made x t c (Row.HandsOn m (OfUnlock d) n)).events) (then_at (Row.HandsOn m (OfUnlock d) n)) refl (λ j. refl) (Row.LooksBack m (OfUnlock d) n) (turn_after x (made x t c (Row.HandsOn m (OfUnlock d) n)).events t (Row.HandsOn m (OfUnlock d) n) g s.reached o tells)
+      needs at (Row.HandsOn m (OfWait k i slept timed) n) o owns tells there = tt
+      needs at (Row.LooksBack m (OfUnlock d) n) o owns tells there = turn_like (after x (made x t c (Row.LooksBack m (OfUnlock d) n)).events) (then_at (Row.LooksBack m (OfUnlock d) n)) refl (λ j. refl) (Row.WakesOne m (OfUnlock d) n) (turn_after x (made x t c (Row.LooksBack m (OfUnlock d) n)).events t (Row.LooksBack m (OfUnlock d) n) g s.reached o tells)
+      needs at (Row.LooksBack m (OfWait k i slept timed) n) o owns tells there = tt
+      needs at r o owns tells there = tt
+
+      on_row : IsAtRow x t → (r : Row) → Fits z.layout t r g → Owning z t r → KnowsItsTurn x r → StandsAs r g → KnowsItsTurn (then_at r) (made x t c r).next
+      on_row at r o owns tells there = turn_row x (then_at r) t c r (needs at r o owns tells there)
+
+  lapse_turns : Turns (next x (Lapses t))
+  lapse_turns = by_test Turns (is_asleep z t) (at_row (after x (lapse_events x t (x.rows t))) t (lapse_row (x.rows t))) x
+      (λ e. subst (KnowsItsTurn (at_row (after x (lapse_events x t (x.rows t))) t (lapse_row (x.rows t)))) (sym (put-same x.rows t (lapse_row (x.rows t)))) (of_row (x.rows t) fit knows)) (λ e. knows)
+    where
+      of_row : (r : Row) → Fits z.layout t r g → KnowsItsTurn x r → KnowsItsTurn (at_row (after x (lapse_events x t r)) t (lapse_row r)) (lapse_row r)
+      of_row (Row.Asleep k) o h = by_test (KnowsItsTurn (at_row (after x (lapse_events x t (Row.Asleep k))) t (lapse_row (Row.Asleep k)))) k.timed (Row.Late k) (Row.Asleep k) (λ e. tt) (λ e. tt)
+      of_row (Row.WaitAsleep m k true) o h = tt
+      of_row (Row.WaitAsleep m k false) o h = tt
+      of_row r o h = turn_like (after x []) (at_row (after x []) t r) refl (λ m. refl) r (turn_after x [] t r g s.reached o h)
+
+  die_turns : Turns (next x (Dies t))
+  die_turns = by_test Turns (has_thread z t && is_alive g) (at_row (after x (Kill t ∷ [])) t Row.Rests) x
+      (λ e. subst (KnowsItsTurn (at_row (after x (Kill t ∷ [])) t Row.Rests)) (sym (put-same x.rows t Row.Rests)) tt) (λ e. knows)
+
+  walk_turns : Turns (next x (Walks t))
+  walk_turns = by_test Turns (is_dying z t) (after x (Step t ∷ [])) x (λ e. turns_then (Step t ∷ [])) (λ e. knows)
+
 -- whatever happens to it
 abbrev OwnThen : Slots → ℕ → Slots → Type 0
 OwnThen x t y = Fits x.machine.layout t (y.rows t) (y.machine.threads t).stage × (is_alive (y.machine.threads t).stage ≡ false → y.rows t ≡ Row.Rests) × Owning y.machine t (y.rows t)
@@ -326,6 +356,15 @@ own_then x (Lapses t) s pos known w = lapses x t pos known s
 own_then x (Dies t) s pos known w = dies x t pos known s
 own_then x (Walks t) s pos known w = walks x t pos known s
 own_then x (Lives t) s pos known w = lives x t pos known s
+
+own_turns : (x : Slots) (h : Happening) → Steady x → 1 ≤ who h → who h ≤ x.machine.layout.threads → TrustsIn x h → KnowsItsTurn (next x h) ((next x h).rows (who h))
+own_turns x (Calls t r) s pos known w = call_turns x t pos known s r
+own_turns x (Goes t c) s pos known w = go_turns x t pos known s c w
+own_turns x (Interrupts t) s pos known w = turns_then x t pos known s (Leave t ∷ [])
+own_turns x (Lapses t) s pos known w = lapse_turns x t pos known s
+own_turns x (Dies t) s pos known w = die_turns x t pos known s
+own_turns x (Walks t) s pos known w = walk_turns x t pos known s
+own_turns x (Lives t) s pos known w = turns_then x t pos known s (Renew t ∷ [])
 
 grants_then : (x : Slots) (h : Happening) → Steady x → 1 ≤ who h → who h ≤ x.machine.layout.threads → TrustsIn x h → Grants x h
 grants_then x (Calls t r) s pos known w = tt
@@ -364,6 +403,7 @@ steady_next x h s pos known w = record {
   rests = λ u first last. (each u first (before u last)).1;
   owning = λ u first last. (each u first (before u last)).2;
   plain = λ m ours. own_all.3 m (subst (λ (l : Layout'). IsOurs l m) layout ours);
+  turns = λ u first last. each_turn u first (before u last);
 }
   where
     layout : (next x h).machine.layout ≡ x.machine.layout
@@ -374,6 +414,14 @@ steady_next x h s pos known w = record {
 
     before : (u : ℕ) → u ≤ (next x h).machine.layout.threads → u ≤ x.machine.layout.threads
     before u last = subst (λ (l : Layout'). u ≤ l.threads) layout last
+
+    each_turn : (u : ℕ) → 1 ≤ u → u ≤ x.machine.layout.threads → KnowsItsTurn (next x h) ((next x h).rows u)
+    each_turn u first last = go (who h == u) refl
+      where
+        go : (b : Bool) → (who h == u) ≡ b → KnowsItsTurn (next x h) ((next x h).rows u)
+        go true e = subst (λ (v : ℕ). KnowsItsTurn (next x h) ((next x h).rows v)) (eqb-true (who h) u e) (own_turns x h s pos known w)
+        go false e = subst (KnowsItsTurn (next x h)) (sym (others_still x h u s.reached (λ same. cc (sym e ∙ eq-eqb (who h) u same))).row)
+            (turn_like (after x (events_of x h)) (next x h) (next_is x h) (next_turns x h) (x.rows u) (turn_after x (events_of x h) u (x.rows u) (x.machine.threads u).stage s.reached (s.fits u first last) (s.turns u first last)))
 
     each : (u : ℕ) → 1 ≤ u → u ≤ x.machine.layout.threads → OwnThen x u (next x h)
     each u first last = go (who h == u) refl
@@ -402,6 +450,7 @@ begins_steady l is = record {
   rests = λ t first last dead. refl;
   owning = λ t first last. tt;
   plain = λ m ours. record { waiters = ap (λ (w : ℕ). (fields_of w).waiters) (first_cell l (λ c. 0) (slot_of m) (our_slot l m ours)); usable = ap (λ (w : ℕ). (fields_of w).unusable) (first_cell l (λ c. 0) (slot_of m) (our_slot l m ours)) };
+  turns = λ t first last. tt;
 }
 
 pub premises_follow : PremisesFollow
@@ -412,6 +461,9 @@ slots_quiet l hs is trusted = let s = steady_run (begin l) hs (begins_steady l i
 
 pub owners_kept : RunsKeepOwners
 owners_kept l hs t is first last trusted = (steady_run (begin l) hs (begins_steady l is) trusted).owning t first (subst (λ (k : Layout'). t ≤ k.threads) (sym (layout_then (begin l) hs (begins_steady l is) trusted)) last)
+
+pub turns_kept : RunsKeepTurns
+turns_kept l hs t is first last trusted = (steady_run (begin l) hs (begins_steady l is) trusted).turns t first (subst (λ (k : Layout'). t ≤ k.threads) (sym (layout_then (begin l) hs (begins_steady l is) trusted)) last)
 
 pub all_hold : AllHold
 all_hold l hs t c is first last trusted w lives awake = runs_are_events l hs t c is first last (premises_follow l hs is trusted)

@@ -49,9 +49,13 @@ pub mod Abouts
 pub mod Alive
 pub mod Rooms
 pub mod Allowed
+pub mod CallsFit
 pub mod Following
 pub mod OthersKeep
+pub mod ShownWords
 pub mod OwnKeep
 pub mod ListPlaces
 pub mod Quiet
 pub mod PlainSlots
+pub mod TurnRows
+pub mod TurnsKept

@@ -2,13 +2,13 @@
 use Rattle.std.proofs.Common.{◌≡◌, ◌≢◌, ℕ, ◌+◌, ◌*◌, ◌/◌, ◌%◌, ◌<◌, ◌≤◌, ◌==◌, Bool, true, false, [], ◌∷◌, refl, sym, ap, ◌∙◌, subst, arith, eqb-true, bit_and, bit_or}
 use Rattle.std.specs.Prelude.{if◌then◌else◌, not, ◌&&◌, ◌||◌, ◌-◌}
 use Rattle.std.proofs.lemmas.Bool.{eqb-false}
-use Rattle.lockword.specs.Cells.{Fields, bit, fields_of, taken, word_of}
+use Rattle.lockword.specs.Cells.{Fields, fields_of, taken, word_of}
 use Rattle.lockword.specs.Coding.{fields_of-word_of}
 use Rattle.lockword.proofs.Bits.{and_declared, or_waiting}
 use Rattle.lockword.specs.Threads.{most_threads}
 use Rattle.lockword.specs.declared.reply.Reply.TheVariants.{OK, EBUSY, EDEADLK, EINVAL, ETIMEDOUT, ENOTRECOVERABLE}
 use Rattle.stepprograms.specs.declared.access.Access.{Access}
-use Rattle.stepprograms.specs.Accesses.{address_of, changed, is_nobody, word_among}
+use Rattle.stepprograms.specs.Accesses.{address_of, changed, is_nobody}
 use Rattle.memorymap.specs.Layouts.{Layout', address_in, cell_place, counter_place, head_place, place_in}
 use Rattle.mutex.specs.Rows.{acquired}
 use Rattle.mutex.proofs.Addresses.{head_further, head_word_again}
@@ -18,11 +18,11 @@ use Rattle.protocol.specs.declared.event.Event.{Event}
 use Rattle.protocol.specs.declared.event.Event.TheVariants.{Step, Spare}
 use Rattle.protocol.specs.declared.event.LeftTo.TheVariants as left_to
 use Rattle.protocol.specs.declared.thread.Stage.{Stage}
-use Rattle.protocol.specs.Machine.{State, is_met, place_met, put, run, words_after}
+use Rattle.protocol.specs.Machine.{State, place_met, run, words_after}
 use Rattle.protocol.proofs.Kept.{Kept}
-use Rattle.protocol.proofs.Puts.{put-other, put-same}
+use Rattle.protocol.proofs.Puts.{put-same}
 use Rattle.protocol.proofs.Seeing.{cell_again, cell_in, counter_again}
-use Rattle.slots.specs.Places.{cell_of, is_slot, our_own, slot_of}
+use Rattle.slots.specs.Places.{cell_of, slot_of}
 use Rattle.slots.specs.Rows.{Choice, Giving, How, Onward, Row, Taking, Then}
 use Rattle.slots.specs.Rows.How.{Tried, Later, Waited}
 use Rattle.slots.specs.Rows.Before.{Linked, Mended, Again}
@@ -38,75 +38,9 @@ use Rattle.slots.specs.Accesses.{IsAlongList}
 use Rattle.slots.specs.Premises.{Holds, Owning, OwnsNot, SleepsWithout, died_of}
 use Rattle.slots.proofs.FitsOn.{waiting_fields}
 use Rattle.slots.proofs.Leading.{by_test}
+use Rattle.slots.proofs.ShownWords.{IsReading, Shows, apart_words, missed_word, reads, shows_at}
 use Rattle.slots.proofs.Owned.{our_cell, our_slot}
-use Rattle.slots.proofs.Shows.{IsOfWord, cell_valid, changes, put_there, shown_cell}
-
--- ---- what memory shows of a mutex's owner, and of its mark
-
--- the word W shows the machine's word w
-pub record Shows (w W : ℕ) : Type 0 where
-  pub owner : (fields_of W).owner ≡ (fields_of w).owner
-  pub died : (fields_of W).died ≡ (fields_of w).died
-  pub waiters : (fields_of W).waiters ≡ (fields_of w).waiters
-
-shows_so : (w n : ℕ) (b : Bool) → Shows w (w + bit b 4294967296 + n * 8589934592)
-shows_so w n true = record {
-  owner = omega arith;
-  died = ap (λ (z : ℕ). z == 1) (let e : (w + 4294967296 + n * 8589934592) / 1073741824 % 2 ≡ w / 1073741824 % 2 = omega arith in e);
-  waiters = ap (λ (z : ℕ). z == 1) (let e : (w + 4294967296 + n * 8589934592) / 2147483648 % 2 ≡ w / 2147483648 % 2 = omega arith in e);
-}
-shows_so w n false = record {
-  owner = omega arith;
-  died = ap (λ (z : ℕ). z == 1) (let e : (w + 0 + n * 8589934592) / 1073741824 % 2 ≡ w / 1073741824 % 2 = omega arith in e);
-  waiters = ap (λ (z : ℕ). z == 1) (let e : (w + 0 + n * 8589934592) / 2147483648 % 2 ≡ w / 2147483648 % 2 = omega arith in e);
-}
-
-pub shows_at : (x : Slots) (k : ℕ) → k < x.machine.layout.mutexes → Shows (x.machine.words (cell_place x.machine.layout k)) (shown x (cell_place x.machine.layout k))
-shows_at x k inside = subst (Shows (x.machine.words (cell_place x.machine.layout k))) (sym (shown_cell x k inside)) (shows_so (x.machine.words (cell_place x.machine.layout k)) (x.turns k) (is_slot k && x.awake (our_own k)))
-
--- an access that changes no word
-abbrev pub IsReading : Access → Type 0
-IsReading (Access.Load at) = Unit {0}
-IsReading (Access.Wait at e) = Unit {0}
-IsReading (Access.Wake at n) = Unit {0}
-IsReading (Access.CmpRequeue from e n to k) = Unit {0}
-IsReading a = ⊥
-
-reads : (s : State) (t : ℕ) (a : Access) → IsReading a → (p : ℕ) → words_after s t a p ≡ s.words p
-reads s t a reading p = go a reading
-  where
-    there : (pl : ℕ) (b : Bool) → (if b then put s.words pl (s.words pl) else s.words) p ≡ s.words p
-    there pl true = put_there s.words pl p
-    there pl false = refl
-
-    go : (b : Access) → IsReading b → words_after s t b p ≡ s.words p
-    go (Access.Load at) r = there (place_in s.layout t at) (is_met s.layout t (Access.Load at))
-    go (Access.Wait at e) r = there (place_in s.layout t at) (is_met s.layout t (Access.Wait at e))
-    go (Access.Wake at n) r = there (place_in s.layout t at) (is_met s.layout t (Access.Wake at n))
-    go (Access.CmpRequeue from e n to k) r = there (place_in s.layout t from) (is_met s.layout t (Access.CmpRequeue from e n to k))
-    go b r = absurd r
-
--- one at another place
-apart_words : (s : State) (t : ℕ) (a : Access) (p : ℕ) → p ≢ place_met s.layout t a → words_after s t a p ≡ s.words p
-apart_words s t a p apart = go (is_met s.layout t a)
-  where
-    w : ℕ
-    w = word_among a (s.words (place_met s.layout t a)) (s.queues (place_met s.layout t a))
-
-    go : (b : Bool) → (if b then put s.words (place_met s.layout t a) w else s.words) p ≡ s.words p
-    go true = put-other s.words (place_met s.layout t a) w p apart
-    go false = refl
-
--- an exchange that finds another word
-missed_word : (s : State) (t at e n pl : ℕ) → place_in s.layout t at ≡ pl → (s.words pl == e) ≡ false → (p : ℕ) → words_after s t (Access.Exchange at e n) p ≡ s.words p
-missed_word s t at e n pl place other p = go (is_met s.layout t (Access.Exchange at e n))
-  where
-    miss : (s.words (place_in s.layout t at) == e) ≡ false
-    miss = ap (λ (q : ℕ). s.words q == e) place ∙ other
-
-    go : (b : Bool) → (if b then put s.words (place_in s.layout t at) (if s.words (place_in s.layout t at) == e then n else s.words (place_in s.layout t at)) else s.words) p ≡ s.words p
-    go true = ap (λ (d : Bool). put s.words (place_in s.layout t at) (if d then n else s.words (place_in s.layout t at)) p) miss ∙ put_there s.words (place_in s.layout t at) p
-    go false = refl
+use Rattle.slots.proofs.Shows.{IsOfWord, cell_valid, changes}
 
 -- ---- after an access
 

@@ -30,7 +30,7 @@ use Rattle.slots.proofs.Free.{empty_where, reached_queued}
 use Rattle.slots.proofs.HeirsStay.{walk_goes}
 use Rattle.slots.proofs.Leading.{by_test}
 use Rattle.slots.proofs.Owned.{our_slot}
-use Rattle.slots.proofs.OwnKeep.{shows_at}
+use Rattle.slots.proofs.ShownWords.{shows_at}
 use Rattle.slots.proofs.Quiet.{Alike}
 use Rattle.slots.proofs.Rooms.{words_sound}
 use Rattle.slots.proofs.Shows.{shown_cell}

@@ -32,7 +32,8 @@ use Rattle.slots.specs.Fits.{AreOfUs, Fits, GivesOurs, IsOurs}
 use Rattle.slots.specs.Premises.{Owning}
 use Rattle.slots.proofs.Leading.{by_test}
 use Rattle.slots.proofs.Owned.{our_cell, our_slot}
-use Rattle.slots.proofs.OwnKeep.{IsReading, by_counter, by_miss, by_pending, by_place, by_reading, hit, its_word, others_keep, says_x, taken_is}
+use Rattle.slots.proofs.OwnKeep.{by_counter, by_miss, by_pending, by_place, by_reading, hit, its_word, others_keep, says_x, taken_is}
+use Rattle.slots.proofs.ShownWords.{IsReading}
 
 -- the same WAITERS, and the same UNUSABLE
 abbrev pub Alike : ℕ → ℕ → Type 0

@@ -120,10 +120,16 @@ Owning s t r = Unit {0}
 
 -- ---- the turn
 
+-- a word of WAITERS alone, with a turn
+abbrev pub IsOfTurn : ℕ → Type 0
+IsOfTurn is = (turn : ℕ) × (is ≡ waiters_alone + turn * 0x2_0000_0000)
+
 -- an unlock's release left WAITERS alone, with the turn of then; and the call knows what it does of the turn since
 abbrev pub KnowsItsTurn : Slots → Row → Type 0
-KnowsItsTurn x (Row.Trims m is) =
-    KnowsTurn x (Row.Trims m is) × ((turn : ℕ) × (is ≡ waiters_alone + turn * 0x2_0000_0000))
+KnowsItsTurn x (Row.HandsOn m (OfUnlock d) is) = KnowsTurn x (Row.HandsOn m (OfUnlock d) is) × IsOfTurn is
+KnowsItsTurn x (Row.LooksBack m (OfUnlock d) is) = KnowsTurn x (Row.LooksBack m (OfUnlock d) is) × IsOfTurn is
+KnowsItsTurn x (Row.WakesOne m (OfUnlock d) is) = KnowsTurn x (Row.WakesOne m (OfUnlock d) is) × IsOfTurn is
+KnowsItsTurn x (Row.Trims m is) = KnowsTurn x (Row.Trims m is) × IsOfTurn is
 KnowsItsTurn x r = Unit {0}
 
 -- AWAKE is cleared, or OWNER_DIED, in a word of 64 bits: the turn has 31
@@ -161,7 +167,6 @@ KnowsCount x r = Unit {0}
 -- thread t's next access, at its row
 pub record Trusts (x : Slots) (t : ℕ) (r : Row) : Type 0 where
   pub room : MayOwnMore x t r
-  pub turn : KnowsItsTurn x r
   pub few : HasFewTurns x r
   pub heir : HeirTakesOver x t r
   pub count : KnowsCount x r
@@ -187,6 +192,11 @@ SlotsStayQuiet = (l : Layout') (hs : List Happening) → IsLayout l → AllTrust
 abbrev pub RunsKeepOwners : Type 0
 RunsKeepOwners = (l : Layout') (hs : List Happening) (t : ℕ) → IsLayout l → 1 ≤ t → t ≤ l.threads → AllTrusted (begin l) hs
     → Owning (reached l hs).machine t ((reached l hs).rows t)
+
+-- a call that has released its mutex in an unlock knows what it does of the turn
+abbrev pub RunsKeepTurns : Type 0
+RunsKeepTurns = (l : Layout') (hs : List Happening) (t : ℕ) → IsLayout l → 1 ≤ t → t ≤ l.threads → AllTrusted (begin l) hs
+    → KnowsItsTurn (reached l hs) ((reached l hs).rows t)
 
 -- each access of such a run, of a thread that lives and is awake, is the events that the table has
 abbrev pub AllHold : Type 0

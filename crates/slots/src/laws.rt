@@ -5,7 +5,7 @@ ghost use Rattle.slots.specs.Accesses.{MissesAreNoEvents, PendingAgainIsNoEvent,
 ghost use Rattle.slots.specs.Accesses.{TakesAreEvents, WakesAreEvents};
 ghost use Rattle.slots.specs.Each.{EachAccessIsEvents};
 ghost use Rattle.slots.specs.Fits.{NextRowsFit};
-ghost use Rattle.slots.specs.Premises.{AllHold, PremisesFollow, RunsKeepOwners, SlotsStayQuiet, WordsStaySound};
+ghost use Rattle.slots.specs.Premises.{AllHold, PremisesFollow, RunsKeepOwners, RunsKeepTurns, SlotsStayQuiet, WordsStaySound};
 ghost use Rattle.slots.specs.Goes.{OthersStandStill, RowsLeadOn, RunsKeepTheirRows};
 ghost use Rattle.slots.specs.Goes.{AccessesOfRunsAreEvents, ThreadsKeepTheirRows};
 ghost use Rattle.slots.specs.Further.{AnnouncedReleasesAreEvents, CountsAreEvents, DecidingLooksAreEvents};
@@ -330,6 +330,12 @@ pub fn slots_stay_quiet()
 /// doesn't own the cell.
 pub fn runs_keep_owners()
     ensures { RunsKeepOwners }
+{}
+
+/// In any run, a call that has released its mutex in an unlock knows the mutex's turn, up to its trim: the mutex was taken or
+/// reinitialised since, or nobody owns it.
+pub fn runs_keep_turns()
+    ensures { RunsKeepTurns }
 {}
 
 /// In any run, each access of a thread that lives and is awake is the events that the table has for it. What is still assumed

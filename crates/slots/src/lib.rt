@@ -19,7 +19,7 @@
 //! - *Runs of the layer*: `others_stand_still`, `rows_lead_on`, `threads_keep_their_rows`,
 //!   `runs_keep_their_rows`, `accesses_of_runs_are_events`; `next_rows_fit`, and so `premises_follow`: what rows assume of
 //!   their mutexes and of the words that they have seen. `words_stay_sound`: the machine's words of mutexes.
-//!   `slots_stay_quiet`, `runs_keep_owners`: slots, and who owns what. So `all_hold`: each access of a run is its events.
+//!   `slots_stay_quiet`, `runs_keep_owners`, `runs_keep_turns`: slots, who owns what, and turns. So `all_hold`: each access of a run is its events.
 //! - *Several events at one moment*: `giving_up_leaves_nothing`, `giving_up_is_a_look`, `takes_are_one_exchange`,
 //!   `takes_are_the_exchange`, `announcing_is_one_store`.
 //! - *The turn*: `trims_are_the_machines`, with `releases_tell`, `wakes_of_nobody_tell`, `turns_stay_known`,
@@ -46,9 +46,9 @@ pub use laws::{
     misses_are_no_events, moves_are_events, next_rows_fit, nobody_joins_a_free_mutex,
     others_answer_still, others_leave_heirs, others_leave_what_is_owned, others_stand_still,
     pending_again_is_no_event, premises_follow, releases_are_events, releases_tell, rows_lead_on,
-    runs_keep_owners, runs_keep_their_rows, sleeps_are_events, slots_run_the_machine,
-    slots_stay_quiet, spares_are_events, standing_heirs_answer, takes_are_events,
-    takes_are_one_exchange, takes_are_the_exchange, threads_keep_their_rows, trims_are_events,
-    trims_are_the_machines, turns_stay_known, turns_stay_known_by_all, wakes_are_events,
-    wakes_of_nobody_tell, walks_leave_all, walks_leave_heirs, words_stay_sound,
+    runs_keep_owners, runs_keep_their_rows, runs_keep_turns, sleeps_are_events,
+    slots_run_the_machine, slots_stay_quiet, spares_are_events, standing_heirs_answer,
+    takes_are_events, takes_are_one_exchange, takes_are_the_exchange, threads_keep_their_rows,
+    trims_are_events, trims_are_the_machines, turns_stay_known, turns_stay_known_by_all,
+    wakes_are_events, wakes_of_nobody_tell, walks_leave_all, walks_leave_heirs, words_stay_sound,
 };
