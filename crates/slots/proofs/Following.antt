@@ -24,7 +24,8 @@ use Rattle.slots.specs.Runs.Happening.{Calls, Goes, Interrupts, Lapses, Dies, Wa
 use Rattle.slots.specs.Laws.{IsReached}
 use Rattle.slots.specs.Stands.{StandsAs}
 use Rattle.slots.specs.Accesses.{IsAboutIt, IsAlongList, IsAtRow}
-use Rattle.slots.specs.Goes.{AllGranted, Grants, IsAtItsRow, StandsStill, who}
+use Rattle.slots.specs.Each.{Assumes}
+use Rattle.slots.specs.Goes.{AssumesToo, AllGranted, Grants, IsAtItsRow, StandsStill, who}
 use Rattle.slots.specs.Runs.{awake_after, slept_after, turns_after}
 use Rattle.slots.specs.Fits.{IsOurs, Fits}
 use Rattle.slots.specs.Premises.{KnowsItsTurn, RunsKeepTurns, AllHold, RunsKeepOwners, SlotsStayQuiet, SlotsAreQuiet, AllTrusted, Owning, PremisesFollow, Trusts, TrustsIn}
@@ -97,11 +98,11 @@ module _ (x : Slots) (t : ℕ) (pos : 1 ≤ t) (known : t ≤ x.machine.layout.t
   granted c w = go (is_alive g) refl
     where
       go : (b : Bool) → is_alive g ≡ b → Grants x (Goes t c)
-      go true lives = (about_it z.layout t (x.rows t) g fit (here lives), assume_row x t s.reached pos (x.rows t) fit own quiet knows w, assume_too x t s.reached pos (x.rows t) fit own quiet knows w)
+      go true lives = (about_it z.layout t (x.rows t) g fit (here lives), assume_row x t s.reached pos known (x.rows t) (here lives) fit own quiet knows w, assume_too x t s.reached pos known (x.rows t) fit own quiet knows w)
       go false dead = (
         subst (λ (r : Row). IsAboutIt z.layout r g) (sym (resting dead)) tt,
-        assume_row x t s.reached pos (x.rows t) fit own quiet knows w,
-        assume_too x t s.reached pos (x.rows t) fit own quiet knows w,
+        subst (Assumes x t) (sym (resting dead)) tt,
+        subst (AssumesToo x t) (sym (resting dead)) tt,
       )
 
   -- how its row fits afterwards, in the same layout
@@ -155,7 +156,7 @@ module _ (x : Slots) (t : ℕ) (pos : 1 ≤ t) (known : t ≤ x.machine.layout.t
       on_row : is_alive g ≡ true → is_asleep z t ≡ false → Both (made_by x t c (made x t c (x.rows t)))
       on_row lives awake = (
         subst (λ (q : Row). Fits z.layout t q ((run z (made x t c (x.rows t)).events).threads t).stage) (sym (put-same x.rows t (made x t c (x.rows t)).next))
-            (next_rows_fit x t c (x.rows t) g ((run z (made x t c (x.rows t)).events).threads t).stage fit (apart_row x t s.reached pos (x.rows t) own)
+            (next_rows_fit x t c (x.rows t) g ((run z (made x t c (x.rows t)).events).threads t).stage fit (apart_row x t s.reached pos known (x.rows t) own)
             (λ m is. wakes_its_own x t c (x.rows t) m grant.0 is)),
         λ dead. absurd (cc (sym dead ∙ standing_lives ((run z (made x t c (x.rows t)).events).threads t).stage (made x t c (x.rows t)).next
             (rows_lead x t c at grant.1 grant.2))),

@@ -59,3 +59,4 @@ pub mod Quiet
 pub mod PlainSlots
 pub mod TurnRows
 pub mod TurnsKept
+pub mod Kernels

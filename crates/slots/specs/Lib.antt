@@ -5,6 +5,7 @@ pub mod Further
 pub mod Goes
 pub mod Heirs
 pub mod Invariant
+pub mod Kernels
 pub mod Laws
 pub mod Moments
 pub mod Places

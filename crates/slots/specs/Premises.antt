@@ -19,25 +19,19 @@ use Rattle.slots.specs.Goes.{AllGranted, who}
 
 -- ---- how many mutexes the thread owns
 
--- at these rows it may take another
+-- At these rows the machine's thread is in no call, or its call is through: it may take another. (At all others, its call
+-- knows that.)
 abbrev pub MayOwnMore : Slots → ℕ → Row → Type 0
 MayOwnMore x t (Row.Looks k) = (x.machine.threads t).held < 2048
 MayOwnMore x t (Row.Pends k v) = (x.machine.threads t).held < 2048
-MayOwnMore x t (Row.Sees k) = (x.machine.threads t).held < 2048
-MayOwnMore x t (Row.Takes k v) = (x.machine.threads t).held < 2048
 MayOwnMore x t (Row.SeesAgain k v) = (x.machine.threads t).held < 2048
 MayOwnMore x t (Row.Marks k v n) = (x.machine.threads t).held < 2048
 MayOwnMore x t (Row.SleepsOn k v) = (x.machine.threads t).held < 2048
 MayOwnMore x t (Row.SlotPends k g) = (x.machine.threads t).held < 2048
 MayOwnMore x t (Row.SlotLeft k) = (x.machine.threads t).held < 2048
-MayOwnMore x t (Row.SeesToSleep k) = (x.machine.threads t).held < 2048
 MayOwnMore x t (Row.HeirPends k b) = (x.machine.threads t).held < 2048
-MayOwnMore x t (Row.HeirTakes k v) = (x.machine.threads t).held < 2048
-MayOwnMore x t (Row.LastLooks k) = (x.machine.threads t).held < 2048
-MayOwnMore x t (Row.LastMarks k v) = (x.machine.threads t).held < 2048
 MayOwnMore x t (Row.TryLooks m) = (x.machine.threads t).held < 2048
 MayOwnMore x t (Row.TryPends m v) = (x.machine.threads t).held < 2048
-MayOwnMore x t (Row.TryTakes m v) = (x.machine.threads t).held < 2048
 MayOwnMore x t r = Unit {0}
 
 -- ---- the machine's words

@@ -13,6 +13,7 @@ ghost use Rattle.slots.specs.Further.{FirstLooksAreEvents, MarksAreEvents, Mends
 ghost use Rattle.slots.specs.Further.{SleepsAreEvents, SparesAreEvents, TrimsAreEvents};
 ghost use Rattle.slots.specs.Heirs.{DeathsLeaveAll, DeathsLeaveHeirs, OthersAnswerStill, OthersLeaveHeirs};
 ghost use Rattle.slots.specs.Heirs.{OthersLeaveWhatIsOwned, WalksLeaveAll, WalksLeaveHeirs};
+ghost use Rattle.slots.specs.Kernels.{WakesWithoutWaitersWakeNobody};
 ghost use Rattle.slots.specs.Laws.{HeirsLetSpare, NobodyJoinsAFreeMutex, ReleasesTell, SlotsRunTheMachine};
 ghost use Rattle.slots.specs.Laws.{StandingHeirsAnswer, TrimsAreTheMachines, TurnsStayKnown};
 ghost use Rattle.slots.specs.Laws.{TurnsStayKnownByAll, WakesOfNobodyTell};
@@ -342,4 +343,10 @@ pub fn runs_keep_turns()
 /// is named (`specs/Premises.antt`).
 pub fn all_hold()
     ensures { AllHold }
+{}
+
+/// In every state of the machine, nobody sleeps on a mutex whose word has no WAITERS, and a wake there changes nothing. Newer
+/// kernels' walks make such a wake, at the pending word of a mutex that another thread owns.
+pub fn wakes_without_waiters_wake_nobody()
+    ensures { WakesWithoutWaitersWakeNobody }
 {}

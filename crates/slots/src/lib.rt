@@ -22,6 +22,7 @@
 //!   `slots_stay_quiet`, `runs_keep_owners`, `runs_keep_turns`: slots, who owns what, and turns. So `all_hold`: each access of a run is its events.
 //! - *Several events at one moment*: `giving_up_leaves_nothing`, `giving_up_is_a_look`, `takes_are_one_exchange`,
 //!   `takes_are_the_exchange`, `announcing_is_one_store`.
+//! - *Newer kernels*: `wakes_without_waiters_wake_nobody`.
 //! - *The turn*: `trims_are_the_machines`, with `releases_tell`, `wakes_of_nobody_tell`, `turns_stay_known`,
 //!   `turns_stay_known_by_all` and `nobody_joins_a_free_mutex`.
 //! - *The heir*: `heirs_let_spare`. `standing_heirs_answer` says which threads are heirs. Heirs stay heirs: `heirs_go_on`,
@@ -50,5 +51,6 @@ pub use laws::{
     slots_run_the_machine, slots_stay_quiet, spares_are_events, standing_heirs_answer,
     takes_are_events, takes_are_one_exchange, takes_are_the_exchange, threads_keep_their_rows,
     trims_are_events, trims_are_the_machines, turns_stay_known, turns_stay_known_by_all,
-    wakes_are_events, wakes_of_nobody_tell, walks_leave_all, walks_leave_heirs, words_stay_sound,
+    wakes_are_events, wakes_of_nobody_tell, wakes_without_waiters_wake_nobody, walks_leave_all,
+    walks_leave_heirs, words_stay_sound,
 };
