@@ -233,10 +233,6 @@ module _ (x : Slots) (t : ℕ) (c : Choice) (g : Stage) where
   unlinked_fits m (OfWait k n true timed) o = finds_fits m (OfWait k n true timed) o
   unlinked_fits m (OfWait k n false timed) o = o
 
-  ours_of : (m : ℕ) (y : Giving) → GivesOurs l m y → IsOurs l m
-  ours_of m (OfUnlock d) o = o
-  ours_of m (OfWait k n slept timed) o = o.ours
-
   hands_fits : (m : ℕ) (y : Giving) (is : ℕ) → GivesOurs l m y → Fits l t (hands_row x t c m y is) g
   hands_fits m y is o = either c.yes (Row.WakesOne m y is) (Row.HandsOn m y is) o o
 

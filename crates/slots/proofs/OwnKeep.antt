@@ -1,9 +1,8 @@
 -- What a thread's own access leaves of the slot and the cell that its row says it owns, and of those that it doesn't own.
-use Rattle.std.proofs.Common.{◌≡◌, ◌≢◌, ℕ, ◌+◌, ◌*◌, ◌/◌, ◌%◌, ◌<◌, ◌≤◌, ◌==◌, Bool, true, false, [], ◌∷◌, refl, sym, ap, ◌∙◌, subst, arith, eqb-true, bit_and, bit_or}
+use Rattle.std.proofs.Common.{◌≡◌, ◌≢◌, ℕ, ◌+◌, ◌%◌, ◌<◌, ◌≤◌, ◌==◌, Bool, true, false, [], ◌∷◌, refl, sym, ap, ◌∙◌, subst, arith, eqb-true, bit_and, bit_or}
 use Rattle.std.specs.Prelude.{if◌then◌else◌, not, ◌&&◌, ◌||◌, ◌-◌}
 use Rattle.std.proofs.lemmas.Bool.{eqb-false}
-use Rattle.lockword.specs.Cells.{Fields, fields_of, taken, word_of}
-use Rattle.lockword.specs.Coding.{fields_of-word_of}
+use Rattle.lockword.specs.Cells.{Fields, fields_of}
 use Rattle.lockword.proofs.Bits.{and_declared, or_waiting}
 use Rattle.lockword.specs.Threads.{most_threads}
 use Rattle.lockword.specs.declared.reply.Reply.TheVariants.{OK, EBUSY, EDEADLK, EINVAL, ETIMEDOUT, ENOTRECOVERABLE}
@@ -36,9 +35,8 @@ use Rattle.slots.specs.Invariant.{fields_at}
 use Rattle.slots.specs.Fits.{AreOfUs, Fits, GivesOurs, IsOurs}
 use Rattle.slots.specs.Accesses.{IsAlongList}
 use Rattle.slots.specs.Premises.{Holds, Owning, OwnsNot, SleepsWithout, died_of}
-use Rattle.slots.proofs.FitsOn.{waiting_fields}
 use Rattle.slots.proofs.Leading.{by_test}
-use Rattle.slots.proofs.ShownWords.{IsReading, Shows, apart_words, missed_word, reads, shows_at}
+use Rattle.slots.proofs.ShownWords.{different, taken_died, taken_owner, waiting_not, IsReading, Shows, apart_words, missed_word, reads, shows_at}
 use Rattle.slots.proofs.Owned.{our_cell, our_slot}
 use Rattle.slots.proofs.Shows.{IsOfWord, cell_valid, changes}
 
@@ -134,9 +132,6 @@ module _ (x y : Slots) (t : ℕ) (c : Choice) (inv : Kept x.machine) (pos : 1 �
   sleeps_still m Sleeps ours keeps w = not_still m ours keeps w
 
   -- a word of the slot after AWAKE is said or cleared, after it is taken, declared
-  different : (m : ℕ) → cell_of m ≢ slot_of m
-  different m e = absurd (let f : 2 * m ≡ 2 * m + 1 = e in omega (arith, f))
-
   -- an access of the slot leaves the cell
   at_slot_not : (m : ℕ) → IsOurs l m → (a : Access) → address_of a ≡ cell_in l t (slot_of m) → Is a → OwnsNot x.machine t m → OwnsNot y.machine t m
   at_slot_not m ours a at is w = not_still m ours (others_keep a (slot_of m) (our_slot l m ours) at is (cell_of m) (our_cell l m ours) (different m)) w
@@ -213,11 +208,6 @@ module _ (x y : Slots) (t : ℕ) (c : Choice) (inv : Kept x.machine) (pos : 1 �
   out_owning : (k : Taking) → Slot k.mutex false → Owns (out_of x t c k)
   out_owning k n = either (k.timed && c.yes) (Row.Frees k (Fails ETIMEDOUT)) (Row.Frees k Sleeps) (n.0, tt) n
 
-  missed_owning : (a : Access) (k : Taking) (h : How) (w : ℕ) → IsOurs l k.mutex → V (cell_of k.mutex) ≡ w → Owns (missed x t c a k h w).next
-  missed_owning a k Tried w ours e = seen_owning (later k) w ours e
-  missed_owning a k Later w ours e = seen_owning k w ours e
-  missed_owning a k (Waited z) w ours e = seen_owning k w ours e
-
   marked_owning : (k : Taking) (h : How) (v : ℕ) (n : Then) → OwnsNot y.machine t k.mutex → Owns (marked_row x t c k h v n)
   marked_owning k h v (ToSlot sl) w = w
   marked_owning k (Waited z) v ToSleep w = tt
@@ -234,21 +224,9 @@ module _ (x y : Slots) (t : ℕ) (c : Choice) (inv : Kept x.machine) (pos : 1 �
   pub hit : (k v n : ℕ) → k < l.mutexes → (W k == v) ≡ true → Is (Access.Exchange (cell_in l t k) v n) → V k ≡ n
   hit k v n inside e is = its_word (Access.Exchange (cell_in l t k) v n) k tt inside refl is ∙ ap (λ (b : Bool). if b then n else W k) e
 
-  waiting_not : (k v : ℕ) → (fields_of v).owner ≢ t → (fields_of (waiting_word v)).owner ≢ t
-  waiting_not k v apart own = apart (sym (ap (λ (f : Fields). f.owner) (waiting_fields v)) ∙ own)
-
-  pub taken_is : (v : ℕ) → fields_of (word_of (taken (fields_of v) t)) ≡ taken (fields_of v) t
-  taken_is v = fields_of-word_of (taken (fields_of v) t) small
-
-  taken_owner : (v : ℕ) → (fields_of (taken_word v t)).owner ≡ t
-  taken_owner v = (let u : ℕ = word_of (taken (fields_of v) t) in let e : (u + 8589934592) % 1073741824 ≡ u % 1073741824 = omega arith in e) ∙ ap (λ (f : Fields). f.owner) (taken_is v)
-
-  taken_died : (v : ℕ) → (fields_of (taken_word v t)).died ≡ (fields_of v).died
-  taken_died v = ap (λ (z : ℕ). z == 1) (let u : ℕ = word_of (taken (fields_of v) t) in let e : (u + 8589934592) / 1073741824 % 2 ≡ u / 1073741824 % 2 = omega arith in e) ∙ ap (λ (f : Fields). f.died) (taken_is v)
-
   slot_taken : (k : Taking) (sl : ℕ) → IsOurs l k.mutex → (W (slot_of k.mutex) == sl) ≡ true → OwnsNot x.machine t k.mutex → Is (Access.Exchange (cell_in l t (slot_of k.mutex)) sl (taken_word sl t)) → Slot k.mutex (fields_of sl).died
   slot_taken k sl ours e n is = (
-    record { owner = owner_y (slot_of k.mutex) (taken_word sl t) inside found ∙ taken_owner sl; died = died_y (slot_of k.mutex) (taken_word sl t) inside found ∙ taken_died sl },
+    record { owner = owner_y (slot_of k.mutex) (taken_word sl t) inside found ∙ taken_owner t sl small; died = died_y (slot_of k.mutex) (taken_word sl t) inside found ∙ taken_died t sl small },
     at_slot_not k.mutex ours (Access.Exchange (cell_in l t (slot_of k.mutex)) sl (taken_word sl t)) refl is n,
   )
     where
@@ -324,8 +302,8 @@ module _ (x y : Slots) (t : ℕ) (c : Choice) (inv : Kept x.machine) (pos : 1 �
   abbrev pub IsApartFromCells : Row → Type 0
   IsApartFromCells r = (k : ℕ) → k < l.mutexes → cell_place l k ≢ place_met l t (made x t c r).access
 
-  along : (here behind : Row) (a : Access) → AllKeep → (AllKeep → Owns here) → (AllKeep → Owns behind) → Owns (if is_on_list ((run x.machine (Step t ∷ [])).threads t).stage then here else behind)
-  along here behind a keeps now then_on = either (is_on_list ((run x.machine (Step t ∷ [])).threads t).stage) here behind (now keeps) (then_on keeps)
+  along : (here behind : Row) → AllKeep → (AllKeep → Owns here) → (AllKeep → Owns behind) → Owns (if is_on_list ((run x.machine (Step t ∷ [])).threads t).stage then here else behind)
+  along here behind keeps now then_on = either (is_on_list ((run x.machine (Step t ∷ [])).threads t).stage) here behind (now keeps) (then_on keeps)
 
   on_list : (r : Row) → IsApartFromCells r → Is (made x t c r).access → AllKeep
   on_list r apart is = by_place (made x t c r).access (place_met l t (made x t c r).access) refl apart is
@@ -353,14 +331,11 @@ module _ (x y : Slots) (t : ℕ) (c : Choice) (inv : Kept x.machine) (pos : 1 �
   freeing : (k : Taking) (f : Onward) → IsOurs l k.mutex → AllKeep → Holds x.machine t (slot_of k.mutex) false × SleepsWithout x.machine t k.mutex f → Holds y.machine t (slot_of k.mutex) false × SleepsWithout y.machine t k.mutex f
   freeing k f ours all (h, w) = (holds_slot k.mutex false ours all h, sleeps_still k.mutex f ours (all (cell_of k.mutex) (our_cell l k.mutex ours)) w)
 
-  exchange : ℕ → ℕ → ℕ → Access
-  exchange k v n = Access.Exchange (cell_in l t k) v n
-
   marks_owning : (k : Taking) (v : ℕ) (n : Then) → IsOurs l k.mutex → OwnsNot x.machine t k.mutex → (fields_of v).owner ≢ t → Leads (made x t c (Row.Marks k v n))
   marks_owning k v n ours w other = by_test Leads (W (cell_of k.mutex) == v)
       (makes (Access.Exchange (cell_at k.mutex) v (waiting_word v)) (marked_events x t c k k.how) (marked_row x t c k k.how v n))
       (missed x t c (Access.Exchange (cell_at k.mutex) v (waiting_word v)) k k.how (W (cell_of k.mutex)))
-      (λ e is none. marked_owning k k.how v n (not_seen k.mutex (waiting_word v) ours (hit (cell_of k.mutex) v (waiting_word v) (our_cell l k.mutex ours) e is) (waiting_not 0 v other)))
+      (λ e is none. marked_owning k k.how v n (not_seen k.mutex (waiting_word v) ours (hit (cell_of k.mutex) v (waiting_word v) (our_cell l k.mutex ours) e is) (waiting_not t v other)))
       (λ e is none. miss k.how e is)
     where
       keeps : (W (cell_of k.mutex) == v) ≡ false → Is (Access.Exchange (cell_at k.mutex) v (waiting_word v)) → V (cell_of k.mutex) ≡ W (cell_of k.mutex)
@@ -377,7 +352,7 @@ module _ (x y : Slots) (t : ℕ) (c : Choice) (inv : Kept x.machine) (pos : 1 �
       (makes (Access.Exchange (cell_at k.mutex) v (waiting_word v)) [] (Row.HeirPends k Again))
       (λ e is none. out_owning k (
         at_cell_slot k.mutex false ours (Access.Exchange (cell_at k.mutex) v (waiting_word v)) refl is h,
-        not_seen k.mutex (waiting_word v) ours (hit (cell_of k.mutex) v (waiting_word v) (our_cell l k.mutex ours) e is) (waiting_not 0 v other),
+        not_seen k.mutex (waiting_word v) ours (hit (cell_of k.mutex) v (waiting_word v) (our_cell l k.mutex ours) e is) (waiting_not t v other),
       ))
       (λ e is none. still (none refl) (Row.HeirPends k Again) (h, w))
 
@@ -457,7 +432,7 @@ module _ (x y : Slots) (t : ℕ) (c : Choice) (inv : Kept x.machine) (pos : 1 �
   owning_row (Row.SlotTakes k sl) g o w apart is none = slot_takes_owning k sl o.0.ours w is none
   owning_row (Row.SlotLeft k) g o w apart is none = not_cell k.mutex o.ours (by_pending _ is) w
   owning_row (Row.SeesToSleep k) g o w apart is none = to_sleep_owning k (W (cell_of k.mutex)) (not_cell k.mutex o.0.ours (by_reading (Access.Load (cell_at k.mutex)) tt is) w)
-  owning_row (Row.SlotLinks k d) g o w apart is none = along (Row.SlotLinks k d) (if d then Row.SlotClears k else Row.HeirPends k Linked) (made x t c (Row.SlotLinks k d)).access (on_list (Row.SlotLinks k d) (apart tt) is) (λ all. slot_still k.mutex d o.ours all w) (λ all. linked_owning k d (slot_still k.mutex d o.ours all w))
+  owning_row (Row.SlotLinks k d) g o w apart is none = along (Row.SlotLinks k d) (if d then Row.SlotClears k else Row.HeirPends k Linked) (on_list (Row.SlotLinks k d) (apart tt) is) (λ all. slot_still k.mutex d o.ours all w) (λ all. linked_owning k d (slot_still k.mutex d o.ours all w))
   owning_row (Row.SlotClears k) g o w apart is none = slot_still k.mutex true o.ours (by_pending 0 is) w
   owning_row (Row.SlotQuiets k) g o w apart is none = still (none refl) (Row.SlotMends k) w
   owning_row (Row.SlotMends k) g o w apart is none = declared k o.ours w is
@@ -469,13 +444,13 @@ module _ (x y : Slots) (t : ℕ) (c : Choice) (inv : Kept x.machine) (pos : 1 �
   owning_row (Row.HeirPendsOn k v over) g o w apart is none = watched_owning k v over (still (none refl) (Row.HeirSets k) w)
   owning_row (Row.HeirTakes k v) g o w apart is none = heir_takes_owning k v o.0.ours w is none
   owning_row (Row.HeirHas k r) g o w apart is none = still (none refl) (Row.HeirLinks k r) w
-  owning_row (Row.HeirLinks k r) g o w apart is none = along (Row.HeirLinks k r) (Row.Frees k (Has r)) (made x t c (Row.HeirLinks k r)).access (on_list (Row.HeirLinks k r) (apart tt) is) (λ all. holds_slot k.mutex false o.ours all w) (λ all. (holds_slot k.mutex false o.ours all w, tt))
+  owning_row (Row.HeirLinks k r) g o w apart is none = along (Row.HeirLinks k r) (Row.Frees k (Has r)) (on_list (Row.HeirLinks k r) (apart tt) is) (λ all. holds_slot k.mutex false o.ours all w) (λ all. (holds_slot k.mutex false o.ours all w, tt))
   owning_row (Row.GivesUp k) g o w apart is none = still (none refl) (Row.LastLooks k) w
   owning_row (Row.LastLooks k) g o w apart is none = last_owning k o.ours w is none
   owning_row (Row.LastMarks k v) g o w apart is none = last_marks_owning k v o.0.ours w o.1.other is none
   owning_row (Row.HeirWakes k) g o w apart is none = (holds_slot k.mutex false o.ours (by_reading (Access.Wake (cell_at k.mutex) most_threads) tt is) w, tt)
   owning_row (Row.Frees k f) g o w apart is none = freeing k f o.ours (by_pending _ is) w
-  owning_row (Row.FreeUnlinks k f) g o w apart is none = along (Row.FreeUnlinks k f) (Row.FreeGives k f) (made x t c (Row.FreeUnlinks k f)).access (on_list (Row.FreeUnlinks k f) (apart tt) is) (λ all. freeing k f o.ours all w) (λ all. freeing k f o.ours all w)
+  owning_row (Row.FreeUnlinks k f) g o w apart is none = along (Row.FreeUnlinks k f) (Row.FreeGives k f) (on_list (Row.FreeUnlinks k f) (apart tt) is) (λ all. freeing k f o.ours all w) (λ all. freeing k f o.ours all w)
   owning_row (Row.FreeGives k f) g o w apart is none = freed_owning k f (sleeps_still k.mutex f o.ours (others_keep (Access.FetchXor (slot_at k.mutex) t) (slot_of k.mutex) (our_slot l k.mutex o.ours) refl is (cell_of k.mutex) (our_cell l k.mutex o.ours) (different k.mutex)) w.1)
   owning_row (Row.TryLooks m) g o w apart is none = either_made (is_free (W (cell_of m))) (makes (Access.Load (cell_at m)) [] (Row.TryPends m (W (cell_of m)))) (makes (Access.Load (cell_at m)) (Event.Begin t (OnMutex (TryLock (cell_of m))) ∷ Step t ∷ Step t ∷ Step t ∷ []) Row.Rests) tt tt
   owning_row (Row.TryPends m v) g o w apart is none = tt
@@ -485,7 +460,7 @@ module _ (x y : Slots) (t : ℕ) (c : Choice) (inv : Kept x.machine) (pos : 1 �
       (λ e is none. holds_seen m (W (cell_of m)) (fields_of (W (cell_of m))).died o (by_reading (Access.Load (cell_at m)) tt is (cell_of m) (our_cell l m o)) (eqb-true (fields_of (W (cell_of m))).owner t e) refl) (λ e is none. tt) is none
   owning_row (Row.GivePends m (OfUnlock d)) g o w apart is none = holds_cell m d o (by_pending _ is) w
   owning_row (Row.GivePends m (OfWait k n slept timed)) g o w apart is none = holds_cell m false o.ours (by_pending _ is) w
-  owning_row (Row.GiveUnlinks m y) g o w apart is none = along (Row.GiveUnlinks m y) (unlinked_row x t c m y) (made x t c (Row.GiveUnlinks m y)).access (on_list (Row.GiveUnlinks m y) (apart tt) is) (λ all. holds_cell m (died_of y) (gives_ours m y o) all w) (λ all. unlinked_owning m y (holds_cell m (died_of y) (gives_ours m y o) all w))
+  owning_row (Row.GiveUnlinks m y) g o w apart is none = along (Row.GiveUnlinks m y) (unlinked_row x t c m y) (on_list (Row.GiveUnlinks m y) (apart tt) is) (λ all. holds_cell m (died_of y) (gives_ours m y o) all w) (λ all. unlinked_owning m y (holds_cell m (died_of y) (gives_ours m y o) all w))
   owning_row (Row.GiveFinds m y) g o w apart is none = let h = still (none refl) (Row.GiveFinds m y) w in either c.again (Row.GiveFinds m y) (Row.Gives m y) h h
   owning_row (Row.Gives m y) g o w apart is none = released_owning m y (W (cell_of m))
   owning_row (Row.HandsOn m y n) g o w apart is none = either_made (shows_heir (W (slot_of m)) && c.yes) (makes (Access.Load (slot_at m)) (Spare t (heir_of x.machine t (cell_of m)) ∷ []) (given_row x t c m y)) (makes (Access.Load (slot_at m)) [] (Row.LooksBack m y n)) (given_owning m y) tt

@@ -32,8 +32,8 @@ use Rattle.slots.specs.Fits.{AreOfUs, Fits, GivesOurs, IsOurs}
 use Rattle.slots.specs.Premises.{Owning}
 use Rattle.slots.proofs.Leading.{by_test}
 use Rattle.slots.proofs.Owned.{our_cell, our_slot}
-use Rattle.slots.proofs.OwnKeep.{by_counter, by_miss, by_pending, by_place, by_reading, hit, its_word, others_keep, says_x, taken_is}
-use Rattle.slots.proofs.ShownWords.{IsReading}
+use Rattle.slots.proofs.OwnKeep.{by_counter, by_miss, by_pending, by_place, by_reading, hit, its_word, others_keep, says_x}
+use Rattle.slots.proofs.ShownWords.{taken_is, IsReading}
 
 -- the same WAITERS, and the same UNUSABLE
 abbrev pub Alike : ℕ → ℕ → Type 0
@@ -90,8 +90,8 @@ module _ (x y : Slots) (t : ℕ) (c : Choice) (inv : Kept x.machine) (pos : 1 �
 
   taken_alike : (v : ℕ) → Alike (taken_word v t) v
   taken_alike v = (
-    ap (λ (z : ℕ). z == 1) (let u : ℕ = word_of (taken (fields_of v) t) in let e : (u + 8589934592) / 2147483648 % 2 ≡ u / 2147483648 % 2 = omega arith in e) ∙ ap (λ (f : Fields). f.waiters) (taken_is x y t c inv pos known small same v),
-    ap (λ (z : ℕ). z == 1) (let u : ℕ = word_of (taken (fields_of v) t) in let e : (u + 8589934592) / 4294967296 % 2 ≡ u / 4294967296 % 2 = omega arith in e) ∙ ap (λ (f : Fields). f.unusable) (taken_is x y t c inv pos known small same v),
+    ap (λ (z : ℕ). z == 1) (let u : ℕ = word_of (taken (fields_of v) t) in let e : (u + 8589934592) / 2147483648 % 2 ≡ u / 2147483648 % 2 = omega arith in e) ∙ ap (λ (f : Fields). f.waiters) (taken_is t v small),
+    ap (λ (z : ℕ). z == 1) (let u : ℕ = word_of (taken (fields_of v) t) in let e : (u + 8589934592) / 4294967296 % 2 ≡ u / 4294967296 % 2 = omega arith in e) ∙ ap (λ (f : Fields). f.unusable) (taken_is t v small),
   )
 
   slot_taken : (m sl : ℕ) (es : List Event) → IsOurs l m → (W (slot_of m) == sl) ≡ true → Quiet_at (Access.Exchange (cell_in l t (slot_of m)) sl (taken_word sl t)) es

@@ -1,13 +1,16 @@
 -- What memory shows of a mutex's owner and flags, and which accesses leave a word as it is.
+use Rattle.slots.specs.Table.{taken_word, waiting_word}
+use Rattle.slots.proofs.FitsOn.{waiting_fields}
+use Rattle.lockword.specs.Coding.{fields_of-word_of}
 use Rattle.std.proofs.Common.{◌≡◌, ◌≢◌, ℕ, ◌+◌, ◌*◌, ◌/◌, ◌%◌, ◌<◌, ◌==◌, Bool, true, false, refl, sym, ap, ◌∙◌, subst, arith}
 use Rattle.std.specs.Prelude.{if◌then◌else◌, ◌&&◌}
-use Rattle.lockword.specs.Cells.{bit, fields_of}
+use Rattle.lockword.specs.Cells.{bit, fields_of, Fields, taken, word_of}
 use Rattle.stepprograms.specs.declared.access.Access.{Access}
 use Rattle.stepprograms.specs.Accesses.{word_among}
 use Rattle.memorymap.specs.Layouts.{cell_place, place_in}
 use Rattle.protocol.specs.Machine.{State, is_met, place_met, put, words_after}
 use Rattle.protocol.proofs.Puts.{put-other}
-use Rattle.slots.specs.Places.{is_slot, our_own}
+use Rattle.slots.specs.Places.{is_slot, our_own, cell_of, slot_of}
 use Rattle.slots.specs.Shown.{Slots, shown}
 use Rattle.slots.proofs.Shows.{put_there, shown_cell}
 
@@ -75,3 +78,21 @@ missed_word s t at e n pl place other p = go (is_met s.layout t (Access.Exchange
     go : (b : Bool) → (if b then put s.words (place_in s.layout t at) (if s.words (place_in s.layout t at) == e then n else s.words (place_in s.layout t at)) else s.words) p ≡ s.words p
     go true = ap (λ (d : Bool). put s.words (place_in s.layout t at) (if d then n else s.words (place_in s.layout t at)) p) miss ∙ put_there s.words (place_in s.layout t at) p
     go false = refl
+
+-- ---- words that an exchange leaves
+
+pub waiting_not : (t v : ℕ) → (fields_of v).owner ≢ t → (fields_of (waiting_word v)).owner ≢ t
+waiting_not t v apart own = apart (sym (ap (λ (f : Fields). f.owner) (waiting_fields v)) ∙ own)
+
+pub taken_is : (t v : ℕ) → t < 1073741824 → fields_of (word_of (taken (fields_of v) t)) ≡ taken (fields_of v) t
+taken_is t v small = fields_of-word_of (taken (fields_of v) t) small
+
+pub taken_owner : (t v : ℕ) → t < 1073741824 → (fields_of (taken_word v t)).owner ≡ t
+taken_owner t v small = (let u : ℕ = word_of (taken (fields_of v) t) in let e : (u + 8589934592) % 1073741824 ≡ u % 1073741824 = omega arith in e) ∙ ap (λ (f : Fields). f.owner) (taken_is t v small)
+
+pub taken_died : (t v : ℕ) → t < 1073741824 → (fields_of (taken_word v t)).died ≡ (fields_of v).died
+taken_died t v small = ap (λ (z : ℕ). z == 1) (let u : ℕ = word_of (taken (fields_of v) t) in let e : (u + 8589934592) / 1073741824 % 2 ≡ u / 1073741824 % 2 = omega arith in e) ∙ ap (λ (f : Fields). f.died) (taken_is t v small)
+
+-- a cell is no slot
+pub different : (m : ℕ) → cell_of m ≢ slot_of m
+different m e = absurd (let f : 2 * m ≡ 2 * m + 1 = e in omega (arith, f))
