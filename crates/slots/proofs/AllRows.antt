@@ -20,21 +20,21 @@ use Rattle.slots.proofs.MachineRuns.{next_is, runs_are}
 use Rattle.slots.proofs.Others.{others_still}
 
 -- a run from a reached state comes to one, of the same layout
-reached_run : (s : State) (es : List Event) → IsReached s → IsReached (run s es)
+pub reached_run : (s : State) (es : List Event) → IsReached s → IsReached (run s es)
 reached_run s [] r = r
 reached_run s (e ∷ es) r = reached_run (happens s e).state es (reached_next s e r)
 
-layout_run : (s : State) (es : List Event) → Kept s → (run s es).layout ≡ s.layout
+pub layout_run : (s : State) (es : List Event) → Kept s → (run s es).layout ≡ s.layout
 layout_run s [] inv = refl
 layout_run s (e ∷ es) inv = layout_run (happens s e).state es (sound s e inv).kept ∙ (sound s e inv).same
 
 -- a thread that stands still is at its row still
-still_there : (x y : Slots) (u : ℕ) → StandsStill x y u → IsAtItsRow x u → IsAtItsRow y u
+pub still_there : (x y : Slots) (u : ℕ) → StandsStill x y u → IsAtItsRow x u → IsAtItsRow y u
 still_there x y u still here lives =
     subst (λ (r : Row). StandsAs r (y.machine.threads u).stage) (sym still.row)
     (subst (λ (z : Thread). StandsAs (x.rows u) z.stage) (sym still.thread) (here (sym (ap (λ (z : Thread). is_alive z.stage) still.thread) ∙ lives)))
 
-one_more : (x : Slots) (h : Happening) (u : ℕ) → IsReached x.machine → 1 ≤ who h → who h ≤ x.machine.layout.threads → Grants x h → ((v : ℕ) → 1 ≤ v → v ≤ x.machine.layout.threads → IsAtItsRow x v) → 1 ≤ u → u ≤ x.machine.layout.threads → IsAtItsRow (next x h) u
+pub one_more : (x : Slots) (h : Happening) (u : ℕ) → IsReached x.machine → 1 ≤ who h → who h ≤ x.machine.layout.threads → Grants x h → ((v : ℕ) → 1 ≤ v → v ≤ x.machine.layout.threads → IsAtItsRow x v) → 1 ≤ u → u ≤ x.machine.layout.threads → IsAtItsRow (next x h) u
 one_more x h u reached pos known grants all first last = go (who h == u) refl
   where
     go : (b : Bool) → (who h == u) ≡ b → IsAtItsRow (next x h) u

@@ -54,6 +54,7 @@ use Rattle.slots.specs.Goes.{LeadsOn}
 use Rattle.slots.proofs.Chains.{clears_more}
 use Rattle.slots.proofs.Counting as counting
 use Rattle.slots.proofs.Free.{reached_kept}
+use Rattle.slots.proofs.Meets.{cell_says}
 use Rattle.slots.proofs.Leading.{IsAt, IsAtWord, Leads, all_still, by_test, call_at, cond_more, is_at, is_at_word, on, put_back, stays, steps_more, unmoved}
 use Rattle.slots.proofs.Mending as mending
 use Rattle.slots.proofs.Releasing as releasing
@@ -90,7 +91,7 @@ module _ (x : Slots) (t : ℕ) (c : Choice) (at : IsAtRow x t) where
   anews_so m v is to = by_test (λ (n : Made). StandsAs n.next ((run z n.events).threads t).stage) (word == v)
       (makes (Access.Exchange (cell_in z.layout t (cell_of m)) v (v - 4294967296 + 8589934592)) (Remake t (cell_of m) ∷ []) Row.Rests)
       (makes (Access.Exchange (cell_in z.layout t (cell_of m)) v (v - 4294967296 + 8589934592)) [] (if (fields_of word).unusable then Row.Anews m word else Row.Rests))
-      (λ e. ap (λ (s : State). (s.threads t).stage) (mending.goes_to x t c at m v is (record { inside = to.inside; found = eqb-true word v e; unusable = to.unusable; died = to.died; room = to.room })) ∙ is)
+      (λ e. ap (λ (s : State). (s.threads t).stage) (mending.goes_to x t c at m v is (record { inside = to.inside; found = eqb-true word v e; unusable = to.unusable; died = to.died (sym (cell_says x m to.inside).unusable ∙ ap (λ (u : ℕ). (fields_of u).unusable) (eqb-true word v e) ∙ to.unusable); room = to.room })) ∙ is)
       (λ e. either (fields_of word).unusable (Row.Anews m word) Row.Rests g is is)
     where
       word : ℕ

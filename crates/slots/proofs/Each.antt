@@ -30,7 +30,7 @@ use Rattle.slots.proofs.HeirRows.{free_word}
 use Rattle.slots.proofs.Leading.{by_test, stays}
 use Rattle.slots.proofs.Looks.{IsQuiet}
 use Rattle.slots.proofs.Marking.{mark_row}
-use Rattle.slots.proofs.Meets.{cell_shows, load_idles, miss_idles, nothing_events}
+use Rattle.slots.proofs.Meets.{cell_says, cell_shows, load_idles, miss_idles, nothing_events}
 use Rattle.slots.proofs.Mending.{mend_row, trim_row}
 use Rattle.slots.proofs.Moving.{hand_row, move_row}
 use Rattle.slots.proofs.OneStep.{AreEvents, clearing_row, list_row}
@@ -164,7 +164,7 @@ module _ (x : Slots) (t : ℕ) (c : Choice) (at : IsAtRow x t) where
   each_row (Row.Mends m) there about a = mend_row x t c at (Row.Mends m) there a
   each_row (Row.AnewLooks m) there about a = load_so (Row.AnewLooks m) (made x t c (Row.AnewLooks m)).next (cell_in z.layout t (cell_of m)) (record { awake = λ a. refl; slept = λ a. refl; turns = λ d a. refl })
   each_row (Row.Anews m v) there about a = by_word (AreEvents x t c (Row.Anews m v) (made x t c (Row.Anews m v))) (cell_of m) v
-      (λ found. mend_row x t c at (Row.Anews m v) there (record { inside = a.inside; found = found; unusable = a.unusable; died = a.died; room = a.room }))
+      (λ found. mend_row x t c at (Row.Anews m v) there (record { inside = a.inside; found = found; unusable = a.unusable; died = a.died (sym (cell_says x m a.inside).unusable ∙ ap (λ (u : ℕ). (fields_of u).unusable) found ∙ a.unusable); room = a.room }))
       (λ other. by_test (AreEvents x t c (Row.Anews m v)) (word (cell_of m) == v)
       (makes (Access.Exchange (cell_in z.layout t (cell_of m)) v (v - 4294967296 + 8589934592)) (Remake t (cell_of m) ∷ []) Row.Rests)
       (makes (Access.Exchange (cell_in z.layout t (cell_of m)) v (v - 4294967296 + 8589934592)) [] (if (fields_of (word (cell_of m))).unusable then Row.Anews m (word (cell_of m)) else Row.Rests))

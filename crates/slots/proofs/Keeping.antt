@@ -39,7 +39,7 @@ use Rattle.slots.proofs.Leading.{by_test}
 use Rattle.slots.proofs.LeadsOn.{rows_lead}
 
 -- a call begins at rest
-rests_at : (r : Row) → is_resting r ≡ true → r ≡ Row.Rests
+pub rests_at : (r : Row) → is_resting r ≡ true → r ≡ Row.Rests
 rests_at Row.Rests e = refl
 rests_at r e = absurd cc
 
@@ -53,12 +53,12 @@ begins_at x held (Row.WaitLooks m k timed) e = refl
 begins_at x held (Row.CountLooks m k all) e = refl
 begins_at x held r e = absurd cc
 
-record Four (a b c d : Bool) : Type 0 where
-  second : b ≡ true
-  third : c ≡ true
-  fourth : d ≡ true
+pub record Four (a b c d : Bool) : Type 0 where
+  pub second : b ≡ true
+  pub third : c ≡ true
+  pub fourth : d ≡ true
 
-all_four : (a b c d : Bool) → (a && b && c && d) ≡ true → Four a b c d
+pub all_four : (a b c d : Bool) → (a && b && c && d) ≡ true → Four a b c d
 all_four true true true true e = record { second = refl; third = refl; fourth = refl }
 all_four true true true false e = absurd cc
 all_four true true false d e = absurd cc
@@ -69,7 +69,7 @@ all_four false b c d e = absurd cc
 dead_still : (w : walks.Standing) (r : walk_row.Row) → is_alive (stage_walked w r) ≡ false
 dead_still w r = grind (arith)
 
-dying_at : (g : Stage) → is_exiting g ≡ true → (w : walks.Standing) × (g ≡ Dying w)
+pub dying_at : (g : Stage) → is_exiting g ≡ true → (w : walks.Standing) × (g ≡ Dying w)
 dying_at (Dying w) e = (w, refl)
 dying_at g e = absurd cc
 
@@ -119,7 +119,7 @@ module _ (x : Slots) (t : ℕ) (reached : Kept x.machine) where
   asleep_so k true timed later there asleep look = let at = subst (λ (i : How). IsToLook k i g) (later timed) look in asleep_late k at.0 there asleep at.1 at.2
   asleep_so k false timed later there asleep look = look
 
-  lapses_so : (r : Row) → StandsAs r g → SleepsLater r → has_thread z t ≡ true → is_asleep z t ≡ true → StandsAs (lapse_row r) ((run z (lapse_events x t r)).threads t).stage
+  pub lapses_so : (r : Row) → StandsAs r g → SleepsLater r → has_thread z t ≡ true → is_asleep z t ≡ true → StandsAs (lapse_row r) ((run z (lapse_events x t r)).threads t).stage
   lapses_so (Row.Asleep k) stands later there asleep = asleep_so k k.timed refl later there asleep stands
   lapses_so (Row.WaitAsleep m k true) stands later there asleep = by_test (λ (es : List Event). IsRetaking k at_load ((run z es).threads t).stage) (stands_in t (z.queues (counter_place z.layout k))) (Expire t ∷ []) (Leave t ∷ []) (λ e. wait_late k (Expire t) stands (inl refl)) (λ e. wait_late k (Leave t) stands (inr refl))
   lapses_so (Row.WaitAsleep m k false) stands later there asleep = stands

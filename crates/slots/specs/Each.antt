@@ -32,11 +32,11 @@ pub record IsToMark (t v : ℕ) : Type 0 where
   pub other : (fields_of v).owner ≢ t
   pub waiters : (fields_of v).waiters ≡ false
 
--- a reinit has seen the word v, which is unusable; and an unusable mutex has no OWNER_DIED
+-- a reinit has seen the word v, which is unusable; and while the mutex is unusable, it has no OWNER_DIED
 pub record IsToRemake (x : Slots) (m v : ℕ) : Type 0 where
   pub inside : cell_of m < x.machine.layout.mutexes
   pub unusable : (fields_of v).unusable ≡ true
-  pub died : (fields_at x.machine (cell_of m)).died ≡ false
+  pub died : (fields_at x.machine (cell_of m)).unusable ≡ true → (fields_at x.machine (cell_of m)).died ≡ false
   pub room : HasRoom x.machine (cell_of m)
 
 -- an heir is about to say that it is awake: the slot's word has its owner alone

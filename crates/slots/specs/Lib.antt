@@ -1,12 +1,15 @@
 pub mod Accesses
 pub mod Each
+pub mod Fits
 pub mod Further
 pub mod Goes
 pub mod Heirs
 pub mod Invariant
+pub mod Kernels
 pub mod Laws
 pub mod Moments
 pub mod Places
+pub mod Premises
 pub mod Rows
 pub mod Runs
 pub mod Shown

@@ -1,6 +1,6 @@
 -- What can happen: accesses of our calls, in any order; interruptions, timeouts and deaths at any moment; the kernel's
 -- walks; and ids that are used again.
-use Rattle.std.specs.Prelude.{ℕ, ◌==◌, ◌&&◌, not, nat_lt, slice_index, Bool, true, false, List, [], ◌∷◌, ◌++◌, if◌then◌else◌}
+use Rattle.std.specs.Prelude.{ℕ, ◌==◌, ◌&&◌, not, nat_lt, length, slice_index, Bool, true, false, List, [], ◌∷◌, ◌++◌, if◌then◌else◌}
 use Rattle.memorymap.specs.Layouts.{Layout', counter_place}
 use Rattle.protocol.specs.declared.event.Event.{Event}
 use Rattle.protocol.specs.declared.event.Event.TheVariants.{Step, Kill, Leave, Expire, Renew}
@@ -52,7 +52,7 @@ abbrev pub is_ours : Layout' → ℕ → Bool
 is_ours l m = nat_lt m (our_mutexes l)
 
 abbrev pub is_of : Layout' → ℕ → ℕ → Bool
-is_of l m k = is_ours l m && (slice_index l.conditions k == cell_of m)
+is_of l m k = is_ours l m && nat_lt k (length l.conditions) && (slice_index l.conditions k == cell_of m)
 
 abbrev pub is_first : How → Bool
 is_first Tried = true

@@ -4,6 +4,8 @@ ghost use Rattle.slots.specs.Accesses.{ClearingRowsAreEvents, ListRowsAreEvents,
 ghost use Rattle.slots.specs.Accesses.{MissesAreNoEvents, PendingAgainIsNoEvent, ReleasesAreEvents};
 ghost use Rattle.slots.specs.Accesses.{TakesAreEvents, WakesAreEvents};
 ghost use Rattle.slots.specs.Each.{EachAccessIsEvents};
+ghost use Rattle.slots.specs.Fits.{NextRowsFit};
+ghost use Rattle.slots.specs.Premises.{AllHold, PremisesFollow, RunsKeepOwners, RunsKeepTurns, SlotsStayQuiet, WordsStaySound};
 ghost use Rattle.slots.specs.Goes.{OthersStandStill, RowsLeadOn, RunsKeepTheirRows};
 ghost use Rattle.slots.specs.Goes.{AccessesOfRunsAreEvents, ThreadsKeepTheirRows};
 ghost use Rattle.slots.specs.Further.{AnnouncedReleasesAreEvents, CountsAreEvents, DecidingLooksAreEvents};
@@ -11,6 +13,7 @@ ghost use Rattle.slots.specs.Further.{FirstLooksAreEvents, MarksAreEvents, Mends
 ghost use Rattle.slots.specs.Further.{SleepsAreEvents, SparesAreEvents, TrimsAreEvents};
 ghost use Rattle.slots.specs.Heirs.{DeathsLeaveAll, DeathsLeaveHeirs, OthersAnswerStill, OthersLeaveHeirs};
 ghost use Rattle.slots.specs.Heirs.{OthersLeaveWhatIsOwned, WalksLeaveAll, WalksLeaveHeirs};
+ghost use Rattle.slots.specs.Kernels.{WakesWithoutWaitersWakeNobody};
 ghost use Rattle.slots.specs.Laws.{HeirsLetSpare, NobodyJoinsAFreeMutex, ReleasesTell, SlotsRunTheMachine};
 ghost use Rattle.slots.specs.Laws.{StandingHeirsAnswer, TrimsAreTheMachines, TurnsStayKnown};
 ghost use Rattle.slots.specs.Laws.{TurnsStayKnownByAll, WakesOfNobodyTell};
@@ -299,4 +302,51 @@ pub fn runs_keep_their_rows()
 /// table has for it.
 pub fn accesses_of_runs_are_events()
     ensures { AccessesOfRunsAreEvents }
+{}
+
+/// A row's mutex and condition variable are the layout's, and the words that its call has seen say what led the call there.
+/// After each access, whatever it finds, this holds of the next row.
+pub fn next_rows_fit()
+    ensures { NextRowsFit }
+{}
+
+/// In any run, what happenings assume follows from less: rows fit, calls are about their rows' mutexes, sleeps with a deadline
+/// are of locks that have been to the slot or have slept, and dead threads are in none of our calls. What is still assumed
+/// of an access is named (`specs/Premises.antt`).
+pub fn premises_follow()
+    ensures { PremisesFollow }
+{}
+
+/// In every state of the machine, nothing is above UNUSABLE in the word of a mutex, and an unusable mutex has no OWNER_DIED.
+pub fn words_stay_sound()
+    ensures { WordsStaySound }
+{}
+
+/// In any run, nobody sleeps on a slot: its WAITERS is never set, and it is never unusable.
+pub fn slots_stay_quiet()
+    ensures { SlotsStayQuiet }
+{}
+
+/// In any run, each thread owns the slot and the cell that its row says, marked or not. A lock that has been to the slot
+/// doesn't own the cell.
+pub fn runs_keep_owners()
+    ensures { RunsKeepOwners }
+{}
+
+/// In any run, a call that has released its mutex in an unlock knows the mutex's turn, up to its trim: the mutex was taken or
+/// reinitialised since, or nobody owns it.
+pub fn runs_keep_turns()
+    ensures { RunsKeepTurns }
+{}
+
+/// In any run, each access of a thread that lives and is awake is the events that the table has for it. What is still assumed
+/// is named (`specs/Premises.antt`).
+pub fn all_hold()
+    ensures { AllHold }
+{}
+
+/// In every state of the machine, nobody sleeps on a mutex whose word has no WAITERS, and a wake there changes nothing. Newer
+/// kernels' walks make such a wake, at the pending word of a mutex that another thread owns.
+pub fn wakes_without_waiters_wake_nobody()
+    ensures { WakesWithoutWaitersWakeNobody }
 {}

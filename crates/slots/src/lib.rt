@@ -17,9 +17,12 @@
 //!   `pending_again_is_no_event`); sleeps (`sleeps_are_events`), wakes (`wakes_are_events`) and moves
 //!   (`moves_are_events`); counters (`counts_are_events`); AWAKE (`awake_is_set`, `awake_is_cleared`).
 //! - *Runs of the layer*: `others_stand_still`, `rows_lead_on`, `threads_keep_their_rows`,
-//!   `runs_keep_their_rows`, `accesses_of_runs_are_events`.
+//!   `runs_keep_their_rows`, `accesses_of_runs_are_events`; `next_rows_fit`, and so `premises_follow`: what rows assume of
+//!   their mutexes and of the words that they have seen. `words_stay_sound`: the machine's words of mutexes.
+//!   `slots_stay_quiet`, `runs_keep_owners`, `runs_keep_turns`: slots, who owns what, and turns. So `all_hold`: each access of a run is its events.
 //! - *Several events at one moment*: `giving_up_leaves_nothing`, `giving_up_is_a_look`, `takes_are_one_exchange`,
 //!   `takes_are_the_exchange`, `announcing_is_one_store`.
+//! - *Newer kernels*: `wakes_without_waiters_wake_nobody`.
 //! - *The turn*: `trims_are_the_machines`, with `releases_tell`, `wakes_of_nobody_tell`, `turns_stay_known`,
 //!   `turns_stay_known_by_all` and `nobody_joins_a_free_mutex`.
 //! - *The heir*: `heirs_let_spare`. `standing_heirs_answer` says which threads are heirs. Heirs stay heirs: `heirs_go_on`,
@@ -28,23 +31,26 @@
 //!
 //! So each access is its events, at every row, and whatever it finds: `each_access_is_events`. The laws of rows name what
 //! they assume: where the machine's thread is (`specs/Stands.antt`), what its call knows, and what a word doesn't have
-//! (`specs/Each.antt`). The crate doesn't prove that every run keeps these assumptions (`UNPROVED.md`).
+//! (`specs/Each.antt`). A part of this is so in every run (`premises_follow`); the rest isn't proved
+//! (`specs/Premises.antt`, `UNPROVED.md`).
 #![tactic(auto)]
 
 mod laws;
 
 pub use laws::{
-    accesses_of_runs_are_events, announced_releases_are_events, announcing_is_one_store,
+    accesses_of_runs_are_events, all_hold, announced_releases_are_events, announcing_is_one_store,
     announcing_rows_are_events, awake_is_cleared, awake_is_set, clearing_rows_are_events,
     counts_are_events, deaths_leave_all, deaths_leave_heirs, deciding_looks_are_events,
     each_access_is_events, first_looks_are_events, giving_up_is_a_look, giving_up_leaves_nothing,
     heir_takes_are_events, heirs_go_on, heirs_let_spare, last_looks_are_events,
     list_rows_are_events, looks_are_events, marks_are_events, mends_are_events,
-    misses_are_no_events, moves_are_events, nobody_joins_a_free_mutex, others_answer_still,
-    others_leave_heirs, others_leave_what_is_owned, others_stand_still, pending_again_is_no_event,
-    releases_are_events, releases_tell, rows_lead_on, runs_keep_their_rows, sleeps_are_events,
-    slots_run_the_machine, spares_are_events, standing_heirs_answer, takes_are_events,
-    takes_are_one_exchange, takes_are_the_exchange, threads_keep_their_rows, trims_are_events,
-    trims_are_the_machines, turns_stay_known, turns_stay_known_by_all, wakes_are_events,
-    wakes_of_nobody_tell, walks_leave_all, walks_leave_heirs,
+    misses_are_no_events, moves_are_events, next_rows_fit, nobody_joins_a_free_mutex,
+    others_answer_still, others_leave_heirs, others_leave_what_is_owned, others_stand_still,
+    pending_again_is_no_event, premises_follow, releases_are_events, releases_tell, rows_lead_on,
+    runs_keep_owners, runs_keep_their_rows, runs_keep_turns, sleeps_are_events,
+    slots_run_the_machine, slots_stay_quiet, spares_are_events, standing_heirs_answer,
+    takes_are_events, takes_are_one_exchange, takes_are_the_exchange, threads_keep_their_rows,
+    trims_are_events, trims_are_the_machines, turns_stay_known, turns_stay_known_by_all,
+    wakes_are_events, wakes_of_nobody_tell, wakes_without_waiters_wake_nobody, walks_leave_all,
+    walks_leave_heirs, words_stay_sound,
 };
