@@ -90,23 +90,56 @@ fn delay(contended: &mut Contended, reapings: &[Reaping], last: u32) {
     }
 }
 
-/// Has the takings as early as they may be.
+/// Has what doomed threads did in their last calls no later than they die, where it may be, and no step later than the
+/// next one.
+fn advance(contended: &mut Contended, doomed: &[Doomed]) {
+    let mut next: u32 = u32::MAX;
+    for back in 1..usize::MAX {
+        let Some(at) = contended.decided.len().checked_sub(back) else {
+            break;
+        };
+        let Some(step) = contended.decided.get_mut(at) else {
+            break;
+        };
+        let mut first = step.begin;
+        if step.operation == Operation::Death {
+            first = step.at;
+        }
+        if let Some(one) = life_of(doomed, step) {
+            if step.operation == Operation::Death {
+                first = one.doom.min(step.at);
+            } else if step.begin == one.begin {
+                next = next.min(one.dies);
+            }
+        }
+        step.at = step.at.min(next).max(first);
+        next = step.at;
+    }
+}
+
+/// Has the takings as early as they may be, and no step earlier than the one before it.
 fn hasten(contended: &mut Contended) {
     let mut before: u32 = 0;
     for step in contended.decided.iter_mut() {
         match step.operation {
             Operation::Lock | Operation::TryLock => step.at = before.max(step.begin),
-            _ => {}
+            _ => step.at = before.max(step.at),
         }
         before = step.at;
     }
 }
 
-/// Moves deaths as far behind, and takings as far ahead, as the other steps let them.
+/// Moves deaths as far behind, and takings as far ahead, as the other steps let them; and what doomed threads did in
+/// their last calls ahead of their deaths.
 pub fn late_deaths(alloc: Global, lines: &[HistoryLine], pass: &mut Pass) -> Result<(), Stop> {
     let reapings = reapings(alloc, lines)?;
     for contended in pass.mutexes.iter_mut() {
         delay(contended, &reapings, last_of(lines));
+    }
+    let mut doomed = last_calls(alloc, lines)?;
+    bound_all(&mut doomed, pass);
+    for contended in pass.mutexes.iter_mut() {
+        advance(contended, &doomed);
         hasten(contended);
     }
     Ok(())
@@ -156,11 +189,23 @@ fn last_calls(alloc: Global, lines: &[HistoryLine]) -> Result<Vec<Doomed>, Stop>
     Ok(doomed)
 }
 
-/// What a step says of when its thread may have died: in the life in which it made the step, which is the first of its
-/// doomed ones that isn't over by then.
-fn bound(doomed: &mut Vec<Doomed>, step: &Step) {
+/// The place of the life in which a thread made a step: the first of its doomed ones that isn't over by then, if any.
+fn place_of_life(doomed: &[Doomed], step: &Step) -> usize {
     let made = (step.thread.get(), step.at);
-    let life = doomed.partition_point(|one| (one.thread.get(), one.reaped) <= made);
+    doomed.partition_point(|one| (one.thread.get(), one.reaped) <= made)
+}
+
+/// That life.
+fn life_of(doomed: &[Doomed], step: &Step) -> Option<Doomed> {
+    match doomed.get(place_of_life(doomed, step)) {
+        Some(one) if one.thread == step.thread => Some(*one),
+        _ => None,
+    }
+}
+
+/// What a step says of when its thread may have died, in the life in which it made the step.
+fn bound(doomed: &mut Vec<Doomed>, step: &Step) {
+    let life = place_of_life(doomed, step);
     let Some(one) = doomed.get_mut(life) else {
         return;
     };
@@ -176,6 +221,15 @@ fn bound(doomed: &mut Vec<Doomed>, step: &Step) {
     }
 }
 
+/// What the steps of all mutexes say of when the doomed threads may have died.
+fn bound_all(doomed: &mut Vec<Doomed>, pass: &Pass) {
+    for contended in &pass.mutexes {
+        for step in &contended.decided {
+            bound(doomed, step);
+        }
+    }
+}
+
 /// When the doomed threads die: behind what their last calls did, and before any of their deaths. The order is that of
 /// these moments.
 pub fn dyings(alloc: Global, lines: &[HistoryLine], pass: &Pass) -> Result<Vec<Dying>, Stop> {
@@ -184,11 +238,7 @@ pub fn dyings(alloc: Global, lines: &[HistoryLine], pass: &Pass) -> Result<Vec<D
     if doomed.is_empty() {
         return Ok(dyings);
     }
-    for contended in &pass.mutexes {
-        for step in &contended.decided {
-            bound(&mut doomed, step);
-        }
-    }
+    bound_all(&mut doomed, pass);
     for one in &doomed {
         if one.dies < one.acts {
             return Err(Stop::Lost);
