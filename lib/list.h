@@ -24,15 +24,21 @@ static inline void put_on_list(struct caller *s, pz_word *entry)
     store_release(s->list, (uint64_t)entry);
 }
 
-/* Takes an entry off, and returns 1; or returns 0 if it isn't on this thread's list. The entry is pending too, so a
- * link that leads to the word of the pending entry is a stray one. */
+/* Whether an entry with these links is on this thread's list. It may be pending too, so a link that leads to the word
+ * of the pending entry is a stray one. */
+static inline int leads_back(const struct caller *s, const pz_word *entry, uint64_t previous, uint64_t next)
+{
+    if (UNLIKELY(load_relaxed(linked(previous)) != (uint64_t)entry || linked(previous) == s->list + 2))
+        return 0;
+    return LIKELY(linked(next) == s->list || load_relaxed(linked(next) - 1) == (uint64_t)entry);
+}
+
+/* Takes an entry off, and returns 1; or returns 0 if it isn't on this thread's list. */
 static inline int take_off_list(struct caller *s, pz_word *entry)
 {
     uint64_t next = load_relaxed(entry), previous = load_relaxed(entry - 1);
     int is_last = linked(next) == s->list;
-    if (UNLIKELY(load_relaxed(linked(previous)) != (uint64_t)entry || linked(previous) == s->list + 2))
-        return 0;
-    if (UNLIKELY(!is_last && load_relaxed(linked(next) - 1) != (uint64_t)entry))
+    if (UNLIKELY(!leads_back(s, entry, previous, next)))
         return 0;
     store_release(linked(previous), next);
     if (!is_last)

@@ -86,9 +86,10 @@ static int free_all(pz_rwlock *l, uint32_t n, uint32_t kept)
     return r ? r : next;
 }
 
-static int take_all(pz_rwlock *l, uint32_t n, const struct how *h)
+/* A caller that would own too many mutexes is refused before it waits, or keeps others waiting. */
+static int take_all(pz_rwlock *l, const struct caller *s, uint32_t n, const struct how *h)
 {
-    int r = take(&l->gate, h);
+    int r = s->owned + n >= PZ_MOST_OWNED ? EAGAIN : take(&l->gate, h);
     if (r)
         return r;
     store_release(wanted(l), 1);
@@ -113,8 +114,21 @@ static int begin_to_write(pz_rwlock *l, struct caller *s, uint32_t n)
     return was == FREE ? 0 : EOWNERDEAD;
 }
 
-static __attribute__((noinline)) int unlock_writer(pz_rwlock *l, uint32_t n)
+static inline int is_listed(pz_mutex *m, const struct caller *s)
 {
+    pz_word *entry = cell_entry(m);
+    return owns(m, s) && leads_back(s, entry, load_relaxed(entry - 1), load_relaxed(entry));
+}
+
+/* Looks at all links before it changes `state`, so that a call by another mapping of the lock, which no mutex's unlock
+ * would accept, leaves the lock as it was. */
+static __attribute__((noinline)) int unlock_writer(pz_rwlock *l, const struct caller *s, uint32_t n)
+{
+    int is_whole = is_listed(&l->gate, s);
+    for (uint32_t i = 0; i < n && is_whole; i++)
+        is_whole = is_listed(lane(l, i), s);
+    if (!is_whole)
+        return EPERM;
     store_release(state(l), load_relaxed(state(l)) == REPAIRS ? LOST : FREE);
     return free_all(l, n, n);
 }
@@ -135,7 +149,7 @@ static int lock_to_write(pz_rwlock *l, const struct how *h)
     uint32_t n = lanes_of(l);
     int r = refusal(l, s, n, h);
     if (!r)
-        r = take_all(l, n, h);
+        r = take_all(l, s, n, h);
     return r ? r : begin_to_write(l, s, n);
 }
 
@@ -174,10 +188,14 @@ static inline int take_same_lane(pz_rwlock *l, struct caller *s, uint32_t n)
     return taken_over(lane(l, s->lane), try_lock(lane(l, s->lane), s));
 }
 
-/* A writer died inside. The caller takes its place, and stays a reader if another thread has repaired the data since. */
+/* The caller owns a lane, and `state` isn't FREE. Unless the lock is unusable, a writer died inside: the caller takes
+ * its place, and stays a reader if another thread has repaired the data since. */
 static __attribute__((noinline, cold)) int recover(pz_rwlock *l, struct caller *s, uint32_t n, const struct how *h)
 {
-    int r = take_all(l, n, h);
+    uint64_t was = load_relaxed(state(l));
+    int r = pz_mutex_unlock(lane(l, s->lane));
+    if (!r)
+        r = was == LOST ? ENOTRECOVERABLE : take_all(l, s, n, h);
     if (r)
         return r;
     if (load_relaxed(state(l)) != FREE)
@@ -198,10 +216,8 @@ static inline __attribute__((always_inline)) int lock_to_read(pz_rwlock *l, cons
         r = take_lane(l, s, n, h);
     if (UNLIKELY(r))
         return r;
-    if (UNLIKELY(load_relaxed(state(l)) != FREE)) {
-        r = pz_mutex_unlock(lane(l, s->lane));
-        return r ? r : recover(l, s, n, h);
-    }
+    if (UNLIKELY(load_relaxed(state(l)) != FREE))
+        return recover(l, s, n, h);
     s->rwlocks++;
     return 0;
 }
@@ -246,7 +262,7 @@ int pz_rwlock_unlock(pz_rwlock *l)
     uint32_t n = lanes_of(l), at = n ? own_lane(l, s, n) : n;
     if (UNLIKELY(at == n))
         return n ? EPERM : EINVAL;
-    int is_writer = load_relaxed(state(l)) != FREE, r = is_writer ? unlock_writer(l, n) : unlock(lane(l, at), s);
+    int is_writer = load_relaxed(state(l)) != FREE, r = is_writer ? unlock_writer(l, s, n) : unlock(lane(l, at), s);
     s->rwlocks -= r == 0;
     return r;
 }
@@ -268,8 +284,11 @@ int pz_rwlock_consistent(pz_rwlock *l)
 
 int pz_rwlock_reinit(pz_rwlock *l)
 {
+    struct caller *s = caller();
+    if (!s)
+        return ENOTSUP;
     uint32_t n = lanes_of(l);
-    int r = n ? take_all(l, n, &tries) : EINVAL;
+    int r = n ? take_all(l, s, n, &tries) : EINVAL;
     if (r)
         return r;
     store_release(state(l), FREE);

@@ -120,7 +120,7 @@ static const struct {
      "pz_rwlock_consistent"},
     {"pz_rwlock_rdlock", EDEADLK, "the caller has the lock already"},
     {"pz_rwlock_rdlock", EAGAIN, "the caller would own more than 2,000 mutexes (PZ_MOST_OWNED); a writer owns one "
-     "more than there are lanes"},
+     "more than there are lanes, and a reader that comes while a writer waits owns the gate for a moment"},
     {"pz_rwlock_rdlock", EINVAL, "the lock has no number of lanes yet, or isn't at a multiple of 64"},
     {"pz_rwlock_rdlock", ENOTSUP, "the kernel or the C library lacks something that the library needs; nothing was "
      "done"},
@@ -129,10 +129,10 @@ static const struct {
      "called pz_rwlock_consistent since"},
     {"pz_rwlock_tryrdlock", ENOTRECOVERABLE, "the lock is unusable: a thread that got EOWNERDEAD unlocked it without "
      "pz_rwlock_consistent"},
-    {"pz_rwlock_tryrdlock", EBUSY, "a writer has the lock or waits for it, or all lanes are taken, even if that is "
-     "by the caller"},
+    {"pz_rwlock_tryrdlock", EBUSY, "the caller has the lock already, a writer has it or waits for it, or all lanes "
+     "are taken; or another thread was in a call that may get the lock"},
     {"pz_rwlock_tryrdlock", EAGAIN, "the caller would own more than 2,000 mutexes (PZ_MOST_OWNED); a writer owns one "
-     "more than there are lanes"},
+     "more than there are lanes, and a reader that comes while a writer waits owns the gate for a moment"},
     {"pz_rwlock_tryrdlock", EINVAL, "the lock has no number of lanes yet, or isn't at a multiple of 64"},
     {"pz_rwlock_tryrdlock", ENOTSUP, "the kernel or the C library lacks something that the library needs; nothing "
      "was done"},
@@ -144,7 +144,7 @@ static const struct {
     {"pz_rwlock_timedrdlock", EDEADLK, "the caller has the lock already"},
     {"pz_rwlock_timedrdlock", ETIMEDOUT, "the time came, and other threads had the lock until then"},
     {"pz_rwlock_timedrdlock", EAGAIN, "the caller would own more than 2,000 mutexes (PZ_MOST_OWNED); a writer owns "
-     "one more than there are lanes"},
+     "one more than there are lanes, and a reader that comes while a writer waits owns the gate for a moment"},
     {"pz_rwlock_timedrdlock", EINVAL, "the lock has no number of lanes yet, or isn't at a multiple of 64; or the "
      "call would have to wait, and tv_nsec isn't 0 to 999,999,999"},
     {"pz_rwlock_timedrdlock", ENOTSUP, "the kernel or the C library lacks something that the library needs; nothing "
@@ -157,7 +157,7 @@ static const struct {
     {"pz_rwlock_clockrdlock", EDEADLK, "the caller has the lock already"},
     {"pz_rwlock_clockrdlock", ETIMEDOUT, "the time came, and other threads had the lock until then"},
     {"pz_rwlock_clockrdlock", EAGAIN, "the caller would own more than 2,000 mutexes (PZ_MOST_OWNED); a writer owns "
-     "one more than there are lanes"},
+     "one more than there are lanes, and a reader that comes while a writer waits owns the gate for a moment"},
     {"pz_rwlock_clockrdlock", EINVAL, "the lock has no number of lanes yet, or isn't at a multiple of 64; or the "
      "clock is neither CLOCK_REALTIME nor CLOCK_MONOTONIC; or the call would have to wait, and tv_nsec isn't 0 to "
      "999,999,999"},
@@ -170,7 +170,7 @@ static const struct {
      "pz_rwlock_consistent"},
     {"pz_rwlock_wrlock", EDEADLK, "the caller has the lock already"},
     {"pz_rwlock_wrlock", EAGAIN, "the caller would own more than 2,000 mutexes (PZ_MOST_OWNED); a writer owns one "
-     "more than there are lanes"},
+     "more than there are lanes, and a reader that comes while a writer waits owns the gate for a moment"},
     {"pz_rwlock_wrlock", EINVAL, "the lock has no number of lanes yet, or isn't at a multiple of 64"},
     {"pz_rwlock_wrlock", ENOTSUP, "the kernel or the C library lacks something that the library needs; nothing was "
      "done"},
@@ -179,9 +179,10 @@ static const struct {
      "called pz_rwlock_consistent since"},
     {"pz_rwlock_trywrlock", ENOTRECOVERABLE, "the lock is unusable: a thread that got EOWNERDEAD unlocked it without "
      "pz_rwlock_consistent"},
-    {"pz_rwlock_trywrlock", EBUSY, "a thread has the lock, even if that is the caller"},
+    {"pz_rwlock_trywrlock", EBUSY, "a thread has the lock, even if that is the caller; or another thread was in a "
+     "call that may get the lock"},
     {"pz_rwlock_trywrlock", EAGAIN, "the caller would own more than 2,000 mutexes (PZ_MOST_OWNED); a writer owns one "
-     "more than there are lanes"},
+     "more than there are lanes, and a reader that comes while a writer waits owns the gate for a moment"},
     {"pz_rwlock_trywrlock", EINVAL, "the lock has no number of lanes yet, or isn't at a multiple of 64"},
     {"pz_rwlock_trywrlock", ENOTSUP, "the kernel or the C library lacks something that the library needs; nothing "
      "was done"},
@@ -193,7 +194,7 @@ static const struct {
     {"pz_rwlock_timedwrlock", EDEADLK, "the caller has the lock already"},
     {"pz_rwlock_timedwrlock", ETIMEDOUT, "the time came, and other threads had the lock until then"},
     {"pz_rwlock_timedwrlock", EAGAIN, "the caller would own more than 2,000 mutexes (PZ_MOST_OWNED); a writer owns "
-     "one more than there are lanes"},
+     "one more than there are lanes, and a reader that comes while a writer waits owns the gate for a moment"},
     {"pz_rwlock_timedwrlock", EINVAL, "the lock has no number of lanes yet, or isn't at a multiple of 64; or the "
      "call would have to wait, and tv_nsec isn't 0 to 999,999,999"},
     {"pz_rwlock_timedwrlock", ENOTSUP, "the kernel or the C library lacks something that the library needs; nothing "
@@ -206,21 +207,22 @@ static const struct {
     {"pz_rwlock_clockwrlock", EDEADLK, "the caller has the lock already"},
     {"pz_rwlock_clockwrlock", ETIMEDOUT, "the time came, and other threads had the lock until then"},
     {"pz_rwlock_clockwrlock", EAGAIN, "the caller would own more than 2,000 mutexes (PZ_MOST_OWNED); a writer owns "
-     "one more than there are lanes"},
+     "one more than there are lanes, and a reader that comes while a writer waits owns the gate for a moment"},
     {"pz_rwlock_clockwrlock", EINVAL, "the lock has no number of lanes yet, or isn't at a multiple of 64; or the "
      "clock is neither CLOCK_REALTIME nor CLOCK_MONOTONIC; or the call would have to wait, and tv_nsec isn't 0 to "
      "999,999,999"},
     {"pz_rwlock_clockwrlock", ENOTSUP, "the kernel or the C library lacks something that the library needs; nothing "
      "was done"},
     {"pz_rwlock_unlock", 0, "the caller no longer has the lock"},
-    {"pz_rwlock_unlock", EPERM, "the caller doesn't have it, or its links were overwritten"},
+    {"pz_rwlock_unlock", EPERM, "the caller doesn't have it; or l is a copy of a lock that the caller has, or "
+     "another mapping of it, or its links were overwritten; nothing was done"},
     {"pz_rwlock_unlock", EINVAL, "the lock has no number of lanes yet, or isn't at a multiple of 64"},
     {"pz_rwlock_unlock", ENOTSUP, "the kernel or the C library lacks something that the library needs; nothing was "
      "done"},
     {"pz_rwlock_consistent", 0, "the lock is declared consistent"},
     {"pz_rwlock_consistent", EPERM, "the caller doesn't have it as a writer"},
     {"pz_rwlock_consistent", EINVAL, "the caller has it as a writer, and no writer died; or the lock has no number "
-     "of lanes yet"},
+     "of lanes yet, or isn't at a multiple of 64"},
     {"pz_rwlock_consistent", ENOTSUP, "the kernel or the C library lacks something that the library needs; nothing "
      "was done"},
     {"pz_rwlock_reinit", 0, "the lock was unusable, or nobody had it: it is free"},

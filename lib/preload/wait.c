@@ -25,8 +25,8 @@
  *            Releases the cell. If it called, or if nobody answers at the bell and nobody owns the cell now: wakes one
  *            thread. If one woke, OWED goes from the cell; if none did, OWED and WAITERS; each only if all 64 bits are
  *            as the release left them
- *   init     By its owner: pending := cell, until the end. Takes it off the list, bell := 0. Releases the cell, with a
- * new turn, without OWED, and with WAITERS if it has that; wakes all. So in both modes
+ *   init     By its owner, in both modes: pending := cell, until the end. Takes it off the list, bell := 0. Releases
+ *            the cell, with a new turn, without OWED, and with WAITERS if it has that; wakes all
  *
  * Why no wake is lost. As a thread dies, Linux marks each listed or pending word that the thread owns, and wakes one
  * that sleeps there if the word has WAITERS or COMES; at a pending word that nobody owns it wakes one; at a pending
@@ -209,6 +209,16 @@ __attribute__((noinline)) int pre_wait(struct mutex *m, struct caller *s, const 
 /* ---- A handler's call during a wait has its own mutex pending until it ends. So before it begins, the wait gives up
  * what it may have been given, just as Linux would if the thread died; it looks again after the handler. */
 
+/* Looks through the list, as the links of a mutex that isn't there are another thread's. */
+static int is_listed(struct mutex *m, struct caller *s)
+{
+    uint64_t entry = load_relaxed(s->list);
+    for (int n = 0; linked(entry) != s->list && n < 2 * PZ_MOST_OWNED; n++, entry = load_relaxed(linked(entry)))
+        if (entry == (uint64_t)cell_entry(m))
+            return 1;
+    return 0;
+}
+
 struct interrupted pre_interrupt(struct caller *s)
 {
     struct interrupted was = {s->waits_for, NULL};
@@ -217,6 +227,9 @@ struct interrupted pre_interrupt(struct caller *s)
     uint32_t heir = COMES | (uint32_t)s->tid;
     was.pending = linked(load_relaxed(s->list + 2));
     s->waits_for = NULL;
+    /* The wait may have taken the cell without listing it yet. It then lists it once more, with the same links. */
+    if (is_owner(was.waits_for, s) && !is_listed(was.waits_for, s))
+        put_on_list(s, cell_entry(was.waits_for));
     atomic_compare_exchange_strong(&was.waits_for->bell, &heir, 0);
     if (was.pending)
         wake(was.pending + FUTEX_OFFSET / (int)sizeof *was.pending, 1);

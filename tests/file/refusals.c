@@ -38,6 +38,10 @@ static void other_numbers(void)
     pz_close(f);
     CHECK(truncate("f", size_of("f") - 1) == 0);
     is_refused("f", TWO, EMEDIUMTYPE);
+    SAME(open_with("g", (struct pz_layout){2, 1, 8, 7, 0, 0}, &f), 0);
+    SAME(open_with("g", (struct pz_layout){2, 1, 8, 7, 0, 8}, &same), 0); /* lanes of no lock don't matter */
+    pz_close(same);
+    pz_close(f);
 }
 
 static void too_much_data(void)

@@ -29,7 +29,8 @@ static int tries_to_write(void)
     int r = pz_rwlock_trywrlock(lock);
     return r ? r : pz_rwlock_unlock(lock);
 }
-/* What a trylock and an unlock return in another process. */
+static int reinits(void) { return pz_rwlock_reinit(lock); }
+/* What a call returns in another process. */
 static int elsewhere(int (*call)(void))
 {
     pid_t p = start_child();
@@ -38,14 +39,15 @@ static int elsewhere(int (*call)(void))
     return status_of(p);
 }
 
-/* Starts a process that locks, tells its reply, and keeps the lock until all->goes is `until`. It then ends with the
- * unlock's reply. */
+/* Starts a process that locks, tells its reply, or -1 if it isn't known then to have the lock, and keeps the lock until
+ * all->goes is `until`. It then ends with the unlock's reply. */
 static pid_t start_holder(int (*call)(pz_rwlock *), int until, _Atomic int *reply)
 {
     pid_t p = start_child();
     if (p)
         return p;
-    *reply = 1000 + call(lock);
+    int r = call(lock);
+    *reply = 1000 + (r == 0 && pz_rwlock_tryrdlock(lock) != EBUSY ? -1 : r);
     while (all->goes < until)
         nap(50);
     _exit(pz_rwlock_unlock(lock));
@@ -61,6 +63,17 @@ static pid_t holder(int (*call)(pz_rwlock *), int until, int number)
     pid_t p = start_holder(call, until, &all->reply[number]);
     EQUAL(reply_of(&all->reply[number]), 0);
     return p;
+}
+/* A reader on the lane that a writer takes first, so that the others stay free. */
+static pid_t holder_of_first_lane(int until)
+{
+    for (;;) {
+        all->reply[0] = 0;
+        pid_t p = holder(pz_rwlock_rdlock, until, 0);
+        if (pz_mutex_owner(&all->lock.parts[2]) == p)
+            return p;
+        kill_child(p);
+    }
 }
 static void dies_inside(int (*call)(pz_rwlock *), int wanted)
 {
@@ -128,6 +141,33 @@ static void refusals(void)
     all->goes = 1;
     EQUAL(status_of(p), 0);
 }
+/* Each deadline comes by its own clock, and not early. */
+static void is_late(int r, clockid_t clock, const struct timespec *until)
+{
+    struct timespec now;
+    EQUAL(r, ETIMEDOUT);
+    clock_gettime(clock, &now);
+    CHECK(now.tv_sec > until->tv_sec || (now.tv_sec == until->tv_sec && now.tv_nsec >= until->tv_nsec));
+}
+static void deadlines(void)
+{
+    static const clockid_t clocks[] = {CLOCK_REALTIME, CLOCK_MONOTONIC};
+    struct timespec t;
+    begin();
+    pid_t p = holder(pz_rwlock_wrlock, 1, 0);
+    for (int i = 0; i < 2; i++) {
+        t = after_us(clocks[i], 10000);
+        is_late(pz_rwlock_clockrdlock(lock, clocks[i], &t), clocks[i], &t);
+        t = after_us(clocks[i], 10000);
+        is_late(pz_rwlock_clockwrlock(lock, clocks[i], &t), clocks[i], &t);
+    }
+    t = after_us(CLOCK_REALTIME, 10000);
+    is_late(pz_rwlock_timedrdlock(lock, &t), CLOCK_REALTIME, &t);
+    t = after_us(CLOCK_REALTIME, 10000);
+    is_late(pz_rwlock_timedwrlock(lock, &t), CLOCK_REALTIME, &t);
+    all->goes = 1;
+    EQUAL(status_of(p), 0);
+}
 /* A thread owns as many mutexes as it may; a writer's lanes count, and a refused lock gives them all back. */
 static void too_many(void)
 {
@@ -143,6 +183,29 @@ static void too_many(void)
         pz_mutex_unlock(&all->many[i]);
     EQUAL(pz_rwlock_wrlock(lock), 0);
     EQUAL(pz_rwlock_unlock(lock), 0);
+}
+
+/* An unusable lock is that for a thread that may own one more mutex, too; and a writer is refused before it waits. */
+static void nearly_too_many(void)
+{
+    struct timespec past = {0, 0};
+    begin();
+    dies_inside(pz_rwlock_wrlock, 0);
+    EQUAL(pz_rwlock_wrlock(lock), EOWNERDEAD);
+    EQUAL(pz_rwlock_unlock(lock), 0);
+    for (int i = 0; i < PZ_MOST_OWNED - 1; i++)
+        if (pz_mutex_lock(&all->many[i]))
+            EQUAL(i, -1);
+    EQUAL(pz_rwlock_rdlock(lock), ENOTRECOVERABLE);
+    EQUAL(pz_mutex_unlock(&all->many[0]), 0);
+    EQUAL(pz_rwlock_wrlock(lock), EAGAIN);
+    EQUAL(elsewhere(reinits), 0);
+    pid_t reader = holder_of_first_lane(1);
+    EQUAL(pz_rwlock_timedwrlock(lock, &past), EAGAIN);
+    for (int i = 1; i < PZ_MOST_OWNED - 1; i++)
+        pz_mutex_unlock(&all->many[i]);
+    all->goes = 1;
+    EQUAL(status_of(reader), 0);
 }
 
 /* ---- Readers and writers. */
@@ -174,6 +237,24 @@ static void lanes_are_for_readers(void)
     EQUAL(elsewhere(tries_to_read), 0);
     EQUAL(lock->words[2], 0); /* later readers don't come by the gate */
 }
+/* A dead writer wanted the lock, so a reader comes by the gate. All lanes are taken: it waits for one without the gate.
+ */
+static void a_reader_waits_without_the_gate(void)
+{
+    begin();
+    pid_t p[LANES];
+    for (int i = 0; i < LANES; i++)
+        p[i] = holder(pz_rwlock_rdlock, 1, i);
+    lock->words[2] = 1;
+    pid_t more = start_holder(pz_rwlock_rdlock, 1, &all->reply[LANES]);
+    until_asleep(more);
+    EQUAL(pz_mutex_owner(&lock->gate), 0);
+    EQUAL(lock->words[2], 0);
+    all->goes = 1;
+    for (int i = 0; i < LANES; i++)
+        EQUAL(status_of(p[i]), 0);
+    EQUAL(status_of(more), 0);
+}
 /* A thread goes to the lane that it had, so readers share no cache line. */
 static void a_reader_keeps_its_lane(void)
 {
@@ -203,8 +284,38 @@ static void several_locks_at_a_time(void)
     EQUAL(pz_rwlock_unlock(&all->single.rw), 0);
     EQUAL(pz_rwlock_rdlock(lock), 0);
     EQUAL(pz_rwlock_unlock(&all->other.rw), 0);
+    EQUAL(pz_rwlock_rdlock(lock), EDEADLK);
     EQUAL(pz_rwlock_unlock(lock), 0);
     EQUAL(tries_to_write(), 0);
+}
+/* An unlock by another mapping of the lock is refused, and changes nothing. */
+static void another_mapping(void)
+{
+    int file = memfd_create("rwlocks", 0);
+    EQUAL(ftruncate(file, PZ_RWLOCK_SIZE(LANES)), 0);
+    pz_rwlock *before = lock, *other;
+    other = mmap(NULL, PZ_RWLOCK_SIZE(LANES), PROT_READ | PROT_WRITE, MAP_SHARED, file, 0);
+    lock = mmap(NULL, PZ_RWLOCK_SIZE(LANES), PROT_READ | PROT_WRITE, MAP_SHARED, file, 0);
+    EQUAL(pz_rwlock_init(lock, LANES), 0);
+    EQUAL(pz_rwlock_rdlock(lock), 0);
+    EQUAL(pz_rwlock_wrlock(other), EDEADLK);
+    EQUAL(pz_rwlock_unlock(other), EPERM);
+    EQUAL(pz_rwlock_unlock(lock), 0);
+    EQUAL(pz_rwlock_wrlock(lock), 0);
+    EQUAL(pz_rwlock_unlock(other), EPERM);
+    EQUAL(elsewhere(tries_to_read), EBUSY);
+    EQUAL(pz_rwlock_unlock(lock), 0);
+    EQUAL(elsewhere(tries_to_write), 0);
+    dies_inside(pz_rwlock_wrlock, 0);
+    EQUAL(pz_rwlock_wrlock(lock), EOWNERDEAD);
+    EQUAL(pz_rwlock_unlock(other), EPERM);
+    EQUAL(pz_rwlock_consistent(lock), 0);
+    EQUAL(pz_rwlock_unlock(lock), 0);
+    EQUAL(elsewhere(tries_to_write), 0);
+    munmap(lock, PZ_RWLOCK_SIZE(LANES));
+    munmap(other, PZ_RWLOCK_SIZE(LANES));
+    close(file);
+    lock = before;
 }
 static int child_unlocks(void) { return pz_rwlock_unlock(lock); }
 static void a_forked_child_has_nothing(void)
@@ -218,17 +329,6 @@ static void a_forked_child_has_nothing(void)
 
 /* ---- Who comes next. */
 
-/* A reader on the lane that a writer takes first, so that the others stay free. */
-static pid_t holder_of_first_lane(int until)
-{
-    for (;;) {
-        all->reply[0] = 0;
-        pid_t p = holder(pz_rwlock_rdlock, until, 0);
-        if (pz_mutex_owner(&all->lock.parts[2]) == p)
-            return p;
-        kill_child(p);
-    }
-}
 /* A writer that waits comes before readers that call later. */
 static void a_writer_isnt_starved(void)
 {
@@ -392,10 +492,14 @@ int main(void)
     all = shared_memory(sizeof *all);
     lock = &all->lock.rw;
     refusals();
+    deadlines();
     too_many();
+    nearly_too_many();
     lanes_are_for_readers();
+    a_reader_waits_without_the_gate();
     a_reader_keeps_its_lane();
     several_locks_at_a_time();
+    another_mapping();
     a_forked_child_has_nothing();
     a_writer_isnt_starved();
     a_stopped_reader();

@@ -1,6 +1,7 @@
 /* Threads that stand still: a stopped heir, a stopped sleeper that has got the only wake, and a process that is stopped
  * while it owns. They must not keep a free mutex from all others. */
 #include "steps.h"
+#include "kernel.h"
 #include <stdatomic.h>
 
 enum { SLEEPERS = 8 };
@@ -92,6 +93,43 @@ static void heir_is_stopped_and_killed(void)
     EQUAL(pz_mutex_lock(&all->mutex), 0);
     EQUAL(pz_mutex_unlock(&all->mutex), 0);
 }
+/* Makes this thread look like an heir that said `ago` ticks of its clock ago that it is awake. */
+static void play_heir(uint64_t ago) { all->mutex.words[2] = (ticks() - ago) << 33 | 1ull << 32 | (uint64_t)getpid(); }
+
+/* An unlock leaves no wake to an heir that said so 0.25 ms ago. */
+static void heir_is_late(void)
+{
+    memset(all, 0, sizeof *all);
+    EQUAL(pz_mutex_lock(&all->mutex), 0);
+    add_sleepers(1);
+    play_heir((250000 >> 9) + 1);
+    EQUAL(pz_mutex_unlock(&all->mutex), 0);
+    sleepers_end(1);
+    EQUAL(all->had, 1);
+}
+/* There is always an heir, and a sleeper has waited for a second: one of the next unlocks wakes it. */
+static void sleeper_is_late(void)
+{
+    memset(all, 0, sizeof *all);
+    EQUAL(pz_mutex_lock(&all->mutex), 0);
+    add_sleepers(1);
+    uint64_t then = (uint32_t)(now_ns() / 1000 - 1000000);
+    int is_called = 0;
+    all->mutex.words[1] = then << 32;
+    for (int n = 0; n < 1000 && !is_called; n++) {
+        play_heir(0);
+        EQUAL(pz_mutex_unlock(&all->mutex), 0);
+        is_called = all->mutex.words[1] >> 32 != then || all->had;
+        if (!is_called)
+            EQUAL(pz_mutex_lock(&all->mutex), 0);
+    }
+    CHECK(is_called);
+    all->mutex.words[2] = 0;
+    if (!is_called)
+        EQUAL(pz_mutex_unlock(&all->mutex), 0);
+    sleepers_end(1);
+    EQUAL(all->had, 1);
+}
 /* The first sleeper is woken, and stopped there. The others sleep, the mutex is free; the next unlock wakes one. */
 static void woken_sleeper_is_stopped(void)
 {
@@ -140,6 +178,8 @@ int main(void)
     all = shared_memory(sizeof *all);
     heir_is_stopped();
     heir_is_stopped_and_killed();
+    heir_is_late();
+    sleeper_is_late();
     woken_sleeper_is_stopped();
     owner_is_stopped();
     return end_checks();

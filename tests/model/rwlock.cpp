@@ -83,7 +83,8 @@ enum mistake {
     FORGETS_THAT_NOTHING_WAS_REPAIRED,
     FORGETS_A_DEATH_IN_A_REPAIR,
     READER_STAYS_A_WRITER,
-    DEAD_READERS_LANE_IS_REPORTED
+    DEAD_READERS_LANE_IS_REPORTED,
+    CLEARS_WANTED_LATE
 };
 
 struct scenario {
@@ -294,10 +295,15 @@ static void step_of_reader(search &s, world w, int i)
     case LOOKS_AT_STATE:
         t.at = w.state == FREE || sc.plants == READER_IGNORES_A_DEAD_WRITER ? READS : FREES_LANE_TO_RECOVER;
         law(t.at != READS || !w.died_inside, "a reader isn't told that a writer died inside");
+        t.recovers = t.at != READS && w.state != LOST;
+        law(t.at == READS || t.recovers || w.is_lost, "a lock is unusable that nobody has given up");
         break;
     case FREES_LANE_TO_RECOVER:
         unlock(w, i, t.home);
-        begins_to_recover(t);
+        if (t.recovers)
+            begins_to_recover(t);
+        else
+            ends(t); // ENOTRECOVERABLE
         break;
     case READS:
         t.at = READER_UNLOCKS;
@@ -317,13 +323,19 @@ static void step_of_freeing(search &s, world w, int i)
         if (t.i == 0)
             t.at = FREES_WANTED;
     } else if (t.at == FREES_WANTED) {
-        w.wanted = 0;
+        if (sc.plants == CLEARS_WANTED_LATE)
+            unlock(w, i, GATE);
+        else
+            w.wanted = 0;
         t.at = FREES_GATE;
         if (sc.plants == CLEARS_STATE_LATE && t.then == ENDS)
             sets_state_back(w);
     } else {
         after then = t.then;
-        unlock(w, i, GATE);
+        if (sc.plants == CLEARS_WANTED_LATE)
+            w.wanted = 0;
+        else
+            unlock(w, i, GATE);
         ends(t);
         if (then == THEN_READS)
             t.at = READS, law(!w.died_inside, "a reader isn't told that a writer died inside");
@@ -500,6 +512,7 @@ int main(int count, char **names)
         {"forgets_a_death_in_a_repair", 3, 1, 2, 1, FORGETS_A_DEATH_IN_A_REPAIR, false},
         {"reader_stays_a_writer", 3, 1, 1, 1, READER_STAYS_A_WRITER, false},
         {"dead_readers_lane_is_reported", 2, 1, 1, 1, DEAD_READERS_LANE_IS_REPORTED, false},
+        {"clears_wanted_late", 3, 2, 0, 1, CLEARS_WANTED_LATE, false},
     };
     int passed = 0, failed = 0;
     bool is_long = count > 1 && !std::strcmp(names[1], "--long");

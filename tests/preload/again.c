@@ -39,7 +39,7 @@ enum { SCENES = sizeof scenes / sizeof *scenes };
 static struct shared {
     pthread_mutex_t m, other;
     pthread_cond_t c, other_c;
-    _Atomic int done, had, handled, go, reply[MOST];
+    _Atomic int done, had, handled, go, destroyed, reply[MOST];
 } * s;
 static pthread_mutexattr_t robust;
 static pthread_condattr_t shared;
@@ -84,7 +84,7 @@ static void make_call(void)
     else if (scene->call == INIT_OF_THEIRS)
         pthread_mutex_init(&s->m, NULL);
     else if (scene->call == DESTROY)
-        pthread_mutex_destroy(&s->m);
+        atomic_store(&s->destroyed, 1000 + pthread_mutex_destroy(&s->m));
     else if (scene->call == COND_INIT)
         pthread_cond_init(&s->c, &shared);
     else if (scene->call == COND_DESTROY)
@@ -220,6 +220,8 @@ static int die_after(int steps)
         one_step(victim);
     int ended = atomic_load(&s->done), is_owned = owner_of(&s->m) == victim, is_ours = is_robust(&s->m);
     kill_child(victim);
+    if (ended && scene->call == DESTROY)
+        EQUAL(atomic_load(&s->destroyed), 1000 + (scene->owns ? EBUSY : 0));
     if (scene->comes)
         let_go(sleeper[0]);
     atomic_store(&s->go, 1);

@@ -144,6 +144,20 @@ static void deadlines(void)
     EQUAL(pthread_mutex_unlock(&s->m), 0);
 }
 
+/* After a signal to nobody, the next one needs no system call. */
+static void a_signal_to_nobody(void)
+{
+    const volatile uint32_t *count = (const volatile uint32_t *)&s->c + 10;
+    struct timespec past = {1, 0};
+    start_over(PTHREAD_MUTEX_NORMAL);
+    pthread_mutex_lock(&s->m);
+    EQUAL(pthread_cond_timedwait(&s->c, &s->m, &past), ETIMEDOUT);
+    EQUAL(pthread_mutex_unlock(&s->m), 0);
+    EQUAL(*count & 1, 1);
+    EQUAL(pthread_cond_signal(&s->c), 0);
+    EQUAL(*count & 1, 0);
+}
+
 static void handlers(void)
 {
     start_over(PTHREAD_MUTEX_NORMAL);
@@ -291,6 +305,7 @@ int main(void)
     signals();
     deaths();
     deadlines();
+    a_signal_to_nobody();
     handlers();
     cancellation();
     ended();

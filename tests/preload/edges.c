@@ -52,6 +52,18 @@ static void initialised_again(void)
     EQUAL(pass(&m[0]), 0);
 }
 
+/* A recursive mutex that was locked three times, and is initialised again, has to be unlocked once. */
+static void initialised_again_and_counted(void)
+{
+    init_robust(&m[0], PTHREAD_MUTEX_RECURSIVE);
+    for (int i = 0; i < 3; i++)
+        EQUAL(pthread_mutex_lock(&m[0]), 0);
+    init_robust(&m[0], PTHREAD_MUTEX_RECURSIVE);
+    EQUAL(pthread_mutex_lock(&m[0]), 0);
+    EQUAL(pthread_mutex_unlock(&m[0]), 0);
+    EQUAL(pthread_mutex_unlock(&m[0]), EPERM);
+}
+
 /* Threads that sleep there do so by its mode, so that stays if the mutex is owned. */
 static void initialised_again_in_its_mode(void)
 {
@@ -427,6 +439,7 @@ int main(int argc, char **argv)
     directory = strdup(argv[0]);
     *strrchr(directory, '/') = 0;
     initialised_again();
+    initialised_again_and_counted();
     initialised_again_in_its_mode();
     initialised_as_another();
     unusable();

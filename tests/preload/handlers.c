@@ -230,6 +230,41 @@ static void a_handler_waits(void)
     kill_child(owner);
 }
 
+/* A thread has taken the mutex, and then made `steps` instructions; its lock hasn't returned yet. In a handler it sleeps
+ * for another mutex, and is killed. Returns whether the lock has nothing pending any more. */
+static int a_handler_comes_late(int steps)
+{
+    start_over();
+    pid_t owner = an_owner(&s->m, &s->go), owner_of_other = an_owner(&s->other, &s->released);
+    pid_t p = a_locker(use_other, do_nothing, 0, 1);
+    let_sleep(p);
+    atomic_store(&s->go, 1);
+    CHECK(until(&s->done, 1));
+    wait_for_stop(p);
+    for (int n = 0; n < MOST_STEPS && owner_of(&s->m) != p; n++)
+        one_step(p);
+    for (int n = 0; n < steps; n++)
+        one_step(p);
+    int is_over = pending_of(p) != cell_entry(&s->m);
+    ptrace(PTRACE_DETACH, p, 0, SIGUSR1);
+    until_it_sleeps(p);
+    kill_child(p);
+    struct timespec late = after_us(CLOCK_REALTIME, NO_END_S * 1000000L);
+    EQUAL(pthread_mutex_timedlock(&s->m, &late), EOWNERDEAD);
+    EQUAL(pthread_mutex_consistent(&s->m), 0);
+    EQUAL(pthread_mutex_unlock(&s->m), 0);
+    kill_child(owner_of_other);
+    kill_child(owner);
+    return is_over || checks_failed;
+}
+static void handlers_come_late(void)
+{
+    int steps = 0;
+    while (steps < MOST_STEPS && !a_handler_comes_late(steps))
+        steps++;
+    CHECK(steps > 0);
+}
+
 /* An heir in a handler isn't one any more: no unlock leaves it a wake. */
 static void an_heir_handles(void)
 {
@@ -258,6 +293,7 @@ int main(void)
     a_thread_is_killed_in_a_handler();
     a_thread_is_killed_after_theirs();
     a_handler_waits();
+    handlers_come_late();
     an_heir_handles();
     return end_checks();
 }
