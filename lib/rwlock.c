@@ -2,10 +2,10 @@
  *
  * Each lane is a mutex in a cache line of its own. A reader owns one of them: the one that it had last, or the first
  * free one. A writer owns the gate, and then all lanes. `state` says whether a writer is inside. Only a thread that owns
- * all lanes changes it, and only one that owns a lane relies on it. So a reader that finds `state` set has found the
- * trace of a writer that died inside; it frees its lane, takes all lanes, and gets EOWNERDEAD. No other death needs
- * care, be it a reader's, or that of a writer that was still taking lanes or already freeing them: what it owned is
- * declared consistent at once.
+ * all of these changes it, and only one that owns the gate or a lane relies on it. So a reader that finds `state` set
+ * has found the trace of a writer that died inside; it frees its lane, takes all lanes, and gets EOWNERDEAD. No other
+ * death needs care, be it a reader's, or that of a writer that was still taking lanes or already freeing them: what it
+ * owned is declared consistent at once.
  *
  * The gate's owner says in `wanted` that it is a writer, and readers then come in by the gate, too. So a thread that
  * reads again and again keeps a writer waiting at most once. A dead writer's `wanted` goes with the gate's next owner.
@@ -75,30 +75,38 @@ static int free_gate(pz_rwlock *l)
     return pz_mutex_unlock(&l->gate);
 }
 
-/* Frees the first `n` lanes, except `kept`, and then the gate. */
-static int free_all(pz_rwlock *l, uint32_t n, uint32_t kept)
+/* Frees the first `n` lanes, and then the gate. */
+static int free_all(pz_rwlock *l, uint32_t n)
 {
     int r = 0, next;
     for (uint32_t i = n; i-- > 0;)
-        if (i != kept && (next = pz_mutex_unlock(lane(l, i))))
+        if ((next = pz_mutex_unlock(lane(l, i))))
             r = next;
     next = free_gate(l);
     return r ? r : next;
 }
 
 /* A caller that would own too many mutexes is refused before it waits, or keeps others waiting. */
+static int take_gate(pz_rwlock *l, const struct caller *s, uint32_t n, const struct how *h)
+{
+    return s->owned + n >= PZ_MOST_OWNED ? EAGAIN : take(&l->gate, h);
+}
+
+/* The caller owns the gate. If it is refused a lane, it frees what it owns. */
+static int take_lanes(pz_rwlock *l, uint32_t n, const struct how *h)
+{
+    int r = 0;
+    store_release(wanted(l), 1);
+    for (uint32_t i = 0; i < n && !r; i++)
+        if ((r = take(lane(l, i), h)))
+            free_all(l, i);
+    return r;
+}
+
 static int take_all(pz_rwlock *l, const struct caller *s, uint32_t n, const struct how *h)
 {
-    int r = s->owned + n >= PZ_MOST_OWNED ? EAGAIN : take(&l->gate, h);
-    if (r)
-        return r;
-    store_release(wanted(l), 1);
-    for (uint32_t i = 0; i < n; i++)
-        if ((r = take(lane(l, i), h))) {
-            free_all(l, i, n);
-            return r;
-        }
-    return 0;
+    int r = take_gate(l, s, n, h);
+    return r ? r : take_lanes(l, n, h);
 }
 
 /* The caller owns all lanes. Returns what it gets as a writer; for ENOTRECOVERABLE it has freed them. */
@@ -106,7 +114,7 @@ static int begin_to_write(pz_rwlock *l, struct caller *s, uint32_t n)
 {
     uint64_t was = load_relaxed(state(l));
     if (was == LOST) {
-        free_all(l, n, n);
+        free_all(l, n);
         return ENOTRECOVERABLE;
     }
     store_release(state(l), was == FREE ? WRITES : REPAIRS);
@@ -130,7 +138,7 @@ static __attribute__((noinline)) int unlock_writer(pz_rwlock *l, const struct ca
     if (!is_whole)
         return EPERM;
     store_release(state(l), load_relaxed(state(l)) == REPAIRS ? LOST : FREE);
-    return free_all(l, n, n);
+    return free_all(l, n);
 }
 
 /* Why a call can't go on to take lanes, or 0. */
@@ -189,20 +197,27 @@ static inline int take_same_lane(pz_rwlock *l, struct caller *s, uint32_t n)
 }
 
 /* The caller owns a lane, and `state` isn't FREE. Unless the lock is unusable, a writer died inside: the caller takes
- * its place, and stays a reader if another thread has repaired the data since. */
+ * its place. If another thread has repaired the data by the time that the caller has the gate, it stays a reader, which
+ * waits for no other reader. */
 static __attribute__((noinline, cold)) int recover(pz_rwlock *l, struct caller *s, uint32_t n, const struct how *h)
 {
-    uint64_t was = load_relaxed(state(l));
-    int r = pz_mutex_unlock(lane(l, s->lane));
-    if (!r)
-        r = was == LOST ? ENOTRECOVERABLE : take_all(l, s, n, h);
-    if (r)
-        return r;
-    if (load_relaxed(state(l)) != FREE)
-        return begin_to_write(l, s, n);
+    do {
+        uint64_t was = load_relaxed(state(l));
+        int r = pz_mutex_unlock(lane(l, s->lane));
+        if (!r)
+            r = was == LOST ? ENOTRECOVERABLE : take_gate(l, s, n, h);
+        if (r)
+            return r;
+        if (load_relaxed(state(l)) != FREE) {
+            r = take_lanes(l, n, h);
+            return r ? r : begin_to_write(l, s, n);
+        }
+        r = free_gate(l);
+        if (r || (r = take_lane(l, s, n, h)))
+            return r;
+    } while (load_relaxed(state(l)) != FREE);
     s->rwlocks++;
-    s->lane %= n;
-    return free_all(l, n, s->lane);
+    return 0;
 }
 
 static inline __attribute__((always_inline)) int lock_to_read(pz_rwlock *l, const struct how *h)
@@ -292,5 +307,5 @@ int pz_rwlock_reinit(pz_rwlock *l)
     if (r)
         return r;
     store_release(state(l), FREE);
-    return free_all(l, n, n);
+    return free_all(l, n);
 }

@@ -444,23 +444,27 @@ static void others_come_in_after_a_repair(void)
     for (int i = 0; i < 2; i++)
         EQUAL(status_of(p[i]), 0);
 }
-/* A reader sees the trace of a dead writer, and goes out to take all lanes. Another one repairs in the meantime. */
-static void a_reader_stays_one_after_anothers_repair(void)
+/* Readers see the trace of a dead writer, and go out to take all lanes. Another thread repairs in the meantime: they
+ * come in next to each other. */
+static void readers_stay_that_after_anothers_repair(void)
 {
     begin();
     dies_inside(pz_rwlock_wrlock, 0);
     EQUAL(pz_mutex_lock(&lock->gate), EOWNERDEAD);
     EQUAL(pz_mutex_consistent(&lock->gate), 0);
     lock->words[2] = 0; /* as if the dead writer had been between its two stores: the reader doesn't come by the gate */
-    pid_t reader = start_holder(pz_rwlock_rdlock, 1, &all->reply[0]);
-    until_asleep(reader);
+    pid_t readers[2];
+    for (int i = 0; i < 2; i++)
+        until_asleep(readers[i] = start_holder(pz_rwlock_rdlock, 1, &all->reply[i]));
     lock->words[1] = 0; /* the repair */
     EQUAL(pz_mutex_unlock(&lock->gate), 0);
-    EQUAL(reply_of(&all->reply[0]), 0);
-    EQUAL(tries_to_read(), 0);
+    for (int i = 0; i < 2; i++)
+        EQUAL(reply_of(&all->reply[i]), 0);
+    EQUAL(elsewhere(tries_to_read), 0);
     EQUAL(tries_to_write(), EBUSY);
     all->goes = 1;
-    EQUAL(status_of(reader), 0);
+    for (int i = 0; i < 2; i++)
+        EQUAL(status_of(readers[i]), 0);
     EQUAL(tries_to_write(), 0);
 }
 static void without_consistent(void)
@@ -507,7 +511,7 @@ int main(void)
     a_dead_reader_had_the_same_lane();
     a_writer_dies_inside();
     others_come_in_after_a_repair();
-    a_reader_stays_one_after_anothers_repair();
+    readers_stay_that_after_anothers_repair();
     without_consistent();
     return end_checks();
 }

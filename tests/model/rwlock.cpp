@@ -53,7 +53,7 @@ enum after : u8 { ENDS, THEN_READS };
 struct thread {
     place at;
     how waits;
-    u8 writes, home, i, by_gate, got, recovers, rounds, keeps;
+    u8 writes, home, i, by_gate, got, recovers, rounds;
     place next; // after a declaration
     u8 declares;
     after then;
@@ -67,7 +67,7 @@ struct world {
     u8 wanted, torn, died_inside, is_lost, deaths;
     thread t[MOST_THREADS];
 };
-static_assert(sizeof(world) == 2 * (MOST_LANES + 1) + 6 + 13 * MOST_THREADS, "no padding");
+static_assert(sizeof(world) == 2 * (MOST_LANES + 1) + 6 + 12 * MOST_THREADS, "no padding");
 
 // A mistake in rwlock.c, which the model has to see.
 enum mistake {
@@ -155,7 +155,7 @@ static void unlock(world &w, int i, int k)
 static void ends(thread &t)
 {
     t.at = IDLE;
-    t.by_gate = t.got = t.recovers = t.i = t.keeps = t.declares = 0;
+    t.by_gate = t.got = t.recovers = t.i = t.declares = 0;
     t.next = IDLE;
     t.then = ENDS;
 }
@@ -198,10 +198,10 @@ static void begins_to_recover(thread &t)
 
 // ---- Writers.
 
-// Frees the first `n` lanes but `keeps`, and the gate.
-static void begins_to_free(thread &t, int n, int keeps, after then)
+// Frees the first `n` lanes, and the gate.
+static void begins_to_free(thread &t, int n)
 {
-    t.i = u8(n), t.keeps = u8(keeps), t.then = then;
+    t.i = u8(n);
     t.at = FREES_ALL;
 }
 static void is_refused(thread &t)
@@ -209,17 +209,15 @@ static void is_refused(thread &t)
     int lanes = sc.plants == KEEPS_LANES_WHEN_LATE ? 0 : t.i;
     if (sc.plants == KEEPS_GATE_WHEN_LATE && lanes == 0)
         return ends(t);
-    begins_to_free(t, lanes, sc.lanes, ENDS);
+    begins_to_free(t, lanes);
 }
 static void enters(world &w, int i)
 {
     thread &t = w.t[i];
     if (w.state == LOST) {
         law(w.is_lost, "a lock is unusable that nobody has given up");
-        return begins_to_free(t, sc.lanes, sc.lanes, ENDS);
+        return begins_to_free(t, sc.lanes);
     }
-    if (t.recovers && w.state == FREE && sc.plants != READER_STAYS_A_WRITER)
-        return begins_to_free(t, sc.lanes, t.home %= u8(sc.lanes), THEN_READS);
     law(!(t.recovers && w.state == FREE), "a reader becomes a writer without a death");
     bool is_told = sc.plants == FORGETS_A_DEATH_IN_A_REPAIR ? w.state == WRITES : w.state != FREE;
     w.state = is_told ? REPAIRS : WRITES;
@@ -318,8 +316,8 @@ static void step_of_freeing(search &s, world w, int i)
 {
     thread &t = w.t[i];
     if (t.at == FREES_ALL) {
-        if (t.i > 0 && --t.i != t.keeps)
-            unlock(w, i, t.i);
+        if (t.i > 0)
+            unlock(w, i, --t.i);
         if (t.i == 0)
             t.at = FREES_WANTED;
     } else if (t.at == FREES_WANTED) {
@@ -338,7 +336,7 @@ static void step_of_freeing(search &s, world w, int i)
             unlock(w, i, GATE);
         ends(t);
         if (then == THEN_READS)
-            t.at = READS, law(!w.died_inside, "a reader isn't told that a writer died inside");
+            t.at = LOOKS_AT_WANTED;
     }
     s.add(w);
 }
@@ -347,6 +345,11 @@ static void step_of_writer(search &s, world w, int i)
     thread &t = w.t[i];
     switch (t.at) {
     case SETS_WANTED:
+        if (t.recovers && w.state == FREE && sc.plants != READER_STAYS_A_WRITER) { // another thread has repaired
+            t.then = THEN_READS;
+            t.at = FREES_WANTED;
+            break;
+        }
         w.wanted = sc.plants != WAITS_IN_SECRET;
         if (sc.plants == SETS_STATE_EARLY && w.state == FREE)
             w.state = WRITES;
@@ -384,7 +387,7 @@ static void step_of_writer(search &s, world w, int i)
     default: // SETS_STATE_BACK
         if (sc.plants != CLEARS_STATE_LATE)
             sets_state_back(w);
-        begins_to_free(t, sc.lanes, sc.lanes, ENDS);
+        begins_to_free(t, sc.lanes);
     }
     s.add(w);
 }
