@@ -15,10 +15,8 @@ use Rattle.picture.specs.declared.drawing.Unwritten.TheVariants as unwritten
 use Rattle.draw_report.specs.declared.asking.Kind.{Kind}
 use Rattle.draw_report.specs.declared.asking.Kind.TheVariants.{Text, Svg, Html}
 use Rattle.verdict.specs.declared.checking.Finding.{Finding}
-use Rattle.verdict.specs.declared.checking.Finding.TheVariants.{Legal}
 use Rattle.page.specs.Pages.{LeavesPage, page_text}
 use Rattle.picture.specs.Names.{Called}
-use Rattle.picture.specs.Svg.{svg_drawn}
 use Rattle.draw_report.specs.declared.messages.Failure.{Failure}
 use Rattle.draw_report.specs.declared.messages.Failure.TheVariants.{Script}
 use Rattle.draw_report.specs.Names.{called_by}
@@ -54,17 +52,17 @@ nothing_drawn Svg n bytes t old new same = inl same
 nothing_drawn Html n bytes t old new same = same
 
 -- a picture in text, of a trace that is so judged
-pub leaves_text : {X : Type 0} (n : Called) (bytes : List ℕ) (t : Told) (f : Finding) (old new : Option (List ℕ)) (r : Result X Unwritten) → IsJudged Text bytes f → Leaves old new r (picture Text n t f) → LeavesPicture Text n bytes t old new r
+pub leaves_text : {X : Type 0} (n : Called) (bytes : List ℕ) (t : Told) (f : Finding) (old new : Option (List ℕ)) (r : Result X Unwritten) → IsJudged bytes f → Leaves old new r (picture Text n t f) → LeavesPicture Text n bytes t old new r
 leaves_text n bytes t f old new (Ok x) j h = (f, j, h)
 leaves_text n bytes t f old new (Err e) j h = inr (f, j, h)
 
--- a picture that tells nothing of how the trace is judged
-pub leaves_svg : {X : Type 0} (n : Called) (bytes : List ℕ) (t : Told) (old new : Option (List ℕ)) (r : Result X Unwritten) → Leaves old new r (svg_drawn n t.head.threads t.head.mutexes t.lines.items t.last) → LeavesPicture Svg n bytes t old new r
-leaves_svg n bytes t old new (Ok x) h = (Legal 0, tt, h)
-leaves_svg n bytes t old new (Err e) h = inr (Legal 0, tt, h)
+-- the same as SVG
+pub leaves_svg : {X : Type 0} (n : Called) (bytes : List ℕ) (t : Told) (f : Finding) (old new : Option (List ℕ)) (r : Result X Unwritten) → IsJudged bytes f → Leaves old new r (picture Svg n t f) → LeavesPicture Svg n bytes t old new r
+leaves_svg n bytes t f old new (Ok x) j h = (f, j, h)
+leaves_svg n bytes t f old new (Err e) j h = inr (f, j, h)
 
 -- a page, of a trace that is so judged
-pub leaves_page : {X : Type 0} (n : Called) (bytes : List ℕ) (t : Told) (f : Finding) (old new : Option (List ℕ)) (r : Result X Unwritten) → IsJudged Html bytes f → LeavesPage old new r (page_text n t f) → LeavesPicture Html n bytes t old new r
+pub leaves_page : {X : Type 0} (n : Called) (bytes : List ℕ) (t : Told) (f : Finding) (old new : Option (List ℕ)) (r : Result X Unwritten) → IsJudged bytes f → LeavesPage old new r (page_text n t f) → LeavesPicture Html n bytes t old new r
 leaves_page n bytes t f old new (Ok x) j h = (f, j, h)
 leaves_page n bytes t f old new (Err unwritten.OutOfMemory) j h = h
 leaves_page n bytes t f old new (Err unwritten.Failed) j h = inr (f, j, h)

@@ -1,5 +1,5 @@
 -- What the program did with the bytes of its reader.
-use Rattle.std.specs.Prelude.{ℕ, ◌≡◌, ◌≤◌, ◌⊎◌, ⊤, true, false, List, [], ◌∷◌, ◌++◌, codes, decimal, length, Option, Result, Ok, Err, MatchResult}
+use Rattle.std.specs.Prelude.{ℕ, ◌≡◌, ◌≤◌, ◌⊎◌, ⊤, true, false, List, [], ◌∷◌, ◌++◌, codes, decimal, length, Option, Some, None, Result, Ok, Err, MatchResult}
 use Rattle.std.specs.List.{concat}
 use Rattle.std.specs.Io.KnownBytes.{Appends, Consumes, IsAtEnd}
 use Rattle.streams.specs.Leaves.{AppendsFront}
@@ -23,7 +23,7 @@ use Rattle.draw_report.specs.declared.messages.Failure.TheVariants.{OutOfMemory,
 use Rattle.script.specs.Scope.{Scope}
 use Rattle.picture.specs.Drawn.{drawn}
 use Rattle.picture.specs.Names.{Called}
-use Rattle.picture.specs.Svg.{svg_drawn}
+use Rattle.picture.specs.Svg.{svg_marked}
 use Rattle.draw_report.specs.Names.{called_by, is_like}
 
 -- the failure that a fault of reading is told as, and one of drawing: memory where memory was refused
@@ -50,25 +50,28 @@ abbrev pub misfit_text : Finding → List ℕ
 misfit_text (Legal points) = []
 misfit_text (Illegal why) = concat (codes "        line " ∷ decimal why.line ∷ codes " doesn't fit those before it\n" ∷ [])
 
--- a picture in text and a page tell what the judge of traces found
+-- in a picture as SVG that line is marked
+abbrev pub misfit_line : Finding → Option ℕ
+misfit_line (Legal points) = None
+misfit_line (Illegal why) = Some why.line
+
+-- each tells what the judge of traces found
 abbrev pub picture : Kind → Called → Told → Finding → List ℕ
 picture Text n t f = drawn n t.head.threads t.head.mutexes t.lines.items t.last ++ misfit_text f
-picture Svg n t f = svg_drawn n t.head.threads t.head.mutexes t.lines.items t.last
+picture Svg n t f = svg_marked n t.head.threads t.head.mutexes t.lines.items t.last (misfit_line f)
 picture Html n t f = page_text n t f
 
 -- of all of the trace that these bytes are
-abbrev pub IsJudged : Kind → List ℕ → Finding → Type 0
-IsJudged Text bytes f = Tells (trace_read bytes) (Ok f)
-IsJudged Svg bytes f = ⊤
-IsJudged Html bytes f = Tells (trace_read bytes) (Ok f)
+abbrev pub IsJudged : List ℕ → Finding → Type 0
+IsJudged bytes f = Tells (trace_read bytes) (Ok f)
 
 -- all of a picture of the trace that these bytes are was written, or a beginning of it
 abbrev pub IsDrawn : Kind → Called → List ℕ → Told → Option (List ℕ) → Option (List ℕ) → Type 0
-IsDrawn kind n bytes t old new = (f : Finding) × IsJudged kind bytes f × Appends old new (picture kind n t f)
+IsDrawn kind n bytes t old new = (f : Finding) × IsJudged bytes f × Appends old new (picture kind n t f)
 
 abbrev pub IsBegun : Kind → Called → List ℕ → Told → Option (List ℕ) → Option (List ℕ) → Type 0
 IsBegun kind n bytes t old new =
-    (new ≡ old) ⊎ ((f : Finding) × IsJudged kind bytes f × AppendsFront old new (picture kind n t f))
+    (new ≡ old) ⊎ ((f : Finding) × IsJudged bytes f × AppendsFront old new (picture kind n t f))
 
 -- why not all of it was written: behind a beginning of it; of a page nothing is written where memory was refused
 abbrev pub IsUndrawn : Kind → Called → List ℕ → Told → Option (List ℕ) → Option (List ℕ) → Unwritten → Type 0

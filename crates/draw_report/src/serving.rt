@@ -10,7 +10,7 @@ ghost use Rattle.script.specs.Limits as scripts;
 ghost use Rattle.draw_report.specs.Names.{called_by};
 ghost use Rattle.draw_report.specs.Scripts.{FailsScript, GivesScript};
 ghost use Rattle.draw_report.specs.Served.{Draws, Fails, FailsDrawing, IsUnread};
-ghost use Rattle.draw_report.specs.Served.{LeavesPicture, Serves, failed_by, misfit_text, undrawn_by};
+ghost use Rattle.draw_report.specs.Served.{LeavesPicture, Serves, failed_by, misfit_line, misfit_text, undrawn_by};
 ghost use Rattle.picture.specs.Drawn.{drawn};
 ghost use Rattle.verdict.specs.Told.{IsWithin};
 
@@ -20,7 +20,7 @@ use crate::messages::Failure;
 use crate::names::{is_like, names_of};
 use facts::Line;
 use page::write_page;
-use picture::{Names, Unwritten, draw, draw_svg};
+use picture::{Names, Unwritten, draw, draw_svg_marked};
 use script::{Mode, Script, parse};
 use std::alloc::Global;
 use std::io::{self, Read, Write};
@@ -154,6 +154,44 @@ fn draw_text<W: Output>(
     }
 }
 
+/// The line of a trace that doesn't fit, if one doesn't.
+fn misfit_line(finding: &Finding) -> Option<usize>
+    ensures { result ≡ misfit_line finding.now }
+{
+    match *finding {
+        Finding::Legal { .. } => None,
+        Finding::Illegal(why) => Some(why.line),
+    }
+}
+
+/// A picture of a trace as SVG, in which the line that doesn't fit is marked.
+fn draw_marked<W: Output>(
+    alloc: Global,
+    names: &Names,
+    bytes: &[u8],
+    trace: &Told,
+    out: &mut W,
+) -> Result<(), Unwritten>
+    ensures { LeavesPicture Kind.Svg names.now bytes.now trace.now (W.contents out.old) (W.contents out.new) result }
+{
+    let lines = trace.lines.as_slice();
+    let (threads, mutexes) = (trace.head.threads, trace.head.mutexes);
+    match explain(alloc, bytes) {
+        Ok(finding) => draw_svg_marked(
+            alloc,
+            names,
+            threads,
+            mutexes,
+            lines,
+            trace.last,
+            misfit_line(&finding),
+            out,
+        ),
+        // the bytes are a trace: it has no fault
+        Err(_wanted) => Err(Unwritten::OutOfMemory),
+    }
+}
+
 fn draw_as<W: Output>(
     alloc: Global,
     kind: Kind,
@@ -165,11 +203,9 @@ fn draw_as<W: Output>(
     requires { IsWithin trace.now }
     ensures { LeavesPicture kind names.now bytes.now trace.now (W.contents out.old) (W.contents out.new) result }
 {
-    let lines = trace.lines.as_slice();
-    let (threads, mutexes) = (trace.head.threads, trace.head.mutexes);
     match kind {
         Kind::Text => draw_text(alloc, names, bytes, trace, out),
-        Kind::Svg => draw_svg(alloc, names, threads, mutexes, lines, trace.last, out),
+        Kind::Svg => draw_marked(alloc, names, bytes, trace, out),
         Kind::Html => draw_page(alloc, names, bytes, trace, out),
     }
 }

@@ -3,7 +3,7 @@
 --
 -- *The picture as SVG.* What lanes and bands show from line to line, and over that each line's number, its mark in the
 -- middle of its thread's lane or an arrow to it, and its words. Source: Scalable Vector Graphics 1.1.
-use Rattle.std.specs.Prelude.{ℕ, ◌+◌, Bool, true, false, Option, Some, None, List, [], ◌∷◌, ◌++◌, length}
+use Rattle.std.specs.Prelude.{ℕ, ◌+◌, ◌-◌, Bool, true, false, Option, Some, None, List, [], ◌∷◌, ◌++◌, length}
 use Rattle.std.specs.Prelude.{codes, decimal, replicate, slice_index_or, slice_set, if◌then◌else◌}
 use Rattle.std.specs.List.{concat}
 use Rattle.lockword.specs.Threads.{most_threads}
@@ -173,11 +173,33 @@ foot_text last lines = concat
     (codes "<text class=\"n\" x=\"48\" y=\"" ∷ decimal (row_y lines + 22) ∷ codes "\">" ∷ decimal last
     ∷ codes "</text><text x=\"54\" y=\"" ∷ decimal (row_y lines + 22) ∷ codes "\">end</text>\n</svg>\n" ∷ [])
 
+-- the row of a line that doesn't fit those before it, and below the end which line it is. Line 1 is the trace's head
+abbrev pub misfit_shape : List ℕ → List ℕ → List ℕ → List ℕ
+misfit_shape top foot line = concat
+    (codes "<rect class=\"m\" y=\"" ∷ top
+    ∷ codes "\" width=\"100%\" height=\"18\" fill=\"#c00\" fill-opacity=\".2\"/>\n<text class=\"m\" x=\"54\" y=\""
+    ∷ foot ∷ codes "\" fill=\"#c00\">line " ∷ line ∷ codes " doesn't fit those before it</text>\n" ∷ [])
+
+abbrev pub misfit_at : ℕ → ℕ → List ℕ
+misfit_at line lines =
+    misfit_shape (decimal (row_y (line - 1) - 9)) (decimal (row_y lines + 33)) (decimal line)
+
+abbrev pub misfit_mark : Option ℕ → ℕ → List ℕ
+misfit_mark None lines = []
+misfit_mark (Some line) lines = misfit_at line lines
+
+abbrev pub end_text : Option ℕ → ℕ → ℕ → List ℕ
+end_text misfit last lines = misfit_mark misfit lines ++ foot_text last lines
+
 -- ---- all of it
 
-abbrev pub svg_with : Called → Extent → List Line → ℕ → List ℕ
-svg_with n x ls last = svg_heads n x (length ls)
-    ++ (parts n x first_scene first_since 1 ls ++ (marks n x first_scene 1 ls ++ foot_text last (length ls)))
+abbrev pub svg_with : Called → Extent → List Line → ℕ → Option ℕ → List ℕ
+svg_with n x ls last misfit = svg_heads n x (length ls)
+    ++ (parts n x first_scene first_since 1 ls ++ (marks n x first_scene 1 ls ++ end_text misfit last (length ls)))
+
+-- with this line marked, if there is one
+abbrev pub svg_marked : Called → ℕ → ℕ → List Line → ℕ → Option ℕ → List ℕ
+svg_marked n threads mutexes ls last misfit = svg_with n (svg_extent n threads mutexes ls) ls last misfit
 
 abbrev pub svg_drawn : Called → ℕ → ℕ → List Line → ℕ → List ℕ
-svg_drawn n threads mutexes ls last = svg_with n (svg_extent n threads mutexes ls) ls last
+svg_drawn n threads mutexes ls last = svg_marked n threads mutexes ls last None

@@ -45,4 +45,4 @@ pub use laws::{
     texts_have_room, used_mutexes_have_bands,
 };
 pub use names::Names;
-pub use svg_drawing::draw_svg;
+pub use svg_drawing::{draw_svg, draw_svg_marked};

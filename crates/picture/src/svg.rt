@@ -3,10 +3,10 @@
 ghost use Rattle.std.specs.Prelude.{◌≡◌, ◌++◌, ◌≤◌, ◌<◌, decimal, map, string_bytes, IfOk};
 ghost use Rattle.lockword.specs.Threads.{named_threads};
 ghost use Rattle.facts.specs.Facts.{decision_of};
-ghost use Rattle.picture.specs.Svg.{band_part, band_rests, begins_at, ends_lane, first_since, foot_text, lane_line};
-ghost use Rattle.picture.specs.Svg.{lane_part, lane_rests, line_marks, line_parts, mark_of, marks_of, rests};
-ghost use Rattle.picture.specs.Svg.{since_band, since_lane, svg_band, svg_bands, svg_heads, svg_lane, svg_lanes};
-ghost use Rattle.picture.specs.Svg.{svg_open};
+ghost use Rattle.picture.specs.Svg.{band_part, band_rests, begins_at, end_text, ends_lane, first_since, foot_text};
+ghost use Rattle.picture.specs.Svg.{lane_line, lane_part, lane_rests, line_marks, line_parts, mark_of, marks_of};
+ghost use Rattle.picture.specs.Svg.{misfit_at, misfit_mark, rests, since_band, since_lane, svg_band, svg_bands};
+ghost use Rattle.picture.specs.Svg.{svg_heads, svg_lane, svg_lanes, svg_open};
 
 use crate::bands::{Bands, Extent, IDS, Sheet};
 use crate::pieces::add;
@@ -422,8 +422,8 @@ pub fn add_svg_heads(text: &mut String, sheet: &Sheet<'_>, lines: usize) -> Resu
     add_lane_names(text, sheet, row_y(lines) + 18)
 }
 
-/// What stands behind all lines: the number of events.
-pub fn add_foot(text: &mut String, last: u32, lines: usize) -> Result<(), AllocError>
+/// The number of events, and the last tag.
+fn add_foot(text: &mut String, last: u32, lines: usize) -> Result<(), AllocError>
     ensures { IfOk result (λ _. string_bytes text.new ≡ string_bytes text.old ++ foot_text last lines) }
 {
     let mut rows = Buffer::new();
@@ -442,4 +442,50 @@ pub fn add_foot(text: &mut String, last: u32, lines: usize) -> Result<(), AllocE
             "\">end</text>\n</svg>\n",
         ],
     )
+}
+
+/// The row of a line that doesn't fit, and below the end which line it is.
+fn add_misfit_at(text: &mut String, line: usize, lines: usize) -> Result<(), AllocError>
+    ensures { IfOk result (λ _. string_bytes text.new ≡ string_bytes text.old ++ misfit_at line lines) }
+{
+    let mut tops = Buffer::new();
+    let mut rows = Buffer::new();
+    let mut numbers = Buffer::new();
+    let top = tops.format(row_y(line.saturating_sub(1)) - 9);
+    let row = rows.format(row_y(lines) + 33);
+    let number = numbers.format(line);
+    add(
+        text,
+        &[
+            "<rect class=\"m\" y=\"",
+            top,
+            "\" width=\"100%\" height=\"18\" fill=\"#c00\" fill-opacity=\".2\"/>\n<text class=\"m\" x=\"54\" y=\"",
+            row,
+            "\" fill=\"#c00\">line ",
+            number,
+            " doesn't fit those before it</text>\n",
+        ],
+    )
+}
+
+fn add_misfit(text: &mut String, misfit: Option<usize>, lines: usize) -> Result<(), AllocError>
+    ensures { IfOk result (λ _. string_bytes text.new ≡ string_bytes text.old ++ misfit_mark misfit lines) }
+{
+    match misfit {
+        Some(line) => add_misfit_at(text, line, lines),
+        None => Ok(()),
+    }
+}
+
+/// What stands behind all lines: which of them doesn't fit, and the number of events.
+pub fn add_end(
+    text: &mut String,
+    misfit: Option<usize>,
+    last: u32,
+    lines: usize,
+) -> Result<(), AllocError>
+    ensures { IfOk result (λ _. string_bytes text.new ≡ string_bytes text.old ++ end_text misfit last lines) }
+{
+    add_misfit(text, misfit, lines)?;
+    add_foot(text, last, lines)
 }

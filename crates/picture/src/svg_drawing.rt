@@ -4,14 +4,14 @@ ghost use Rattle.std.specs.Prelude.{◌≤◌};
 ghost use Rattle.lockword.specs.Threads.{named_threads};
 ghost use Rattle.streams.specs.Leaves.{Leaves};
 ghost use Rattle.picture.specs.Scenes.{first_scene};
-ghost use Rattle.picture.specs.Svg.{first_since, foot_text, line_marks, line_parts};
-ghost use Rattle.picture.specs.Svg.{marks, parts, rests, svg_drawn, svg_heads};
+ghost use Rattle.picture.specs.Svg.{end_text, first_since, line_marks, line_parts};
+ghost use Rattle.picture.specs.Svg.{marks, parts, rests, svg_drawn, svg_heads, svg_marked};
 
 use crate::bands::{BANDS, Extent, Sheet};
 use crate::drawing::{Unwritten, write_text};
 use crate::names::Names;
 use crate::scene::Scene;
-use crate::svg::{Since, add_foot, add_line, add_parts, add_rests, add_svg_heads};
+use crate::svg::{Since, add_end, add_line, add_parts, add_rests, add_svg_heads};
 use facts::{Fact, Line};
 use std::alloc::Global;
 use std::io::Write;
@@ -131,22 +131,48 @@ fn write_marks<W: Write>(
     Ok(())
 }
 
-fn write_foot<W: Write>(
+fn write_end<W: Write>(
     part: &mut String,
+    misfit: Option<usize>,
     last: u32,
     lines: usize,
     out: &mut W,
 ) -> Result<(), Unwritten>
-    ensures { Leaves (W.contents out.old) (W.contents out.new) result (foot_text last lines) }
+    ensures { Leaves (W.contents out.old) (W.contents out.new) result (end_text misfit last lines) }
 {
     part.clear();
-    add_foot(part, last, lines)?;
+    add_end(part, misfit, last, lines)?;
     write_text(part, out)
 }
 
 /// Draws a trace of so many threads and mutexes as SVG, time running downwards: each of its lines once, in the order of
 /// the trace, with the number of its event, and its mark in the lane of its thread. Things are called by these names.
-/// `last` is the number of events. At an error a beginning of the picture is written.
+/// `last` is the number of events. Line `misfit` of the trace, if one is named, is marked as one that doesn't fit; line 1
+/// is the trace's head. At an error a beginning of the picture is written.
+pub fn draw_svg_marked<W: Write>(
+    alloc: Global,
+    names: &Names,
+    threads: u8,
+    mutexes: u16,
+    lines: &[Line],
+    last: u32,
+    misfit: Option<usize>,
+    out: &mut W,
+) -> Result<(), Unwritten>
+    ensures { Leaves (W.contents out.old) (W.contents out.new) result
+        (svg_marked names.now threads mutexes lines.now last misfit) }
+{
+    let mut part = String::with_capacity(alloc, PART)?;
+    let extent = Extent::of(BANDS, names, threads, mutexes, lines);
+    let count = lines.len();
+    let sheet = Sheet { names, extent };
+    write_svg_heads(&mut part, &sheet, count, out)?;
+    write_parts(&mut part, &sheet, lines, out)?;
+    write_marks(&mut part, &sheet, lines, out)?;
+    write_end(&mut part, misfit, last, count, out)
+}
+
+/// Draws a trace as SVG with no line marked: see [`draw_svg_marked`].
 pub fn draw_svg<W: Write>(
     alloc: Global,
     names: &Names,
@@ -159,12 +185,5 @@ pub fn draw_svg<W: Write>(
     ensures { Leaves (W.contents out.old) (W.contents out.new) result
         (svg_drawn names.now threads mutexes lines.now last) }
 {
-    let mut part = String::with_capacity(alloc, PART)?;
-    let extent = Extent::of(BANDS, names, threads, mutexes, lines);
-    let count = lines.len();
-    let sheet = Sheet { names, extent };
-    write_svg_heads(&mut part, &sheet, count, out)?;
-    write_parts(&mut part, &sheet, lines, out)?;
-    write_marks(&mut part, &sheet, lines, out)?;
-    write_foot(&mut part, last, count, out)
+    draw_svg_marked(alloc, names, threads, mutexes, lines, last, None, out)
 }
