@@ -177,6 +177,26 @@ UNUSED static struct timespec after_us(clockid_t clock, long us)
     return t;
 }
 
+/* Waits until these children have ended, each with status 0; a PID of 0 is no child, and becomes that of one that has
+ * ended. Returns 0 if one of them doesn't end. */
+UNUSED static int all_end(pid_t *p, int n)
+{
+    struct timespec end = after_us(CLOCK_MONOTONIC, patience() * 1000000l), now;
+    for (int left = 1, status; left;) {
+        left = 0;
+        for (int i = 0; i < n; i++) {
+            if (p[i] && waitpid(p[i], &status, WNOHANG) == p[i])
+                p[i] = 0, EQUAL(status, 0);
+            left += p[i] != 0;
+        }
+        clock_gettime(CLOCK_MONOTONIC, &now);
+        if (left && now.tv_sec > end.tv_sec)
+            return 0;
+        nap(left ? 50 : 0);
+    }
+    return 1;
+}
+
 /* Random numbers, of each thread its own. */
 static _Thread_local uint64_t random_state UNUSED;
 UNUSED static void seed_random(uint64_t seed)

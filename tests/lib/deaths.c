@@ -267,20 +267,7 @@ static int others_end(void)
     }
     if (owner)
         other[others++] = owner;
-    struct timespec end = after_us(CLOCK_MONOTONIC, patience() * 1000000l), now;
-    for (int left = 1, status; left;) {
-        left = 0;
-        for (int i = 0; i < others; i++) {
-            if (other[i] && waitpid(other[i], &status, WNOHANG) == other[i])
-                other[i] = 0, EQUAL(status, 0);
-            left += other[i] != 0;
-        }
-        clock_gettime(CLOCK_MONOTONIC, &now);
-        if (left && now.tv_sec > end.tv_sec)
-            return 0;
-        nap(left ? 50 : 0);
-    }
-    return 1;
+    return all_end(other, others);
 }
 static void check_mutex(void)
 {

@@ -118,23 +118,6 @@ static int one_step(void)
     }
     return WIFSTOPPED(status) && !all->is_done;
 }
-static int others_end(void)
-{
-    struct timespec end = after_us(CLOCK_MONOTONIC, patience() * 1000000l), now;
-    for (int left = 1, status; left;) {
-        left = 0;
-        for (int i = 0; i < others; i++) {
-            if (other[i] && waitpid(other[i], &status, WNOHANG) == other[i])
-                other[i] = 0, EQUAL(status, 0);
-            left += other[i] != 0;
-        }
-        clock_gettime(CLOCK_MONOTONIC, &now);
-        if (left && now.tv_sec > end.tv_sec)
-            return 0;
-        nap(left ? 50 : 0);
-    }
-    return 1;
-}
 /* Nobody is inside any more, nor on the way there. */
 static void check_lock(void)
 {
@@ -177,7 +160,7 @@ static int die_before(long n, int sleepers)
     add_other(1);
     if (holder)
         other[others++] = holder;
-    if (CHECK(others_end()))
+    if (CHECK(all_end(other, others)))
         check_lock();
     for (int i = 0; i < others; i++)
         if (other[i])
