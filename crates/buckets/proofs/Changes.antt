@@ -57,7 +57,7 @@ enqueues n xs x = record { queues = λ k. threads_on-push k xs x; one_more = len
 
 -- ---- taking a thread out
 
--- a list without a thread that doesn't stand in it
+-- a list without a thread that isn't in it
 pub without_absent : (t : ℕ) (ids : List ℕ) → ¬ Contains ids t → without t ids ≡ ids
 without_absent t ids h =
     without-none t ids (All-weaker (Contains ids) (λ u. u ≢ t) (λ u m same. h (subst (λ (v : ℕ). Contains ids v) same m)) ids (All-contains_itself ids))

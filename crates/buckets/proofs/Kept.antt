@@ -67,7 +67,7 @@ pub stands_by_row : (n m : ℕ) (w : ℕ → Option Row) (rs : List Ring) (t : �
 stands_by_row n m w rs t None a e = stands_nowhere n m w rs t a (sym e)
 stands_by_row n m w rs t (Some x) a e = stands_somewhere n m w rs t x a (sym e)
 
--- who stands nowhere has no row, and is none of the threads in the rings
+-- who stands nowhere has no row, and isn't one of the threads in the rings
 pub no_thread : (n m : ℕ) (w : ℕ → Option Row) (rs : List Ring) (t : ℕ) → AreRings n m w rs → StandsNowhere (bucket n (sleeping_of w rs)) t → NotIn t (ids_in w rs)
 no_thread n m w rs t a h = go (among t (ids_in w rs))
   where
@@ -91,7 +91,7 @@ queue_of w front r back c =
 
 -- ---- a thread leaves
 
--- the thread stands in the ring of its key
+-- the thread is in the ring of its key
 its_place : (n m : ℕ) (w : ℕ → Option Row) (front : List Ring) (r : Ring) (back : List Ring) (t : ℕ) (x : Row) → AreRings n m w (front ++ r ∷ back) → w t ≡ Some x → r.first.key.0 ≡ x.key.0
     → (xs : List ℕ) × (ys : List ℕ) × (ids_of w r ≡ xs ++ t ∷ ys)
 its_place n m w front r back t x a is key = go (among t (ids_of w r))
@@ -197,7 +197,7 @@ leaves_at n m w v rs i t x a is at rows qs left =
     let made = leaves n m w v s.0 s.1 s.2 t x (subst (AreRings n m w) s.4 a) is (eqb-true s.1.first.key.0 x.key.0 s.5) rows qs (left s.0 s.2 s.1 s.3 s.4) in
     (made.0, subst (λ (l : List Ring). Removes (bucket n (sleeping_of w l)) (bucket n (sleeping_of v qs)) t true) (sym s.4) made.1)
 
--- a thread with a row stands in a ring
+-- a thread with a row is in a ring
 pub has_ring : (n m : ℕ) (w : ℕ → Option Row) (rs : List Ring) (t : ℕ) (x : Row) → AreRings n m w rs → w t ≡ Some x → position (λ r. r.first.key.0 == x.key.0) rs ≡ None → ⊥
 has_ring n m w rs t x a is none = some (sym is ∙ a.idle t (keyed_nowhere w rs t x a.linked (none_found x.key.0 rs none) is))
   where
@@ -206,7 +206,7 @@ has_ring n m w rs t x a is none = some (sym is ∙ a.idle t (keyed_nowhere w rs 
 
 -- ---- a thread comes
 
--- a sleeper between others, of whom those behind it sleep on other keys
+-- a sleeper between others, of whom those after it sleep on other keys
 pub enqueues_between : (n : ℕ) (xs : List Sleeper) (s : Sleeper) (ys : List Sleeper) → threads_on s.key.0 ys ≡ [] → Enqueues (bucket n (xs ++ ys)) (bucket n (xs ++ s ∷ ys)) s.thread s.key.0
 enqueues_between n xs s ys none = record {
   queues = λ j.

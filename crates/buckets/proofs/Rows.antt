@@ -165,7 +165,7 @@ pub before_put : (w : ℕ → Option Row) (k b y : ℕ) (ys : List ℕ) (a p : �
 before_put w k b y ys a p c o =
     (put_same w y (with_before p (w y)) ∙ ap (with_before p) c.0, linked_same w (put w y (with_before p (w y))) k y ys a (same_put w y (with_before p (w y)) ys o) c.1)
 
--- the ring is closed behind a thread that leaves it
+-- the ring is closed after a thread that leaves it
 pub closed : (w : ℕ → Option Row) (k t : ℕ) (zs : List ℕ) → Linked w k t zs t → Once zs → NotIn t zs → IsRing (put (joined w (last_or t zs) (first_or zs t)) t None) k zs
 closed w k t [] c o n = tt
 closed w k t (x ∷ xs) c o n =
@@ -183,7 +183,7 @@ unlinked w k t xs ys c o =
     let once = once_turned xs (t ∷ ys) o in
     turned (put (joined w (last_or t (ys ++ xs)) (first_or (ys ++ xs) t)) t None) k ys xs (closed w k t (ys ++ xs) (turned w k xs (t ∷ ys) c).1 once.1 once.0)
 
--- a thread that is a ring of its own gets behind the last of another ring
+-- a thread that is a ring of its own gets after the last of another ring
 pub appended : (w : ℕ → Option Row) (k t x : ℕ) (xs : List ℕ) → IsRing w k (x ∷ xs) → Once (x ∷ xs) → NotIn t (x ∷ xs) → w t ≡ Some (row k t t) → IsRing (joined (joined w (last_or x xs) t) t x) k ((x ∷ xs) ++ t ∷ [])
 appended w k t x xs c o n is =
     let l = last_or x xs in
@@ -242,7 +242,7 @@ none_followed w ids n t e = ap (λ (q : List ℕ). q ++ follow w (n - 0) t) e �
     whole : (n : ℕ) → n - 0 ≡ n
     whole n = omega arith
 
--- ---- threads that stand in another list
+-- ---- threads that are in another list
 
 pub apart_parts : (xs ys l : List ℕ) → Apart (xs ++ ys) l → Apart xs l × Apart ys l
 apart_parts [] ys l a = (tt, a)

@@ -12,8 +12,8 @@ use Rattle.std.specs.Prelude.{filter, take, drop, if◌then◌else◌, All, AllP
 use Rattle.lockword.specs.Threads.{most_threads}
 use Rattle.buckets.specs.declared.sleeper.Sleeper.{Sleeper}
 
--- who sleeps in a bucket with room for so many. Of those on one key, who came earlier stands first; the order between
--- keys says nothing
+-- who sleeps in a bucket with room for this many. Of those on one key, who came earlier stands first; the order
+-- between keys says nothing
 pub record Sleepers : Type 0 where
   pub capacity : ℕ
   pub sleeping : List Sleeper
@@ -63,7 +63,7 @@ pub record IsOrderly (b : Sleepers) : Type 0 where
   pub one_place : (k : ℕ) → AllPairs (λ t u. t ≢ u) (queue b k)
   pub one_queue : (t k j : ℕ) → Contains (queue b k) t → Contains (queue b j) t → k ≡ j
 
--- no thread stands, and there is room for so many
+-- no thread stands, and there is room for this many
 pub record IsEmptied (b : Sleepers) (room : ℕ) : Type 0 where
   pub capacity : b.capacity ≡ room
   pub nobody : standing b ≡ 0
@@ -109,7 +109,7 @@ pub record Fits (b other : Sleepers) (key n : ℕ) : Type 0 where
   pub room : standing other + length (take n (queue b key)) ≤ other.capacity
   pub awake : All (StandsNowhere other) (take n (queue b key))
 
--- the thread was taken out of the queue it stood in, if it stood, and everybody else stays
+-- the thread was taken out of the queue it was in, if it stood, and everybody else stays
 pub record Removes (old new : Sleepers) (thread : ℕ) (stood : Bool) : Type 0 where
   pub answer : MatchBool stood (Stands old thread) (StandsNowhere old thread)
   pub queues : (k : ℕ) → queue new k ≡ without thread (queue old k)

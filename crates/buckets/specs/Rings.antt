@@ -1,7 +1,7 @@
 -- The rows of the threads that sleep, and the rings through them.
 --
 -- *The rows of a bucket.* There are `most_threads`, that of thread t at index t - 1. A thread that stands in no queue
--- has none. One that stands in a queue has its key, and those before and after it: in the ring of those behind it in
+-- has none. One that stands in a queue has its key, and those before and after it: in the ring of those after it in
 -- the queue, those in front of it and then itself again, the last and the first. `AreRings` says that the fields of a
 -- bucket are such rings, and `sleeping_of` who sleeps by them.
 use Rattle.std.specs.Prelude.{ℕ, zero, suc, ◌≡◌, ◌≢◌, ◌-◌, ◌≤◌, ◌==◌, nat_le, List, [], ◌∷◌, ◌++◌}
@@ -30,7 +30,7 @@ last_or d (t ∷ ts) = last_or t ts
 abbrev pub row : ℕ → ℕ → ℕ → Row
 row k b a = record { key = record { 0 = k }; before = b; after = a }
 
--- what the rows of a bucket are: that of thread t stands at index t - 1. A thread that stands in no queue has none; one
+-- what the rows of a bucket are: that of thread t is at index t - 1. A thread that stands in no queue has none; one
 -- that stands in a queue has its key and, in the ring of those after it, those before it and then itself again, the
 -- last of them and the first
 pub record AreRows (rows : List (Option Row)) (b : Sleepers) : Type 0 where
@@ -55,7 +55,7 @@ with_before p (Some r) = Some (row r.key.0 p r.after)
 abbrev pub joined : (ℕ → Option Row) → ℕ → ℕ → ℕ → Option Row
 joined w p n = put (put w p (with_after n (w p))) n (with_before p (put w p (with_after n (w p)) n))
 
--- the rows after thread t, a ring of its own, was put behind the last thread of the ring that begins with f, whose row
+-- the rows after thread t, a ring of its own, was put after the last thread of the ring that begins with f, whose row
 -- is given
 abbrev pub behind : Option Row → (ℕ → Option Row) → ℕ → ℕ → ℕ → Option Row
 behind None w t f = w
@@ -66,7 +66,7 @@ abbrev pub next_or : Option Row → ℕ → ℕ
 next_or None t = t
 next_or (Some r) t = r.after
 
--- so many threads of a ring, from t on
+-- this many threads of a ring, from t on
 abbrev pub follow : (ℕ → Option Row) → ℕ → ℕ → List ℕ
 follow w zero t = []
 follow w (suc n) t = t ∷ follow w n (next_or (w t) t)
@@ -111,7 +111,7 @@ abbrev pub NoneOn : ℕ → List Ring → Type 0
 NoneOn k [] = Unit {0}
 NoneOn k (r ∷ rs) = (r.first.key.0 ≢ k) × NoneOn k rs
 
--- somebody stands in each ring, each is a ring through the rows, and no two have one key
+-- somebody is in each ring, each is a ring through the rows, and no two have one key
 abbrev pub AreLinked : (ℕ → Option Row) → List Ring → Type 0
 AreLinked w [] = Unit {0}
 AreLinked w (r ∷ rs) = (1 ≤ r.count) × IsRing w r.first.key.0 (ids_of w r) × NoneOn r.first.key.0 rs × AreLinked w rs
@@ -127,7 +127,7 @@ Once [] = Unit {0}
 Once (t ∷ ts) = NotIn t ts × Once ts
 
 -- what the fields of a bucket always are: there is room for 1 to `most_threads`, no more stand, and they are counted;
--- the rings are rings through the rows, no thread stands in two places, and who stands in none has no row
+-- the rings are rings through the rows, no thread is in two places, and who stands in none has no row
 pub record AreRings (capacity standing : ℕ) (w : ℕ → Option Row) (rings : List Ring) : Type 0 where
   pub first : 1 ≤ capacity
   pub last : capacity ≤ most_threads

@@ -5,7 +5,7 @@ ghost use Rattle.lockword.specs.Threads.{most_threads};
 use lockword::{MOST_THREADS, Tid};
 use std::marker::Model;
 
-/// So many threads there are at most.
+/// This many threads there are at most.
 pub(crate) const THREADS: usize = MOST_THREADS as usize;
 
 /// At most [`MOST_THREADS`] threads, in the order in which they slept. It takes no memory.

@@ -16,7 +16,7 @@ use memorymap::{Key, NoMem};
 use std::alloc::{AllocError, Global};
 use std::marker::Model;
 
-/// Who sleeps, with room for so many: each key's queue, as a ring through the rows of its threads.
+/// Which threads sleep, with room for this many: each key's queue, as a ring through the rows of its threads.
 #[derive(Drop)]
 pub struct Bucket {
     capacity: usize,
@@ -163,7 +163,7 @@ impl Bucket {
         ensures changes { MovesWithin self.old self.new key.0 n to.0 result }
         ensures orderly { IsOrderly self.new }
     {
-        // As in `enqueue_all`, for what the bucket keeps.
+        // Like `enqueue_all`, for what the bucket keeps.
         let _capacity = self.capacity;
         let moved = self.take(key, n);
         self.enqueue_all(&moved, to);
@@ -172,14 +172,14 @@ impl Bucket {
 
     /// Moves the first `n` of the key's queue, or all where there are fewer, to the end of a queue of another bucket;
     /// answers them, in order (futex(2), FUTEX_REQUEUE). The other bucket has to have room for those moved, and none of
-    /// them may stand in it: [`Bucket::fits`] tells.
+    /// them may be in it: [`Bucket::fits`] tells.
     pub fn move_to(&mut self, other: &mut Bucket, key: Key, n: u32, to: Key) -> Batch
         requires fits { Fits self.old other.old key.0 n }
         ensures changes { MovesTo self.old self.new other.old other.new key.0 n to.0 result }
         ensures orderly { IsOrderly self.new }
         ensures other { IsOrderly other.new }
     {
-        // As in `enqueue_all`, for what the bucket keeps.
+        // Like `enqueue_all`, for what the bucket keeps.
         let _capacity = self.capacity;
         let moved = self.take(key, n);
         other.enqueue_all(&moved, to);
@@ -206,7 +206,7 @@ impl Bucket {
         true
     }
 
-    /// Takes the thread out of the queue it stands in. False where it stood in none.
+    /// Takes the thread out of the queue it is in. False where it was in none.
     pub fn remove(&mut self, thread: Tid) -> bool
         ensures changes { Removes self.old self.new thread result }
         ensures orderly { IsOrderly self.new }
@@ -249,7 +249,7 @@ impl Bucket {
         }
     }
 
-    /// Who stands in the key's queue, in order.
+    /// Which threads stand in the key's queue, in order.
     pub fn sleepers(&self, key: Key) -> Batch
         ensures { result ≡ queue self.now key.0 }
     {

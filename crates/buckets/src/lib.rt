@@ -2,12 +2,12 @@
 //!
 //! A [`Bucket`] keeps who sleeps on which key (futex(2)). Each key has a queue: a wait appends to the queue of its key,
 //! a wake takes the first ones, a requeue moves the first ones to the end of another queue, of this bucket or of
-//! another one, and a removal takes one thread out of the queue it stands in. A thread stands in one queue at most,
+//! another one, and a removal takes one thread out of the queue it is in. A thread stands in one queue at most,
 //! once. How many buckets there are is [`BUCKETS`]. The queues are rings through one array of rows, one for each
 //! thread, which [`Bucket::rows`] lends ([`Row`]). A [`Batch`] is threads in order, as one wake or one requeue takes
 //! them. All the room is made by `Bucket::new` and by a clone; no other call takes memory.
 //!
-//! Stands on `memorymap`, for a word's key and want of memory, and on `lockword`, for thread ids.
+//! Is on `memorymap`, for a word's key and lack of memory, and on `lockword`, for thread ids.
 //!
 //! ```text
 //! let mut bucket = Bucket::new(rt.alloc(), 64)?;

@@ -86,7 +86,7 @@ pub(crate) fn append(rows: &mut Rows, thread: Tid, first: Tid)
     }
 }
 
-/// So many threads of a ring from this one on, in order: at most so many as there are threads.
+/// This many threads of a ring from this one on, in order: at most so many as there are threads.
 pub(crate) fn batch_from(rows: &Rows, first: Tid, count: usize) -> Batch
     requires { count ≤ most_threads }
     ensures { result ≡ follow (row_of rows.now) count first }

@@ -1,4 +1,4 @@
-//! Who sleeps, and for what.
+//! Which threads sleep, and for what.
 
 use lockword::Tid;
 use memorymap::Key;

@@ -14,11 +14,11 @@ slot_of p = 10 * ((p + 2) / 3) + (p + 2) % 3
 abbrev pub place_of : ℕ → ℕ
 place_of s = 3 * (s / 10) + s % 10 - 2
 
--- how many words of memory so many places take
+-- how many words of memory this many places take
 abbrev pub slots_for : ℕ → ℕ
 slots_for n = 10 * ((n + 1) / 3 + 1)
 
--- the words of so many places from p on
+-- the words of this many places from p on
 abbrev pub words_from : ℕ → ℕ → List ℕ → List ℕ
 words_from zero p ws = []
 words_from (suc n) p ws = slice_index ws (slot_of p) ∷ words_from n (suc p) ws
@@ -28,7 +28,7 @@ module _ {S V : Type 0} where
   abbrev pub by_place : ℕ → State S V → State S V
   by_place n s = record { words = words_from n 0 s.words; homes = s.homes; views = s.views }
 
-  -- a rule of words by place, of so many, as one of memory
+  -- a rule of words by place, of this many, as one of memory
   abbrev pub spread : ℕ → (State S V → Type 0) → State S V → Type 0
   spread n holds s = (length s.words ≡ slots_for n) × holds (by_place n s)
 

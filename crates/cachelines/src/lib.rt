@@ -8,7 +8,7 @@
 //!
 //! What is proved: each step by a place makes just the step of that name on the list of the words by place, from
 //! [`Places::of_words`] to [`Places::close`]. How far apart they lie is the definition `slot_of`, and the law
-//! [`groups_are_apart`]. It stands on `atomic_table`, for the words and their steps.
+//! [`groups_are_apart`]. It is on `atomic_table`, for the words and their steps.
 //!
 //! ```text
 //! // `Law` is a PlaceRule of four words, and `Take` a Play.

@@ -17,7 +17,7 @@ pub(crate) fn slot(place: usize) -> usize
     ROOM * ((place + 2) / GROUP) + (place + 2) % GROUP
 }
 
-/// How many words of memory so many places take.
+/// How many words of memory this many places take.
 pub(crate) fn room(places: usize) -> usize
     requires { places < 2 ^ 60 }
     ensures { result ≡ slots_for places }

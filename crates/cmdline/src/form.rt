@@ -18,7 +18,7 @@ pub enum Form<'a> {
     /// `rfx run FILE`: the script in this file is run. The name doesn't begin with a hyphen.
     Run(&'a str),
     /// `rfx run --table FILE`: the script in this file is run, and how it left the threads, mutexes and condition
-    /// variables is told. The name doesn't begin with a hyphen.
+    /// variables is reported. The name doesn't begin with a hyphen.
     Table(&'a str),
     /// `rfx threads FILE`: the calls of the script in this file are made by real threads. The name doesn't begin with a
     /// hyphen.

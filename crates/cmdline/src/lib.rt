@@ -1,10 +1,10 @@
 //! What the words of a command line ask for.
 //!
 //! [`form_of_words`] answers the [`Form`] of a command line: of each that isn't one of the others, [`Form::Usage`].
-//! `clap` is asked first, and then the words are matched. It stands in a crate of its own, so that no other proof reads
+//! `clap` is asked first, and then the words are matched. It is in a crate of its own, so that no other proof reads
 //! what `clap` promises.
 //!
-//! Stands on `clap`, for commands, options and arguments, and on `memorymap`, for want of memory, and on `streams`, for
+//! Is on `clap`, for commands, options and arguments, and on `memorymap`, when memory runs out, and on `streams`, for
 //! which words name files.
 //!
 //! ```text

@@ -8,11 +8,11 @@ use lockword::{Reply, Tid};
 use posixmutex::Operation;
 use std::alloc::Global;
 
-/// What holds of all mutexes behind the newest line.
+/// What holds of all mutexes after the newest line.
 #[derive(Clone, Copy)]
 pub struct Moment<'a> {
     pub now: u32,
-    /// By the threads' ids, who is killed or doomed.
+    /// Indexed by the threads' ids, who is killed or doomed.
     pub dead: &'a [bool; IDS],
 }
 

@@ -11,7 +11,7 @@ use std::alloc::Global;
 pub struct Step {
     /// The step before it, counted from 1; 0 where there is none.
     pub before: u32,
-    /// When it was found possible: behind this line.
+    /// When it was found possible: after this line.
     pub at: u32,
     /// When its call began; 0 of a death.
     pub begin: u32,

@@ -9,7 +9,7 @@ use lockword::Tid;
 use posixmutex::Operation;
 use std::alloc::Global;
 
-/// A doomed thread's kill: behind this line.
+/// A doomed thread's kill: after this line.
 #[derive(Clone, Copy)]
 pub struct Dying {
     pub gap: u32,
@@ -44,7 +44,7 @@ fn reapings(alloc: Global, lines: &[HistoryLine]) -> Result<Vec<Reaping>, Stop> 
     Ok(reapings)
 }
 
-/// The reapings behind that moment.
+/// The reapings after that moment.
 fn behind(reapings: &[Reaping], moment: u32) -> &[Reaping] {
     let from = reapings.partition_point(|reaping| reaping.at <= moment);
     if from <= reapings.len() {
@@ -54,7 +54,7 @@ fn behind(reapings: &[Reaping], moment: u32) -> &[Reaping] {
     }
 }
 
-/// When the thread is reaped, behind that moment; behind the last line where it isn't.
+/// When the thread is reaped, after that moment; after the last line where it isn't.
 fn reaped_behind(reapings: &[Reaping], last: u32, thread: Tid, moment: u32) -> u32 {
     for reaping in behind(reapings, moment) {
         if reaping.thread == thread {
@@ -129,7 +129,7 @@ fn hasten(contended: &mut Contended) {
     }
 }
 
-/// Moves deaths as far behind, and takings as far ahead, as the other steps let them; and what doomed threads did in
+/// Moves deaths as far after, and takings as far ahead, as the other steps let them; and what doomed threads did in
 /// their last calls ahead of their deaths.
 pub fn late_deaths(alloc: Global, lines: &[HistoryLine], pass: &mut Pass) -> Result<(), Stop> {
     let reapings = reapings(alloc, lines)?;
@@ -230,7 +230,7 @@ fn bound_all(doomed: &mut Vec<Doomed>, pass: &Pass) {
     }
 }
 
-/// When the doomed threads die: behind what their last calls did, and before any of their deaths. The order is that of
+/// When the doomed threads die: after what their last calls did, and before any of their deaths. The order is that of
 /// these moments.
 pub fn dyings(alloc: Global, lines: &[HistoryLine], pass: &Pass) -> Result<Vec<Dying>, Stop> {
     let mut doomed = last_calls(alloc, lines)?;

@@ -1,4 +1,4 @@
-//! How threads' lives end in a pass, and begin anew.
+//! How threads' lives end in a pass, and begin again.
 
 use crate::lives::Turn;
 use crate::pass::Pass;

@@ -17,7 +17,7 @@ pub enum End {
     Killed,
     /// By its thread's death, whose moment isn't known.
     Doomed,
-    /// It doesn't, in these lines.
+    /// The call doesn't, in these lines.
     Open,
 }
 
@@ -37,7 +37,7 @@ const OPEN: Fate = Fate {
     gone: NEVER,
 };
 
-/// By the threads' ids, when the call began that hasn't ended; 0 where there is none.
+/// Indexed by the threads' ids, when the call began that hasn't ended; 0 where there is none.
 #[derive(Drop)]
 struct Begins([u32; IDS]);
 
@@ -91,7 +91,7 @@ fn tell(fates: &mut Vec<Fate>, begins: &mut Begins, entry: &Entry, now: u32) {
     }
 }
 
-/// For each line, what becomes of the call that it begins, if it does. What stands behind these lines isn't looked at.
+/// For each line, what becomes of the call that it begins, if it does. What stands after these lines isn't looked at.
 pub fn fates(alloc: Global, lines: &[HistoryLine]) -> Result<Vec<Fate>, Stop> {
     let mut fates = Vec::new(alloc);
     let mut begins = Begins([0; IDS]);

@@ -55,7 +55,7 @@ impl Life {
         self.owned.len() >= usize::from(HELD_LIMIT)
     }
 
-    /// Its call has returned.
+    /// The call has returned.
     pub fn settle(&mut self, mutex: u16, operation: Operation, reply: Reply) -> Result<(), Stop> {
         self.turn = Turn::Resting;
         match (operation, reply) {
@@ -72,7 +72,7 @@ impl Life {
         }
     }
 
-    /// It dies, perhaps in a call on this mutex.
+    /// Dies, perhaps in a call on this mutex.
     pub fn leave(&mut self, alloc: Global, calls: Option<u16>) -> Result<(), Stop> {
         self.left = mem::replace(&mut self.owned, Vec::new(alloc));
         match calls {

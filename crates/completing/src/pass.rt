@@ -24,7 +24,7 @@ pub struct Look {
     pub end: u32,
 }
 
-/// What is known behind the lines so far.
+/// What is known after the lines so far.
 #[derive(Drop)]
 pub struct Pass {
     pub(crate) alloc: Global,

@@ -11,13 +11,13 @@ pub struct Pending {
     pub operation: Operation,
     /// When it began.
     pub begin: u32,
-    /// Its thread owned the mutex then.
+    /// The thread owned the mutex then.
     pub owned: bool,
     /// And that was inconsistent.
     pub inconsistent: bool,
-    /// Its thread owned as many mutexes as it may.
+    /// The thread owned as many mutexes as it may.
     pub full: bool,
-    /// Its thread is doomed.
+    /// The thread is doomed.
     pub doomed: bool,
     /// The bit by which states tell that it has acted; 0 where they needn't.
     pub mark: u64,
@@ -62,7 +62,7 @@ pub struct State {
     pub way: u32,
 }
 
-/// Of a mutex that nobody has locked yet.
+/// About a mutex that nobody has locked yet.
 pub const FRESH: State = State {
     owner: None,
     inconsistent: false,
@@ -100,7 +100,7 @@ fn left_of(pending: &[Pending], one: &State, other: &State, gone: u32) -> (u32, 
 }
 
 /// Whether for each call that is left to the other one there is another that is left to the one, in a thread that is
-/// gone no earlier. What was made anew has to be the same.
+/// gone no earlier. What was reinitialised has to be the same.
 fn leaves_more(pending: &[Pending], one: &State, other: &State) -> bool {
     for call in pending {
         if call.has_acted(one) == call.has_acted(other) {

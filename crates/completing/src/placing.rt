@@ -11,12 +11,12 @@ use std::alloc::Global;
 /// A step, and where it stands.
 #[derive(Clone, Copy)]
 pub struct Placed {
-    /// Behind this line.
+    /// After this line.
     pub gap: u32,
     pub mutex: u16,
-    /// Behind so many steps of its mutex that change it.
+    /// After this many steps of its mutex that change it.
     pub order: u32,
-    /// It changes nothing.
+    /// Changes nothing.
     pub looks: bool,
     pub fact: Fact,
 }
@@ -40,7 +40,7 @@ fn fact_of(mutex: u16, step: &Step) -> Fact {
     }
 }
 
-/// The mutex behind so many of its steps.
+/// The mutex after this many of its steps.
 fn object_behind(left: &[Left], steps: usize) -> Object {
     match left.get(steps.wrapping_sub(1)) {
         Some(step) => step.object,
@@ -48,7 +48,7 @@ fn object_behind(left: &[Left], steps: usize) -> Object {
     }
 }
 
-/// When the last of so many steps was.
+/// When the last of this many steps was.
 fn moment_before(left: &[Left], steps: usize) -> Option<u32> {
     match left.get(steps.wrapping_sub(1)) {
         Some(step) => Some(step.at),
@@ -90,7 +90,7 @@ fn place_steps(
     Ok(left)
 }
 
-/// Whether the look finds what it was told.
+/// Whether the look finds what it returned.
 fn finds(look: &Look, object: Object) -> bool {
     let held = if look.reply == Reply::XHELD {
         HELD_LIMIT
@@ -103,7 +103,7 @@ fn finds(look: &Look, object: Object) -> bool {
     }
 }
 
-/// The latest moment of its call at which a look finds what it was told, and behind how many steps.
+/// The latest moment of its call at which a look finds what it returned, and after how many steps.
 fn moment_of(look: &Look, left: &[Left]) -> Result<(u32, u32), Stop> {
     let mut behind = left.partition_point(|step| step.at < look.end);
     let mut gap = look.end.wrapping_sub(1);

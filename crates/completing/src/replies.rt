@@ -90,8 +90,8 @@ pub fn allows(call: &Pending, reply: Reply, state: &State) -> bool {
     }
 }
 
-/// The operation of the point by which a call is told so: a lock with a time limit is told as a lock, unless the limit
-/// came; a wait that lost its mutex, as the lock that it ends with, and one with a time limit else as a wait.
+/// The operation of the point by which a call is told so: a lock with a time limit is recorded as a lock, unless the
+/// limit came; a wait that lost its mutex, as the lock that it ends with, and one with a time limit else as a wait.
 pub fn told_as(operation: Operation, reply: Reply) -> Operation {
     match operation {
         Operation::TimedLock if reply != Reply::ETIMEDOUT => Operation::Lock,

@@ -11,7 +11,7 @@ use std::alloc::AllocError;
 pub enum Stop {
     /// No memory was left.
     Memory,
-    /// It doesn't know.
+    /// The thread doesn't know.
     Lost,
     /// No order of the calls explains the line, or its thread can't have it there.
     Refused,
@@ -23,7 +23,7 @@ impl From<AllocError> for Stop {
     }
 }
 
-/// Keeps a value behind the others.
+/// Keeps a value after the others.
 pub fn keep<T: Copy>(values: &mut Vec<T>, value: T) -> Result<(), Stop> {
     match values.push(value) {
         Ok(()) => Ok(()),

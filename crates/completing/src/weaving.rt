@@ -8,7 +8,7 @@ use facts::Fact;
 use histories::{Entry, HistoryLine};
 use std::alloc::Global;
 
-/// The steps behind this line, and those that follow them. They are looked at one by one: there are few behind a line.
+/// The steps after this line, and those that follow them. They are looked at one by one: there are few after a line.
 fn split_at_gap(placed: &[Placed], gap: u32) -> (&[Placed], &[Placed]) {
     match placed.iter().position(|step| step.gap > gap) {
         Some(count) => placed.split_at(count),
@@ -16,7 +16,7 @@ fn split_at_gap(placed: &[Placed], gap: u32) -> (&[Placed], &[Placed]) {
     }
 }
 
-/// The threads that die behind this line, and those that die later.
+/// The threads that die after this line, and those that die later.
 fn split_dying(dying: &[Dying], gap: u32) -> (&[Dying], &[Dying]) {
     match dying.iter().position(|one| one.gap > gap) {
         Some(count) => dying.split_at(count),
@@ -24,7 +24,7 @@ fn split_dying(dying: &[Dying], gap: u32) -> (&[Dying], &[Dying]) {
     }
 }
 
-/// Whether a step waits: a death for its thread's kill, and what stands behind it at its mutex.
+/// Whether a step waits: a death for its thread's kill, and what stands after it at its mutex.
 fn waits(step: &Placed, alive: &[Dying], stuck: &[u16]) -> bool {
     if stuck.contains(&step.mutex) {
         return true;
@@ -77,7 +77,7 @@ fn tell_steps(
     Ok(later)
 }
 
-/// Tells the steps and the kills behind one line, in an order that suits both.
+/// Tells the steps and the kills after one line, in an order that suits both.
 fn tell_gap(
     alloc: Global,
     placed: &[Placed],

@@ -39,7 +39,7 @@ use Rattle.condvar.specs.Laws.{GoesOnFrom}
 use Rattle.condvar.specs.WholeLaws.{points_after, first_met, IsPermittedFirst}
 use Rattle.condvar.proofs.Replies.{permitted}
 
--- what a call that stands behind its first load may decide yet, for the cell met there
+-- what a call that stands after its first load may decide yet, for the cell met there
 abbrev RowMay : Fields → ℕ → CondRow → Type 0
 RowMay c t (Wait wait.LoadCell) = ⊥
 RowMay c t (Wait r) = IsPermitted c t operation.Unlock OK
@@ -78,7 +78,7 @@ releases : (c : Fields) (t s : ℕ) (p : CondWhole) (b : Bool) → IsPermitted c
 releases c t s p true m = (one c t _ (inr m), m)
 releases c t s p false m = (one c t _ (inr m), m)
 
--- each row behind the first load, each answer
+-- each row after the first load, each answer
 words : (c : Fields) (t : ℕ) (p : CondWhole) (r : CondRow) (a : Answer) → RowMay c t r → Goes c t (from_words p (resume_of p.thread r a))
 words c t p (Wait wait.LoadCell) a m = absurd m
 words c t p (Wait wait.LoadCounter) (Value s) m = (none c t, m)

@@ -87,7 +87,7 @@ at t (Broadcast (broadcast.Move s)) a d pos e = tt
 at t Awake a d pos e = tt
 at t (Ended x) a d pos e = tt
 
--- behind the first load no call comes back to it
+-- after the first load no call comes back to it
 signal_on : (t : ℕ) (b : Bool) → GoesOnFrom t (if b then ends operation.Signal XFULL else goes (Signal signal.Count)).row None
 signal_on t true = tt
 signal_on t false = tt

@@ -52,7 +52,7 @@ use Rattle.condvar.specs.WholeLaws.{cond_reached, points_after, point, IsDecided
 
 -- ---- the lock that ends a wait
 
--- it stands at rows of a lock, or is through with the cell
+-- it is at rows of a lock, or is finished with the cell
 abbrev pub IsLockPhase : Phase → Type 0
 IsLockPhase (phase.AtCell (row.Lock r)) = rows.Knows (row.Lock r)
 IsLockPhase (phase.Linking l x) = Unit {0}
@@ -113,7 +113,7 @@ led t (row.TryLock r) a pos h = absurd h
 led t (row.Unlock r) a pos h = absurd h
 led t (row.Consistent r) a pos h = absurd h
 
--- through with the cell it keeps the reply
+-- finished with the cell it keeps the reply
 left : (p : CondWhole) (f : Phase) (x : Reply) → lock_decided (mutex.leaving (lock_of p f) operation.Lock x) ≡ Some x
 left p f EFAULT = refl
 left p f OK = refl
@@ -310,7 +310,7 @@ locking p f a pos h =
 as_told : (op : Operation) (p : CondWhole) (o : CondOnward) (ps qs : List Point) → ps ≡ qs → Had op p o.phase (qs ++ points o.point) → Had op p o.phase (ps ++ points o.point)
 as_told op p o ps qs e h = subst (λ (z : List Point). Had op p o.phase (z ++ points o.point)) (sym e) h
 
--- none behind the last
+-- none after the last
 none_more : (ps : List Point) → ps ++ [] ≡ ps
 none_more [] = refl
 none_more (q ∷ ps) = ap (λ (z : List Point). q ∷ z) (none_more ps)

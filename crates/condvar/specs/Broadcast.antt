@@ -1,6 +1,6 @@
 -- Broadcast, access by access (pthread_cond_broadcast; FUTEX_CMP_REQUEUE in futex(2)).
 --
--- | stands at   | access                                                    | then
+-- | is at       | access                                                    | then
 -- | LoadCell    | load the cell                                             | another's, or nobody's: EPERM. Own: LoadCounter
 -- | LoadCounter | load the counter                                          | at its largest value: X_FULL. Else Count, with its low half
 -- | Count       | add 1 to the counter                                      | OK; SetWaiters

@@ -2,7 +2,7 @@
 --
 -- *A wait with a time limit.* It is a wait: the same accesses, the same points. Its time limit may come while it sleeps on
 -- its condition variable. Then it locks its mutex again, as one that was woken does, and where that lock replies OK it
--- returns ETIMEDOUT in its place, as the owner. EOWNERDEAD and ENOTRECOVERABLE it returns as any wait. Source:
+-- returns ETIMEDOUT instead, as the owner. EOWNERDEAD and ENOTRECOVERABLE it returns as any wait. Source:
 -- pthread_cond_timedwait(3p).
 use Rattle.std.specs.Prelude.{ℕ, Bool, true, false, Option, Some, None}
 use Rattle.lockword.specs.declared.reply.Reply.{Reply}

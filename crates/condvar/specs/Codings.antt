@@ -1,6 +1,6 @@
 -- Where a call on a condition variable stands, as plain numbers: for whoever keeps it outside Rattle.
 --
--- | kind     | stands at                                             | carries
+-- | kind     | is at                                                 | carries
 -- | 0        | it has returned                                       | its reply
 -- | 1 to 5   | Wait: LoadCell, LoadCounter, Release, Wake, Sleep     | seen: the counter's low half (3 to 5)
 -- | 6 to 9   | Signal: LoadCell, LoadCounter, Count, Wake            |

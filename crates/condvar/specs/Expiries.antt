@@ -1,9 +1,10 @@
 -- What holds of a wait with a time limit (pthread_cond_timedwait(3p)).
 --
 -- *A right wait with a time limit.* Its accesses and its points are those of a wait. Where a call sleeps on its condition
--- variable it has released its mutex, and had no other point. So its time limit, which comes only there, comes behind its
--- unlock; and what it does then it does as one that is woken: it locks its mutex. Its reply is that of a wait, but
--- ETIMEDOUT for OK, where the limit came. A call begins with its limit ahead, and a limit comes of such a wait alone.
+-- variable it has released its mutex, and had no other point. So its time limit, which comes only there, comes after
+-- its unlock; and what it does then it does as one that is woken: it locks its mutex. Its reply is that of a wait,
+-- but ETIMEDOUT for OK, where the limit came. A call begins with its limit ahead, and a limit comes of such a wait
+-- alone.
 use Rattle.std.specs.Prelude.{ℕ, ◌≡◌, ◌≢◌, ◌≤◌, ◌↔◌, Bool, true, List, [], ◌∷◌, Option, Some}
 use Rattle.lockword.specs.declared.reply.Reply.{Reply}
 use Rattle.lockword.specs.declared.reply.Reply.TheVariants.{OK, ETIMEDOUT}

@@ -62,7 +62,7 @@ counter_after t cell counter r k = if is_at_counter r then changed (row_access t
 abbrev pub largest_counter : ℕ
 largest_counter = 4294967295
 
--- what a call that stands at a row needs of the cell and of the counter. A release, a count and a setting of WAITERS
+-- what a call that is at a row needs of the cell and of the counter. A release, a count and a setting of WAITERS
 -- need that its thread owns the mutex; a release that it is consistent, a count that the counter isn't full, a move
 -- that WAITERS is set and that the counter is one more than it was
 abbrev pub Expects : ℕ → CondRow → Fields → ℕ → Type 0

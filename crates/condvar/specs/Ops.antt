@@ -1,7 +1,7 @@
 -- Calls, on mutexes and on condition variables.
 --
 -- *Calls.* On a mutex or on a condition variable; one of these is about the mutex that the layout gives its condition
--- variable. A wait stands in a call on its condition variable until it is awake, and then in the lock that ends it
+-- variable. A wait is in a call on its condition variable until it is awake, and then in the lock that ends it
 -- (`Stage`; `protocol/src/thread.rt`).
 use Rattle.std.specs.Prelude.{ℕ, Bool, ◌&&◌, Option, Some, None, nat_lt, length}
 use Rattle.lockword.specs.declared.reply.Reply.{Reply}
@@ -42,7 +42,7 @@ abbrev pub may_call : Layout' → Op → Bool
 may_call l (OnMutex c) = is_in l (OnMutex c)
 may_call l (OnCondition c) = is_in l (OnCondition c) && condition.is_ahead c
 
--- what it returns, where its accesses came to that reply: a wait that is out of time returns ETIMEDOUT in place of OK
+-- what it returns, where its accesses came to that reply: a wait that is out of time returns ETIMEDOUT instead of OK
 abbrev pub reply_of : Op → Reply → Reply
 reply_of (OnMutex c) x = x
 reply_of (OnCondition c) x = condition.reply_of c x

@@ -1,4 +1,4 @@
--- Where calls on condition variables stand at the cell and the counter, and where answers lead.
+-- Where calls on condition variables are at the cell and the counter, and where answers lead.
 use Rattle.std.specs.Prelude.{ℕ, Some, None}
 use Rattle.lockword.specs.declared.reply.Reply.{Reply}
 use Rattle.lockword.specs.declared.reply.Reply.TheVariants.{EFAULT}
@@ -24,7 +24,7 @@ faults = goes (Ended EFAULT)
 abbrev pub full : ℕ
 full = 0xffff_ffff
 
--- the call isn't through with the cell and the counter
+-- the call isn't finished with the cell and the counter
 abbrev pub IsGoing : CondRow → Type 0
 IsGoing Awake = ⊥
 IsGoing (Ended x) = ⊥

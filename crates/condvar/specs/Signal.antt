@@ -1,6 +1,6 @@
 -- Signal, access by access (pthread_cond_signal).
 --
--- | stands at   | access                          | then
+-- | is at       | access                          | then
 -- | LoadCell    | load the cell                   | another's, or nobody's: EPERM. Own: LoadCounter
 -- | LoadCounter | load the counter                | at its largest value: X_FULL. Else Count
 -- | Count       | add 1 to the counter            | OK; Wake

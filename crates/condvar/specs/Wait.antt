@@ -1,6 +1,6 @@
 -- Wait, access by access, until it is awake again (pthread_cond_wait; futex(2)).
 --
--- | stands at   | access                                        | then
+-- | is at       | access                                        | then
 -- | LoadCell    | load the cell                                 | another's, or nobody's: EPERM. Own, OWNER_DIED set: X_STATE. Else LoadCounter
 -- | LoadCounter | load the counter                              | Release, with its low half
 -- | Release     | flip the owner's id away                      | an unlock, OK; where WAITERS was set Wake, else Sleep

@@ -13,12 +13,12 @@ use Rattle.condvar.specs.declared.row.Decided.{Decided}
 use Rattle.condvar.specs.Rows.{IsGoing}
 use Rattle.condvar.specs.Programs.{row_access, resume_of}
 
--- the word that was met, if any was told, has WAITERS
+-- the word that was met, if any was recorded, has WAITERS
 abbrev pub tells_waiters : Answer → Bool
 tells_waiters (Value w) = (fields_of w).waiters
 tells_waiters a = false
 
--- behind its point a call wakes n sleepers of the word at this address: one of the mutex behind a wait's release, where
+-- after its point a call wakes n sleepers of the word at this address: one of the mutex after a wait's release, where
 -- WAITERS was set, and one of the condition variable where a signal counted. A broadcast wakes nobody: it moves
 abbrev pub WakesBehind : ℕ → ℕ → Operation → Reply → Bool → ℕ → ℕ → Type 0
 WakesBehind cell counter Unlock OK true at n = (at ≡ cell) × (n ≡ 1)

@@ -1,7 +1,7 @@
 -- A whole call, access by access: what it does at the cell and the counter, and around that, in a wait, at its thread's
 -- robust list (robust-futexes, its ABI document).
 --
--- | stands at  | access                             | then
+-- | is at      | access                             | then
 -- | AtWords    | that of the call's row             | as the row says; but before a release Announcing, and awake Locking
 -- | Announcing | store the entry as the pending one | Unlinking
 -- | Unlinking  | that of the unlink's row           | out of the list: AtWords, to release
@@ -51,7 +51,7 @@ abbrev pub IsUnderWay : CondPhase → Type 0
 IsUnderWay (Ended x) = ⊥
 IsUnderWay f = Unit {0}
 
--- a call in a phase isn't through with it
+-- a call in a phase isn't finished with it
 abbrev pub PhaseKnows : CondPhase → Type 0
 PhaseKnows (AtWords r) = IsGoing r
 PhaseKnows (Unlinking u seen) = UnlinkGoes u.row

@@ -36,7 +36,7 @@ abbrev pub cond_reached : CondWhole → List Answer → CondWhole
 cond_reached p [] = p
 cond_reached p (a ∷ answers) = cond_reached (cond_moved p (cond_led p a)) answers
 
--- the points that it makes with them, behind those that it made so far
+-- the points that it makes with them, after those that it made so far
 abbrev pub points_after : CondWhole → List Point → List Answer → List Point
 points_after p so_far [] = so_far
 points_after p so_far (a ∷ answers) =
@@ -73,8 +73,8 @@ abbrev pub first_met : List Answer → Option Fields
 first_met (Value w ∷ answers) = Some (fields_of w)
 first_met answers = None
 
--- the object permits a point of thread t for that cell; what it permits the lock that ends a wait is told by the cells
--- that the lock meets, as the mutex's laws say
+-- the object permits a point of thread t for that cell; what it permits the lock that ends a wait is recorded by the
+-- cells that the lock meets, as the mutex's laws say
 abbrev pub IsPermittedFirst : ℕ → Option Fields → Point → Type 0
 IsPermittedFirst t (Some c) q = (q.operation ≡ operation.Lock) ⊎ IsPermitted c t q.operation q.reply
 IsPermittedFirst t None q = ⊥
@@ -83,12 +83,12 @@ IsPermittedFirst t None q = ⊥
 abbrev pub WakesNext : CondWhole → Answer → ℕ → ℕ → Type 0
 WakesNext p a at n = cond_access (cond_moved p (cond_led p a)) ≡ access.Wake at n
 
--- behind this point it is to wake n sleepers of the word at this address
+-- after this point it is to wake n sleepers of the word at this address
 abbrev pub IsToWake : CondWhole → Option Point → Bool → ℕ → ℕ → Type 0
 IsToWake p None b at n = ⊥
 IsToWake p (Some q) b at n = WakesBehind p.cell p.counter q.operation q.reply b at n
 
--- it stands at its mutex's cell or its condition variable's counter
+-- it is at its mutex's cell or its condition variable's counter
 abbrev pub IsAtWords : CondPhase → Type 0
 IsAtWords (AtWords r) = Unit {0}
 IsAtWords (Locking w) = mutex.IsAtCell w.phase
@@ -97,7 +97,7 @@ IsAtWords f = ⊥
 -- how many sleepers a whole call wakes, and where: as `Wakes` says of its rows
 pub record WholeCallsWake : Type 0 where
   -- after an access at the cell or the counter, whatever that is answered, the next one is a wake exactly where its
-  -- point asks for one, of so many, and of those on that word
+  -- point asks for one, of this many, and of those on that word
   pub at_the_words : (p : CondWhole) (r : CondRow) (a : Answer) (at n : ℕ) → p.phase ≡ AtWords r → IsGoing r
       → WakesNext p a at n ↔ IsToWake p (cond_led p a).point (tells_waiters a) at n
   -- in the lock that ends a wait exactly where the lock's next access is one, of which all holds that the mutex's laws

@@ -10,15 +10,15 @@ use stepprograms::{ALL, Access, Answer};
 /// Where a broadcast stands.
 #[derive(Clone, Copy, Debug, PartialEq, Eq)]
 pub enum BroadcastRow {
-    /// It loads the cell.
+    /// Loads the cell.
     LoadCell,
-    /// It loads the counter, while it owns the mutex.
+    /// Loads the counter, while it owns the mutex.
     LoadCounter,
-    /// It counts: the counter, which isn't full and of which it saw this low half, goes up by one.
+    /// Counts: the counter, which isn't full and of which it saw this low half, goes up by one.
     Count { seen: u32 },
-    /// It sets WAITERS in the cell that it owns.
+    /// Sets WAITERS in the cell that it owns.
     SetWaiters { seen: u32 },
-    /// It moves the counter's sleepers to the cell, where the counter is as it left it.
+    /// Moves the counter's sleepers to the cell, where the counter is as it left it.
     Move { seen: u32 },
 }
 

@@ -8,9 +8,9 @@ use posixmutex::Operation;
 /// Where the time limit of a wait is.
 #[derive(Clone, Copy, Debug, PartialEq, Eq)]
 pub enum Limit {
-    /// It is still to come. Every call begins so: one whose time has passed then sleeps first, too.
+    /// The call is still to come. Every call begins so: one whose time has passed then sleeps first, too.
     Ahead,
-    /// It came while the wait slept on its condition variable.
+    /// The call came while the wait slept on its condition variable.
     Past,
 }
 

@@ -23,14 +23,14 @@ pub fn moves_are_right()
     ensures { MovesAreRight }
 {}
 
-/// Whatever a call is answered, it wakes one sleeper of its mutex behind a wait's release that found `WAITERS`, and one
-/// of its condition variable where a signal counted; else it wakes nobody, a broadcast in particular, which moves. (The
-/// lock that ends a wait is a call of `mutex`.)
+/// Whatever a call is answered, it wakes one sleeper of its mutex after a wait's release that found `WAITERS`, and
+/// one of its condition variable where a signal counted; else it wakes nobody, a broadcast in particular, which
+/// moves. (The lock that ends a wait is a call of `mutex`.)
 pub fn wakes_are_right()
     ensures { WakesAreRight }
 {}
 
-/// So does a whole call, which wakes nobody elsewhere: after an access at the cell or the counter its next one is a
+/// A whole call wakes the same threads, and nobody elsewhere: after an access at the cell or the counter its next one is a
 /// wake exactly where its point asks for that, of one sleeper on that word; in the lock that ends a wait exactly where
 /// that lock's is; and whatever it is answered, it doesn't begin by a wake, and none follows an access of its thread's
 /// robust list.
@@ -64,8 +64,8 @@ pub fn faults_are_told()
 {}
 
 /// A wait with a time limit is a wait, access by access. Where it sleeps it has unlocked its mutex and had no other
-/// point, so that its limit comes behind that; and it goes on as one that is woken, by locking its mutex. What it returns
-/// is a wait's reply, but `ETIMEDOUT` for `OK` where it is out of time.
+/// point, so that its limit comes after that; and it goes on as one that is woken, by locking its mutex. What it
+/// returns is a wait's reply, but `ETIMEDOUT` for `OK` where it is out of time.
 pub fn timed_waits_are_right()
     ensures { TimedWaitsAreRight }
 {}

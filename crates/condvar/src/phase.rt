@@ -12,7 +12,7 @@ use robustlist::Unlink;
 /// wait.
 #[derive(Clone, Copy, Debug, PartialEq, Eq)]
 pub enum CondPhase {
-    /// It is at the cell or at the counter.
+    /// The call is at the cell or at the counter.
     AtWords(CondRow),
     /// A wait stores the mutex's entry as its thread's pending one, to release the mutex then. Of the counter it saw
     /// this low half.
@@ -21,7 +21,7 @@ pub enum CondPhase {
     Unlinking { unlink: Unlink, seen: u32 },
     /// A wait is awake again and takes the mutex, as a lock does whose entry is pending.
     Locking(Program),
-    /// It has returned.
+    /// The call has returned.
     Ended(Reply),
 }
 
@@ -35,7 +35,7 @@ pub struct CondOnward {
 }
 
 impl CondOnward {
-    /// To a phase, without a point.
+    /// Leads to a phase, without a point.
     pub(crate) fn to(phase: CondPhase) -> CondOnward
         ensures { result ≡ onward phase }
     {

@@ -89,7 +89,7 @@ impl CondProgram {
         }
     }
 
-    /// A call that stands at a phase: one that was kept elsewhere, as [`CodedCondPhase`](crate::CodedCondPhase) say,
+    /// A call that is at a phase: one that was kept elsewhere, as [`CodedCondPhase`](crate::CodedCondPhase) say,
     /// goes on from there.
     pub fn at(
         thread: Tid,

@@ -1,4 +1,4 @@
-//! Where a call stands at its mutex's cell and its condition variable's counter.
+//! Where a call is at its mutex's cell and its condition variable's counter.
 ghost use Rattle.std.specs.Prelude.{◌≡◌, ◌%◌, ◌^◌};
 ghost use Rattle.condvar.specs.Rows.{goes, decides, ends, faults};
 
@@ -91,14 +91,14 @@ pub struct CondLed {
 }
 
 impl CondLed {
-    /// To a row, undecided.
+    /// Leads to a row, undecided.
     pub(crate) fn goes(row: CondRow) -> CondLed
         ensures { result ≡ goes row }
     {
         CondLed { row, decided: None }
     }
 
-    /// To a row, with an operation decided.
+    /// Leads to a row, with an operation decided.
     pub(crate) fn decides(row: CondRow, operation: Operation, reply: Reply) -> CondLed
         ensures { result ≡ decides row operation reply }
     {

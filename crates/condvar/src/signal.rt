@@ -10,13 +10,13 @@ use stepprograms::{Access, Answer};
 /// Where a signal stands.
 #[derive(Clone, Copy, Debug, PartialEq, Eq)]
 pub enum SignalRow {
-    /// It loads the cell.
+    /// Loads the cell.
     LoadCell,
-    /// It loads the counter, while it owns the mutex.
+    /// Loads the counter, while it owns the mutex.
     LoadCounter,
-    /// It counts: the counter, which isn't full, goes up by one.
+    /// Counts: the counter, which isn't full, goes up by one.
     Count,
-    /// It wakes one sleeper of the counter.
+    /// Wakes one sleeper of the counter.
     Wake,
 }
 

@@ -10,15 +10,15 @@ use stepprograms::{Access, Answer};
 /// Where a wait stands, until it is awake again.
 #[derive(Clone, Copy, Debug, PartialEq, Eq)]
 pub enum WaitRow {
-    /// It loads the cell.
+    /// Loads the cell.
     LoadCell,
-    /// It loads the counter, while it owns the mutex.
+    /// Loads the counter, while it owns the mutex.
     LoadCounter,
-    /// It releases the mutex, which it owns and which is consistent. Of the counter it saw this low half.
+    /// Releases the mutex, which it owns and which is consistent. Of the counter it saw this low half.
     Release { seen: u32 },
-    /// It wakes one sleeper of the cell.
+    /// Wakes one sleeper of the cell.
     Wake { seen: u32 },
-    /// It sleeps on the counter where its low half is as it saw it.
+    /// Sleeps on the counter where its low half is as it saw it.
     Sleep { seen: u32 },
 }
 

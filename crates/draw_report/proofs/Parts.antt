@@ -95,7 +95,7 @@ asked words kind script trace ask = ap (asked_behind (Some no_wish)) ask.said �
 
 -- ---- words that are read as a picture are said by parts
 
--- behind words that said this
+-- after words that said this
 record Behind (made : Option Kind) (script file : Option (List ℕ)) (words : List (List ℕ)) (kind : Kind) (named : Option (List ℕ)) (whole : List ℕ) : Type 0 where
   parts : List Part
   trace : Option (List ℕ)

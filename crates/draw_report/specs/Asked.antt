@@ -1,7 +1,7 @@
 -- What a command line asks for.
 --
 -- *What a command line asks for.* A picture, where its words are those of its parts in any order, each part once at
--- most: `--svg` or `--html`, `--script` with SCRIPT behind it, and FILE. What signs mean, where `--legend` stands
+-- most: `--svg` or `--html`, `--script` with SCRIPT after it, and FILE. What signs mean, where `--legend` stands
 -- alone. Else the usage. SCRIPT and FILE don't begin with a hyphen.
 use Rattle.std.specs.Prelude.{ℕ, ◌≡◌, true, List, [], ◌∷◌, ◌++◌, codes, Option}
 use Rattle.std.specs.Prelude.{option_map, option_to_list, unwrap_or, IfSome}
@@ -91,7 +91,7 @@ pub record AskForPicture (words : List (List ℕ)) (kind : Kind) (script trace :
 
 -- ---- all command lines
 
--- the words behind the program's name ask for a picture or for the meaning of signs
+-- the words after the program's name ask for a picture or for the meaning of signs
 abbrev pub AskFor : List (List ℕ) → Asked → Type 0
 AskFor words (Drawing kind script file) =
     (trace : Option (List ℕ)) × (file ≡ unwrap_or trace standard_input) × AskForPicture words kind script trace

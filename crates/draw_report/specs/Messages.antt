@@ -9,7 +9,7 @@ use Rattle.draw_report.specs.declared.messages.Failure.{Failure}
 use Rattle.draw_report.specs.declared.messages.Failure.TheVariants.{Usage, CannotRead, CannotWrite}
 use Rattle.draw_report.specs.declared.messages.Failure.TheVariants.{OutOfMemory, Script, Unlike, Trace}
 
--- a fault with its line, its number and its words, behind the start of the line
+-- a fault with its line, its number and its words, after the start of the line
 abbrev pub fault_text : List ℕ → ℕ → ℕ → List ℕ → List ℕ
 fault_text start line number words =
     concat (start ∷ decimal line ∷ codes ": fault " ∷ decimal number ∷ codes ": " ∷ words ∷ codes "\n" ∷ [])

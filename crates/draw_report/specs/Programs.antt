@@ -26,18 +26,18 @@ abbrev pub asked_in : Result (Vec (String Global) Global) Error → Asked
 asked_in (Ok words) = asked_of (map string_bytes words.items)
 asked_in (Err e) = Nothing
 
--- the failure that an error of opening a file is told as: memory where memory was refused
+-- the failure that an error of opening a file is reported as: memory where memory was refused
 abbrev pub unopened_by : ErrorKind → Failure
 unopened_by kind.OutOfMemory = OutOfMemory
 unopened_by _ = CannotRead
 
--- a failure is told, or a beginning of its message, where that can't be written
+-- a failure is reported, or a beginning of its message, where that can't be written
 abbrev pub IsTold : List ℕ → Failure → Option (List ℕ) → Option (List ℕ) → ℕ → Type 0
 IsTold file f told told' status = AppendsFront told told' (failure_text file f) × (status ≡ failure_status f)
 
 -- how a picture of the trace in a file ended, with the names of this script, if there is one: it was written from what
--- opening the file gave, the writer has let go of it, and nothing was told; or it wasn't, or not all of it, and that is
--- told; or the file couldn't be opened
+-- opening the file gave, the writer has let go of it, and nothing was reported; or it wasn't, or not all of it, and
+-- that is reported; or the file couldn't be opened
 abbrev pub PictureEnds : (List ℕ → Result (Option (List ℕ)) ErrorKind → Type 0) → Kind → Option Scope → List ℕ
     → Option (List ℕ) → Option (List ℕ) → Type 0 → Type 0 → Option (List ℕ) → Option (List ℕ) → ℕ → Type 0
 PictureEnds Opens k script file old new LetGo Quiet told told' status =
@@ -66,8 +66,8 @@ NamedEnds Opens k name file old new LetGo Quiet told told' status =
     ((s : Scope) × ScriptOpens Opens name s × PictureEnds Opens k (Some s) file old new LetGo Quiet told told' status)
     ⊎ ((new ≡ old) × ScriptIsTold Opens name told told' status)
 
--- how it ended to tell what the signs mean: all of that was written, the writer has let go of it, and nothing was told;
--- or a beginning of it, and that it couldn't be written is told
+-- how it ended to tell what the signs mean: all of that was written, the writer has let go of it, and nothing was
+-- reported; or a beginning of it, and that it couldn't be written is told
 abbrev pub LegendEnds : Option (List ℕ) → Option (List ℕ) → Type 0 → Type 0 → Option (List ℕ) → Option (List ℕ) → ℕ
     → Type 0
 LegendEnds old new LetGo Quiet told told' status = (Appends old new legend × LetGo × Quiet × (status ≡ 0))

@@ -27,7 +27,7 @@ seen s = record {
 abbrev pub no_wish : Wish
 no_wish = record { kind = None; awaits_script = false; script = None; file = None }
 
--- ---- one word more; nothing, where it can't stand there
+-- ---- one word more; nothing, where it can't be there
 
 -- what is said once is not said again
 abbrev pub unless_given : {A : Type 0} → Option A → Option Wish → Option Wish

@@ -15,7 +15,7 @@ use Rattle.draw_report.specs.Served.{IsUnread}
 abbrev pub GivesScript : Option (List ℕ) → Option (List ℕ) → Scope → Type 0
 GivesScript had left s = (bytes : List ℕ) × Consumes had left bytes × IsAtEnd left × (script_read Run bytes ≡ Ok s)
 
--- the fault that the reader of scripts tells of these bytes; want of memory may come before it
+-- the fault that the reader of scripts tells of these bytes; lack of memory may come before it
 abbrev pub IsFaultOf : List ℕ → Failure → Type 0
 IsFaultOf bytes Usage = ⊥
 IsFaultOf bytes CannotRead = ⊥
@@ -25,7 +25,7 @@ IsFaultOf bytes (Script e) = TellsAt e e.fault (script_read Run bytes)
 IsFaultOf bytes Unlike = ⊥
 IsFaultOf bytes (Trace e) = ⊥
 
--- why there is no script: it couldn't be read, or memory was wanted; or its bytes, which are all that the reader had,
+-- why there is no script: it couldn't be read, or memory was needed; or its bytes, which are all that the reader had,
 -- or more than there may be, have this fault
 abbrev pub FailsScript : Option (List ℕ) → Option (List ℕ) → Failure → Type 0
 FailsScript had left f = IsUnread f

@@ -26,7 +26,7 @@ use Rattle.picture.specs.Names.{Called}
 use Rattle.picture.specs.Svg.{svg_marked}
 use Rattle.draw_report.specs.Names.{called_by, is_like}
 
--- the failure that a fault of reading is told as, and one of drawing: memory where memory was refused
+-- the failure that a fault of reading is reported as, and one of drawing: memory where memory was refused
 abbrev pub failed_by : ReadFault → Failure
 failed_by read.Memory = OutOfMemory
 failed_by read.Failed = CannotRead
@@ -73,7 +73,7 @@ abbrev pub IsBegun : Kind → Called → List ℕ → Told → Option (List ℕ)
 IsBegun kind n bytes t old new =
     (new ≡ old) ⊎ ((f : Finding) × IsJudged bytes f × AppendsFront old new (picture kind n t f))
 
--- why not all of it was written: behind a beginning of it; of a page nothing is written where memory was refused
+-- why not all of it was written: after a beginning of it; of a page nothing is written where memory was refused
 abbrev pub IsUndrawn : Kind → Called → List ℕ → Told → Option (List ℕ) → Option (List ℕ) → Unwritten → Type 0
 IsUndrawn Text n bytes t old new u = IsBegun Text n bytes t old new
 IsUndrawn Svg n bytes t old new u = IsBegun Svg n bytes t old new
@@ -105,7 +105,7 @@ abbrev pub IsUnlike : Option Scope → List ℕ → Type 0
 IsUnlike script bytes = (t : Told) × (trace_read bytes ≡ Ok (trace_of t)) × (is_like script t.head ≡ false)
 
 -- why bytes weren't drawn, or not all: the fault that the judge of traces tells of them, or that they aren't the
--- script's, before the first byte; or a write that failed, behind a beginning, or memory for names or the picture
+-- script's, before the first byte; or a write that failed, after a beginning, or memory for names or the picture
 abbrev pub FailsDrawing : Kind → Option Scope → List ℕ → Option (List ℕ) → Option (List ℕ) → Failure → Type 0
 FailsDrawing kind script bytes old new Usage = ⊥
 FailsDrawing kind script bytes old new CannotRead = ⊥
@@ -126,8 +126,8 @@ abbrev pub Comes : Kind → Option Scope → Option (List ℕ) → Option (List 
 Comes kind script had left old new f = (bytes : List ℕ) × Consumes had left bytes
     × (length bytes ≤ max_bytes → IsAtEnd left) × FailsDrawing kind script bytes old new f
 
--- why a file wasn't drawn, or not all: before the first byte it couldn't be read, or memory was wanted; or this came of
--- its bytes
+-- why a file wasn't drawn, or not all: before the first byte it couldn't be read, or memory was needed; or this came
+-- of its bytes
 abbrev pub Fails : Kind → Option Scope → Option (List ℕ) → Option (List ℕ) → Option (List ℕ) → Option (List ℕ) → Failure
     → Type 0
 Fails kind script had left old new f = (IsUnread f × (new ≡ old)) ⊎ Comes kind script had left old new f

@@ -105,7 +105,7 @@ impl<'a> Said<'a> {
         })
     }
 
-    /// What is said with one word more; nothing, where it can't stand there.
+    /// What is said with one word more; nothing, where it can't be there.
     fn with(self, word: &'a str) -> Option<Said<'a>>
         ensures { option_map seen result ≡ with_word (seen self.entry) word.now }
     {
@@ -133,7 +133,7 @@ impl<'a> Said<'a> {
     }
 }
 
-/// The form of a picture's words, behind those that said this.
+/// The form of a picture's words, after those that said this.
 fn form_behind<'a>(said: Said<'a>, words: &'a [&'a str]) -> Form<'a>
     ensures { asked_by result ≡ asked_behind (Some (seen said.entry)) (map (λ w. w.now) words.now) }
 {

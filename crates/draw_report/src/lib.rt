@@ -1,14 +1,14 @@
-//! `rfx-draw` but for opening its file: its command line, reading a trace, drawing it, and the messages.
+//! `rfx-draw` except for opening its file: its command line, reading a trace, drawing it, and the messages.
 //!
 //! [`run`] is given the words of the command line, what opens files, and the two writers. The words ask for a picture
-//! by their parts, in any order (`Asks`). Where it answers 0 it has read its input to the end, that is a trace, and has
-//! written all of the picture and let go of it; else it has written a beginning of it, and one message on `err` says
-//! why (`RunEnds`). It reads at most one byte more than a trace may have. With `--script` the script is read first, and
-//! things are called by the names that it declares (`called_by`), which have no characters of markup
+//! by their parts, in any order (`Asks`). Where it returns 0 it has read its input to the end, that is a trace, and
+//! has written all of the picture and let go of it; else it has written a beginning of it, and one message on `err`
+//! says why (`RunEnds`). It reads at most one byte more than a trace may have. With `--script` the script is read
+//! first, and things are called by the names that it declares (`called_by`), which have no characters of markup
 //! ([`names_are_plain`]); each thing in the trace has one ([`names_suffice`]). For `--legend` it reads nothing, and
 //! writes what the signs of pictures mean. Of a page nothing is written where memory is refused (`IsUndrawn`).
 //!
-//! Stands on `verdict`, for reading traces and their faults, on `script` and `lockword`, for names, on `lines`, for which
+//! Is on `verdict`, for reading traces and their faults, on `script` and `lockword`, for names, on `lines`, for which
 //! characters they have, on `picture` and `page`, for drawing, and on `streams`, for reading, writing and opening.
 //!
 //! ```text

@@ -13,7 +13,7 @@ use std::alloc::Global;
 use std::io::{self, ErrorKind, Write};
 use streams::{Opener, Output, lent};
 
-/// What a failure to open a file is told as.
+/// What a failure to open a file is reported as.
 fn unopened_by(error: &io::Error) -> Failure
     ensures { result ≡ unopened_by (error_kind error.now) }
 {
@@ -46,7 +46,7 @@ fn run_picture<F: Opener, W: Output, E: Write>(
     }
 }
 
-/// The script in this file; or the exit status after a failure, which is told.
+/// The script in this file; or the exit status after a failure, which is reported.
 fn open_script<F: Opener, E: Write>(
     alloc: Global,
     name: &str,

@@ -1,4 +1,4 @@
-//! The program, but for opening its file.
+//! The program, except for opening its file.
 
 ghost use Rattle.std.specs.Prelude.{◌≡◌, ◌++◌, ◌≤◌, ◌<◌, ◌^◌, ◌+◌, vec_len, IfOk, IfErr, OnOk};
 ghost use Rattle.std.specs.Io.KnownBytes.{Consumes, IsAtEnd};
@@ -28,7 +28,7 @@ use streams::Piece::{Number, Word};
 use streams::{Output, ReadFault, put, put_pieces, read_below};
 use verdict::{Finding, MAX_BYTES, Told, explain, read_trace};
 
-/// What a fault of reading is told as.
+/// What a fault of reading is reported as.
 fn failed_by(fault: ReadFault) -> Failure
     ensures { result ≡ failed_by fault }
 {
@@ -38,7 +38,7 @@ fn failed_by(fault: ReadFault) -> Failure
     }
 }
 
-/// What a picture that wasn't written is told as.
+/// What a picture that wasn't written is reported as.
 fn undrawn_by(unwritten: Unwritten) -> Failure
     ensures { result ≡ undrawn_by unwritten }
 {

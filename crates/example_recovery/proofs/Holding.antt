@@ -1,4 +1,4 @@
--- Who holds a mutex, by its own points.
+-- Which thread holds a mutex, by its own points.
 use Rattle.std.proofs.Common.{◌≡◌, ◌⊎◌, ⊎_elim, ℕ, Bool, true, false, List, [], ◌∷◌, ◌++◌, refl, sym, ap, ◌∙◌, subst}
 use Rattle.std.specs.Prelude.{nat_le, MatchBool}
 use Rattle.lockword.specs.declared.reply.Reply.{Reply}
@@ -18,7 +18,7 @@ held_on : (b : Bool) (xs ys : List Point) → held_after b (xs ++ ys) ≡ held_a
 held_on b [] ys = refl
 held_on b (x ∷ xs) ys = held_on (holds_after b x.operation x.reply) xs ys
 
--- behind its last point on the mutex
+-- after its last point on the mutex
 after_call : (k : Layout') (m : ℕ) (op : Operation) (c d : Card) (r : Reply) → Called c (cell_place k m) ((op, r) ∷ []) d → owns_in k d m ≡ holds_after (owns_in k c m) op r
 after_call k m op c d r called =
     let q : ℕ = cell_place k m in
@@ -30,7 +30,7 @@ takes : (b : Bool) (k : Layout') (m : ℕ) (c d : Card) (r : Reply) → (r ≡ X
 takes true k m c d r let_in it = absurd (let_in it.0)
 takes false k m c d r let_in it = it
 
--- a lock that is answered OK
+-- a lock that is returned OK
 pub locked : (k : Layout') (m : ℕ) (c d : Card) → Takes k m Lock c OK d → owns_in k d m ≡ true
 locked k m c d it = after_call k m Lock c d OK (takes (nat_le held_limit (held c)) k m c d OK (λ e. absurd (cc e)) it)
 
@@ -38,7 +38,7 @@ locked k m c d it = after_call k m Lock c d OK (takes (nat_le held_limit (held c
 pub inherited : (k : Layout') (m : ℕ) (c d : Card) → Takes k m Lock c EOWNERDEAD d → owns_in k d m ≡ true
 inherited k m c d it = after_call k m Lock c d EOWNERDEAD (takes (nat_le held_limit (held c)) k m c d EOWNERDEAD (λ e. absurd (cc e)) it)
 
--- and it holds it behind a declaration
+-- and it holds it after a declaration
 pub declares : (k : Layout') (m : ℕ) (c d : Card) (r : Reply) → Called c (cell_place k m) ((Consistent, r) ∷ []) d → owns_in k c m ≡ true → owns_in k d m ≡ true
 declares k m c d r called owns = after_call k m Consistent c d r called ∙ kept r ∙ owns where
   kept : (r : Reply) → holds_after (owns_in k c m) Consistent r ≡ owns_in k c m

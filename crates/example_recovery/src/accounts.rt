@@ -32,7 +32,7 @@ impl Accounts {
         )
     }
 
-    /// Notes what is on them, and takes the amount from the first account. Whoever dies behind this has lost money.
+    /// Notes what is on them, and takes the amount from the first account. Whoever dies after this has lost money.
     pub(crate) fn begin_transfer(&self, amount: u64) {
         let (first, second) = self.balances();
         self.first_before.store(first, Ordering::SeqCst);

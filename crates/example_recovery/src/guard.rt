@@ -12,7 +12,7 @@ use ruledwords::{Live, Never, Outcome, Pass, Reaped, Released, Running};
 use std::sync::Wait;
 use threadbench::{Bench, WorkerPass};
 
-/// Accounts behind a mutex of a bench.
+/// Accounts after a mutex of a bench.
 #[derive(Drop)]
 pub(crate) struct Guarded {
     mutex: u16,
@@ -32,14 +32,14 @@ pub(crate) struct Owner<'a> {
 /// Why a thread doesn't own the mutex.
 #[derive(Drop)]
 pub(crate) enum NotOwned {
-    /// Its lock was answered so.
+    /// The lock was answered so.
     Refused(Pass<Live>, Reply),
     /// Somebody killed it ([`Bench::kill`]), and the kernel went through its list.
     Killed(Pass<Reaped>),
 }
 
 impl Guarded {
-    /// Accounts behind this mutex.
+    /// Accounts after this mutex.
     pub(crate) fn new(mutex: u16, accounts: Accounts) -> Guarded
         ensures { result.mutex ≡ mutex }
     {
@@ -125,7 +125,7 @@ impl Owner<'_> {
         }
     }
 
-    /// Its thread dies as the owner, and the kernel goes through its list: the mutex is marked, and one who waits for
+    /// The thread dies as the owner, and the kernel goes through its list: the mutex is marked, and one who waits for
     /// it is woken.
     pub(crate) fn die<R: Wait>(self, rt: &R, bench: &Bench) -> Pass<Reaped>
         requires pass { IsLive bench.now self.pass }

@@ -2,7 +2,7 @@
 //!
 //! One thread owns the mutex, takes 30 from the first account, and dies before it adds them to the second. Another
 //! thread waits for the mutex meanwhile. The walk over the dead thread's list marks the mutex and wakes whoever sleeps
-//! on it: the other thread is told EOWNERDEAD, puts the accounts right by their journal, declares the mutex consistent,
+//! on it: the other thread gets EOWNERDEAD, puts the accounts right by their journal, declares the mutex consistent,
 //! and makes a transfer of its own. The gate proves it, runs it, and compares what it prints with `stdout`.
 #![tactic(auto)]
 
@@ -50,7 +50,7 @@ fn transfer<R: Wait>(rt: &R, bench: &Bench, guarded: &Guarded, pass: Pass<Live>)
     }
 }
 
-/// One thread dies as the owner while another comes for the mutex; what that is told.
+/// One thread dies as the owner while another comes for the mutex; what that one gets.
 fn recover<R: Threads + Wait + Sync>(
     rt: &R,
     bench: &Bench,

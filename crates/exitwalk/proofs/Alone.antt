@@ -80,7 +80,7 @@ offset_means valid t h first s offset = reading valid (sum_of h 2) s (pending_me
 abbrev pub first_means : (ℕ → Bool) → ℕ → ℕ → Effect → ℕ → Effect
 first_means valid t h s first = reading valid (sum_of h 1) s (offset_means valid t h first s)
 
--- what a walk that stands there still means
+-- what a walk that is there still means
 abbrev row_means : (ℕ → Bool) → ℕ → ℕ → Row → Effect → Effect
 row_means valid t h LoadFirst s = reading valid h s (first_means valid t h s)
 row_means valid t h (LoadOffset first) s = reading valid (sum_of h 1) s (offset_means valid t h first s)
@@ -139,7 +139,7 @@ module _ (valid : ℕ → Bool) (t h : ℕ) where
           let room = eqb-false r.loaded 2048 all in
           record { means = refl; alone = tt; knows = (on, omega arith); falls = omega arith }
 
-  -- on behind a word
+  -- on after a word
   goes : (p : Part) (s : Effect) → IsCounted p → Fine valid t h (goes_on h p) s (part_means valid t h p s) (part_left_alone p + 1)
   goes (part.List r) s counted = let few = counted.1 in loosen valid t h (forward h r) s _ (4 * (2048 - r.loaded) + 4) _ (omega arith) (forwards r s few)
   goes part.Pending s counted = record { means = refl; alone = tt; knows = tt; falls = omega arith }
@@ -293,7 +293,7 @@ module _ (valid : ℕ → Bool) (sleepers : List ℕ → ℕ) (t h : ℕ) where
   rests zero s = run-zero _
   rests (suc n) s = run-suc n _ ∙ rests n s
 
-  -- so many accesses are enough
+  -- this many accesses are enough
   runs : (n : ℕ) (r : Row) (s : Effect) → Knows t h r → Alone valid r s → left_alone s.words r ≤ n → run valid sleepers t h n (record { row = r; effect = s }) ≡ record { row = Ended; effect = row_means valid t h r s }
   runs zero r s knows alone few =
       let is = none_left s.words r few in

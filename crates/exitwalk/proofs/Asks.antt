@@ -45,7 +45,7 @@ module _ (h : ℕ) where
   no_wake (LoadWord a p) only at n is = cc
   no_wake Ended only at n is = cc
 
-  -- on behind a word
+  -- on after a word
   lasts : (offset pending : ℕ) → Only (to_pending offset pending)
   lasts offset pending = go (pending == 0)
     where
@@ -71,7 +71,7 @@ module _ (h : ℕ) where
       go true = forwards (further r v)
       go false = tt
 
--- what a walk may do with a word that it was told of
+-- what a walk may do with a word that was reported to it
 pub record Minds (t h : ℕ) (x : Access) (a : Answer) (r : Row) : Type 0 where
   pub asks : (at old new : ℕ) → row_access h r ≡ Exchange at old new → Asks t x a at old new
   pub wakes : (at n : ℕ) → row_access h r ≡ Wake at n → (address_of x ≡ at) × (n ≡ 1) × WakesFor x a
@@ -147,18 +147,18 @@ module _ (t h : ℕ) where
   loads_only (LoadWord a p) only is = is
   loads_only Ended only is = is
 
-  -- behind a mark there is no exchange
+  -- after a mark there is no exchange
   marked_last : (at : ℕ) (p : Part) (b : Bool) → IsExchange (row_access h (if b then WakeOne at p else goes_on h p)) → ⊥
   marked_last at p true is = is
   marked_last at p false is = loads_only (goes_on h p) (goes h p) is
 
-  -- behind a second exchange neither
+  -- after a second exchange neither
   second_last : (at seen : ℕ) (p : Part) (a : Answer) → IsExchange (row_access h (row_after t h (Mark at seen true p) a)) → ⊥
   second_last at seen p Exchanged is = marked_last at p (fields_of seen).waiters is
   second_last at seen p (Changed v) is = loads_only (goes_on h p) (goes h p) is
   second_last at seen p a is = is
 
-  -- behind a first one there may be a second
+  -- after a first one there may be a second
   third : (at v : ℕ) (p : Part) (a : Answer) (x y : Bool) → IsExchange (row_access h (if x then WakeOne at p else if y then Mark at v true p else goes_on h p))
       → IsExchange (row_access h (row_after t h (if x then WakeOne at p else if y then Mark at v true p else goes_on h p) a)) → ⊥
   third at v p a true y is more = is

@@ -61,7 +61,7 @@ pends t a s x pos = go (owner_in (s.words a) == 0) refl (x == a) refl
     go false some b is = treats t a s x ∙ ap (λ (b : Bool). if b then treated_word t (s.words x) else s.words x) is
 
 module _ (valid : ℕ → Bool) (t : ℕ) (h : Head) (pos : 1 ≤ t) (last : h.pending ≢ 0 → valid (sum_of h.pending h.offset) ≡ true) where
-  -- behind the list
+  -- after the list
   lasts : (s : Effect) (x : ℕ) → (at_last valid t h s).words x ≡ (if is_pended h x then treated_word t (s.words x) else s.words x)
   lasts s x = go (h.pending == 0) refl
     where

@@ -29,7 +29,7 @@ abbrev pub IsExchange : Access → Type 0
 IsExchange (Exchange at old new) = Unit {0}
 IsExchange x = ⊥
 
--- the word that an access was told of
+-- the word that was reported to an access
 abbrev pub told : Access → Answer → Option ℕ
 told (Load at) (Value v) = Some v
 told (Exchange at old new) (Changed v) = Some v

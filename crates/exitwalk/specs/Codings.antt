@@ -1,6 +1,6 @@
 -- Where a walk stands, as plain numbers: for whoever keeps it where the walker's own death can't reach.
 --
--- | kind | stands at   | carries
+-- | kind | is at       | carries
 -- | 0    | it has ended |
 -- | 1    | LoadFirst   |
 -- | 2    | LoadOffset  | entry: the first one

@@ -48,15 +48,15 @@ pub record Head : Type 0 where
   pub offset : ℕ
   pub pending : ℕ
 
--- behind the list: the pending entry, if there is one
+-- after the list: the pending entry, if there is one
 abbrev pub at_last : (ℕ → Bool) → ℕ → Head → Effect → Effect
 at_last valid t h s =
     if h.pending == 0
     then s
     else reading valid (sum_of h.pending h.offset) s (λ v. pending_treated t (sum_of h.pending h.offset) s)
 
--- the entries from e on, so many at most, back to the head: each one's next is read, and then its word is treated, but
--- that of the pending entry isn't yet
+-- the entries from e on, this many at most, back to the head: each one's next is read, and then its word is treated,
+-- but that of the pending entry isn't yet
 unfoldable pub entries : (ℕ → Bool) → ℕ → Head → ℕ → ℕ → Effect → Effect
 entries valid t h zero e s = at_last valid t h s
 entries valid t h (suc n) e s =

@@ -49,7 +49,7 @@ step valid sleepers t h c =
       effect = effect_of valid c.effect (row_access h c.row);
     }
 
--- so many accesses
+-- this many accesses
 unfoldable pub run : (ℕ → Bool) → (List ℕ → ℕ) → ℕ → ℕ → ℕ → Course → Course
 run valid sleepers t h zero c = c
 run valid sleepers t h (suc n) c = run valid sleepers t h n (step valid sleepers t h c)

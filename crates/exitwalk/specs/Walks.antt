@@ -1,7 +1,7 @@
 -- The walk over a dead thread's robust list, access by access (robust-futexes.rst, robust-futex-ABI.rst,
 -- get_robust_list(2)).
 --
--- | stands at   | access                            | then
+-- | is at       | access                            | then
 -- | LoadFirst   | load the head's first word        | LoadOffset
 -- | LoadOffset  | load the head's second word       | LoadPending
 -- | LoadPending | load the head's third word        | Forward, with no entry loaded
@@ -13,11 +13,11 @@
 --
 -- Forward: LoadNext; but at the list's end, the head's own address, and after 2,048 entries, LoadWord of the pending
 -- entry's mutex, and then the end; where there is no pending entry, the end at once. Look: the word is marked where its
--- owner is the dead thread, and else left alone; but for the pending entry's, which nobody owns, WakeOne. A fault, or
--- an answer that isn't one of the access, is the end. An entry's mutex is at the entry's address and the offset, modulo
--- 2^64. This project's own, of which nothing is claimed of a kernel: the end at a fault, the pending entry included;
--- the word left alone after a second exchange; the wake for an unowned pending word; and that the bits above the low
--- half stay.
+-- owner is the dead thread, and else left alone; except for the pending entry's, which nobody owns, WakeOne. A
+-- fault, or an answer that isn't one of the access, is the end. An entry's mutex is at the entry's address and the
+-- offset, modulo 2^64. This project's own, of which nothing is claimed of a kernel: the end at a fault, the pending
+-- entry included; the word left alone after a second exchange; the wake for an unowned pending word; and that the
+-- bits above the low half stay.
 --
 -- Why an entry's next one is loaded before its mutex's word is marked, drawn in the wrong order:
 --
@@ -25,7 +25,7 @@
 --     Mark      m is nobody's, its owner died
 --                                                 Take     m is t2's
 --                                                 Linking  m's next entry is the first of t2's list
---     LoadNext  goes on along t2's list, and the mutexes behind m that t1 owned stay its own
+--     LoadNext  goes on along t2's list, and the mutexes after m that t1 owned stay its own
 use Rattle.std.specs.Prelude.{ℕ, ◌≡◌, ◌+◌, ◌==◌, ◌≤◌, ◌<◌, ◌&&◌, ◌||◌, Bool}
 use Rattle.std.specs.Prelude.{true, false, Option, Some, None, if◌then◌else◌}
 use Rattle.posixmutex.specs.Objects.{held_limit}

@@ -12,8 +12,8 @@ pub fn walks_are_right()
 {}
 
 /// Whatever it is answered, a walk ends after at most 10,247 accesses and loads at most 2,048 entries. Each exchange
-/// that it asks for says, in a word that it was told is the dead thread's, that the owner died; at most two are asked
-/// for each time that a word is treated. An answer that isn't one of its access, as a fault, ends it.
+/// that it asks for says, in a word that it learned is the dead thread's, that the owner died; at most two are
+/// asked for each time that a word is treated. An answer that isn't one of its access, as a fault, ends it.
 pub fn any_answers_end()
     ensures { AnyAnswersEnd }
 {}

@@ -5,12 +5,12 @@
 //! [`Walk`] is such a walk in progress: a value that says which access comes next ([`Walk::next`]) and goes on with its
 //! answer ([`Walk::resume`]). Whoever runs it makes the accesses. The list is words that the dead thread wrote, so
 //! nothing is taken for granted of it: whatever it is answered, the walk ends, and asks for no change but that of a
-//! word which it was told is the dead thread's (`any_answers_end`). Where nobody else writes, it leaves what those
-//! documents say, with this project's choices where they leave room (`walks_are_right`); so no mutex of a whole list
-//! keeps its owner (`whole_lists_are_treated`). Where others write, each of its accesses is the death of an owner or
-//! changes nothing (`steps_are_right`).
+//! word which it learned is the dead thread's (`any_answers_end`). Where nobody else writes, it leaves what
+//! those documents say, with this project's choices where they leave room (`walks_are_right`); so no mutex of a
+//! whole list keeps its owner (`whole_lists_are_treated`). Where others write, each of its accesses is the death of
+//! an owner or changes nothing (`steps_are_right`).
 //!
-//! Stands on `stepprograms`, for accesses and answers, on `posixmutex`, for points and how many entries are walked at
+//! Is on `stepprograms`, for accesses and answers, on `posixmutex`, for points and how many entries are walked at
 //! most, and on `lockword`, for cells.
 //!
 //! ```text

@@ -26,25 +26,25 @@ pub enum Part {
 /// The access that a walk makes next, and what the walk knows.
 #[derive(Clone, Copy, Debug, PartialEq, Eq)]
 pub enum Row {
-    /// It loads the head's first word: the first entry.
+    /// Loads the head's first word: the first entry.
     LoadFirst,
-    /// It loads the head's second word: the offset.
+    /// Loads the head's second word: the offset.
     LoadOffset {
         first: u64,
     },
-    /// It loads the head's third word: the pending entry.
+    /// Loads the head's third word: the pending entry.
     LoadPending {
         first: u64,
         offset: u64,
     },
-    /// It loads the next entry from an entry that it hasn't treated yet.
+    /// Loads the next entry from an entry that it hasn't treated yet.
     LoadNext(Rest),
-    /// It loads a mutex's word.
+    /// Loads a mutex's word.
     LoadWord {
         at: u64,
         part: Part,
     },
-    /// It exchanges a word that it has seen, whose owner is the dead thread, for the same word marked. This is `again`
+    /// Exchanges a word that it has seen, whose owner is the dead thread, for the same word marked. This is `again`
     /// where one exchange has failed already.
     Mark {
         at: u64,
@@ -52,7 +52,7 @@ pub enum Row {
         again: bool,
         part: Part,
     },
-    /// It wakes one sleeper on a word.
+    /// Wakes one sleeper on a word.
     WakeOne {
         at: u64,
         part: Part,

@@ -51,7 +51,7 @@ impl Walk {
         }
     }
 
-    /// The walk that stands at a row: one that was kept elsewhere, as [`CodedRow`](crate::CodedRow) say, goes on from
+    /// The walk that is at a row: one that was kept elsewhere, as [`CodedRow`](crate::CodedRow) say, goes on from
     /// there.
     pub fn at(thread: Tid, head: u64, row: Row) -> Walk
         requires { Knows thread head row }

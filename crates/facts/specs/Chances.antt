@@ -1,7 +1,7 @@
--- Whether a thread could have had a mutex while its call was under way, by what was told.
+-- Whether a thread could have had a mutex while its call was under way, by what was recorded.
 --
 -- *Out of time.* A lock with a time limit may be told to be out of time (ETIMEDOUT) only where another thread owned its
--- mutex at some moment since the call began: behind the line of its begin, or behind a later one. So it never is where
+-- mutex at some moment since the call began: after the line of its begin, or after a later one. So it never is where
 -- the mutex could be locked at once. Source: pthread_mutex_timedlock(3p).
 use Rattle.std.specs.Prelude.{ℕ, ◌≡◌, ◌==◌, ◌&&◌, ◌||◌, not, Bool, true, false, Option, Some, None, List, [], ◌∷◌}
 use Rattle.std.specs.Prelude.{if◌then◌else◌}

@@ -2,8 +2,8 @@
 --
 -- *Fact and line.* One thing that an event did: a thread began a call, which names its mutex, and a condition variable
 -- where it is on one; had a point; returned; was killed; had its death told of a mutex; was reaped; fell asleep, on a
--- mutex or on a condition variable; was woken; or was moved, asleep, to a mutex; or a reaped one lives anew. A line is
--- a fact and its event's number. Points and deaths are the steps of the mutexes; a move is done to a thread by
+-- mutex or on a condition variable; was woken; or was moved, asleep, to a mutex; or a reaped one lives again. A line
+-- is a fact and its event's number. Points and deaths are the steps of the mutexes; a move is done to a thread by
 -- another's event, and so is a wake, but of a thread that leaves its queue by itself.
 use Rattle.std.specs.Prelude.{ℕ, Bool, true, false, Option, Some, None}
 use Rattle.std.specs.Option.{is_some}
@@ -51,7 +51,7 @@ abbrev pub is_point : Fact → Bool
 is_point (Point d) = true
 is_point f = false
 
--- a reaped thread lives anew
+-- a reaped thread lives again
 abbrev pub is_renewal : Fact → Bool
 is_renewal (Renew t) = true
 is_renewal f = false

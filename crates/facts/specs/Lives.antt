@@ -6,9 +6,9 @@
 -- call that hasn't returned has a beginning of its points. Sources: pthread_mutex_lock(3p), pthread_cond_wait(3p),
 -- pthread_cond_timedwait(3p).
 --
--- *A life.* What is told of one thread's calls and death: calls that returned, each with exactly its points, of its own
--- mutex; perhaps one that hasn't returned, with a beginning of its points; perhaps a kill, which ends that call, then
--- deaths, and perhaps a reaping; no other point or death.
+-- *A life.* What is recorded of one thread's calls and death: calls that returned, each with exactly its points, of
+-- its own mutex; perhaps one that hasn't returned, with a beginning of its points; perhaps a kill, which ends that
+-- call, then deaths, and perhaps a reaping; no other point or death.
 use Rattle.std.specs.Prelude.{ℕ, ◌≡◌, ◌≢◌, ◌⊎◌, ◌==◌, ◌&&◌, Bool, true, false, List, [], ◌∷◌, ◌++◌, map, if◌then◌else◌}
 use Rattle.lockword.specs.declared.reply.Reply.{Reply}
 use Rattle.lockword.specs.declared.reply.Reply.TheVariants.{OK, ETIMEDOUT}
@@ -31,8 +31,8 @@ Act = Operation × Reply
 abbrev pub IsWait : Operation → Type 0
 IsWait op = (op ≡ Wait) ⊎ (op ≡ TimedWait)
 
--- what a call of this operation may return, whose last point replied y: that; and a wait that is out of time ETIMEDOUT in
--- place of OK
+-- what a call of this operation may return, whose last point replied y: that; and a wait that is out of time
+-- ETIMEDOUT instead of OK
 abbrev pub MayReturn : Operation → Reply → Reply → Type 0
 MayReturn TimedWait y x = (x ≡ y) ⊎ ((y ≡ OK) × (x ≡ ETIMEDOUT))
 MayReturn op y x = x ≡ y
@@ -68,7 +68,7 @@ made t c ps = map (made_by t c) ps
 
 -- ---- a life
 
--- it tells what a call was told or answered, or of a death, and not who sleeps
+-- it tells what a call returned or was answered, or of a death, and not who sleeps
 abbrev pub is_of_call : Fact → Bool
 is_of_call (Sleep t q) = false
 is_of_call (Wake t) = false
@@ -80,8 +80,8 @@ abbrev pub own : ℕ → List Line → List Fact
 own t [] = []
 own t (l ∷ ls) = if is_of_call l.fact && (thread_of l.fact == t) then l.fact ∷ own t ls else own t ls
 
--- what is told of thread t after it was killed: its death, of mutexes; and perhaps that it was reaped, after which
--- nothing is told
+-- what is recorded of thread t after it was killed: its death, of mutexes; and perhaps that it was reaped, after
+-- which nothing is told
 pub data Mourned (t : ℕ) : List Fact → Type 0 where
   Unburied : Mourned t []
   Tells_of : (m : ℕ) (later : List Fact) → Mourned t later → Mourned t (Death t m ∷ later)
@@ -105,8 +105,8 @@ pub data Life (t : ℕ) : List Fact → Type 0 where
 abbrev pub EndsReaped : ℕ → List Fact → Type 0
 EndsReaped t fs = (before : List Fact) × (fs ≡ before ++ Reap t ∷ [])
 
--- all that is told of thread t, whose id is used again: one life, or several, each but the last ended by its reaping,
--- behind which t lives anew. So a call, a point or a death belongs to one of them
+-- all that is recorded of thread t, whose id is used again: one life, or several, each but the last ended by its
+-- reaping, after which t lives again. So a call, a point or a death belongs to one of them
 pub data Lives (t : ℕ) : List Fact → Type 0 where
   Last : (life : List Fact) → Life t life → Lives t life
   Earlier : (life later : List Fact) → Life t life → EndsReaped t life → Lives t later

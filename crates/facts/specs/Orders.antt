@@ -3,7 +3,7 @@ use Rattle.std.specs.Prelude.{◌≡◌, ◌<◌, ◌≤◌, true, false, List, 
 use Rattle.facts.specs.declared.fact.Line.{Line}
 use Rattle.facts.specs.Facts.{thread_of, decides, is_passive, is_kill}
 
--- how line b may stand behind line a, near or far: the numbers of events never fall, and those of points and deaths
+-- how line b may be after line a, near or far: the numbers of events never fall, and those of points and deaths
 -- rise; an event is one thread's, whomever it wakes or moves; and a kill is an event of its own
 pub record Later (a b : Line) : Type 0 where
   pub never_falls : a.event ≤ b.event
@@ -17,7 +17,7 @@ abbrev pub Each : (Line → Type 0) → List Line → Type 0
 Each P [] = Unit {0}
 Each P (l ∷ ls) = P l × Each P ls
 
--- lines in the order in which they were told: each may stand before each one that follows it
+-- lines in the order in which they were recorded: each may stand before each one that follows it
 abbrev pub Orderly : List Line → Type 0
 Orderly [] = Unit {0}
 Orderly (l ∷ ls) = Each (Later l) ls × Orderly ls

@@ -29,7 +29,7 @@ pub enum Fact {
     Begin(Tid, Begun),
     /// The access that decided an operation of the thread's call.
     Point(Decision),
-    /// The thread's death was told of the mutex with this number, which it owned.
+    /// The thread's death was recorded of the mutex with this number, which it owned.
     Death(Tid, u16),
     /// The thread fell asleep.
     Sleep(Tid, Queue),
@@ -41,7 +41,7 @@ pub enum Fact {
     Kill(Tid),
     /// The walk of the thread's list has ended.
     Reap(Tid),
-    /// The thread, which was reaped, lives anew: its id is used again.
+    /// The thread, which was reaped, lives again: its id is used again.
     Renew(Tid),
 }
 

@@ -1,10 +1,10 @@
 //! What the lines of a trace tell, and how they follow each other.
 //!
 //! A [`Line`] is a [`Fact`] and the number of its event. `specs/` says whose fact it is, which steps of mutexes points
-//! and deaths are, what all lines of one thread must be together, and how lines may stand behind each other: what a run
+//! and deaths are, what all lines of one thread must be together, and how lines may be after each other: what a run
 //! prints and what a trace is judged by (of replies, the law `only_late_waits_differ`).
 //!
-//! Stands on `posixmutex`, for operations and decisions, and on `lockword`, for thread ids and replies.
+//! Is on `posixmutex`, for operations and decisions, and on `lockword`, for thread ids and replies.
 //!
 //! ```text
 //! // `16 death t1 m0`: thread 1 died as the owner of mutex 0.

@@ -1,4 +1,4 @@
--- The word that is told is the first that is wrong.
+-- The word that is reported is the first that is wrong.
 use Rattle.std.proofs.Common.{◌≡◌, ℕ, suc, ◌+◌, ◌<◌, ◌≤◌, Bool, true, false, List, [], ◌∷◌, ◌++◌, length, take, drop, Option, Some, None, IsSome, option_and_then, if◌then◌else◌, refl, sym, subst, ap, ◌∙◌, arith, add-one}
 use Rattle.std.specs.Prelude.{slice_get}
 use Rattle.std.specs.Option.{option_map_or}
@@ -52,7 +52,7 @@ awaits k ws n e w = (
 
 -- ---- what is told
 
--- behind so many of the words, which go from n to what x has
+-- after this many of the words, which go from n to what x has
 pub record Found (n : Next) (i at : ℕ) (ws : List (List ℕ)) (x : Wrong) : Type 0 where
   pub many : ℕ
   pub word : x.word ≡ i + many
@@ -177,7 +177,7 @@ first k ws x f = record {
     none None e h = cc
     none (Some x) e h = cc
 
--- ---- where a word stands behind one that is cut off
+-- ---- where a word stands after one that is cut off
 
 pub offset_on : (i j : ℕ) (w : List ℕ) (text more : List ℕ) → words_of text ≡ w ∷ words_of more → i ≡ j + 1 → offset_of i (words_of text) ≡ (length w + 1) + offset_of j (words_of more)
 offset_on i j w text more e is = ap (λ n. offset_of n (words_of text)) (is ∙ add-one j) ∙ ap (offset_of (suc j)) e ∙ offset-suc j w (words_of more)

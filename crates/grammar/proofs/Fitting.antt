@@ -9,7 +9,7 @@ pub both : (a b : Bool) → b ≡ false → (a && b) ≡ false
 both true b e = e
 both false b e = refl
 
--- behind words that end a line nothing comes
+-- after words that end a line nothing comes
 pub fits_last : (b : Bool) (w : List ℕ) (ws : List (List ℕ)) → ends (option_and_then (λ n. run n (w ∷ ws)) (fitting b End)) ≡ false
 fits_last true w ws = refl
 fits_last false w ws = refl

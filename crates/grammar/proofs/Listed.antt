@@ -39,7 +39,7 @@ tries : (b : Bool) (m : Next) (o : Option Next) → is_some (if b then Some m el
 tries true m o = refl
 tries false m o = refl
 
--- the same of a table behind which another one is tried
+-- the same of a table after which another one is tried
 tries_first : (b : Bool) (m : Next) (o p : Option Next)
     → is_some (or_else (if b then Some m else o) p) ≡ (b || is_some (or_else o p))
 tries_first true m o p = refl
@@ -92,7 +92,7 @@ kept {A} keep w x o c is behind = go _ _ (same_either_way (operation_word x) w)
     go false true e = absurd cc
     go false false e = behind
 
--- and one that isn't, whose word is none of those behind it
+-- and one that isn't, whose word is none of those after it
 passed : {A : Type 0} (keep : Op → Option A) (w : List ℕ) (x : Op) (o : Option Op) (vs : List (List ℕ))
     → is_some (keep x) ≡ false → is_among (operation_word x) vs ≡ false
     → is_some (option_and_then keep o) ≡ is_among w vs
@@ -104,11 +104,11 @@ passed {A} keep w x o vs dropped apart behind = go _ refl
     go true e = dropped ∙ sym (subst (λ v. is_among v vs ≡ false) ((bytes_eq-Decides (operation_word x) w).0 e) apart)
     go false e = behind
 
--- the calls of scripts behind those with a time limit
+-- the calls of scripts after those with a time limit
 abbrev behind_timed : List (List ℕ)
 behind_timed = map operation_word (op.Unlock ∷ op.Consistent ∷ op.Wait ∷ op.Signal ∷ op.Broadcast ∷ [])
 
--- and behind waits with one
+-- and after waits with one
 abbrev behind_waits : List (List ℕ)
 behind_waits = map operation_word (op.Signal ∷ op.Broadcast ∷ [])
 

@@ -1,4 +1,4 @@
--- Words, one after the other, through the table of what comes behind what.
+-- Words, one after the other, through the table of what comes after what.
 use Rattle.std.proofs.Common.{◌≡◌, ℕ, Bool, true, false, List, [], ◌∷◌, ◌++◌, Option, Some, None, option_and_then, refl}
 use Rattle.std.specs.Prelude.{codes}
 use Rattle.lockword.specs.Replies.{reply_of}
@@ -7,7 +7,7 @@ use Rattle.grammar.specs.declared.next.Next.{Next}
 use Rattle.grammar.specs.declared.next.Next.TheVariants.{End, Keyword, Name, NewThread, ProcessOrEnd, NameNumber, NameNameNumber, NameName, StemNumber, Number, NameCall, Call, Head, ThreeNumbers, TwoNumbers, Event, Deed, Thread, ThreadMutex, ThreadPlace, ThreadReply, ThreadCall, ThreadPoint, Mutex, Place, Reply, Operation, ConditionMutex, MutexCallReply, CallReply}
 use Rattle.grammar.specs.Nexts.{after, is_over}
 
--- what has to come behind these words
+-- what has to come after these words
 abbrev pub run : Next → List (List ℕ) → Option Next
 run n [] = Some n
 run n (w ∷ ws) = option_and_then (λ m. run m ws) (after n w)

@@ -27,12 +27,12 @@ width-cond : (b : Bool) (x : ℕ) (ws : List (List ℕ)) (n : ℕ) → width ws 
 width-cond true x ws n e = omega (arith, e, width-cons [] ws)
 width-cond false x ws n e = width-onto x ws n e
 
--- a byte stands behind each word but the last
+-- a byte stands after each word but the last
 pub width-words : (text : List ℕ) → width (words_of text) ≡ length text + 1
 width-words [] = refl
 width-words (x ∷ xs) = let rest = width-words xs in width-cond (x == 32) x (words_of xs) (length xs) rest ∙ omega arith
 
--- so a word that is cut off, and the space behind it, leave so many bytes
+-- so a word that is cut off, and the space after it, leave this many bytes
 pub cut_width : (w text more : List ℕ) → words_of text ≡ w ∷ words_of more → length text ≡ length w + 1 + length more
 cut_width w text more e = omega (arith, ap width e, width-words text, width-words more, width-cons w (words_of more))
 

@@ -47,7 +47,7 @@ grouped false b c = refl
 number_long : (n b : List ℕ) (ws : List (List ℕ)) → ends (run Number (n ∷ b ∷ ws)) ≡ false
 number_long n b ws = fits_last (is_number n) b ws
 
--- ---- the shapes of lines behind their first word
+-- ---- the shapes of lines after their first word
 
 abbrev one_name : (List ℕ → Form) → List (List ℕ) → Option Form
 one_name F (a ∷ []) = if is_name a then Some (F a) else None

@@ -38,7 +38,7 @@ bound_none : {A : Type 0} (B : Type 0) (o : Option A) → is_some (o >>= λ x. n
 bound_none B None = refl
 bound_none B (Some x) = refl
 
--- ---- behind an event's number, the word of what it did and its thread
+-- ---- after an event's number, the word of what it did and its thread
 
 abbrev behind : Option ℕ → List ℕ → List (List ℕ) → Option ℕ → Option Form
 behind i w [] u = if bytes_eq w (codes "kill") then Some (Told i (said.Kill u))
@@ -220,7 +220,7 @@ told_form e w t (a ∷ m ∷ []) i n = ap (λ (p : Option (Option ℕ)). is_some
 told_form e w t (a ∷ b ∷ c ∷ []) i n = ap (λ (p : Option (Option ℕ)). is_some (p >>= λ j. thread_word t >>= behind j w (a ∷ b ∷ c ∷ []))) n
 told_form e w t (a ∷ b ∷ c ∷ d ∷ ws) i n = sym (bound_none Form (thread_word t))
 
--- behind an event's number
+-- after an event's number
 abbrev Agree : List ℕ → Option ℕ → List (List ℕ) → List ℕ → Type 0
 Agree e i ws w = is_some (words_form (e ∷ w ∷ ws)) ≡ ends (run Deed (w ∷ ws))
 

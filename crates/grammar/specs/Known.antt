@@ -1,4 +1,4 @@
--- The words that may stand at a place.
+-- The words that may be at a place.
 use Rattle.std.specs.Prelude.{ℕ, List, [], ◌∷◌, map, codes}
 use Rattle.posixmutex.specs.declared.point.Operation.TheVariants.{Lock, TryLock, TimedLock, Unlock, Consistent}
 use Rattle.posixmutex.specs.declared.point.Operation.TheVariants.{Wait, TimedWait, Signal, Broadcast, Reinit}
@@ -38,7 +38,7 @@ abbrev pub deeds : List (List ℕ)
 deeds = codes "begin" ∷ codes "kill" ∷ codes "point" ∷ codes "death" ∷ codes "sleep" ∷ codes "wake" ∷ codes "move"
     ∷ codes "return" ∷ codes "reaped" ∷ codes "renew" ∷ []
 
--- the words that can stand there, but for names, numbers, and numbers behind a letter
+-- the words that can be there, except for names, numbers, and numbers after a letter
 abbrev pub known_words : Next → List (List ℕ)
 known_words (Keyword k) = keywords k
 known_words Head = codes "trace" ∷ []

@@ -8,7 +8,7 @@ use Rattle.grammar.specs.declared.next.Next.TheVariants.{Keyword, Call, Head, Ev
 use Rattle.grammar.specs.Known.{known_words}
 use Rattle.grammar.specs.Nexts.{after}
 
--- a line goes on there behind just the words that are listed
+-- a line goes on there after just the words that are listed
 abbrev pub TakesJustTheListed : Next → Type 0
 TakesJustTheListed n = (w : List ℕ) → (is_some (after n w) ≡ true) ↔ Contains (known_words n) w
 

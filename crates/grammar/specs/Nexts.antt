@@ -1,4 +1,4 @@
--- How a line goes on behind each of its words.
+-- How a line goes on after each of its words.
 use Rattle.std.specs.Prelude.{ℕ, Bool, true, false, ◌||◌, List, Option, Some}
 use Rattle.std.specs.Prelude.{None, option_and_then, if◌then◌else◌, codes}
 use Rattle.std.specs.Option.{is_some}
@@ -30,7 +30,7 @@ is_lettered letter w = is_some (numbered letter w)
 abbrev pub is_call : List ℕ → Bool
 is_call w = is_some (call_operation w)
 
--- the calls that scripts make: that a mutex was made anew is told as a call, but scripts have it as an event
+-- the calls that scripts make: that a mutex was reinitialised is reported as a call, but scripts have it as an event
 abbrev pub scripted : Op → Option Op
 scripted op.Death = None
 scripted op.Reinit = None
@@ -61,7 +61,7 @@ fitting fits next = if fits then Some next else None
 
 -- ---- scripts
 
--- behind the first word of a line that scripts of both modes have
+-- after the first word of a line that scripts of both modes have
 abbrev pub shared : Mode → List ℕ → Option Next
 shared k w = if bytes_eq w (codes "process") then Some NameNumber
     else (if bytes_eq w (codes "thread") then Some NewThread
@@ -105,7 +105,7 @@ keyword k w = or_else (shared k w) (alone k w)
 
 -- ---- traces
 
--- behind the word of what an event did
+-- after the word of what an event did
 abbrev pub deed : List ℕ → Option Next
 deed w = if bytes_eq w (codes "begin") then Some ThreadCall
     else (if bytes_eq w (codes "kill") then Some Thread
@@ -118,7 +118,7 @@ deed w = if bytes_eq w (codes "begin") then Some ThreadCall
     else (if bytes_eq w (codes "reaped") then Some Thread
     else (if bytes_eq w (codes "renew") then Some Thread else None)))))))))
 
--- behind the word of a call that begins
+-- after the word of a call that begins
 abbrev pub made_on : Op → Option Next
 made_on op.Lock = Some Mutex
 made_on op.TryLock = Some Mutex
@@ -135,13 +135,13 @@ made_on op.Death = None
 abbrev pub operation : List ℕ → Option Next
 operation w = option_and_then made_on (operation_of w)
 
--- behind the first word of an event's line, or of the last one
+-- after the first word of an event's line, or of the last one
 abbrev pub event : List ℕ → Option Next
 event w = if bytes_eq w (codes "end") then Some Number else fitting (is_number w) Deed
 
 -- ---- all of them
 
--- what has to come behind this word
+-- what has to come after this word
 abbrev pub after : Next → List ℕ → Option Next
 after End w = None
 after (Keyword k) w = keyword k w

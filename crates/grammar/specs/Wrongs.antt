@@ -1,11 +1,11 @@
 -- The first word at which no line of a kind can go on.
 --
--- *The first wrong word.* A line can go on behind words if some words behind them make a line that the readers of
--- scripts or traces take. The first wrong word of a line is the one at which no line can go on, though one can behind
+-- *The first wrong word.* A line can go on after words if some words after them make a line that the readers of
+-- scripts or traces take. The first wrong word of a line is the one at which no line can go on, though one can after
 -- the words before it; where all words stand, it is the one that is missing. What it has to be is given by just the
--- words behind which a line can go on. The nearest of several words is `IsNearest` (`Near.antt`), by `strsim`'s
+-- words after which a line can go on. The nearest of several words is `IsNearest` (`Near.antt`), by `strsim`'s
 -- distance with swapped neighbours. Where words are listed (`known_words`; `Known.antt`), those are just the words
--- behind which a line goes on (`KnownWordsAreThoseThatFit`; `Laws.antt`).
+-- after which a line goes on (`KnownWordsAreThoseThatFit`; `Laws.antt`).
 use Rattle.std.specs.Prelude.{ℕ, ◌≡◌, ◌+◌, ◌<◌, ◌≤◌, ◌↔◌, Bool, true, false, List, [], ◌∷◌, ◌++◌, length, take}
 use Rattle.std.specs.Prelude.{sum_by, slice_get, Option, Some, None, option_and_then, IsSome, if◌then◌else◌}
 use Rattle.std.specs.Option.{option_map_or}
@@ -31,7 +31,7 @@ is_line Trace ws = is_some (traces.words_form ws)
 abbrev pub CanGoOn : Kind → List (List ℕ) → Type 0
 CanGoOn k ws = (more : List (List ℕ)) × (is_line k (ws ++ more) ≡ true)
 
--- word i is the first that is wrong: a line can go on behind those before it, and none begins with these and it. Where
+-- word i is the first that is wrong: a line can go on after those before it, and none begins with these and it. Where
 -- there is no word i, all words stand, and one is missing
 pub record IsFirstWrong (k : Kind) (ws : List (List ℕ)) (i : ℕ) : Type 0 where
   pub within : i ≤ length ws
@@ -39,7 +39,7 @@ pub record IsFirstWrong (k : Kind) (ws : List (List ℕ)) (i : ℕ) : Type 0 whe
   pub stops : i < length ws → CanGoOn k (take (i + 1) ws) → ⊥
   pub short : i ≡ length ws → is_line k ws ≡ false
 
--- the words that can stand behind these are just those behind which n goes on
+-- the words that can be after these are just those after which n goes on
 abbrev pub Awaits : Kind → List (List ℕ) → Next → Type 0
 Awaits k ws n = (w : List ℕ) → (CanGoOn k (ws ++ w ∷ []) ↔ IsSome (after n w))
 
@@ -49,7 +49,7 @@ first_of (Script k) = next.Keyword k
 first_of Head = next.Head
 first_of Trace = next.Event
 
--- where word i begins, in bytes: a space stands behind each word before it
+-- where word i begins, in bytes: a space stands after each word before it
 abbrev pub offset_of : ℕ → List (List ℕ) → ℕ
 offset_of i ws = sum_by (λ w. length w + 1) (take i ws)
 
@@ -63,7 +63,7 @@ ends_at i ws = offset_of i ws + option_map_or length (slice_get ws i) 0
 abbrev pub wrong_at : ℕ → ℕ → List ℕ → Next → Wrong
 wrong_at i at w n = record { word = i; start = at; end = at + length w; next = n }
 
--- the last word is wrong; or one is missing behind it, unless the line may end there
+-- the last word is wrong; or one is missing after it, unless the line may end there
 abbrev pub wrong_last : ℕ → ℕ → List ℕ → Next → Option Next → Option Wrong
 wrong_last i at w n None = Some (wrong_at i at w n)
 wrong_last i at w n (Some m) = if is_over m then None else Some (wrong_at (i + 1) (at + length w + 1) [] m)

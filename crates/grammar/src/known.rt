@@ -1,4 +1,4 @@
-//! The words that may stand at a place.
+//! The words that may be at a place.
 
 ghost use Rattle.std.specs.Prelude.{◌≡◌, map};
 ghost use Rattle.grammar.specs.Known.{call_words, deeds, keywords, known_words, reply_words, told_words};
@@ -90,7 +90,7 @@ fn deeds() -> &'static [&'static str]
     ]
 }
 
-/// The words that may stand at this place, but for names, numbers, and numbers behind a letter.
+/// The words that may be at this place, except for names, numbers, and numbers after a letter.
 pub fn known_words(next: Next) -> &'static [&'static str]
     ensures { map (λ w. w.now) result.now ≡ known_words next }
 {

@@ -1,12 +1,12 @@
 //! The kinds of line of scripts and traces, word by word: where a line stops being one of its kind, which words could
-//! stand there, and which of these was meant.
+//! be there, and which of these was meant.
 //!
 //! [`Next`] says what the next word of a line has to be. [`first_wrong`] gives the first word at which no line of a
-//! kind can go on, behind words that one begins with ([`Kind`]): proved of the kinds of line as the readers of scripts
-//! and traces have them. [`known_words`] has the words that may stand at a place, which is proved too
+//! kind can go on, after words that one begins with ([`Kind`]): proved of the kinds of line as the readers of scripts
+//! and traces have them. [`known_words`] has the words that may be at a place, which is proved too
 //! ([`known_words_are_those_that_fit`]), and [`nearest`] the one of several words that a misspelt one is next to.
 //!
-//! Stands on `script` and `verdict`, for their kinds of line, on `lines`, for words and numbers, on `posixmutex` and
+//! Is on `script` and `verdict`, for their kinds of line, on `lines`, for words and numbers, on `posixmutex` and
 //! `lockword`, for the words of operations and replies, and on `strsim`, for how far words are apart.
 //!
 //! ```text

@@ -78,7 +78,7 @@ pub enum Next {
     CallReply,
 }
 
-/// Whether these are bytes that names have behind the first.
+/// Whether these are bytes that names have after the first.
 fn are_name_bytes(bytes: &[u8]) -> bool
     ensures { result ≡ list_all is_name_byte bytes.now }
 {
@@ -97,14 +97,14 @@ fn is_name(word: &str) -> bool
     }
 }
 
-/// Whether the word is spelled as a name that stays one with a number behind it.
+/// Whether the word is spelled as a name that stays one with a number after it.
 fn is_stem(word: &str) -> bool
     ensures { result ≡ is_stem word.now }
 {
     is_name(word) && word.len() <= MAX_STEM
 }
 
-/// Whether the word is a letter and a number behind it.
+/// Whether the word is a letter and a number after it.
 fn is_lettered(letter: char, word: &str) -> bool
     requires { letter < 128 }
     ensures { result ≡ is_lettered letter word.now }
@@ -270,7 +270,7 @@ fn fitting(fits: bool, next: Next) -> Option<Next>
 impl Next {
     ghost use Rattle.grammar.specs.Nexts.{after, is_over};
 
-    /// How the line goes on behind this word; None where no line of its kind does.
+    /// How the line goes on after this word; None where no line of its kind does.
     pub fn after(self, word: &str) -> Option<Next>
         ensures { result ≡ after self word.now }
     {

@@ -22,8 +22,8 @@ pub fn word_at(text: &str, index: usize) -> Option<&str>
     if left == 0 { Some(rest) } else { None }
 }
 
-/// Where word `index` of a line begins and ends, in bytes. Where the line has fewer words, one behind its last would
-/// begin one byte behind its end, and it has no width.
+/// Where word `index` of a line begins and ends, in bytes. Where the line has fewer words, one after its last would
+/// begin one byte after its end, and it has no width.
 pub fn place_of(text: &str, index: usize) -> (usize, usize)
     ensures start { result.0 ≡ offset_of index (words_of text.now) }
     ensures end { result.1 ≡ ends_at index (words_of text.now) }

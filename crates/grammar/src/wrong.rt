@@ -17,16 +17,16 @@ pub enum Kind {
     Script(Mode),
     /// The first line of a trace.
     Head,
-    /// A line of a trace behind the first.
+    /// A line of a trace after the first.
     Trace,
 }
 
 /// Where a line stops being one of its kind.
 #[derive(Clone, Copy, Debug, PartialEq, Eq)]
 pub struct Wrong {
-    /// The word, from 0; as many as the line has words where a word is missing behind the last.
+    /// The word, from 0; as many as the line has words where a word is missing after the last.
     pub word: usize,
-    /// Where it begins in the line, in bytes. A missing word would begin one byte behind the line's end.
+    /// Where it begins in the line, in bytes. A missing word would begin one byte after the line's end.
     pub start: usize,
     /// Where it ends; a missing one, where it begins.
     pub end: usize,
@@ -58,7 +58,7 @@ fn wrong_at(word: usize, start: usize, part: &str, next: Next) -> Wrong
     }
 }
 
-/// What is wrong at the last word or behind it, if anything is.
+/// What is wrong at the last word or after it, if anything is.
 fn wrong_last(word: usize, start: usize, part: &str, next: Next) -> Option<Wrong>
     requires small { start + length part.now < 2 ^ 63 }
     requires few { word < 2 ^ 63 }

@@ -150,7 +150,7 @@ module _ (l : Layout') (ws : List ℕ) (kernel after : Kernel') (ts : List Threa
     pub stayed_note : (nothing was).note ≡ (happens was (Expire t)).note
     stayed_note = sym (ap (λ (a : After). a.note) (ran false left))
 
-  -- whoever stood in one is out of time
+  -- whoever was in one is out of time
   module _ (left : Leaves kernel after t true) where
     pub lapsed_state : state_at l ws after (slice_set ts k (record { stage = Calling (OnMutex (call.TimedLock m)) q; held = th.held })) ≡ (happens was (Expire t)).state
     lapsed_state =

@@ -42,7 +42,7 @@ module _ (l : Layout') (ws : List ℕ) (kernel after : Kernel') (ts : List Threa
     pub left_note : Left t ≡ (happens s (Leave t)).note
     left_note = sym (ap (λ (a : After). a.note) happens_so)
 
-  -- whoever stood in none stays
+  -- whoever was in none stays
   module _ (left : Leaves kernel after t false) where
     rests : happens s (Leave t) ≡ nothing s
     rests =

@@ -81,7 +81,7 @@ few : (t n : ℕ) (f : ℕ → Object) → held_by t f n ≤ n
 few t zero f = omega arith
 few t (suc n) f = let before = few t n f in grind (arith, nat_tests)
 
--- a call that stands in a phase is under way, and knows what the phase needs
+-- a call that is in a phase is under way, and knows what the phase needs
 on_the_way : (t held : ℕ) (p : Whole) (f : Phase) (o : Object) → InPhase t held p f o → IsUnderWay f × PhaseKnows f
 on_the_way t held p (Announcing r) o h = (tt, (h.0.going, h.0.knows))
 on_the_way t held p (AtCell r) o h = (tt, (h.going, h.knows))
@@ -237,7 +237,7 @@ reached_step m ws k ts e r is words kernel heads threads b fresh = record {
 
 -- ---- the beginning
 
--- behind its end a list reads as 0
+-- after its end a list reads as 0
 get_or-beyond : (xs : List ℕ) (i : ℕ) → length xs ≤ i → slice_index xs i ≡ 0
 get_or-beyond xs i h = grind (arith, common_steps)
 

@@ -38,6 +38,6 @@ pub legal_run : (s : State) (l : Layout') (counters : ℕ → ℕ) (es : List Ev
 legal_run s l counters es told is presets starts noted =
     subst (λ (ns : List Note). IsLegalRun s es ns) (sym noted) (subst (λ (z : State). IsLegalRun z es (notes z es)) (sym starts) (from_start l counters es is presets))
 
--- so is a run of a machine that stood at its start, once its last event is noted
+-- so is a run of a machine that was at its start, once its last event is noted
 pub whole_run : (m : Shown) (es : List Event) (told : List Note) (n : ℕ) → IsStart m → length es ≤ n → told ≡ notes (state_of m) (take n es) → IsLegalRun (state_of m) es told
 whole_run m es told n starts last noted = legal_run (state_of m) m.layout starts.counters es told starts.layout starts.presets starts.is (noted ∙ ap (notes (state_of m)) (take_all n es last))

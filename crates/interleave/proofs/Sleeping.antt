@@ -12,7 +12,7 @@ use Rattle.protocol.specs.Machine.{State, nothing, has_thread, answer_of, led, w
 use Rattle.protocol.proofs.Queued.{out_awake}
 use Rattle.interleave.specs.Steps.{SleepsInItsCall}
 
--- whoever stands at some place of a queue stands in it
+-- whoever is at some place of a queue stands in it
 found : (t : ℕ) (q : List ℕ) (k : ℕ) → k < length q → slice_index_or q k t ≡ t → stands_in t q ≡ true
 found t [] k lt e = absurd (omega arith)
 found t (u ∷ us) zero lt e = ap (λ (b : Bool). if b then true else stands_in t us) (eq-eqb u t e)
@@ -34,7 +34,7 @@ contains t (u ∷ us) e = go (u == t) refl e (contains t us)
     go true is h further = (0, omega arith, eqb-true u t is)
     go false is h further = let later = further h in (suc later.0, let lt = later.1 in omega arith, later.2)
 
--- who isn't in a queue doesn't stand in it
+-- who isn't in a queue isn't in it
 pub outside : (t : ℕ) (q : List ℕ) → ¬ Contains q t → stands_in t q ≡ false
 outside t q none = go (stands_in t q) refl
   where

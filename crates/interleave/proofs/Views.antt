@@ -56,7 +56,7 @@ words-set ws k v lt =
     (λ is. grind (arith, common_steps))
     (λ apart. grind (arith, common_steps)))
 
--- thread t stands at t - 1
+-- thread t is at t - 1
 pub thread_at-index : (ts : List Thread) (k t : ℕ) → k + 1 ≡ t → thread_at ts t ≡ slice_index_or ts k idle
 thread_at-index ts k zero e = absurd (omega arith)
 thread_at-index ts k (suc i) e = let same : i ≡ k = omega arith in ap (λ j. slice_index_or ts j idle) same

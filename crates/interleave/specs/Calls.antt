@@ -32,7 +32,7 @@ abbrev pub op_of : InCall → Op
 op_of (Calling o p) = o
 op_of (AtCondition c p) = OnCondition c
 
--- the queue that its thread comes to stand in if it falls asleep, m being its mutex
+-- the queue that its thread comes to be in if it falls asleep, m being its mutex
 abbrev pub queue_in : ℕ → InCall → Queue
 queue_in m (Calling o p) = Mutex m
 queue_in m (AtCondition c p) = Condition (condition_of c)

@@ -24,6 +24,6 @@ IsOnItsWay l Reaped = Unit {0}
 abbrev pub MayStep : Layout' → Thread → Type 0
 MayStep l th = IsOnItsWay l th.stage × (th.held < 65535)
 
--- whichever queue it stands in, it sleeps in its call: the queue is that of a place that its stage has
+-- whichever queue it is in, it sleeps in its call: the queue is that of a place that its stage has
 abbrev pub SleepsInItsCall : State → ℕ → Type 0
 SleepsInItsCall s t = (key : ℕ) → stands_in t (s.queues key) ≡ true → is_asleep s t ≡ true

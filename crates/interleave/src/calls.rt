@@ -29,7 +29,7 @@ impl InCall {
         }
     }
 
-    /// The queue that its thread comes to stand in if it falls asleep. The mutex is the call's.
+    /// The queue that its thread comes to be in if it falls asleep. The mutex is the call's.
     pub(crate) fn queue(&self, mutex: u16) -> Queue
         ensures { result ≡ queue_in mutex self.now }
     {

@@ -16,7 +16,7 @@ use protocol::{Note, Stage, Thread};
 use stepprograms::{Access, Answer, StepProgram};
 use syscalls::Kernel;
 
-/// The thread leaves its queue, if it stands in one. It stands in its call where it goes on when it is woken, so
+/// The thread leaves its queue, if it is in one. It is in its call where it goes on when it is woken, so
 /// nothing else is to do.
 pub(crate) fn leave(layout: &Layout, kernel: &mut Kernel, thread: Tid) -> Note
     requires { kernel.old.threads ≡ layout.now.threads }
@@ -37,8 +37,8 @@ pub(crate) fn leave(layout: &Layout, kernel: &mut Kernel, thread: Tid) -> Note
     }
 }
 
-/// The next access of the thread's call, where that is a trim, is declined: the call goes on as behind one that cleared
-/// nothing.
+/// The next access of the thread's call, where that is a trim, is declined: the call goes on as after one that
+/// cleared nothing.
 pub(crate) fn decline(
     layout: &Layout,
     kernel: &Kernel,

@@ -4,11 +4,11 @@
 //! plain memory, and its threads sleep in a kernel's queues. What holds of every run is the contract of
 //! [`Machine::run`]: its points are one legal history of POSIX robust mutexes. Threads may be killed at any event, and
 //! the kernel then walks their robust lists (get_robust_list(2)): a thread whose walk has ended owns no mutex, and may
-//! be renewed, with the same id. A mutex that has become unusable may be made anew. [`Machine::alone`] is what one
-//! thread would do if no other stepped: after each event no sleeper is stranded, and whoever is awake comes to rest
-//! (`runs_alone`).
+//! be renewed, with the same id. A mutex that has become unusable may be reinitialised. [`Machine::alone`] is what
+//! one thread would do if no other stepped: after each event no sleeper is stranded, and whoever is awake comes to
+//! rest (`runs_alone`).
 //!
-//! Stands on `protocol`, for events, notes and the laws, on `syscalls`, for the memory and the kernel, on `mutex`,
+//! Is on `protocol`, for events, notes and the laws, on `syscalls`, for the memory and the kernel, on `mutex`,
 //! `condvar`, `robustlist` and `exitwalk`, for the programs that it runs, on `buckets`, for who is woken, on `facts`,
 //! for notes, on `memorymap`, for layouts, and on `stepprograms`, `posixmutex` and `lockword`.
 //!

@@ -28,8 +28,8 @@ use syscalls::{Kernel, Memory, PlainMemory};
 /// Threads whose calls step over the words of a layout, and sleep on them, one event at a time. A thread may be killed
 /// at any event: it leaves its queue, its call ends where it stands, and its later steps are the accesses of the
 /// kernel's walk over its robust list, the last of which reaps it. A thread that was reaped may be renewed: then it
-/// lives anew, with the same id. A mutex that has become unusable may be made anew by a thread in no call, once nobody
-/// sleeps on it.
+/// lives again, with the same id. A mutex that has become unusable may be reinitialised by a thread in no call, once
+/// nobody sleeps on it.
 #[derive(Drop)]
 pub struct Machine {
     layout: Layout,
@@ -118,7 +118,7 @@ impl Machine {
         })
     }
 
-    /// Its layout.
+    /// The layout.
     pub fn layout(&self) -> &Layout
         ensures value { result.now ≡ self.now.layout }
         ensures layout { IsLayout self.now.layout }
@@ -181,17 +181,18 @@ impl Machine {
     ///
     /// Of a machine to which nothing has happened, the notes tell a legal history: after each event, the points so far
     /// take every mutex, as POSIX sees it, from free to what its cell says of its owner, OWNER_DIED and UNUSABLE. And
-    /// they explain what each thread was told: a call that returned had one point, whose reply it returned, between its
-    /// begin and its return, at events of its own thread, but that a wait which isn't refused had an unlock and then a
-    /// lock; one that hasn't returned had a beginning of its points; and no point belongs to any other call. A remake
-    /// is told as a call of one event, a reinit. What is told of a thread is one life after the other, each but the
-    /// last ended by its reaping, and then its renewal. After each event a thread stands in a queue exactly where the
-    /// last of its sleeps, moves, wakes and kills told so far is a sleep or a move, in that of the mutex or condition
-    /// variable that this names; in each queue they stand in the order in which they came, as it was told, and whoever
-    /// is woken or moved by another is the front. No signal and no broadcast passes a wait by: a thread that released
-    /// its mutex in a wait before such a call counted doesn't fall asleep on that condition variable behind it. The
-    /// event at which a signal returns OK wakes the first of its queue, and nobody only where that is empty; the one at
-    /// which a broadcast does moves all of its queue, and leaves nobody there.
+    /// they explain what each thread got: a call that returned had one point, whose reply it returned,
+    /// between its begin and its return, at events of its own thread, but that a wait which isn't refused had an
+    /// unlock and then a lock; one that hasn't returned had a beginning of its points; and no point belongs to any
+    /// other call. A remake is recorded as a call of one event, a reinit. What is recorded of a thread is one life
+    /// after the other, each but the last ended by its reaping, and then its renewal. After each event a thread
+    /// stands in a queue exactly where the last of its sleeps, moves, wakes and kills told so far is a sleep or a
+    /// move, in that of the mutex or condition variable that this names; in each queue they are in the order in
+    /// which they came, as it was recorded, and whoever is woken or moved by another is the front. No signal and no
+    /// broadcast passes a wait by: a thread that released its mutex in a wait before such a call counted doesn't
+    /// fall asleep on that condition variable after it. The event at which a signal returns OK wakes the first of
+    /// its queue, and nobody only where that is empty; the one at which a broadcast does moves all of its queue, and
+    /// leaves nobody there.
     ///
     /// After each event no sleeper is stranded: whenever a mutex that nobody owns has sleepers, some awake thread, run
     /// alone, takes it or wakes one of them within 9,000 steps; whoever is awake and runs alone ends its call, falls
@@ -199,8 +200,8 @@ impl Machine {
     /// and replies as the object does.
     ///
     /// Threads may be killed at any event. A killed thread's call has no later point. Until it is renewed its death is
-    /// told, once, of each mutex that it owned when it was killed and has lost since, and of no other. After each event
-    /// a thread that was reaped, and isn't renewed yet, owns no mutex.
+    /// recorded, once, of each mutex that it owned when it was killed and has lost since, and of no other. After
+    /// each event a thread that was reaped, and isn't renewed yet, owns no mutex.
     ///
     /// The machine is fresh afterwards exactly where it was before, and every event was one that couldn't apply.
     pub fn run(&mut self, alloc: Global, events: &[Event]) -> Result<Trace, NoMem>
@@ -258,7 +259,7 @@ impl Machine {
         Ok(machine)
     }
 
-    /// It does nothing: its contract says what the type always keeps.
+    /// Does nothing: its contract says what the type always keeps.
     fn reached(&self)
         ensures { IsReached self.now }
     {
@@ -327,7 +328,7 @@ impl Machine {
         self.kernel.asleep(thread)
     }
 
-    /// Who sleeps on the word at a place, in the order in which they are to be woken. They are threads of the machine.
+    /// Which threads sleep on the word at a place, in the order in which they are to be woken. They are threads of the machine.
     pub fn sleepers(&self, place: u64) -> Batch
         ensures value { result ≡ (state_of self.now).queues place }
         ensures known { All (λ t. (1 ≤ t) × (t ≤ self.now.layout.threads)) result }

@@ -1,4 +1,4 @@
-//! What calls are about, and what is told of them.
+//! What calls are about, and what is recorded of them.
 ghost use Rattle.std.specs.Prelude.{◌≡◌, ◌<◌, true};
 ghost use Rattle.condvar.specs.Ops.{is_in, mutex_of};
 ghost use Rattle.protocol.specs.Ops.{begun_of};
@@ -18,7 +18,7 @@ pub(crate) fn mutex_of(layout: &Layout, op: Op) -> u16
     op.mutex(layout)
 }
 
-/// A call of the layout, as its begin is told.
+/// A call of the layout, as its begin is recorded.
 pub(crate) fn begun(layout: &Layout, op: Op) -> Begun
     requires { is_in layout.now op ≡ true }
     ensures { result ≡ begun_of layout.now op }

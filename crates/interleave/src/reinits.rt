@@ -1,4 +1,4 @@
-//! Unusable mutexes that are made anew.
+//! Unusable mutexes that are reinitialised.
 ghost use Rattle.std.specs.Prelude.{◌≡◌, ◌<◌, ◌&&◌, ℕ, List, length, nat_lt};
 ghost use Rattle.memorymap.specs.Layouts.{words_of};
 ghost use Rattle.protocol.specs.declared.event.Event.TheVariants.{Remake};
@@ -54,8 +54,8 @@ fn waiters_of(word: u64) -> u64
     }
 }
 
-/// The thread makes the mutex anew, if it is in no call, and the mutex is unusable, whoever sleeps on it: its word says
-/// nothing but WAITERS, where it has that.
+/// The thread reinitialises the mutex, if it is in no call, and the mutex is unusable, whoever sleeps on it: its
+/// word says nothing but WAITERS, where it has that.
 pub(crate) fn remake(
     layout: &Layout,
     memory: &mut PlainMemory,

@@ -1,4 +1,4 @@
-//! Threads that were reaped and live anew: their ids are used again.
+//! Threads that were reaped and live again: their ids are used again.
 ghost use Rattle.std.specs.Prelude.{◌≡◌, List, length};
 ghost use Rattle.memorymap.specs.Layouts.{words_of};
 ghost use Rattle.protocol.specs.declared.event.Event.TheVariants.{Renew};
@@ -12,8 +12,8 @@ use memorymap::Layout;
 use protocol::{Note, Stage, Thread};
 use syscalls::{Memory, PlainMemory};
 
-/// The thread lives anew, if it was reaped: the three words of its head are as they were at first, an empty list that
-/// nothing is pending beside, and it is in no call and owns nothing. The kernel has its head as before.
+/// The thread lives again, if it was reaped: the three words of its head are as they were at first, an empty list
+/// that nothing is pending beside, and it is in no call and owns nothing. The kernel has its head as before.
 pub(crate) fn renew(
     layout: &Layout,
     memory: &mut PlainMemory,

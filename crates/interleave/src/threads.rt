@@ -123,7 +123,7 @@ fn decision(thread: Tid, mutex: u16, point: Option<Point>) -> Option<Decision>
     })
 }
 
-/// The queue that a thread came to stand in, if it fell asleep.
+/// The queue that a thread came to be in, if it fell asleep.
 fn slept_in(queue: Queue, slept: bool) -> Option<Queue>
     ensures { result ≡ slept_in queue slept }
 {

@@ -3,7 +3,7 @@ use Rattle.std.specs.Prelude.{ℕ, ◌+◌, ◌==◌, List, take, count_by}
 use Rattle.std.specs.List.{slice_split}
 use Rattle.std.specs.Str.Lossy.{utf8_valid_len}
 
--- the parts between line feeds: the lines, and what stands behind the last line feed
+-- the parts between line feeds: the lines, and what stands after the last line feed
 abbrev pub lines_of : List ℕ → List (List ℕ)
 lines_of bytes = slice_split (λ b. b == 10) bytes
 

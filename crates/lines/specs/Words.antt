@@ -3,7 +3,7 @@ use Rattle.std.specs.Prelude.{ℕ, ◌≡◌, ◌<◌, List, [], ◌∷◌, leng
 use Rattle.lines.specs.declared.words.Words.{Words}
 use Rattle.lines.specs.declared.words.Words.TheVariants.{One, Two, Three, Four, Five, Six, Many}
 
--- these are the words; of more than six it is only said that there are so many
+-- these are the words; of more than six it is only said that there are this many
 abbrev pub AreWords : List (List ℕ) → Words → Type 0
 AreWords ws (One a) = ws ≡ a.now ∷ []
 AreWords ws (Two a b) = ws ≡ a.now ∷ b.now ∷ []

@@ -5,7 +5,7 @@
 //! [`text_of`] tells the line of the first byte that is no part of a text, [`cut`] takes the first line or word off,
 //! [`words_in`] gives all words of a line, and [`number_in`] the number that a word writes.
 //!
-//! Stands on no other crate.
+//! Is on no other crate.
 //!
 //! ```text
 //! // Where it isn't UTF-8, the line of the first byte that is no part of a character.

@@ -2,7 +2,7 @@
 use Rattle.std.specs.Prelude.{ℕ, ◌==◌, ◌+◌, ◌*◌, ◌/◌, ◌%◌, ◌^◌, Bool, true, false, not}
 
 -- What the word of a cell says: bits 0 to 29 are the owner's id, 0 for none; bit 30 is OWNER_DIED, bit 31 WAITERS and
--- bit 32 UNUSABLE. `rest` is what stands above them, 0 in the cell of a mutex.
+-- bit 32 UNUSABLE. `rest` is what is above them, 0 in the cell of a mutex.
 pub record Fields : Type 0 where
   pub owner : ℕ
   pub died : Bool

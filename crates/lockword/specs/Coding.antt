@@ -54,7 +54,7 @@ waiters-sum o d w u r h a b = omega arith
 unusable-sum : (o d w u r : ℕ) → o < 0x4000_0000 → d < 2 → w < 2 → u < 2 → sum_of o d w u r / 0x1_0000_0000 % 2 ≡ u
 unusable-sum o d w u r h a b c = omega arith
 
--- what stands above them
+-- what is above them
 rest-sum : (o d w u r : ℕ) → o < 0x4000_0000 → d < 2 → w < 2 → u < 2 → sum_of o d w u r / 0x2_0000_0000 ≡ r
 rest-sum o d w u r h a b c = omega arith
 

@@ -42,7 +42,7 @@ impl Cell {
         Cell(word)
     }
 
-    /// Its word.
+    /// The word.
     pub fn word(self) -> u64
         ensures value { result ≡ word_of self }
         ensures cell { fields_of result ≡ self }
@@ -72,7 +72,7 @@ impl Cell {
         self.word() & OWNER_DIED != 0
     }
 
-    /// It can't be locked any more.
+    /// The mutex can't be locked any more.
     pub fn unusable(self) -> bool
         ensures { result ≡ self.unusable }
     {
@@ -87,7 +87,7 @@ impl Cell {
         self.word() == WAITERS
     }
 
-    /// Its low half: the futex word.
+    /// The low half: the futex word.
     pub fn low(self) -> u32
         ensures { result ≡ word_of self % 2 ^ 32 }
     {
@@ -124,7 +124,7 @@ impl Cell {
         Cell(self.word() ^ u64::from(thread.get()))
     }
 
-    /// A cell that its owner releases with OWNER_DIED set: UNUSABLE is flipped in its place.
+    /// A cell that its owner releases with OWNER_DIED set: UNUSABLE is flipped instead.
     pub fn spoiled(self, thread: Tid) -> Cell
         requires owned { self.owner ≡ thread }
         requires inconsistent { self.died ≡ true }

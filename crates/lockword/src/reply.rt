@@ -36,7 +36,7 @@ pub enum Reply {
 }
 
 impl Reply {
-    /// Its number, as errno(3) gives it on Linux.
+    /// The number, as errno(3) gives it on Linux.
     pub fn number(self) -> u16
         ensures { result ≡ number_of self }
     {

@@ -49,7 +49,7 @@ impl Tid {
         self.0
     }
 
-    /// Its place where threads are kept in the order of their ids, counted from 0.
+    /// The place where threads are kept in the order of their ids, counted from 0.
     pub fn as_index(self) -> usize
         ensures { result + 1 ≡ self }
     {

@@ -15,14 +15,14 @@ mod requeues;
 mod trims;
 mod waits;
 
-/// A call of a kernel, and what it answers. Threads are ids, and those in a batch stand in their order.
+/// A call of a kernel, and what it answers. Threads are ids, and those in a batch are in their order.
 #[derive(Clone, Copy)]
 enum Call {
     /// The threads with these ids wait at an address for a word, one after the other, and fall asleep.
     Sleep(&'static [u8], u64, u32),
     /// The thread with an id waits at an address for a word, and is refused so.
     WaitRefused(u8, u64, u32, Reply),
-    /// At an address so many are to be woken, and these are.
+    /// At an address this many are to be woken, and these are.
     Wake(u64, u32, &'static [u8]),
     /// The same, and it is refused so.
     WakeRefused(u64, u32, Reply),
@@ -33,7 +33,7 @@ enum Call {
     CmpRequeue(u32, RequeueCall),
     /// One from an address, for a word, to another address, is refused so: it was to wake one and to move one.
     CmpRequeueRefused(u64, u32, u64, Reply),
-    /// The thread with an id is taken out of its queue: whether it stood in one.
+    /// The thread with an id is taken out of its queue: whether it was in one.
     Remove(u8, bool),
     /// Whether the thread with an id sleeps.
     Asleep(u8, bool),
@@ -94,7 +94,7 @@ fn move_sleepers(rt: &impl Abort, kernel: &mut Kernel, memory: &PlainMemory, cal
     }
 }
 
-/// Makes these calls of a kernel of so many threads.
+/// Makes these calls of a kernel of this many threads.
 fn play(rt: &impl Abort, alloc: Global, threads: u8, calls: &[Call]) -> Result<(), Fail>
     requires some { 1 ≤ threads }
     requires room { threads ≤ 64 }

@@ -21,7 +21,7 @@ use posixmutex::Operation::{Consistent, Lock, TryLock, Unlock};
 use stepprograms::Answer::{self, Trimmed};
 use stepprograms::{Access, Progress};
 
-/// It clears bit 30 alone.
+/// Clears bit 30 alone.
 pub(crate) const DECLARATION: Access = Access::FetchAnd {
     at: 10,
     operand: 0xffff_ffff_bfff_ffff,
@@ -172,7 +172,7 @@ fn a_lock_sets_waiters_before_it_sleeps(rt: HostRuntime) {
     }
 }
 
-/// Its exchanges find changed cells, and, in the second, an owned one.
+/// The exchanges find changed cells, and, in the second, an owned one.
 static RACES: [Way; 2] = [
     (
         TryLock,
@@ -247,7 +247,7 @@ fn an_unlock_releases_and_wakes_who_waits(rt: HostRuntime) {
     }
 }
 
-/// It declares an own cell consistent that has WAITERS, which stays.
+/// Declares an own cell consistent that has WAITERS, which stays.
 #[test]
 fn a_declaration_clears_one_bit(rt: HostRuntime) {
     let declares = Is(DECLARATION, Answer::Value(0xc000_0002));
@@ -255,7 +255,7 @@ fn a_declaration_clears_one_bit(rt: HostRuntime) {
     assert!(rt; takes(Consistent, &[&[HELD_INCONSISTENT], &last]));
 }
 
-/// An operation of a thread that holds so many mutexes, and how it is refused.
+/// An operation of a thread that holds this many mutexes, and how it is refused.
 static LIMITS: [(Operation, u16, Option<Reply>); 6] = [
     (Lock, 2047, None),
     (Lock, 2048, Some(XHELD)),
@@ -265,7 +265,7 @@ static LIMITS: [(Operation, u16, Option<Reply>); 6] = [
     (Consistent, 2048, None),
 ];
 
-/// Whether a thread that holds so many mutexes is refused the call so.
+/// Whether a thread that holds this many mutexes is refused the call so.
 fn is_refused(operation: Operation, held: u16, refused: Option<Reply>) -> bool {
     let Some(thread) = Tid::new(2) else {
         return false;

@@ -15,7 +15,7 @@ fn faults(operation: Operation, way: &[Step], access: Access, answer: Answer) ->
     takes(operation, &[way, &fault])
 }
 
-/// It does so at a fault and at whatever accesses of other kinds are answered.
+/// Does so at a fault and at whatever accesses of other kinds are answered.
 fn faults_at_others(operation: Operation, way: &[Step], access: Access) -> bool {
     for (kind, answers) in &ANSWERS {
         for answer in *answers {

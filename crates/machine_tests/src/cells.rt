@@ -87,11 +87,11 @@ fn a_free_cell_with_waiters_alone_is_trimmable(rt: HostRuntime) {
 enum Change {
     Waiting,
     Marked,
-    /// It is taken by thread 5.
+    /// The cell is taken by thread 5.
     Taken,
-    /// It is released by thread 5.
+    /// The cell is released by thread 5.
     Released,
-    /// It is spoiled by thread 5.
+    /// Thread 5 makes it unusable.
     Spoiled,
 }
 

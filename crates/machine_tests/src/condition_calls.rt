@@ -17,7 +17,7 @@ use posixmutex::Operation;
 use posixmutex::Operation::{Broadcast, Lock, Signal, Unlock, Wait};
 use stepprograms::{Access, Answer};
 
-/// It counts a wake.
+/// Counts a wake.
 const COUNT: Access = Access::FetchAdd { at: 14, operand: 1 };
 
 const SET_WAITERS: Access = Access::FetchOr {
@@ -25,7 +25,7 @@ const SET_WAITERS: Access = Access::FetchOr {
     operand: 0x8000_0000,
 };
 
-/// It moves all sleepers of the counter to the cell, the counter being 6.
+/// Moves all sleepers of the counter to the cell, the counter being 6.
 const MOVE: Access = Access::CmpRequeue {
     from: 14,
     expected: 6,
@@ -66,13 +66,13 @@ const HELD_AND_LOADED: [Step; 2] = [Step(Loads(10, 2), Goes), Step(Loads(14, 5),
 /// A wait has released the mutex, and nobody waits.
 const RELEASED: [Step; 1] = [Step(Flips(2, 2), Decides(Unlock, OK))];
 
-/// It has woken one who waits.
+/// The wait has woken one who waits.
 const RELEASED_AWAITED: [Step; 2] = [
     Step(Flips(2, 0x8000_0002), Decides(Unlock, OK)),
     Step(Wakes(10, 1, 1), Goes),
 ];
 
-/// It takes the mutex again, which is free.
+/// Takes the mutex again, which is free.
 const TAKEN: [Step; 2] = [
     Step(Loads(10, 0), Goes),
     Step(Exchanges(0, 2), Decides(Lock, OK)),
@@ -87,7 +87,7 @@ const TAKEN_OWNER_DEAD: [Step; 2] = [
     ),
 ];
 
-/// It finds the mutex unusable.
+/// Finds the mutex unusable.
 const UNUSABLE: [Step; 1] = [Step(Loads(10, 0x1_0000_0000), Decides(Lock, ENOTRECOVERABLE))];
 
 /// A wait that isn't refused.
@@ -106,7 +106,7 @@ struct Sleep {
     reply: Reply,
 }
 
-/// It sleeps, is woken, and takes its mutex, which is free.
+/// Sleeps, is woken, and takes its mutex, which is free.
 const IS_WOKEN: Sleep = Sleep {
     cell: 2,
     counter: 5,
@@ -117,7 +117,7 @@ const IS_WOKEN: Sleep = Sleep {
     reply: OK,
 };
 
-/// Its sleep is answered the other way, also where the counter is full; the mutex is one whose owner died; and it wakes
+/// The sleep is answered the other way, also where the counter is full; the mutex is one whose owner died; and it wakes
 /// who sleeps on the mutex, and finds that unusable then.
 static SLEEPS: [Sleep; 5] = [
     IS_WOKEN,
@@ -251,7 +251,7 @@ const UNLINKED: [Step; 6] = [
     Step(Stores(4, 4), Goes),
 ];
 
-/// It has released the mutex, and is awake again.
+/// The wait has released the mutex, and is awake again.
 const WOKEN: [Step; 2] = [
     Step(Flips(2, 2), Decides(Unlock, OK)),
     Step(Sleeps(14, 5, Answer::Woken), Goes),

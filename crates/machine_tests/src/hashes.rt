@@ -37,7 +37,7 @@ fn moves(
     assert!(rt; requeue(rt, kernel, 0, memory, call) == Reply::OK);
 }
 
-/// With so many words each bucket has four of them.
+/// With this many words each bucket has four of them.
 const WORDS: usize = 1024;
 
 /// The words 10 and 778 have one bucket, and the words 10 and 11 have two.

@@ -10,7 +10,7 @@ use std::process::Abort;
 use std::test::Fail;
 use syscalls::{Kernel, PlainMemory};
 
-/// A kernel of so many threads, and so many words, all 0.
+/// A kernel of this many threads, and this many words, all 0.
 pub(crate) fn kernel_and_words(
     alloc: Global,
     threads: u8,

@@ -1,4 +1,4 @@
-//! Layouts of processes: addresses and places worked out by hand, each fault, and which of two faults is told.
+//! Layouts of processes: addresses and places worked out by hand, each fault, and which of two faults is recorded.
 
 use lockword::Tid;
 use memorymap::{
@@ -17,7 +17,7 @@ fn is_of(layout: &Layout, id: u8, process: u8, base: u64) -> bool {
         && layout.base(thread) == base
 }
 
-/// Whether there are so many threads, mutexes, condition variables, processes and words.
+/// Whether there are this many threads, mutexes, condition variables, processes and words.
 fn has_counts(layout: &Layout, counts: [usize; 5]) -> bool {
     let [threads, mutexes, conditions, processes, words] = counts;
     usize::from(layout.threads()) == threads

@@ -15,7 +15,7 @@ enum Placed {
     Counter(u16),
 }
 
-/// Where it stands in a layout of two threads, two mutexes and a condition variable of the second one.
+/// Where it is in a layout of two threads, two mutexes and a condition variable of the second one.
 static PLACES: [(Placed, u64); 7] = [
     (Placed::Head(1), 1),
     (Placed::Head(2), 4),
@@ -46,7 +46,7 @@ fn place_of(layout: &Layout, placed: Placed) -> Option<u64> {
     }
 }
 
-/// A place of that layout, and the mutex whose cell stands there.
+/// A place of that layout, and the mutex whose cell is there.
 static CELLS: [(u64, Option<u16>); 5] = [
     (7, Some(0)),
     (10, Some(1)),
@@ -59,8 +59,8 @@ fn is_cell_of(layout: &Layout, place: u64, mutex: Option<u16>) -> bool {
     layout.mutex_of(place) == mutex
 }
 
-/// Whether there are so many threads, mutexes, condition variables and words, and the first condition variable keeps
-/// this mutex.
+/// Whether there are this many threads, mutexes, condition variables and words, and the first condition variable
+/// keeps this mutex.
 fn has_counts(layout: &Layout, counts: [usize; 4], mutex: u16) -> bool {
     let [threads, mutexes, conditions, words] = counts;
     usize::from(layout.threads()) == threads

@@ -1,8 +1,8 @@
 //! The tests of words and replies, of layouts, of futexes, lists and walks, and of calls and the machine.
 //!
 //! They use only what the crates below offer to everybody. A crate that has tests is proved a second time for them, so
-//! tests stand above what they call; and in few crates, since each is linked with all that it calls. A test of many cases
-//! goes over a table, and tells the first case that is answered otherwise.
+//! tests are above what they call; and in few crates, since each is linked with all that it calls. A test of many
+//! cases goes over a table, and tells the first case that is answered otherwise.
 #![tactic(auto)]
 
 #[cfg(test)]

@@ -53,7 +53,7 @@ fn make(words: &mut [u64], access: Access) -> Answer {
     }
 }
 
-/// A link or an unlink makes so many accesses, and has this reply.
+/// A link or an unlink makes this many accesses, and has this reply.
 fn ends<P: StepProgram + Drop>(
     rt: &impl Abort,
     words: &mut [u64],
@@ -75,12 +75,12 @@ fn ends<P: StepProgram + Drop>(
     assert!(rt; false);
 }
 
-/// The link of an entry makes so many accesses, and has this reply.
+/// The link of an entry makes this many accesses, and has this reply.
 fn links(rt: &impl Abort, words: &mut [u64], entry: u64, accesses: u64, reply: Reply) {
     ends(rt, words, Link::new(1, entry), accesses, reply);
 }
 
-/// The unlink of an entry makes so many accesses, and has this reply.
+/// The unlink of an entry makes this many accesses, and has this reply.
 fn unlinks(rt: &impl Abort, words: &mut [u64], entry: u64, accesses: u64, reply: Reply) {
     ends(rt, words, Unlink::new(1, entry), accesses, reply);
 }

@@ -21,7 +21,7 @@ pub(crate) const ALL: u32 = 20;
 pub(crate) enum Rare {
     /// A wake of mutex 0 is spared.
     Spares(u8),
-    /// The thread makes a mutex anew on which others may sleep.
+    /// The thread reinitialises a mutex on which others may sleep.
     Remakes(u8, u16),
     /// The time limit of a lock of mutex 0 comes.
     Expires(u8),
@@ -54,12 +54,12 @@ pub(crate) enum Look {
 /// What is done to a machine. Threads have ids.
 #[derive(Clone, Copy)]
 pub(crate) enum Act {
-    /// The thread begins a call, and makes so many accesses of it, if it has so many.
+    /// The thread begins a call, and makes this many accesses of it, if it has this many.
     Calls(u8, Op, u32),
     Steps(u8, u32),
-    /// It happens.
+    /// Happens.
     Happens(Rare),
-    /// It can't happen, and is nothing.
+    /// The event can't happen, and is nothing.
     Refused(Rare),
     /// The thread can't begin that call: it is nothing.
     RefusedCall(u8, Op),

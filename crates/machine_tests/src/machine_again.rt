@@ -1,4 +1,4 @@
-//! Wakes that are spared, mutexes that are made anew late, and time limits that come.
+//! Wakes that are spared, mutexes that are reinitialised late, and time limits that come.
 
 use crate::machine_acts::Act::{self, Calls, Happens, Is, Refused, RefusedCall, Steps};
 use crate::machine_acts::Look::{Owner, Sleep, Stands, Word};
@@ -100,9 +100,9 @@ fn a_wake_is_spared_where_a_walk_will_answer(rt: HostRuntime) -> Result<(), Fail
     Ok(())
 }
 
-/// Thread 4 has seen nobody sleep on an unusable mutex, and comes late: others have made it anew, locked it, and made it
-/// unusable again, and thread 3 sleeps there. The mutex is free by thread 4's exchange, and thread 2, which made it
-/// unusable and is killed before its wake, leaves that to its walk. The cell is at 13.
+/// Thread 4 has seen nobody sleep on an unusable mutex, and comes late: others have reinitialised it, locked it, and
+/// made it unusable again, and thread 3 sleeps there. The mutex is free by thread 4's exchange, and thread 2, which
+/// made it unusable and is killed before its wake, leaves that to its walk. The cell is at 13.
 static MADE_ANEW: [Act; 20] = [
     Calls(1, LOCK, ALL),
     Happens(Dies(1)),
@@ -272,7 +272,8 @@ fn a_wait_that_was_moved_is_in_time(rt: HostRuntime) -> Result<(), Fail> {
     Ok(())
 }
 
-/// Out of time, thread 1 finds its mutex taken, and sleeps on it with no limit. The owner dies: that is what it is told.
+/// Out of time, thread 1 finds its mutex taken, and sleeps on it with no limit. The owner dies: that is what it is
+/// recorded.
 static LATE_BEHIND_A_DEATH: [Act; 14] = [
     Calls(1, LOCK, ALL),
     Calls(1, TIMED_WAIT, ALL),

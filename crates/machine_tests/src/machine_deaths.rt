@@ -21,7 +21,7 @@ const KILLED_ASLEEP: [Row; 8] = [
     Row(Steps(1, 1), Returns(OK), Resting, Reaped),
 ];
 
-/// A sleeper that is killed leaves its queue, so that nobody is woken in its place, and the unlock trims the cell; the
+/// A sleeper that is killed leaves its queue, so that nobody is woken instead, and the unlock trims the cell; the
 /// kernel leaves alone what it doesn't own.
 #[test]
 fn a_killed_sleeper_leaves_its_queue(rt: HostRuntime) -> Result<(), Fail> {

@@ -16,10 +16,10 @@ use std::test::Fail;
 #[derive(Clone, Copy)]
 pub(crate) enum Does {
     Begins(u8, Call),
-    /// It makes so many steps, each of which is noted so.
+    /// Makes this many steps, each of which is noted so.
     Steps(u8, u32),
     Dies(u8),
-    /// It begins a call, and makes so many accesses of it. The note is the last one's.
+    /// Begins a call, and makes this many accesses of it. The note is the last one's.
     Calls(u8, Call, u32),
 }
 
@@ -39,7 +39,7 @@ pub(crate) enum Noted {
     /// An access by which the thread falls asleep on mutex 0.
     Sleeps,
     Killed,
-    /// An access of a walk by which no death is told.
+    /// An access of a walk by which no death is recorded.
     Walks,
     /// The last access of such a walk.
     IsReaped,
@@ -195,7 +195,7 @@ pub(crate) fn standing_of(machine: &Machine, thread: Tid) -> Standing {
     }
 }
 
-/// Makes the event with its note, behind those that have none.
+/// Makes the event with its note, after those that have none.
 fn happens(machine: &mut Machine, thread: Tid, does: Does) -> Note {
     if let Does::Calls(_, call, accesses) = does {
         play(machine, thread, call, accesses.saturating_sub(1));
@@ -229,7 +229,7 @@ pub(crate) fn gone_through(alloc: Global, threads: u8, rows: &[Row]) -> Result<M
     }
 }
 
-/// The same after so many steps more of one thread alone.
+/// The same after this many steps more of one thread alone.
 pub(crate) fn alone_after(
     alloc: Global,
     threads: u8,
@@ -242,7 +242,7 @@ pub(crate) fn alone_after(
     Ok(machine.alone(alloc, thread, steps)?)
 }
 
-/// The thread begins a call, and makes so many accesses of it.
+/// The thread begins a call, and makes this many accesses of it.
 pub(crate) fn play(machine: &mut Machine, thread: Tid, call: Call, accesses: u32) {
     let _ = machine.step(Event::Begin(thread, Op::OnMutex(call)));
     for _ in 0..accesses {
@@ -250,7 +250,7 @@ pub(crate) fn play(machine: &mut Machine, thread: Tid, call: Call, accesses: u32
     }
 }
 
-/// Who owns mutex 0, which every layout has.
+/// Which thread owns mutex 0, which every layout has.
 pub(crate) fn first_owner(machine: &Machine) -> Option<Tid> {
     let _mutexes = machine.layout().mutexes();
     machine.owner(0)

@@ -18,7 +18,7 @@ use protocol::Event;
 use std::alloc::Global;
 use std::test::Fail;
 
-/// Whether a new machine of so many threads, and one mutex, has just these words, and nobody owns the mutex.
+/// Whether a new machine of this many threads, and one mutex, has just these words, and nobody owns the mutex.
 fn begins_with(
     alloc: Global,
     threads: u8,
@@ -114,7 +114,7 @@ const RELEASING: [Write; 7] = [
     Some((3, 0)),
 ];
 
-/// Whether the thread's call makes so many accesses, and each writes this and nothing else in these words.
+/// Whether the thread's call makes this many accesses, and each writes this and nothing else in these words.
 fn writes(
     machine: &mut Machine,
     thread: Tid,
@@ -182,7 +182,7 @@ fn calls_leave(machine: &mut Machine, thread: Tid, calls: &[(Call, u32, [u64; 9]
     true
 }
 
-/// The newest mutex stands in front. One that is released keeps its links, and those beside it point past it.
+/// The newest mutex is in front. One that is released keeps its links, and those beside it point past it.
 #[test]
 fn a_thread_has_its_mutexes_on_one_list(rt: HostRuntime) -> Result<(), Fail> {
     let one = thread(1)?;

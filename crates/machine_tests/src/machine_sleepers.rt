@@ -36,10 +36,10 @@ const WOKEN_TAKES: [Row; 2] = [
     Row(Steps(2, 1), Any, Resting, Resting),
 ];
 
-/// It unlocks, and wakes nobody.
+/// Unlocks, and wakes nobody.
 const WAKES_NOBODY: Row = Row(Calls(2, UNLOCK, 7), Any, Resting, Awake);
 
-/// It trims the cell, and clears its pending entry.
+/// Trims the cell, and clears its pending entry.
 const TRIMS: [Row; 2] = [
     Row(Steps(2, 1), Any, Resting, Awake),
     Row(Steps(2, 1), Any, Resting, Resting),
@@ -99,7 +99,7 @@ fn a_sleeper_does_nothing_until_it_is_woken(rt: HostRuntime) -> Result<(), Fail>
     Ok(())
 }
 
-/// Whether thread 2 goes on alone so many steps behind these events, stands so then, and leaves these words.
+/// Whether thread 2 goes on alone this many steps after these events, stands so then, and leaves these words.
 fn alone_leaves(
     alloc: Global,
     rows: &[Row],

@@ -142,7 +142,7 @@ fn object(state: State, thread: Tid, other: Tid) -> Object {
     }
 }
 
-/// A step of an object in the old state, of a thread that holds so many mutexes.
+/// A step of an object in the old state, of a thread that holds this many mutexes.
 #[derive(Clone, Copy)]
 struct Asked {
     old: State,

@@ -6,24 +6,24 @@ use memorymap::Key;
 use std::process::Abort;
 use std::test::Fail;
 
-/// A call of a bucket, and what it answers. Threads are ids, and those in a batch stand in their order.
+/// A call of a bucket, and what it answers. Threads are ids, and those in a batch are in their order.
 #[derive(Clone, Copy)]
 enum Call {
     /// These are put into the queue of a key, one after the other.
     Enqueue(&'static [u8], u64),
     /// The thread with an id waits on key 7, whose word is seen so, for this one: whether it sleeps.
     Wait(u8, u64, u32, bool),
-    /// Of a key so many are to be taken, and these are.
+    /// Of a key this many are to be taken, and these are.
     Take(u64, u32, &'static [u8]),
-    /// Of a key so many are to be moved to another one, and these are.
+    /// Of a key this many are to be moved to another one, and these are.
     MoveWithin(u64, u32, u64, &'static [u8]),
-    /// The thread with an id is taken out of its queue: whether it stood in one.
+    /// The thread with an id is taken out of its queue: whether it was in one.
     Remove(u8, bool),
     /// Whether the thread with an id stands in a queue.
     Stands(u8, bool),
-    /// So many stand in the queue of a key.
+    /// This many stand in the queue of a key.
     Count(u64, usize),
-    /// These stand there.
+    /// These are there.
     Sleepers(u64, &'static [u8]),
     /// Whether there is no room.
     Full(bool),
@@ -168,7 +168,7 @@ static TWO_CAME: [Call; 3] = [
     Call::Enqueue(&[4], 9),
 ];
 
-/// Whether so many sleepers of a key fit into another bucket.
+/// Whether this many sleepers of a key fit into another bucket.
 fn fits(bucket: &Bucket, other: &Bucket, key: u64, n: u32) -> bool {
     bucket.fits(other, Key(key), n)
 }

@@ -183,7 +183,7 @@ fn sleep_both(
     forms.slow.enqueue(id, key)
 }
 
-/// One call of both forms, of one of so many threads.
+/// One call of both forms, of one of this many threads.
 fn step_both(
     rt: &impl Abort,
     forms: &mut Forms,
@@ -221,8 +221,8 @@ fn both_forms(alloc: Global, capacity: usize) -> Result<Forms, Fail>
     })
 }
 
-/// So many calls of either of two buckets, of so many threads. After each one both forms have the same queues. Answers
-/// the second bucket.
+/// This many calls of either of two buckets, of this many threads. After each one both forms have the same queues.
+/// Answers the second bucket.
 fn agree(
     rt: &impl Abort,
     mut first: Forms,

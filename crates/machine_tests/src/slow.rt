@@ -10,7 +10,7 @@ struct Sleeper {
     key: u64,
 }
 
-/// Who sleeps, with room for so many.
+/// Which threads sleep, with room for this many.
 #[derive(Drop)]
 pub(crate) struct Slow {
     alloc: Global,

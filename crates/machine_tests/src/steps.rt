@@ -12,19 +12,19 @@ use stepprograms::{Access, Answer, Progress, StepProgram};
 /// An access and its answer.
 #[derive(Clone, Copy)]
 pub(crate) enum Made {
-    /// It loads the word at an address, which is so.
+    /// Loads the word at an address, which is so.
     Loads(u64, u64),
-    /// It stores a word at an address.
+    /// Stores a word at an address.
     Stores(u64, u64),
-    /// Its exchange of a cell for a new one succeeds.
+    /// The exchange of a cell for a new one succeeds.
     Exchanges(u64, u64),
-    /// Its exchange of a cell for a new one finds another.
+    /// The exchange of a cell for a new one finds another.
     Finds(u64, u64, u64),
-    /// It flips these bits of this cell.
+    /// Flips these bits of this cell.
     Flips(u64, u64),
-    /// It sleeps at an address, expecting this low half, and is answered.
+    /// Sleeps at an address, expecting this low half, and is answered.
     Sleeps(u64, u32, Answer),
-    /// It wakes so many at an address, at most, and so many were woken.
+    /// Wakes this many at an address, at most, and this many were woken.
     Wakes(u64, u32, u32),
     /// Any access, and its answer.
     Is(Access, Answer),
@@ -37,9 +37,9 @@ pub(crate) enum Then {
     Goes,
     /// On, this access being a point.
     Decides(Operation, Reply),
-    /// To its return, this access being a point.
+    /// Leads to its return, this access being a point.
     Ends(Operation, Reply),
-    /// To its return, with no point.
+    /// Leads to its return, with no point.
     Returns(Reply),
 }
 
@@ -113,7 +113,7 @@ impl<P: StepProgram> Stepping for Whole<P> {
     }
 }
 
-/// A call on a mutex as the mutex's cell sees it: behind an access there come those to its thread's list, if any.
+/// A call on a mutex as the mutex's cell sees it: after an access there come those to its thread's list, if any.
 #[derive(Clone, Copy)]
 pub(crate) struct AtCell {
     pub(crate) program: Program,

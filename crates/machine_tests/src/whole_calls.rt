@@ -117,12 +117,12 @@ const HELD: Step = Step(Loads(10, 2), Goes);
 
 const HELD_INCONSISTENT: Step = Step(Loads(10, 0x4000_0002), Goes);
 
-/// It is released, and nobody waits.
+/// The mutex is released, and nobody waits.
 const RELEASED: Step = Step(Flips(2, 2), Decides(Unlock, OK));
 
 const RELEASED_INCONSISTENT: Step = Step(Flips(0x1_4000_0002, 0x4000_0002), Decides(Unlock, OK));
 
-/// It is released, and somebody may wait.
+/// The mutex is released, and somebody may wait.
 const RELEASED_AWAITED: Step = Step(Flips(2, 0x8000_0002), Decides(Unlock, OK));
 
 /// What that unlock does then: it wakes one, or nobody slept, and the cell is cleared, or isn't.
@@ -172,7 +172,7 @@ fn an_unlock_takes_the_entry_out_of_the_list_first(rt: HostRuntime) {
     }
 }
 
-/// They leave the mutex with its owner.
+/// The calls leave the mutex with its owner.
 static LEFT: [Refused; 3] = [
     (Unlock, &[1], EPERM),
     (Consistent, &[0x4000_0001], EPERM),

@@ -1,4 +1,4 @@
-//! Accesses to words in a slice, of which word 0 is told apart by the caller.
+//! Accesses to words in a slice, of which word 0 is recorded apart by the caller.
 
 use stepprograms::Answer;
 

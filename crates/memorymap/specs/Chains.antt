@@ -1,12 +1,12 @@
 -- Lists linked through words, as the kernel finds robust lists (its document robust-futex-ABI; get_robust_list(2)).
 --
 -- A head has three words: the address of the first entry, the offset to the lock words, the pending entry. An entry has
--- two: the address of the next entry, or of the head in the last one, and behind it the address of the entry before it,
--- or of the head in the first one. An entry is named by the address of its next word. `w a` is the word at the address
--- a; words may be seen from any base.
+-- two: the address of the next entry, or of the head in the last one, and after it the address of the entry before
+-- it, or of the head in the first one. An entry is named by the address of its next word. `w a` is the word at the
+-- address a; words may be seen from any base.
 use Rattle.std.specs.Prelude.{ℕ, ◌≡◌, ◌≢◌, ◌+◌, ◌%◌, ◌^◌, ◌==◌, List, [], ◌∷◌, if◌then◌else◌, ◌⊎◌}
 
--- so many words behind an address; addresses have 64 bits
+-- this many words after an address; addresses have 64 bits
 abbrev pub address_sum : ℕ → ℕ → ℕ
 address_sum a k = (a + k) % 2 ^ 64
 

@@ -12,8 +12,8 @@ use Rattle.std.specs.Prelude.{nat_lt, List, [], ◌∷◌, length, replicate, sl
 use Rattle.lockword.specs.Threads.{most_threads}
 use Rattle.memorymap.specs.Addresses.{address_from, seen_at}
 
--- so many threads and mutexes, and for each condition variable the number of its mutex; for each thread the number of
--- its process, and the base at which each process maps the words
+-- this many threads and mutexes, and for each condition variable the number of its mutex; for each thread the number
+-- of its process, and the base at which each process maps the words
 pub record Layout' : Type 0 where
   pub threads : ℕ
   pub mutexes : ℕ
@@ -57,7 +57,7 @@ pub record IsLayout (l : Layout') : Type 0 where
   pub bases : HasBases l.bases
   pub members : AreOf l.bases l.processes
 
--- so many threads of one process, which maps the words at 0: addresses are places
+-- this many threads of one process, which maps the words at 0: addresses are places
 abbrev pub one_process : ℕ → ℕ → List ℕ → Layout'
 one_process t m cs = record { threads = t; mutexes = m; conditions = cs; processes = replicate t 0; bases = 0 ∷ [] }
 

@@ -1,4 +1,4 @@
--- Where the words lie in a process: behind its base, one address for each place.
+-- Where the words lie in a process: after its base, one address for each place.
 use Rattle.std.specs.Prelude.{ℕ, ◌≡◌, ◌+◌, ◌-◌, ◌%◌, ◌^◌, ◌<◌, ◌≤◌, ◌↔◌, true, slice_index}
 use Rattle.memorymap.specs.Addresses.{address_from, seen_at}
 use Rattle.memorymap.specs.Layouts.{Layout', address_in, place_in, is_place, words_of}
@@ -6,7 +6,7 @@ use Rattle.memorymap.specs.Layouts.{Layout', address_in, place_in, is_place, wor
 -- the word at place x has the address base + x, modulo 2^64, and that is found at place x again. So a process that maps
 -- the words at 0 has places for addresses; the next place has the next address; two processes have the addresses of a
 -- place as far apart as their bases; a thread has the base of its own process; and null is no place, nor is what lies
--- behind the words
+-- after the words
 pub record AddressesAreSums : Type 0 where
   pub sum : (base place : ℕ) → address_from base place ≡ (base + place) % 2 ^ 64
   pub found : (base place : ℕ) → base < 2 ^ 64 → place < 2 ^ 64 → seen_at base ((base + place) % 2 ^ 64) ≡ place

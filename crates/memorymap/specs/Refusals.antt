@@ -1,8 +1,8 @@
 -- Which layouts there are, and which fault tells that there is none.
 --
 -- *The first fault of a layout.* What is asked for is given, and else the first of threads, mutexes, conditions,
--- processes, bases and members (a thread of a process that isn't there) that is out of its limits is told. How many
--- threads it may have at most is said with the question.
+-- processes, bases and members (a thread of a process that isn't there) that is out of its limits is recorded. How
+-- many threads it may have at most is said with the question.
 use Rattle.std.specs.Prelude.{ℕ, ◌≡◌, List, length, Result, Ok, Err}
 use Rattle.memorymap.specs.Layouts.{HasThreadsTo, HasMutexes, HasConditions, HasProcesses, HasBases, AreOf, one_process}
 use Rattle.memorymap.specs.declared.layout.Layout.{Layout}
@@ -18,7 +18,7 @@ Lays most t m cs (Err Mutexes) = HasThreadsTo most t × ¬ HasMutexes m
 Lays most t m cs (Err Conditions) = HasThreadsTo most t × HasMutexes m × ¬ HasConditions m cs
 Lays most t m cs (Err f) = ⊥
 
--- threads, mutexes and condition variables may be so many
+-- threads, mutexes and condition variables may be this many
 abbrev pub MayBe : ℕ → ℕ → ℕ → List ℕ → Type 0
 MayBe most t m cs = HasThreadsTo most t × HasMutexes m × HasConditions m cs
 

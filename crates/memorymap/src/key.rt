@@ -13,7 +13,7 @@ pub fn key_of(place: u64) -> Key
     Key(place)
 }
 
-/// The bucket of a key, among so many buckets.
+/// The bucket of a key, among this many buckets.
 pub fn bucket_of(key: Key, buckets: usize) -> usize
     requires { 0 < buckets }
     ensures value { result ≡ key.0 % buckets }

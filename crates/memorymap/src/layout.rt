@@ -104,7 +104,7 @@ impl Layout {
         Layout::with_processes(&processes[..threads as usize], &[0], mutexes, conditions)
     }
 
-    /// As `new`, of the threads from 1 to this one, of which there may be 250: more than scripts and traces have.
+    /// Like `new`, of the threads from 1 to this one, of which there may be 250: more than scripts and traces have.
     pub fn up_to(last: Tid, mutexes: u16, conditions: &[u16]) -> Result<Layout, LayoutFault>
         ensures { Lays most_threads last mutexes conditions.now result }
     {

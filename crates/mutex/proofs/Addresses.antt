@@ -27,7 +27,7 @@ module _ (l : Layout') (t : ℕ) (is : IsLayout l) (pos : 1 ≤ t) (known : t �
   pub same_entry : (k j : ℕ) → k < l.mutexes → j < l.mutexes → entry_in l t k ≡ entry_in l t j → k ≡ j
   same_entry k j inside below e = let place = same_place (entry_place l k) (entry_place l j) (omega arith) (omega arith) e in omega (arith, place)
 
-  -- so many words further on
+  -- this many words further on
   pub further_on : (p k : ℕ) → p + k < words_of l → address_sum (address_in l t p) k ≡ address_in l t (p + k)
   further_on p k inside = let few = few_words in let base = low in omega (arith, inside)
 

@@ -43,7 +43,7 @@ abbrev HasMet : ℕ → Operation → Option Fields → Type 0
 HasMet t op None = ⊥
 HasMet t op (Some c) = IsPermitted c t op OK
 
--- a release and a declaration stand behind such a cell
+-- a release and a declaration stand after such a cell
 abbrev RowStands : ℕ → Row → Option Fields → Type 0
 RowStands t (row.Unlock (unlock.Release d)) c = HasMet t operation.Unlock c
 RowStands t (row.Consistent consistent.Declare) c = HasMet t operation.Consistent c
@@ -62,7 +62,7 @@ abbrev Permitted : ℕ → Operation → Option Fields → Reply → Type 0
 Permitted t op None x = ⊥
 Permitted t op (Some c) x = IsPermitted c t op x
 
--- a point OK behind such a cell
+-- a point OK after such a cell
 permitted_there : (t : ℕ) (op : Operation) (c : Option Fields) (x : Reply) → HasMet t op c → Some OK ≡ Some x → Permitted t op c x
 permitted_there t op None x h e = absurd h
 permitted_there t op (Some c) x h e = subst (λ (y : Reply). IsPermitted c t op y) (same OK x e) h

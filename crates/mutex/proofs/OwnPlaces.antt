@@ -30,7 +30,7 @@ module _ (l : Layout') (t : ℕ) (owns : ℕ → Bool) (is : IsLayout l) (pos : 
   links_at : (at p : ℕ) → at ≡ address_in l t p → IsLinked l t owns p → Links l t owns at
   links_at at p from linked = record { place = p; from = from; met = ap (place_in l t) from ∙ again l t is pos known p (linked_inside l t owns p pos known linked); linked = linked }
 
-  -- the word behind an entry
+  -- the word after an entry
   pub behind : (k : ℕ) → k < l.mutexes → previous_place (entry_in l t k) ≡ address_in l t (entry_place l k + 1)
   behind k inside = further_on l t is pos known (entry_place l k) 1 (omega arith)
 

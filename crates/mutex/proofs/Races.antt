@@ -15,7 +15,7 @@ use Rattle.mutex.specs.TryLock.{try_sees}
 use Rattle.mutex.specs.Programs.{resume_of}
 use Rattle.mutex.specs.Laws.{reached, tells_change, changes, RacedAfterFour, GivesUpAfterFour}
 
--- a trylock that stands there has met so many changed cells, or more
+-- a trylock that is there has met this many changed cells, or more
 abbrev pub Met : Row → ℕ → Type 0
 Met (TryLock try.Load) n = Unit {0}
 Met (TryLock (try.Take v k)) n = (k < 4) × (k ≤ n)
@@ -68,7 +68,7 @@ raced t answers is = let four = after t answers (TryLock try.Load) 0 tt is in om
 
 -- ---- that it does give up
 
--- a trylock that stands there has met so many changed cells at most
+-- a trylock that is there has met this many changed cells at most
 abbrev Few : Row → ℕ → Type 0
 Few (TryLock try.Load) n = n ≡ 0
 Few (TryLock (try.Take v k)) n = (k < 4) × (n ≤ k)

@@ -34,7 +34,7 @@ looked t op l c x s e =
     let r : Run (object_of c) (points (point_of t 0 op (Some x))) (object_of c) = subst (λ (z : Option Reply). Run (object_of c) (points (point_of t 0 op z)) (object_of c)) e s.runs in
     (r.0, r.1)
 
--- a reply that is told is the one
+-- a reply that is recorded is the one
 told : (x y : Reply) → Some y ≡ Some x → y ≡ x
 told x y e = cc
 
@@ -128,7 +128,7 @@ loads t c d pos = go (c.owner == t) refl
     go true own e = ((freed (object_of c), (ap owner_of (eqb-true c.owner t own) ∙ owner_of-some t pos, refl)), cc)
     go false own e = absurd cc
 
--- behind a release there is no release
+-- after a release there is no release
 released : (d w e : Bool) → (if w then Unlock (unlock.Wake d) else Ended OK) ≡ Unlock (unlock.Release e) → ⊥
 released d true e is = cc
 released d false e is = cc
@@ -138,7 +138,7 @@ unlock_row : (d w : Bool) (r : ConsistentRow) → (if w then Unlock (unlock.Wake
 unlock_row d true r is = cc
 unlock_row d false r is = cc
 
--- behind a wake there is neither
+-- after a wake there is neither
 woken_release : (b d : Bool) → (if b then Unlock unlock.Trim else Ended OK) ≡ Unlock (unlock.Release d) → ⊥
 woken_release true d is = cc
 woken_release false d is = cc

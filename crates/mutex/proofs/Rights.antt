@@ -131,7 +131,7 @@ looked t cell w r l none sound s = record {
 taken_object : (t : ℕ) (c : Fields) → 1 ≤ t → object_of (taken c t) ≡ owned_by (object_of c) t
 taken_object t c pos = λ i. record { owner = owner_of-some t pos i; inconsistent = c.died; unusable = c.unusable }
 
--- whoever takes a free and usable cell is told whether its owner died
+-- whoever takes a free and usable cell learns whether its owner died
 pub takes : (t : ℕ) (c : Fields) → 1 ≤ t → c.owner ≡ 0 → c.unusable ≡ false → Permits (object_of c) t operation.TryLock (acquired c) (object_of (taken c t))
 takes t c pos none usable = go c.died refl
   where

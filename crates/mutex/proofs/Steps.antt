@@ -74,7 +74,7 @@ try_falls k c n some fewer last = go c.unusable (not (c.owner == 0)) (k == 4) re
     go false false true e = some
     go false false false e = let other = eqb-false k 4 e in fewer (omega arith)
 
--- whoever takes a cell is told of no release
+-- whoever takes a cell learns of no release
 acquired_tells : (c d : Fields) → Tells operation.TryLock (Ended (acquired c)) d
 acquired_tells c d = go c.died
   where

@@ -30,7 +30,7 @@ use Rattle.lockword.specs.Threads.{most_threads}
 abbrev Next : ℕ → ℕ → Operation → Led → Bool → Object → ℕ → ℕ → Type 0
 Next t cell op l b o at n = (row_access t cell l.row ≡ access.Wake at n) ↔ ((at ≡ cell) × Wakes op l.point b o n)
 
--- a wake, of so many
+-- a wake, of this many
 wakes : (cell at n k : ℕ) (P : Type 0) → (n ≡ k → P) → (P → n ≡ k) → (access.Wake cell k ≡ access.Wake at n) ↔ ((at ≡ cell) × P)
 wakes cell at n k P to from = (
   (λ is. let place : at ≡ cell = cc is in let count : n ≡ k = cc is in (place, to count)),

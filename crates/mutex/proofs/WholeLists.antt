@@ -244,7 +244,7 @@ between_calls l t owns w h = record {
   pending = inl h.pending;
 }
 
--- with this list, on which all is that the thread owns but for what is pending
+-- with this list, on which all is that the thread owns except for what is pending
 module _ (l : Layout') (t : ℕ) (owns : ℕ → Bool) (m : ℕ) (is : IsThere l t m) (w : ℕ → ℕ) where
   abbrev pending_word : ℕ
   pending_word = w (pending_place (head_in l t))

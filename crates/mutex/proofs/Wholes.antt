@@ -89,7 +89,7 @@ begins_whole l t (call.TryLock m) pos = (pos, (tt, refl))
 begins_whole l t (call.Unlock m) pos = (pos, (tt, refl))
 begins_whole l t (call.Consistent m) pos = (pos, (tt, refl))
 
--- through with the cell a call stands at no row
+-- finished with the cell a call is at no row
 leaving_at : (p q : Whole) (op : Operation) (x : Reply) → IsAt q (leaving p op x)
 leaving_at p q operation.Lock EFAULT = tt
 leaving_at p q operation.Lock OK = tt
@@ -172,7 +172,7 @@ point_at p (Ended y) a x pos h e = absurd (no_point x e)
 points_whole : (p : Whole) (a : Answer) (x : Reply) → IsWhole p → (whole_led p a).point ≡ Some x → (r : Row) × (p.phase ≡ AtCell r) × PermitsAt (met r a) p.thread p.operation x
 points_whole p a x h e = point_at p p.phase a x h.0 h.1 e
 
--- no call that is through with the cell is about to release
+-- no call that is finished with the cell is about to release
 left_behind : (p : Whole) (op : Operation) (x : Reply) → about_to_release (leaving p op x) ≡ None
 left_behind p operation.Lock EFAULT = refl
 left_behind p operation.Lock OK = refl
@@ -346,7 +346,7 @@ row_met t (row.Consistent consistent.Declare) (Value w) n h = tt
 row_met t (row.Consistent consistent.Declare) a n h = tt
 row_met t (row.Ended x) a n h = ended_met x n (tells_change a) h
 
--- through with the cell
+-- finished with the cell
 leaving_met : (p : Whole) (op : Operation) (x : Reply) (n : ℕ) → Met (row.Ended x) n → PhaseMet (leaving p op x) n
 leaving_met p operation.Lock EFAULT n h = tt
 leaving_met p operation.Lock OK n h = tt

@@ -17,14 +17,14 @@ use Rattle.mutex.specs.declared.row.Row.{Row}
 use Rattle.mutex.specs.declared.row.Row.TheVariants.{Lock, TryLock, Unlock, Consistent, Ended}
 use Rattle.mutex.specs.declared.row.Led.{Led}
 
--- whoever stands there takes the mutex, or wakes one that sleeps on it, unless it finds it owned: a lock, and an unlock
--- behind its release
+-- whoever is there takes the mutex, or wakes one that sleeps on it, unless it finds it owned: a lock, and an unlock
+-- after its release
 abbrev pub answers_for : Row → Bool
 answers_for (Lock r) = true
 answers_for (Unlock (unlock.Wake all)) = true
 answers_for r = false
 
--- so many accesses a call that stands there still makes, at most, where it meets the word w and nobody else steps
+-- this many accesses a call that is there still makes, at most, where it meets the word w and nobody else steps
 abbrev pub left : Row → ℕ → ℕ
 left (Lock lock.Load) w = 3
 left (Lock (lock.Take v)) w = if w == word_of v then 1 else 3
@@ -68,7 +68,7 @@ pub record Alone (t : ℕ) (r : Row) (a : Access) (l : Led) (w : ℕ) (q : List 
   pub sleeps : sleeps_at a w ≡ true → (0 < (fields_of w).owner) × ((fields_of w).waiters ≡ true)
   -- else fewer accesses are left
   pub fewer : sleeps_at a w ≡ false → left l.row w' < left r w
-  -- who leaves a free cell that has WAITERS, and wakes nobody, answers for it; but for those who only looked at it
+  -- who leaves a free cell that has WAITERS, and wakes nobody, answers for it; except for those who only looked at it
   pub answers : is_wake a ≡ false → (fields_of w').owner ≡ 0 → (fields_of w').waiters ≡ true
       → (answers_for l.row ≡ true) ⊎ ((answers_for r ≡ false) × (w' ≡ w))
   pub steady : sleeps_at a w ≡ false → Steady t r w → Steady t l.row w'

@@ -1,6 +1,6 @@
 -- Where a call stands, as plain numbers: for whoever keeps it outside Rattle.
 --
--- | kind     | stands at                            | carries
+-- | kind     | is at                                | carries
 -- | 0        | it has returned                      | its reply
 -- | 1        | Clearing                             | its reply
 -- | 2 to 6   | Linking: LoadFirst, StoreNext, StorePrevious, StoreBehind, StoreFirst | its reply; x: the first entry (3 to 5)

@@ -1,6 +1,6 @@
 -- Declaring a mutex consistent, access by access (pthread_mutex_consistent).
 --
--- | stands at | access                          | then
+-- | is at     | access                          | then
 -- | Load      | load the cell                   | another's: EPERM. Own, OWNER_DIED not set: EINVAL. Else Declare
 -- | Declare   | clear OWNER_DIED in the cell    | OK
 use Rattle.std.specs.Prelude.{ℕ, ◌==◌, not, if◌then◌else◌}

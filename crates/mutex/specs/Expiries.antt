@@ -15,7 +15,7 @@ use Rattle.mutex.specs.Decisions.{decided_by}
 use Rattle.mutex.specs.WholeLists.{KeepsList}
 
 pub record ExpiriesAreRight : Type 0 where
-  -- the access that is left clears the pending entry, and behind it the call returns
+  -- the access that is left clears the pending entry, and after it the call returns
   pub clears : (p : Whole) → whole_access (timed_out p) ≡ access.Store (pending_place p.head) 0
   pub returns : (p : Whole) → whole_led (timed_out p) Stored ≡ onward (Ended ETIMEDOUT)
   -- it had no point before, whatever it was answered

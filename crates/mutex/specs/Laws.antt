@@ -30,7 +30,7 @@ use Rattle.mutex.specs.declared.row.Led.{Led}
 use Rattle.mutex.specs.Rows.{Knows, IsGoing}
 use Rattle.mutex.specs.Programs.{row_access, resume_of, row_operation, point_of}
 
--- what a call that stands at a row needs of the mutex: a release and a declaration need that its thread still owns it
+-- what a call that is at a row needs of the mutex: a release and a declaration need that its thread still owns it
 abbrev pub Expects : ℕ → Row → Object → Type 0
 Expects t (Unlock (unlock.Release died)) o = (o.owner ≡ Some t) × (o.inconsistent ≡ died)
 Expects t (Consistent consistent.Declare) o = (o.owner ≡ Some t) × (o.inconsistent ≡ true)
@@ -117,8 +117,8 @@ abbrev pub GivesUpAfterFour : Type 0
 GivesUpAfterFour = (t : ℕ) (answers : List Answer) (v : Fields) (k : ℕ)
     → reached t (TryLock try.Load) answers ≡ TryLock (try.Take v k) → changes answers < 4
 
--- the cell that an access met, as its answer tells: that of a release and of a declaration is told by the call's first
--- load
+-- the cell that an access met, as its answer tells: that of a release and of a declaration is recorded by the call's
+-- first load
 abbrev pub met : Row → Answer → Option Fields
 met (Lock lock.Load) (Value w) = Some (fields_of w)
 met (Lock (lock.Take seen)) Exchanged = Some seen

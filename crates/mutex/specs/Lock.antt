@@ -1,6 +1,6 @@
 -- Lock, access by access (pthread_mutex_lock; Futexes Are Tricky).
 --
--- | stands at  | access                                       | then
+-- | is at      | access                                       | then
 -- | Load       | load the cell                                | decide on it
 -- | Take       | exchange the cell seen for it, taken         | taken: OK, or EOWNERDEAD where OWNER_DIED is set. Changed: decide on the cell found
 -- | SetWaiters | exchange the cell seen for it, with WAITERS  | set: Sleep. Changed: decide on the cell found
@@ -44,7 +44,7 @@ lock_access t cell (SetWaiters seen) = access.Exchange cell (word_of seen) (word
 lock_access t cell (Sleep seen) = access.Wait cell (low_of seen)
 lock_access t cell WakeAll = access.Wake cell most_threads
 
--- where a lock goes on that found the mutex unusable: whoever sleeps there is to be told too
+-- where a lock goes on that found the mutex unusable: whoever sleeps there has to learn of it, too
 abbrev pub after_loss : Fields → Row
 after_loss c = if c.waiters then Lock WakeAll else Ended ENOTRECOVERABLE
 

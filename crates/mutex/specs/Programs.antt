@@ -46,7 +46,7 @@ resume_of t (Unlock r) a = unlock_resume t r a
 resume_of t (Consistent r) a = consistent_resume t r a
 resume_of t (Ended x) a = goes (Ended x)
 
--- what a call that stands there does to the mutex
+-- what a call that is there does to the mutex
 abbrev pub row_operation : Row → Operation
 row_operation (Lock r) = operation.Lock
 row_operation (Unlock r) = operation.Unlock

@@ -1,8 +1,8 @@
 -- What one access of a call tells beyond the object.
 --
 -- *One step more.* What an access that is no futex section leaves beside the object: WAITERS stays and the bits above
--- the flags stay clear, a release tells whom it has to wake by the word that it found, and but for a lock the call has
--- fewer steps left, whatever others do.
+-- the flags stay clear, a release tells whom it has to wake by the word that it found, and except for a lock the
+-- call has fewer steps left, whatever others do.
 use Rattle.std.specs.Prelude.{ℕ, ◌≡◌, ◌≢◌, ◌-◌, ◌<◌, true, false}
 use Rattle.std.proofs.Props.{props}
 use Rattle.lockword.specs.Cells.{Fields, fields_of}
@@ -32,7 +32,7 @@ IsStep (FetchOr at v) = Unit {0}
 IsStep (FetchAnd at v) = Unit {0}
 IsStep a = ⊥
 
--- so many steps a call that stands there still makes, at most, whatever others do; a lock has no such number
+-- this many steps a call that is there still makes, at most, whatever others do; a lock has no such number
 abbrev pub rank : Row → ℕ
 rank (TryLock try.Load) = 6
 rank (TryLock (try.Take seen k)) = 5 - k
@@ -54,7 +54,7 @@ Tells operation.Unlock (Ended x) c = ⊥
 Tells op r c = Unit {0}
 
 -- one step of a call at row r, which meets the word w, leaves the word w' and leads to l: what its next row says of the
--- cell met is so, WAITERS stays, the bits above the flags stay clear, and but for a lock fewer steps are left
+-- cell met is so, WAITERS stays, the bits above the flags stay clear, and except for a lock fewer steps are left
 pub record Minds (r : Row) (l : Led) (w w' : ℕ) : Type 0 where
   pub tells : Tells (row_operation r) l.row (fields_of w)
   pub waiters : (fields_of w).waiters ≡ true → (fields_of w').waiters ≡ true

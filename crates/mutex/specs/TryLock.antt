@@ -1,6 +1,6 @@
 -- Trylock, access by access (pthread_mutex_trylock; Futexes Are Tricky).
 --
--- | stands at | access                                  | then
+-- | is at     | access                                  | then
 -- | Load      | load the cell                           | decide on it
 -- | Take      | exchange the cell seen for it, taken    | taken: OK, or EOWNERDEAD where OWNER_DIED is set. Changed: decide on the cell found
 --
@@ -22,7 +22,7 @@ abbrev pub try_access : ℕ → ℕ → TryLockRow → Access
 try_access t cell Load = access.Load cell
 try_access t cell (Take seen failed) = access.Exchange cell (word_of seen) (word_of (taken seen t))
 
--- decides on a cell, after so many failed exchanges
+-- decides on a cell, after this many failed exchanges
 abbrev pub try_sees : ℕ → Fields → Led
 try_sees failed c =
     if c.unusable then ends ENOTRECOVERABLE

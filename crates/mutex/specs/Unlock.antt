@@ -1,6 +1,6 @@
 -- Unlock, access by access (pthread_mutex_unlock; Futexes Are Tricky).
 --
--- | stands at | access                                      | then
+-- | is at     | access                                      | then
 -- | Load      | load the cell                               | another's: EPERM. Own: Release, noting OWNER_DIED
 -- | Release   | flip the owner's id away; where OWNER_DIED  | OK; where WAITERS was set, Wake
 -- |           | was noted, flip it and UNUSABLE too         |
@@ -50,7 +50,7 @@ unlock_sees t c = if c.owner == t then goes (Unlock (Release c.died)) else ends 
 abbrev pub after_release : Bool → Fields → Row
 after_release died c = if c.waiters then Unlock (Wake died) else Ended OK
 
--- where a wake leads that woke so many
+-- where a wake leads that woke this many
 abbrev pub after_wake : Bool → ℕ → Row
 after_wake all woken = if not all && (woken == 0) then Unlock Trim else Ended OK
 

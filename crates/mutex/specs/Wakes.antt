@@ -2,7 +2,7 @@
 -- FUTEX_WAKE in futex(2)).
 --
 -- *Whom a call asks to be woken.* Of its rows at the cell and the counter, and of the whole call (`WholeCallsWake`;
--- `mutex/specs/WholeLaws.antt`, `condvar/specs/WholeLaws.antt`), which wakes nobody elsewhere. Exactly behind a
+-- `mutex/specs/WholeLaws.antt`, `condvar/specs/WholeLaws.antt`), which wakes nobody elsewhere. Exactly after a
 -- release, and where a lock finds the mutex unusable, if the cell that was met had WAITERS: one sleeper of a mutex that
 -- is usable then, all of one that is unusable. A wait's release wakes one likewise, a signal that counted one of its
 -- condition variable; trylocks, declarations and broadcasts make no wake. The laws `wakes_are_right`,
@@ -32,9 +32,9 @@ everybody = most_threads
 abbrev pub to_wake : Object → ℕ
 to_wake o = if o.unusable then everybody else 1
 
--- behind an access that was the point of a call with this reply, that met a word with WAITERS or without, and that left
--- the mutex so, the call wakes n sleepers: behind a release, and where a lock found the mutex unusable. No other call
--- wakes anybody
+-- after an access that was the point of a call with this reply, that met a word with WAITERS or without, and that
+-- left the mutex so, the call wakes n sleepers: after a release, and where a lock found the mutex unusable. No other
+-- call wakes anybody
 abbrev pub Wakes : Operation → Option Reply → Bool → Object → ℕ → Type 0
 Wakes Unlock (Some OK) true o n = n ≡ to_wake o
 Wakes Lock (Some ENOTRECOVERABLE) true o n = n ≡ to_wake o

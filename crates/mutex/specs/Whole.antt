@@ -1,7 +1,7 @@
 -- A whole call, access by access: what it does at its mutex's cell, and around that at its thread's robust list, so
 -- that the kernel finds at any moment what the thread owns (robust-futexes, its ABI document; get_robust_list(2)).
 --
--- | stands at  | access                             | then
+-- | is at      | access                             | then
 -- | Announcing | store the entry as the pending one | AtCell; a release goes by Unlinking
 -- | AtCell     | that of the call's row             | as the row says; but before a release Announcing, and at the end: a mutex was taken, Linking; else an entry is pending, Clearing; else it returns
 -- | Linking    | that of the link's row             | linked: Clearing
@@ -123,7 +123,7 @@ abbrev pub announced : Whole → Row → Phase
 announced p (row.Unlock (Release d)) = Unlinking (unlink_started p.head p.entry) d
 announced p r = AtCell r
 
--- a call that is through with the cell: a mutex that was taken is put on the list, and an entry that is pending is
+-- a call that is finished with the cell: a mutex that was taken is put on the list, and an entry that is pending is
 -- cleared
 abbrev pub leaving : Whole → Operation → Reply → Phase
 leaving p op EFAULT = Ended EFAULT
@@ -183,7 +183,7 @@ whole_moved p o = record p { phase = o.phase }
 
 -- ---- a lock whose time limit comes while it sleeps
 
--- a lock that sleeps: it stands at its sleep, or where it goes on when it is woken
+-- a lock that sleeps: it is at its sleep, or where it goes on when it is woken
 abbrev pub may_expire : Phase → Bool
 may_expire (AtCell (row.Lock lock.Load)) = true
 may_expire (AtCell (row.Lock (lock.Sleep seen))) = true

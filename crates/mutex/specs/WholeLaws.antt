@@ -59,7 +59,7 @@ WholeUnlocksTrim = (p : Whole) → p.phase ≡ AtCell (row.Unlock (Wake false))
 abbrev pub WakesNext : Whole → Answer → ℕ → ℕ → Type 0
 WakesNext p a at n = whole_access (whole_moved p (whole_led p a)) ≡ access.Wake at n
 
--- it stands at its mutex's cell
+-- it is at its mutex's cell
 abbrev pub IsAtCell : Phase → Type 0
 IsAtCell (AtCell r) = Unit {0}
 IsAtCell f = ⊥
@@ -67,7 +67,7 @@ IsAtCell f = ⊥
 -- how many sleepers a whole call wakes, and where: as `Wakes` says of its rows
 pub record WholeCallsWake : Type 0 where
   -- after an access at its mutex's cell, whatever word that meets and whoever sleeps there, the next one is a wake
-  -- exactly where its point asks for one, of so many, and of those on the mutex's cell
+  -- exactly where its point asks for one, of this many, and of those on the mutex's cell
   pub at_the_cell : (p : Whole) (r : Row) (w at n : ℕ) (queue : List ℕ) → IsWhole p → p.thread ≤ most_threads
       → p.phase ≡ AtCell r
       → IsGoing r → Sound (object_of (fields_of w)) → Expects p.thread r (object_of (fields_of w))

@@ -5,10 +5,10 @@
 --
 -- *A thread's list through a call.* A thread alone writes its head's first entry and its pending one, and the links of
 -- the mutexes that it owns (`IsOwnPlace`). Between calls these words lead from its head, both ways, over just the
--- mutexes that it owns, and nothing is pending. In a call they do so but for one entry that is put in or taken out just
--- then, or whose mutex is about to be released; the call's entry is pending from before the cell is looked at to take
--- it, and before it is released. Dead: next words lead over mutexes that it owned, and each that it owned is one of
--- these or the pending one. Of each access of a whole call, whatever others do at its cell: the law
+-- mutexes that it owns, and nothing is pending. In a call they do so except for one entry that is put in or taken
+-- out just then, or whose mutex is about to be released; the call's entry is pending from before the cell is looked
+-- at to take it, and before it is released. Dead: next words lead over mutexes that it owned, and each that it owned
+-- is one of these or the pending one. Of each access of a whole call, whatever others do at its cell: the law
 -- `whole_calls_keep_lists`. Source: robust-futexes; robust-futex-ABI.
 use Rattle.std.specs.Prelude.{ℕ, ◌≡◌, ◌≢◌, ◌<◌, ◌≤◌, ◌+◌, ◌⊎◌, Bool, true, false, Option, Some, None, List}
 use Rattle.lockword.specs.declared.reply.Reply.{Reply}
@@ -58,7 +58,7 @@ pub record IsOwnAddress (l : Layout') (t : ℕ) (owns : ℕ → Bool) (a : ℕ) 
 
 -- ---- lists
 
--- the entries are those of the mutexes that the thread owns, but for this one
+-- the entries are those of the mutexes that the thread owns, except for this one
 pub record Entries (l : Layout') (t : ℕ) (owns : ℕ → Bool) (out : Option ℕ) (es : List ℕ) : Type 0 where
   pub each : (x : ℕ) → IsAmong x es
       → (k : ℕ) × (k < l.mutexes) × (x ≡ entry_in l t k) × (owns k ≡ true) × (out ≢ Some k)
@@ -111,7 +111,7 @@ abbrev pub OwnsAt : Bool → Row → Type 0
 OwnsAt own (row.Unlock (unlock.Release d)) = own ≡ true
 OwnsAt own r = Unit {0}
 
--- a call whose head and entry are at h and e stands there, its thread owning its mutex as told
+-- a call whose head and entry are at h and e is there, its thread owning its mutex as told
 abbrev pub StandsAt : ℕ → ℕ → Operation → Bool → Phase → Type 0
 StandsAt h e op own (Announcing r) = IsAnnounced r × OwnsAt own r × (row_operation r ≡ op)
 StandsAt h e op own (AtCell r) = OwnsAt own r × (row_operation r ≡ op)
@@ -120,7 +120,8 @@ StandsAt h e op own (Unlinking u d) = (u.head ≡ h) × (u.entry ≡ e) × (own 
 StandsAt h e op own (Clearing x) = Unit {0}
 StandsAt h e op own (Ended x) = ⊥
 
--- in a call on mutex m: its words are a list of what the thread owns, but for what is put there or released just now
+-- in a call on mutex m: its words are a list of what the thread owns, except for what is put there or released just
+-- now
 pub record KeepsList (l : Layout') (t : ℕ) (owns : ℕ → Bool) (m : ℕ) (op : Operation) (f : Phase) (w : ℕ → ℕ) : Type 0
   where
     pub knows : PhaseKnows f
@@ -130,7 +131,7 @@ pub record KeepsList (l : Layout') (t : ℕ) (owns : ℕ → Bool) (m : ℕ) (op
     pub chain : IsChainedIn w (head_in l t) (entry_in l t m) entries f
     pub pending : w (pending_place (head_in l t)) ≡ pending_in (entry_in l t m) f
 
--- the call has returned, or stands there so
+-- the call has returned, or is there so
 abbrev pub Arrives : Layout' → ℕ → (ℕ → Bool) → ℕ → Operation → Phase → (ℕ → ℕ) → Type 0
 Arrives l t owns m op (Ended x) w = HasList l t owns w
 Arrives l t owns m op (Announcing r) w = KeepsList l t owns m op (Announcing r) w

@@ -10,9 +10,9 @@ use stepprograms::{Access, Answer};
 /// Where a declaration stands that a mutex is consistent.
 #[derive(Clone, Copy, Debug, PartialEq, Eq)]
 pub enum ConsistentRow {
-    /// It loads the cell.
+    /// Loads the cell.
     Load,
-    /// It clears OWNER_DIED in the cell that it owns.
+    /// Clears OWNER_DIED in the cell that it owns.
     Declare,
 }
 

@@ -24,15 +24,15 @@ pub fn unlocks_trim_after_waking_nobody()
     ensures whole { WholeUnlocksTrim }
 {}
 
-/// A call wakes sleepers exactly behind a release, and where a lock finds the mutex unusable, if the cell that it met
+/// A call wakes sleepers exactly after a release, and where a lock finds the mutex unusable, if the cell that it met
 /// had `WAITERS`: one where that leaves the mutex usable, and all of one that is unusable. A trylock and a declaration
 /// wake nobody.
 pub fn wakes_are_right()
     ensures { WakesAreRight }
 {}
 
-/// So does a whole call, which wakes nobody elsewhere: after an access at its mutex's cell its next one is a wake
-/// exactly where its point asks for that, of so many sleepers on that cell; and whatever it is answered, it doesn't
+/// A whole call wakes the same threads, and nobody elsewhere: after an access at its mutex's cell its next one is a wake
+/// exactly where its point asks for that, of this many sleepers on that cell; and whatever it is answered, it doesn't
 /// begin by a wake, and none follows an access of its thread's robust list.
 pub fn whole_calls_wake()
     ensures { WholeCallsWake }
@@ -53,7 +53,7 @@ pub fn points_are_permitted()
     ensures { PointsArePermitted }
 {}
 
-/// Whatever a whole call is answered, it stands at rows of its operation; its points are made at the cell with replies
+/// Whatever a whole call is answered, it is at rows of its operation; its points are made at the cell with replies
 /// that POSIX permits there; it goes to release a mutex only from a cell that it owns; and a trylock gives up only
 /// after four exchanges that each found a changed cell.
 pub fn whole_calls_are_right()

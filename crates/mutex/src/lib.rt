@@ -4,14 +4,14 @@
 //! its answer ([`Program::resume`]). Whoever runs it makes the accesses. It stands ([`Phase`]) at its mutex's cell,
 //! where a [`Row`] says what it does; around that it keeps its thread's robust list. Whatever word an access at the
 //! cell meets, it is a step of the mutex as POSIX sees it, or leaves it (`programs_are_right`, `points_are_permitted`),
-//! and it leaves `WAITERS` where it is set (`waiters_are_kept`), but for the trim of an unlock that woke nobody
-//! (`unlocks_trim_after_waking_nobody`). One sleeper is woken behind a release that leaves the mutex usable, and all of
-//! an unusable one (`wakes_are_right`, `whole_calls_wake`). A trylock gives up behind the fourth exchange that
+//! and it leaves `WAITERS` where it is set (`waiters_are_kept`), except for the trim of an unlock that woke nobody
+//! (`unlocks_trim_after_waking_nobody`). One sleeper is woken after a release that leaves the mutex usable, and all
+//! of an unusable one (`wakes_are_right`, `whole_calls_wake`). A trylock gives up after the fourth exchange that
 //! found a changed cell (`raced_after_four`, `gives_up_after_four`). A whole call that returned, and not for a fault,
 //! had exactly one point, whose reply it returned (`whole_calls_are_right`, `whole_calls_are_decided`); and wherever
 //! its thread dies, the kernel finds in the thread's own words all that it owns (`whole_calls_keep_lists`).
 //!
-//! Stands on `memorymap`, for layouts, on `stepprograms` and `posixmutex`, for accesses and points, on `lockword`, for
+//! Is on `memorymap`, for layouts, on `stepprograms` and `posixmutex`, for accesses and points, on `lockword`, for
 //! cells and replies, and on `robustlist`, for the entry's way into and out of the list.
 //!
 //! ```text

@@ -11,15 +11,15 @@ use stepprograms::{ALL, Access, Answer};
 /// Where a lock stands.
 #[derive(Clone, Copy, Debug, PartialEq, Eq)]
 pub enum LockRow {
-    /// It loads the cell.
+    /// Loads the cell.
     Load,
-    /// It takes the cell, which was unowned and usable when it saw it.
+    /// Takes the cell, which was unowned and usable when it saw it.
     Take { seen: Cell },
-    /// It sets WAITERS in the cell, which another thread owned when it saw it.
+    /// Sets WAITERS in the cell, which another thread owned when it saw it.
     SetWaiters { seen: Cell },
-    /// It sleeps where the futex word is as it saw it: another's, with WAITERS.
+    /// Sleeps where the futex word is as it saw it: another's, with WAITERS.
     Sleep { seen: Cell },
-    /// It wakes all sleepers of an unusable mutex.
+    /// Wakes all sleepers of an unusable mutex.
     WakeAll,
 }
 
@@ -131,7 +131,7 @@ fn sees(thread: Tid, cell: Cell) -> Led
     }
 }
 
-/// Where a lock goes on that found the mutex unusable: whoever sleeps there is to be told too.
+/// Where a lock goes on that found the mutex unusable: whoever sleeps there has to learn of it, too.
 fn after_loss(cell: Cell) -> Row
     ensures value { result ≡ after_loss cell }
     ensures knows { Knows result }

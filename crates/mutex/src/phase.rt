@@ -9,17 +9,17 @@ use robustlist::{Link, Unlink};
 /// Where a call stands: at its mutex's cell, or at its thread's robust list.
 #[derive(Clone, Copy, Debug, PartialEq, Eq)]
 pub enum Phase {
-    /// It stores its entry as the thread's pending one, and goes on at the cell.
+    /// Stores its entry as the thread's pending one, and goes on at the cell.
     Announcing { next: Row },
-    /// It is at the cell.
+    /// The call is at the cell.
     AtCell(Row),
-    /// It has taken the mutex, with this reply, and puts its entry in front of the thread's list.
+    /// The call has taken the mutex, with this reply, and puts its entry in front of the thread's list.
     Linking { link: Link, reply: Reply },
-    /// It takes its entry out of the list, to release the mutex then, in which OWNER_DIED is as noted.
+    /// Takes its entry out of the list, to release the mutex then, in which OWNER_DIED is as noted.
     Unlinking { unlink: Unlink, died: bool },
-    /// It clears the thread's pending entry, and returns this reply.
+    /// Clears the thread's pending entry, and returns this reply.
     Clearing { reply: Reply },
-    /// It has returned.
+    /// The call has returned.
     Ended(Reply),
 }
 
@@ -33,7 +33,7 @@ pub struct Onward {
 }
 
 impl Onward {
-    /// To a phase, without a point.
+    /// Leads to a phase, without a point.
     #[inline(always)]
     pub(crate) fn to(phase: Phase) -> Onward
         ensures { result ≡ onward phase }

@@ -64,8 +64,8 @@ impl Program {
     ghost use Rattle.mutex.specs.Whole.{whole_led, whole_moved, whole_point, whole_progress, announced};
     ghost use Rattle.mutex.specs.Whole.{expired, from_cell, after_cell, leaving, IsUnderWay, PhaseKnows};
 
-    /// A call of a thread that holds so many mutexes. It speaks of words by their addresses in the thread's process. A
-    /// lock or trylock by a thread that holds 2,048 is refused with `XHELD` before any access.
+    /// A call of a thread that holds this many mutexes. It speaks of words by their addresses in the thread's
+    /// process. A lock or trylock by a thread that holds 2,048 is refused with `XHELD` before any access.
     #[inline(always)]
     pub fn new(layout: &Layout, thread: Tid, held: u16, call: Call) -> Result<Program, Reply>
         requires thread { thread ≤ layout.now.threads }
@@ -100,7 +100,7 @@ impl Program {
         }
     }
 
-    /// A call that stands at a phase: one that was kept elsewhere, as [`CodedPhase`](crate::CodedPhase) say, goes on
+    /// A call that is at a phase: one that was kept elsewhere, as [`CodedPhase`](crate::CodedPhase) say, goes on
     /// from there.
     #[inline(always)]
     pub fn at(
@@ -233,8 +233,8 @@ impl Program {
         }
     }
 
-    /// Where a call goes that is through with the cell: a mutex that was taken is put on the list, and an entry that is
-    /// pending is cleared.
+    /// Where a call goes that is finished with the cell: a mutex that was taken is put on the list, and an entry
+    /// that is pending is cleared.
     #[inline(always)]
     fn leaving(&self, reply: Reply) -> Phase
         ensures value { result ≡ leaving self.now self.now.operation reply }
@@ -343,7 +343,7 @@ fn from_unlink(mut unlink: Unlink, died: bool, answer: Answer) -> Onward
     }
 }
 
-/// Whether a thread that holds so many mutexes may not make the call.
+/// Whether a thread that holds this many mutexes may not make the call.
 #[inline(always)]
 fn is_refused(held: u16, call: Call) -> bool
     ensures { result ≡ (acquires (operation_of call) && nat_le held_limit held) }

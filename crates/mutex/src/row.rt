@@ -1,4 +1,4 @@
-//! Where a call stands at its mutex's cell.
+//! Where a call is at its mutex's cell.
 ghost use Rattle.std.specs.Prelude.{◌≡◌};
 ghost use Rattle.mutex.specs.Rows.{goes, decides, ends, faults, acquired};
 
@@ -21,7 +21,7 @@ pub enum Row {
     Unlock(UnlockRow),
     /// In a declaration that the mutex is consistent.
     Consistent(ConsistentRow),
-    /// The call is through with the cell, and this is its reply.
+    /// The call is finished with the cell, and this is its reply.
     Ended(Reply),
 }
 
@@ -89,14 +89,14 @@ pub struct Led {
 }
 
 impl Led {
-    /// To a row, undecided.
+    /// Leads to a row, undecided.
     pub(crate) fn goes(row: Row) -> Led
         ensures { result ≡ goes row }
     {
         Led { row, point: None }
     }
 
-    /// To a row, with the call decided.
+    /// Leads to a row, with the call decided.
     pub(crate) fn decides(row: Row, reply: Reply) -> Led
         ensures { result ≡ decides row reply }
     {

@@ -14,11 +14,11 @@ const TRIES: u64 = 4;
 /// Where a trylock stands.
 #[derive(Clone, Copy, Debug, PartialEq, Eq)]
 pub enum TryLockRow {
-    /// It loads the cell.
+    /// Loads the cell.
     Load,
-    /// It takes the cell, which was unowned and usable when it saw it. So many of its exchanges have failed: a count as
-    /// wide as the cell, since a row is moved by value at each access, and padding beside a narrower one goes through
-    /// memory.
+    /// Takes the cell, which was unowned and usable when it saw it. This many of its exchanges have failed: a
+    /// count as wide as the cell, since a row is moved by value at each access, and padding beside a narrower one
+    /// goes through memory.
     Take { seen: Cell, failed: u64 },
 }
 
@@ -55,7 +55,7 @@ pub(crate) fn resume(row: &TryLockRow, answer: Answer) -> Led
     }
 }
 
-/// Decides on a cell, after so many failed exchanges.
+/// Decides on a cell, after this many failed exchanges.
 fn sees(cell: Cell, failed: u64) -> Led
     requires { failed ≤ 4 }
     ensures value { result ≡ try_sees failed cell }

@@ -11,13 +11,13 @@ use stepprograms::{ALL, Access, Answer};
 /// Where an unlock stands.
 #[derive(Clone, Copy, Debug, PartialEq, Eq)]
 pub enum UnlockRow {
-    /// It loads the cell.
+    /// Loads the cell.
     Load,
-    /// It releases the cell that it owns, in which OWNER_DIED is as noted: set, it makes the mutex unusable.
+    /// Releases the cell that it owns, in which OWNER_DIED is as noted: set, it makes the mutex unusable.
     Release { died: bool },
-    /// It wakes one sleeper, or all of an unusable mutex.
+    /// Wakes one sleeper, or all of an unusable mutex.
     Wake { all: bool },
-    /// It clears WAITERS, where that is all that the cell says and nobody sleeps on it.
+    /// Clears WAITERS, where that is all that the cell says and nobody sleeps on it.
     Trim,
 }
 
@@ -88,7 +88,7 @@ fn after_release(died: bool, found: Cell) -> Row
     }
 }
 
-/// Where a wake leads that woke so many: where it was to wake one sleeper and found none, WAITERS need not stay.
+/// Where a wake leads that woke this many: where it was to wake one sleeper and found none, WAITERS need not stay.
 fn after_wake(all: bool, woken: u32) -> Row
     ensures value { result ≡ after_wake all woken }
     ensures knows { Knows result }

@@ -29,7 +29,7 @@ left_is p q is = go (mutex.may_expire p.phase) is
     go true e = cc e
     go false e = absurd (cc e)
 
--- the numbers of a call, but for where it stands at its mutex
+-- the numbers of a call, except for where it is at its mutex
 abbrev pub at_phase : PzCall → CodedPhase → PzCall
 at_phase c f = record {
   head = c.head;
@@ -46,7 +46,7 @@ left_code p q old is code =
     ap (λ (c : PzCall). at_phase c (phase_code q.phase)) (sym code)
     ∙ ap (λ (z : Whole). at_phase (call_code (OnMutex z)) (phase_code q.phase)) (sym (left_is p q is))
 
--- and what is told of it
+-- and what is recorded of it
 pub expires_so : (r : Running) (p q : Whole) (old : PzCall) (f : CodedPhase) (a a' : PzAccess) → r ≡ OnMutex p → Some q ≡ mutex.expired p → call_code r ≡ old → f ≡ phase_code q.phase
     → a' ≡ decided operation.TimedLock ETIMEDOUT (access_code (access_of (OnMutex q))) → Expires (expired r) 0 old (at_phase old f) a a'
 expires_so r p q old f a a' on is code lock told =

@@ -119,7 +119,7 @@ LocksByPlan = (k : Call) (t h e c w f : ℕ) → IsTaker k → 1 ≤ t → is_fr
 abbrev pub unlock_begun : ℕ → ℕ → ℕ → ℕ → Whole
 unlock_begun t h e c = begun_at t h e c (call.Unlock 0)
 
--- behind the last entry there is none whose previous word is changed
+-- after the last entry there is none whose previous word is changed
 abbrev pub behind_answers : Bool → List Answer
 behind_answers true = []
 behind_answers false = Stored ∷ []
@@ -144,7 +144,7 @@ abbrev pub release_row : Row
 release_row = Unlock (release.Release false)
 
 -- the answers from the release on, which found the cell v: where WAITERS is set in it a wake woke nobody, and the trim
--- behind that was declined
+-- after that was declined
 abbrev pub wake_answers : Bool → List Answer
 wake_answers true = Count 0 ∷ Trimmed false ∷ Stored ∷ []
 wake_answers false = Stored ∷ []
@@ -159,7 +159,7 @@ release_answers v = Value v ∷ wake_answers (fields_of v).waiters
 abbrev pub release_plan : ℕ → ℕ → ℕ → ℕ → List Access
 release_plan t h c v = access.FetchXor c t ∷ wake_plan (fields_of v).waiters h c
 
--- it makes just these accesses, stands at the row that releases when it does, and returns OK; and its loads may come
+-- it makes just these accesses, is at the row that releases when it does, and returns OK; and its loads may come
 -- first, where its entry is no word of the thread's head
 pub record UnlockByPlan (t h e c w n p v : ℕ) : Type 0 where
   pub unlinks : asked (unlock_begun t h e c) (unlink_answers w n p (n == h)) ≡ unlink_plan h e c n p (n == h)

@@ -106,8 +106,8 @@ Begins (Some r) result old new access access' =
 
 -- ---- an answer
 
--- what is told of a call after an answer: its next access, or none once it has returned, with the point that the answer
--- decided
+-- what is recorded of a call after an answer: its next access, or none once it has returned, with the point that the
+-- answer decided
 abbrev pub told : Progress → Running → PzAccess
 told (Goes point) r = with_point point (access_code (access_of r))
 told (Returns x point) r = with_point point no_access

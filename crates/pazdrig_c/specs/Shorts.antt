@@ -1,6 +1,7 @@
 -- Short calls, those that what they load decides, whole: a signal, a broadcast, a declaration that a mutex is
 -- consistent, and each call that is refused (pthread_cond_signal, pthread_cond_broadcast, pthread_mutex_consistent, and
--- the errors of each call). Their accesses, one after the other, how far each answer brings them, and what C is told.
+-- the errors of each call). Their accesses, one after the other, how far each answer brings them, and what C is
+-- recorded.
 --
 -- *A short call.* A call that what it loads decides, whole: a signal and a broadcast of the owner, the owner's
 -- declaration that an inconsistent mutex is consistent, and each call that its look at the cell refuses, or at the
@@ -83,7 +84,7 @@ signal_plan c q = access.Load c ∷ access.Load q ∷ access.FetchAdd q 1 ∷ ac
 abbrev pub stands_at : PzCall → CondRow → Running
 stands_at k r = OnCondition (cond_at k.thread k.head k.entry k.cell k.counter (AtWords r))
 
--- it makes just these accesses, its point is where it counts, and it returns OK; behind the count it stands at the row
+-- it makes just these accesses, its point is where it counts, and it returns OK; after the count it is at the row
 -- that wakes
 pub record SignalByPlan (k : PzCall) (r : Running) (w s v n : ℕ) : Type 0 where
   pub asks : accesses r (signal_answers w s v n) ≡ signal_plan k.cell k.counter
@@ -110,7 +111,7 @@ broadcast_plan c q s = access.Load c ∷ access.Load q ∷ access.FetchAdd q 1 �
     ∷ move_of c q s ∷ []
 
 -- whatever the move is answered but a fault, also where it moved nobody: it makes just these accesses, its point is
--- where it counts, and it returns OK. Behind the count it stands at the row that sets WAITERS, and behind that at the
+-- where it counts, and it returns OK. After the count it is at the row that sets WAITERS, and after that at the
 -- one that moves
 pub record BroadcastByPlan (k : PzCall) (r : Running) (w s v u : ℕ) (a : Answer) : Type 0 where
   pub asks : accesses r (broadcast_answers w s v u a) ≡ broadcast_plan k.cell k.counter s
@@ -238,7 +239,7 @@ wakes_all operation.Lock c = c.unusable && c.waiters
 wakes_all op c = false
 
 -- its look may come first, where the cell isn't the pending word; and whatever doesn't refuse it leaves it undecided,
--- but for a lock that wakes all
+-- except for a lock that wakes all
 pub record RefusalsByPlan : Type 0 where
   pub refuses : (op : Operation) (k : PzCall) (r : Running) (w s : ℕ) (x : Reply)
       → begun (operation_number op) k ≡ Some r → refused op k.thread (fields_of w) s ≡ Some x
@@ -257,7 +258,7 @@ abbrev pub codes : List Access → List PzAccess
 codes [] = []
 codes (x ∷ rest) = access_code x ∷ codes rest
 
--- a call with these accesses that returns this reply: its changes, and no access behind them
+-- a call with these accesses that returns this reply: its changes, and no access after them
 abbrev pub short_code : List Access → Reply → PzShort
 short_code plan x = record {
   change = take 3 (codes (changes_in plan) ++ no_access ∷ no_access ∷ no_access ∷ []);

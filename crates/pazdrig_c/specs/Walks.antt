@@ -32,7 +32,7 @@ pub record WalksOn (s : Standing) (a : Answer) (answered : ℕ) (new : PzWalk) (
   pub walk : new ≡ walk_code (moved s a)
   pub access : next ≡ told (progress_of s a) (moved s a)
 
--- Of a walk that was kept behind each access, by a walker that may have died between an access and the record of it:
+-- Of a walk that was kept after each access, by a walker that may have died between an access and the record of it:
 -- whether the word shows that the exchange was made. While a walk is to mark a word, that word's owner stays the dead
 -- thread, which nobody but the walk changes.
 abbrev pub is_marked : Standing → ℕ → Bool

@@ -55,8 +55,8 @@ pub extern "C" fn pz_step(call: &mut PzCall, access: &mut PzAccess, kind: u32, v
 }
 
 /// The time limit of a lock has come, while it sleeps (pthread_mutex_timedlock(3p)): tells the one access that is left,
-/// which clears its entry, with the point; behind that it returns `ETIMEDOUT`. 0; or 2, and nothing is written: no lock
-/// that sleeps has these numbers. Whoever asks has taken the thread out of its queue, and gave it no wake.
+/// which clears its entry, with the point; after that it returns `ETIMEDOUT`. 0; or 2, and nothing is written: no
+/// lock that sleeps has these numbers. Whoever asks has taken the thread out of its queue, and gave it no wake.
 #[unsafe(no_mangle)]
 pub extern "C" fn pz_expire(call: &mut PzCall, access: &mut PzAccess) -> u32
     ensures expires { (r : Running) → IsRunning r → call_code r ≡ call.old

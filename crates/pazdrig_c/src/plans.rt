@@ -1,5 +1,5 @@
 //! The lock of a free mutex and the unlock of a consistent one, whole: which stores come before the access at the cell,
-//! and which behind it.
+//! and which after it.
 ghost use Rattle.std.specs.Prelude.{ℕ, ◌≡◌, ◌==◌, ◌&&◌};
 ghost use Rattle.std.specs.Bool.{OnTrue, OnFalse};
 ghost use Rattle.stepprograms.specs.declared.access.Access.TheVariants as access;
@@ -75,7 +75,7 @@ pub extern "C" fn pz_plan_lock(
 /// The unlock of a thread that found this cell, and these links in the mutex's entry: its stores, between them a flip
 /// of `operand` in the cell, and its reply. Where the flip finds WAITERS and somebody sleeps, the call goes on by its
 /// steps, from where it releases. False, and nothing is written, where the thread doesn't own the mutex, or has to
-/// spoil it: then the call goes by its steps.
+/// make it unusable: then the call goes by its steps.
 #[unsafe(no_mangle)]
 pub extern "C" fn pz_plan_unlock(
     plan: &mut PzPlan,

@@ -72,8 +72,8 @@ fn numbered(program: u8) -> Option<Operation>
     }
 }
 
-/// Goes on with an answer: the numbers of the call become those of what it leaves, and the next access is told, or none
-/// where it has returned.
+/// Goes on with an answer: the numbers of the call become those of what it leaves, and the next access is recorded,
+/// or none where it has returned.
 #[inline(always)]
 pub(crate) fn go_on(
     running: Running,
@@ -135,8 +135,8 @@ fn on_condition(
     }
 }
 
-/// The time limit of a lock has come: its numbers become those of what is left of it, and its access is told; of a call
-/// that is no lock that may sleep nothing changes.
+/// The time limit of a lock has come: its numbers become those of what is left of it, and its access is recorded; of
+/// a call that is no lock that may sleep nothing changes.
 pub(crate) fn expire(running: Running, call: &mut PzCall, access: &mut PzAccess) -> u32
     requires { call_code running ≡ call.old }
     ensures { Expires (expired running) result call.old call.new access.old access.new }

@@ -61,7 +61,7 @@ pub struct PzAccess {
 }
 
 /// A whole call where nobody is in the way: its stores, in their order, some of them before its one other access and
-/// the rest behind it.
+/// the rest after it.
 #[repr(C)]
 #[derive(Clone, Copy, Debug, PartialEq, Eq)]
 pub struct PzPlan {

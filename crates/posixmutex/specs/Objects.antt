@@ -108,14 +108,14 @@ stepped o t Death OK = bereaved o
 stepped o t Reinit OK = fresh
 stepped o t op r = o
 
--- a step leaves no choice: who knows the operation and its reply knows the object behind it
+-- a step leaves no choice: who knows the operation and its reply knows the object after it
 abbrev pub StepsAreDetermined : Type 0
 StepsAreDetermined = (held : ℕ) (o : Object) (t : ℕ) (op : Operation) (r : Reply) (n : Object) → Does held o t op r n
     → n ≡ stepped o t op r
 
 -- ---- what changes a mutex
 
--- thread t takes it, and is told of its last owner's death exactly where the mutex is inconsistent
+-- thread t takes it, and learns of its last owner's death exactly where the mutex is inconsistent
 abbrev pub IsTaking : Object → ℕ → Operation → Reply → Object → Type 0
 IsTaking o t op r n = (acquires op ≡ true) × (r ≡ (if o.inconsistent then EOWNERDEAD else OK)) × (n.owner ≡ Some t)
     × (n.inconsistent ≡ o.inconsistent) × (n.unusable ≡ false)
@@ -129,7 +129,7 @@ IsByOwner o Consistent n =
 IsByOwner o Death n = (n.owner ≡ None) × (n.inconsistent ≡ true) × (n.unusable ≡ o.unusable)
 IsByOwner o op n = ⊥
 
--- the operations behind which nobody owns it
+-- the operations after which nobody owns it
 abbrev pub releases : Operation → Bool
 releases Unlock = true
 releases Death = true
@@ -152,7 +152,7 @@ ChangesHaveReasons = (held : ℕ) (o : Object) (t : ℕ) (op : Operation) (r : R
 
 -- ---- why replies come
 
--- a reply to thread t, which holds so many mutexes, of an operation on o: the state in which alone it comes. A wait
+-- a reply to thread t, which holds this many mutexes, of an operation on o: the state in which alone it comes. A wait
 -- releases its mutex as an unlock and takes it as a lock, so by itself it only refuses, with a time limit as without; EPERM
 -- is for calls of an owner
 abbrev pub HasReason : ℕ → Object → ℕ → Operation → Reply → Type 0
@@ -200,8 +200,8 @@ ReasonsSuffice = (held : ℕ) (o : Object) (t : ℕ) (op : Operation) (r : Reply
     → ((acquires op && nat_le held_limit held) ≡ true → r ≡ XHELD) → (n : Object) × Does held o t op r n
 
 -- what isn't answered: a lock of a mutex that another thread owns, a wait that releases its mutex (as an unlock), one
--- that has a time limit (what it does, and what it is refused, is told as a wait's), a death of who isn't the owner, and
--- a reinit of a mutex that isn't unusable
+-- that has a time limit (what it does, and what it is refused, is recorded as a wait's), a death of who isn't the
+-- owner, and a reinit of a mutex that isn't unusable
 abbrev pub IsUnanswered : Object → ℕ → Operation → Type 0
 IsUnanswered o t Lock = (u : ℕ) × (o.owner ≡ Some u) × (t ≢ u)
 IsUnanswered o t Wait = (o.owner ≡ Some t) × (o.inconsistent ≡ false)

@@ -1,15 +1,15 @@
 //! The robust mutex as POSIX sees it, with no bits.
 //!
 //! An [`Object`] is who owns the mutex, whether its state is inconsistent, and whether it is unusable. [`Object::step`]
-//! says for each [`Operation`] and reply whether it may come, and what it leaves. Laws in plain words stand above that
+//! says for each [`Operation`] and reply whether it may come, and what it leaves. Laws in plain words are above that
 //! table: a step leaves no choice (`steps_are_determined`); whoever doesn't own a mutex changes it only by taking a
-//! free one, or by making an unusable one anew (`changes_have_reasons`); each reply has its reason
+//! free one, or by reinitialising an unusable one (`changes_have_reasons`); each reply has its reason
 //! (`replies_have_reasons`) and may come where it has it (`reasons_suffice`), X_HELD exactly its own
 //! (`limit_is_exact`); and no call goes without one that could have it (`calls_are_answered`). A [`Point`] is the step
 //! at which a call takes effect; a [`Decision`] is a point as traces tell it. `specs/Histories.antt` says which lists
 //! of them are legal. An operation's word is read back as that operation (`operations_are_read_back`).
 //!
-//! Stands on `lockword`, for thread ids, replies and what cells say, and on `thiserror`, for the message of what is
+//! Is on `lockword`, for thread ids, replies and what cells say, and on `thiserror`, for the message of what is
 //! refused.
 //!
 //! ```text

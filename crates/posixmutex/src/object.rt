@@ -6,7 +6,7 @@ ghost use Rattle.posixmutex.specs.Objects.{ReasonsSuffice, RepliesHaveReasons, S
 use crate::point::Operation;
 use lockword::{Reply, Tid};
 
-/// How many mutexes a thread may hold: a robust list is walked for so many entries (robust-futexes).
+/// How many mutexes a thread may hold: a robust list is walked for this many entries (robust-futexes).
 pub const HELD_LIMIT: u16 = 2048;
 
 /// What a robust mutex is to POSIX (pthread_mutex_lock, pthread_mutex_consistent, pthread_mutex_destroy).
@@ -210,8 +210,8 @@ pub fn steps_are_determined()
 {}
 
 /// Whoever doesn't own a mutex changes it in two ways only: it takes one that is free and usable, told of the last
-/// owner's death where the mutex is inconsistent; or it makes an unusable one anew. Its owner releases it, declares it
-/// consistent, or dies. And who is told that it took the mutex, or released it, did so.
+/// owner's death where the mutex is inconsistent; or it reinitialises an unusable one. Its owner releases it,
+/// declares it consistent, or dies. And who is told that it took the mutex, or released it, did so.
 pub fn changes_have_reasons()
     ensures { ChangesHaveReasons }
 {}
@@ -230,7 +230,7 @@ pub fn reasons_suffice()
 {}
 
 /// X_HELD is the reply of a lock or trylock whose thread holds 2,048 mutexes or more, and of no other call: the kernel
-/// walks so many entries of a dead thread's list (robust-futexes).
+/// walks this many entries of a dead thread's list (robust-futexes).
 pub fn limit_is_exact()
     ensures { LimitIsExact }
 {}

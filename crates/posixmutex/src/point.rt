@@ -26,8 +26,8 @@ pub enum Operation {
     Broadcast,
     /// The owner's death: no call has this operation.
     Death,
-    /// An unusable mutex is made anew (pthread_mutex_destroy, pthread_mutex_init): no call of a script or a program has
-    /// this operation, a trace tells it as one.
+    /// An unusable mutex is reinitialised (pthread_mutex_destroy, pthread_mutex_init): no call of a script or a
+    /// program has this operation, a trace tells it as one.
     Reinit,
 }
 

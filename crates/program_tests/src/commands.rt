@@ -42,7 +42,7 @@ fn words_that_are_no_text_are_another_command_line(rt: HostRuntime) {
     assert!(rt; answered(&rt, words, &files).is(2, "", USAGE));
 }
 
-/// Memory is told where it was refused, for the words or for a file.
+/// Memory is reported where it was refused, for the words or for a file.
 #[test]
 fn refused_words_and_files_are_told(rt: HostRuntime) {
     let files = Folder::new(SCRIPT.as_bytes());
@@ -52,7 +52,7 @@ fn refused_words_and_files_are_told(rt: HostRuntime) {
     assert!(rt; answered(&rt, none, &files).is(1, "", OUT_OF_MEMORY));
 }
 
-/// Passes too where any one allocation fails: nothing is printed then, and want of memory is told.
+/// Passes too where any one allocation fails: nothing is printed then, and lack of memory is reported.
 #[test]
 fn memory_for_a_command_line(rt: HostRuntime) {
     let files = Folder::new(SCRIPT.as_bytes());

@@ -31,7 +31,7 @@ fn files_of(text: &[u8]) -> Folder<'_> {
     Folder::with_script(SCRIPT, text)
 }
 
-/// Behind the style.
+/// After the style.
 const SVG_END: &str =
     "<text class=\"n\" x=\"48\" y=\"52\">1</text><path class=\"b\" d=\"M110 48m-7 0h14\"/><text class=\"t\" x=\"120\" y=\"52\">lock m0</text>\n<text class=\"n\" x=\"48\" y=\"70\">1</text><text x=\"54\" y=\"70\">end</text>\n</svg>\n";
 
@@ -61,7 +61,8 @@ fn files_that_cannot_be_read_are_told(rt: HostRuntime) {
     }
 }
 
-/// Words that are no text are another command line; memory is told where it was refused, for the words or for a file.
+/// Words that are no text are another command line; memory is reported where it was refused, for the words or for a
+/// file.
 #[test]
 fn refused_words_and_files_are_told(rt: HostRuntime) {
     let files = files_of(TRACE);
@@ -74,7 +75,7 @@ fn refused_words_and_files_are_told(rt: HostRuntime) {
     assert!(rt; answer_of(rt.alloc(), line, &files).is(1, "", "rfx-draw: out of memory\n"));
 }
 
-/// Whether a picture that a writer with this room can't hold is told, and its beginning written.
+/// Whether a picture that a writer with this room can't hold is reported, and its beginning written.
 fn is_told_of_room(alloc: Global, room: usize) -> bool {
     let mut out = Faulty::new(alloc, room, false);
     let mut err = Vec::new(alloc);
@@ -93,7 +94,7 @@ fn a_picture_that_cannot_be_written_is_told(rt: HostRuntime) {
     }
 }
 
-/// What was written and isn't let go of is told; and a message that can't be written changes no status.
+/// What was written and isn't let go of is reported; and a message that can't be written changes no status.
 #[test]
 fn writers_that_fail_are_told(rt: HostRuntime) {
     let files = files_of(TRACE);
@@ -105,7 +106,7 @@ fn writers_that_fail_are_told(rt: HostRuntime) {
     assert!(rt; err.held.as_slice() == "rfx-draw:".as_bytes());
 }
 
-/// Whether the picture was drawn and nothing told; or nothing was printed, and want of memory told.
+/// Whether the picture was drawn and nothing told; or nothing was printed, and lack of memory told.
 fn is_drawn_or_wants_memory(status: u8, out: &Fixed, err: &Fixed, end: &str) -> bool {
     if status == 0 {
         return out.bytes().ends_with(end.as_bytes()) && err.bytes().is_empty();
@@ -121,13 +122,13 @@ fn draws_or_wants_memory(alloc: Global, line: &[&str], end: &str) -> bool {
     is_drawn_or_wants_memory(status, &out, &err, end)
 }
 
-/// Passes too where any one allocation fails: nothing is printed then, and want of memory is told.
+/// Passes too where any one allocation fails: nothing is printed then, and lack of memory is reported.
 #[test]
 fn memory_for_a_picture(rt: HostRuntime) {
     assert!(rt; draws_or_wants_memory(rt.alloc(), &["rfx-draw", "f"], TEXT));
 }
 
-/// Passes too where any one allocation fails: nothing is printed then, and want of memory is told.
+/// Passes too where any one allocation fails: nothing is printed then, and lack of memory is reported.
 #[test]
 fn memory_for_an_svg_picture(rt: HostRuntime) {
     assert!(rt; draws_or_wants_memory(rt.alloc(), &["rfx-draw", "--svg", "f"], SVG_END));
@@ -136,13 +137,13 @@ fn memory_for_an_svg_picture(rt: HostRuntime) {
 /// With the names of the script.
 const NAMED: &str = " event  accounts  alice\n     1  -         ┌ lock accounts\n     1  end\n";
 
-/// Passes too where any one allocation fails: nothing is printed then, and want of memory is told.
+/// Passes too where any one allocation fails: nothing is printed then, and lack of memory is reported.
 #[test]
 fn memory_for_a_picture_with_names(rt: HostRuntime) {
     assert!(rt; draws_or_wants_memory(rt.alloc(), &["rfx-draw", "--script", "s", "f"], NAMED));
 }
 
-/// A page that a writer can't hold is told.
+/// A page that a writer can't hold is reported.
 #[test]
 fn a_page_that_cannot_be_written_is_told(rt: HostRuntime) {
     let mut out = Faulty::new(rt.alloc(), 9, false);

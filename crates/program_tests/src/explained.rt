@@ -13,7 +13,8 @@ fn answer_of(alloc: Global, words: io::Result<Vec<String>>, text: &[u8]) -> Answ
     Answered::new(status, printed, told)
 }
 
-/// Whether the explanation of these bytes was this, and nothing told; or nothing was printed, and want of memory told.
+/// Whether the explanation of these bytes was this, and nothing told; or nothing was printed, and lack of memory
+/// told.
 fn explains_or_wants_memory(alloc: Global, bytes: &[u8], status: u8, text: &str) -> bool {
     let mut out = Fixed::new();
     let mut err = Fixed::new();
@@ -32,7 +33,8 @@ const TEXT: &str =
 
 const USAGE: &str = "usage: rfx-explain FILE\n";
 
-/// Words that are no text are another command line; memory is told where it was refused, for the words or for a file.
+/// Words that are no text are another command line; memory is reported where it was refused, for the words or for a
+/// file.
 #[test]
 fn refused_words_and_files_are_told(rt: HostRuntime) {
     let no_text = Err(io::Error::from(ErrorKind::InvalidData));
@@ -43,7 +45,7 @@ fn refused_words_and_files_are_told(rt: HostRuntime) {
     assert!(rt; answer_of(rt.alloc(), line, SCRIPT).is(1, "", "rfx-explain: out of memory\n"));
 }
 
-/// Whether an explanation that a writer with this room can't hold is told, and its beginning written.
+/// Whether an explanation that a writer with this room can't hold is reported, and its beginning written.
 fn is_told_of_room(alloc: Global, room: usize) -> bool {
     let mut out = Faulty::new(alloc, room, false);
     let mut err = Vec::new(alloc);
@@ -62,7 +64,7 @@ fn an_explanation_that_cannot_be_written_is_told(rt: HostRuntime) {
     }
 }
 
-/// What was written and isn't let go of is told; and a message that can't be written changes no status.
+/// What was written and isn't let go of is reported; and a message that can't be written changes no status.
 #[test]
 fn writers_that_fail_are_told(rt: HostRuntime) {
     let mut out = Faulty::stuck(rt.alloc());
@@ -73,13 +75,13 @@ fn writers_that_fail_are_told(rt: HostRuntime) {
     assert!(rt; err.held.as_slice() == "rfx-explain:".as_bytes());
 }
 
-/// Passes too where any one allocation fails: nothing is printed then, and want of memory is told.
+/// Passes too where any one allocation fails: nothing is printed then, and lack of memory is reported.
 #[test]
 fn memory_for_an_explanation(rt: HostRuntime) {
     assert!(rt; explains_or_wants_memory(rt.alloc(), SCRIPT, 1, TEXT));
 }
 
-/// Passes too where any one allocation fails: nothing is printed then, and want of memory is told.
+/// Passes too where any one allocation fails: nothing is printed then, and lack of memory is reported.
 #[test]
 fn memory_for_a_legal_trace(rt: HostRuntime) {
     assert!(rt;

@@ -134,7 +134,8 @@ fn nothing_is_written_over_the_history(rt: HostRuntime) {
     assert!(rt; shelf.made.get() == 0);
 }
 
-/// Words that are no text are another command line; memory is told where it was refused, for the words or for a file.
+/// Words that are no text are another command line; memory is reported where it was refused, for the words or for a
+/// file.
 #[test]
 fn refused_words_and_files_are_told(rt: HostRuntime) {
     let shelf = Shelf::new(rt.alloc(), "");
@@ -148,7 +149,7 @@ fn refused_words_and_files_are_told(rt: HostRuntime) {
     );
 }
 
-/// Whether a judgement that a writer with this room can't hold is told, and its beginning written.
+/// Whether a judgement that a writer with this room can't hold is reported, and its beginning written.
 fn is_told_of_room(alloc: Global, room: usize) -> bool {
     let mut out = Faulty::new(alloc, room, false);
     let mut err = Vec::new(alloc);

@@ -1,7 +1,7 @@
 //! Tests of the four programs where memory, readers or writers fail, and of what is written of traces and replies, by
-//! public calls alone. What the programs answer to files stands in cases/, and is compared by checks/answers.
+//! public calls alone. What the programs answer to files is in cases/, and is compared by checks/answers.
 //!
-//! They stand above the crates that they test, since a crate with tests of its own is proved a second time for them,
+//! They are above the crates that they test, since a crate with tests of its own is proved a second time for them,
 //! and that takes longer than its proof.
 #![tactic(auto)]
 

@@ -85,8 +85,8 @@ fn script_of(alloc: Global, length: usize) -> Result<Vec<u8>, AllocError> {
     Ok(script)
 }
 
-/// The length of a script, the status that it is answered, what is told of it, and how many of its bytes aren't read:
-/// of 65,536 all are, and one more is read of what is too long.
+/// The length of a script, the status that it is answered, what is reported of it, and how many of its bytes aren't
+/// read: of 65,536 all are, and one more is read of what is too long.
 static LENGTHS: [(usize, u8, &str, usize); 4] = [
     (65_535, 0, "", 0),
     (65_536, 0, "", 0),
@@ -160,7 +160,7 @@ fn a_text_that_cannot_be_written_is_told(rt: HostRuntime) {
     }
 }
 
-/// Passes too where any one allocation fails: nothing is printed then, and want of memory is told.
+/// Passes too where any one allocation fails: nothing is printed then, and lack of memory is reported.
 #[test]
 fn memory(rt: HostRuntime) {
     for (form, script, text) in &PRINTED {
@@ -212,7 +212,7 @@ static SERVED: [(Form<'static>, &str); 5] = [
     (Form::Check("f"), "trace 1 1 0\n1 return t1 OK\nend 1\n"),
 ];
 
-/// Whether a writer that keeps its bytes back is told as one that can't be written.
+/// Whether a writer that keeps its bytes back is reported as one that can't be written.
 fn is_told_as_kept_back(
     rt: &(impl AllocGlobal + Threads + Wait + Sync),
     form: &Form<'_>,

@@ -30,7 +30,7 @@ fn a_trace_that_is_too_long_is_told(rt: HostRuntime) {
     assert!(rt; input.limit() == 7);
 }
 
-/// A reader that fails at the end of a short trace, and one that fails behind many bytes.
+/// A reader that fails at the end of a short trace, and one that fails after many bytes.
 #[test]
 fn a_trace_that_cannot_be_read_is_told(rt: HostRuntime) {
     let cannot_read = "rfx: cannot read f\n";
@@ -40,7 +40,7 @@ fn a_trace_that_cannot_be_read_is_told(rt: HostRuntime) {
     assert!(rt; served(&rt, &Form::Check("f"), &mut long).is(1, "", cannot_read));
 }
 
-/// Passes too where any one allocation fails: nothing is printed then, and want of memory is told, of the reading
+/// Passes too where any one allocation fails: nothing is printed then, and lack of memory is reported, of the reading
 /// without a line.
 #[test]
 fn memory_for_a_trace(rt: HostRuntime) {
@@ -53,7 +53,7 @@ fn memory_for_a_trace(rt: HostRuntime) {
     assert!(rt; input.left.is_empty() || err.bytes() == OUT_OF_MEMORY.as_bytes());
 }
 
-/// The same where the memory for a later part fails, behind bytes that were read.
+/// The same where the memory for a later part fails, after bytes that were read.
 #[test]
 fn memory_for_a_trace_of_many_parts(rt: HostRuntime) {
     let mut rest = repeat(b'x').take(20_000);

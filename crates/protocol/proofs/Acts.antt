@@ -150,16 +150,16 @@ completed l (OnCondition (CondCall.Broadcast k)) op x is = absurd (cc is.1)
 
 -- ---- what a thread does from now on
 
--- with what its call did before, a life, and perhaps others behind it
+-- with what its call did before, a life, and perhaps others after it
 abbrev pub Doing : ℕ → Begun → List Act → List Fact → Type 0
 Doing t b ps fs = Lives t (Begin t b ∷ (made t b ps ++ fs))
 
--- behind its kill: the rest of that life, and perhaps its renewal and further lives
+-- after its kill: the rest of that life, and perhaps its renewal and further lives
 pub data AfterKill (t : ℕ) : List Fact → Type 0 where
   In_that_life : (fs : List Fact) → Mourned t fs → AfterKill t fs
   And_anew : (first later : List Fact) → Mourned t first → EndsReaped t first → Lives t later → AfterKill t (first ++ Renew t ∷ later)
 
--- behind its reaping: nothing, or its renewal and further lives
+-- after its reaping: nothing, or its renewal and further lives
 pub data AfterReaping (t : ℕ) : List Fact → Type 0 where
   Stays_reaped : AfterReaping t []
   Renewed_then : (later : List Fact) → Lives t later → AfterReaping t (Renew t ∷ later)

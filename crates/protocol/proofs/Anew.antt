@@ -29,7 +29,7 @@ first_word_is : (l : Layout') (counters : ℕ → ℕ) (t k : ℕ) → 1 ≤ t �
 first_word_is l counters t k pos known few = grind (arith, nat_tests)
 
 module _ (s : State) (t : ℕ) (inv : Kept s) (queued : Queued s) (pos : 1 ≤ t) (known : t ≤ s.layout.threads) (gone : (s.threads t).stage ≡ Reaped) where
-  -- a word that is none of the three stands before them or behind them
+  -- a word that isn't one of the three stands before them or after them
   out : (p : ℕ) → ((k : ℕ) → k < 3 → p ≢ head_place t + k) → (p < head_place t) ⊎ (head_place t + 3 ≤ p)
   out p apart = let none = apart 0 (omega arith) in let nor = apart 1 (omega arith) in let nor_third = apart 2 (omega arith) in grind (arith)
 
@@ -121,7 +121,7 @@ noted_none t s (Event.Expire u ∷ es) none = not_renewed_both t (facts_of (happ
 noted_none t s (Event.Decline u ∷ es) none = not_renewed_both t (facts_of (happens s (Event.Decline u)).note) _ (none_renewed t s (Event.Decline u) tt) (noted_none t (happens s (Event.Decline u)).state es none)
 noted_none t s (Event.Remake u m ∷ es) none = not_renewed_both t (facts_of (happens s (Event.Remake u m)).note) _ (none_renewed t s (Event.Remake u m) tt) (noted_none t (happens s (Event.Remake u m)).state es none)
 
--- behind any of the events too
+-- after any of the events too
 behind_none : (before after : List Event) (e : Event) → IsNoRenewing e → NobodyIsRenewed (before ++ e ∷ after) → NobodyIsRenewed after
 behind_none [] after (Event.Renew t) other none = absurd other
 behind_none [] after (Event.Begin t o) other none = none

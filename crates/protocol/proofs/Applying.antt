@@ -70,7 +70,7 @@ told_after-append : (t : ℕ) (w : Told) (fs gs : List Fact) → told_after t w 
 told_after-append t w [] gs = refl
 told_after-append t w (f ∷ fs) gs = told_after-append t (told_next t w f) fs gs
 
--- nothing is told by wakes and moves
+-- nothing is recorded by wakes and moves
 told_sleep : (t u : ℕ) (w : Told) (f : Fact) → IsOfSleep u f → told_next t w f ≡ w
 told_sleep t u w f of = grind (arith)
 

@@ -6,7 +6,7 @@ use Rattle.protocol.proofs.Seeing.{head_in, words_in}
 use Rattle.protocol.proofs.Kept.{InPhase, Fits, Serves, Sits, left_out_in, Owned, ChainedIn, Listed, pending_in, PendsAs}
 use Rattle.protocol.proofs.Steps.{done}
 
--- the call has returned, or stands there rightly
+-- the call has returned, or is there rightly
 abbrev pub Arrives : ℕ → ℕ → Whole → Phase → Object → Type 0
 Arrives t held p (Ended x) o = Unit {0}
 Arrives t held p (Announcing r) o = InPhase t held p (Announcing r) o

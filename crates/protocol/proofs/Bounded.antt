@@ -1,4 +1,4 @@
--- Calls that never wait return within so many steps of their thread.
+-- Calls that never wait return within this many steps of their thread.
 use Rattle.std.proofs.Common.{◌≡◌, ◌≢◌, ◌⊎◌, ⊎_elim, inl, inr, ℕ, suc, ◌+◌, ◌-◌, ◌<◌, ◌≤◌, ◌==◌, ◌&&◌, Bool, true, false, Option, Some, None, Result, Ok, Err, List, [], ◌∷◌, ◌++◌, refl, sym, ap, ◌∙◌, subst, arith}
 use Rattle.protocol.proofs.Vocabulary.{CondCall, CondRow, CondPhase, CondWhole, cond_access, cond_led, condition_of, BroadcastRow, SignalRow, Queue, Mutex, Condition, Fact, Return, Decision, Object, Operation, Fields, Layout'}
 use Rattle.protocol.proofs.Vocabulary.{Answer, Fault, Trimmed, Reply, XHELD, Phase, AtCell, Linking, Clearing, Whole, whole_access, whole_led, TryLockRow, UnlockRow, ConsistentRow, TryLock, Consistent}
@@ -89,7 +89,7 @@ cond_falls t held op p f a w stands never = absurd stands
 
 -- ---- where a call stands that never waits
 
--- with so many accesses left at most
+-- with this many accesses left at most
 abbrev Within : ℕ → Stage → Type 0
 Within n (Calling o p) = NeverWaits (operation_of o) × (of_phase p.phase ≤ n)
 Within n (AtCondition c p) = NeverWaits (conditions.acts_as c) × (left_at_phase p.phase ≤ n)
@@ -116,7 +116,7 @@ more_left n k (AtCondition c p) more h = (h.0, let few = h.1 in omega (arith, mo
 more_left n k (Stage.Dying w) more h = h
 more_left n k Stage.Reaped more h = h
 
--- its return is told, whatever is told behind it
+-- its return is recorded, whatever is recorded after it
 abbrev TellsReturn : ℕ → After → Type 0
 TellsReturn t a = (x : Reply) × ((rest : List Fact) → IsAmong (Return t x) (facts_of a.note ++ rest))
 

@@ -1,4 +1,4 @@
--- A sleep is told only of a thread in a lock or a wait.
+-- A sleep is recorded only of a thread in a lock or a wait.
 use Rattle.std.proofs.Common.{◌≡◌, ⊎_elim, ℕ, ◌≤◌, ◌&&◌, Bool, true, false, Option, Some, Ok, Err, [], ◌∷◌, refl, sym, ap, ◌∙◌, subst, arith}
 use Rattle.protocol.proofs.Vocabulary.{CondCall, CondWhole, condition_of, cond_access, Queue, Mutex, Condition, Fact, Begun, Object, Operation, Layout', XHELD, Phase, Whole, whole_access}
 use Rattle.protocol.proofs.Vocabulary.{Op, OnCondition, mutex_of, begun_of, Event, Stage, Calling, AtCondition, State, After, place_met, is_met, sleeps_at, slept_in, facts_of, begun, happens, falls_asleep, seen, if◌then◌else◌}

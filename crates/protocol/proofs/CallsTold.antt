@@ -1,4 +1,4 @@
--- A thread that is in a call is in the one whose begin was told last.
+-- A thread that is in a call is in the one whose begin was recorded last.
 use Rattle.std.proofs.Common.{◌≡◌, ◌≢◌, ⊎_elim, ℕ, ◌==◌, Bool, true, false, Option, Some, None, Ok, Err, List, [], ◌∷◌, refl, sym, ap, ◌∙◌, subst, arith, eq-eqb}
 use Rattle.protocol.proofs.Vocabulary.{Begun, CondCall, CondPhase, CondWhole, cond_access, cond_led, Layout', Mutex, Condition, XHELD, Trimmed, Count, Phase, Whole, whole_access, whole_led, Call, Op, OnMutex, OnCondition}
 use Rattle.protocol.proofs.Vocabulary.{Limit, Past}
@@ -42,12 +42,12 @@ mine u t x y is = ap (λ (b : Bool). if b then x else y) (eq-eqb u t (sym is))
 theirs : (u t : ℕ) (x y : Option Begun) → t ≢ u → (if u == t then x else y) ≡ y
 theirs u t x y apart = grind (arith)
 
--- before an event of thread u this was told of thread t
+-- before an event of thread u this was recorded of thread t
 module _ (s : State) (u t : ℕ) (b : Option Begun) (h : IsTold s.layout (s.threads t).stage b) where
   abbrev At : Stage → Option Begun → Type 0
   At g x = IsTold s.layout g x
 
-  -- where no call is told as begun, the thread stays in its own
+  -- where no call is recorded as begun, the thread stays in its own
   stays : (z : Thread) → (At (s.threads u).stage b → At z.stage b) → At (put s.threads u z t).stage b
   stays z on = by_put (λ (y : Thread). At y.stage b) s.threads u z t (λ is. on (subst (λ (v : ℕ). At (s.threads v).stage b) is h)) (λ apart. h)
 

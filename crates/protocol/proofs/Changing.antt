@@ -130,7 +130,7 @@ walk_queue t h (walk.Mark at v again rest) w q = inl refl
 walk_queue t h (walk.WakeOne at rest) w q = inr (at, rest, refl)
 walk_queue t h walk.Ended w q = inl refl
 
--- the queues behind an access
+-- the queues after an access
 abbrev queues_then : State → ℕ → Access → ℕ → List ℕ
 queues_then s t a = joined s.layout t a (moved_by a (s.words (place_met s.layout t a)) (s.queues (place_met s.layout t a))) (put s.queues (place_met s.layout t a) (queue_after t a (s.words (place_met s.layout t a)) (s.queues (place_met s.layout t a))))
 

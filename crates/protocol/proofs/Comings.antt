@@ -20,7 +20,8 @@ among_step t m y z d k ws ms x rest =
     of_access (λ (fs : List Fact). IsAmong (Return y z) (fs ++ rest) → (x ≡ Some z) ⊎ IsAmong (Return y z) rest) t m d k ws ms x
     (λ e fs later. ⊎_elim (λ same. absurd (cc same)) later) (λ f of fs later. ⊎_elim (λ same. absurd (subst (IsOfSleep t) same of)) later) (among_return t y z x rest)
 
--- ---- a call of thread t on mutex m, which held so many mutexes when that was this object; where it sleeps, this holds
+-- ---- a call of thread t on mutex m, which held this many mutexes when that was this object; where it sleeps, this
+-- holds
 module _ (t held m : ℕ) (op : Operation) (o : Object) (Rest : State → Type 0) where
   -- what it comes to after n steps
   pub record Comes (s : State) (n : ℕ) : Type 0 where

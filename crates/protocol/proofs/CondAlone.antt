@@ -21,7 +21,7 @@ use Rattle.protocol.proofs.OwnWords.{own_seen, own_counter}
 use Rattle.protocol.proofs.CondAccesses.{IsBefore, Nears, by_access, cond_sleeps, cond_stepping}
 use Rattle.protocol.proofs.Comings.{ComesBack, at_first, takes_step}
 
--- a call of thread t, which held so many mutexes when its mutex was this object
+-- a call of thread t, which held this many mutexes when its mutex was this object
 module _ (t held : ℕ) (o : Object) where
   -- it is the consistent mutex's owner
   abbrev pub IsIts : Type 0

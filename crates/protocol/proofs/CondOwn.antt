@@ -128,7 +128,7 @@ module _ (s : State) (t : ℕ) (c : CondCall) (inv : Kept s) (pos : 1 ≤ t) (kn
         fewer = let less = leaving.falls s t th inv pos known m fits.inside entry refl r fits.stands.3 es owned ch in omega arith;
       }
 
-      -- what holds of an unlink that goes on, and of the release behind it, holds where it leads
+      -- what holds of an unlink that goes on, and of the release after it, holds where it leads
       pub then_at : (P : CondPhase → Type 0) → (UnlinkGoes to_row → P (CondPhase.Unlinking (standing to_row) x)) → (IsChainBothWays (view out_state.words) head (without entry es) → P (CondPhase.AtWords (CondRow.Wait (WaitRow.Release x)))) → P (unlinked_at (standing to_row) to_row x)
       then_at P on out =
           leaving.by_row s t th inv pos known m fits.inside entry refl r fits.stands.3 es owned ch (λ (q : UnlinkRow). P (unlinked_at (standing to_row) q x))

@@ -40,7 +40,8 @@ move_or t cell counter r = grind (arith)
 
 -- ---- the next row
 
--- so many accesses are left at most where the call goes on there: a wait that is to release leaves its list first, and one that is awake locks
+-- this many accesses are left at most where the call goes on there: a wait that is to release leaves its list first,
+-- and one that is awake locks
 abbrev pub left_next : CondRow → ℕ
 left_next (Wait (WaitRow.Release seen)) = 75
 left_next Awake = 62

@@ -29,7 +29,7 @@ use Rattle.lockword.specs.Threads.{most_threads}
 abbrev pub cond_of : Layout' → ℕ → CondCall → CondPhase → CondWhole
 cond_of l t c f = record (begins l t c) { phase = f }
 
--- so many accesses are left at most of a row
+-- this many accesses are left at most of a row
 few_of_row : (r : CondRow) → left_of_row r ≤ 9000
 few_of_row r = grind (arith)
 

@@ -83,7 +83,8 @@ module _ (s : State) (t : ℕ) (c : CondCall) where
 
 -- ---- what a call knows of its counter
 
--- of a counter of this value: a wait has seen no more; a signal and a broadcast that are to count know that it isn't full, and a broadcast what it is before and behind its count
+-- of a counter of this value: a wait has seen no more; a signal and a broadcast that are to count know that it isn't
+-- full, and a broadcast what it is before and after its count
 abbrev pub KnowsCount : ℕ → CondRow → Type 0
 KnowsCount n (Wait (WaitRow.Release seen)) = seen ≤ n
 KnowsCount n (Wait (WaitRow.Wake seen)) = seen ≤ n
@@ -151,7 +152,7 @@ module _ (s : State) (t : ℕ) (s' : State) (inv : Kept s) (counted : Counted s)
       (λ up. let counts = up.0 in let room = up.1 in omega arith)
       (g.rises k)
 
-  -- what another knows of a counter it knows of it behind the event: that rose only where its mutex is thread t's
+  -- what another knows of a counter it knows of it after the event: that rose only where its mutex is thread t's
   still_in : (u h : ℕ) → u ≢ t → (z : Stage) → Sits s u h z → KnowsIn s.layout s.words z → KnowsIn s.layout s'.words z
   still_in u h apart Idle sits knows = tt
   still_in u h apart (Calling o p) sits knows = tt

@@ -1,4 +1,4 @@
--- How often a thread's death is told.
+-- How often a thread's death is recorded.
 use Rattle.std.proofs.Common.{eqb-true, ◌≡◌, ◌≢◌, ◌⊎◌, inl, inr, ℕ, ◌+◌, ◌≤◌, ◌==◌, Bool, true, false, ◌&&◌, Option, Some, None, List, [], ◌∷◌, ◌++◌, map, refl, sym, ap, ◌∙◌, subst, arith}
 use Rattle.protocol.proofs.Vocabulary.{Call, OnMutex}
 use Rattle.protocol.proofs.Declines.{spared_is}
@@ -36,7 +36,7 @@ use Rattle.protocol.proofs.Sparing.{spare_is}
 
 -- ---- renewals
 
--- a renewal is told neither by the one facts nor by the others
+-- a renewal is recorded neither by the one facts nor by the others
 pub not_renewed_apart : (t : ℕ) (fs gs : List Fact) → IsNotRenewed t (fs ++ gs) → IsNotRenewed t fs × IsNotRenewed t gs
 not_renewed_apart t [] gs none = (tt, none)
 not_renewed_apart t (Renew u ∷ fs) gs none = let rest = not_renewed_apart t fs gs none.1 in ((none.0, rest.0), rest.1)
@@ -76,7 +76,7 @@ told_once t m u k d o n none elsewhere theirs its = go (u == t) refl (k == m) re
 
 -- ---- one event, of a thread t that died before it
 module _ (t m : ℕ) where
-  -- its death is told exactly where it loses the mutex
+  -- its death is recorded exactly where it loses the mutex
   abbrev Lost : State → After → Type 0
   Lost s a = deaths t m (facts_of a.note) + one t (seen a.state m) ≡ one t (seen s m)
 
@@ -142,7 +142,7 @@ module _ (t m : ℕ) where
         begun_lost u o true = omega arith
         begun_lost u o false = omega arith
 
-        -- a mutex that is made anew was nobody's, and is
+        -- a mutex that is reinitialised was nobody's, and is
         reinit_counts : (u k w : ℕ) (says : Says_nothing w) (may : MayRemake s u k) → one t (seen (reinited s u k w).state m) ≡ one t (seen s m)
         reinit_counts u k w says may =
             at_or_else (λ (j : ℕ). one t (seen (reinited s u k w).state j) ≡ one t (seen s j)) k m

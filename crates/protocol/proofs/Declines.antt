@@ -23,7 +23,7 @@ use Rattle.protocol.proofs.Cases.{at_or_else}
 
 -- a thread that is about to trim in its unlock
 module _ (s : State) (t : ℕ) (o : Op) (p : Whole) (is : (s.threads t).stage ≡ Calling o p) (trims : IsTrimming p) where
-  -- as it stands behind that
+  -- as it stands after that
   abbrev pub behind : Thread
   behind = record { stage = Calling o (record p { phase = Clearing OK }); held = (s.threads t).held }
 

@@ -40,7 +40,7 @@ use Rattle.lockword.specs.Threads.{most_threads}
 
 -- ---- queues are short
 
--- whoever stands there stood there once
+-- whoever is there was there once
 one_less : (t : ℕ) (q : List ℕ) → Once q → length q ≤ suc (length (without t q))
 one_less t [] once = omega arith
 one_less t (u ∷ us) once = go (u == t) refl (one_less t us once.1)

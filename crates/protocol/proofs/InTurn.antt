@@ -1,4 +1,5 @@
--- In each queue threads stand in the order in which they came, as the trace tells it, and the front is woken or moved first.
+-- In each queue threads are in the order in which they came, as the trace tells it, and the front is woken or moved
+-- first.
 use Rattle.std.proofs.Common.{◌≡◌, ◌≢◌, ⊎_elim, ℕ, ◌%◌, ◌^◌, ◌<◌, ◌≤◌, ◌==◌, Bool, true, false, Option, Some, None, Ok, Err, List, [], ◌∷◌, ◌++◌, map, length, take, drop, refl, sym, ap, ◌∙◌, subst, arith, eq-eqb, eqb-true, append-nil}
 use Rattle.protocol.proofs.Vocabulary.{Call, Expired}
 use Rattle.protocol.proofs.Vocabulary.{Access, Queue, Mutex, Condition, Fact, Decision, Layout', cell_place, counter_place, sleeps_at, Reply, XHELD, OnMutex, OnCondition, Op, Whole, Event, Note, Stepped}
@@ -66,7 +67,7 @@ by_queue P q r same apart = go (is_queue q r) refl
 pub same_queue : (l : Layout') (q r : Queue) → IsQueue l q → IsQueue l r → queue_place l q ≡ queue_place l r → q ≡ r
 same_queue l q r inside below place = grind (arith)
 
--- whoever came first and stands there once leaves the others
+-- whoever came first and is there once leaves the others
 first_leaves : (x : ℕ) (us : List ℕ) → stands_in x us ≡ false → without x (x ∷ us) ≡ us
 first_leaves x us out = ap (λ (b : Bool). if not b then x ∷ without x us else without x us) (this x) ∙ without_same x us out
 
@@ -121,7 +122,7 @@ pub record Stands (l : Layout') (w : Queue → List ℕ) (k : Queue) (these rest
   pub once : Once (these ++ rest)
   pub alone : (x : ℕ) → stands_in x these ≡ true → (r : Queue) → r ≢ k → IsQueue l r → stands_in x (w r) ≡ false
 
--- who stands behind the first stands there
+-- who stands after the first is there
 behind : (x y : ℕ) (xs : List ℕ) → stands_in y xs ≡ true → stands_in y (x ∷ xs) ≡ true
 behind x y xs h = go (x == y)
   where
@@ -222,7 +223,7 @@ AsTold l qs w = (q : Queue) → IsQueue l q → qs (queue_place l q) ≡ w q
 abbrev pub TellsOn : Layout' → (ℕ → List ℕ) → (Queue → List ℕ) → List Fact → Type 0
 TellsOn l qs w fs = AsTold l qs (queues_after w fs) × NameFronts l w fs
 
--- whoever stands in a queue stands in one of the layout's
+-- whoever stands in a queue is in one of the layout's
 pub placed : (s : State) (key t : ℕ) → Kept s → Queued s → stands_in t (s.queues key) ≡ true → (q : Queue) × IsQueue s.layout q × (key ≡ queue_place s.layout q)
 placed s key t inv queued stands = let slept = queued.sleeps key t stands in go slept.0 slept.1 (s.threads t).stage refl slept.2
   where
@@ -255,7 +256,7 @@ module _ (s : State) (inv : Kept s) (queued : Queued s) where
       nowhere x h r apart below true there = absurd (apart (same_queue s.layout r k below inside (queued.one x (queue_place s.layout r) (queue_place s.layout k) there (here x h))))
       nowhere x h r apart below false there = refl
 
-  -- nothing is told, and nothing changes
+  -- nothing is recorded, and nothing changes
   tells_none : (qs : ℕ → List ℕ) (w : Queue → List ℕ) → ((key : ℕ) → qs key ≡ s.queues key) → AsTold s.layout s.queues w → TellsOn s.layout qs w []
   tells_none qs w same said = ((λ q inside. same (queue_place s.layout q) ∙ said q inside), tt)
 

@@ -32,7 +32,8 @@ view_of s t = words_in s.layout t s.words
 
 -- ---- calls in progress
 
--- a call of thread t, which owns so many mutexes, at or before row r of its mutex's cell: the mutex, as an object, is as the row expects
+-- a call of thread t, which owns this many mutexes, at or before row r of its mutex's cell: the mutex, as an object,
+-- is as the row expects
 pub record AtRow (t held : ℕ) (op : Operation) (r : Row) (o : Object) : Type 0 where
   pub going : IsGoing r
   pub knows : Knows r
@@ -153,7 +154,7 @@ left_out l (Calling o p) = left_out_in (mutex_of l o) p.phase
 left_out l (AtCondition c p) = left_out_at (mutex_of l (OnCondition c)) p.phase
 left_out l g = None
 
--- the entries are those of the mutexes that thread t owns, but for this one, by their addresses in its process
+-- the entries are those of the mutexes that thread t owns, except for this one, by their addresses in its process
 pub record Owned (s : State) (t : ℕ) (out : Option ℕ) (es : List ℕ) : Type 0 where
   pub entries : (x : ℕ) → IsAmong x es → (k : ℕ) × (k < s.layout.mutexes) × (x ≡ entry_in s.layout t k) × ((seen s k).owner ≡ Some t) × (out ≢ Some k)
   pub all : (k : ℕ) → k < s.layout.mutexes → (seen s k).owner ≡ Some t → out ≢ Some k → IsAmong (entry_in s.layout t k) es
@@ -185,11 +186,11 @@ pub record Left (s : State) (t e p : ℕ) (es : List ℕ) (treated : Option ℕ)
   pub all : (k : ℕ) → k < s.layout.mutexes → (seen s k).owner ≡ Some t → IsAmong (entry_in s.layout t k) es ⊎ ((p ≡ entry_in s.layout t k) ⊎ (treated ≡ Some k))
   pub pending : (p ≡ 0) ⊎ (k : ℕ) × (k < s.layout.mutexes) × (p ≡ entry_in s.layout t k)
 
--- the rest of a walk, after so many entries
+-- the rest of a walk, after this many entries
 abbrev pub LeftOf : State → ℕ → walk_rest.Rest → Option ℕ → Type 0
 LeftOf s t r treated = (es : List ℕ) × Left s t r.entry r.pending es treated × (r.offset ≡ 18446744073709551615) × (length es + r.loaded ≤ 2048)
 
--- behind the list only the pending mutex is left
+-- after the list only the pending mutex is left
 abbrev pub LeftIn : State → ℕ → walk_part.Part → Option ℕ → Type 0
 LeftIn s t (Part.List r) treated = LeftOf s t r treated
 LeftIn s t Part.Pending treated = (k : ℕ) → k < s.layout.mutexes → (seen s k).owner ≡ Some t → treated ≡ Some k
@@ -255,7 +256,8 @@ PendsAs w (Calling o p) = w ≡ pending_in p.entry p.phase
 PendsAs w (AtCondition c p) = w ≡ pending_at p.entry p.phase
 PendsAs w g = Unit {0}
 
--- a thread's head has the offset from an entry to its cell, and its pending entry; and it owns so many mutexes at most
+-- a thread's head has the offset from an entry to its cell, and its pending entry; and it owns this many mutexes at
+-- most
 pub record HasHead (s : State) (t : ℕ) : Type 0 where
   pub offset : s.words (head_place t + 1) ≡ 18446744073709551615
   pub pending : PendsAs (s.words (head_place t + 2)) (s.threads t).stage

@@ -234,7 +234,7 @@ replies_so (CondCall.Wait k) y late is timely = ((λ e. absurd (timely e)), (λ 
 replies_so (CondCall.Signal k) y late is timely = ((λ e. absurd (timely e)), (λ e. turned_back late is))
 replies_so (CondCall.Broadcast k) y late is timely = ((λ e. absurd (timely e)), (λ e. turned_back late is))
 
--- no lock of a mutex is told as a wait
+-- no lock of a mutex is recorded as a wait
 no_wait : (c : Call) → mutex.operation_of c ≢ Operation.TimedWait
 no_wait (Call.Lock m) e = cc e
 no_wait (Call.TimedLock m) e = cc e

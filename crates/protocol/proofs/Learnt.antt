@@ -190,7 +190,7 @@ module _ (s : State) (t : ℕ) (c : Op) (p : Whole) (inv : Kept s) (pos : 1 ≤ 
 before_awake : (p : CondWhole) (seen : ℕ) (f : CondPhase) (at n : ℕ) → IsBefore seen f → condition.phase_access p f ≢ Access.Wake at n
 before_awake p seen f at n is = grind (arith)
 
--- behind which row it is to wake
+-- after which row it is to wake
 wakes_behind : (t cell counter w n : ℕ) (r : CondRow) (x : Option Decided) → (cond_rows.resume_of t r (answer_at (cond_rows.row_access t cell counter r) (met_word r w n))).decided ≡ x → IsGoing r
     → (b : Bool) (at k : ℕ) → cond_wakes.Wakes cell counter x b at k
     → ((cond_laws.row_operation r ≡ Operation.Signal) × (at ≡ counter) × (k ≡ 1) × ((d : Decided) × (x ≡ Some d))) ⊎ ((cond_laws.row_operation r ≡ Operation.Wait) × (at ≡ cell) × (k ≡ 1) × ((d : Decided) × (x ≡ Some d) × (d.operation ≡ Operation.Unlock) × (d.reply ≡ OK)) × ((seen : ℕ) × (r ≡ CondRow.Wait (WaitRow.Release seen))))
@@ -350,7 +350,7 @@ kill_teaches s u = record {
 leave_teaches : (s : State) (u : ℕ) → Teaches s u (departed s u)
 leave_teaches s u = record { layout = refl; own = λ b o h. h; theirs = λ t apart. refl; others = λ t b o apart. (refl, refl) }
 
--- behind a trim no wake comes next
+-- after a trim no wake comes next
 decline_teaches : (s : State) (u : ℕ) (c : Op) (p : Whole) (is : (s.threads u).stage ≡ Calling c p) (trims : IsTrimming p) → Teaches s u (record { state = declined_state s u c p is trims; note = quiet s u c p is trims })
 decline_teaches s u c p is trims = record {
   layout = refl;
@@ -362,7 +362,7 @@ decline_teaches s u c p is trims = record {
     learns : (b : Option Begun) (o : Option Object) → Learnt s.layout (Calling c p) b o → Learnt s.layout (Calling c (record p { phase = Clearing OK })) b o
     learns b o h = (h.0, tt, λ at n e. absurd cc)
 
--- nor behind a wake that is spared
+-- nor after a wake that is spared
 spare_teaches : (s : State) (u m : ℕ) (g : Led) (sp : Sparing s u m g) → Teaches s u (record { state = spared_state s u m g sp.how; note = unwoken u m })
 spare_teaches s u m g sp = record {
   layout = refl;
@@ -381,7 +381,7 @@ spare_teaches s u m g sp = record {
     learns (Of_unlock c p is mutex at leads) b o h = unlocks c p b o (subst (λ (z : Stage). Learnt s.layout z b o) is h)
     learns (Of_wait c p x is mutex at leads) b o h = waits c p x b o (subst (λ (z : Stage). Learnt s.layout z b o) is h)
 
--- a thread that lives anew is in no call
+-- a thread that lives again is in no call
 renew_teaches : (s : State) (u : ℕ) → 1 ≤ u → u ≤ s.layout.threads → Teaches s u (renewed s u)
 renew_teaches s u pos known = record {
   layout = refl;
@@ -397,7 +397,7 @@ of_another {A} u t x y apart = go (u == t) refl
     go true e = absurd (apart (eqb-true u t e))
     go false e = refl
 
--- nor is one that made a mutex anew
+-- nor is one that reinitialised a mutex
 reinit_teaches : (s : State) (u m w : ℕ) → (s.threads u).stage ≡ Idle → Teaches s u (reinited s u m w)
 reinit_teaches s u m w idle = record {
   layout = refl;
@@ -406,7 +406,7 @@ reinit_teaches s u m w idle = record {
   others = λ t b o apart. (of_another u t (Some (reinit_of m)) b apart, of_another u t (Some (seen (reinited s u m w).state m)) (if u == t then None else o) apart ∙ of_another u t None o apart);
 }
 
--- behind a time limit that came
+-- after a time limit that came
 expire_teaches : (s : State) (u m : ℕ) (p : Whole) → (s.threads u).stage ≡ Calling (OnMutex (Call.TimedLock m)) p → Teaches s u (lapsed s u (s.threads u).held (OnMutex (Call.TimedLock m)) p)
 expire_teaches s u m p is = record {
   layout = refl;

@@ -1,4 +1,4 @@
--- In which order the facts of an event, and those of one event after the other, are told.
+-- In which order the facts of an event, and those of one event after the other, are recorded.
 use Rattle.std.proofs.Common.{◌≡◌, ℕ, ◌+◌, ◌≤◌, Bool, true, false, Option, Some, None, List, [], ◌∷◌, ◌++◌, map, refl, sym, ◌∙◌, arith}
 use Rattle.protocol.proofs.Vocabulary.{Expired}
 use Rattle.protocol.proofs.Vocabulary.{Condition, Mutex}
@@ -11,7 +11,7 @@ use Rattle.facts.specs.Orders.{Later, Each, Orderly}
 use Rattle.protocol.specs.Explained.{is_begin, is_last, decides_first, Within, AreWithin}
 use Rattle.protocol.proofs.NoteFacts.{IsOfSleep, behind_woken, behind_point, of_access, of_walk}
 
--- ---- which facts one event may tell, of thread u: no two points, and but for wakes nothing of others
+-- ---- which facts one event may tell, of thread u: no two points, and except for wakes nothing of others
 abbrev pub NoPoint : List Fact → Type 0
 NoPoint [] = Unit {0}
 NoPoint (f ∷ fs) = (decides f ≡ false) × NoPoint fs
@@ -54,7 +54,7 @@ pub walked_fine : (u : ℕ) (d : Option ℕ) (ws : List ℕ) (y : Bool) → Fine
 walked_fine u None ws y = reaped_fine u ws y
 walked_fine u (Some m) ws y = ((λ e. refl), (λ e. reaped_pointless u ws y), reaped_fine u ws y)
 
--- ---- a kill is told alone
+-- ---- a kill is recorded alone
 abbrev pub NoKill : List Fact → Type 0
 NoKill [] = Unit {0}
 NoKill (f ∷ fs) = (is_kill f ≡ false) × NoKill fs
@@ -97,7 +97,7 @@ walked_no_kill u d ws y = of_walk NoKill u d ws y (λ m fs rest. (refl, rest)) (
 
 -- ---- the order of lines
 
--- the line's event is one of these, of which the first has number i, and but for a wake it is its thread's
+-- the line's event is one of these, of which the first has number i, and except for a wake it is its thread's
 abbrev pub Called : ℕ → List Event → Line → Type 0
 Called i es l = (i ≤ l.event) × (is_passive l.fact ≡ false → thread_of l.fact ≡ caller_of i es l.event)
 
@@ -167,12 +167,12 @@ abbrev Plain : List Fact → Type 0
 Plain [] = Unit {0}
 Plain (f ∷ fs) = (is_begin f ≡ false) × (decides_first f ≡ false) × (is_renewal f ≡ false) × Plain fs
 
--- they may stand behind whatever isn't the last, and no renewal
+-- they may be after whatever isn't the last, and no renewal
 behind : (f : Fact) → is_last f ≡ false → is_renewal f ≡ false → (fs : List Fact) → Plain fs → Inside f fs
 behind f goes_on old [] plain = tt
 behind f goes_on old (g ∷ gs) plain = (plain.0, goes_on, (λ e. plain.1), (old, plain.2), behind f goes_on old gs plain.3)
 
--- facts, one behind the other, that are no last ones, and before a last one
+-- facts, one after the other, that are no last ones, and before a last one
 abbrev Ordered : List Fact → Type 0
 Ordered fs = Plain fs × AreInside fs
 

@@ -132,7 +132,7 @@ calls_of (Expired t (Mutex m)) = point_by t m Operation.TimedLock ETIMEDOUT ∷ 
 calls_of (Expired t (Condition k)) = []
 calls_of n = facts_of n
 
--- who sleeps, who is woken and who is moved is told of no call
+-- who sleeps, who is woken and who is moved is recorded of no call
 sleep_own : (t i u : ℕ) (f : Fact) (ls : List Line) → IsOfSleep u f → own t (line_of i f ∷ ls) ≡ own t ls
 sleep_own t i u f ls of = grind (arith)
 
@@ -158,7 +158,7 @@ own-calls t i (Stepped u m None z ws ms y) ls = slept_own t i u m z ws ms y ls
 own-calls t i (Stepped u m (Some d) z ws ms y) ls = ap (λ (v : List Fact). if d.thread == t then Point d ∷ v else v) (slept_own t i u m z ws ms y ls)
 
 -- what one event tells: nothing; that its thread began a call, or was answered at once; that it decided something, or
--- returned, or both; that it died; of its death; or that it lives anew
+-- returned, or both; that it died; of its death; or that it lives again
 data Says (t : ℕ) : List Fact → Type 0 where
   nothing_new : Says t []
   begins_one : (b : Begun) → Says t (Begin t b ∷ [])
@@ -337,7 +337,7 @@ expires_so s u m p is none = record {
   others = λ t apart. ap (λ (z : Thread). z.stage) (put-other s.threads u _ t (λ same. apart (sym same)));
 }
 
--- so does that of a wait: it is told of no call
+-- so does that of a wait: it is recorded of no call
 oversleeps_so : (s : State) (u k : ℕ) (x : Limit) (p : Whole) → (s.threads u).stage ≡ Calling (OnCondition (CondCall.TimedWait k x)) p → Adds s u (overslept s u (s.threads u).held k p)
 oversleeps_so s u k x p is = record {
   fine = ((λ e. refl), (λ e. tt), tt);
@@ -384,7 +384,7 @@ spares_so s u m g sp = record {
     before (Of_wait c p x is mutex at leads) ls later =
         subst (λ (z : Stage). Goes s.layout u z (own u ls)) (sym is) (subst (λ (f : CondPhase). Goes s.layout u (AtCondition c (record p { phase = f })) (own u ls)) (sym at) (waits c p x (own u ls) later))
 
--- its death is told of, and it is reaped
+-- its death is recorded, and it is reaped
 mourned_on : (l : Layout') (u i : ℕ) (w : walks.Standing) (d : Option ℕ) (r : walk_row.Row) (ls : List Line) → Goes l u (stage_walked w r) (own u ls) → AfterKill u (own u (map (line_of i) (death_facts u d ++ reap_facts u (has_ended r)) ++ ls))
 mourned_on l u i w d r ls later = go d (has_ended r) (at_end r later)
   where
@@ -409,7 +409,7 @@ walks_on s u inv pos known w is = record {
   others = λ t apart. ap (λ (z : Thread). z.stage) (put-other s.threads u _ t (λ same. apart (sym same)));
 }
 
--- it lives anew
+-- it lives again
 renews_so : (s : State) (u : ℕ) → 1 ≤ u → u ≤ s.layout.threads → (s.threads u).stage ≡ Reaped → Adds s u (renewed s u)
 renews_so s u pos known gone = record {
   fine = ((λ e. refl), (λ e. tt), tt);
@@ -421,7 +421,7 @@ renews_so s u pos known gone = record {
   others = λ t apart. ap (λ (z : Thread). z.stage) (renewed_other s u pos known t (λ same. apart (sym same)));
 }
 
--- it makes a mutex anew, in a call of this one event
+-- it reinitialises a mutex, in a call of this one event
 reinits_so : (s : State) (u m w : ℕ) → (s.threads u).stage ≡ Idle → Adds s u (reinited s u m w)
 reinits_so s u m w idle = record {
   fine = ((λ e. refl), (λ e. absurd cc), ((λ e. refl), (λ e. (refl, tt)), ((λ e. refl), (λ e. tt), tt)));

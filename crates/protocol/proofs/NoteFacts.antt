@@ -21,7 +21,7 @@ pub behind_moved : (P : List Fact → Type 0) (m : ℕ) (ms : List ℕ) (rest : 
 behind_moved P m [] rest keeps h = h
 behind_moved P m (v ∷ vs) rest keeps h = keeps v (map (moves_to m) vs ++ rest) (behind_moved P m vs rest keeps h)
 
--- behind an access's point: what it returns, and before that who sleeps, and who is woken or moved
+-- after an access's point: what it returns, and before that who sleeps, and who is woken or moved
 pub behind_point : (P : List Fact → Type 0) (u m : ℕ) (k : Option Queue) (ws ms : List ℕ) (rest : List Fact)
     → ((f : Fact) → IsOfSleep u f → Keeps P f) → P rest → P (sleep_facts u k ++ (map Fact.Wake ws ++ (map (moves_to m) ms ++ rest)))
 behind_point P u m k ws ms rest keeps h = go k (behind_woken P ws (map (moves_to m) ms ++ rest) (λ w. keeps (Fact.Wake w) tt) (behind_moved P m ms rest (λ v. keeps (Fact.Move v m) tt) h))

@@ -1,4 +1,4 @@
--- Who owns a mutex after an access of a call to its cell, and whether it is left out of its owner's list.
+-- Which thread owns a mutex after an access of a call to its cell, and whether it is left out of its owner's list.
 use Rattle.std.proofs.Common.{◌≡◌, ℕ, Some, None, arith}
 use Rattle.protocol.proofs.Vocabulary.{Object, Answer, Phase, AtCell, Whole, after_cell, decided, Joins}
 use Rattle.mutex.specs.declared.row.Row.{Row}
@@ -20,7 +20,7 @@ module _ (m t : ℕ) (p : Whole) (o n : Object) where
   -- ---- trylock
   -- ---- consistent
   -- ---- unlock
-  -- each access of a call, whatever it is answered; but for a fault
+  -- each access of a call, whatever it is answered; except for a fault
   pub owning : (u : ℕ) (r : Row) (a : Answer) → IsGoing r → row_operation r ≡ p.operation → IsOf (row_operation r) (resume_of u r a).row → Joins (decided r) (resume_of u r a).point (decided (resume_of u r a).row)
       → Tells t o (row_operation r) (resume_of u r a).point n → Owning m t r (after_cell p (resume_of u r a).row) o n
   owning u r a going of same joins tells = grind (arith)

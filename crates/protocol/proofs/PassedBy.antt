@@ -43,7 +43,7 @@ use Rattle.protocol.proofs.Sparing.{spare_is, spared_state, next_of, unwoken}
 
 -- ---- where a wait stands
 
--- behind its release, if it is a wait's
+-- after its release, if it is a wait's
 abbrev IsPastRow : CondRow → Type 0
 IsPastRow (Wait WaitRow.LoadCell) = ⊥
 IsPastRow (Wait WaitRow.LoadCounter) = ⊥
@@ -82,7 +82,7 @@ IsBehind l words k g = Unit {0}
 
 -- ---- row by row
 
--- an unlock leads behind it
+-- an unlock leads after it
 abbrev Unlocks : Option Decided → CondRow → Type 0
 Unlocks None q = Unit {0}
 Unlocks (Some d) q = d.operation ≡ Operation.Unlock → IsPastRow q
@@ -106,11 +106,11 @@ does_row t cell counter w n r going knows = grind (arith)
 past_there : (c : CondCall) (p : CondWhole) (q : CondRow) → IsPastRow q → IsPast (stage_at c p (after_words p q))
 past_there c p q h = grind (arith)
 
--- a greater counter leaves it behind
+-- a greater counter leaves it after
 behind_later : (l : Layout') (words words' : ℕ → ℕ) (k : ℕ) (g : Stage) → words (counter_place l k) ≤ words' (counter_place l k) → IsBehind l words k g → IsBehind l words' k g
 behind_later l words words' k g more h = grind (arith)
 
--- whoever is past its release and saw no more than the counter was is behind once that is one more
+-- whoever is past its release and saw no more than the counter was is after once that is one more
 behind_now : (l : Layout') (words words' : ℕ → ℕ) (k : ℕ) (g : Stage) → words' (counter_place l k) ≡ words (counter_place l k) + 1 → IsPast g → KnowsIn l words g → IsBehind l words' k g
 behind_now l words words' k g more past knows = grind (arith)
 
@@ -410,7 +410,7 @@ module _ (s : State) (e : Event) (inv : Kept s) (counted : Counted s) (t : ℕ) 
       (λ me. subst (λ (v : ℕ). 1 ≤ v → BeginsNone v told_facts → IsBehind s.layout s.words k (s.threads v).stage → IsBehind s.layout s'.words k (s'.threads v).stage) me (made.behind k) first none h)
       (λ apart. behind_later s.layout s.words s'.words k (s.threads t).stage (never_falls s (caller e) s' inv counted (passes s e inv counted) k) h))
 
-  -- a count on condition variable k leaves it behind, if it is past its release
+  -- a count on condition variable k leaves it after, if it is past its release
   counted_by : (k : ℕ) (d : Decision) (b : Option Begun) → 1 ≤ t → t ≤ s.layout.threads → IsPast (s.threads t).stage → IsAmong (Fact.Point d) told_facts → Counts d.operation d.reply → IsTold s.layout (s.threads d.thread).stage b → IsOn k b → IsBehind s'.layout s'.words k (s'.threads t).stage
   counted_by k d b first last past among counts told on =
       let done = made.counts d among counts in

@@ -22,7 +22,8 @@ decided_at (Unlinking u d) = None
 decided_at (Clearing x) = Some x
 decided_at (Ended x) = Some x
 
--- so many accesses a call in that phase still makes, at most, where its mutex's cell is the word w and nobody else steps
+-- this many accesses a call in that phase still makes, at most, where its mutex's cell is the word w and nobody else
+-- steps
 abbrev pub left_at : Phase → ℕ → ℕ
 left_at (Announcing r) w = 14 + 8 * left r w
 left_at (AtCell r) w = 8 + 8 * left r w
@@ -50,7 +51,7 @@ pub record Moves (t : ℕ) (p : Whole) (o : Onward) (w : ℕ) (q : List ℕ) (w'
   pub sleeps : sleeps_at (whole_access p) w ≡ true → (0 < (fields_of w).owner) × ((fields_of w).waiters ≡ true)
   -- else fewer accesses are left
   pub fewer : sleeps_at (whole_access p) w ≡ false → left_at o.phase w' < left_at p.phase w
-  -- who leaves a free cell that has WAITERS, and wakes nobody, answers for it; but for those who only looked at it
+  -- who leaves a free cell that has WAITERS, and wakes nobody, answers for it; except for those who only looked at it
   pub answers : is_wake (whole_access p) ≡ false → (fields_of w').owner ≡ 0 → (fields_of w').waiters ≡ true → (answers_at o.phase ≡ true) ⊎ ((answers_at p.phase ≡ false) × (w' ≡ w))
   pub steady : sleeps_at (whole_access p) w ≡ false → SteadyAt t p.phase w → SteadyAt t o.phase w'
 

@@ -51,7 +51,7 @@ module _ (s : State) (t : ℕ) (is : IsLayout s.layout) (pos : 1 ≤ t) (known :
   links_at : (at p : ℕ) → at ≡ address_in s.layout t p → IsLinked s t p → Links s t at
   links_at at p from linked = record { place = p; from = from; met = ap (place_in s.layout t) from ∙ again s.layout t is pos known p (linked_inside s t p pos known linked); linked = linked }
 
-  -- the word behind an entry
+  -- the word after an entry
   pub behind : (k : ℕ) → k < s.layout.mutexes → previous_place (entry_in s.layout t k) ≡ address_in s.layout t (entry_place s.layout k + 1)
   behind k inside = further_on s.layout t is pos known (entry_place s.layout k) 1 (omega arith)
 

@@ -7,7 +7,7 @@ use Rattle.protocol.proofs.Cases.{by_equal}
 pub by_put : {A : Type 0} (P : A → Type 0) (f : ℕ → A) (k : ℕ) (x : A) (j : ℕ) → (j ≡ k → P x) → (j ≢ k → P (f j)) → P (put f k x j)
 by_put P f k x j here there = by_equal P j k x (f j) here there
 
--- the new value stands there
+-- the new value is there
 pub put-same : {A : Type 0} (f : ℕ → A) (k : ℕ) (x : A) → put f k x k ≡ x
 put-same f k x = by_put (λ v. v ≡ x) f k x k (λ is. refl) (λ apart. absurd (apart refl))
 

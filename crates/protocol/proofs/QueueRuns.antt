@@ -1,4 +1,4 @@
--- Who sleeps where, event by event.
+-- Which threads sleep where, event by event.
 use Rattle.std.proofs.Common.{arith, ◌≡◌, ◌≢◌, ℕ, ◌+◌, ◌≤◌, Bool, true, false, Ok, Err, List, [], ◌∷◌, refl, sym, ap, subst}
 use Rattle.protocol.proofs.Vocabulary.{LoadFirst, Layout', IsLayout, head_place, XHELD, Op, Event, Thread, Stage, Idle, Dying, State, After, put, start, stands_in}
 use Rattle.protocol.proofs.Vocabulary.{sleepers, is_alive, killed, begun, happens, run, if◌then◌else◌}

@@ -1,4 +1,4 @@
--- Who sleeps where, and who answers for a mutex that nobody owns.
+-- Which threads sleep where, and which answer for a mutex that nobody owns.
 use Rattle.std.proofs.Common.{◌≡◌, ◌≢◌, ◌⊎◌, ⊎_elim, inl, inr, ℕ, ◌<◌, ◌≤◌, ◌==◌, Bool, true, false, List, [], ◌∷◌, drop, length, refl, sym, ap, ◌∙◌, subst, arith, eqb-true}
 use Rattle.protocol.proofs.Vocabulary.{Access, Layout', cell_place, counter_place, sleeps_at, Whole, Op, mutex_of, Thread, Stage, Idle, Calling, AtCondition, Dying}
 use Rattle.protocol.proofs.Vocabulary.{Reaped, State, stands_in, sleepers, sleeps, is_asleep, IsUnowned, slice_index, eqb-false, Sleeps, IsInNoQueue, place_in, place_met, put}
@@ -137,7 +137,7 @@ module _ (s : State) (t : ℕ) (v : Transition) (g : Stepping s t v) (pos : 1 �
           target (Access.CmpRequeue p q r y z) = y
           target a = 0
 
-  -- whoever stands in a queue then stood there, or is this thread, which falls asleep, or is moved there
+  -- whoever stands in a queue then was there, or is this thread, which falls asleep, or is moved there
   pub stood : (u key : ℕ) → stands_in u (s'.queues key) ≡ true → ((u ≢ t) × (stands_in u (s.queues key) ≡ true)) ⊎ (((u ≡ t) × (sleeps_at v.access (met s t v) ≡ true) × (key ≡ at)) ⊎ Carried u key)
   stood u key stands = go (turn u)
     where

@@ -17,7 +17,7 @@ pub stands_last : (t : ℕ) (q : List ℕ) → stands_in t (q ++ t ∷ []) ≡ t
 stands_last t [] = grind (arith)
 stands_last t (u ∷ us) = grind (arith, stands_last t us)
 
--- whoever stands in a queue that t came to is t, or stood there
+-- whoever stands in a queue that t came to is t, or was there
 stands_before : (u t : ℕ) (q : List ℕ) → stands_in u (q ++ t ∷ []) ≡ true → (stands_in u q ≡ true) ⊎ (u ≡ t)
 stands_before u t [] = grind (arith)
 stands_before u t (v ∷ vs) = grind (arith, stands_before u t vs)
@@ -46,7 +46,7 @@ once_rest zero q once = once
 once_rest (suc n) [] once = once
 once_rest (suc n) (u ∷ us) once = once_rest n us once.1
 
--- the first of a queue, once taken, stands there no more
+-- the first of a queue, once taken, is there no more
 pub first_gone : (u n : ℕ) (us : List ℕ) → Once (u ∷ us) → 1 ≤ n → stands_in u (drop n (u ∷ us)) ≡ false
 first_gone u zero us once some = absurd (omega arith)
 first_gone u (suc n) us once some = not_true (stands_in u (drop n us)) (λ is. cc (stands_rest u n us is, once.0))
@@ -72,7 +72,7 @@ without_stands t u (v ∷ vs) e = grind (arith, without_stands t u vs)
 pub without_gone : (t : ℕ) (q : List ℕ) → stands_in t (without t q) ≡ false
 without_gone t q = not_true (stands_in t (without t q)) (λ e. (without_stands t t q e).1 refl)
 
--- whoever doesn't stand there isn't taken out
+-- whoever isn't there isn't taken out
 pub without_same : (t : ℕ) (q : List ℕ) → stands_in t q ≡ false → without t q ≡ q
 without_same t [] out = refl
 without_same t (u ∷ us) out = grind (arith, without_same t us)
@@ -285,7 +285,7 @@ module _ (l : Layout') (qs : ℕ → List ℕ) (t : ℕ) (a : Access) (at w : �
     by_key : (P : List ℕ → Type 0) (b : Bool) (key : ℕ) → (key ≡ to → P (qs to ++ moved_if b)) → (key ≡ at → P (left_if b)) → (key ≢ to → key ≢ at → P (qs key)) → P (joined_if b key)
     by_key P b key there here others = grind (arith)
 
-    -- whoever stands at the source stands nowhere else
+    -- whoever is at the source stands nowhere else
     only_there : (u : ℕ) → stands_in u q ≡ true → (key : ℕ) → key ≢ at → stands_in u (qs key) ≡ false
     only_there u stands key other = not_true (stands_in u (qs key)) (λ is. other (one u key at is stands))
 

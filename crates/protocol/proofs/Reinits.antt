@@ -1,4 +1,4 @@
--- Unusable mutexes that are made anew, with a word that says nothing but that somebody may sleep there.
+-- Unusable mutexes that are reinitialised, with a word that says nothing but that somebody may sleep there.
 use Rattle.std.proofs.Common.{◌≡◌, ◌≢◌, inl, ℕ, ◌+◌, ◌<◌, ◌≤◌, Bool, true, false, None, Some, refl, sym, ap, ◌∙◌, subst, arith}
 use Rattle.protocol.proofs.Vocabulary.{Object, Operation, Access, OK, head_place, cell_place, counter_place, fields_of, object_of, fresh, Sound, stands_in, Thread, Idle, State, put, seen}
 use Rattle.protocol.proofs.Vocabulary.{sleepers, if◌then◌else◌, nat_lt, place_in, reinited, waiters_of, MayRemake}
@@ -75,7 +75,7 @@ module _ (s : State) (t m w : ℕ) (says : Says_nothing w) (may : MayRemake s t 
     theirs : (u k : ℕ) → (seen s k).owner ≡ Some u → k ≢ m
     theirs u k own e = cc (sym own ∙ ap (λ (j : ℕ). (seen s j).owner) e ∙ unowned)
 
-    -- it is as if the thread stored the word, in no call before and behind
+    -- it is as if the thread stored the word, in no call before and after
     abbrev store : Access
     store = Access.Store (cell_in s.layout t m) w
 

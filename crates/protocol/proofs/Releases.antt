@@ -73,7 +73,7 @@ module _ (s : State) (inv : Kept s) (calls : ℕ → Option Begun) (left : ℕ �
   abbrev Releases : After → Type 0
   Releases a = (t m : ℕ) (b : Begun) → TellsUnlock t m (facts_of a.note) → calls t ≡ Some b → IsWait b.operation → (b.mutex ≡ m) × OwnsConsistent s t m
 
-  -- its call is the one that it stands in
+  -- its call is the one that it is in
   call_is : (u t : ℕ) (b c : Begun) → u ≡ t → calls u ≡ Some c → calls t ≡ Some b → c ≡ b
   call_is u t b c me here there = same_some c b (sym here ∙ ap calls me ∙ there)
 

@@ -1,4 +1,4 @@
--- Threads that were reaped and live anew.
+-- Threads that were reaped and live again.
 use Rattle.std.proofs.Common.{◌≡◌, ◌≢◌, ◌⊎◌, inl, inr, ℕ, zero, suc, ◌+◌, ◌<◌, ◌≤◌, Bool, true, false, None, Some, [], refl, sym, ap, ◌∙◌, subst, arith}
 use Rattle.protocol.proofs.Vocabulary.{Object, Operation, Access, Layout', head_place, cell_place, counter_place, fields_of, held_by, stands_in, Thread, Stage, Idle, Reaped, State, put, seen, if◌then◌else◌, nat_tests}
 use Rattle.protocol.proofs.Vocabulary.{address_in, place_in}
@@ -33,7 +33,7 @@ second_of_head l t pos = grind (arith, nat_tests)
 pub third_of_head : (l : Layout') (t : ℕ) → 1 ≤ t → head_word l (head_place t + 2) ≡ 0
 third_of_head l t pos = grind (arith, nat_tests)
 
--- a place before the head's, or behind them
+-- a place before the head's, or after them
 outside_head : (t p : ℕ) → (p < head_place t) ⊎ (head_place t + 3 ≤ p) → is_in_head t p ≡ false
 outside_head t p (inl before) = grind (arith, nat_tests)
 outside_head t p (inr behind) = grind (arith, nat_tests)

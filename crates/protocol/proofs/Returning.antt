@@ -43,7 +43,7 @@ among_later f (g ∷ gs) fs h = inr (among_later f gs fs h)
 
 -- ---- a call that runs alone
 
--- within n steps its return is told; or it sleeps then
+-- within n steps its return is recorded; or it sleeps then
 abbrev pub Back : State → ℕ → ℕ → Type 0
 Back s t n = ((x : Reply) × IsAmong (Return t x) (facts_among (notes s (replicate n (Step t))))) ⊎ (is_asleep (run s (replicate n (Step t))) t ≡ true)
 

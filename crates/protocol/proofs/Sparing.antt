@@ -163,7 +163,7 @@ abbrev pub next_of : (s : State) (t m : ℕ) (g : Led) → HowSpared s t m g →
 next_of s t m g (Of_unlock o p is mutex at leads) = Calling o (record p { phase = Clearing OK })
 next_of s t m g (Of_wait c p seen is mutex at leads) = AtCondition c (record p { phase = CondPhase.AtWords (CondRow.Wait (WaitRow.Sleep seen)) })
 
--- as it stands behind that
+-- as it stands after that
 abbrev pub behind : (s : State) (t m : ℕ) (g : Led) → HowSpared s t m g → Thread
 behind s t m g how = record { stage = next_of s t m g how; held = (s.threads t).held }
 

@@ -44,7 +44,7 @@ AnswersAs l words m t (AtCondition c p) = (mutex_of l (OnCondition c) ≡ m) × 
 AnswersAs l words m t (Dying w) = Minds l words m t w.row
 AnswersAs l words m t g = ⊥
 
--- so many accesses a call on a condition variable still makes, at most, where nobody else steps
+-- this many accesses a call on a condition variable still makes, at most, where nobody else steps
 abbrev pub left_of_row : CondRow → ℕ
 left_of_row (CondRow.Wait WaitRow.LoadCell) = 77
 left_of_row (CondRow.Wait WaitRow.LoadCounter) = 76
@@ -68,7 +68,7 @@ left_at_phase (CondPhase.Announcing seen) = 75
 left_at_phase (CondPhase.Unlinking u seen) = 66 + unlink_left u.row
 left_at_phase f = 0
 
--- so many accesses a thread there still makes, at most, where nobody else steps
+-- this many accesses a thread there still makes, at most, where nobody else steps
 abbrev pub left_of : State → Stage → ℕ
 left_of s (Calling o p) = left_at p.phase (s.words (cell_place s.layout (mutex_of s.layout o)))
 left_of s (AtCondition c p) = left_at_phase p.phase

@@ -130,7 +130,7 @@ one_of false true c e = inl (refl, refl)
 one_of false false c e = inr e
 one_of true b c e = inr e
 
--- behind the first of these facts another thread owns the mutex
+-- after the first of these facts another thread owns the mutex
 record OwnedIn (t m : ℕ) (c : Chances) (fs : List Fact) : Type 0 where
   first : List Fact
   rest : List Fact
@@ -148,7 +148,7 @@ module _ (t m : ℕ) (before : List Fact) (call : Begun) (since : List Fact) (no
   abbrev first_chances : Chances
   first_chances = chances_after t m no_chances before
 
-  -- directly behind the begin
+  -- directly after the begin
   abbrev begun_chances : Chances
   begun_chances = chances_next t m first_chances (Fact.Begin t call)
 
@@ -201,7 +201,7 @@ untimed_reasons t m c (Fact.Point d ∷ fs) h = ((λ mine there told. absurd (h.
 untimed_reasons t m c (Fact.Death u k ∷ fs) h = (tt, untimed_reasons t m (chances_next t m c (Fact.Death u k)) fs h.1)
 untimed_reasons t m c (f ∷ fs) h = (tt, untimed_reasons t m (chances_next t m c f) fs h)
 
--- what is told of one point of another operation is none
+-- what is recorded of one point of another operation is none
 told_untimed : (o n : Object) (t m : ℕ) (op : Operation) (x : Option Reply) → op ≢ Operation.TimedLock → Tells t o op x n → Untimed (point_of t m op x)
 told_untimed o n t m op None other tells = tt
 told_untimed o n t m op (Some x) other tells = ((λ is. timed_told o n t op x other is tells), tt)
@@ -402,7 +402,7 @@ module _ (s : State) (inv : Kept s) where
 -- ---- one event
 
 module _ (s : State) (t m : ℕ) (inv : Kept s) (queued : Queued s) where
-  -- whoever is waiting behind it was so before, or another thread owned the mutex; and it began no call
+  -- whoever is waiting after it was so before, or another thread owned the mutex; and it began no call
   abbrev Comes : After → Type 0
   Comes a = IsWaiting a.state t m (a.state.threads t).stage → BeginsNone t (facts_of a.note) × (IsWaiting s t m (s.threads t).stage ⊎ (is_anothers t (seen s m).owner ≡ true))
 
@@ -631,7 +631,7 @@ module _ (s : State) (t m : ℕ) (inv : Kept s) (queued : Queued s) where
 
 -- ---- runs
 
--- so many lines tell of a state
+-- this many lines tell of a state
 record Chanced (s : State) (t m : ℕ) (c : Chances) : Type 0 where
   sees : c.mutex ≡ seen s m
   aware : Aware t c

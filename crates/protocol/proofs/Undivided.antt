@@ -39,7 +39,7 @@ use Rattle.protocol.proofs.CondAlone.{comes_at}
 abbrev SleepsSo : Object → ℕ → Op → State → Type 0
 SleepsSo o t c z = IsKeptWaiting o t (acts_as c) ⊎ IsWaiting o t (acts_as c) (condition_of c) z
 
--- ---- the call on a mutex of thread t, which held so many mutexes when its mutex was this object
+-- ---- the call on a mutex of thread t, which held this many mutexes when its mutex was this object
 module _ (t held : ℕ) (c : Call) (o : Object) (room : acquires (calls.acts_as c) ≡ true → held < 2048) where
   abbrev m : ℕ
   m = calls.mutex_of c

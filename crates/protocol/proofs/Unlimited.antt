@@ -20,7 +20,7 @@ use Rattle.protocol.specs.TimeLimits.{IsNoLimit, NoLimitComes, untimed, unlimite
 use Rattle.protocol.proofs.Events.{may_so}
 use Rattle.protocol.specs.Applies.{BeginsAhead}
 
--- ---- a state with locks without limits in place of those with one
+-- ---- a state with locks without limits instead of those with one
 
 abbrev unlimited_stage : Stage → Stage
 unlimited_stage (Calling o p) = Calling (unlimited o) p

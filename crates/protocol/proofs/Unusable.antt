@@ -76,7 +76,7 @@ permits_unusable o n t op x other lost p = grind (arith)
 
 -- ---- one event
 
--- it doesn't make mutex m anew
+-- it doesn't reinitialise mutex m
 abbrev IsOther : ℕ → Event → Type 0
 IsOther m (Event.Remake t k) = k ≢ m
 IsOther m e = Unit {0}
@@ -172,7 +172,7 @@ module _ (s : State) (m : ℕ) (inv : Kept s) (lost : (seen s m).unusable ≡ tr
 
 -- ---- runs
 
--- the next event and those behind it
+-- the next event and those after it
 parted : (m : ℕ) (e : Event) (es : List Event) → NobodyReinits m (e ∷ es) → IsOther m e × NobodyReinits m es
 parted m (Event.Remake t k) es none = none
 parted m (Event.Begin t o) es none = (tt, none)
@@ -191,11 +191,11 @@ stay_on s (e ∷ es) m inv lost none = let each = parted m e es none in stay_on 
 pub unusable_stays : UnusableStays
 unusable_stays l counters before after m is lost none = stay_on (run (start l counters) before) after m (run_kept (start l counters) before (start_kept l counters is)) lost none
 
--- behind one event
+-- after one event
 joins_next : (s : State) (m : ℕ) → Kept s → Queued s → m < s.layout.mutexes → (seen s m).unusable ≡ true → (e : Event) (u : ℕ) → Sleeps (happens s e).state u m → Sleeps s u m
 joins_next s m inv queued inside lost e u there = joins_none s m inv lost queued inside e u (subst (λ (l : Layout'). stands_in u ((happens s e).state.queues (cell_place l m)) ≡ true) (sound s e inv).same there)
 
--- behind several
+-- after several
 joins_later : (s : State) (es : List Event) (m : ℕ) → Kept s → Queued s → m < s.layout.mutexes → (seen s m).unusable ≡ true → (u : ℕ) → NobodyReinits m es → Sleeps (run s es) u m → Sleeps s u m
 joins_later s [] m inv queued inside lost u none there = there
 joins_later s (e ∷ es) m inv queued inside lost u none there =

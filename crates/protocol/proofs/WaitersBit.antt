@@ -57,7 +57,7 @@ stay_on s e inv =
 
 -- ---- an unlock that finds nobody to wake
 
--- one step of thread t's unlock of mutex m, which stands at row r of its cell and isn't a sleeper's
+-- one step of thread t's unlock of mutex m, which is at row r of its cell and isn't a sleeper's
 module _ (s : State) (t m : ℕ) (p : Whole) (r : UnlockRow) (inv : Kept s) (queued : Queued s) (pos : 1 ≤ t) (known : t ≤ s.layout.threads) (is : (s.threads t).stage ≡ Calling (OnMutex (call.Unlock m)) p) (at : p.phase ≡ AtCell (Unlock r)) where
   abbrev o : Op
   o = OnMutex (call.Unlock m)

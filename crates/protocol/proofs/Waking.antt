@@ -1,4 +1,4 @@
--- Who falls asleep and who is woken, as the trace tells it.
+-- Which threads fall asleep and which are woken, as the trace tells it.
 use Rattle.std.proofs.Common.{◌≡◌, ◌≢◌, ◌⊎◌, ⊎_elim, inl, inr, ℕ, ◌<◌, ◌≤◌, length, ◌==◌, Bool, true, false, Option, Some, None, Ok, Err, List, [], ◌∷◌, ◌++◌, map, refl, sym, ap, ◌∙◌, subst, arith, eq-eqb, eqb-true, append-nil}
 use Rattle.protocol.proofs.Vocabulary.{Queue, Mutex, Fact, Decision, Layout', cell_place, counter_place, sleeps_at, Reply, XHELD, OnCondition, Op, Event, Note, Stepped}
 use Rattle.protocol.proofs.Vocabulary.{overslept, waits_on}
@@ -274,7 +274,7 @@ turn s e inv queued t =
     begins_so u o true = Stays refl (λ key. refl)
     begins_so u o false = Stays refl (λ key. refl)
 
--- ---- what was told of a thread is where it stands
+-- ---- what was recorded of a thread is where it stands
 
 abbrev Stood : Layout' → (ℕ → List ℕ) → ℕ → Option Queue → Type 0
 Stood l qs t None = IsOut qs t

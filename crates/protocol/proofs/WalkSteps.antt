@@ -224,7 +224,7 @@ module _ (s : State) (t : ℕ) (r : Row) where
   abbrev pub death_then : Option ℕ
   death_then = death_at s.layout t (point_of t r walk_answer)
 
-  -- where no death is told, any mutex will do
+  -- where no death is recorded, any mutex will do
   abbrev pub walk_transition : Transition
   walk_transition = record { from = Dying (walk_of s.layout t r); access = walk_access; next = stage_walked (walk_of s.layout t r) row_then; mutex = or_first death_then; operation = Operation.Death; point = told_of death_then }
 

@@ -35,7 +35,7 @@ module _ (s : State) (t : ℕ) (layout : IsLayout s.layout) (pos : 1 ≤ t) (kno
   abbrev h : ℕ
   h = head_in s.layout t
 
-  -- behind the list
+  -- after the list
   to_pending_arrives : (p : ℕ) → ((p ≡ 0) ⊎ (k : ℕ) × (k < s.layout.mutexes) × (p ≡ entry_in s.layout t k)) → ((k : ℕ) → k < s.layout.mutexes → (seen s k).owner ≡ Some t → p ≡ entry_in s.layout t k) → Arrived s t (to_pending 18446744073709551615 p)
   to_pending_arrives p (inl none) owned = subst (Arrived s t) (sym (ap (to_pending 18446744073709551615) none)) (λ k below own. not_null s.layout t layout pos known (entry_place s.layout k) (omega arith) (omega arith) (sym (owned k below own) ∙ none))
   to_pending_arrives p (inr (k, below, is)) owned = go (p == 0) refl
@@ -47,7 +47,7 @@ module _ (s : State) (t : ℕ) (layout : IsLayout s.layout) (pos : 1 ≤ t) (kno
       go true e = absurd (not_null s.layout t layout pos known (entry_place s.layout k) (omega arith) (omega arith) (sym is ∙ eqb-true p 0 e))
       go false e = (k, treats, λ j inside own. ap Some (same_entry s.layout t layout pos known k j below inside (sym is ∙ owned j inside own)))
 
-  -- the next entry, or behind the list
+  -- the next entry, or after the list
   pub forward_arrives : (r : Rest) → LeftOf s t r None → Arrived s t (forward h r)
   forward_arrives r (es, l, offset, few) = go (r.entry == h) refl (r.loaded == 2048) refl
     where
@@ -99,7 +99,7 @@ module _ (s : State) (t : ℕ) (layout : IsLayout s.layout) (pos : 1 ≤ t) (kno
           next_leads : Leads (view_of s t) h (view_of s t r.entry) xs
           next_leads = subst (λ (e : ℕ). Leads (view_of s t) h (view_of s t e) xs) (sym leads.0) leads.1
 
-          -- behind that entry, which is pending, or is treated now
+          -- after that entry, which is pending, or is treated now
           rest_left : (out : Option ℕ) → ((k : ℕ) → k < s.layout.mutexes → entry_in s.layout t k ≡ x → (r.pending ≡ entry_in s.layout t k) ⊎ (out ≡ Some k)) → ((y : ℕ) → IsAmong y xs → (k : ℕ) → y ≡ entry_in s.layout t k → out ≢ Some k) → LeftOf s t (further r (view_of s t r.entry)) out
           rest_left out of_first apart = (
             xs,

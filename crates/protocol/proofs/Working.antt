@@ -20,7 +20,7 @@ use Rattle.protocol.proofs.NoteFacts.{IsOfSleep, behind_woken, behind_point}
 
 -- ---- how a step is noted
 
--- as an access of a call, and where it falls asleep that queue is told; or as one of a walk
+-- as an access of a call, and where it falls asleep that queue is recorded; or as one of a walk
 pub data Noted (s : State) (t : ℕ) (v : Transition) (n : Note) : Type 0 where
   Of_call : (k : Queue) (y : Option Reply) → n ≡ Stepped t v.mutex (decision t v.mutex v.operation v.point) (slept_in k (sleeps_at v.access (met s t v))) (woken_by v.access (met s t v) (met_queue s t v)) (moved_by v.access (met s t v) (met_queue s t v)) y
       → (sleeps_at v.access (met s t v) ≡ true → (place_of s t v ≡ queue_place s.layout k) × IsQueue s.layout k) → Noted s t v n

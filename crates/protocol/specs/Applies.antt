@@ -3,11 +3,11 @@
 -- *Which events apply.* By what the trace has told of its thread: a begin where that lives, is in no call, and the
 -- mutex or condition variable is one of the layout; a step where it is in a call, or killed and not reaped, and sleeps
 -- nowhere; a kill where it lives; a leave where it stands in a queue; an expiry where it does so in a call that was
--- told as a lock with a time limit, or in its condition variable's queue in one that was told as a wait with a time
--- limit (`IsTold`); a decline where its next access is a trim (`IsAboutToTrim`); a renewal where it was reaped, and
--- hasn't been renewed since; a remake where it lives and is in no call, and the mutex, one of the layout, is unusable;
--- a spare (`IsSparedAccessOf`) where it happens. Such an event is noted as what it is, every other as nothing, and that
--- changes nothing: the law `events_apply`.
+-- recorded as a lock with a time limit, or in its condition variable's queue in one that was recorded as a wait with
+-- a time limit (`IsTold`); a decline where its next access is a trim (`IsAboutToTrim`); a renewal where it was
+-- reaped, and hasn't been renewed since; a remake where it lives and is in no call, and the mutex, one of the
+-- layout, is unusable; a spare (`IsSparedAccessOf`) where it happens. Such an event is noted as what it is, every
+-- other as nothing, and that changes nothing: the law `events_apply`.
 use Rattle.std.specs.Prelude.{ℕ, length, ◌≡◌, ◌⊎◌, ◌<◌, ◌≤◌, ◌==◌, ◌&&◌, nat_le, true}
 use Rattle.std.specs.Prelude.{false, Option, Some, None, List, [], ◌∷◌, if◌then◌else◌}
 use Rattle.lockword.specs.declared.reply.Reply.{Reply}
@@ -68,7 +68,7 @@ abbrev pub told_after : ℕ → Told → List Fact → Told
 told_after t w [] = w
 told_after t w (f ∷ fs) = told_after t (told_next t w f) fs
 
--- of a thread of which nothing is told it is at rest, and behind its renewal too
+-- of a thread of which nothing is recorded it is at rest, and after its renewal too
 abbrev pub last_told : ℕ → List Note → Told
 last_told t ns = told_after t AtRest (facts_among ns)
 
@@ -93,7 +93,8 @@ Agrees Dead (Dying w) = Unit {0}
 Agrees Gone Reaped = Unit {0}
 Agrees w g = ⊥
 
--- a thread that is in a call is in the one that was told: with its operation, its mutex and its condition variable
+-- a thread that is in a call is in the one that was recorded: with its operation, its mutex and its condition
+-- variable
 abbrev pub IsTold : Layout' → Stage → Option Begun → Type 0
 IsTold l (Calling o p) b = b ≡ Some (begun_of l o)
 IsTold l (AtCondition c p) b = b ≡ Some (begun_of l (OnCondition c))
@@ -194,8 +195,8 @@ IsNotedAs l s (event.Remake t m) n = n ≡ Reinited t m
 IsNotedAs l s (event.Spare t by) n = IsSparedAccessOf l s t n
 
 -- of a state that events lead to that were noted so: its layout is as it was, and each thread stands where it was told
--- to stand, and is in the call whose begin was told last; whatever event comes next, it happens where it applies, and
--- else it does nothing
+-- to stand, and is in the call whose begin was recorded last; whatever event comes next, it happens where it
+-- applies, and else it does nothing
 pub record NextApplies (l : Layout') (s : State) (ns : List Note) : Type 0 where
   pub layout : s.layout ≡ l
   pub stands : (t : ℕ) → IsThread l t → Agrees (last_told t ns) (s.threads t).stage

@@ -1,8 +1,9 @@
 -- Calls that never wait: all but a lock and a wait.
 --
--- *Calls that never wait.* All but a lock and a wait. Each makes so many accesses at most, by its table: once its
--- thread has made so many steps behind its begin its return has been told, whatever others did in between, if the
--- thread wasn't killed; and it stands in no queue until it begins another call. The law `only_locks_and_waits_wait`.
+-- *Calls that never wait.* All but a lock and a wait. Each makes this many accesses at most, by its table: once its
+-- thread has made this many steps after its begin its return has been recorded, whatever others did in between, if
+-- the thread wasn't killed; and it stands in no queue until it begins another call. The law
+-- `only_locks_and_waits_wait`.
 use Rattle.std.specs.Prelude.{ℕ, ◌≡◌, ◌≢◌, ◌+◌, ◌≤◌, ◌==◌, true, List, [], ◌∷◌, if◌then◌else◌}
 use Rattle.lockword.specs.declared.reply.Reply.{Reply}
 use Rattle.posixmutex.specs.declared.point.Operation.{Operation}
@@ -28,9 +29,9 @@ NeverWaits operation.Wait = ⊥
 NeverWaits operation.TimedWait = ⊥
 NeverWaits op = Unit {0}
 
--- so many accesses such a call makes at most, by its tables: a trylock stores its entry as the pending one, loads the
--- cell, makes four exchanges, five accesses of a link, and clears the pending entry; an unlock loads the cell, stores
--- the pending entry, makes four accesses of an unlink, releases, wakes, trims, and clears the pending entry
+-- this many accesses such a call makes at most, by its tables: a trylock stores its entry as the pending one, loads
+-- the cell, makes four exchanges, five accesses of a link, and clears the pending entry; an unlock loads the cell,
+-- stores the pending entry, makes four accesses of an unlink, releases, wakes, trims, and clears the pending entry
 abbrev pub most_steps : Operation → ℕ
 most_steps operation.TryLock = 12
 most_steps operation.Unlock = 10
@@ -41,7 +42,7 @@ most_steps op = 0
 
 -- ---- whatever others do
 
--- so many of these events are steps of thread t
+-- this many of these events are steps of thread t
 abbrev pub step_of : ℕ → Event → ℕ
 step_of t (Step u) = if u == t then 1 else 0
 step_of t e = 0
@@ -56,8 +57,8 @@ IsSpared t [] = Unit {0}
 IsSpared t (Kill u ∷ es) = (u ≢ t) × IsSpared t es
 IsSpared t (e ∷ es) = IsSpared t es
 
--- thread t begins call c, and then these events happen: once so many of them are its steps its return has been told;
--- and as long as it begins no other call it stands in no queue
+-- thread t begins call c, and then these events happen: once this many of them are its steps its return has been
+-- recorded; and as long as it begins no other call it stands in no queue
 pub record ReturnsInTime (s : State) (t : ℕ) (c : Op) (events : List Event) : Type 0 where
   pub returns : most_steps (operation_of c) ≤ steps_of t events
       → (x : Reply) × IsAmong (Return t x) (facts_among (notes s (Begin t c ∷ events)))

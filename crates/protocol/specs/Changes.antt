@@ -1,5 +1,5 @@
 -- What a begin, a kill and a step may change; every other event is spoken of where it is defined (`Leaves.antt`,
--- `Renewals.antt`, `Reinits.antt`, `Spares.antt`). Who stands in which queue behind it is what the trace tells
+-- `Renewals.antt`, `Reinits.antt`, `Spares.antt`). Who stands in which queue after it is what the trace tells
 -- (`Wakings.antt`).
 --
 -- *What an event changes.* A begin changes no word and no queue, a kill no word and only its thread's place in a queue,
@@ -51,9 +51,9 @@ abbrev pub MayCount : Layout' → Begun → ℕ → Type 0
 MayCount l b p =
     ((b.operation ≡ Signal) ⊎ (b.operation ≡ Broadcast)) × (k : ℕ) × (b.condition ≡ Some k) × (p ≡ counter_place l k)
 
--- a step of thread t, of which this was told, and this call, may change the word at this place: in a call one of its
--- own, its mutex's cell, and its counter where it is a signal or a broadcast; once the thread is dead the cell of a
--- mutex that it owns
+-- a step of thread t, of which this was recorded, and this call, may change the word at this place: in a call one of
+-- its own, its mutex's cell, and its counter where it is a signal or a broadcast; once the thread is dead the cell
+-- of a mutex that it owns
 abbrev pub MayChange : State → ℕ → Told → Option Begun → ℕ → Type 0
 MayChange s t InCall (Some b) p = IsItsOwn s t p ⊎ ((p ≡ cell_place s.layout b.mutex) ⊎ MayCount s.layout b p)
 MayChange s t Dead b p = (m : ℕ) × (m < s.layout.mutexes) × ((seen s m).owner ≡ Some t) × (p ≡ cell_place s.layout m)

@@ -1,9 +1,9 @@
 -- Counters of condition variables: how often it was signalled.
 --
 -- *Counting up.* With counters that are at most 2^32 - 1 at the beginning each is what it was then, and one more for
--- each signal and broadcast with OK whose call, as it was told, is on that condition variable; and from any moment on
--- what it was then and those since: the law `counters_count_up`. A counter that is full, at 2^32 - 1, stays so: signals
--- and broadcasts are refused then (X_FULL), so that none wraps.
+-- each signal and broadcast with OK whose call, as it was recorded, is on that condition variable; and from any
+-- moment on what it was then and those since: the law `counters_count_up`. A counter that is full, at 2^32 - 1,
+-- stays so: signals and broadcasts are refused then (X_FULL), so that none wraps.
 use Rattle.std.specs.Prelude.{ℕ, length, ◌≡◌, ◌+◌, ◌<◌, ◌==◌, Option, Some, None, List, [], ◌∷◌, if◌then◌else◌}
 use Rattle.lockword.specs.declared.reply.Reply.{Reply}
 use Rattle.lockword.specs.declared.reply.Reply.TheVariants.{OK}
@@ -30,14 +30,15 @@ one_of k (Some b) Signal OK = one_on k b.condition
 one_of k (Some b) Broadcast OK = one_on k b.condition
 one_of k b op x = 0
 
--- so many points among some facts count there, where each thread was told before them to have begun this call last
+-- this many points among some facts count there, where each thread was recorded before them to have begun this call
+-- last
 abbrev pub signals_in : ℕ → (ℕ → Option Begun) → List Fact → ℕ
 signals_in k calls [] = 0
 signals_in k calls (Begin u b ∷ fs) = signals_in k (λ t. if u == t then Some b else calls t) fs
 signals_in k calls (Point d ∷ fs) = one_of k (calls d.thread) d.operation d.reply + signals_in k calls fs
 signals_in k calls (f ∷ fs) = signals_in k calls fs
 
--- behind these events, from state s on, and then those: the counter of condition variable k is what it was before
+-- after these events, from state s on, and then those: the counter of condition variable k is what it was before
 -- those, and one more for each signal and each broadcast on it with OK among them
 abbrev pub CountsUp : State → ℕ → List Event → List Event → Type 0
 CountsUp s k before after =

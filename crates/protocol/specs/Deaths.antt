@@ -1,8 +1,8 @@
--- What is told of a thread's death (robust-futexes; pthread_mutexattr_getrobust(3p)).
+-- What is recorded of a thread's death (robust-futexes; pthread_mutexattr_getrobust(3p)).
 --
--- *Reports deaths.* A killed thread's death is told, once, of each mutex that it owned at the kill and has lost since,
--- and of no other. The law `deaths_are_told` states it of every layout, list of events and kill, and `Machine::run` of
--- what the machine did.
+-- *Reports deaths.* A killed thread's death is recorded, once, of each mutex that it owned at the kill and has lost
+-- since, and of no other. The law `deaths_are_told` states it of every layout, list of events and kill, and
+-- `Machine::run` of what the machine did.
 use Rattle.std.specs.Prelude.{ℕ, ◌≡◌, ◌≢◌, ◌+◌, ◌<◌, ◌==◌, true, ◌&&◌, ◌⊎◌, Some, List, [], ◌∷◌, ◌++◌, if◌then◌else◌}
 use Rattle.memorymap.specs.Layouts.{Layout', IsLayout}
 use Rattle.protocol.specs.declared.event.Event.{Event}
@@ -13,7 +13,7 @@ use Rattle.protocol.specs.declared.thread.Stage.TheVariants.{Reaped}
 use Rattle.protocol.specs.Machine.{State, start, run, notes, has_thread, is_alive, killed}
 use Rattle.protocol.specs.Headline.{seen, facts_among}
 
--- how often thread t's death is told of mutex m
+-- how often thread t's death is recorded of mutex m
 abbrev pub deaths : ℕ → ℕ → List Fact → ℕ
 deaths t m [] = 0
 deaths t m (Death u k ∷ fs) = (if (u == t) && (k == m) then 1 else 0) + deaths t m fs
@@ -25,8 +25,8 @@ IsNotRenewed t [] = Unit {0}
 IsNotRenewed t (Renew u ∷ fs) = (u ≢ t) × IsNotRenewed t fs
 IsNotRenewed t (f ∷ fs) = IsNotRenewed t fs
 
--- thread t is killed in state s, and then these events happen: its death is told, once, of each mutex that it owned and
--- has lost since, and of no other; so once it is reaped, of each mutex that it owned
+-- thread t is killed in state s, and then these events happen: its death is recorded, once, of each mutex that it
+-- owned and has lost since, and of no other; so once it is reaped, of each mutex that it owned
 pub record ReportsDeath (s : State) (t : ℕ) (events : List Event) : Type 0 where
   pub owned : (m : ℕ) → m < s.layout.mutexes → (seen s m).owner ≡ Some t →
       ((deaths t m (facts_among (notes (killed s t).state events)) ≡ 1)
@@ -40,7 +40,7 @@ pub record ReportsDeath (s : State) (t : ℕ) (events : List Event) : Type 0 whe
       → ((run (killed s t).state events).threads t).stage ≡ Reaped
       → deaths t m (facts_among (notes (killed s t).state events)) ≡ 1
 
--- it is so of each kill among the events, wherever it stands, of a thread that lives then, at each moment behind it
+-- it is so of each kill among the events, wherever it stands, of a thread that lives then, at each moment after it
 -- before the thread is renewed: of each life of a thread its own mutexes are told
 abbrev pub ReportsDeaths : State → List Event → Type 0
 ReportsDeaths s events = (before after rest : List Event) (t : ℕ) → events ≡ before ++ Kill t ∷ (after ++ rest)

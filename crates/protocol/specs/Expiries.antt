@@ -44,21 +44,21 @@ pub record OnlyReturns (s s' : State) (t : ℕ) : Type 0 where
   pub held : (s'.threads t).held ≡ (s.threads t).held
   pub others : (u : ℕ) → u ≢ t → s'.threads u ≡ s.threads u
 
--- behind that, in state s, its next step returns ETIMEDOUT, and nothing else is told of it
+-- after that, in state s, its next step returns ETIMEDOUT, and nothing else is recorded of it
 abbrev pub ReturnsNext : State → ℕ → Type 0
 ReturnsNext s t = OnlyReturns s (happens s (Step t)).state t
     × (facts_of (happens s (Step t)).note ≡ Return t ETIMEDOUT ∷ [])
 
--- of a thread that sleeps in a lock of mutex m with a time limit its wake is told, and then its point; and its call
--- returns by its next step
+-- of a thread that sleeps in a lock of mutex m with a time limit its wake is recorded, and then its point; and its
+-- call returns by its next step
 abbrev pub LockExpiresSo : State → ℕ → Type 0
 LockExpiresSo s t = (m : ℕ) → IsInAQueue s t → IsInTimedLock s t m → OnlyExpires s (happens s (Expire t)).state t
     × (facts_of (happens s (Expire t)).note
     ≡ Wake t ∷ Point (record { thread = t; mutex = m; operation = TimedLock; reply = ETIMEDOUT }) ∷ [])
     × ReturnsNext (happens s (Expire t)).state t
 
--- of a thread that sleeps on condition variable k in a wait with a time limit its wake is told, and nothing else; and it
--- stands in its call where it stood, out of time
+-- of a thread that sleeps on condition variable k in a wait with a time limit its wake is recorded, and nothing
+-- else; and it is in its call where it stood, out of time
 abbrev pub WaitExpiresSo : State → ℕ → Type 0
 WaitExpiresSo s t = (k : ℕ) (x : Limit) (p : Whole) → StandsIn s t (Condition k)
     → (s.threads t).stage ≡ Calling (OnCondition (TimedWait k x)) p → OnlyExpires s (happens s (Expire t)).state t

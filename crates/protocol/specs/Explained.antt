@@ -1,9 +1,9 @@
 -- What a trace tells of each thread, and how its lines follow each other.
 --
--- *Explained.* What a trace tells of each thread is its lives, one behind the other, each but the last ended by its
+-- *Explained.* What a trace tells of each thread is its lives, one after the other, each but the last ended by its
 -- reaping and followed by its renewal (`Lives`; `facts/specs/Lives.antt`); in a life each call has the points of its
 -- operation, on its mutex, or a beginning of them; lines are in order, and of those of one event a begin is the first,
--- a return or a reaping the last, a renewal the only one, and wakes and moves stand behind the point, but where a lock
+-- a return or a reaping the last, a renewal the only one, and wakes and moves stand after the point, but where a lock
 -- ends for its time limit, whose wake stands before its point; and each line but a wake or a move is of an event of its
 -- own thread. The law `trace_is_explained` states it of every layout and list of events, and `Machine::run` of what the
 -- machine did.
@@ -63,8 +63,8 @@ abbrev pub decides_first : Fact → Bool
 decides_first (Point d) = is_in_time d.reply
 decides_first f = decides f
 
--- how line b may stand behind line a, near or far, where both are of one event: a begin is its first line, a return and
--- a reaping are its last, whom it wakes or moves stands behind its point, or the death that it tells, but where a lock
+-- how line b may be after line a, near or far, where both are of one event: a begin is its first line, a return and
+-- a reaping are its last, whom it wakes or moves stands after its point, or the death that it tells, but where a lock
 -- ends for its time limit, and a renewal is its only line
 pub record Within (a b : Line) : Type 0 where
   pub first : a.event ≡ b.event → is_begin b.fact ≡ false
@@ -78,11 +78,11 @@ AreWithin (l ∷ ls) = Each (Within l) ls × AreWithin ls
 
 -- ---- all lines
 
--- what the notes tell is in order, each line but a wake or a move is of an event of its own thread, and what is told of
--- each thread is its lives, each but the last ended by its reaping and followed by its renewal. In each life its
--- begins, points and returns belong together: a call has one point at most, of its own operation and mutex, whose reply
--- it returns; but a wait that isn't refused has an unlock and then a lock, whose reply it returns, or ETIMEDOUT for OK
--- where it has a time limit
+-- what the notes tell is in order, each line but a wake or a move is of an event of its own thread, and what is
+-- recorded of each thread is its lives, each but the last ended by its reaping and followed by its renewal. In each
+-- life its begins, points and returns belong together: a call has one point at most, of its own operation and mutex,
+-- whose reply it returns; but a wait that isn't refused has an unlock and then a lock, whose reply it returns, or
+-- ETIMEDOUT for OK where it has a time limit
 pub record IsExplained (events : List Event) (told : List Note) : Type 0 where
   pub orderly : Orderly (lines_from 1 told)
   pub within : AreWithin (lines_from 1 told)

@@ -13,7 +13,7 @@ use Rattle.protocol.specs.Applies.{IsInAQueue, IsInNoQueue, IsAboutToTrim}
 
 -- ---- leaves
 
--- thread t leaves, from state s to s': no word changes, and no thread, so each stands in its call where it stood; and
+-- thread t leaves, from state s to s': no word changes, and no thread, so each is in its call where it stood; and
 -- from the queues nobody else goes
 pub record OnlyLeaves (s s' : State) (t : ℕ) : Type 0 where
   pub words : (p : ℕ) → s'.words p ≡ s.words p
@@ -21,7 +21,7 @@ pub record OnlyLeaves (s s' : State) (t : ℕ) : Type 0 where
   pub queues : (key : ℕ) → s'.queues key ≡ without t (s.queues key)
   pub gone : IsInNoQueue s' t
 
--- of a thread that sleeps a wake is told, and nothing else
+-- of a thread that sleeps a wake is recorded, and nothing else
 abbrev pub LeavesSo : State → ℕ → Type 0
 LeavesSo s t =
     OnlyLeaves s (happens s (Leave t)).state t × (IsInAQueue s t → facts_of (happens s (Leave t)).note ≡ Wake t ∷ [])
@@ -29,14 +29,14 @@ LeavesSo s t =
 -- ---- declines
 
 -- thread t's trim is declined, from state s to s': no word and no queue changes, and no other thread; it goes on as
--- behind a trim that was made
+-- after a trim that was made
 pub record OnlyDeclines (s s' : State) (t : ℕ) : Type 0 where
   pub words : (p : ℕ) → s'.words p ≡ s.words p
   pub queues : (key : ℕ) → s'.queues key ≡ s.queues key
   pub others : (u : ℕ) → u ≢ t → s'.threads u ≡ s.threads u
   pub goes_on : IsAboutToTrim s t → s'.threads t ≡ (happens s (Step t)).state.threads t
 
--- nothing is told of it
+-- nothing is recorded of it
 abbrev pub DeclinesSo : State → ℕ → Type 0
 DeclinesSo s t = OnlyDeclines s (happens s (Decline t)).state t × (facts_of (happens s (Decline t)).note ≡ [])
 

@@ -12,33 +12,33 @@
 -- that can't apply notes nothing and changes nothing.
 --
 -- *A leave and a declined trim.* A thread that sleeps stands where it goes on when it is woken; so a leave only takes
--- it out of its queue: no word changes, no thread, and no place of another in a queue, and its wake is told. A declined
--- trim is answered that the word wasn't cleared, whatever that is, and changes no word and no queue; its thread goes on
--- as behind a trim that was made. The law `leaves_and_declines_are_lone`. Source: futex(2), EINTR.
+-- it out of its queue: no word changes, no thread, and no place of another in a queue, and its wake is recorded. A
+-- declined trim is answered that the word wasn't cleared, whatever that is, and changes no word and no queue; its
+-- thread goes on as after a trim that was made. The law `leaves_and_declines_are_lone`. Source: futex(2), EINTR.
 --
 -- *An expiry.* The time limit of a lock comes while its thread sleeps on the mutex: the thread leaves the queue, woken by
 -- nobody, and its call is decided with ETIMEDOUT, which changes no mutex; no word changes, and no other thread. What is
--- left of the call is one access, which clears its pending entry, and behind which it returns. Or that of a wait comes
+-- left of the call is one access, which clears its pending entry, and after which it returns. Or that of a wait comes
 -- while its thread sleeps on the condition variable: the thread leaves the queue, woken by nobody, and goes on as if it
 -- had been woken, so that it locks its mutex again; but where that lock replies OK it returns ETIMEDOUT. A wait that a
 -- broadcast has moved to its mutex, or that locks this again, is past that: the second lock has no limit. The law
 -- `expiries_are_lone`. The law `nobody_times_out_early` says that another thread owned the mutex of a lock meanwhile.
 -- Sources: pthread_mutex_timedlock(3p), pthread_cond_timedwait(3p).
 --
--- *A renewal.* A thread that was reaped lives anew, with the same id: the three words of its head are as at first, an
--- empty list that nothing is pending beside, and it is in no call and owns nothing; nothing else changes, and that it
--- is renewed is all that is told. The law `renewals_begin_anew`; where nobody is renewed each thread has one life
--- (`without_renewals_as_before`). Source: get_robust_list(2).
+-- *A renewal.* A thread that was reaped lives again, with the same id: the three words of its head are as at first,
+-- an empty list that nothing is pending beside, and it is in no call and owns nothing; nothing else changes, and
+-- that it is renewed is all that is recorded. The law `renewals_begin_anew`; where nobody is renewed each thread has
+-- one life (`without_renewals_as_before`). Source: get_robust_list(2).
 --
--- *A remake.* A thread that lives and is in no call makes an unusable mutex anew. A program that does so access by
+-- *A remake.* A thread that lives and is in no call reinitialises an unusable mutex. A program that does so access by
 -- access loads its word, asks whether anybody sleeps there, and exchanges the word that it saw. The first two change
 -- nothing, so they are no events; what others do in between, the exchange meets. A remake is that exchange: it finds the
 -- mutex unusable, whoever sleeps on it by now, and clears all but WAITERS, so that nobody who sleeps is forgotten. No
--- other word, no queue and no thread changes, and it is told as a call of one event, a reinit: a begin, a point with OK
--- and a return. Else nothing happens. The law `remakes_forget_nobody`. Source: pthread_mutex_destroy(3p),
+-- other word, no queue and no thread changes, and it is recorded as a call of one event, a reinit: a begin, a point
+-- with OK and a return. Else nothing happens. The law `remakes_forget_nobody`. Source: pthread_mutex_destroy(3p),
 -- pthread_mutex_init(3p).
 --
--- *Where an access meets its word.* Words and queues stand at places, and accesses have addresses of their thread's
+-- *Where an access meets its word.* Words and queues are at places, and accesses have addresses of their thread's
 -- process: the word that one meets is that at the place of its address there. So threads of processes with different
 -- bases meet at one word, and in one queue. An access is refused where the place isn't one of the layout's, and a
 -- requeue also from a word to itself. Source: futex(2) on shared futexes.
@@ -291,7 +291,7 @@ abbrev pub stage_begun : Call → Result Whole Reply → Result Stage Reply
 stage_begun c (Ok p) = Ok (Calling (OnMutex c) p)
 stage_begun c (Err x) = Err x
 
--- where thread t begins a call, that owns so many mutexes
+-- where thread t begins a call, that owns this many mutexes
 abbrev pub first_stage : Layout' → ℕ → ℕ → Op → Result Stage Reply
 first_stage l t held (OnMutex c) = stage_begun c (whole_started l t held c)
 first_stage l t held (OnCondition c) = Ok (AtCondition c (condition.begins l t c))
@@ -352,8 +352,8 @@ led_at c p g = record {
   returned = returned_at g.phase;
 }
 
--- a thread owns one mutex more after it took one, and one less after it released one, or after its death was told of
--- one
+-- a thread owns one mutex more after it took one, and one less after it released one, or after its death was
+-- recorded of one
 abbrev pub held_after : ℕ → Operation → Option Reply → ℕ
 held_after held operation.Lock (Some OK) = held + 1
 held_after held operation.Lock (Some EOWNERDEAD) = held + 1
@@ -448,7 +448,7 @@ is_trim (access.Trim at) = true
 is_trim a = false
 
 -- a trim may be declined: it is answered that the word wasn't cleared, whatever that says, and no word and no queue
--- changes. So it is of a wake that is spared, but for the answer
+-- changes. So it is of a wake that is spared, except for the answer
 abbrev pub spared : State → ℕ → ℕ → ℕ → Led → After
 spared s t held m g =
     record {
@@ -484,7 +484,7 @@ abbrev pub death_at : Layout' → ℕ → Option Point → Option ℕ
 death_at l t None = None
 death_at l t (Some p) = mutex_at l (place_in l t p.at)
 
--- an owner's death is told with OK
+-- an owner's death is recorded with OK
 abbrev pub told_of : Option ℕ → Option Reply
 told_of None = None
 told_of (Some m) = Some OK
@@ -520,7 +520,7 @@ walked s t held w =
 abbrev pub is_in_head : ℕ → ℕ → Bool
 is_in_head t p = nat_le (head_place t) p && nat_lt p (head_place t + 3)
 
--- a thread that was reaped lives anew: its head is as at first, an empty list, which points at itself
+-- a thread that was reaped lives again: its head is as at first, an empty list, which points at itself
 -- (get_robust_list(2)), and no pending entry; and it is in no call and owns nothing
 abbrev pub renewed : State → ℕ → After
 renewed s t =
@@ -541,7 +541,7 @@ abbrev pub may_remake : State → ℕ → ℕ → Bool
 may_remake s t m =
     has_thread s t && is_idle (s.threads t).stage && nat_lt m s.layout.mutexes && is_unusable s m
 
--- it makes the mutex anew (pthread_mutex_destroy(3p), pthread_mutex_init(3p)), whose word is w then
+-- it reinitialises the mutex (pthread_mutex_destroy(3p), pthread_mutex_init(3p)), whose word is w then
 abbrev pub reinited : State → ℕ → ℕ → ℕ → After
 reinited s t m w = record { state = record s { words = put s.words (cell_place s.layout m) w }; note = Reinited t m }
 

@@ -53,7 +53,7 @@ reap_facts t true = Reap t ∷ []
 abbrev pub reinit_of : ℕ → Begun
 reinit_of m = record { operation = operation.Reinit; mutex = m; condition = None }
 
--- what an event did, one thing after the other; a remake is told as a call of one event
+-- what an event did, one thing after the other; a remake is recorded as a call of one event
 abbrev pub facts_of : Note → List Fact
 facts_of Nothing = []
 facts_of (Began t c refused) = Begin t c ∷ refusal_facts t c refused

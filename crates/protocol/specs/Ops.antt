@@ -1,4 +1,4 @@
--- What is told of calls, and the words that sleepers sleep on.
+-- What is recorded of calls, and the words that sleepers sleep on.
 use Rattle.std.specs.Prelude.{ℕ}
 use Rattle.memorymap.specs.Layouts.{Layout', cell_place, counter_place}
 use Rattle.condvar.specs.Ops.{operation_of, mutex_of, condition_of}

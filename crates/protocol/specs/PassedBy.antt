@@ -4,9 +4,9 @@
 -- counted on the condition variable, and at a later one still the thread, which had begun no other call, fell asleep
 -- there. No wait is. The event at which a signal returns OK wakes the first of its condition variable's queue, and
 -- nobody only where that was empty; the one at which a broadcast does moves all of it, in its order, and leaves nobody
--- there; nothing else is told of these events but the return. The law `nobody_is_passed_by` states it of every layout
--- and list of events, with counters that are at most 2^32 - 1 at the beginning. Source: pthread_cond_signal(3p),
--- pthread_cond_broadcast(3p).
+-- there; nothing else is recorded of these events but the return. The law `nobody_is_passed_by` states it of every
+-- layout and list of events, with counters that are at most 2^32 - 1 at the beginning. Source:
+-- pthread_cond_signal(3p), pthread_cond_broadcast(3p).
 --
 -- *No counter wraps.* A wait tells by the counter's value whether a signal came since it looked, so no count may bring
 -- back a value that a waiter has seen. If no counter is above 2^32 - 1 at the beginning, none does: at 2^32 - 1 a
@@ -35,7 +35,7 @@ use Rattle.protocol.specs.Sleepers.{IsAmong}
 
 -- ---- what a trace tells of calls
 
--- the call that thread t began last, as it was told; before these facts it was c
+-- the call that thread t began last, as it was recorded; before these facts it was c
 abbrev pub last_begun : ℕ → Option Begun → List Fact → Option Begun
 last_begun t c [] = c
 last_begun t c (Begin u b ∷ fs) = last_begun t (if u == t then Some b else c) fs
@@ -59,7 +59,7 @@ Counts Signal OK = Unit {0}
 Counts Broadcast OK = Unit {0}
 Counts op x = ⊥
 
--- a call, as it was told, is on condition variable k
+-- a call, as it was recorded, is on condition variable k
 abbrev pub IsOn : ℕ → Option Begun → Type 0
 IsOn k None = ⊥
 IsOn k (Some b) = b.condition ≡ Some k
@@ -86,7 +86,7 @@ pub record IsPassedBy (t k : ℕ) (told : List Note) : Type 0 where
 
 -- ---- wakes and moves
 
--- at this event a call of thread t, as it was told, of this operation on condition variable k, returns OK
+-- at this event a call of thread t, as it was recorded, of this operation on condition variable k, returns OK
 pub record ReturnsOk (s : State) (events before after : List Event) (t k : ℕ) (b : Begun) (op : Operation) : Type 0
   where
     pub happened : events ≡ before ++ Step t ∷ after
@@ -100,13 +100,13 @@ abbrev pub waiters_of : State → List Event → ℕ → List ℕ
 waiters_of s before k = (run s before).queues (queue_place s.layout (Condition k))
 
 -- the event at which a signal returns OK woke the first of its condition variable's queue, as that was before it, and
--- nobody only where it was empty; nothing else is told of the event
+-- nobody only where it was empty; nothing else is recorded of the event
 abbrev pub WakesFirst : State → List Event → Type 0
 WakesFirst s events = (before after : List Event) (t k : ℕ) (b : Begun) → ReturnsOk s events before after t k b Signal
     → facts_of (happens (run s before) (Step t)).note ≡ map Wake (take 1 (waiters_of s before k)) ++ Return t OK ∷ []
 
 -- the event at which a broadcast returns OK moved, in their order, all who stood in its condition variable's queue
--- before it; nothing else is told of the event, and nobody stands there directly after it
+-- before it; nothing else is recorded of the event, and nobody is there directly after it
 abbrev pub MovesAll : State → List Event → Type 0
 MovesAll s events = (before after : List Event) (t k : ℕ) (b : Begun) → ReturnsOk s events before after t k b Broadcast
     → (facts_of (happens (run s before) (Step t)).note

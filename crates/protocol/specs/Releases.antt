@@ -1,7 +1,7 @@
 -- A wait gives up a consistent mutex alone (pthread_cond_wait(3p); of an inconsistent one that would make it unusable).
 --
--- *What a wait releases.* Where an event tells an unlock with OK of a thread whose call, as it was told, is a wait,
--- that thread owned the wait's mutex directly before, and it was consistent: the law
+-- *What a wait releases.* Where an event tells an unlock with OK of a thread whose call, as it was recorded, is a
+-- wait, that thread owned the wait's mutex directly before, and it was consistent: the law
 -- `waits_release_consistent_mutexes`. Source: pthread_cond_wait(3p).
 use Rattle.std.specs.Prelude.{ℕ, ◌≡◌, false, Some, List}
 use Rattle.lockword.specs.declared.reply.Reply.TheVariants.{OK}
@@ -23,8 +23,8 @@ pub record OwnsConsistent (s : State) (t m : ℕ) : Type 0 where
   pub consistent : (seen s m).inconsistent ≡ false
 
 -- whatever happened, with any values of the counters at the beginning: where the next event tells that thread t
--- unlocked mutex m with OK, and its call, as it was told, is a wait, with a time limit or without, then that is on this
--- mutex, which t owned directly before, and which was consistent
+-- unlocked mutex m with OK, and its call, as it was recorded, is a wait, with a time limit or without, then that is
+-- on this mutex, which t owned directly before, and which was consistent
 abbrev pub WaitsReleaseConsistentMutexes : Type 0
 WaitsReleaseConsistentMutexes = (l : Layout') (counters : ℕ → ℕ) (events : List Event) → IsLayout l
     → (e : Event) (t m : ℕ) (b : Begun)

@@ -1,4 +1,4 @@
--- Threads that were reaped and live anew: an id is used again.
+-- Threads that were reaped and live again: an id is used again.
 use Rattle.std.specs.Prelude.{ℕ, ◌≡◌, ◌≢◌, ◌+◌, ◌<◌, ◌≤◌, true, Some, List, [], ◌∷◌, ◌++◌}
 use Rattle.memorymap.specs.Layouts.{Layout', IsLayout, head_place, first_word}
 use Rattle.facts.specs.declared.fact.Fact.TheVariants as fact
@@ -32,7 +32,7 @@ abbrev pub RenewsSo : State → ℕ → Type 0
 RenewsSo s t = (s.threads t).stage ≡ Reaped
     → OnlyRenews s (happens s (Renew t)).state t × (facts_of (happens s (Renew t)).note ≡ fact.Renew t ∷ [])
 
--- whatever happened, with any values of the counters at the beginning: so each thread of the layout begins anew
+-- whatever happened, with any values of the counters at the beginning: so each thread of the layout begins again
 abbrev pub RenewalsBeginAnew : Type 0
 RenewalsBeginAnew = (l : Layout') (counters : ℕ → ℕ) (events : List Event) → IsLayout l → (t : ℕ) → 1 ≤ t
     → t ≤ l.threads → RenewsSo (run (start l counters) events) t
@@ -45,7 +45,7 @@ NobodyIsRenewed [] = Unit {0}
 NobodyIsRenewed (Renew t ∷ es) = ⊥
 NobodyIsRenewed (e ∷ es) = NobodyIsRenewed es
 
--- then what is told of each thread is one life, and a death is reported however much happens behind it
+-- then what is recorded of each thread is one life, and a death is reported however much happens after it
 pub record LivesOnce (s : State) (events : List Event) : Type 0 where
   pub lives : (t : ℕ) → Life t (own t (lines_from 1 (notes s events)))
   pub deaths : (before after : List Event) (t : ℕ) → events ≡ before ++ Kill t ∷ after

@@ -5,8 +5,9 @@
 -- wait has its mutex's cell, and the counter of its condition variable until it is moved or woken. It is awake in a
 -- call or dying where it stands in no queue. Source: futex(2).
 --
--- *Owes.* A thread owes a mutex where, run alone, within so many steps it owns the mutex or one that slept on it sleeps
--- there no more. Whenever a mutex that nobody owns has sleepers, some awake thread owes it, within 9,000 steps.
+-- *Owes.* A thread owes a mutex where, run alone, within this many steps it owns the mutex or one that slept on it
+-- sleeps there no more. Whenever a mutex that nobody owns has sleepers, some awake thread owes it, within 9,000
+-- steps.
 --
 -- *Undivided.* A call that no other event divides has its return told after 9,000 steps of its thread at the latest, or
 -- its thread sleeps then. What it returns is a reply that the object's step has for the mutex as it was, never X_RACED,
@@ -93,10 +94,10 @@ pub record IsWaiting (o : Object) (t : ℕ) (op : Operation) (condition : Option
   pub owns : (o.owner ≡ Some t) × (o.inconsistent ≡ false)
   pub there : (k : ℕ) × (condition ≡ Some k) × StandsIn s' t (Condition k)
 
--- a call and n steps of its thread, which no other event divides: after 9,000 its return has been told, or it sleeps.
--- Whatever it returns is a reply of its mutex's object as it was, never X_RACED, and leaves that object as it is then;
--- and it sleeps only where it is a lock of a mutex that another owns, or a wait by the owner of a consistent one, and
--- that in the queue of its condition variable
+-- a call and n steps of its thread, which no other event divides: after 9,000 its return has been recorded, or it
+-- sleeps. Whatever it returns is a reply of its mutex's object as it was, never X_RACED, and leaves that object as
+-- it is then; and it sleeps only where it is a lock of a mutex that another owns, or a wait by the owner of a
+-- consistent one, and that in the queue of its condition variable
 pub record IsUndivided (s : State) (t : ℕ) (c : Op) (n : ℕ) : Type 0 where
   pub ends : 9000 ≤ n
       → ((x : Reply) × IsAmong (Return t x) (facts_among (notes s (Begin t c ∷ replicate n (Step t)))))

@@ -66,7 +66,7 @@ abbrev pub MaySpare : State → ℕ → LeftTo → Type 0
 MaySpare s t by = (m : ℕ) × (then : Stage) × WakesOneOf s t m then × IsLeftTo s t m by
 
 -- thread t's wake is spared, from state s to s': no word and no queue changes, and no other thread; it goes on as
--- behind a wake of one, and owns as many mutexes
+-- after a wake of one, and owns as many mutexes
 pub record OnlySpares (s s' : State) (t : ℕ) (then : Stage) : Type 0 where
   pub words : (p : ℕ) → s'.words p ≡ s.words p
   pub queues : (key : ℕ) → s'.queues key ≡ s.queues key

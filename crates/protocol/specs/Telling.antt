@@ -1,4 +1,4 @@
--- A note's facts, as they are told one after the other.
+-- A note's facts, as they are recorded one after the other.
 use Rattle.std.specs.Prelude.{ℕ, Option, List, ◌++◌, map, option_to_list}
 use Rattle.facts.specs.declared.fact.Fact.{Fact}
 use Rattle.facts.specs.declared.fact.Fact.TheVariants.{Wake}

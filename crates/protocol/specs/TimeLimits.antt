@@ -1,12 +1,13 @@
 -- Why a lock, or a wait, is out of time (pthread_mutex_timedlock(3p), pthread_cond_timedwait(3p)).
 --
 -- *A reason to be out of time.* A lock is told to be out of time only where another thread owned its mutex at some
--- moment since its begin was told. Of each thread, each mutex and every list of events: the law
+-- moment since its begin was recorded. Of each thread, each mutex and every list of events: the law
 -- `nobody_times_out_early`.
 --
--- *Owned meanwhile.* Of facts that tell how a thread began a call, and what was told since: at the moment of the begin,
--- or behind a later fact, another thread owned the mutex. Not the thread itself, not nobody, and nobody who owned it
--- only before. So much, and no less, is what `Chances` finds with any list of facts: the law `waited_is_owned`.
+-- *Owned meanwhile.* Of facts that tell how a thread began a call, and what was recorded since: at the moment of the
+-- begin, or after a later fact, another thread owned the mutex. Not the thread itself, not nobody, and nobody who
+-- owned it only before. So much, and no less, is what `Chances` finds with any list of facts: the law
+-- `waited_is_owned`.
 --
 -- *Late.* A thread's wait is late from its expiry, as that was noted, up to the thread's next begin. A wait with a time
 -- limit returns ETIMEDOUT only where it is late, and OK only where it isn't. So one that was woken, or moved to its
@@ -15,8 +16,8 @@
 --
 -- *Without limits.* Where no time limit comes, locks and waits with a limit are as those without one. No lock is told to
 -- be out of time, so that none returns ETIMEDOUT; and if each had begun without its limit, every event would have been
--- noted as it was, but for the name of the operation in these begins, and each word and each queue would be the same. So
--- no wait returns ETIMEDOUT either. The law `without_expiries_as_before`.
+-- noted as it was, except for the name of the operation in these begins, and each word and each queue would be the
+-- same. So no wait returns ETIMEDOUT either. The law `without_expiries_as_before`.
 use Rattle.std.specs.Prelude.{ℕ, ◌≡◌, ◌≢◌, ◌==◌, ◌↔◌, Bool, true, false, Some, List, [], ◌∷◌, ◌++◌, map, if◌then◌else◌}
 use Rattle.lockword.specs.declared.reply.Reply.{Reply}
 use Rattle.lockword.specs.declared.reply.Reply.TheVariants.{OK, ETIMEDOUT}
@@ -65,8 +66,8 @@ decided_after m o (d ∷ ds) = decided_after m (if d.mutex == m then stepped o d
 abbrev pub mutex_told : ℕ → List Fact → Object
 mutex_told m fs = decided_after m fresh (points_of fs)
 
--- thread t began that call, and these facts were told since; at some moment of these another thread owned mutex m: in
--- the beginning, where nothing was told yet since the begin, or later
+-- thread t began that call, and these facts were recorded since; at some moment of these another thread owned mutex
+-- m: in the beginning, where nothing was recorded yet since the begin, or later
 pub record OwnedMeanwhile (t m : ℕ) (before : List Fact) (call : Begun) (since : List Fact) : Type 0 where
   pub during : List Fact
   pub later : List Fact
@@ -75,7 +76,7 @@ pub record OwnedMeanwhile (t m : ℕ) (before : List Fact) (call : Begun) (since
   pub another : owner ≢ t
   pub owns : (mutex_told m (before ++ Begin t call ∷ during)).owner ≡ Some owner
 
--- whatever is told, as long as that is the thread's last call
+-- whatever is recorded, as long as that is the thread's last call
 abbrev pub WaitedIsOwned : Type 0
 WaitedIsOwned = (t m : ℕ) (before : List Fact) (call : Begun) (since : List Fact) → BeginsNone t since
     → ((chances_after t m no_chances (before ++ Begin t call ∷ since)).waited ≡ true)
@@ -97,8 +98,8 @@ late_after t late (n ∷ ns) = late_after t (late_next t late n) ns
 abbrev pub is_late : ℕ → List Note → Bool
 is_late t ns = late_after t false ns
 
--- behind these events, where thread t is in a wait with a time limit, as that was told, its step returns ETIMEDOUT only
--- if it is late, and OK only if it isn't
+-- after these events, where thread t is in a wait with a time limit, as that was recorded, its step returns
+-- ETIMEDOUT only if it is late, and OK only if it isn't
 abbrev pub RepliesByLimit : State → List Event → ℕ → Type 0
 RepliesByLimit s events t = (b : Begun) (x : Reply) → call_told t (notes s events) ≡ Some b
     → b.operation ≡ operation.TimedWait → IsAmong (Return t x) (facts_of (happens (run s events) (Step t)).note)
@@ -159,8 +160,8 @@ abbrev pub unlimited_note : Note → Note
 unlimited_note (Began t c refused) = Began t (record c { operation = untimed c.operation }) refused
 unlimited_note n = n
 
--- no lock is out of time; and if each had begun without its limit, then all would have been noted as it was, but for
--- the names of these begins, each word would be the same, and each queue
+-- no lock is out of time; and if each had begun without its limit, then all would have been noted as it was, except
+-- for the names of these begins, each word would be the same, and each queue
 pub record AsWithoutLimits (s : State) (events : List Event) : Type 0 where
   pub in_time : AreInTime (facts_among (notes s events))
   pub noted : notes s (map unlimited_event events) ≡ map unlimited_note (notes s events)

@@ -40,8 +40,8 @@ abbrev pub IsTrimmed : State → ℕ → ℕ → Type 0
 IsTrimmed s t m = (run s (Step t ∷ Step t ∷ [])).words (cell_place s.layout m)
     ≡ (if s.words (cell_place s.layout m) == 0x8000_0000 then 0 else s.words (cell_place s.layout m))
 
--- whoever sleeps on a mutex is told of in its word; at each event WAITERS stays so; and an unlock that finds nobody to
--- wake takes it away
+-- WAITERS in the word of a mutex says that somebody sleeps there; at each event WAITERS stays so; and an unlock that finds nobody
+-- to wake takes it away
 pub record WaitersAreTold (s : State) : Type 0 where
   pub told : (m t : ℕ) → m < s.layout.mutexes → Sleeps s t m → HasWaiters s m
   pub stay : (e : Event) → WaitersStay s (run s (e ∷ []))

@@ -2,14 +2,14 @@
 -- pthread_mutexattr_getrobust(3p), for ENOTRECOVERABLE; robust-futexes).
 --
 -- *Whom an event wakes.* A step of a thread in a call tells the wakes of nobody, or of just those whom the call is to
--- wake, as it was told: the first of its mutex's queue, or all of that, in its order, where the mutex was unusable
--- directly behind the event of the call's last point (`left_by`), and nobody before it has had one; of a signal the
--- first of its condition variable's queue; of a trylock, a declaration and a broadcast nobody. It tells the moves of
--- nobody, or of a broadcast those of all its condition variable's queue to its mutex's. A step of a dead thread's walk
--- tells the wake of nobody, or of the first of a mutex's queue; a leave and an expiry tell the wake of their own thread
--- or none, and no move (`WakesItself`); a begin, a kill, a decline and a spare tell no wake and no move. Of every state
--- that events lead to: the law `wakes_are_right`. Source: pthread_mutex_unlock(3p), pthread_cond_signal(3p),
--- pthread_cond_broadcast(3p), pthread_mutexattr_getrobust(3p), robust-futexes.
+-- wake, as it was recorded: the first of its mutex's queue, or all of that, in its order, where the mutex was
+-- unusable directly after the event of the call's last point (`left_by`), and nobody before it has had one; of a
+-- signal the first of its condition variable's queue; of a trylock, a declaration and a broadcast nobody. It tells
+-- the moves of nobody, or of a broadcast those of all its condition variable's queue to its mutex's. A step of a
+-- dead thread's walk tells the wake of nobody, or of the first of a mutex's queue; a leave and an expiry tell the
+-- wake of their own thread or none, and no move (`WakesItself`); a begin, a kill, a decline and a spare tell no wake
+-- and no move. Of every state that events lead to: the law `wakes_are_right`. Source: pthread_mutex_unlock(3p),
+-- pthread_cond_signal(3p), pthread_cond_broadcast(3p), pthread_mutexattr_getrobust(3p), robust-futexes.
 use Rattle.std.specs.Prelude.{ℕ, ◌≡◌, ◌<◌, ◌==◌, ◌⊎◌, Option, Some, None, List, [], ◌∷◌, map, take, if◌then◌else◌}
 use Rattle.posixmutex.specs.declared.object.Object.{Object}
 use Rattle.posixmutex.specs.declared.point.Operation.{Operation}
@@ -44,7 +44,7 @@ moves_in (f ∷ fs) = moves_in fs
 
 -- ---- how a call left its mutex
 
--- the mutex of the last point of thread t's call, as it was directly behind the event of that, and none where the call
+-- the mutex of the last point of thread t's call, as it was directly after the event of that, and none where the call
 -- has had none; by these facts of an event that led to state s, and before them it was o
 abbrev pub left_next : ℕ → State → Option Object → List Fact → Option Object
 left_next t s o [] = o
@@ -61,7 +61,7 @@ left_by t s o (e ∷ es) =
 -- ---- whom a call wakes or moves
 
 -- of those who sleep on a mutex that was left so one is to learn of that, the first; and all, where it is unusable:
--- nobody takes it until it is made anew, which has to wait until nobody sleeps on it
+-- nobody takes it until it is reinitialised, which has to wait until nobody sleeps on it
 abbrev pub to_tell : Option Object → List ℕ → List ℕ
 to_tell None q = []
 to_tell (Some o) q = if o.unusable then q else take 1 q
@@ -90,7 +90,7 @@ whom_it_moves s op k = []
 
 -- ---- one event more
 
--- none are told, or just these, in their order
+-- none are recorded, or just these, in their order
 abbrev pub AreNoneOr : List Fact → List Fact → Type 0
 AreNoneOr these told = (told ≡ []) ⊎ (told ≡ these)
 
@@ -108,7 +108,8 @@ WakesWhom s w b o fs = (wakes_in fs ≡ []) × (moves_in fs ≡ [])
 abbrev pub WakesItself : ℕ → List Fact → Type 0
 WakesItself t fs = AreNoneOr (Wake t ∷ []) (wakes_in fs) × (moves_in fs ≡ [])
 
--- behind these events from state s on; a begin, a kill, a decline, a renewal, a remake and a spare wake and move nobody
+-- after these events from state s on; a begin, a kill, a decline, a renewal, a remake and a spare wake and move
+-- nobody
 abbrev pub WakesSo : State → List Event → Event → Type 0
 WakesSo s events (event.Step t) = WakesWhom (run s events) (last_told t (notes s events)) (call_told t (notes s events))
     (left_by t s None events) (facts_of (happens (run s events) (event.Step t)).note)

@@ -4,15 +4,16 @@
 -- move, wake and kill, where this is a sleep or a move. Its sleeps and wakes alternate: it is told to fall asleep only
 -- where it was awake, and to be woken or moved only where it slept.
 --
--- *Sleeps are told.* A thread stands in a queue exactly where it is told asleep, in the queue told, and in no other. In
--- each queue they stand as they came, by what was told: a sleep comes to its end, a move to the end of the mutex's, and
--- a wake or a kill takes out; each wake by another's event and each move names the front (`NameFronts`: of facts in
--- which nobody leaves by itself, which the law `without_leaves_as_before` has of whole runs). The next event tells its
--- sleep exactly where it comes to stand in a queue, its wake exactly where it leaves one and stands in none, but by its
--- kill, and its move exactly where it leaves that of a condition variable for its mutex's. A sleep is told only of a
--- thread whose call is a lock of that mutex, or a wait on it or on that condition variable. Of every state that events
--- lead to, so of each beginning of a run: the law `sleeps_are_told`, and `Machine::run` of what the machine did
--- (`TellsAtEachMoment`; `interleave/specs/Reached.antt`). Source: futex(2).
+-- *Sleeps are recorded.* A thread stands in a queue exactly where it is recorded asleep, in the queue recorded, and in
+-- no other. In each queue they stand as they came, by what was recorded: a sleep comes to its end, a move to the end
+-- of the mutex's, and a wake or a kill takes out; each wake by another's event and each move names the front
+-- (`NameFronts`: of facts in which nobody leaves by itself, which the law `without_leaves_as_before` has of whole
+-- runs). The next event tells its sleep exactly where it comes to be in a queue, its wake exactly where it leaves
+-- one and stands in none, but by its kill, and its move exactly where it leaves that of a condition variable for its
+-- mutex's. A sleep is recorded only of a thread whose call is a lock of that mutex, or a wait on it or on that
+-- condition variable. Of every state that events lead to, so of each beginning of a run: the law `sleeps_are_told`,
+-- and `Machine::run` of what the machine did (`TellsAtEachMoment`; `interleave/specs/Reached.antt`). Source:
+-- futex(2).
 use Rattle.std.specs.Prelude.{ℕ, length, slice_index, ◌≡◌, ◌≢◌, ◌<◌, ◌==◌, ◌↔◌, ◌⊎◌, Bool, true}
 use Rattle.std.specs.Prelude.{false, Option, Some, None, List, [], ◌∷◌, ◌++◌, if◌then◌else◌}
 use Rattle.buckets.specs.Queues.{without}
@@ -107,7 +108,7 @@ IsFront t [] = ⊥
 IsFront t (u ∷ us) = u ≡ t
 
 -- a wake names the front of a queue, and a move that of a condition variable of the mutex; which queue that is, and how
--- many of it are told, is said in `Wakes.antt`
+-- many of it are recorded, is said in `Wakes.antt`
 abbrev pub NamesFront : Layout' → (Queue → List ℕ) → Fact → Type 0
 NamesFront l w (Wake t) = (q : Queue) × IsQueue l q × IsFront t (w q)
 NamesFront l w (Move t m) =
@@ -133,7 +134,7 @@ AllNoteFronts l w (n ∷ ns) = NotesFronts l w n × AllNoteFronts l (queues_afte
 
 -- ---- one event more
 
--- it stood in no queue, and stands in this one then
+-- it stood in no queue, and is in this one then
 abbrev pub FallsAsleep : State → State → ℕ → Queue → Type 0
 FallsAsleep s s' t q = IsInNoQueue s t × IsQueue s.layout q × StandsIn s' t q
 
@@ -141,12 +142,12 @@ FallsAsleep s s' t q = IsInNoQueue s t × IsQueue s.layout q × StandsIn s' t q
 abbrev pub LeavesQueue : State → State → ℕ → Type 0
 LeavesQueue s s' t = ((key : ℕ) × (stands_in t (s.queues key) ≡ true)) × IsInNoQueue s' t
 
--- it stood in the queue of a condition variable of mutex m, and stands in the mutex's then
+-- it stood in the queue of a condition variable of mutex m, and is in the mutex's then
 abbrev pub IsMoved : State → State → ℕ → ℕ → Type 0
 IsMoved s s' t m = ((k : ℕ) × (k < length s.layout.conditions) × (slice_index s.layout.conditions k ≡ m)
     × StandsIn s t (Condition k)) × StandsIn s' t (Mutex m)
 
--- an event tells thread t's sleep exactly where it comes to stand in a queue, which the sleep names; its wake exactly
+-- an event tells thread t's sleep exactly where it comes to be in a queue, which the sleep names; its wake exactly
 -- where it leaves one and stands in none, but by its kill; and its move exactly where it leaves that of a condition
 -- variable for its mutex's
 pub record TellsTurns (s : State) (e : Event) (t : ℕ) : Type 0 where
@@ -157,8 +158,8 @@ pub record TellsTurns (s : State) (e : Event) (t : ℕ) : Type 0 where
 
 -- ---- whose sleep is told
 
--- a call, as its begin was told, may come to sleep there: a lock, with a time limit or without, in the queue of its
--- mutex, and a wait in that of its condition variable or of its mutex
+-- a call, as its begin was recorded, may come to sleep there: a lock, with a time limit or without, in the queue of
+-- its mutex, and a wait in that of its condition variable or of its mutex
 abbrev pub MaySleepIn : Queue → Option Begun → Type 0
 MaySleepIn q None = ⊥
 MaySleepIn (Mutex m) (Some b) =
@@ -169,8 +170,8 @@ MaySleepIn (Condition k) (Some b) = (b.condition ≡ Some k) × IsWait b.operati
 
 -- of a state that events lead to that were noted so: a thread stands in a queue exactly where the last of its lines
 -- among sleep, move, wake and kill is a sleep or a move, in the one that this names, and in no other; in each queue
--- they stand as they came, by what was told; who is woken or moved is the front; and a sleep is told only of a thread
--- in a lock or a wait, in a queue of that call's
+-- they stand as they came, by what was recorded; who is woken or moved is the front; and a sleep is recorded only of
+-- a thread in a lock or a wait, in a queue of that call's
 pub record TellsSleepers (l : Layout') (s : State) (ns : List Note) : Type 0 where
   pub stands : (t key : ℕ) → stands_in t (s.queues key) ≡ true
       → (q : Queue) × (told_asleep t ns ≡ Some q) × (key ≡ queue_place l q)

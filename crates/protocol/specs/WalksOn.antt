@@ -1,4 +1,4 @@
--- A walk that is kept behind each access, and gone on with by another walker (robust-futexes; get_robust_list(2)).
+-- A walk that is kept after each access, and gone on with by another walker (robust-futexes; get_robust_list(2)).
 use Rattle.std.specs.Prelude.{ℕ, ◌≡◌, ◌≤◌, List}
 use Rattle.lockword.specs.Cells.{fields_of}
 use Rattle.memorymap.specs.Layouts.{Layout', IsLayout, place_in}

@@ -35,10 +35,10 @@ pub enum Event {
     /// The next access of the thread's call, a trim, is declined: whatever the word is, it stays, and the thread is
     /// answered so.
     Decline(Tid),
-    /// The thread, which was reaped, lives anew, with the same id: in no call, with an empty list and nothing pending,
-    /// the owner of nothing.
+    /// The thread, which was reaped, lives again, with the same id: in no call, with an empty list and nothing
+    /// pending, the owner of nothing.
     Renew(Tid),
-    /// The thread, which is in no call, makes the mutex with this number anew, which is unusable
+    /// The thread, which is in no call, reinitialises the mutex with this number, which is unusable
     /// (pthread_mutex_destroy(3p), pthread_mutex_init(3p)): by the exchange that ends such a call, whose look at the word
     /// and question who sleeps came before, and changed nothing. WAITERS stays, for whoever sleeps on it by now.
     Remake(Tid, u16),

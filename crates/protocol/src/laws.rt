@@ -34,9 +34,9 @@ pub fn no_reaped_owner()
     ensures { NoReapedOwner }
 {}
 
-/// Whatever happens, wherever a thread is killed, at each moment until it is renewed: its death is told, once, of each
-/// mutex that it owned and has lost since, and of no other; once it is reaped, of each that it owned. So of each life
-/// of a thread its own mutexes are told.
+/// Whatever happens, wherever a thread is killed, at each moment until it is renewed: its death is recorded, once,
+/// of each mutex that it owned and has lost since, and of no other; once it is reaped, of each that it owned. So of
+/// each life of a thread its own mutexes are reported.
 pub fn deaths_are_told()
     ensures { DeathsAreTold }
 {}
@@ -46,7 +46,7 @@ pub fn deaths_are_told()
 /// return its reply, each at an event of that thread, and no point belongs to any other call. But a wait that isn't
 /// refused has two: it unlocks its mutex, and later locks it again, with the reply that it returns. Of the lines of one
 /// event a begin is the first, a return or a reaping the last, a renewal the only one, and whom it wakes or moves
-/// stands behind its point.
+/// stands after its point.
 pub fn trace_is_explained()
     ensures { TraceIsExplained }
 {}
@@ -71,7 +71,7 @@ pub fn undivided_calls_reply()
 {}
 
 /// Whatever happens, the words from each thread's head are a list of mutexes that it owns, 2,048 at most: of all of
-/// them, but for the one whose entry is pending. So the kernel would find at any moment what the thread owns.
+/// them, except for the one whose entry is pending. So the kernel would find at any moment what the thread owns.
 pub fn lists_are_kept()
     ensures { ListsAreKept }
 {}
@@ -80,40 +80,42 @@ pub fn lists_are_kept()
 /// it began last, killed or reaped; a begin by a thread in no call, on a mutex or condition variable of the layout, is
 /// noted as a begin, which is refused only where it is to take a mutex and the thread owns 2,048; a kill of a thread
 /// that lives is noted; a step is an access of its thread where that is in a call, or was killed and not reaped, and
-/// sleeps on nothing; a leave is its thread's where that sleeps, and an expiry where it sleeps in a lock that was told
-/// with a time limit, or on a condition variable in a wait that was; a decline is an access of its thread's call, and of that call's mutex, that tells nothing, where
-/// the thread's next access is a trim; a renewal is its thread's where that was reaped, and hasn't been renewed since;
-/// and a remake is that of its mutex where its thread lives and is in no call, and the mutex, one of the layout, is
-/// unusable, whoever sleeps on it; a spare where its law says. Every other event is noted as nothing, and changes
-/// nothing.
+/// sleeps on nothing; a leave is its thread's where that sleeps, and an expiry where it sleeps in a lock that was
+/// recorded with a time limit, or on a condition variable in a wait that was; a decline is an access of its thread's
+/// call, and of that call's mutex, that tells nothing, where the thread's next access is a trim; a renewal is its
+/// thread's where that was reaped, and hasn't been renewed since; and a remake is that of its mutex where its thread
+/// lives and is in no call, and the mutex, one of the layout, is unusable, whoever sleeps on it; a spare where its
+/// law says. Every other event is noted as nothing, and changes nothing.
 pub fn events_apply()
     ensures { EventsApply }
 {}
 
 /// Whatever happens: a thread stands in a queue exactly where the last of its lines among sleep, move, wake and kill is
 /// a sleep or a move, in that of the mutex or condition variable that this names. So its sleeps and wakes alternate; a
-/// sleep is told exactly where it comes to stand in a queue, a wake exactly where it leaves one and stands in none, but
-/// by its kill, and a move exactly where it leaves that of a condition variable for its mutex's. In each queue they
-/// stand in the order in which they came, as it was told, and whoever another's event wakes, or moves, is the front of
-/// a queue (of which one, says [`wakes_are_right`]); who leaves by itself stands anywhere in one. And a sleep is told
-/// only of a thread whose call is a lock of that mutex, or a wait on it or on that condition variable.
+/// sleep is recorded exactly where it comes to be in a queue, a wake exactly where it leaves one and stands in none,
+/// but by its kill, and a move exactly where it leaves that of a condition variable for its mutex's. In each queue
+/// they are in the order in which they came, as it was recorded, and whoever another's event wakes, or moves, is the
+/// front of a queue (of which one, says [`wakes_are_right`]); who leaves by itself stands anywhere in one. And a
+/// sleep is recorded only of a thread whose call is a lock of that mutex, or a wait on it or on that condition
+/// variable.
 pub fn sleeps_are_told()
     ensures { SleepsAreTold }
 {}
 
-/// Whatever happens: a step wakes or moves nobody, or just those whom its thread's call, as it was told, is to: once it
-/// has had a point, the first of the queue of its mutex, or all of them, in their order, where its last point left that
-/// mutex unusable; where the call is a signal, the first of its condition variable's queue; a broadcast moves all of
-/// its condition variable's, in their order, to its mutex's. The walk of a dead thread's list wakes the first of a
-/// mutex's queue. A leave wakes its own thread or nobody, and moves nobody. No other event wakes or moves anybody.
+/// Whatever happens: a step wakes or moves nobody, or just those whom its thread's call, as it was recorded, is to:
+/// once it has had a point, the first of the queue of its mutex, or all of them, in their order, where its last
+/// point left that mutex unusable; where the call is a signal, the first of its condition variable's queue; a
+/// broadcast moves all of its condition variable's, in their order, to its mutex's. The walk of a dead thread's list
+/// wakes the first of a mutex's queue. A leave wakes its own thread or nobody, and moves nobody. No other event
+/// wakes or moves anybody.
 pub fn wakes_are_right()
     ensures { WakesAreRight }
 {}
 
 /// Whatever happens, with counters that are at most 2^32 - 1 at the beginning: a thread that released its mutex in a
-/// wait before a signal or a broadcast counted doesn't fall asleep on that condition variable behind it. And the event
+/// wait before a signal or a broadcast counted doesn't fall asleep on that condition variable after it. And the event
 /// at which a signal returns OK wakes the first of its condition variable's queue, and nobody only where that is empty;
-/// the one at which a broadcast does moves all of that queue, in its order, and directly after it nobody stands there.
+/// the one at which a broadcast does moves all of that queue, in its order, and directly after it nobody is there.
 /// No counter wraps, since at 2^32 - 1 signals and broadcasts are refused, with `XFULL`.
 pub fn nobody_is_passed_by()
     ensures { NobodyIsPassedBy }
@@ -142,47 +144,47 @@ pub fn walks_go_on()
 {}
 
 /// Whatever happened before: a thread that leaves its queue changes no word, no thread and no place of another in a
-/// queue, and its wake is told, once, and nothing else; so it goes on as one that was woken. A trim that is declined
-/// changes no word and no queue and tells nothing, and its thread goes on as where the trim is made.
+/// queue, and its wake is recorded, once, and nothing else; so it goes on as one that was woken. A trim that is
+/// declined changes no word and no queue and tells nothing, and its thread goes on as where the trim is made.
 pub fn leaves_and_declines_are_lone()
     ensures { LeavesAreLone }
 {}
 
 /// Whatever happens, where nobody leaves by itself, trims declined or not: each wake names the front of a queue, by all
-/// that was told before it.
+/// that was recorded before it.
 pub fn without_leaves_as_before()
     ensures { FrontsAreWoken }
 {}
 
-/// Whatever happened before: a thread that was reaped begins anew where it is renewed, and only that is told. It is in
-/// no call and in no queue, its list is empty, nothing is pending, and it owns no mutex and counts none as its own; no
-/// other word, no other thread and no queue changes.
+/// Whatever happened before: a thread that was reaped begins again where it is renewed, and only that is recorded.
+/// It is in no call and in no queue, its list is empty, nothing is pending, and it owns no mutex and counts none as
+/// its own; no other word, no other thread and no queue changes.
 pub fn renewals_begin_anew()
     ensures { RenewalsBeginAnew }
 {}
 
-/// Whatever else happens, where nobody is renewed: each thread has one life, and its death is told of the mutexes that
-/// it owned, however much happens behind it.
+/// Whatever else happens, where nobody is renewed: each thread has one life, and its death is recorded of the
+/// mutexes that it owned, however much happens after it.
 pub fn without_renewals_as_before()
     ensures { LivesAreOne }
 {}
 
-/// Whatever happened before: a thread makes a mutex anew exactly where it lives and is in no call, and the mutex is
-/// unusable, whoever sleeps on it by then; else its remake does nothing. The mutex is free then, as at first, and its
-/// word has WAITERS where it had, so that the next release finds it, and nothing else. No other word changes, no other
-/// mutex, no queue and no thread, and what is told is a call of this one event: its begin, its point and its return with
-/// OK.
+/// Whatever happened before: a thread reinitialises a mutex exactly where it lives and is in no call, and the mutex
+/// is unusable, whoever sleeps on it by then; else its remake does nothing. The mutex is free then, as at first, and
+/// its word has WAITERS where it had, so that the next release finds it, and nothing else. No other word changes, no
+/// other mutex, no queue and no thread, and what is recorded is a call of this one event: its begin, its point and
+/// its return with OK.
 pub fn remakes_forget_nobody()
     ensures { RemakesForgetNobody }
 {}
 
-/// Whatever else happens, where nobody makes it anew: a mutex that became unusable stays so.
+/// Whatever else happens, where nobody reinitialises it: a mutex that became unusable stays so.
 pub fn without_reinits_as_before()
     ensures { UnusableStays }
 {}
 
 /// Whatever happened before: nobody comes to sleep on a mutex that is unusable. So whoever sees that nobody sleeps
-/// there finds nobody asleep there later either, until the mutex is made anew.
+/// there finds nobody asleep there later either, until the mutex is reinitialised.
 pub fn nobody_joins_an_unusable_mutex()
     ensures { NobodyJoinsAnUnusableMutex }
 {}
@@ -205,14 +207,14 @@ pub fn events_leave_the_rest()
 {}
 
 /// Whatever happens, with counters that are at most 2^32 - 1 at the beginning: each counter is what it was then, and
-/// one more for each signal and each broadcast on its condition variable that had its point with OK, by what was told;
-/// and from any moment on what it was then, and one more for each since. At 2^32 - 1 they are refused with `XFULL`, so
-/// that no counter wraps.
+/// one more for each signal and each broadcast on its condition variable that had its point with OK, by what was
+/// recorded; and from any moment on what it was then, and one more for each since. At 2^32 - 1 they are refused with
+/// `XFULL`, so that no counter wraps.
 pub fn counters_count_up()
     ensures { CountersCountUp }
 {}
 
-/// Whatever happens: where a wait unlocks a mutex with OK, by what was told, its thread owned that mutex directly
+/// Whatever happens: where a wait unlocks a mutex with OK, by what was recorded, its thread owned that mutex directly
 /// before, and the mutex was consistent. So no wait makes its mutex unusable.
 pub fn waits_release_consistent_mutexes()
     ensures { WaitsReleaseConsistentMutexes }
@@ -238,14 +240,15 @@ pub fn expiries_are_lone()
 {}
 
 /// Whatever happens: a lock is told to be out of time only where another thread owned its mutex at some moment since
-/// the call began, by what was told. So no call is that could have locked the mutex at each moment since it began.
+/// the call began, by what was recorded. So no call is that could have locked the mutex at each moment since it
+/// began.
 pub fn nobody_times_out_early()
     ensures { NobodyTimesOutEarly }
 {}
 
-/// Whatever is told, of a thread that began a call and no other since: what counts for it as a reason to be out of time
-/// is that another thread owned the mutex at a moment since that begin, the begin itself included. The thread itself
-/// doesn't count, nobody doesn't, and no owner from before.
+/// Whatever is recorded, of a thread that began a call and no other since: what counts for it as a reason to be out
+/// of time is that another thread owned the mutex at a moment since that begin, the begin itself included. The
+/// thread itself doesn't count, nobody doesn't, and no owner from before.
 pub fn waited_is_owned()
     ensures { WaitedIsOwned }
 {}
@@ -259,8 +262,8 @@ pub fn late_waits_time_out()
 
 /// Whatever else happens, where no time limit comes: no lock is told to be out of time, so that none returns ETIMEDOUT
 /// (`trace_is_explained`), nor does a wait. And a lock or a wait with a limit is as one without: if each had begun without it, every event would
-/// have been noted as it was, but for the name of the operation in these begins, and each word and each queue would be
-/// the same.
+/// have been noted as it was, except for the name of the operation in these begins, and each word and each queue
+/// would be the same.
 pub fn without_expiries_as_before()
     ensures { LocksWithoutLimits }
 {}

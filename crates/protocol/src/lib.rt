@@ -2,9 +2,9 @@
 //!
 //! A state is the words, who sleeps on each, and for each thread the call that it is in. An [`Event`] begins a call,
 //! makes its next access, kills a thread, takes a sleeper out of its queue, lets the time limit of a lock or a wait
-//! come, declines a trim, renews a reaped thread or makes an unusable mutex anew; `specs/` says what each event does and notes
-//! ([`Note`]), and a trace is what the notes tell ([`Note::facts`]). The theorems about every run, wherever threads are
-//! killed and renewed, and mutexes made anew:
+//! come, declines a trim, renews a reaped thread or reinitialises an unusable mutex; `specs/` says what each event
+//! does and notes ([`Note`]), and a trace is what the notes tell ([`Note::facts`]). The theorems about every run,
+//! wherever threads are killed and renewed, and mutexes reinitialised:
 //!
 //! - `history_is_legal`: the points and the deaths are one legal history of POSIX robust mutexes;
 //! - `trace_is_explained`, `events_apply`: each call has its points and returns their reply, and no event is passed
@@ -20,16 +20,16 @@
 //!   `without_expiries_as_before`: what a time limit does that comes; that a lock is out of time only where one came and
 //!   another thread owned its mutex since it began; that a wait returns ETIMEDOUT only where its limit came, and OK only
 //!   where it didn't; and that locks and waits with a limit that never comes are as those without one;
-//! - `renewals_begin_anew`, `without_renewals_as_before`: what a reaped thread that lives anew finds, and leaves as it
-//!   is;
+//! - `renewals_begin_anew`, `without_renewals_as_before`: what a reaped thread that lives again finds, and leaves as
+//!   it is;
 //! - `remakes_forget_nobody`, `without_reinits_as_before`, `nobody_joins_an_unusable_mutex`: what it is to make an
-//!   unusable mutex anew, and that nothing else does;
+//!   unusable mutex as new, and that nothing else does;
 //! - `only_locks_and_waits_wait`: the other calls return in time, whatever others do;
 //! - `events_leave_the_rest`: what an event may change;
 //! - `nobody_is_passed_by`, `signals_are_right`, `counters_count_up`, `waits_release_consistent_mutexes`: of condition
 //!   variables.
 //!
-//! Stands on `mutex` and `condvar`, for the calls' programs, on `robustlist` and `exitwalk`, for lists and the walk
+//! Is on `mutex` and `condvar`, for the calls' programs, on `robustlist` and `exitwalk`, for lists and the walk
 //! over them, on `memorymap`, `stepprograms` and `posixmutex`, for layouts, accesses and histories, on `buckets`, for
 //! who is woken or moved, on `facts`, for what notes tell, and on `lockword`, for cells and replies.
 //!

@@ -55,18 +55,18 @@ pub enum Note {
         woken: Batch,
         reaped: bool,
     },
-    /// A thread that was reaped lives anew.
+    /// A thread that was reaped lives again.
     Renewed {
         thread: Tid,
     },
-    /// A thread made an unusable mutex anew.
+    /// A thread reinitialised an unusable mutex.
     Reinited {
         thread: Tid,
         mutex: u16,
     },
 }
 
-/// The threads of a batch that are still to be told of, in their order.
+/// The threads of a batch that are still to be recorded, in their order.
 #[derive(Drop)]
 struct Members {
     batch: Batch,
@@ -109,7 +109,7 @@ impl Iterator for Members {
     }
 }
 
-/// What is still to be told of a note, one fact after the other. It takes no memory.
+/// What is still to be recorded of a note, one fact after the other. It takes no memory.
 #[derive(Drop)]
 pub struct Facts {
     first: Option<Fact>,

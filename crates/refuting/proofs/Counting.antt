@@ -81,7 +81,7 @@ shifts o t Death OK n h = gives t o n h.0 (ap (λ (z : Object). z.owner) h.1)
 shifts o t Reinit OK n h = ap (λ z. one (is_thread t z) + 0) (ap (λ (z : Object). z.owner) h.2 ∙ sym h.1)
 shifts o t op x n h = absurd h
 
--- who is told X_HELD keeps what it has
+-- who gets X_HELD keeps what it has
 refused : (o : Object) (t : ℕ) (op : Operation) (n : Object) → acquires op ≡ true → n ≡ o → Shifts o t op XHELD n
 refused o t Lock n e same = stays t o n same
 refused o t TryLock n e same = stays t o n same
@@ -239,7 +239,7 @@ point_counted k Nothing t b y o new z before after lines wait may does counts c 
       let sum : after + 1 ≡ lines + 0 = omega (arith, shift, counts, same) in
       subst (λ q. Counted (stage.Calling k q z) after lines) (sym (ap (λ q. pointed k.operation q y) release.0 ∙ waits_released k.operation y a)) (sum, tt)
 
-  -- a lock with a time limit that is told as a lock
+  -- a lock with a time limit that is recorded as a lock
   by_timed : k.operation ≡ TimedLock → (b ≡ TimedLock) ⊎ (b ≡ Lock) → Counted (stage.Calling k (pointed k.operation b y) z) after lines
   by_timed a (inl is) = own_one (is ∙ sym a)
   by_timed a (inr is) =

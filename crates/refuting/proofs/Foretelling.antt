@@ -8,7 +8,7 @@ use Rattle.histories.specs.declared.entry.Entry.{Entry}
 use Rattle.histories.specs.declared.entry.HistoryLine.{HistoryLine}
 use Rattle.refuting.specs.Turns.{entries, entry_thread, replies_of, reply_in}
 
--- of the last lines, so many
+-- of the last lines, this many
 abbrev pub last : List HistoryLine → ℕ → List HistoryLine
 last ls count = drop (length ls - count) ls
 

@@ -23,7 +23,7 @@ noted_more m ts ss rs s all one (inr more) = subst (AreNoted m ts) (sym more) (�
   by_cases r (inl old) = all r old
   by_cases r (inr new) = subst (IsNoted m ts) new one
 
--- the state is there that was added, in place of this one
+-- the state is there that was added, instead of this one
 pub covered_some : (after : Option State) (ss : List State) (s r : State) → after ≡ Some s → Covers r s → Covered ss r → IfSome after (Covered ss)
 covered_some after ss s r is cov c = subst (λ o. IfSome o (Covered ss)) (sym is) (covered_on ss r s c cov)
 

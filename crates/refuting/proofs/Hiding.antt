@@ -138,7 +138,7 @@ plain_released a x = elim_plain a where
   elim_plain Wait = record { look = refl; change = refl; releases = λ o. tt; after = λ y. refl; points = λ y. refl; still = tt; late = λ is. refl }
   elim_plain a = record { look = refl; change = refl; releases = λ o. tt; after = λ y. refl; points = λ y. refl; still = tt; late = λ is. refl }
 
--- a lock with a time limit that is told as a lock
+-- a lock with a time limit that is recorded as a lock
 told_lock : (x : Reply) → x ≢ ETIMEDOUT → told_as TimedLock x ≡ Lock
 told_lock ETIMEDOUT ne = absurd (ne refl)
 told_lock x ne = refl
@@ -215,13 +215,13 @@ pub waits_locked : (a : Operation) (x : Reply) → IsWait a → pointed a Lock x
 waits_locked a x (inl is) = ap (λ b. pointed b Lock x) is
 waits_locked a x (inr is) = ap (λ b. pointed b Lock x) is
 
--- a call returns what its last point replied, but for a wait with a time limit that took its mutex
+-- a call returns what its last point replied, except for a wait with a time limit that took its mutex
 told_exactly : (a : Operation) (y z : Reply) → MayReturn a y z → (a ≡ TimedWait → y ≢ OK) → z ≡ y
 told_exactly TimedWait y z (inl is) never = is
 told_exactly TimedWait y z (inr late) never = absurd (never refl late.0)
 told_exactly a y z is never = is
 
--- a lock that is told OK changes the mutex
+-- a lock that gets OK changes the mutex
 taking_changes : (held : ℕ) (o : Object) (t : ℕ) (n : Object) → Does held o t Lock OK n → n ≢ o
 taking_changes held o t n does same = by_cases (nat_le 2048 held) does where
   by_cases : (b : Bool) → MatchBool b ((OK ≡ XHELD) × (n ≡ o)) (Permits o t Lock OK n) → ⊥

@@ -19,7 +19,7 @@ use Rattle.refuting.specs.Turns.{turn_at}
 use Rattle.refuting.proofs.States.{covers_on}
 use Rattle.lockword.specs.Threads.{most_threads}
 
--- thread u's call behind a sight of thread t's
+-- thread u's call after a sight of thread t's
 sight : (s : State) (t u : ℕ) → t < length s.calls
     → HasAll (call_at (with_sight s t).calls u) (call_at s.calls u) × ((t ≡ u) → (call_at (with_sight s t).calls u).seen ≡ true)
 sight s t u inside = by_cases (t == u) refl where
@@ -37,7 +37,7 @@ sight s t u inside = by_cases (t == u) refl where
 pub sight_covers : (s : State) (t : ℕ) → t < length s.calls → Covers (with_sight s t) s
 sight_covers s t inside = record { object = refl; long = length-set s.calls t _; calls = λ u. (sight s t u inside).0 }
 
--- who could be told its reply behind it, could be before it
+-- who could get its reply after it, could be before it
 looks_back : (s r : State) (u : ℕ) (a : Operation) (x : Reply) → Covers r s → MayLook r u a x → MayLook s u a x
 looks_back s r u a x c l = (
   record {

@@ -1,4 +1,4 @@
--- A state that stands for a trace has one behind it that stands for the trace with one more line.
+-- A state that stands for a trace has one after it that stands for the trace with one more line.
 use Rattle.std.proofs.Common.{◌≡◌, ◌≢◌, ℕ, zero, suc, ◌<◌, ◌≤◌, ◌==◌, ◌⊎◌, inl, inr, Bool, true, false, ◌&&◌, nat_le, List, ◌∷◌, length, refl, sym, ap, subst, ◌∙◌, arith, get_or-set_same, get_or-set_other, length-set, MatchBool}
 use Rattle.std.specs.Prelude.{if◌then◌else◌, Option, Some, None, Contains, slice_set}
 use Rattle.std.proofs.lemmas.Bool.Decides.{nat_tests}
@@ -106,7 +106,7 @@ same_object a b = by_cases (same_owner a.owner b.owner) (same_flag a.inconsisten
   by_cases x (inr y) z = inr (λ e. y (ap (λ (o : Object). o.inconsistent) e))
   by_cases x y (inr z) = inr (λ e. z (ap (λ (o : Object). o.unusable) e))
 
--- who changes a mutex is told OK, or of its owner's death
+-- who changes a mutex gets OK, or of its owner's death
 pub changes_tell : (o : Object) (t : ℕ) (op : Operation) (x : Reply) (n : Object) → Permits o t op x n → n ≢ o → (x ≡ OK) ⊎ (x ≡ EOWNERDEAD)
 changes_tell o t Lock OK n h ne = inl refl
 changes_tell o t Lock EOWNERDEAD n h ne = inr refl

@@ -31,7 +31,7 @@ use Rattle.refuting.proofs.Telling.{Known, Standing, Step, behind, turn_here, tu
 use Rattle.lockword.specs.Threads.{most_threads}
 use Rattle.refuting.specs.States.{ids}
 
--- ---- what is known behind the line
+-- ---- what is known after the line
 
 known_next : (n : ℕ) (h future : List Entry) (e : Entry) (x : Option Reply) (r k : Refuter) (after : Turn) → Step n h future e x r k after → Known r.mutex k.turns k.states.items
 known_next n h future e x r k after st = record {

@@ -1,4 +1,4 @@
--- How many mutexes each thread owns, behind one more line.
+-- How many mutexes each thread owns, after one more line.
 use Rattle.std.proofs.Common.{◌≡◌, ◌≢◌, ℕ, ◌+◌, ◌<◌, ◌==◌, Bool, true, false, List, ◌∷◌, refl, sym, ap, subst, ◌∙◌, arith}
 use Rattle.std.specs.Prelude.{if◌then◌else◌, Some, None}
 use Rattle.std.proofs.lemmas.Bool.Decides.{nat_tests}
@@ -36,7 +36,7 @@ use Rattle.refuting.proofs.Hiding.{calling_of, dying_of}
 use Rattle.refuting.proofs.Staging.{stage_kept, stage_may}
 use Rattle.refuting.proofs.Telling.{in_call}
 
--- each thread owns so many, its lines say so many
+-- each thread owns this many, its lines say this many
 abbrev pub Tally : ℕ → List Line → (ℕ → ℕ) → Type 0
 Tally n es lines = (t : ℕ) → Counted (stage_after t es) (held_by t (objects_after es) n) (lines t)
 

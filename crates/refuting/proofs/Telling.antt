@@ -1,4 +1,4 @@
--- A line that is seen, and what stands behind it.
+-- A line that is seen, and what stands after it.
 use Rattle.std.proofs.Common.{◌≡◌, ◌≢◌, ℕ, ◌<◌, ◌≤◌, ◌==◌, ◌⊎◌, inl, inr, Bool, true, false, List, [], ◌∷◌, length, refl, sym, ap, subst, ◌∙◌, arith, get_or-set_same, get_or-set_other, length-set}
 use Rattle.std.specs.Prelude.{if◌then◌else◌, Option, Some, None, Contains, slice_set}
 use Rattle.std.specs.Option.{is_some}
@@ -73,7 +73,7 @@ turn_there ts us u t after is other = ap (λ z. turn_at z t) is ∙ get_or-set_o
 same_after : (o : Option Turn) (a b : Turn) → o ≡ Some a → o ≡ Some b → a ≡ b
 same_after o a b x y = let both : Some a ≡ Some b = sym x ∙ y in cc
 
--- threads' turns behind one more line
+-- threads' turns after one more line
 turned_on : (ts us : List Turn) (d c : ℕ → Bool) (e : Line) (es : List Line) → ((t : ℕ) → Turned (turn_at ts t) (stage_after t es) (d t))
     → ((t : ℕ) → t ≢ thread_of e.fact → (turn_at us t ≡ turn_at ts t) × (c t ≡ d t))
     → Turned (turn_at us (thread_of e.fact)) (next (stage_after (thread_of e.fact) es) e.fact) (c (thread_of e.fact)) → (t : ℕ) → Turned (turn_at us t) (stage_after t (e ∷ es)) (c t)
@@ -88,7 +88,7 @@ turned_on ts us d c e es old same own t = by_cases (thread_of e.fact == t) refl 
 
 -- ---- states
 
--- a state with the calls of another, but for one thread's
+-- a state with the calls of another, except for one thread's
 told_stands : (m : ℕ) (ts us : List Turn) (rs : List State) (d : ℕ → Bool) (e : Line) (es : List Line) (s q : State) → Setting m ts us rs d s e es → is_hidden e.fact ≡ false → StandsFor m ts es s → decision_of e.fact ≡ None → q.object ≡ s.object → length q.calls ≡ length s.calls
     → ((u : ℕ) → u ≢ thread_of e.fact → call_at q.calls u ≡ call_at s.calls u) → ((u : ℕ) → u ≢ thread_of e.fact → turn_at us u ≡ turn_at ts u)
     → Goes m (next (stage_after (thread_of e.fact) es) e.fact) (turn_at us (thread_of e.fact)) (call_at q.calls (thread_of e.fact)) → Covered rs q → Stood m us rs (e ∷ es)

@@ -118,7 +118,7 @@ seen_on s f k z seen old is = absurd cc
 
 -- ---- what a line leaves
 
--- what is known where a line is taken: the threads' turns behind it, and what calls had seen in a state before it
+-- what is known where a line is taken: the threads' turns after it, and what calls had seen in a state before it
 pub record Setting (m : ℕ) (ts us : List Turn) (rs : List State) (d : ℕ → Bool) (s : State) (e : Line) (es : List Line) : Type 0 where
   pub noted : AreNoted m us rs
   pub long : length us ≡ ids

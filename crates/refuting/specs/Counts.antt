@@ -2,8 +2,8 @@
 --
 -- *The count.* A lock that returns OK or EOWNERDEAD adds one, an unlock takes one away, and so does a wait that isn't
 -- told that it took its mutex again; who was reaped owns none. In a call the thread may own one more or one less already
--- (`Counted`). Who owns 2,048 is told X_HELD by a lock or trylock, and nobody else is; a wait that has released its mutex
--- isn't, as its thread owns less (robust-futexes).
+-- (`Counted`). Who owns 2,048 gets X_HELD from a lock or trylock, and nobody else does; a wait that has released its
+-- mutex isn't, as its thread owns less (robust-futexes).
 use Rattle.std.specs.Prelude.{ℕ, ◌≡◌, ◌+◌, ◌-◌, ◌≤◌, ◌↔◌, List, slice_index}
 use Rattle.lockword.specs.declared.reply.Reply.{Reply}
 use Rattle.lockword.specs.declared.reply.Reply.TheVariants.{OK, EPERM, ETIMEDOUT, EOWNERDEAD, XHELD, XSTATE}
@@ -19,7 +19,7 @@ use Rattle.refuting.specs.declared.turn.Turn.TheVariants as turn
 use Rattle.verdict.specs.declared.stage.Stage.{Stage}
 use Rattle.verdict.specs.declared.stage.Stage.TheVariants.{Resting, Calling, Dying, Reaped}
 
--- how many mutexes a call that is told this has taken, and how many it has given up
+-- how many mutexes a call that gets this has taken, and how many it has given up
 abbrev pub won_by : Operation → Reply → ℕ
 won_by Lock OK = 1
 won_by Lock EOWNERDEAD = 1
@@ -55,11 +55,11 @@ lost a Nothing = 0
 lost a Released = 1
 lost a (Decided x) = lost_by a x
 
--- the count behind a call that is told this
+-- the count after a call that gets this
 abbrev pub settled : Operation → Reply → ℕ → ℕ
 settled a x own = own + won_by a x - lost_by a x
 
--- of who owns so many by its lines a call may be told this
+-- of who owns this many by its lines a call may get this
 abbrev pub AtLimit : Operation → Reply → ℕ → Type 0
 AtLimit Lock x own = (x ≡ XHELD) ↔ (2048 ≤ own)
 AtLimit TryLock x own = (x ≡ XHELD) ↔ (2048 ≤ own)
@@ -86,13 +86,13 @@ Counted Reaped count own = (count ≡ 0) × (own ≡ 0)
 abbrev pub count_at : List ℕ → ℕ → ℕ
 count_at cs t = slice_index cs t
 
--- the count behind a line of the thread, which was at this turn
+-- the count after a line of the thread, which was at this turn
 abbrev pub count_after : Turn → Entry → ℕ → ℕ
 count_after (turn.Calling c y) (Told (Return t x)) own = settled c.operation x own
 count_after turn (Told (Reap t)) own = 0
 count_after turn e own = own
 
--- the line tells X_HELD where the thread owns so many, and nowhere else
+-- the line tells X_HELD where the thread owns this many, and nowhere else
 abbrev pub WithinLimit : Turn → Entry → ℕ → Type 0
 WithinLimit (turn.Calling c y) (Told (Return t x)) own = AtLimit c.operation x own
 WithinLimit turn e own = Unit {0}

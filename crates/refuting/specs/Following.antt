@@ -1,4 +1,4 @@
--- What is known of a mutex behind some lines of a history.
+-- What is known of a mutex after some lines of a history.
 --
 -- *Standing among the states.* A trace that shows the lines so far has left the mutex an object, and of each call on it
 -- some points. A state stands for it where it is that object, and has the points that changed it; of a call whose point
@@ -44,7 +44,7 @@ use Rattle.refuting.specs.Turns.{Turned, call_on, entry_thread, reply_in, reply_
 -- ---- what a line makes of a state
 
 -- a call of this operation that has come so far may return so: its point decided this reply, or OK where it is a wait
--- that is out of time; or it has seen that it could be told it
+-- that is out of time; or it has seen that it could get it
 abbrev pub HasMade : Operation → Made → Bool → Reply → Type 0
 HasMade a (Changed x) seen y = MayReturn a x y
 HasMade a m seen y = seen ≡ true
@@ -73,7 +73,7 @@ told m turn s e = s
 
 -- ---- traces
 
--- the stage of thread t behind these lines of a trace, as the judge of traces keeps it
+-- the stage of thread t after these lines of a trace, as the judge of traces keeps it
 abbrev pub stage_after : ℕ → List Line → Stage
 stage_after t [] = Resting
 stage_after t (e ∷ es) = if thread_of e.fact == t then next (stage_after t es) e.fact else stage_after t es
@@ -111,7 +111,7 @@ abbrev pub HaveWaited : ℕ → List Turn → List Line → State → Type 0
 HaveWaited m ts trace s =
     (t : ℕ) → Waits m (stage_after t trace) (turn_at ts t) (call_at s.calls t) (chances_behind t m trace)
 
--- behind these lines of a history of n mutexes, which stand newest first, before those later ones
+-- after these lines of a history of n mutexes, which stand newest first, before those later ones
 pub record Follows (n : ℕ) (h future : List Entry) (r : Refuter) : Type 0 where
   pub long : length r.turns ≡ ids
   pub nobody : turn_at r.turns 0 ≡ turn.Resting

@@ -3,8 +3,8 @@
 -- *A change.* A call's next point may change the mutex, as the object's step allows (`Does`): a wait's first such point
 -- releases it, where it is consistent, and its second takes it again; any other call has one.
 --
--- *A look.* Or the point may change nothing. Then it is no step: the call has seen that it could be told its reply. That
--- its time limit came it could be told from when another thread owns the mutex.
+-- *A look.* Or the point may change nothing. Then it is no step: the call has seen that it could get its reply. That
+-- its time limit came it could get it from when another thread owns the mutex.
 --
 -- *A death.* A dying thread that owns the mutex may lose it.
 use Rattle.std.specs.Prelude.{ℕ, ◌≡◌, ◌≢◌, ◌≤◌, Bool, true, false, Option, Some, None}
@@ -36,8 +36,8 @@ next_change a Nothing = Some a
 next_change a Released = Some Lock
 next_change a (Changed x) = None
 
--- the operation of the first point by which a call is told so: a lock with a time limit is told as a lock, unless the
--- limit came; a wait with one as a wait
+-- the operation of the first point by which a call is told so: a lock with a time limit is recorded as a lock,
+-- unless the limit came; a wait with one as a wait
 abbrev pub told_as : Operation → Reply → Operation
 told_as TimedLock ETIMEDOUT = TimedLock
 told_as TimedLock x = Lock
@@ -87,7 +87,7 @@ pub record HasFor (s : State) (t : ℕ) (a : Operation) (x : Reply) : Type 0 whe
 abbrev pub IsDue : State → ℕ → Reply → Type 0
 IsDue s t x = x ≡ ETIMEDOUT → is_anothers t s.object.owner ≡ true
 
--- thread t's call may be told this reply by a point that changes nothing
+-- thread t's call may get this reply by a point that changes nothing
 abbrev pub MayLook : State → ℕ → Operation → Reply → Type 0
 MayLook s t a x = HasFor s t a x × IsDue s t x
 
@@ -103,7 +103,7 @@ over false = first_call
 abbrev pub died : State → ℕ → Bool → Object → State
 died s t in_call o = record { object = o; calls = slice_set s.calls t (over in_call) }
 
--- thread t, whose turn this is, is in a call on mutex m that could be told now what it returns
+-- thread t, whose turn this is, is in a call on mutex m that could now get what it returns
 abbrev pub Sees : ℕ → Turn → State → ℕ → Type 0
 Sees m (Calling c (Some x)) s t = (c.mutex ≡ m) × MayLook s t c.operation x
 Sees m turn s t = ⊥
@@ -113,7 +113,7 @@ abbrev pub with_sight : State → ℕ → State
 with_sight s t =
     record { object = s.object; calls = slice_set s.calls t (record { made = (call_at s.calls t).made; seen = true }) }
 
--- each call that could be told now what it returns has seen that
+-- each call that could now get what it returns has seen that
 abbrev pub IsNoted : ℕ → List Turn → State → Type 0
 IsNoted m ts s = (t : ℕ) → 1 ≤ t → Sees m (turn_at ts t) s t → (call_at s.calls t).seen ≡ true
 

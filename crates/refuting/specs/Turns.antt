@@ -70,7 +70,7 @@ reply_in t (e ∷ es) = reply_in t es
 abbrev pub entries : List HistoryLine → List Entry
 entries ls = map (λ l. l.entry) ls
 
--- for each line what its thread's next return says, in the lines behind it
+-- for each line what its thread's next return says, in the lines after it
 abbrev pub replies_of : List HistoryLine → List (Option Reply)
 replies_of [] = []
 replies_of (l ∷ ls) = reply_in (entry_thread l.entry) (entries ls) ∷ replies_of ls

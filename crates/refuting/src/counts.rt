@@ -38,7 +38,7 @@ fn lost_by(operation: Operation, reply: Reply) -> u16
     }
 }
 
-/// Whether a call of a thread that owns so many may return so: X_HELD is for who owns as many as it may.
+/// Whether a call of a thread that owns this many may return so: X_HELD is for who owns as many as it may.
 fn is_at_limit(operation: Operation, reply: Reply, own: u16) -> bool
     ensures { IsTrue result ↔ AtLimit operation reply own }
 {
@@ -51,7 +51,7 @@ fn is_at_limit(operation: Operation, reply: Reply, own: u16) -> bool
     }
 }
 
-/// How many mutexes the thread owns behind a call that returns so.
+/// How many mutexes the thread owns after a call that returns so.
 fn settled(operation: Operation, reply: Reply, own: u16) -> u16
     requires { AtLimit operation reply own }
     ensures { result ≡ settled operation reply own }
@@ -59,7 +59,7 @@ fn settled(operation: Operation, reply: Reply, own: u16) -> u16
     (own + won_by(operation, reply)).saturating_sub(lost_by(operation, reply))
 }
 
-/// Whether a line of a thread that owns so many, and was at this turn, may be told.
+/// Whether a line of a thread that owns this many, and was at this turn, may be recorded.
 pub fn is_within(turn: Turn, entry: &Entry, own: u16) -> bool
     ensures { IsTrue result ↔ WithinLimit turn entry.now own }
 {
@@ -72,7 +72,7 @@ pub fn is_within(turn: Turn, entry: &Entry, own: u16) -> bool
     }
 }
 
-/// How many mutexes the thread owns behind its line.
+/// How many mutexes the thread owns after its line.
 pub fn count_after(turn: Turn, entry: &Entry, own: u16) -> u16
     requires { WithinLimit turn entry.now own }
     ensures { result ≡ count_after turn entry.now own }

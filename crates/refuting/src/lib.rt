@@ -6,14 +6,14 @@
 //! own lines are looked at too: who begins a call in a call is refuted, whatever the mutex.
 //!
 //! A point that changes the mutex is a step from state to state. One that changes nothing is no step: a state notes
-//! that a call could have been told there what it returns. What it returns is looked up in the lines behind.
+//! that a call could have been told there what it returns. What it returns is looked up in the lines after.
 //!
-//! How many mutexes a thread owns is counted by its own lines: who owns 2,048 is told X_HELD, and nobody else.
+//! How many mutexes a thread owns is counted by its own lines: who owns 2,048 gets X_HELD, and nobody else.
 //!
 //! Else it takes mutexes one by one, so it may miss what is wrong with several together: that a doomed thread died in
 //! time for all of them. That it refutes each illegal history isn't proved.
 //!
-//! Stands on `histories`, for a history's lines and what a legal one is, on `verdict`, for the rules of a trace's lines,
+//! Is on `histories`, for a history's lines and what a legal one is, on `verdict`, for the rules of a trace's lines,
 //! on `facts`, for what lines say, on `posixmutex`, for mutexes as objects, and on `lockword`, for thread ids and
 //! replies.
 //!

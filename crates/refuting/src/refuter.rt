@@ -20,11 +20,11 @@ use lockword::{Reply, Tid};
 use posixmutex::Operation;
 use std::alloc::{AllocError, Global};
 
-/// What is known of all threads and of one mutex behind some lines.
+/// What is known of all threads and of one mutex after some lines.
 #[derive(Drop)]
 pub struct Refuter {
     pub mutex: u16,
-    /// By the threads' ids.
+    /// Indexed by the threads' ids.
     pub turns: [Turn; IDS],
     /// How many mutexes each thread owns, as its lines say.
     pub held: [u16; IDS],

@@ -11,14 +11,14 @@ use histories::{Entry, HistoryLine};
 use lockword::Reply;
 use std::alloc::{AllocError, Global};
 
-/// What is known of each thread behind the last line.
+/// What is known of each thread after the last line.
 fn nothing_yet() -> [Option<Reply>; IDS]
     ensures { (t : ℕ) → slice_index_or result t None ≡ None }
 {
     [None; IDS]
 }
 
-/// For each line what its thread's next return says, in the lines behind it.
+/// For each line what its thread's next return says, in the lines after it.
 pub fn replies(alloc: Global, lines: &[HistoryLine]) -> Result<Vec<Option<Reply>>, AllocError>
     ensures { IfOk result (λ v. v.items ≡ replies_of lines.now) }
 {
@@ -33,7 +33,7 @@ pub fn replies(alloc: Global, lines: &[HistoryLine]) -> Result<Vec<Option<Reply>
     Ok(replies)
 }
 
-/// Keeps what its thread's next return says behind all lines before this one.
+/// Keeps what its thread's next return says after all lines before this one.
 fn hear(next: &mut [Option<Reply>; IDS], entry: &Entry)
     ensures { (t : ℕ) (es : List Entry) → slice_index_or next.old t None ≡ reply_in t es → slice_index_or next.new t None ≡ reply_in t (entry.now ∷ es) }
 {

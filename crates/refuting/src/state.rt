@@ -17,7 +17,7 @@ pub enum Made {
     Nothing,
     /// A wait has released it.
     Released,
-    /// It was changed, by the point that decided this reply.
+    /// The mutex was changed, by the point that decided this reply.
     Changed(Reply),
 }
 
@@ -25,7 +25,7 @@ pub enum Made {
 #[derive(Clone, Copy, Debug, PartialEq, Eq)]
 pub struct Call {
     pub made: Made,
-    /// Since it began, or released the mutex, that was once such that the call could be told what it returns.
+    /// Since it began, or released the mutex, that was once such that the call could get what it returns.
     pub seen: bool,
 }
 
@@ -39,11 +39,11 @@ pub const FIRST_CALL: Call = Call {
 #[derive(Clone, Copy)]
 pub struct State {
     pub object: Object,
-    /// By the threads' ids.
+    /// Indexed by the threads' ids.
     pub calls: [Call; IDS],
 }
 
-/// Of a mutex that nobody has locked yet.
+/// About a mutex that nobody has locked yet.
 pub const FIRST_STATE: State = State {
     object: Object {
         owner: None,
@@ -60,7 +60,7 @@ fn has_all(one: Call, other: Call) -> bool
     one.made == other.made && (one.seen || !other.seen)
 }
 
-/// Whether the one state has all that the other has: it is the same but for more that calls have seen.
+/// Whether the one state has all that the other has: it is the same except for more that calls have seen.
 fn covers(one: &State, other: &State) -> bool
     ensures { result ≡ true → Covers one.now other.now }
 {

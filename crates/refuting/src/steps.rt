@@ -30,8 +30,8 @@ fn next_change(call: Operation, made: Made) -> Option<Operation>
     }
 }
 
-/// The operation of the first point by which a call is told so: a lock with a time limit is told as a lock, unless the
-/// limit came; a wait with one as a wait.
+/// The operation of the first point by which a call is told so: a lock with a time limit is recorded as a lock,
+/// unless the limit came; a wait with one as a wait.
 fn told_as(call: Operation, reply: Reply) -> Operation
     ensures { result ≡ told_as call reply }
 {
@@ -130,14 +130,14 @@ fn has_for(state: &State, thread: Tid, call: Operation, reply: Reply) -> bool
     }
 }
 
-/// Whether a thread's call could be told this reply now by a point that changes nothing.
+/// Whether a thread's call could get this reply now by a point that changes nothing.
 fn looks(state: &State, thread: Tid, call: Operation, reply: Reply) -> bool
     ensures { IsTrue result ↔ MayLook state.now thread call reply }
 {
     is_due(state, thread, reply) && has_for(state, thread, call, reply)
 }
 
-/// The thread that comes after so many.
+/// The thread that comes after this many.
 pub fn thread_after(before: u8) -> Tid
     requires { before < most_threads }
     ensures { result ≡ before + 1 }
@@ -148,7 +148,7 @@ pub fn thread_after(before: u8) -> Tid
     }
 }
 
-/// Whether the thread is in a call on the mutex that could be told now what it returns.
+/// Whether the thread is in a call on the mutex that could now get what it returns.
 fn sees(state: &State, turns: &[Turn; IDS], mutex: u16, thread: Tid) -> bool
     ensures { IsTrue result ↔ Sees mutex (turn_at turns.now thread) state.now thread }
 {
@@ -161,7 +161,7 @@ fn sees(state: &State, turns: &[Turn; IDS], mutex: u16, thread: Tid) -> bool
     }
 }
 
-/// The state, in which the thread's call has seen that it could be told what it returns.
+/// The state, in which the thread's call has seen that it could get what it returns.
 fn with_sight(state: &State, thread: Tid) -> State
     ensures { result ≡ with_sight state.now thread }
 {
@@ -171,7 +171,7 @@ fn with_sight(state: &State, thread: Tid) -> State
     after
 }
 
-/// The state, in which each call on the mutex that could be told now what it returns has seen that.
+/// The state, in which each call on the mutex that could now get what it returns has seen that.
 pub fn noted(state: &State, turns: &[Turn; IDS], mutex: u16) -> State
     ensures notes { IsNoted mutex turns.now result }
     ensures covers { Covers result state.now }

@@ -29,7 +29,8 @@ pub fn thread_of(entry: &Entry) -> Tid
 }
 
 impl Turn {
-    /// Where a line leaves its thread; None where it can't be told of it. `reply` is what the thread's next return says.
+    /// Where a line leaves its thread; None where it can't be recorded of it. `reply` is what the thread's next
+    /// return says.
     pub fn after(self, entry: &Entry, reply: Option<Reply>) -> Option<Turn>
         ensures { result ≡ turn_after self entry.now reply }
     {

@@ -27,7 +27,7 @@ use Rattle.report.proofs.Servings.{told_front}
 
 -- ---- scripts
 
--- all of what is told of a script is a beginning of it
+-- all of what is reported of a script is a beginning of it
 written_is_front : (k : Report) (old new : Option (List ℕ)) (bytes : List ℕ) → Written k old new bytes → WrittenFront k old new bytes
 written_is_front k old new bytes = go (script_read (mode_of k) bytes)
   where

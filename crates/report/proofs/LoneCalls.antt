@@ -177,7 +177,8 @@ module _ (k : Layout') (t : ℕ) (seen' : List (List Point)) (changes' : List (L
   abbrev pub Tails : Card → Type 0
   Tails c = ((m : ℕ) → m < k.mutexes → (xs : List Point) × (at seen' (cell_place k m) ≡ at c.seen (cell_place k m) ++ xs)) × ((p : ℕ) → (zs : List Change) × (changes_at changes' p ≡ changes_at c.changes p ++ zs))
 
-  -- thread t has this card, and has seen that the mutexes are so; up to the end there are only its own points, and but for a word as it was given only its own changes
+  -- thread t has this card, and has seen that the mutexes are so; up to the end there are only its own points, and
+  -- except for a word as it was given only its own changes
   pub record Stands (c : Card) (os : ℕ → Object) : Type 0 where
     pub thread : c.thread ≡ t
     pub is : (m : ℕ) → m < k.mutexes → Run fresh (at c.seen (cell_place k m)) (os m)
@@ -237,7 +238,7 @@ module _ (k : Layout') (t : ℕ) (seen' : List (List Point)) (changes' : List (L
       let many : 4 ≤ length (made_by_others t raced.since) = subst (λ (u : ℕ). 4 ≤ length (made_by_others u raced.since)) s.thread raced.others in
       absurd (omega (arith, all, sum, few, many))
 
-  -- the mutex behind a beginning of what all see at the end
+  -- the mutex after a beginning of what all see at the end
   run_there : (e : Card) (m : ℕ) → m < k.mutexes → Tails e → (o : Object) × Run fresh (at e.seen (cell_place k m)) o
   run_there e m low tails =
       let all = subst (λ (l : List Point). Run fresh l (whole m low).0) (tails.0 m low).1 (whole m low).1 in
@@ -252,7 +253,7 @@ module _ (k : Layout') (t : ℕ) (seen' : List (List Point)) (changes' : List (L
       let part = run_split fresh there.0 (at c.seen p) ps (subst (λ (l : List Point). Run fresh l there.0) grows there.1) in
       (there.0, subst (λ (o : Object). Run o ps there.0) (run_same fresh part.0 (os m) (at c.seen p) part.1 (s.is m low)) part.2, there.1)
 
-  -- a call on mutex m, behind which the mutexes are os'
+  -- a call on mutex m, after which the mutexes are os'
   stands_on : (c e : Card) (os os' : ℕ → Object) (m : ℕ) (acts : List Act) → Stands c os → Saw c (cell_place k m) acts e → Tails e → Run fresh (at e.seen (cell_place k m)) (os' m) → ((l : ℕ) → l ≢ m → os' l ≡ os l) → m < k.mutexes → Stands e os'
   stands_on c e os os' m acts s saw tails run others low = record {
     thread = saw.thread ∙ s.thread;

@@ -210,7 +210,7 @@ module _ (k : Layout') (t : ℕ) (changes' : List (List Change)) where
 
   -- ---- a call
 
-  -- what a call's reply and the counters behind it are
+  -- what a call's reply and the counters after it are
   abbrev Out : ℕ → Operation → (ℕ → ℕ) → Card → Reply → Type 0
   Out q op vs e r = IsByCounter (vs q) op r × Tallies e (raised vs (Some q) (reply_counts op r))
 

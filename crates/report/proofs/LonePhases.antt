@@ -172,7 +172,7 @@ and_not false = refl
 abbrev pub AreKnown : Layout' → List (List Change) → (ℕ → ℕ) → Type 0
 AreKnown k changes vs = (q : ℕ) → q < length k.conditions → (x : Change) × (xs : List Change) × (changes_at changes (counter_place k q) ≡ x ∷ xs) × (left_by (x ∷ xs) ≡ vs q)
 
--- the mutexes and the counters behind the phase, as all have seen them then
+-- the mutexes and the counters after the phase, as all have seen them then
 pub record PhasePlayed (k : Layout') (n i : ℕ) (gone gone' : ℕ → Bool) (os : ℕ → Object) (vs : ℕ → ℕ) (calls : ℕ → List Op) (q : Part) (seen' : List (List Point)) (changes' : List (List Change)) : Type 0 where
   pub mid : ℕ → Object
   pub counters : ℕ → ℕ
@@ -286,7 +286,7 @@ module _ (w : Words) (n : ℕ) (p : Phase) (us met : List Worker) (rs rs' : List
       let same : by u (at seen' x) ≡ by u (at seen x) = subst (λ (z : ℕ). by z (at seen' x) ≡ by z (at seen x)) is (others_own j (omega (arith, pos, most)) apart x) in
       same_rest (by u (at seen x)) (by u xs) [] (sym (by_append u (at seen x) xs) ∙ ap (by u) (sym (ahead m low).1) ∙ same ∙ sym (append-nil (by u (at seen x)))))
 
-  -- behind its last call nothing came
+  -- after its last call nothing came
   at_end : (m : ℕ) → m < k.mutexes → at seen' (cell_place k m) ≡ at (card_in mine.v.pass).seen (cell_place k m)
   unfolding ahead
   at_end m low =
@@ -344,7 +344,7 @@ module _ (w : Words) (n : ℕ) (p : Phase) (us met : List Worker) (rs rs' : List
     are = λ x low. let its = its_first x low in ap left_by its.2 ∙ its.3;
   }
 
-  -- behind its last call nothing was changed
+  -- after its last call nothing was changed
   known_then : (counters : ℕ → ℕ) → Tallies k t changes' (card_in mine.v.pass) counters → AreKnown k changes' counters
   known_then counters counts x low =
       let p : ℕ = counter_place k x in

@@ -82,7 +82,7 @@ or_assoc false b c = refl
 
 -- ---- a phase
 
--- what a phase added, by what all had seen before it and behind it
+-- what a phase added, by what all had seen before it and after it
 abbrev pub part_of : Layout' → List (List Point) → List (List Point) → List Worker → List Worker → List (Vec Reply Global) → List (Vec Reply Global) → Part
 part_of k seen seen' us vs rs rs' = record {
   replies = λ i. drop (length (items_at rs i)) (items_at rs' i);
@@ -97,7 +97,7 @@ did w m calls u more v low works = from u.pass u.die works where
   from (Lives a) die works = worked_grew w m (card a) calls more v.pass low works.0
   from (Reaped d) die works = ([], ap (λ (z : WorkerPass). at (card_in z).seen (cell_place (layout_of w) m)) works.0 ∙ sym (append-nil (at (card d).seen (cell_place (layout_of w) m))))
 
--- what all have seen behind the phase goes on from what all had seen before it
+-- what all have seen after the phase goes on from what all had seen before it
 ahead : (w : Words) (m : ℕ) (seen seen' : List (List Point)) (calls : List Op) (u : Worker) (more : List Reply) (v : Worker) → m < (layout_of w).mutexes → (card_in u.pass).seen ≡ seen → Works w calls u more v → IsPrefix (at (card_in v.pass).seen (cell_place (layout_of w) m)) (at seen' (cell_place (layout_of w) m))
     → at seen' (cell_place (layout_of w) m) ≡ at seen (cell_place (layout_of w) m) ++ drop (length (at seen (cell_place (layout_of w) m))) (at seen' (cell_place (layout_of w) m))
 ahead w m seen seen' calls u more v low was works begins =

@@ -124,7 +124,7 @@ usable_then false false e = (refl, refl)
 usable_then false true e = absurd (cc e)
 usable_then true b e = absurd (cc e)
 
--- it is answered OK, and the mutex is as it was
+-- it is returned OK, and the mutex is as it was
 pub waited_answer : (h t v : ℕ) (o m n : Object) (r : Reply) → Permits o t Unlock OK m → m.unusable ≡ false → Permits m t Lock r n → (answer h t v Wait o ≡ Some r) × (n ≡ o)
 waited_answer h t v o m n r unlocked fine locked = (its_mine t o.owner (Some EPERM) _ (Some EPERM) unlocked.0 ∙ ap (λ (b : Bool). Some (if b then XSTATE else OK)) both.0 ∙ ap Some (sym took.0), took.1) where
   both : (o.inconsistent ≡ false) × (o.unusable ≡ false)

@@ -31,7 +31,7 @@ use Rattle.report.specs.Threads.{open_gate, ArePossible, IsRightPhase, calls_at,
 use Rattle.streams.proofs.Listed.{mapped_at}
 use Rattle.report.proofs.Working.{done_works}
 
--- ---- what stands at a place of a list
+-- ---- what is at a place of a list
 
 at_snoc : {A : Type 0} (xs : List A) (x y : A) (i : ℕ) → slice_get (xs ++ x ∷ []) i ≡ Some y → ((i < length xs) × (slice_get xs i ≡ Some y)) ⊎ ((i ≡ length xs) × (x ≡ y))
 at_snoc [] x y zero e = inr (refl, cc e)

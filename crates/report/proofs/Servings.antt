@@ -40,7 +40,7 @@ meaning-is s t m p =
 table-is : (s : Scope) (t : Trace) (m : Shown) → IsPlayed s t m → table_text s (state_of m) t.notes.items ≡ meant_table s
 table-is s t m p = λ i. table_text s (p.machine i) (p.notes i)
 
--- what is told of the script's events is told of a legal run
+-- what is reported of the script's events is reported of a legal run
 runs_legally : (s : Scope) (t : Trace) (m : Shown) → IsPlayed s t m → RunsLegally s
 runs_legally s t m p = subst (λ (ns : List Note). IsLegalRun (first_state s) (events_in s) ns) p.notes p.legal
 
@@ -57,7 +57,7 @@ machine_mutexes s t m p = ap (λ (l : Layout'). l.mutexes) (machine_layout s t m
 pub machine_conditions : (s : Scope) (t : Trace) (m : Shown) → IsPlayed s t m → length m.layout.conditions ≡ length s.conditions
 machine_conditions s t m p = ap (λ (l : Layout'). length l.conditions) (machine_layout s t m p) ∙ length-map_of (λ c. c.1.mutex) s.conditions
 
--- what may be told of a script that was read was written, or a beginning of it
+-- what may be reported of a script that was read was written, or a beginning of it
 pub wrote : (k : Report) (old new : Option (List ℕ)) (bytes : List ℕ) (s : Scope) (text : List ℕ) → script_read (mode_of k) bytes ≡ Ok s → Means k s text → Appends old new text → Written k old new bytes
 wrote k old new bytes s text reads means a =
     subst (λ (r : Result Scope ScriptFault). MatchResult r (λ z. (text : List ℕ) × Means k z text × Appends old new text) (λ e. ⊥)) (sym reads) (text, means, a)
@@ -85,7 +85,7 @@ tabled old new bytes s t m reads p a = wrote table old new bytes s (table_text s
 pub tabled_front : (old new : Option (List ℕ)) (bytes : List ℕ) (s : Scope) (t : Trace) (m : Shown) → script_read Run bytes ≡ Ok s → IsPlayed s t m → AppendsFront old new (table_text s (state_of m) t.notes.items) → WrittenFront table old new bytes
 tabled_front old new bytes s t m reads p a = wrote_front table old new bytes s (table_text s (state_of m) t.notes.items) reads (p.fits, runs_legally s t m p, table-is s t m p) a
 
--- what was told of a script's threads is what it means
+-- what was reported of a script's threads is what it means
 pub told : (old new : Option (List ℕ)) (bytes : List ℕ) (s : Scope) (a : Answers) → script_read Threads bytes ≡ Ok s → Answer s a → Tells old new s a → Written replies old new bytes
 told old new bytes s a reads answer tells = wrote replies old new bytes s (replies_text tells.0 tells.1 tells.2) reads (a, answer, tells.0, tells.1, tells.2, tells.3, refl) tells.4
 

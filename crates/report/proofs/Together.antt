@@ -1,4 +1,4 @@
--- What threads were told, and which of them died, stands in one history, phase by phase.
+-- What calls returned, and which of them died, is in one history, phase by phase.
 use Rattle.std.proofs.Common.{◌≡◌, ℕ, zero, suc, ◌+◌, ◌-◌, ◌<◌, ◌≤◌, Bool, false, Option, Some, List, [], ◌∷◌, ◌++◌, length, map, take, get_or, slice_get, Vec, All, refl, sym, ap, ◌∙◌, subst, arith, append-nil, eq-eqb}
 use Rattle.std.specs.Prelude.{◌||◌, if◌then◌else◌}
 use Rattle.std.proofs.lemmas.Option.{slice_get_within}
@@ -133,7 +133,7 @@ module _ (w : Words) (ps : List Phase) (passes : List (Pass Live)) (dies : List 
   are : AreParts (layout_of w) (λ i. false) (λ m. []) (phases_of ps) th.parts
   are = parts_same (layout_of w) (gone_at firsts) (λ i. false) (λ m. []) (λ m. []) (phases_of ps) th.parts nobody_gone (λ m low. refl) th.are
 
-  -- the last history is just what all have seen behind the last phase
+  -- the last history is just what all have seen after the last phase
   last_is : (m : ℕ) → m < (layout_of w).mutexes → at ended.ends.histories (cell_place (layout_of w) m) ≡ at th.last (cell_place (layout_of w) m)
   last_is m low =
       let p : ℕ = cell_place (layout_of w) m in
@@ -177,7 +177,7 @@ module _ (w : Words) (ps : List Phase) (passes : List (Pass Live)) (dies : List 
   its_card : (i : ℕ) (v : Worker) → slice_get workers i ≡ Some v → Tied (layout_of w).threads ended.ends.changes (card_in v.pass).thread (card_in v.pass).changes
   its_card i v is = tied_at (layout_of w).threads ended.ends.changes (map (λ (z : Worker). card_in z.pass) workers) i (card_in v.pass) ended.ends.tied (mapped_at (λ (z : Worker). card_in z.pass) workers i v is)
 
-  -- the last changes of a counter are just what all know behind the last phase
+  -- the last changes of a counter are just what all know after the last phase
   changed_last : (vs : ℕ → ℕ) → AreKnown (layout_of w) th.abreast.changes vs → (q : ℕ) → q < length (layout_of w).conditions → left_by (changes_at ended.ends.changes (counter_place (layout_of w) q)) ≡ vs q
   changed_last vs known q low =
       let p : ℕ = counter_place (layout_of w) q in

@@ -1,4 +1,4 @@
--- What threads were told, and which of them died, stands in one history.
+-- What calls returned, and which of them died, is in one history.
 use Rattle.std.proofs.Common.{◌≡◌, ◌≢◌, ◌⊎◌, inl, inr, ⊎_elim, ℕ, ◌+◌, ◌<◌, Bool, true, false, Option, List, [], ◌∷◌, ◌++◌, length, take, get_or, refl, sym, ap, ◌∙◌, subst, arith, append_assoc, append-nil}
 use Rattle.std.specs.Prelude.{nat_le, MatchBool, ◌==◌, if◌then◌else◌}
 use mathlib.Core.Logic.{dite}
@@ -163,7 +163,7 @@ lost k m call t c d mine low was =
 
 -- ---- what a thread came to see
 
--- behind what it had seen of the mutex whose cell is at p it has seen more
+-- after what it had seen of the mutex whose cell is at p it has seen more
 abbrev pub Grew : Card → ℕ → Card → Type 0
 Grew c p d = (since : List Point) × (at d.seen p ≡ at c.seen p ++ since)
 
@@ -241,7 +241,7 @@ thread_stays w calls u more v works = from u.pass u.die works where
 
 -- ---- all of them
 
--- the points of a thread, as far as it came, behind those that it had made
+-- the points of a thread, as far as it came, after those that it had made
 pub points_behind : (w : Words) (t m : ℕ) (before : List Point) (a : Card) (cs : List Op) (rs : List Reply) (pass : WorkerPass) → m < (layout_of w).mutexes → a.thread ≡ t → by t (at a.seen (cell_place (layout_of w) m)) ≡ before → Worked w open_gate a cs rs pass
     → ((card_in pass).thread ≡ t) × (xs : List Point) × (by t (at (card_in pass).seen (cell_place (layout_of w) m)) ≡ before ++ xs) × ArePointsBehind (layout_of w) t m before cs rs (is_reaped pass) xs
 points_behind w t m before a cs rs (Lives b) low mine had worked =

@@ -24,7 +24,7 @@ all_taken (x ∷ xs) = ap (λ ys. x ∷ ys) (all_taken xs)
 
 -- ---- calls
 
--- behind the open gate all calls of a thread that lives are answered
+-- after the open gate all calls of a thread that lives are answered
 pub as_many : (w : Words) (a : Card) (xs : List Op) (rs : List Reply) (b : Pass Live) → Worked w open_gate a xs rs (Lives b) → length rs ≡ length xs
 as_many w a xs rs b worked = ⊎_elim (λ (same : length rs ≡ length xs). same) (λ (stopped : (call : Op) × (slice_get xs (length rs) ≡ Some call) × (open_gate a.thread (length rs + 1) call ≢ Some true)). absurd (stopped.2 refl)) worked.stops.2
 

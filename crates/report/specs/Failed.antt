@@ -1,12 +1,13 @@
 -- Why nothing, or not all, of what a command line asks for was written, and what is known then.
 --
--- *Failed.* Why nothing was written, or a beginning: the file couldn't be read, or memory was wanted, before the first
--- byte; what was read has this fault, or wants memory at a line before it; or a writer failed behind a beginning of
--- what the bytes mean.
+-- *Failed.* Why nothing was written, or a beginning: the file couldn't be read, or memory was needed, before the
+-- first byte; what was read has this fault, or wants memory at a line before it; or a writer failed after a
+-- beginning of what the bytes mean.
 --
--- *How a form ended.* It wrote what it had to, the writer has let go of that (`is_let_go`), and nothing was told; or it
--- failed, and that is told, or a beginning of it. The program serves the form that its words ask for so, from what
--- opening their FILE gave; or it tells that this couldn't be opened, or that memory for its words was wanted.
+-- *How a form ended.* It wrote what it had to, the writer has let go of that (`is_let_go`), and nothing was
+-- reported; or it failed, and that is reported, or a beginning of it. The program serves the form that its words ask
+-- for so, from what opening their FILE gave; or it tells that this couldn't be opened, or that memory for its words
+-- was wanted.
 use Rattle.std.specs.Prelude.{ℕ, ◌≡◌, ◌≤◌, ◌⊎◌, ⊤, List, [], length, Option, Ok, Err}
 use Rattle.std.specs.Io.KnownBytes.{Consumes, IsAtEnd}
 use Rattle.script.specs.declared.fault.Fault.TheVariants as fault
@@ -32,7 +33,7 @@ use Rattle.report.specs.Messages.{failure_text, failure_status}
 use Rattle.report.specs.Served.{Report, trace, table, replies, mode_of, Served, TellsFront, WrittenFront}
 use Rattle.report.specs.Verdicts.{JudgedFront, Judged}
 
--- the failure that a fault of reading is told as: memory where memory was refused
+-- the failure that a fault of reading is reported as: memory where memory was refused
 abbrev pub failed_by : ReadFault → Failure
 failed_by read.Memory = OutOfMemory
 failed_by read.Failed = CannotRead
@@ -46,17 +47,17 @@ IsUnread OutOfMemory = ⊤
 IsUnread (Script e) = ⊥
 IsUnread (Trace e) = ⊥
 
--- memory is wanted before a script's first command: for its machine, or for what real threads are asked
+-- memory is needed before a script's first command: for its machine, or for what real threads are asked
 abbrev pub WantsAtFirst : ScriptFault → Type 0
 WantsAtFirst e = e ≡ record { line = 1; fault = fault.OutOfMemory }
 
--- what stops a script that was read: a command that can't be played, or want of memory before the first one
+-- what stops a script that was read: a command that can't be played, or lack of memory before the first one
 abbrev pub Stops : Report → Scope → ScriptFault → Type 0
 Stops trace s e = RefusesCommand s e.line e.fault ⊎ WantsAtFirst e
 Stops table s e = RefusesCommand s e.line e.fault ⊎ WantsAtFirst e
 Stops replies s e = WantsAtFirst e
 
--- what is wrong with these bytes as a script: their first fault, or want of memory at a line before it that says
+-- what is wrong with these bytes as a script: their first fault, or lack of memory at a line before it that says
 -- something; or what stops the script that they are
 abbrev pub IsFaultOf : Report → List ℕ → ScriptFault → Type 0
 IsFaultOf k bytes e = (TellsAt e e.fault (script_read (mode_of k) bytes)
@@ -69,8 +70,8 @@ WantsMemory trace bytes = ⊥
 WantsMemory table bytes = ⊥
 WantsMemory replies bytes = (s : Scope) × (script_read (mode_of replies) bytes ≡ Ok s)
 
--- why what is told of a script with these bytes wasn't written, or not all: a fault of the script, or want of memory,
--- before the first byte; or a writer that failed behind a beginning
+-- why what is reported of a script with these bytes wasn't written, or not all: a fault of the script, or lack of
+-- memory, before the first byte; or a writer that failed after a beginning
 abbrev pub Fails : Report → List ℕ → Option (List ℕ) → Option (List ℕ) → Failure → Type 0
 Fails k bytes old new Usage = ⊥
 Fails k bytes old new CannotRead = ⊥
@@ -97,7 +98,7 @@ FailsTrace bytes old new OutOfMemory = ⊥
 FailsTrace bytes old new (Script e) = ⊥
 FailsTrace bytes old new (Trace e) = (new ≡ old) × Answers (trace_read bytes) (Err e)
 
--- the same for a reader's file: before the first byte it couldn't be read, or memory was wanted; or this came of its
+-- the same for a reader's file: before the first byte it couldn't be read, or memory was needed; or this came of its
 -- bytes, which are all that it had, or more than there may be
 abbrev pub FailsAt : ℕ → (List ℕ → Failure → Type 0) → Option (List ℕ) → Option (List ℕ) → Option (List ℕ)
     → Option (List ℕ) → Failure → Type 0
@@ -139,8 +140,8 @@ file_of (form.Threads file) = file.now
 file_of (form.Check file) = file.now
 file_of form.Usage = []
 
--- how a form ended: it wrote what it had to, the writer has let go of it, and nothing was told; or it failed, and that
--- is told, or a beginning of it, where it can't be written
+-- how a form ended: it wrote what it had to, the writer has let go of it, and nothing was reported; or it failed,
+-- and that is reported, or a beginning of it, where it can't be written
 abbrev pub Ends : Form → Option (List ℕ) → Option (List ℕ) → Option (List ℕ) → Option (List ℕ) → Type 0 → Type 0
     → Option (List ℕ) → Option (List ℕ) → ℕ → Type 0
 Ends f had left old new LetGo Quiet told told' status = (EndsAs f had left old new status × LetGo × Quiet)

@@ -6,7 +6,7 @@
 -- call was given: one for each, and of a wait that wasn't refused an unlock and then a lock; a call that was refused
 -- with X_HELD has none. Of one that died these are the points of the calls that were answered, then all or some of the
 -- next call's, and at last its death, where it held the mutex. The counters of a mutex's condition variables, added up,
--- count the signals and the broadcasts of its history that were answered OK.
+-- count the signals and the broadcasts of its history that were returned OK.
 --
 -- *Stand in order.* The history of each mutex is the phases' histories, one after the other. Each phase's has of each
 -- thread that lived just the points of its calls in that phase, in their order and with its replies in it; a thread
@@ -50,7 +50,7 @@ AreTold k t m (c ∷ cs) (r ∷ rs) xs =
 AreTold k t m [] (r ∷ rs) xs = ⊥
 AreTold k t m (c ∷ cs) [] xs = ⊥
 
--- the points that thread t made of mutex m, behind its earlier ones, and that died before it answered all these calls:
+-- the points that thread t made of mutex m, after its earlier ones, and that died before it answered all these calls:
 -- those of the calls that were answered, and then, if the next call is on this mutex or on a condition variable of it,
 -- all that it has or some of the first. If the thread held the mutex then, its death as the mutex's owner comes last
 pub record AreLastWordsBehind (k : Layout') (t m : ℕ) (earlier : List Point) (calls : List Op) (replies : List Reply)
@@ -76,7 +76,7 @@ abbrev pub ArePointsOf : Layout' → ℕ → ℕ → List Op → List Reply → 
 ArePointsOf k t m calls replies died xs = ArePointsBehind k t m [] calls replies died xs
 
 -- the counters of condition variables that began with these values: those of a mutex, added up, are what they were at
--- first, and one more for each signal or broadcast of its history that was answered OK. Where there is none, each is
+-- first, and one more for each signal or broadcast of its history that was returned OK. Where there is none, each is
 -- what it was
 pub record CountUp (k : Layout') (presets counters : List ℕ) (histories : List (List Point)) : Type 0 where
   pub sums : (m : ℕ) → m < k.mutexes
@@ -87,7 +87,7 @@ pub record CountUp (k : Layout') (presets counters : List ℕ) (histories : List
 
 -- ---- phases
 
--- how many replies a thread has for so many calls: as many where it lives, and fewer where it died
+-- how many replies a thread has for this many calls: as many where it lives, and fewer where it died
 abbrev pub IsCountOf : Bool → ℕ → ℕ → Type 0
 IsCountOf true replies calls = replies < calls
 IsCountOf false replies calls = replies ≡ calls
@@ -117,7 +117,7 @@ abbrev pub some_died : ℕ → List Part → Bool
 some_died i [] = false
 some_died i (q ∷ parts) = q.died i || some_died i parts
 
--- the phases stand in their order: the history of each mutex has all points of a phase before those of the next, and
+-- the phases are in their order: the history of each mutex has all points of a phase before those of the next, and
 -- each thread's replies are those of the phases, one after the other. Where each of the first n phases has one thread's
 -- calls alone, whatever the later ones have, each of its replies is the answer of the mutexes and the counters as they
 -- are then. The mutexes are left as their histories up to there leave them, and the counters of all phases as they are
@@ -139,10 +139,10 @@ pub record StandInOrder (k : Layout') (phases : List (ℕ → List Op)) (presets
 
 -- ---- all of it
 
--- what threads with these calls were told, which of them died, and what is left: each mutex has one legal history of
--- points of these threads, after which it is as its word says, and of each thread it has just the points of that
--- thread's calls, and its death where it died as the owner. The counters count the signals and the broadcasts of these
--- histories
+-- what threads with these calls got, which of them died, and what is left: each mutex has one legal
+-- history of points of these threads, after which it is as its word says, and of each thread it has just the points
+-- of that thread's calls, and its death where it died as the owner. The counters count the signals and the
+-- broadcasts of these histories
 pub record StandTogether (k : Layout') (calls : ℕ → List Op) (phases : List (ℕ → List Op)) (presets : List ℕ)
     (replies : List (Vec Reply Global)) (died : List Bool) (cells counters : List ℕ) : Type 0 where
   pub histories : List (List Point)

@@ -5,11 +5,11 @@
 -- *Lone.* In each of a script's first phases, as many as one takes, one thread alone has calls; what later phases have
 -- makes no difference. Each call is answered as its mutex and its condition variable's counter are then: a lock or a
 -- trylock X_HELD where its thread owns 2,048 mutexes, else by owner, inconsistency and unusability; a lock of a mutex
--- that another thread owns isn't answered, as it sleeps for good, and no more is told. A wait that isn't refused sleeps
--- for good too; if it were answered, then OK. An owner's signal or broadcast is X_FULL where the counter is 2^32 - 1,
--- and else OK, and counts; a thread that dies in one has counted or not, as its point was made or not, and only where
--- the counter wasn't full. In a lock or a trylock no thread dies that holds 2,048 mutexes: such a call is refused
--- before its first access. `played`: the replies of these phases as a function of the calls, which the law
+-- that another thread owns isn't answered, as it sleeps forever, and no more is reported. A wait that isn't refused
+-- sleeps forever too; if it were answered, then OK. An owner's signal or broadcast is X_FULL where the counter is
+-- 2^32 - 1, and else OK, and counts; a thread that dies in one has counted or not, as its point was made or not, and
+-- only where the counter wasn't full. In a lock or a trylock no thread dies that holds 2,048 mutexes: such a call is
+-- refused before its first access. `played`: the replies of these phases as a function of the calls, which the law
 -- `phases_of_one_thread_are_determined` speaks of.
 use Rattle.std.specs.Prelude.{ℕ, ◌≡◌, ◌≢◌, ◌+◌, ◌<◌, ◌==◌, ◌||◌, Bool, true, false, nat_le, Option}
 use Rattle.std.specs.Prelude.{None, Some, List, [], ◌∷◌, length, slice_get, take, if◌then◌else◌}
@@ -37,7 +37,7 @@ abbrev pub by_owner : {A : Type 0} → ℕ → Option ℕ → A → A → A → 
 by_owner t None nobodys mine anothers = nobodys
 by_owner t (Some u) nobodys mine anothers = if u == t then mine else anothers
 
--- who takes a mutex is told of its last owner's death
+-- who takes a mutex learns of its last owner's death
 abbrev pub taken : Bool → Reply
 taken inconsistent = if inconsistent then EOWNERDEAD else OK
 
@@ -52,9 +52,9 @@ taking t full unusable owner inconsistent mine anothers =
 abbrev pub counting : ℕ → Reply
 counting v = if v == largest_counter then XFULL else OK
 
--- the answer to thread t, which holds so many mutexes, of a call of this operation on a mutex that is o, and on a
+-- the answer to thread t, which holds this many mutexes, of a call of this operation on a mutex that is o, and on a
 -- condition variable whose counter is v, if on one. None: it isn't answered, as a lock of a mutex that another thread
--- owns sleeps for good. A wait that isn't refused sleeps for good too, as nobody signals; if it is answered, it has
+-- owns sleeps forever. A wait that isn't refused sleeps forever too, as nobody signals; if it is answered, it has
 -- taken the mutex again that it released. A reinit is no call of theirs, nor is a lock or a wait with a time limit; one
 -- whose limit doesn't come is a lock, or a wait. (A trylock never gives up, as nobody else changes the cell)
 abbrev pub answer : ℕ → ℕ → ℕ → Operation → Object → Option Reply
@@ -77,7 +77,7 @@ abbrev pub IsAnswer : ℕ → ℕ → ℕ → Operation → Object → Reply →
 IsAnswer held t v op o r = answer held t v op o ≡ Some r
 
 -- what a counter that is v leaves open of the reply of a signal or a broadcast, which counts exactly where it is
--- answered OK: a full counter doesn't count, and no other refuses to
+-- returned OK: a full counter doesn't count, and no other refuses to
 abbrev pub IsByCounter : ℕ → Operation → Reply → Type 0
 IsByCounter v Signal OK = v ≢ largest_counter
 IsByCounter v Signal XFULL = v ≡ largest_counter
@@ -89,8 +89,8 @@ abbrev pub AreByCounter : ℕ → List Act → Type 0
 AreByCounter v [] = Unit {0}
 AreByCounter v (a ∷ acts) = IsByCounter v a.0 a.1 × AreByCounter v acts
 
--- all that a step of the mutex may reply, and the counter too, is that, but for X_RACED; and the step leaves the mutex
--- so. (An unusable mutex has no owner)
+-- all that a step of the mutex may reply, and the counter too, is that, except for X_RACED; and the step leaves the
+-- mutex so. (An unusable mutex has no owner)
 abbrev pub MutexesPermitOnlyAnswers : Type 0
 MutexesPermitOnlyAnswers =
     (held t v : ℕ) (o n : Object) (op : Operation) (r : Reply) → (o.unusable ≡ true → o.owner ≡ None)
@@ -109,13 +109,13 @@ abbrev pub raised : (ℕ → ℕ) → Option ℕ → ℕ → ℕ → ℕ
 raised vs None n q = vs q
 raised vs (Some p) n q = if q == p then vs q + n else vs q
 
--- the counters behind a call that was answered r
+-- the counters after a call that was answered r
 abbrev pub counters_behind : (ℕ → ℕ) → Op → Reply → ℕ → ℕ
 counters_behind vs c r = raised vs (condition_of c) (reply_counts (acts_as c) r)
 
 -- ---- calls of one thread
 
--- the mutexes behind a call of thread t that was answered r. A wait that took its mutex again leaves it as it was
+-- the mutexes after a call of thread t that was answered r. A wait that took its mutex again leaves it as it was
 abbrev pub behind : Layout' → ℕ → (ℕ → Object) → Op → Reply → ℕ → Object
 behind k t os c r m = if m == mutex_of k c then stepped (os m) t (acts_as c) r else os m
 
@@ -125,7 +125,7 @@ answer_to k t os vs c =
     answer (held_by t os k.mutexes) t (counter_of vs (condition_of c)) (acts_as c) (os (mutex_of k c))
 
 -- thread t made these calls, one after the other, and was answered so; where the mutexes were os and the counters vs,
--- they are os' and vs' behind them
+-- they are os' and vs' after them
 abbrev pub AreAnswered : Layout' → ℕ → (ℕ → Object) → (ℕ → ℕ) → List Op → List Reply → (ℕ → Object) → (ℕ → ℕ) → Type 0
 AreAnswered k t os vs [] [] os' vs' = (os' ≡ os) × (vs' ≡ vs)
 AreAnswered k t os vs (c ∷ cs) (r ∷ rs) os' vs' =
@@ -133,11 +133,11 @@ AreAnswered k t os vs (c ∷ cs) (r ∷ rs) os' vs' =
 AreAnswered k t os vs [] (r ∷ rs) os' vs' = ⊥
 AreAnswered k t os vs (c ∷ cs) [] os' vs' = ⊥
 
--- a mutex behind thread t's death
+-- a mutex after thread t's death
 abbrev pub bereft : ℕ → Object → Object
 bereft t o = if is_thread t o.owner then bereaved o else o
 
--- thread t made these calls up to one, in which it died: before that took effect, or behind it, or in a wait between
+-- thread t made these calls up to one, in which it died: before that took effect, or after it, or in a wait between
 -- its release and its lock. Then each mutex that it owned is told that its owner died. A signal or a broadcast that had
 -- taken effect has counted, at a counter that wasn't full. In a lock or a trylock it dies only if it held fewer mutexes
 -- than it may: else the call is refused X_HELD before its first access

@@ -1,7 +1,7 @@
 -- What the program says on standard error.
 --
--- *Text of a message.* What is told on standard error: the usage; `cannot read` with the file's name, `cannot write`,
--- `out of memory`; or a fault with its line, its number and its words.
+-- *Text of a message.* What is reported on standard error: the usage; `cannot read` with the file's name, `cannot
+-- write`, `out of memory`; or a fault with its line, its number and its words.
 use Rattle.std.specs.Prelude.{ℕ, List, [], ◌∷◌, codes, decimal}
 use Rattle.std.specs.List.{concat}
 use Rattle.script.specs.Faults as script_faults

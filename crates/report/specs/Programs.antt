@@ -25,17 +25,17 @@ file_asked (threads file) = file
 file_asked (check file) = file
 file_asked usage = []
 
--- the failure that an error of opening a file is told as: memory where memory was refused
+-- the failure that an error of opening a file is reported as: memory where memory was refused
 abbrev pub unopened_by : ErrorKind → Failure
 unopened_by kind.OutOfMemory = OutOfMemory
 unopened_by _ = CannotRead
 
--- a file is asked for, and opening it gave an error that is told as this
+-- a file is asked for, and opening it gave an error that is reported as this
 abbrev pub IsUnopened : (List ℕ → Result (Option (List ℕ)) ErrorKind → Type 0) → Asked → Failure → Type 0
 IsUnopened Opens a g = (a ≢ usage) × (k : ErrorKind) × Opens (file_asked a) (Err k) × (g ≡ unopened_by k)
 
 -- how a form ended: one that asks for the same was served, from what opening its file gave; or the file couldn't be
--- opened, nothing was written, and that is told, or a beginning of it
+-- opened, nothing was written, and that is reported, or a beginning of it
 abbrev pub NamedEnds : (List ℕ → Result (Option (List ℕ)) ErrorKind → Type 0) → Asked → Option (List ℕ)
     → Option (List ℕ) → Type 0 → Type 0 → Option (List ℕ) → Option (List ℕ) → ℕ → Type 0
 NamedEnds Opens a old new LetGo Quiet told told' status =
@@ -45,9 +45,9 @@ NamedEnds Opens a old new LetGo Quiet told told' status =
     ((g : Failure) × IsUnopened Opens a g × (new ≡ old) × AppendsFront told told' (failure_text (file_asked a) g)
     × (status ≡ failure_status g))
 
--- memory for the words of the command line was wanted, which names no file: nothing was written, and that is told, or a
--- beginning of it. That memory was refused for them no contract of the library says: an error for want of memory is one
--- that anybody can make
+-- memory for the words of the command line was wanted, which names no file: nothing was written, and that is
+-- reported, or a beginning of it. That memory was refused for them no contract of the library says: an error when
+-- memory runs out is one that anybody can make
 abbrev pub IsUnserved : Option (List ℕ) → Option (List ℕ) → Option (List ℕ) → Option (List ℕ) → ℕ → Type 0
 IsUnserved old new told told' status =
     (new ≡ old) × AppendsFront told told' (failure_text [] OutOfMemory) × (status ≡ failure_status OutOfMemory)

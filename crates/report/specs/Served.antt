@@ -35,7 +35,7 @@ use Rattle.report.specs.Verdicts.{Checked, CheckedFront}
 use Rattle.runs_judged.specs.Judged.{run_text, script_head, IsJudgedLegal}
 use Rattle.verdict.specs.Limits as traces
 
--- what is told of a script's events, one note for each
+-- what is reported of a script's events, one note for each
 abbrev pub told_of : Scope → List Note
 told_of s = notes (first_state s) (events_in s)
 
@@ -79,7 +79,7 @@ mode_of trace = Run
 mode_of table = Run
 mode_of replies = Threads
 
--- its events, as they are told, are a legal run from its first state
+-- its events, as they are reported, are a legal run from its first state
 abbrev pub RunsLegally : Scope → Type 0
 RunsLegally s = IsLegalRun (first_state s) (events_in s) (told_of s)
 
@@ -106,7 +106,7 @@ abbrev pub TellsFront : Option (List ℕ) → Option (List ℕ) → Scope → An
 TellsFront old new s a = (threads : List ThreadReplies) × (mutexes : List MutexWord) × (conditions : List ConditionWord)
     × AreLines s a threads mutexes conditions × AppendsFront old new (replies_text threads mutexes conditions)
 
--- these bytes are a script, and all of what is told of it was written
+-- these bytes are a script, and all of what is reported of it was written
 abbrev pub Written : Report → Option (List ℕ) → Option (List ℕ) → List ℕ → Type 0
 Written k old new bytes =
     MatchResult (script_read (mode_of k) bytes) (λ s. (text : List ℕ) × Means k s text × Appends old new text) (λ e. ⊥)
@@ -116,7 +116,7 @@ abbrev pub WrittenFront : Report → Option (List ℕ) → Option (List ℕ) →
 WrittenFront k old new bytes = MatchResult (script_read (mode_of k) bytes)
     (λ s. (text : List ℕ) × Means k s text × AppendsFront old new text) (λ e. ⊥)
 
--- all that the reader had, up to its end, is a script, and what is told of it was written
+-- all that the reader had, up to its end, is a script, and what is reported of it was written
 abbrev pub Served : Report → Option (List ℕ) → Option (List ℕ) → Option (List ℕ) → Option (List ℕ) → Type 0
 Served k had left old new = (bytes : List ℕ) × Consumes had left bytes × IsAtEnd left × Written k old new bytes
 

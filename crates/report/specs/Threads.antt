@@ -75,7 +75,7 @@ pub record AreAssigned (p : Phase) (workers : List Worker) (jobs : List Job) : T
   pub each : (i : ℕ) (v : Worker) (j : Job) → slice_get workers i ≡ Some v → slice_get jobs i ≡ Some j
       → (j.pass ≡ v.pass) × (j.die ≡ v.die) × (j.calls.items ≡ calls_in (i + 1) p)
 
--- what each record gives back, and its replies behind those of its thread
+-- what each record gives back, and its replies after those of its thread
 pub record AreGathered (records : List Record) (workers : List Worker) (before after : List (Vec Reply Global)) : Type 0
   where
     pub as_many : length workers ≡ length records
@@ -84,7 +84,7 @@ pub record AreGathered (records : List Record) (workers : List Worker) (before a
         → slice_get workers i ≡ Some v → slice_get before i ≡ Some r → slice_get after i ≡ Some r'
         → (v ≡ record { pass = k.pass; die = k.die }) × (r'.items ≡ r.items ++ k.replies.items)
 
--- a phase: each thread made its calls in it, and their replies stand behind its others
+-- a phase: each thread made its calls in it, and their replies stand after its others
 pub record HaveWorked (w : Words) (p : Phase) (workers after : List Worker) (replies replies' : List (Vec Reply Global))
     : Type 0 where
   pub as_many : length after ≡ length workers
@@ -143,7 +143,7 @@ pub record HasEnded (w : Words) (workers : List Worker) (cells counters : List �
 -- counters begin with these values: there were words of just that layout, each thread's process and each process's base
 -- as it says, on which each thread made its calls in these phases from its first pass on, as far as it lived, and was
 -- answered so; these threads died; and what is left of the words' cells and counters are these. All replies and deaths
--- of all threads stand in one history of each mutex, whose signals and broadcasts the counters count
+-- of all threads are in one history of each mutex, whose signals and broadcasts the counters count
 pub record HaveAnswered (k : Layout') (presets : List ℕ) (ps : List Phase) (dies : List (Option ℕ))
     (replies : List (Vec Reply Global)) (died : List Bool) (cells counters : List ℕ) : Type 0 where
   pub words : Words

@@ -1,15 +1,15 @@
-//! The program but for opening its file: its command line, reading, a script's calls on real threads, judging a trace,
-//! and the messages.
+//! The program except for opening its file: its command line, reading, a script's calls on real threads, judging a
+//! trace, and the messages.
 //!
 //! [`serve`] does what a form of the command line asks for, the file being open, and answers the exit status. Where
 //! that is 0, all of the text was written: a trace or a table is that of a legal run, and a trace is one that [`check`]
 //! finds legal, unless it is refused memory. [`run`] does the same for the words of a command line and whatever opens
-//! files ([`Opener`]). What is told of a failure is in both contracts.
+//! files ([`Opener`]). What is reported of a failure is in both contracts.
 //!
-//! Stands on `cmdline`, for the forms, on `streams`, for files and texts, on `script`, `interleave` and `protocol`, for
+//! Is on `cmdline`, for the forms, on `streams`, for files and texts, on `script`, `interleave` and `protocol`, for
 //! scripts and runs, on `threadbench`, `ruledwords`, `mutex` and `condvar`, for real threads, on `texts`, for what is
 //! written, on `verdict` and `runs_judged`, for judging it, and on `facts`, `posixmutex`, `memorymap` and `lockword`,
-//! for lines, histories, want of memory and replies.
+//! for lines, histories, lack of memory and replies.
 //!
 //! ```text
 //! // `rfx run --table f`, where the file f has this script.

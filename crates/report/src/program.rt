@@ -27,7 +27,7 @@ fn fail<E: Write>(err: &mut E, file: &str, failure: Failure) -> u8
     status_after(failure)
 }
 
-/// What a failure to open a file is told as.
+/// What a failure to open a file is reported as.
 fn failure_of(error: &io::Error) -> Failure
     ensures { result ≡ unopened_by (error_kind error.now) }
 {
@@ -63,7 +63,7 @@ fn serve_named<T: Threads + Wait + Sync, F: Opener, W: Output, E: Write>(
 
 /// What `rfx` does with the words of its command line, the first being its name, and the exit status that it answers.
 /// Where they can't be had as text, they are another command line, unless memory was refused for them. The file that
-/// they name is opened by `files`; one that can't be is told.
+/// they name is opened by `files`; one that can't be is reported.
 pub fn run<T: Threads + Wait + Sync, F: Opener, W: Output, E: Write>(
     rt: &T,
     alloc: Global,

@@ -1,4 +1,4 @@
-//! The program, but for opening its file.
+//! The program, except for opening its file.
 ghost use Rattle.std.specs.Prelude.{◌≡◌, ◌≤◌, ◌<◌, ◌^◌, ◌+◌, ◌⊎◌, ◌↔◌, length, vec_len, Ok, IfOk, IfErr, OnOk};
 ghost use Rattle.std.specs.Io.KnownBytes.{Consumes, IsAtEnd};
 ghost use Rattle.script.specs.declared.command.Mode.TheVariants.{Run};
@@ -33,7 +33,7 @@ use std::thread::Threads;
 use streams::{Output, ReadFault, read_below};
 use texts::{ConditionWord, MutexWord, ThreadReplies, write_replies, write_table, write_trace};
 
-/// What a fault of reading is told as.
+/// What a fault of reading is reported as.
 fn failure_of(fault: ReadFault) -> Failure
     ensures { result ≡ failed_by fault }
 {
@@ -65,7 +65,7 @@ struct Played {
     machine: Machine,
 }
 
-/// Reads a script's bytes and plays them. Where its machine can't be had, that is told at line 1.
+/// Reads a script's bytes and plays them. Where its machine can't be had, that is reported at line 1.
 fn play_bytes(alloc: Global, bytes: &[u8]) -> Result<Played, ScriptFault>
     ensures reads { IfOk result (λ p. script_read Run bytes.now ≡ Ok p.script) }
     ensures plays { IfOk result (λ p. IsPlayed p.script p.trace p.machine) }
@@ -336,7 +336,8 @@ fn file_named<'a>(form: &Form<'a>) -> &'a str
 /// deaths are one legal history, or the replies of real threads, or where it was a legal trace and that is written; 1
 /// for an illegal trace, and for a fault, told on `err`; 2 where the command line has no form. Where a fault is met
 /// before the output begins, nothing is written. Where all was written, the writer has let go of it, and nothing is
-/// told on `err`; so it is for an illegal trace too. It reads at most one byte more than a script or a trace may have.
+/// reported on `err`; so it is for an illegal trace too. It reads at most one byte more than a script or a trace may
+/// have.
 pub fn serve<T: Threads + Wait + Sync, R: Read, W: Output, E: Write>(
     rt: &T,
     alloc: Global,

@@ -1,7 +1,7 @@
 //! `rfx-judge`: judges a history of robust mutexes, of which nobody knows the moments at which calls took effect.
 //!
 //! The system's files and words are handed to `judge_report`, whose contracts say what is written. On a terminal it is
-//! told besides how much of a long history was read (`progress`).
+//! reported besides how much of a long history was read (`progress`).
 #![tactic(auto)]
 
 mod progress;

@@ -1,4 +1,4 @@
-//! What is told on a terminal while a long history is read.
+//! What is reported on a terminal while a long history is read.
 
 use std::io::{self, IsTerminal, Read};
 use streams::{Opener, SystemFiles, SystemInput};
@@ -6,7 +6,7 @@ use streams::{Opener, SystemFiles, SystemInput};
 /// How many bytes are read from one message to the next.
 const STRIDE: u64 = 16 << 20;
 
-/// The system's files. Where standard error is a terminal it is told how much of a long one was read.
+/// The system's files. Where standard error is a terminal it is reported how much of a long one was read.
 #[derive(Drop)]
 pub struct WatchedFiles<'a>(pub &'a HostRuntime);
 
@@ -21,7 +21,7 @@ pub struct WatchedInput<'a> {
 }
 
 impl WatchedInput<'_> {
-    /// Tells how much was read, if that is a stride more than was told.
+    /// Tells how much was read, if that is a stride more than was reported.
     fn go_on(&mut self, count: usize) {
         self.read = self.read.saturating_add(count as u64);
         if self.read - self.told.min(self.read) >= STRIDE {
@@ -30,7 +30,7 @@ impl WatchedInput<'_> {
         }
     }
 
-    /// Tells that all was read, if anything was told.
+    /// Tells that all was read, if anything was reported.
     fn end(&mut self) {
         if self.told > 0 {
             self.told = 0;

@@ -1,7 +1,7 @@
 -- An entry is put in front of a list, access by access (robust-futex-ABI; an entry's words are read by the kernel at
 -- any time, so the head's word comes last).
 --
--- | stands at     | access                                                      | then
+-- | is at         | access                                                      | then
 -- | LoadFirst     | load the head's first word                                  | StoreNext, with what it was: the first entry, or the head
 -- | StoreNext     | store the entry's next word: the first entry, or the head   | StorePrevious
 -- | StorePrevious | store the entry's previous word: the head                   | StoreBehind; in an empty list StoreFirst

@@ -54,7 +54,7 @@ pub record Linking (h e : ℕ) (es : List ℕ) (r : LinkRow) (w : ℕ → ℕ) :
   pub chain : IsChain w h (link_list e es r)
   pub finished : IsChainBothWays (link_finished h e r w) h (e ∷ es)
 
--- so many accesses a link makes at most from a row on
+-- this many accesses a link makes at most from a row on
 abbrev pub link_left : LinkRow → ℕ
 link_left LoadFirst = 5
 link_left (StoreNext f) = 4

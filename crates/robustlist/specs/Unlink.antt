@@ -1,7 +1,7 @@
 -- An entry is taken out of a list, access by access (robust-futex-ABI; the kernel follows next words alone, so the
 -- first store takes it out).
 --
--- | stands at     | access                                                             | then
+-- | is at         | access                                                             | then
 -- | LoadNext      | load the entry's next word                                         | LoadPrevious, with the next entry, or the head
 -- | LoadPrevious  | load the entry's previous word                                     | StoreNext, with the previous entry, or the head
 -- | StoreNext     | store the previous one's next word: the next entry, or the head    | StorePrevious; of the last entry returns OK
@@ -35,7 +35,7 @@ abbrev pub unlink_stored : Answer → UnlinkRow → UnlinkRow
 unlink_stored Stored r = r
 unlink_stored a r = Ended EFAULT
 
--- behind the last entry comes the head, which has no previous word
+-- after the last entry comes the head, which has no previous word
 abbrev pub unlink_after_next : ℕ → ℕ → ℕ → UnlinkRow
 unlink_after_next h n p = if n == h then Ended OK else StorePrevious n p
 

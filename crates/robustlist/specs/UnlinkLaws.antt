@@ -35,7 +35,7 @@ pub record Unlinking (h e : ℕ) (es : List ℕ) (r : UnlinkRow) (w : ℕ → �
   pub chain : IsChain w h (unlink_list e es r)
   pub knows : UnlinkKnows h e es r w
 
--- so many accesses an unlink makes at most from a row on
+-- this many accesses an unlink makes at most from a row on
 abbrev pub unlink_left : UnlinkRow → ℕ
 unlink_left LoadNext = 4
 unlink_left (LoadPrevious n) = 3

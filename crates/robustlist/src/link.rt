@@ -10,17 +10,17 @@ use stepprograms::{Access, Answer, Progress, StepProgram};
 /// list was empty).
 #[derive(Clone, Copy, Debug, PartialEq, Eq)]
 pub enum LinkRow {
-    /// It loads the head's first word.
+    /// Loads the head's first word.
     LoadFirst,
-    /// It stores the entry's next word.
+    /// Stores the entry's next word.
     StoreNext { first: u64 },
-    /// It stores the entry's previous word.
+    /// Stores the entry's previous word.
     StorePrevious { first: u64 },
-    /// It stores the previous word of the entry that was first.
+    /// Stores the previous word of the entry that was first.
     StoreBehind { first: u64 },
-    /// It stores the head's first word: the list now has the entry.
+    /// Stores the head's first word: the list now has the entry.
     StoreFirst,
-    /// It has returned.
+    /// The call has returned.
     Ended(Reply),
 }
 
@@ -62,7 +62,7 @@ impl Link {
         }
     }
 
-    /// The link that stands at a row: one that was kept elsewhere goes on from there.
+    /// The link that is at a row: one that was kept elsewhere goes on from there.
     #[inline(always)]
     pub fn at(head: u64, entry: u64, row: LinkRow) -> Link
         ensures { result ≡ link_at head entry row }

@@ -10,15 +10,15 @@ use stepprograms::{Access, Answer, Progress, StepProgram};
 /// entry after it and of the one before it, or the head's.
 #[derive(Clone, Copy, Debug, PartialEq, Eq)]
 pub enum UnlinkRow {
-    /// It loads the entry's next word.
+    /// Loads the entry's next word.
     LoadNext,
-    /// It loads the entry's previous word.
+    /// Loads the entry's previous word.
     LoadPrevious { next: u64 },
-    /// It stores the next word of the one before: the list is now without the entry.
+    /// Stores the next word of the one before: the list is now without the entry.
     StoreNext { next: u64, previous: u64 },
-    /// It stores the previous word of the entry after.
+    /// Stores the previous word of the entry after.
     StorePrevious { next: u64, previous: u64 },
-    /// It has returned.
+    /// The call has returned.
     Ended(Reply),
 }
 
@@ -59,7 +59,7 @@ impl Unlink {
         }
     }
 
-    /// The unlink that stands at a row: one that was kept elsewhere goes on from there.
+    /// The unlink that is at a row: one that was kept elsewhere goes on from there.
     #[inline(always)]
     pub fn at(head: u64, entry: u64, row: UnlinkRow) -> Unlink
         ensures { result ≡ unlink_at head entry row }
@@ -97,7 +97,7 @@ impl Unlink {
         }
     }
 
-    /// The row after the store that took the entry out: behind the last entry comes the head, which has no previous
+    /// The row after the store that took the entry out: after the last entry comes the head, which has no previous
     /// word.
     #[inline(always)]
     fn after_next(&self, next: u64, previous: u64) -> UnlinkRow

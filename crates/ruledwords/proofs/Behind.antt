@@ -1,4 +1,4 @@
--- Calls behind a meeting.
+-- Calls after a meeting.
 use Rattle.std.proofs.Common.{◌≡◌, ℕ, List, [], ◌∷◌, ◌++◌, sym, ap, ◌∙◌, subst}
 use mathlib.Core.List.{IsPrefix}
 use Rattle.posixmutex.specs.declared.point.Point.{Point}

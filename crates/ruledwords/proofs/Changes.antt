@@ -413,6 +413,6 @@ others_on m n t xs ys first more = let sum = others_more t xs ys in omega arith
 pub others_changed : (n k : ℕ) (c : Card) (p : ℕ) (d : Card) (knows : KnowsMoreAt c p d) → n ≤ k → k ≤ length (made_by_others c.thread knows.here.0) → OthersChanged n c p d
 others_changed n k c p d knows few le = record { since = knows.here.0; grows = sym knows.here.1; authors = knows.here.2; others = (omega arith) }
 
--- what is known to be there behind an access
+-- what is known to be there after an access
 pub left_behind : (c d : Card) (p n v : ℕ) → Writes c p n v d → left_by (changes_at d.changes p) ≡ v
 left_behind c d p n v w = ap left_by w.grows ∙ left_append 0 (changes_at c.changes p ++ w.since) (change_of c.thread n v) ∙ ap (λ (z : ℕ). left_of z (change_of c.thread n v)) w.met ∙ left_changed c.thread n v

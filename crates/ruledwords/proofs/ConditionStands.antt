@@ -219,7 +219,7 @@ module _ (k : Layout') (he en ce co t : ℕ) where
       loads = once_there n _ d found.within refl found.counted s.called found.writes;
     }
 
-    -- ---- where nothing is seen anew
+    -- ---- where nothing new is seen
 
     broadcast_sets : (seen n : ℕ) (d : Card) → Stands operation.Broadcast c0 (cond.Broadcast (broadcast.SetWaiters seen)) c → d ≡ having_set c z n d.changes → (v : ℕ) → Writes c z n v d → Outcome operation.Broadcast c0 d (cond_led (stage (condition.AtWords (cond.Broadcast (broadcast.SetWaiters seen)))) (Value n))
     broadcast_sets seen n d s same v w = went operation.Broadcast c0 d (condition.AtWords (cond.Broadcast (broadcast.Move seen))) None tt record {
@@ -385,7 +385,7 @@ begins_acts k n op c0 c (cond.Broadcast (broadcast.Move seen)) s = subst (λ (o 
 begins_acts k n op c0 c cond.Awake s = one_point op
 begins_acts k n op c0 c (cond.Ended x) s = one_point op
 
--- behind its release a wait has loaded its counter, and behind their point a signal and a broadcast have counted there
+-- after its release a wait has loaded its counter, and after their point a signal and a broadcast have counted there
 pub loaded_behind : (c d : Card) (z p : ℕ) (r : CondRow) (v : Option ℕ) → LoadsBehind r c z p d → CountsBehind r d.counted v → LoadedBehind (cond_acts r) c z p d
 loaded_behind c d z p (cond.Wait wait.LoadCell) v loads counts = tt
 loaded_behind c d z p (cond.Wait wait.LoadCounter) v loads counts = tt

@@ -100,7 +100,7 @@ most_at (cond.Ended x) = omega arith
 
 -- ---- a section, whatever the words are
 
--- so many mutexes its thread holds then; and the lock that ends a wait
+-- this many mutexes its thread holds then; and the lock that ends a wait
 abbrev pub SectionRoom : CondWhole → ℕ → CondPhase → Type 0
 SectionRoom p h f = (h ≤ most_behind (cond_row_in f)) × ((l : Whole) → f ≡ condition.Locking l → (h ≤ held_limit - 1) × (l ≡ retaking p.thread p.head p.entry p.cell))
 

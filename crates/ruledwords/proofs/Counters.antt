@@ -72,7 +72,7 @@ at_most_one operation.Broadcast (Some OK) = omega arith
 at_most_one operation.Broadcast (Some x) = omega arith
 at_most_one op (Some x) = omega arith
 
--- ---- the card behind it
+-- ---- the card after it
 
 -- it saw the list xs of its mutex, found n, and the counter is v now, of which it knows these changes
 abbrev pub counting : Layout' → ℕ → Card → List Point → ℕ → ℕ → List Change → Card
@@ -235,7 +235,7 @@ module _ (o : List ℕ) (k : Layout') (s : St) (h : Kept k o s) (id : ℕ) (c : 
 pub counter_small : {o : List ℕ} (k : Layout') (s : St) (h : Kept k o s) (q : ℕ) → q < length k.conditions → counter_in k s.words q ≤ largest_counter
 counter_small k s h q low = let few = h.counters q low in omega arith
 
--- by which nothing is seen anew
+-- by which nothing new is seen
 pub looks_at_counter : {o : List ℕ} (k : Layout') (slots id : ℕ) (c : Card) (q : ℕ) → q < length k.conditions
     → Allows (Kept k o) slots id (c ∷ [], []) (counter_place k q) (λ n. n) (looked_at_counter (step slots (counter_place k q) 0 0 none) (c ∷ [], []))
 looks_at_counter {o} k slots id c q low s h deep is small =

@@ -84,7 +84,7 @@ counts_more t p op r xs = counts_append xs (told t p op r) ∙ ap (λ (n : ℕ).
 pub of_mutex : (k : Layout') (q : ℕ) → IsLayout k → q < length k.conditions → mutex_at k q < k.mutexes
 of_mutex k q layout low = layout.conditions.1 q 0 low
 
--- the counters are as they were, and so many points count as before
+-- the counters are as they were, and this many points count as before
 pub counted_same : (k : Layout') (o ws ws' : List ℕ) (js js' : List (List Point)) → IsLayout k → Counted k o ws js → ((q : ℕ) → q < length k.conditions → counter_in k ws' q ≡ counter_in k ws q)
     → ((m : ℕ) → m < k.mutexes → counts_in (at js' (cell_place k m)) ≡ counts_in (at js (cell_place k m))) → Counted k o ws' js'
 counted_same k o ws ws' js js' layout h same seen = record {

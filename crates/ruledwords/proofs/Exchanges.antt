@@ -74,7 +74,7 @@ module _ (q : ℕ) (d : Card) where
   plain_consistent false true = tt
   plain_consistent false false = tt
 
-  -- behind an access
+  -- after an access
   pub expects_next : (t cell n : ℕ) (r : Row) → left_by (changes_at d.changes q) ≡ changed (row_access t cell r) n → ExpectsKnown (resume_of t r (answer_at (row_access t cell r) n)).row q d
   expects_next t cell n (Lock lock.Load) known = lock_decides t (fields_of n) (known ∙ sym (word_of-fields_of n))
   expects_next t cell n (Lock (lock.Take seen)) known = go (n == word_of seen) _ known

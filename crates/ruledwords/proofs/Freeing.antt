@@ -104,7 +104,7 @@ changes_on x p q c d n same going stepping ready of m so =
     changes_row x c d q p.thread p.cell n p.row same (subst (λ (t : ℕ). 1 ≤ t) (sym ready.0) m.thread.0) m.last going stepping of (subst (λ (t : ℕ). Expects t p.row (object_of (fields_of n))) (sym ready.0) m.met) m.writes m.sound
     (λ o run. run_same fresh o (object_of (fields_of (changed (access_of p) n))) (at d.seen q) run m.sees.leaves.0) so
 
--- an unlock that wakes stands behind its release
+-- an unlock that wakes stands after its release
 pub at_wake : (t cell at n : ℕ) (r : Row) → IsGoing r → IsOf operation.Unlock r → row_access t cell r ≡ access.Wake at n → (a : Bool) × (r ≡ Unlock (unlock.Wake a)) × (n ≡ (if a then most_threads else 1))
 at_wake t cell at n (Lock r) going of is = absurd (cc of)
 at_wake t cell at n (TryLock r) going of is = absurd (cc of)

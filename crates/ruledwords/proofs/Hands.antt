@@ -326,7 +326,7 @@ opens_kept k counters ws layout small opens = record {
     only zero v e = subst (AllFit k ws []) (some-injective _ _ e) (hand_fits k counters ws k.threads 1 opens (omega arith) (omega arith))
     only (suc j) v e = absurd (some-ne-none v (sym e))
 
--- the values that the counters began with stand behind all else
+-- the values that the counters began with stand after all else
 pub presets_are : (k : Layout') (counters ws : List ℕ) → length counters ≡ length k.conditions → Opens k counters ws → drop (counter_place k 0) ws ≡ counters
 presets_are k counters ws many opens =
     let wide : length ws ≡ words_of k = opens.0 in

@@ -165,7 +165,7 @@ stopped_within {w} {a} {p} {q} l f {b} {s} {s'} {s''} {t} {t'} {t''} d z e (Err 
       fate = subst (λ (z : End). Heeds s s'' t t'' (stops_with z)) (sym told) (heeds_on _ _ _ _ _ _ _ so_far.fate found.fate);
     }
 
--- accesses, and what came behind them
+-- accesses, and what came after them
 pub behind : {w : Words} {a : Pass Live} {p : Whole} {b : Pass Live} {q : Whole} {s s' s'' t t' t'' : ℕ} (l : Line) (d : Pass Live) (r : Result Crossed End) → Went w a p b q s s' t t' → record { steps : ComesAcross w b q d l r; fate : Heeds s' s'' t' t'' (stops_within r) }
     → record { steps : ComesAcross w a p d l r; fate : Heeds s s'' t t'' (stops_within r) }
 behind {w} {a} {p} {b} {q} l d (Ok x) so_far more = record {
@@ -180,7 +180,7 @@ behind {w} {a} {p} {b} {q} l d (Ok x) so_far more = record {
 }
 behind {w} {a} {p} {b} {q} l d (Err e) so_far more = record { steps = (after w a p b q d e so_far.came more.steps.0, more.steps.1); fate = heeds_on _ _ _ _ _ _ _ so_far.fate more.fate }
 
--- so many accesses were made
+-- this many accesses were made
 pub came_on : {w : Words} {a : Pass Live} {p : Whole} {b : Pass Live} {q : Whole} {s s' t t' : ℕ} → record { steps : ComesOn w a p b q; fate : Heeds s s' t t' 0 } → Went w a p b q s s' t t'
 came_on so = record { came = so.steps; fate = so.fate }
 
@@ -249,7 +249,7 @@ to_link l c n op free hit =
 pub misses : (l : Line) (c : Fields) (n : ℕ) → n ≢ word_of c → answer_at (whole_access (stands l (taking c))) n ≡ Changed n
 misses l c n miss = ap (λ (b : Bool). if◌then◌else◌ {A = Answer} b Exchanged (Changed n)) (ne_eqb n (word_of c) miss)
 
--- behind the stores to the entry's own words
+-- after the stores to the entry's own words
 abbrev behind_both : Line → ℕ → Bool → Phase
 behind_both l f b = linked_at OK (link_at l.head l.entry (if◌then◌else◌ {A = LinkRow} b link.StoreFirst (link.StoreBehind f))) (if◌then◌else◌ {A = LinkRow} b link.StoreFirst (link.StoreBehind f))
 
@@ -283,7 +283,7 @@ to_announce l n c is held =
     ∙ ap (λ (b : Bool). whole_moved (stands l loading_unlock) (from_cell (stands l loading_unlock) (if◌then◌else◌ {A = Led} b (goes (row.Unlock (unlock.Release c.died))) (ends EPERM)))) (held_owner c l.thread held)
     ∙ ap (λ (d : Bool). stands l (phase.Announcing (row.Unlock (unlock.Release d)))) (held_consistent c l.thread held)
 
--- behind the store that takes the entry out
+-- after the store that takes the entry out
 abbrev behind_next : Line → ℕ → ℕ → Bool → Phase
 behind_next l n p b = unlinked_at (unlink_at l.head l.entry (if◌then◌else◌ {A = UnlinkRow} b (out.Ended OK) (out.StorePrevious n p))) (if◌then◌else◌ {A = UnlinkRow} b (out.Ended OK) (out.StorePrevious n p)) false
 

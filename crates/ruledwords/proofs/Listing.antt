@@ -461,7 +461,7 @@ alive_first k counters t layout first inside = alive_empty k (first_card k count
   at_pending : value_at (first_values k t) (head_place t + 2) ≡ Some 0
   at_pending = value_put (put_value (put_value [] (head_place t) (Some (address_in k t (head_place t)))) (head_place t + 1) (Some cell_offset)) (head_place t + 2) (Some 0)
 
--- who lives anew
+-- who lives again
 pub card_anew : (k : Layout') (c : Card) → IsCardOf k c → IsCardOf k (renewed k c)
 card_anew k c is = record { layout = is.layout; threads = is.threads; first = is.first; thread = is.thread; base = is.base; legal = is.legal }
 

@@ -106,7 +106,7 @@ pub all_of_append : (n p : ℕ) (xs ys : List Point) → AllOf n p xs → AllOf 
 all_of_append n p [] ys h i = i
 all_of_append n p (x ∷ xs) ys h i = (h.0, all_of_append n p xs ys h.1 i)
 
--- where a call decided something, it didn't make its mutex anew
+-- where a call decided something, it didn't reinitialise its mutex
 abbrev pub NoReinit : Operation → Option Reply → Type 0
 NoReinit op None = Unit {0}
 NoReinit op (Some x) = op ≢ Reinit

@@ -103,7 +103,7 @@ deathless : (b : Bool) → told_counts Death (death_by b) ≡ 0
 deathless true = refl
 deathless false = refl
 
--- and it makes no mutex anew
+-- and it reinitialises no mutex
 reinitless : (b : Bool) → NoReinit Death (death_by b)
 reinitless true = λ e. cc e
 reinitless false = tt

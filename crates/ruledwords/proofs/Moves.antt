@@ -170,7 +170,7 @@ fits_own k ws ws' js p op r c misses last vs b zs f knows marked = let xs : List
 
 -- ---- the rule
 
--- a step that leaves the mutex as it was didn't make it anew
+-- a step that leaves the mutex as it was didn't reinitialise it
 pub none_where_same : (t p : ℕ) (op : Operation) (r : Option Reply) (o : Object) → Run o (told t p op r) o → NoReinit op r
 none_where_same t p op None o run = tt
 none_where_same t p op (Some x) o run = λ e. go x (subst (λ (z : Operation). Run o (told t p z (Some x)) o) e run)
@@ -182,7 +182,7 @@ none_where_same t p op (Some x) o run = λ e. go x (subst (λ (z : Operation). R
 pub leaves_more : (k : Layout') (p t : ℕ) (xs : List Point) (o n : Object) (op : Operation) (r : Option Reply) → 1 ≤ t → t ≤ k.threads → NoReinit op r → Leaves k.threads p xs o → Run o (told t p op r) n → Leaves k.threads p (xs ++ told t p op r) n
 leaves_more k p t xs o n op r pos low made l run = (run_append fresh o n xs (told t p op r) l.0 run, all_of_append k.threads p xs (told t p op r) l.1 (all_of_told k.threads t p op r pos low made))
 
--- the changes of m's cell behind an access of the card's thread that leaves n there
+-- the changes of m's cell after an access of the card's thread that leaves n there
 abbrev pub changing : {o : List ℕ} (k : Layout') (s : St) (h : Kept k o s) (c : Card) (m n : ℕ) → List Change
 changing k s h c m n = changes_at h.recorded.changes (cell_place k m) ++ change_of c.thread (get_or s.words (cell_place k m) 0) n
 

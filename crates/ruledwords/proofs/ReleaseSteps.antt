@@ -168,7 +168,7 @@ first ⨾ more =
     let y = more.fate in
     record { stays = λ x m is. more.stays x m (first.stays x m is); there = more.there; fate = omega (arith, x, y) }
 
--- behind them the unlock ended, which a `?` hands on
+-- after them the unlock ended, which a `?` hands on
 pub ended : {w : Words} {a : Pass Live} {p : Whole} {b : Pass Live} {q : Whole} {f f' f'' : ℕ} {O : Type 0} (d : Pass Live) (e : End) (r : Result Whole End)
     → Went w a p b q f f' → record { steps : ReleaseEnds w b q d e; once : O; fate : f'' ≡ f' + stops_with e } → IsErrAnd r (λ y. y ≡ e)
     → record { steps : ReleasesTo w a p d r; fate : f'' ≡ f + stops_within r }

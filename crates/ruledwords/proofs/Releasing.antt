@@ -160,7 +160,7 @@ module _ (w : Words) (a : Pass Live) (m : ℕ) (r : Running) (u : IsUnderWay w a
         let wakes = at_wake p.thread p.cell to n (row_in p.phase) goes u.2.of e in
         owing_not (if wakes.0 then All else One) (cell_phase p at ∙ ap AtCell wakes.1 ∙ wakes_there wakes.0)))
 
-    -- what is told of the word that was found
+    -- what is recorded of the word that was found
     pub told_on : (d : Card) (x : Answer) → Answers k p p.phase c d x
         → Tells operation.Unlock (row_in (whole_led p x).phase) (fields_of d.last) × FoundOwn (row_in (whole_led p x).phase) p.thread d.last × ChangesThere (row_in (whole_led p x).phase) (card a) (cell_place k m) d
     told_on d x answers = ⊎_elim

@@ -45,7 +45,7 @@ pub record Passes (t : ℕ) (r : Row) (x : Answer) : Type 0 where
   pub faultless : (resume_of t r x).row ≢ Ended EFAULT
   pub expects_known : (q : ℕ) (d : Card) → ExpectsKnown (resume_of t r x).row q d
 
--- behind a wake the unlock trims, or returns
+-- after a wake the unlock trims, or returns
 abbrev behind_wake : Bool → Row
 behind_wake b = if b then Unlock unlock.Trim else Ended OK
 

@@ -107,7 +107,7 @@ stands_after op first q c p d e n going step ready s m =
       others = subst (λ (z : ℕ). z ≤ length (made_by_others c.thread (s.knows.here.0 ++ (m.writes.since ++ change_of d.thread n (changed (access_of p) n))))) (sym sum) all;
     }
 
--- what is told of the word that a release found
+-- what is recorded of the word that a release found
 pub tells_after : (op : Operation) (p : Standing) (q : ℕ) (c d : Card) (n : ℕ) → IsGoing p.row → IsStep (access_of p) → Ready p c → IsOf op p.row → Made p q c n d → Tells op (led_at p n).row (fields_of d.last)
 tells_after op p q c d n going step ready of m =
     subst (λ (z : Operation × ℕ). Tells z.0 (led_at p n).row (fields_of z.1)) (λ i. (of_going op p.row going of i, sym m.last i)) (made_minds p q c d n going step ready m).tells

@@ -65,7 +65,7 @@ went step = record { came = step.steps; fate = step.fate }
 pub ◌⨾◌ : {w : Words} {a : Pass Live} {p : Whole} {b : Pass Live} {q : Whole} {d : Pass Live} {r : Whole} {f f' f'' n n' n'' : ℕ} → Went w a p b q f f' n n' → Went w b q d r f' f'' n' n'' → Went w a p d r f f'' n n''
 ◌⨾◌ {w} {a} {p} {b} {q} {d} {r} first more = record { came = comes_further w a p b q d r first.came more.came; fate = heeds_on _ _ _ _ _ _ _ first.fate more.fate }
 
--- behind them the call ended, which a `?` hands on
+-- after them the call ended, which a `?` hands on
 pub ended : {w : Words} {a : Pass Live} {p : Whole} {b : Pass Live} {q : Whole} {f f' f'' n n' n'' : ℕ} {O : Type 0} (d : Pass Live) (e : End) (r : Result Whole End)
     → Went w a p b q f f' n n' → record { steps : ComesToEnd w b q d e; once : O; fate : Heeds f' f'' n' n'' (stops_with e) } → IsErrAnd r (λ y. y ≡ e)
     → record { steps : StepsTo w a p d r; fate : Heeds f f'' n n'' (stops_within r) }

@@ -207,7 +207,7 @@ countless (row.Unlock r) (Some x) = refl
 countless (row.Consistent r) (Some x) = refl
 countless (row.Ended y) (Some x) = refl
 
--- and none makes a mutex anew
+-- and none reinitialises a mutex
 unreinited : (r : Row) (x : Option Reply) → NoReinit (row_operation r) x
 unreinited r None = tt
 unreinited (row.Lock r) (Some x) = λ e. cc e

@@ -1,4 +1,4 @@
--- A change of a cell that leaves its mutex as it is keeps the rule; so does a trim. Nothing is seen anew by it.
+-- A change of a cell that leaves its mutex as it is keeps the rule; so does a trim. Nothing new is seen by it.
 use Rattle.std.proofs.Common.{Bool, true, false, ◌≡◌, ◌≢◌, ⊎_elim, ℕ, ◌+◌, ◌<◌, ◌==◌, List, [], ◌∷◌, length, get_or, set, refl, sym, ap, ◌∙◌, subst, arith, eqb-true, length-set, get_or-set_other, get_or-set_same}
 use mathlib.Core.Logic.{dite}
 use mathlib.Core.Option.{none, some}

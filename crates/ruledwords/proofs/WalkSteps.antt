@@ -301,7 +301,7 @@ module _ (k : Layout') (c : Card) (is : IsCardOf k c) (knows : KnowsOwn k c) whe
   went_at (WakeOne a rest) going row still left n d found = absurd (still tt)
   went_at Ended going row still left n d found = absurd going
 
-  -- behind a wake
+  -- after a wake
   went_wake : (r : Row) → IsGoing r → Knows u h r → IsWake (row_access h r) → At r → (j : ℕ) → Went k c c (Here r) (Count j)
   went_wake LoadFirst going row wake left j = absurd wake
   went_wake (LoadOffset first) going row wake left j = absurd wake

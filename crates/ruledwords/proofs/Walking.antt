@@ -47,7 +47,7 @@ module _ (l : Layout') (t : ℕ) (layout : IsLayout l) (pos : 1 ≤ t) (known : 
       go true e = absurd (not e)
       go false e = e
 
-  -- behind the list
+  -- after the list
   to_pending_arrives : (p : ℕ) → ((p ≡ 0) ⊎ (k : ℕ) × (k < l.mutexes) × (p ≡ entry_in l t k)) → ((k : ℕ) → k < l.mutexes → owns k ≡ true → p ≡ entry_in l t k) → At (to_pending cell_offset p)
   to_pending_arrives p (inl none) owned = subst At (sym (ap (to_pending cell_offset) none)) (λ k below. owns_or k (λ own. not_null l t layout pos known (entry_place l k) (omega arith) (omega arith) (sym (owned k below own) ∙ none)))
   to_pending_arrives p (inr (k, below, is)) owned = go (p == 0) refl
@@ -59,7 +59,7 @@ module _ (l : Layout') (t : ℕ) (layout : IsLayout l) (pos : 1 ≤ t) (known : 
       go true e = absurd (not_null l t layout pos known (entry_place l k) (omega arith) (omega arith) (sym is ∙ eqb-true p 0 e))
       go false e = (k, treats, λ j inside own. ap Some (same_entry l t layout pos known k j below inside (sym is ∙ owned j inside own)))
 
-  -- the next entry, or behind the list
+  -- the next entry, or after the list
   pub forward_arrives : (r : Rest) → LeftOf l t owns w r None → At (forward h r)
   forward_arrives r (es, x, offset, few) = go (r.entry == h) refl (r.loaded == 2048) refl
     where
@@ -111,7 +111,7 @@ module _ (l : Layout') (t : ℕ) (layout : IsLayout l) (pos : 1 ≤ t) (known : 
           next_leads : Leads w h (w r.entry) ys
           next_leads = subst (λ (e : ℕ). Leads w h (w e) ys) (sym leads.0) leads.1
 
-          -- behind that entry, which is pending, or is treated now
+          -- after that entry, which is pending, or is treated now
           rest_left : (out : Option ℕ) → ((k : ℕ) → k < l.mutexes → entry_in l t k ≡ y → (r.pending ≡ entry_in l t k) ⊎ (out ≡ Some k)) → ((z : ℕ) → IsAmong z ys → (k : ℕ) → z ≡ entry_in l t k → out ≢ Some k) → LeftOf l t owns w (further r (w r.entry)) out
           rest_left out of_first apart = (
             ys,

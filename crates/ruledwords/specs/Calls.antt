@@ -38,7 +38,7 @@ use Rattle.ruledwords.specs.Rules.{Sat, At, Turns}
 use Rattle.std.proofs.Props.{props}
 use Rattle.lockword.specs.Threads.{most_threads}
 
--- where a call stands as its mutex sees it: before a row, or at its end once it has been through with the cell
+-- where a call stands as its mutex sees it: before a row, or at its end once it has been finished with the cell
 abbrev pub row_in : Phase → Row
 row_in (phase.Announcing r) = r
 row_in (phase.AtCell r) = r
@@ -75,7 +75,7 @@ Ready p c = (p.thread ≡ c.thread) × Knows p.row
     × ((q : ℕ) (o : Object) → q < 2 ^ 64 → p.cell ≡ address_at c q → Run fresh (at c.seen q) o
     → Expects c.thread p.row o)
 
--- an access of a call, at the cell at q, whose word was n: its point, if it is one, is what the thread sees anew
+-- an access of a call, at the cell at q, whose word was n: its point, if it is one, is what the thread newly sees
 pub record Made (p : Standing) (q : ℕ) (c : Card) (n : ℕ) (d : Card) : Type 0 where
   pub sees : Sees c q (points (point_of c.thread q (row_operation p.row) (led_at p n).point))
       (object_of (fields_of (changed (access_of p) n))) d
@@ -107,7 +107,7 @@ count_by n Unlock OK = n - 1
 count_by n Death OK = n - 1
 count_by n op r = n
 
--- how many mutexes a thread holds that held so many before its point
+-- how many mutexes a thread holds that held this many before its point
 abbrev pub count_after : ℕ → Option Point → ℕ
 count_after n None = n
 count_after n (Some x) = count_by n x.operation x.reply
@@ -116,7 +116,7 @@ abbrev pub most_of : Option Reply → Bool → ℕ
 most_of None true = held_limit - 1
 most_of x b = held_limit
 
--- so many a thread holds at most that stands there: one less where it may still take one
+-- this many a thread holds at most that is there: one less where it may still take one
 abbrev pub most : Row → ℕ
 most r = most_of (decided r) (acquires (row_operation r))
 
@@ -132,7 +132,7 @@ ExpectsKnown (row.Lock (lock.SetWaiters seen)) q d = left_by (changes_at d.chang
 ExpectsKnown (row.TryLock (try.Take seen failed)) q d = left_by (changes_at d.changes q) ≡ word_of seen
 ExpectsKnown r q d = Unit {0}
 
--- a call on the mutex whose cell is at q, begun at the card c, stands at the program p, and its pass has the card d: it
+-- a call on the mutex whose cell is at q, begun at the card c, is at the program p, and its pass has the card d: it
 -- is decided as its row tells; of its exchanges those failed that its answers tell, and others have changed the cell as
 -- often at least; it has come to know of no other word's changes
 pub record Stands (op : Operation) (first : Row) (q : ℕ) (c : Card) (p : Standing) (d : Card) : Type 0 where

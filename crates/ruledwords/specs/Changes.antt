@@ -4,7 +4,7 @@
 -- *Changes of cells and counters.* Which words each mutex's cell and each condition variable's counter had, one after
 -- the other, and who wrote each: they leave the word that is there, or the 0 that a cell begins with. What a thread's
 -- card knows of them begins them, and has all that the thread itself wrote; all that it doesn't know of threads of the
--- layout wrote. So a step can put in a change of its own thread alone, and only behind all that others made: no body
+-- layout wrote. So a step can put in a change of its own thread alone, and only after all that others made: no body
 -- can name a word of its own as the one that its release found, nor forget a sleeper who set WAITERS before that. An
 -- access that meets a word and leaves another makes one change; a trim that finds WAITERS alone leaves 0. Each exchange
 -- of a call on a mutex expects the word that the changes leave of which its thread knows; so one that fails finds a
@@ -51,7 +51,7 @@ abbrev pub left_of : ℕ → List Change → ℕ
 left_of w [] = w
 left_of w (x ∷ xs) = left_of x.word xs
 
--- the word that they leave in place of the 0 that nobody has changed
+-- the word that they leave instead of the 0 that nobody has changed
 abbrev pub left_by : List Change → ℕ
 left_by xs = left_of 0 xs
 
@@ -63,7 +63,7 @@ change_of t n v = if v == n then [] else record { thread = t; word = v } ∷ []
 abbrev pub first_changes : List ℕ → List (List Change)
 first_changes ws = map (λ (w : ℕ). record { thread = 0; word = w } ∷ []) ws
 
--- nothing is known of n words; these changes are of those behind
+-- nothing is known of n words; these changes are of those after
 abbrev pub behind_unknown : ℕ → List (List Change) → List (List Change)
 behind_unknown zero xs = xs
 behind_unknown (suc n) xs = [] ∷ behind_unknown n xs
@@ -102,8 +102,8 @@ AllTied n xs [] = Unit {0}
 AllTied n xs (c ∷ cs) = Tied n xs c.thread c.changes × AllTied n xs cs
 
 -- of each cell and of each counter the changes that were made, of which each card has a beginning: they leave its word;
--- and threads of the layout made all behind the first one, and all of which a card doesn't know. So nobody can put in a
--- change but at their end, as its own
+-- and threads of the layout made all after the first one, and all of which a card doesn't know. So nobody can put in
+-- a change but at their end, as its own
 pub record Recorded (k : Layout') (ws : List ℕ) (vs : List (List Card)) : Type 0 where
   pub changes : List (List Change)
   pub leave : (m : ℕ) → m < k.mutexes → left_by (changes_at changes (cell_place k m)) ≡ slice_index ws (cell_place k m)
@@ -114,7 +114,7 @@ pub record Recorded (k : Layout') (ws : List ℕ) (vs : List (List Card)) : Type
 
 -- ---- what an access tells
 
--- an access at the word at p met n and left v: behind what its thread knew of the word's changes stand others', which
+-- an access at the word at p met n and left v: after what its thread knew of the word's changes stand others', which
 -- left n, and then its own, if it made one, all by threads that there are. Of other words' it knows what it knew
 pub record Writes (c : Card) (p n v : ℕ) (d : Card) : Type 0 where
   pub since : List Change
@@ -136,7 +136,7 @@ ChangedNone P c d =
     (p : ℕ) → P p → made_by c.thread (changes_at d.changes p) ≡ made_by c.thread (changes_at c.changes p)
 
 -- a thread has counted once at p, the counter of a condition variable whose mutex's cell is at z: it left one more than
--- what it found there, which is what it loaded last. Of other words, but for the cell, it has changed none
+-- what it found there, which is what it loaded last. Of other words, except for the cell, it has changed none
 pub record CountedOnce (c : Card) (z p : ℕ) (d : Card) : Type 0 where
   pub since : List Change
   pub others : made_by c.thread since ≡ []
@@ -169,7 +169,7 @@ pub record Loaded (c : Card) (p : ℕ) (d : Card) : Type 0 where
   pub nothing : ChangedNothing c p d
   pub left : left_by (changes_at d.changes p) ≡ d.counted
 
--- behind what a thread knew of the changes of the word at p it has come to know of n changes at least by others, who
+-- after what a thread knew of the changes of the word at p it has come to know of n changes at least by others, who
 -- are threads that there are. So the word as it was given, which nobody made, isn't among them
 pub record OthersChanged (n : ℕ) (c : Card) (p : ℕ) (d : Card) : Type 0 where
   pub since : List Change

@@ -70,7 +70,7 @@ IsCondRunningOf w r = IsPassOf w (cond_pass r) × IsInCondCall (layout_of w) (ca
 
 -- ---- an access at a seat
 
--- the seat of thread t, whose call makes the access a: it stands at z, on condition variable q
+-- the seat of thread t, whose call makes the access a: it is at z, on condition variable q
 pub record CanAct (w : Words) (s : Seat (Unit {0}) (List Card)) (t : ℕ) (k : Layout') (q : ℕ) (z : CondStanding)
     (a : Access) : Type 0 where
   pub table : s.table_id ≡ w.places.table.shared.table_id
@@ -89,7 +89,7 @@ abbrev pub HasActed : Words → Seat (Unit {0}) (List Card) → Seat (Unit {0}) 
 HasActed w s s' q z n =
     (s'.table_id ≡ s.table_id) × IsOne s'.me × Acted (layout_of w) q z z.row (card_of s.me.0) n (card_of s'.me.0)
 
--- the seat of thread t, whose call stands at p
+-- the seat of thread t, whose call is at p
 pub record IsSeatedCondCall (w : Words) (s : Seat (Unit {0}) (List Card)) (t : ℕ) (p : CondWhole) : Type 0 where
   pub table : s.table_id ≡ w.places.table.shared.table_id
   pub one : IsOne s.me
@@ -130,7 +130,7 @@ CondOnward p x a (Goes r) = (cond_pass r ≡ a) × (cond_call r ≡ cond_moved p
 CondOnward p x a (Locks r) = (running_pass r ≡ a) × ((cond_led p x).phase ≡ condition.Locking (running_call r))
 CondOnward p x a (Lives b y) = (b ≡ a) × ((cond_led p x).phase ≡ condition.Ended y)
 
--- the call is where it was, and its pass knows what it knew, but for the word that it found last
+-- the call is where it was, and its pass knows what it knew, except for the word that it found last
 abbrev pub CondUnmoved : Words → CondRunning → CondRunning → Type 0
 CondUnmoved w r r' = IsCondRunningOf w r' × (cond_call r' ≡ cond_call r)
     × (card (cond_pass r')

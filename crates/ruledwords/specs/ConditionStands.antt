@@ -5,7 +5,7 @@
 -- thread the points that the call has made. By a thread that didn't own the mutex when the call began it ends with
 -- EPERM. By the owner a signal or a broadcast ends with X_FULL exactly where the counter that it loaded, which the pass
 -- keeps (`Card.counted`), was 2^32 - 1; else with OK, and the counter is then one more than what it loaded, by one
--- change of its own thread (`CountedOnce`, `CountsThere`), and behind a broadcast its thread knows WAITERS to stand in
+-- change of its own thread (`CountedOnce`, `CountsThere`), and after a broadcast its thread knows WAITERS to be in
 -- the mutex's cell (`SetsWaiters`). A wait by the owner is refused with X_STATE, where the last owner's death isn't
 -- declared, or it releases the mutex, which is usable then, by the point of an unlock that is OK. From then on, alive
 -- or dead, its pass knows that it loaded the counter of this very condition variable (`Loaded`; `Changes.antt`). Awake
@@ -50,7 +50,7 @@ use Rattle.ruledwords.specs.Passes.{card, layout_of, IsDying, IsLive}
 use Rattle.ruledwords.specs.Seen.{Called, Died}
 use Rattle.ruledwords.specs.Turns.{running_pass, IsUnderWay}
 
--- the points that a call has made that stands there
+-- the points that a call has made that is there
 abbrev pub cond_acts : CondRow → List Act
 cond_acts (cond.Wait (wait.Wake seen)) = (operation.Unlock, OK) ∷ []
 cond_acts (cond.Wait (wait.Sleep seen)) = (operation.Unlock, OK) ∷ []
@@ -59,14 +59,14 @@ cond_acts (cond.Broadcast (broadcast.SetWaiters seen)) = (operation.Broadcast, O
 cond_acts (cond.Broadcast (broadcast.Move seen)) = (operation.Broadcast, OK) ∷ []
 cond_acts r = []
 
--- behind its first load its thread owned the mutex when it began
+-- after its first load its thread owned the mutex when it began
 abbrev pub OwnsBehind : CondRow → Bool → Type 0
 OwnsBehind (cond.Wait wait.LoadCell) b = Unit {0}
 OwnsBehind (cond.Signal signal.LoadCell) b = Unit {0}
 OwnsBehind (cond.Broadcast broadcast.LoadCell) b = Unit {0}
 OwnsBehind r b = b ≡ true
 
--- what it loaded of the counter, n, wasn't full; and the counter is n, or behind the count one more
+-- what it loaded of the counter, n, wasn't full; and the counter is n, or after the count one more
 abbrev pub CountsBehind : CondRow → ℕ → Option ℕ → Type 0
 CountsBehind (cond.Signal signal.Count) n v = (n ≢ largest_counter) × (v ≡ Some n)
 CountsBehind (cond.Signal signal.Wake) n v = (n ≢ largest_counter) × (v ≡ Some (n + 1))
@@ -75,8 +75,8 @@ CountsBehind (cond.Broadcast (broadcast.SetWaiters seen)) n v = (n ≢ largest_c
 CountsBehind (cond.Broadcast (broadcast.Move seen)) n v = (n ≢ largest_counter) × (v ≡ Some (n + 1))
 CountsBehind r n v = Unit {0}
 
--- a wait has changed nothing at its counter; and behind its load the changes of that counter that its thread knows of
--- leave what it loaded, by whose low half it sleeps. A signal and a broadcast have counted there once, behind their
+-- a wait has changed nothing at its counter; and after its load the changes of that counter that its thread knows of
+-- leave what it loaded, by whose low half it sleeps. A signal and a broadcast have counted there once, after their
 -- point
 abbrev pub LoadsBehind : CondRow → Card → ℕ → ℕ → Card → Type 0
 LoadsBehind (cond.Wait wait.LoadCell) c z p d = ChangedNothing c p d
@@ -94,7 +94,7 @@ abbrev pub WaitersBehind : CondRow → Bool → Type 0
 WaitersBehind (cond.Broadcast (broadcast.Move seen)) b = b ≡ true
 WaitersBehind r b = Unit {0}
 
--- the mutex is usable where the thread saw it last: its release didn't spoil it
+-- the mutex is usable where the thread saw it last: its release didn't make it unusable
 abbrev pub LeftUsable : Layout' → ℕ → Card → Type 0
 LeftUsable k q d = (o : Object) → Run fresh (at d.seen (cell_at k q)) o → o.unusable ≡ false
 
@@ -104,7 +104,7 @@ UsableBehind k q (cond.Wait (wait.Wake seen)) d = LeftUsable k q d
 UsableBehind k q (cond.Wait (wait.Sleep seen)) d = LeftUsable k q d
 UsableBehind k q r d = Unit {0}
 
--- a call of this operation on condition variable q, begun at the card c, stands at a row, and its pass has the card d
+-- a call of this operation on condition variable q, begun at the card c, is at a row, and its pass has the card d
 pub record CondStands (k : Layout') (q : ℕ) (op : Operation) (c : Card) (r : CondRow) (d : Card) : Type 0 where
   pub of : IsOf op r
   pub called : Called c (cell_at k q) (cond_acts r) d
@@ -120,13 +120,13 @@ abbrev pub cond_reply : Operation → Bool → ℕ → Reply
 cond_reply operation.Wait own n = if own then XSTATE else EPERM
 cond_reply op own n = if own then (if n == largest_counter then XFULL else OK) else EPERM
 
--- the counter is what was loaded, or behind a count one more
+-- the counter is what was loaded, or after a count one more
 abbrev pub CountsOnce : Reply → ℕ → Option ℕ → Type 0
 CountsOnce OK n v = v ≡ Some (n + 1)
 CountsOnce XFULL n v = v ≡ Some n
 CountsOnce x n v = Unit {0}
 
--- a signal or a broadcast that is answered OK has counted once, at the counter at p, and one that is answered X_FULL
+-- a signal or a broadcast that is returned OK has counted once, at the counter at p, and one that is returned X_FULL
 -- has found that full and left it so. (No other call counts anywhere)
 abbrev pub CountsThere : Operation → Reply → Card → ℕ → ℕ → Card → Type 0
 CountsThere operation.Signal OK c z p d = CountedOnce c z p d
@@ -135,7 +135,7 @@ CountsThere operation.Broadcast OK c z p d = CountedOnce c z p d
 CountsThere operation.Broadcast XFULL c z p d = Loaded c p d
 CountsThere op x c z p d = Unit {0}
 
--- a broadcast that is answered OK has set WAITERS
+-- a broadcast that is returned OK has set WAITERS
 abbrev pub SetsWaiters : Operation → Reply → Bool → Type 0
 SetsWaiters operation.Broadcast OK b = b ≡ true
 SetsWaiters op x b = Unit {0}
@@ -178,7 +178,7 @@ abbrev pub CondKeeps : Words → CondRunning → CondTurn → Type 0
 CondKeeps w r turn = (a : Pass Live) (c : CondCall) → IsCondUnderWay w a c r → CondGoesOn w a c turn
 
 -- a thread that has released its mutex in a wait has loaded the counter at p; and one whose signal or broadcast has
--- taken effect has counted there, where the counter wasn't full (none dies behind an X_FULL)
+-- taken effect has counted there, where the counter wasn't full (none dies after an X_FULL)
 abbrev pub LoadedBehind : List Act → Card → ℕ → ℕ → Card → Type 0
 LoadedBehind ((operation.Unlock, x) ∷ acts) c z p d = Loaded c p d
 LoadedBehind ((operation.Signal, OK) ∷ acts) c z p d = CountedOnce c z p d × (d.counted ≢ largest_counter)

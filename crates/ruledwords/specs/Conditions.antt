@@ -4,12 +4,12 @@
 -- *Calls of running threads on condition variables.* What an access tells its thread: a first load, by a legal history
 -- of the mutex up to the call's point, if it was one, whether the thread owns the mutex; a load of the counter and a
 -- count, the counter's word, which the owner knows from then on; a release, what an unlock's tells; and a broadcast
--- that sets WAITERS sees nothing anew, and remembers them (`having_set`; `Card.marks`: they stay set while its thread
--- owns the mutex). What the next access needs is so as far as its thread has seen: that it owns the mutex, that this is
--- consistent, that the counter isn't full, and before a broadcast's move that WAITERS are set in the cell. Through all
--- of it the thread's own words are a list as in an unlock, whole or in change. A wait that is awake again goes on as a
--- lock of its mutex, whose entry is pending. Source: pthread_cond_wait(3p), pthread_cond_signal(3p),
--- pthread_cond_broadcast(3p); robust-futexes.
+-- that sets WAITERS sees nothing new, and remembers them (`having_set`; `Card.marks`: they stay set while its
+-- thread owns the mutex). What the next access needs is so as far as its thread has seen: that it owns the mutex,
+-- that this is consistent, that the counter isn't full, and before a broadcast's move that WAITERS are set in the
+-- cell. Through all of it the thread's own words are a list as in an unlock, whole or in change. A wait that is
+-- awake again goes on as a lock of its mutex, whose entry is pending. Source: pthread_cond_wait(3p),
+-- pthread_cond_signal(3p), pthread_cond_broadcast(3p); robust-futexes.
 use Rattle.std.specs.Prelude.{◌≡◌, ◌≢◌, ℕ, ◌+◌, ◌-◌, ◌<◌, ◌≤◌, Bool, true, false, Option, Some, List, bit_or, length}
 use Rattle.lockword.specs.Cells.{fields_of}
 use Rattle.lockword.specs.declared.reply.Reply.TheVariants.{OK}
@@ -93,7 +93,7 @@ at_condition_prop (condition.Unlinking u seen) = Prim.hlevel props
 at_condition_prop (condition.Locking w) = Prim.hlevel props
 at_condition_prop (condition.Ended x) = Prim.hlevel props
 
--- so many mutexes its thread holds at most: behind the release one less, as a wait takes its mutex again
+-- this many mutexes its thread holds at most: after the release one less, as a wait takes its mutex again
 abbrev pub most_behind : CondRow → ℕ
 most_behind (cond.Wait (wait.Wake seen)) = held_limit - 1
 most_behind (cond.Wait (wait.Sleep seen)) = held_limit - 1
@@ -186,8 +186,8 @@ release_of p = record { thread = p.thread; cell = p.cell; row = row.Unlock (unlo
 abbrev pub having_set : Card → ℕ → ℕ → List (List Change) → Card
 having_set c q n zs = record c { last = n; marks = put_mark c.marks q true; changes = zs }
 
--- an access at the cell or at the counter, by its row. Where a broadcast sets WAITERS, nothing is seen anew; they stay
--- set while its thread owns the mutex
+-- an access at the cell or at the counter, by its row. Where a broadcast sets WAITERS, nothing new is seen; they
+-- stay set while its thread owns the mutex
 abbrev pub Acted : Layout' → ℕ → CondStanding → CondRow → Card → ℕ → Card → Type 0
 Acted k q p (cond.Wait wait.LoadCounter) c n d = Counts k q p c n d
 Acted k q p (cond.Wait (wait.Release seen)) c n d = Made (release_of p) (cell_at k q) c n d × OwnKept k c d
@@ -204,7 +204,7 @@ acted k q p st me r me' = Turns me me' (λ c d. Acted k q p p.row c r d)
 
 -- ---- a look at the counter, for a section that compares it
 
--- the word was r. Nothing is seen anew
+-- the word was r. Nothing new is seen
 abbrev pub looked_at_counter : At → Sat → ℕ → Sat → Type 0
 looked_at_counter st me r me' = Turns me me'
     (λ c d. (d ≡ noted c r c.trims c.changes) × (r ≤ largest_counter)

@@ -3,7 +3,7 @@
 --
 -- *What counters say.* The counters of a mutex's condition variables, added up, are what they were at first
 -- (`presets_in`), and one more for each point of the mutex's history that counts: a signal or a broadcast that was
--- answered OK. Where none counts, each of them is what it was. Source: pthread_cond_signal(3p),
+-- returned OK. Where none counts, each of them is what it was. Source: pthread_cond_signal(3p),
 -- pthread_cond_broadcast(3p).
 use Rattle.std.specs.Prelude.{◌≡◌, ℕ, ◌+◌, ◌<◌, ◌==◌, List, [], ◌∷◌, length, slice_index, if◌then◌else◌}
 use Rattle.posixmutex.specs.declared.point.Point.{Point}
@@ -11,7 +11,7 @@ use Rattle.memorymap.specs.Layouts.{Layout', cell_place, counter_place}
 use Rattle.condvar.specs.Laws.{reply_counts}
 use Rattle.ruledwords.specs.Cards.{at}
 
--- how many of these points count: the signals and the broadcasts that were answered OK
+-- how many of these points count: the signals and the broadcasts that were returned OK
 abbrev pub counts_in : List Point → ℕ
 counts_in [] = 0
 counts_in (x ∷ xs) = reply_counts x.operation x.reply + counts_in xs

@@ -1,7 +1,7 @@
 -- The kernel's walk for a thread that died, on what the thread's pass knows (robust-futexes; get_robust_list(2)).
 --
 -- *A walk's tale.* What the walk tells the dead thread's pass: of each mutex that the thread held, its death as the
--- owner, once, behind what it had seen and then others' points, and as the last that it has seen of the mutex; of no
+-- owner, once, after what it had seen and then others' points, and as the last that it has seen of the mutex; of no
 -- other mutex anything; and it changes cells alone (`IsNoCell`). At its end the thread holds nothing. Source:
 -- get_robust_list(2); pthread_mutex_lock(3p), EOWNERDEAD.
 use Rattle.std.specs.Prelude.{◌≡◌, ◌≢◌, ℕ, ◌<◌, ◌==◌, ◌⊎◌, Bool, true, false, Some, List, [], ◌∷◌, ◌++◌, if◌then◌else◌}
@@ -56,7 +56,7 @@ MindsWaiters c q n = mark_at c.marks q ≡ true → (fields_of n).owner ≡ c.th
 abbrev pub remembering : Card → ℕ → ℕ → Card
 remembering c q n = record c { last = n; marks = put_mark c.marks q (fields_of n).waiters }
 
--- it has looked at a cell, whose word was r. Nothing is seen anew
+-- it has looked at a cell, whose word was r. Nothing new is seen
 abbrev pub examined : At → Sat → ℕ → Sat → Type 0
 examined st me r me' =
     Turns me me' (λ c d. (d ≡ remembering c st.word r) × Finds c st.word r × MindsWaiters c st.word r)
@@ -104,13 +104,13 @@ pub record IsWalking (k : Layout') (c : Card) (s : Standing) : Type 0 where
 
 -- ---- what a walk tells
 
--- behind what its thread had seen of the mutex whose cell is at q stand other threads' points and these of its own
+-- after what its thread had seen of the mutex whose cell is at q stand other threads' points and these of its own
 pub record SawThere (c : Card) (q : ℕ) (mine : List Point) (d : Card) : Type 0 where
   pub since : List Point
   pub grows : at d.seen q ≡ at c.seen q ++ since
   pub own : by c.thread (at d.seen q) ≡ by c.thread (at c.seen q) ++ mine
 
--- its death as the mutex's owner is told, once, and is the last that it has seen of the mutex
+-- its death as the mutex's owner is recorded, once, and is the last that it has seen of the mutex
 pub record TellsDeath (c : Card) (q : ℕ) (d : Card) : Type 0 where
   pub saw : SawThere c q (deaths c.thread q true) d
   pub last : EndsWith (at d.seen q) (deaths c.thread q true)
@@ -119,8 +119,8 @@ pub record TellsDeath (c : Card) (q : ℕ) (d : Card) : Type 0 where
 abbrev pub IsNoCell : Layout' → ℕ → Type 0
 IsNoCell k p = (m : ℕ) → m < k.mutexes → p ≢ cell_place k m
 
--- so far: of each mutex that the thread held at the card c its death is told, or it holds the mutex still; of no other
--- is anything seen anew
+-- so far: of each mutex that the thread held at the card c its death is recorded, or it holds the mutex still; of no
+-- other is anything new seen
 pub record HasWalked (k : Layout') (c d : Card) : Type 0 where
   pub thread : d.thread ≡ c.thread
   pub threads : d.threads ≡ c.threads
@@ -131,8 +131,8 @@ pub record HasWalked (k : Layout') (c d : Card) : Type 0 where
   pub changes : KnowsOn c d
   pub still : ChangedNone (IsNoCell k) c d
 
--- at its end: of each mutex that the thread held when it died, its death is told, and it holds nothing any more; what
--- it has seen of any other mutex stays. It knows its own words still
+-- at its end: of each mutex that the thread held when it died, its death is recorded, and it holds nothing any more;
+-- what it has seen of any other mutex stays. It knows its own words still
 pub record IsReaped (k : Layout') (c d : Card) : Type 0 where
   pub thread : d.thread ≡ c.thread
   pub threads : d.threads ≡ c.threads

@@ -30,7 +30,7 @@ use Rattle.ruledwords.specs.Passes.{card}
 use Rattle.ruledwords.specs.Stretches.{ComesOn, ComesToEnd}
 use Rattle.ruledwords.specs.Turns.{IsAtCell, TrimsNone}
 
--- the call where it stands at a phase
+-- the call where it is at a phase
 abbrev pub stands : Line → Phase → Whole
 stands l f = whole_at l.thread l.operation l.head l.entry l.cell f
 
@@ -73,7 +73,7 @@ unlinking l r = phase.Unlinking (unlink_at l.head l.entry r) false
 abbrev pub releasing : Phase
 releasing = phase.AtCell (row.Unlock (unlock.Release false))
 
--- a thread may take such a cell, and is answered OK then
+-- a thread may take such a cell, and is returned OK then
 abbrev pub is_free : Fields → Bool
 is_free c = (c.owner == 0) && (not c.unusable && not c.died)
 
@@ -100,7 +100,7 @@ abbrev pub LeadsOn : Words → Pass Live → Whole → Pass Live → Result ℕ 
 LeadsOn w a p b (Ok n) = Leads w a p b n
 LeadsOn w a p b (Err e) = ComesToEnd w a p b e × (e ≡ end.Stopped)
 
--- accesses were made in the call p, which stands at q then, or the thread died in them
+-- accesses were made in the call p, which is at q then, or the thread died in them
 abbrev pub LeadsTo : Words → Pass Live → Whole → Pass Live → Whole → Result Unit End → Type 0
 LeadsTo w a p b q (Ok u) = ComesOn w a p b q
 LeadsTo w a p b q (Err e) = ComesToEnd w a p b e × (e ≡ end.Stopped)

@@ -1,8 +1,8 @@
--- What a look at a cell tells, by which nothing is seen anew.
+-- What a look at a cell tells, by which nothing new is seen.
 --
--- *Found.* What a look at a cell or a trim of it tells: the word found is, but for WAITERS, as the mutex may be after
--- what the thread has seen and then points of other threads. The thread's card notes that word, and how many trims it
--- has made; nothing is seen anew.
+-- *Found.* What a look at a cell or a trim of it tells: the word found is, except for WAITERS, as the mutex may be
+-- after what the thread has seen and then points of other threads. The thread's card notes that word, and how many
+-- trims it has made; nothing new is seen.
 use Rattle.std.specs.Prelude.{◌≡◌, ℕ, ◌+◌, ◌==◌, List, [], ◌++◌, if◌then◌else◌}
 use Rattle.lockword.specs.Cells.{fields_of}
 use Rattle.posixmutex.specs.declared.point.Point.{Point}
@@ -20,13 +20,13 @@ abbrev pub Finds : Card → ℕ → ℕ → Type 0
 Finds c p n = (since : List Point) × Leaves c.threads p (at c.seen p ++ since) (object_of (fields_of n))
     × (by c.thread since ≡ []) × ((fields_of n).rest ≡ 0)
 
--- a thread that found the word n last, has made so many trims, and knows of these changes of cells, knows else what it
--- knew
+-- a thread that found the word n last, has made this many trims, and knows of these changes of cells, knows else
+-- what it knew
 abbrev pub noted : Card → ℕ → ℕ → List (List Change) → Card
 noted c n t zs = record c { last = n; trims = t; changes = zs }
 
--- the card knows what the other one does, but for the word that was found last, the trims that were made, and changes
--- of cells
+-- the card knows what the other one does, except for the word that was found last, the trims that were made, and
+-- changes of cells
 abbrev pub KnowsTheSame : Card → Card → Type 0
 KnowsTheSame c d = d ≡ noted c d.last d.trims d.changes
 

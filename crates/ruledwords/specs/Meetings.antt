@@ -5,7 +5,7 @@
 -- the layout made those that one of them hadn't known of. Nothing else that they know changes, and each is of the kind
 -- that it was.
 --
--- *Behind a meeting.* Where two have met, the points of each call that one of them makes then stand behind all that the
+-- *After a meeting.* Where two have met, the points of each call that one of them makes then stand after all that the
 -- other had seen of the mutex.
 use Rattle.std.specs.Prelude.{◌≡◌, ℕ, Bool, true, false, Some, List, [], ◌++◌, map, slice_get, All}
 use mathlib.Core.List.{IsPrefix}
@@ -25,7 +25,7 @@ use Rattle.ruledwords.specs.Rules.{At, Sat}
 use Rattle.ruledwords.specs.Seen.{by, points_of, Joined, Leaves, Saw}
 
 -- these histories of mutexes and these changes of words begin with what the card has of them, and have of its thread
--- just its own points and changes. The histories are legal; and the changes of a word, but for the first, are by
+-- just its own points and changes. The histories are legal; and the changes of a word, except for the first, are by
 -- threads that there are, as are all that the card hasn't
 pub record ComesToKnow (seen : List (List Point)) (changes : List (List Change)) (c : Card) : Type 0 where
   pub legal : (p : ℕ) → (o : Object) × Leaves c.threads p (at seen p) o
@@ -34,7 +34,7 @@ pub record ComesToKnow (seen : List (List Point)) (changes : List (List Change))
   pub tied : Tied c.threads changes c.thread c.changes
   pub authors : (p : ℕ) → AreBehindFirst c.threads (changes_at changes p)
 
--- what the card knows behind the meeting
+-- what the card knows after the meeting
 abbrev pub behind_meeting : List (List Point) → List (List Change) → Card → Card
 behind_meeting seen changes c = record c { seen = seen; changes = changes }
 
@@ -71,9 +71,9 @@ module _ {A B : Type 0} where
     pub lists : (i : ℕ) (c d : Card) → slice_get (map card_in ps) i ≡ Some c → slice_get (map card_in qs) i ≡ Some d
         → StaysSo (layout_of w) c d
 
--- ---- calls behind a meeting
+-- ---- calls after a meeting
 
--- thread t saw these points of its own at p, as the call's that it made behind a meeting, and they stand behind all
+-- thread t saw these points of its own at p, as the call's that it made after a meeting, and they stand after all
 -- that a thread had seen of the mutex that came to the meeting with the card c
 pub record StandsBehind (c : Card) (t p : ℕ) (acts : List Act) (e : Card) : Type 0 where
   pub before : List Point
@@ -82,7 +82,7 @@ pub record StandsBehind (c : Card) (t p : ℕ) (acts : List Act) (e : Card) : Ty
   pub first : IsPrefix (at c.seen p) before
   pub own : by t behind ≡ points_of t p acts
 
--- where two have met, each call that one of them makes then stands behind all calls that the other had made
+-- where two have met, each call that one of them makes then stands after all calls that the other had made
 abbrev pub MeetingsOrderCalls : Type 0
 MeetingsOrderCalls = (c d c' d' e : Card) (p : ℕ) (acts : List Act) → Joined c d c' d'
     → (Saw d' p acts e → StandsBehind c d.thread p acts e) × (Saw c' p acts e → StandsBehind d c.thread p acts e)

@@ -1,18 +1,18 @@
 -- What the calls of a pass answer.
 --
 -- *What calls of running threads answer.* A trylock or a lock is refused with X_HELD exactly where the thread holds
--- 2,048, and then sees nothing anew; else its reply is that of its point, whether it slept before or not. Behind
+-- 2,048, and then sees nothing new; else its reply is that of its point, whether it slept before or not. After
 -- X_RACED a trylock's thread has come to know of four changes of the cell at least by other threads of the layout. A
 -- declaration's reply is that of its point too. A release frees with OK or is refused with EPERM; whom it has to wake
--- is told by the word that it found, of which its thread was the owner and which stood in the cell right before the one
--- change that the thread made of it (`ChangedOnce`; `Changes.antt`), and the wake sees nothing anew. Above that table
--- stands who waits for the mutex as the history leaves it: where WAITERS was found, all of them if it is unusable then,
--- and one if it isn't; else nobody (`OwesAsLeft`). An unlock that has freed its mutex stands before its wake, or before
--- its entry is cleared (`owing_at`; `Owing.antt`). A call of words ends `Dead` exactly where its fate told its thread
--- to stop (`stops_in`), and has then made a beginning of its points; a lock and the end of an unlock by a bench do so
--- too where the thread was killed (`IsHeeded`: the fate said so once, or not at all where a call ended `Dead`, and
--- never where its thread lives). Source: pthread_mutex_lock(3p), pthread_mutex_trylock(3p), pthread_mutex_unlock(3p);
--- robust-futexes.
+-- is recorded by the word that it found, of which its thread was the owner and which was in the cell right before
+-- the one change that the thread made of it (`ChangedOnce`; `Changes.antt`), and the wake sees nothing new. Above
+-- that table stands who waits for the mutex as the history leaves it: where WAITERS was found, all of them if it is
+-- unusable then, and one if it isn't; else nobody (`OwesAsLeft`). An unlock that has freed its mutex stands before
+-- its wake, or before its entry is cleared (`owing_at`; `Owing.antt`). A call of words ends `Dead` exactly where its
+-- fate told its thread to stop (`stops_in`), and has then made a beginning of its points; a lock and the end of an
+-- unlock by a bench do so too where the thread was killed (`IsHeeded`: the fate said so once, or not at all where a
+-- call ended `Dead`, and never where its thread lives). Source: pthread_mutex_lock(3p), pthread_mutex_trylock(3p),
+-- pthread_mutex_unlock(3p); robust-futexes.
 use Rattle.std.specs.Prelude.{◌≡◌, ℕ, ◌+◌, ◌≤◌, nat_le, Bool, true, false}
 use Rattle.std.specs.Prelude.{MatchBool, Result, Ok, Err, [], ◌∷◌, if◌then◌else◌}
 use Rattle.posixmutex.specs.declared.object.Object.{Object}
@@ -47,8 +47,8 @@ use Rattle.ruledwords.specs.Changes.{ChangedOnce, OthersChanged}
 use Rattle.ruledwords.specs.Releases.{IsReleasing}
 use Rattle.ruledwords.specs.Turns.{running_program, GoesOn, HasDied, HasSeenTheSame, IsIn, IsRunningOf, TrimsNone}
 
--- a call that may take mutex m replied so: by a thread that holds 2,048 mutexes it is refused, with nothing seen anew.
--- Otherwise it is decided by one point, whose reply it is
+-- a call that may take mutex m replied so: by a thread that holds 2,048 mutexes it is refused, with nothing seen
+-- again. Otherwise it is decided by one point, whose reply it is
 abbrev pub Takes : Layout' → ℕ → Operation → Card → Reply → Card → Type 0
 Takes k m op c r d =
     MatchBool (nat_le held_limit (held c)) ((r ≡ XHELD) × (d ≡ c)) (Called c (cell_place k m) ((op, r) ∷ []) d)
@@ -75,7 +75,7 @@ Declared w m a (outcome.Lives b r) =
 Declared w m a (outcome.Dead d) =
     IsDying w d × Died (card a) (cell_place (layout_of w) m) Consistent (card d) × TrimsNone (card a) (card d)
 
--- a call that stands at p with the pass a ends so, wherever it began
+-- a call that is at p with the pass a ends so, wherever it began
 abbrev pub Finishes : Words → Pass Live → Whole → Outcome → Type 0
 Finishes w a p (outcome.Lives b y) = (x : Pass Live) (call : Call) → IsIn w x call a p → GoesOn w x call (Lives b y)
 Finishes w a p (outcome.Dead d) = (x : Pass Live) (call : Call) → IsIn w x call a p → HasDied w x call d
@@ -122,9 +122,9 @@ abbrev pub IsOwedOf : Words → Owed → Type 0
 IsOwedOf w o = IsRunningOf w (owed_running o)
 
 -- a release of mutex m: its point is an unlock with OK where the mutex is freed, and with EPERM where it is refused.
--- Whom it has to wake is told by the word that it found, the last that the pass met, of which its thread was the owner:
--- the cell's right before the one change that the thread has made of it. So it is those who wait for the mutex as the
--- history leaves it. Its thread has made no trim
+-- The word says whom it has to wake: that it found, the last that the pass met, of which its thread was the
+-- owner: the cell's right before the one change that the thread has made of it. So it is those who wait for the
+-- mutex as the history leaves it. Its thread has made no trim
 abbrev pub Frees : Words → ℕ → Pass Live → Released → Type 0
 Frees w m a (released.Owes o) =
     IsOwedOf w o × Called (card a) (cell_place (layout_of w) m) ((Unlock, OK) ∷ []) (card (owed_pass o))
@@ -150,7 +150,7 @@ pub record FreesAlone (c : Card) (q : ℕ) (d : Card) : Type 0 where
   pub nobody : wakes_of d.last ≡ Nobody
   pub once : ChangedOnce c q d
 
--- an unlock that stands at p with the pass a frees its mutex so, wherever it began
+-- an unlock that is at p with the pass a frees its mutex so, wherever it began
 abbrev pub FreesFrom : Words → Pass Live → Whole → Released → Type 0
 FreesFrom w a p o = (x : Pass Live) (m : ℕ) → IsReleasing w x m a p → Frees w m x o
 
@@ -159,7 +159,7 @@ abbrev pub SeesNoMore : Words → Owed → Card → Type 0
 SeesNoMore w o d = (m : ℕ) → IsOnMutex (layout_of w) (running_program (owed_running o)) m
     → HasSeenTheSame (cell_place (layout_of w) m) (card (owed_pass o)) d
 
--- an unlock ends exactly where nobody is to be woken: then its entry is pending no more. Nothing is seen anew
+-- an unlock ends exactly where nobody is to be woken: then its entry is pending no more. Nothing new is seen
 abbrev pub Settles : Words → Owed → Result (Pass Live) Owed → Type 0
 Settles w o (Ok b) = (owed_wakes o ≡ Nobody) × IsLive w b × SeesNoMore w o (card b)
 Settles w o (Err v) = ¬ (owed_wakes o ≡ Nobody) × (v ≡ o)

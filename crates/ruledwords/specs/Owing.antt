@@ -22,12 +22,12 @@ owing_at Nobody = Clearing OK
 owing_at One = AtCell (Unlock (Wake false))
 owing_at All = AtCell (Unlock (Wake true))
 
--- it stands there, or it has not freed its mutex yet, or not ended so
+-- it is there, or it has not freed its mutex yet, or not ended so
 abbrev pub OwesThere : Phase → Option Wakes → Type 0
 OwesThere f (Some v) = f ≡ owing_at v
 OwesThere f None = (v : Wakes) → f ≢ owing_at v
 
--- behind its release an unlock has found a word that said its thread was the owner
+-- after its release an unlock has found a word that said its thread was the owner
 abbrev pub FoundOwn : Row → ℕ → ℕ → Type 0
 FoundOwn (Unlock (Wake a)) t v = (fields_of v).owner ≡ t
 FoundOwn (Ended OK) t v = (fields_of v).owner ≡ t
@@ -38,7 +38,7 @@ FoundOwn r t v = Unit {0}
 abbrev pub IsSpoiltAsFound : ℕ → Card → Type 0
 IsSpoiltAsFound q d = (o : Object) → Run fresh (at d.seen q) o → o.unusable ≡ (fields_of d.last).died
 
--- an unlock that began at the card c has changed its mutex's cell never yet, or behind its release once, and that last
+-- an unlock that began at the card c has changed its mutex's cell never yet, or after its release once, and that last
 -- of all; what that left of the mutex is as the word was that it found
 abbrev pub ChangesThere : Row → Card → ℕ → Card → Type 0
 ChangesThere (Unlock (Wake a)) c q d = ChangedOnce c q d × IsSpoiltAsFound q d

@@ -21,7 +21,7 @@ use Rattle.ruledwords.specs.Passes.{card, layout_of, IsLive}
 use Rattle.ruledwords.specs.Seen.{Called}
 use Rattle.ruledwords.specs.Turns.{running_of, IsCallOf, IsUnderWay, TrimsNone, Turned}
 
--- an unlock of mutex m that began at the pass x stands at p, with the pass a, whose last word it tells of: where it has
+-- an unlock of mutex m that began at the pass x is at p, with the pass a, whose last word it tells of: where it has
 -- released the mutex, that word said its thread was the owner, and was the cell's right before the one change that the
 -- thread has made of it. The thread has made no trim
 abbrev pub IsReleasing : Words → Pass Live → ℕ → Pass Live → Whole → Type 0
@@ -33,7 +33,7 @@ IsReleasing w x m a p =
 abbrev pub IsInRelease : Words → Pass Live → Whole → Type 0
 IsInRelease w a p = (x : Pass Live) × (m : ℕ) × IsReleasing w x m a p
 
--- wherever it began, it stands at q now, with the pass b
+-- wherever it began, it is at q now, with the pass b
 abbrev pub StaysReleasing : Words → Pass Live → Whole → Pass Live → Whole → Type 0
 StaysReleasing w a p b q = (x : Pass Live) (m : ℕ) → IsReleasing w x m a p → IsReleasing w x m b q
 
@@ -62,7 +62,7 @@ ReleasesOnce w a p b q (Ok u) =
     → (on : IsCallOf w b q) × Turned (layout_of w) p a (Goes (running_of w b q on)))
 ReleasesOnce w a p b q (Err e) = Unit {0}
 
--- so many accesses were made
+-- this many accesses were made
 abbrev pub ReleasesTo : Words → Pass Live → Whole → Pass Live → Result Whole End → Type 0
 ReleasesTo w a p b (Ok q) = IsInRelease w b q × StaysReleasing w a p b q
 ReleasesTo w a p b (Err e) = ReleaseEnds w a p b e

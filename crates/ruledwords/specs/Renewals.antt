@@ -1,7 +1,7 @@
 -- Threads whose ids are used again (get_robust_list(2)).
 --
--- *A life anew.* The pass of a thread that was reaped, which holds nothing and knows its own words still; and what it
--- knows once it is renewed: its head leads to itself, nothing is pending, and all else is as it was. Source:
+-- *A life again.* The pass of a thread that was reaped, which holds nothing and knows its own words still; and what
+-- it knows once it is renewed: its head leads to itself, nothing is pending, and all else is as it was. Source:
 -- get_robust_list(2).
 use Rattle.std.specs.Prelude.{◌+◌}
 use Rattle.memorymap.specs.Layouts.{Layout', address_in, head_place}
@@ -17,8 +17,8 @@ use Rattle.ruledwords.specs.Walks.{OwnsNothing}
 abbrev pub IsGone : Words → Pass Reaped → Type 0
 IsGone w p = IsPassOf w p × KnowsOwn (layout_of w) (card p) × OwnsNothing (layout_of w) (owns_in (layout_of w) (card p))
 
--- what it knows once it lives anew: its head leads to itself, so its list is empty, and nothing is pending. All that it
--- has seen is as it was
+-- what it knows once it lives again: its head leads to itself, so its list is empty, and nothing is pending. All
+-- that it has seen is as it was
 abbrev pub renewed : Layout' → Card → Card
 renewed k c =
     knowing (knowing c (head_place c.thread) (address_in k c.thread (head_place c.thread))) (head_place c.thread + 2) 0

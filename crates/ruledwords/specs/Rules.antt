@@ -3,7 +3,7 @@
 -- Histories: some legal list of points of each mutex leaves the mutex as its cell says. What a pass has seen begins it,
 -- and has all points of the pass's thread. Own words: a thread alone writes its head, the links of the mutexes that it
 -- owns and the counters of their condition variables. Its pass may know their values. While it owns a mutex in which it
--- saw WAITERS, that stays set. Counters count the signals and the broadcasts that were answered OK. Changes: each
+-- saw WAITERS, that stays set. Counters count the signals and the broadcasts that were returned OK. Changes: each
 -- cell's words and each counter's, one after the other, and who wrote each. What a pass knows of them begins them, and
 -- has all that its thread wrote; all others are by threads.
 --
@@ -70,7 +70,7 @@ first_card k counters t = record {
   changes = first_known k counters;
 }
 
--- the cards of so many threads from t on
+-- the cards of this many threads from t on
 abbrev pub hand : Layout' → List ℕ → ℕ → ℕ → List Card
 hand k counters t zero = []
 hand k counters t (suc more) = first_card k counters t ∷ hand k counters (t + 1) more

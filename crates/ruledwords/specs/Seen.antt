@@ -32,8 +32,8 @@ use Rattle.ruledwords.specs.Changes.{ChangedNone, KnowsOn}
 abbrev pub by : ℕ → List Point → List Point
 by t xs = filter (λ (x : Point). x.thread == t) xs
 
--- they are points of the mutex whose cell is at p, by threads 1 to n, and none makes the mutex anew: no running thread
--- does that
+-- they are points of the mutex whose cell is at p, by threads 1 to n, and none reinitialises the mutex: no running
+-- thread does that
 abbrev pub AllOf : ℕ → ℕ → List Point → Type 0
 AllOf n p [] = Unit {0}
 AllOf n p (x ∷ xs) = ((x.at ≡ p) × (1 ≤ x.thread) × (x.thread ≤ n) × (x.operation ≢ Reinit)) × AllOf n p xs
@@ -88,12 +88,13 @@ pub record Sees (c : Card) (p : ℕ) (new : List Point) (o : Object) (d : Card) 
 abbrev pub points_of : ℕ → ℕ → List Act → List Point
 points_of t p acts = map (λ (a : Act). record { thread = t; at = p; operation = a.0; reply = a.1 }) acts
 
--- how many of these acts count at a condition variable's counter: the signals and the broadcasts that were answered OK
+-- how many of these acts count at a condition variable's counter: the signals and the broadcasts that were returned
+-- OK
 abbrev pub count_acts : List Act → ℕ
 count_acts [] = 0
 count_acts (a ∷ acts) = reply_counts a.0 a.1 + count_acts acts
 
--- a thread saw more of the mutex whose cell is at p: behind what it had seen stand other threads' points and its own
+-- a thread saw more of the mutex whose cell is at p: after what it had seen stand other threads' points and its own
 -- new ones, which decided so, in this order. What it saw elsewhere stays. What it knew of words' changes begins what it
 -- knows of them; and it has changed no other word, if none of its acts counts
 pub record Saw (c : Card) (p : ℕ) (acts : List Act) (d : Card) : Type 0 where

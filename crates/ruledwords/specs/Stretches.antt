@@ -28,20 +28,21 @@ use Rattle.ruledwords.specs.Turns.{running_call, running_of, running_pass, EndsI
 use Rattle.ruledwords.specs.Turns.{HasSeenTheSame, IsCallOf, IsDecided, IsOneStep, IsRunningOf, IsUnderWay, StaysIn}
 use Rattle.ruledwords.specs.Turns.{TrimsNone, Turned}
 
--- a call on mutex m that was decided, with the reply x at the card c, stands at p, with the pass a
+-- a call on mutex m that was decided, with the reply x at the card c, is at p, with the pass a
 abbrev pub IsDecidedIn : Words → ℕ → Card → Reply → Pass Live → Whole → Type 0
 IsDecidedIn w m c x a p = (of : IsCallOf w a p) × IsDecided w m c x (running_of w a p of)
 
 abbrev pub StaysDecided : Words → Pass Live → Whole → Pass Live → Whole → Type 0
 StaysDecided w a p b q = (m : ℕ) (c : Card) (x : Reply) → IsDecidedIn w m c x a p → IsDecidedIn w m c x b q
 
--- a call that stood at p with the pass a stands at q now, with the pass b: wherever it began, and whatever it was
+-- a call that was at p with the pass a is at q now, with the pass b: wherever it began, and whatever it was
 -- decided; and an unlock tells of the word that its release found. Its thread has made no trim
 abbrev pub ComesOn : Words → Pass Live → Whole → Pass Live → Whole → Type 0
 ComesOn w a p b q = IsCallOf w b q × StaysIn w a p b q × StaysDecided w a p b q × StaysReleasing w a p b q
     × TrimsNone (card a) (card b)
 
--- an unlock that stood at p with the pass a has replied so, and its pass is b: with OK only where nobody was to be woken
+-- an unlock that was at p with the pass a has replied so, and its pass is b: with OK only where nobody was to be
+-- woken
 abbrev pub EndsAlone : Words → Pass Live → Whole → Pass Live → Reply → Type 0
 EndsAlone w a p b y = (x : Pass Live) (m : ℕ) → IsReleasing w x m a p → y ≡ OK
     → FreesAlone (card x) (cell_place (layout_of w) m) (card b)
@@ -64,7 +65,7 @@ StepsOnce w a p b q (Ok u) = IsOneStep (whole_access p) → (of : IsCallOf w a p
     → (on : IsCallOf w b q) × Turned (layout_of w) p a (Goes (running_of w b q on))
 StepsOnce w a p b q (Err e) = Unit {0}
 
--- so many accesses were made
+-- this many accesses were made
 abbrev pub StepsTo : Words → Pass Live → Whole → Pass Live → Result Whole End → Type 0
 StepsTo w a p b (Ok q) = ComesOn w a p b q
 StepsTo w a p b (Err e) = ComesToEnd w a p b e
@@ -95,8 +96,8 @@ Stretches w r s =
     GoesOnThere w s × ((a : Pass Live) (call : Call) → IsUnderWay w a call r → StretchesFrom w a call s)
     × ((m : ℕ) (c : Card) (x : Reply) → IsDecided w m c x r → StretchesDecided w m c x s)
 
--- what the call knows besides, that stood at p with the pass a: an unlock that goes on tells of the word that its release
--- found, by which it owes a wake; where it replied OK, nobody was to be woken. Its thread has made no trim
+-- what the call knows besides, that was at p with the pass a: an unlock that goes on tells of the word that its
+-- release found, by which it owes a wake; where it replied OK, nobody was to be woken. Its thread has made no trim
 abbrev pub StretchesAlone : Words → Pass Live → Whole → Stretch → Type 0
 StretchesAlone w a p (stretch.Goes r) =
     StaysReleasing w a p (running_pass r) (running_call r) × TrimsNone (card a) (card (running_pass r))

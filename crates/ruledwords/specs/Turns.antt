@@ -3,8 +3,8 @@
 -- *Turns of a call.* A whole call that its caller runs access by access: where it stands, on the mutex whose cell its
 -- thread has at its address, what its pass has seen since it began, that its thread's own words are a list whole or in
 -- change, and that a turn goes on with the call or ends it, at its one point's reply; or its thread dies in it. A call
--- that is decided ends with that reply, and sees nothing anew. A wait or a wake is the caller's to make, and its answer
--- is one that such an access can have.
+-- that is decided ends with that reply, and sees nothing new. A wait or a wake is the caller's to make, and its
+-- answer is one that such an access can have.
 use Rattle.std.specs.Prelude.{List, ◌≡◌, ℕ, ◌+◌, ◌≤◌, Option, Some, None, Result, Ok, Err, [], ◌∷◌}
 use Rattle.lockword.specs.declared.reply.Reply.{Reply}
 use Rattle.lockword.specs.declared.reply.Reply.TheVariants.{XRACED}
@@ -77,7 +77,7 @@ IsLoadOrStore (Load at) = Unit {0}
 IsLoadOrStore (Store at v) = Unit {0}
 IsLoadOrStore a = ⊥
 
--- it stands at its mutex's cell
+-- it is at its mutex's cell
 abbrev pub IsAtCell : Phase → Type 0
 IsAtCell (phase.AtCell r) = Unit {0}
 IsAtCell f = ⊥
@@ -88,14 +88,14 @@ abbrev pub IsRunningOf : Words → Running → Type 0
 IsRunningOf w r =
     IsPassOf w (running_pass r) × ((m : ℕ) × IsInCall (layout_of w) (card (running_pass r)) m (running_call r))
 
--- a call that stands at p goes on with the pass a, as a running call on these words does
+-- a call that is at p goes on with the pass a, as a running call on these words does
 pub record IsCallOf (w : Words) (a : Pass Live) (p : Whole) : Type 0 where
   pub ready : Ready (standing_of p) (card a)
   pub room : a.held ≤ most (row_in p.phase)
   pub going : IsInProgress p.phase
   pub words : IsPassOf w a × ((m : ℕ) × IsInCall (layout_of w) (card a) m p)
 
--- the seat of a thread whose call stands at p
+-- the seat of a thread whose call is at p
 pub record IsSeatedCall (w : Words) (s : Seat (Unit {0}) (List Card)) (p : Whole) : Type 0 where
   pub table : s.table_id ≡ w.places.table.shared.table_id
   pub one : IsOne s.me
@@ -169,8 +169,8 @@ abbrev pub Onward : Whole → Answer → Pass Live → Turn → Type 0
 Onward p x a (Goes r) = (running_pass r ≡ a) × (running_call r ≡ whole_moved p (whole_led p x))
 Onward p x a (Lives b y) = (b ≡ a) × ((whole_led p x).phase ≡ phase.Ended y)
 
--- the call is where it was, at a section, and its pass knows what it knew, but for the word that it found last, the
--- trims that it made, and changes of its mutex's cell
+-- the call is where it was, at a section, and its pass knows what it knew, except for the word that it found last,
+-- the trims that it made, and changes of its mutex's cell
 abbrev pub Unmoved : Words → Running → Running → Type 0
 Unmoved w r r' =
     IsRunningOf w r' × (running_call r' ≡ running_call r)
@@ -247,14 +247,14 @@ IsNonblocking (call.TryLock m) = Unit {0}
 IsNonblocking (call.Consistent m) = Unit {0}
 IsNonblocking x = ⊥
 
--- a call that began at the pass x stands at p, with the pass a
+-- a call that began at the pass x is at p, with the pass a
 abbrev pub IsIn : Words → Pass Live → Call → Pass Live → Whole → Type 0
 IsIn w x call a p = (of : IsCallOf w a p) × IsUnderWay w x call (running_of w a p of)
 
 abbrev pub IsInNonblocking : Words → Pass Live → Whole → Type 0
 IsInNonblocking w a p = (x : Pass Live) × (call : Call) × IsNonblocking call × IsIn w x call a p
 
--- wherever the call began, it stands at q now, with the pass b
+-- wherever the call began, it is at q now, with the pass b
 abbrev pub StaysIn : Words → Pass Live → Whole → Pass Live → Whole → Type 0
 StaysIn w a p b q = (x : Pass Live) (call : Call) → IsIn w x call a p → IsIn w x call b q
 

@@ -33,12 +33,12 @@ pub record Left (l : Layout') (t : ℕ) (owns : ℕ → Bool) (w : ℕ → ℕ) 
       → IsAmong (entry_in l t m) es ⊎ ((p ≡ entry_in l t m) ⊎ (treated ≡ Some m))
   pub pending : (p ≡ 0) ⊎ (m : ℕ) × (m < l.mutexes) × (p ≡ entry_in l t m)
 
--- the rest of a walk, after so many entries
+-- the rest of a walk, after this many entries
 abbrev pub LeftOf : Layout' → ℕ → (ℕ → Bool) → (ℕ → ℕ) → Rest → Option ℕ → Type 0
 LeftOf l t owns w r treated = (es : List ℕ) × Left l t owns w r.entry r.pending es treated × (r.offset ≡ cell_offset)
     × (length es + r.loaded ≤ held_limit)
 
--- behind the list only the pending mutex is left
+-- after the list only the pending mutex is left
 abbrev pub LeftIn : Layout' → ℕ → (ℕ → Bool) → (ℕ → ℕ) → Part → Option ℕ → Type 0
 LeftIn l t owns w (part.List r) treated = LeftOf l t owns w r treated
 LeftIn l t owns w part.Pending treated = (m : ℕ) → m < l.mutexes → owns m ≡ true → treated ≡ Some m

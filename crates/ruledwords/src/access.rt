@@ -1,5 +1,5 @@
 //! Accesses to words of each kind: a thread's own words, the cell of a call, the words of a call on a condition
-//! variable; and looks and trims, by which nothing is seen anew.
+//! variable; and looks and trims, by which nothing new is seen.
 ghost use Rattle.std.specs.Prelude.{◌≡◌, ◌<◌, ◌≤◌, ℕ, Some, ◌+◌, ◌==◌, if◌then◌else◌, length};
 ghost use Rattle.stepprograms.specs.Accesses.{address_of, answer_at};
 ghost use Rattle.memorymap.specs.Layouts.{base_of, words_of, place_in, cell_place, counter_place};

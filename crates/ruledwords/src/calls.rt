@@ -195,7 +195,7 @@ impl Words {
     }
 }
 
-/// Whom an unlock has to wake that stands there, once it has freed its mutex.
+/// Whom an unlock has to wake that is there, once it has freed its mutex.
 #[inline(always)]
 fn owing(phase: Phase) -> Option<Wakes>
     ensures { OwesThere phase result }

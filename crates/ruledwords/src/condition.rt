@@ -103,7 +103,7 @@ impl CondRunning {
     }
 
     /// The word of its condition variable's counter, for a section that compares it: a wait's sleep, or a broadcast's
-    /// move. Nothing is seen anew.
+    /// move. Nothing new is seen.
     pub fn load(&mut self, words: &Words) -> CounterWord
         requires words { IsCondRunningOf words.now self.old }
         requires section { Compares (cond_access_in self.old) }
@@ -122,7 +122,7 @@ impl CondRunning {
         words.look_at_counter(&mut self.pass, at)
     }
 
-    /// Goes on with the answer of a section, which its caller has made. Nothing is seen anew.
+    /// Goes on with the answer of a section, which its caller has made. Nothing new is seen.
     pub fn answer(self, answer: Answer) -> CondTurn
         requires { IsCondAnswerOf (cond_access_in self) answer }
         ensures onward { CondOnward (cond_call self) answer (cond_pass self) result }

@@ -3,7 +3,7 @@ ghost use Rattle.ruledwords.specs.Apart.{HeadsAndMutexesLieApart};
 ghost use Rattle.ruledwords.specs.Meetings.{MeetingsOrderCalls};
 
 /// A call that ended before another thread's call began, where the two met between
-/// ([`Words::meet`](crate::Words::meet)), stands before it: behind all that the one had seen at the meeting stand all
+/// ([`Words::meet`](crate::Words::meet)), stands before it: after all that the one had seen at the meeting stand all
 /// points of the other's call.
 pub fn meetings_order_calls()
     ensures { MeetingsOrderCalls }

@@ -75,7 +75,7 @@ impl Words {
     }
 }
 
-/// The thread that comes after so many.
+/// The thread that comes after this many.
 fn thread_after(before: u8) -> Tid
     requires { before < most_threads }
     ensures { result ≡ before + 1 }

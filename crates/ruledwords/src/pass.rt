@@ -70,13 +70,13 @@ pub struct Last {
 }
 
 /// A change of a mutex's cell or of a condition variable's counter: whose it was, 0 for what was there at first, and
-/// the word that it left. It stands in contracts and proofs alone.
+/// the word that it left. It is in contracts and proofs alone.
 pub struct Change {
     pub thread: u64,
     pub word: u64,
 }
 
-/// What one thread knows of the shared words. It stands in contracts and proofs alone: no value of it is made.
+/// What one thread knows of the shared words. It is in contracts and proofs alone: no value of it is made.
 pub struct Card {
     /// How many threads there are.
     pub threads: u64,

@@ -4,7 +4,7 @@ use atomic_table::{Join, Play, Split};
 use cachelines::PlaceRule;
 use std::marker::{Brand, PhantomData};
 
-/// Each mutex has one legal history, and counters count the signals and the broadcasts in it that were answered OK.
+/// Each mutex has one legal history, and counters count the signals and the broadcasts in it that were returned OK.
 pub struct History;
 
 impl PlaceRule<View, Opening> for History {
@@ -36,7 +36,7 @@ impl Play<(), View> for MeetAll {
     ghost then = { met_all };
 }
 
-/// A load of a cell, by which nothing is seen anew.
+/// A load of a cell, by which nothing new is seen.
 pub(crate) struct Look;
 
 impl Play<(), View> for Look {
@@ -45,7 +45,7 @@ impl Play<(), View> for Look {
     ghost then = { looked };
 }
 
-/// A load of a counter, by which nothing is seen anew.
+/// A load of a counter, by which nothing new is seen.
 pub(crate) struct LookAtCounter;
 
 impl Play<(), View> for LookAtCounter {
@@ -54,7 +54,7 @@ impl Play<(), View> for LookAtCounter {
     ghost then = { looked_at_counter };
 }
 
-/// A trim of a cell: an exchange from WAITERS alone to 0. Nothing is seen anew by it.
+/// A trim of a cell: an exchange from WAITERS alone to 0. Nothing new is seen by it.
 pub(crate) struct Trim;
 
 impl Play<(), View> for Trim {
@@ -63,7 +63,7 @@ impl Play<(), View> for Trim {
     ghost then = { trimmed };
 }
 
-/// A load of a cell by which nothing is seen anew, but that the thread remembers whether WAITERS was set there.
+/// A load of a cell by which nothing new is seen, but that the thread remembers whether WAITERS was set there.
 pub(crate) struct Examine;
 
 impl Play<(), View> for Examine {

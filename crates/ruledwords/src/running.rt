@@ -145,7 +145,7 @@ pub(crate) fn answer(access: Access, found: u64) -> Answer
     }
 }
 
-/// How many mutexes a thread holds that held so many before its point.
+/// How many mutexes a thread holds that held this many before its point.
 #[inline(always)]
 pub(crate) fn count(held: u16, point: Option<Point>) -> u16
     requires { held ≤ held_limit }
@@ -179,7 +179,7 @@ impl Running {
         words.place(self.pass.thread, address(self.program.next()))
     }
 
-    /// The word of the access that comes next, for a section that looks at it. Nothing is seen anew.
+    /// The word of the access that comes next, for a section that looks at it. Nothing new is seen.
     pub fn load(&mut self, words: &Words) -> u64
         requires words { IsRunningOf words.now self.old }
         requires section { ¬ IsOneStep (access_in self.old) }
@@ -195,7 +195,7 @@ impl Running {
 
     /// Where the access that comes next is a trim: makes the word of its cell 0 where WAITERS is all that it says, and
     /// tells whether it was. Whoever calls it holds the lock under which nobody falls asleep on that word, and has seen
-    /// that nobody sleeps there. Nothing is seen anew.
+    /// that nobody sleeps there. Nothing new is seen.
     pub fn trim(&mut self, words: &Words) -> bool
         requires words { IsRunningOf words.now self.old }
         requires trim { (at : ℕ) × (access_in self.old ≡ AtTrim at) }
@@ -215,7 +215,7 @@ impl Running {
         words.trim_cell(&mut self.pass, at) == WAITERS
     }
 
-    /// Goes on with the answer of a section, which its caller has made. Nothing is seen anew.
+    /// Goes on with the answer of a section, which its caller has made. Nothing new is seen.
     pub fn answer(self, answer: Answer) -> Turn
         requires { IsAnswerOf (access_in self) answer }
         ensures turned { Onward (running_call self) answer (running_pass self) result }
@@ -260,7 +260,7 @@ impl Running {
 }
 
 impl Pass<Live> {
-    /// Its thread has died. What it has seen stays.
+    /// The thread has died. What it has seen stays.
     pub(crate) fn died(self) -> Pass<Dead>
         ensures card { card result ≡ card self }
         ensures words { (w : Words) → IsPassOf w self → IsPassOf w result }

@@ -17,7 +17,7 @@ use lockword::Reply;
 use mutex::{Phase, Program, Row, TryLockRow};
 use stepprograms::{Access, StepProgram};
 
-/// How many accesses a stretch has at most behind its first ones: what is left of a call that isn't crossed again and
+/// How many accesses a stretch has at most after its first ones: what is left of a call that isn't crossed again and
 /// again.
 const STRETCH: u8 = 32;
 

@@ -89,7 +89,7 @@ pub enum Wakes {
     All,
 }
 
-/// An unlock whose thread has freed its mutex, and has to wake so many sleepers before it ends. It must be spent:
+/// An unlock whose thread has freed its mutex, and has to wake this many sleepers before it ends. It must be spent:
 /// [`Owed::settle`] where nobody is to be woken, [`Running::owed`], or [`Owed::abandon`].
 pub struct Owed {
     pub(crate) running: Running,

@@ -1,6 +1,6 @@
 //! Locks and unlocks that nobody crosses, each in one straight line.
 //!
-//! Before each access the call is built anew where it stands, of what the line knows, so the compiler knows which
+//! Before each access the call is built again where it stands, of what the line knows, so the compiler knows which
 //! access it is, and nothing of the call need be kept. What isn't met as hoped goes on by the call's rows.
 ghost use Rattle.std.specs.Prelude.{◌≡◌, ◌<◌, ◌≤◌};
 ghost use Rattle.memorymap.specs.Layouts.{base_of};
@@ -79,7 +79,7 @@ pub enum Straight {
 }
 
 impl Line {
-    /// The call where it stands at a phase.
+    /// The call where it is at a phase.
     #[inline(always)]
     fn at(&self, phase: Phase) -> Program
         requires { PhaseKnows phase }
@@ -350,7 +350,7 @@ impl Words {
     }
 }
 
-/// Whether a thread may take such a cell, and is answered OK then.
+/// Whether a thread may take such a cell, and is returned OK then.
 #[inline(always)]
 fn is_free(cell: Cell) -> bool
     ensures { result ≡ is_free cell }
@@ -455,8 +455,8 @@ impl Running {
     }
 
     /// Begins an unlock, and makes accesses of it one after the other, while nobody crosses it: mostly all. It is
-    /// answered OK there only where nobody is to be woken. The fate is asked before each access, and then the note, by
-    /// which others can tell the thread to stop.
+    /// returned OK there only where nobody is to be woken. The fate is asked before each access, and then the note,
+    /// by which others can tell the thread to stop.
     #[inline(always)]
     pub fn unlock<F: Fate, N: Fate>(
         words: &Words,

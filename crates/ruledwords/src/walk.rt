@@ -74,7 +74,7 @@ impl Reaping {
         }
     }
 
-    /// Goes on with the count that a wake was answered, which its caller has made. Nothing is seen anew.
+    /// Goes on with the count that a wake was answered, which its caller has made. Nothing new is seen.
     pub fn answer(self, answer: Answer) -> Walked
         requires wake { IsWake (reaping_access self) }
         requires count { IsCount answer }
@@ -91,7 +91,7 @@ impl Reaping {
 }
 
 impl Pass<Dead> {
-    /// Its thread's list has been walked. What it has seen stays.
+    /// The thread's list has been walked. What it has seen stays.
     fn reaped(self) -> Pass<Reaped>
         ensures card { card result ≡ card self }
         ensures words { (w : Words) → IsPassOf w self → IsPassOf w result }

@@ -266,7 +266,7 @@ module _ (l : Layout') (counters : ℕ → ℕ) (is : IsLayout l) (t : ℕ) wher
 
 -- ---- sums over the threads
 
--- of the first so many threads
+-- of the first this many threads
 abbrev pub sum_to : (ℕ → ℕ) → ℕ → ℕ
 sum_to f zero = 0
 sum_to f (suc n) = f (suc n) + sum_to f n
@@ -377,7 +377,7 @@ asleeps-append : (fs gs : List Fact) → asleeps (fs ++ gs) ≡ asleeps fs + asl
 asleeps-append [] gs = omega arith
 asleeps-append (f ∷ fs) gs = let rest = asleeps-append fs gs in omega (arith, rest)
 
--- at most so many lines of its own thread, and so many sleeps
+-- at most this many lines of its own thread, and this many sleeps
 record Few (fs : List Fact) (own : ℕ) (slept : ℕ) : Type 0 where
   own_few : actives fs ≤ own
   slept_few : asleeps fs ≤ slept

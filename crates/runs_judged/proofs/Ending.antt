@@ -1,4 +1,4 @@
--- The lines of a whole run fit, one behind the other.
+-- The lines of a whole run fit, one after the other.
 use Rattle.std.proofs.Common.{◌≡◌, ◌≢◌, ◌⊎◌, inl, inr, ℕ, ◌+◌, ◌<◌, ◌==◌, Bool, true, false, ◌&&◌, Option, Some, None, Ok, Err, List, [], ◌∷◌, ◌++◌, map, length, append_assoc, append-nil, length-append, refl, sym, ap, ◌∙◌, subst, arith}
 use Rattle.std.specs.Prelude.{if◌then◌else◌, reverse}
 use Rattle.std.proofs.lemmas.List.{map-append}
@@ -139,7 +139,7 @@ walk_reaps t u d us b h = at_death (among_parts (Reap t) (death_facts u d) (map 
     at_death (inl k) = let f = (among_deaths u (Reap t) d k).1 in absurd cc
     at_death (inr k) = at_wake (among_parts (Reap t) (map Wake us) (reap_facts u b) k)
 
--- whose end of the walk is told is reaped then
+-- whose end of the walk is recorded is reaped then
 module _ (s : State) (t : ℕ) where
   abbrev ReapsRightly : After → Type 0
   ReapsRightly a = IsAmong (Reap t) (facts_of a.note) → (a.state.threads t).stage ≡ Reaped
@@ -198,7 +198,7 @@ module _ (s : State) (t : ℕ) where
       (λ u m g sp h. absurd (step_reaps_none t u m (decision u m g.operation g.point) None [] [] g.returned h))
       e
 
--- the lines of a note, behind which whoever is reaped owns nothing
+-- the lines of a note, after which whoever is reaped owns nothing
 note_reaped : (k i : ℕ) (earlier : List Line) (n : Note) → ((t : ℕ) → IsAmong (Reap t) (facts_of n) → (m : ℕ) → m < k → (objects_after (onto (map (line_of i) (facts_of n)) earlier) m).owner ≢ Some t) → ReapedOn k earlier (map (line_of i) (facts_of n))
 note_reaped k i earlier Nothing owns = tt
 note_reaped k i earlier (Began u c None) owns = (tt, tt)

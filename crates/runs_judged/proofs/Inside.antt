@@ -401,7 +401,7 @@ each_of : {P Q : Fact → Type 0} (h : (f : Fact) → P f → Q f) (fs : List Fa
 each_of h [] all = tt
 each_of h (f ∷ fs) all = (h f all.0, each_of h fs all.1)
 
--- each line of a run of at most so many events may stand in its trace
+-- each line of a run of at most this many events may be in its trace
 pub run_inside : (l : Layout') (counters : ℕ → ℕ) (events : List Event) → IsLayout l → length (notes (start l counters) events) ≤ max_events → Each (IsLineOf (head_of l)) (lines_from 1 (notes (start l counters) events))
 run_inside l counters events is few =
     let ns = notes (start l counters) events in

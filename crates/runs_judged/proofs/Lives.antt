@@ -1,4 +1,5 @@
--- What is told of a thread's calls, its deaths and its renewals goes through the stages that a checker keeps of it.
+-- What is recorded of a thread's calls, its deaths and its renewals goes through the stages that a checker keeps of
+-- it.
 use Rattle.std.proofs.Common.{◌≡◌, ⊎_elim, inl, inr, ℕ, false, List, [], ◌∷◌, ◌++◌, refl, sym, ap, ◌∙◌, subst, append_assoc, append-nil}
 use Rattle.lockword.specs.declared.reply.Reply.{Reply}
 use Rattle.lockword.specs.declared.reply.Reply.TheVariants.{OK}
@@ -16,7 +17,7 @@ use Rattle.verdict.specs.Misfits.{Replied}
 use Rattle.verdict.specs.Stages.{May, MayReturnNow, next}
 use Rattle.verdict.proofs.Stages.{Of, onward, may_point}
 
--- these facts may be told, one after the other, of a thread at this stage
+-- these facts may be recorded, one after the other, of a thread at this stage
 abbrev pub Runs : Stage → List Fact → Type 0
 Runs v [] = Unit {0}
 Runs v (f ∷ fs) = May v f × Runs (next v f) fs
@@ -52,7 +53,7 @@ all_made op ps (Decided y) x of is = by_last op ps of.1 is
     by_last a (p ∷ q ∷ []) r k = absurd k
     by_last a (p ∷ q ∷ s ∷ rs) r k = absurd k
 
--- the points of a call, of which some are made, and then what may come behind them
+-- the points of a call, of which some are made, and then what may come after them
 call_runs : (t : ℕ) (c : Begun) (ps qs : List Act) (m : Made) (rest : List Fact) → Of c.operation qs m → Beginning c.operation (qs ++ ps) → ((n : Made) → Of c.operation (qs ++ ps) n → Runs (Calling c n false) rest)
     → Runs (Calling c m false) (made t c ps ++ rest)
 call_runs t c [] qs m rest of begins later = later m (subst (λ (zs : List Act). Of c.operation zs m) (sym (append-nil qs)) of)
@@ -83,7 +84,7 @@ life_runs t _ (Dies later mourned) = (tt, mourned_runs t later mourned)
 
 -- ---- lives
 
--- the stage behind these facts
+-- the stage after these facts
 abbrev stage_behind : Stage → List Fact → Stage
 stage_behind v [] = v
 stage_behind v (f ∷ fs) = stage_behind (next v f) fs
@@ -92,12 +93,12 @@ runs_append : (v : Stage) (fs gs : List Fact) → Runs v fs → Runs (stage_behi
 runs_append v [] gs h k = k
 runs_append v (f ∷ fs) gs h k = (h.0, runs_append (next v f) fs gs h.1 k)
 
--- behind a reaping
+-- after a reaping
 reaped_behind : (t : ℕ) (v : Stage) (before : List Fact) → stage_behind v (before ++ Reap t ∷ []) ≡ Reaped
 reaped_behind t v [] = refl
 reaped_behind t v (f ∷ before) = reaped_behind t (next v f) before
 
--- so do lives, one behind the other
+-- so do lives, one after the other
 pub lives_run : (t : ℕ) (fs : List Fact) → Lives t fs → Runs Resting fs
 lives_run t _ (Last life l) = life_runs t life l
 lives_run t _ (Earlier life later l e more) =

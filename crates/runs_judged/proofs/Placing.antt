@@ -105,7 +105,7 @@ record Knows (t : ℕ) (o : Told) (w : Option Queue) (fs : List Fact) : Type 0 w
   moves : (m : ℕ) → IsAmong (Move t m) fs → o ≡ InCall
   returns : (x : Reply) → IsAmong (Return t x) fs → asleep_after t w fs ≡ None
 
--- a point is told of a thread that was awake, but where its time limit came, as its wake is told before
+-- a point is recorded of a thread that was awake, but where its time limit came, as its wake is recorded before
 abbrev TellsAwake : ℕ → Option Queue → Note → Type 0
 TellsAwake t w (Expired u m) = Unit {0}
 TellsAwake t w n = (d : Decision) → IsAmong (Point d) (facts_of n) → d.thread ≡ t → w ≡ None
@@ -225,7 +225,7 @@ slept_in_call t o (Stepped u m p z us vs y) q h e = go y (sym (told_stepped t o 
         pick true g = absurd cc
         pick false g = g
 
--- whose return is told is at rest behind it
+-- whose return is recorded is at rest after it
 returned_rests : (t : ℕ) (o : Told) (n : Note) (x : Reply) → IsAmong (Return t x) (facts_of n) → told_after t o (facts_of n) ≡ AtRest
 returned_rests t o Nothing x h = absurd h
 returned_rests t o (Began u c None) x (inl f) = absurd cc
@@ -264,7 +264,7 @@ returned_rests t o (Stepped u m p z us vs y) x h = told_stepped t o u m p z us v
     go (Is_wake v f) = absurd cc
     go (Is_move v f) = absurd cc
 
--- a point is told of the thread whose event it is, which is awake, but where its time limit comes
+-- a point is recorded of the thread whose event it is, which is awake, but where its time limit comes
 module _ (l : Layout') (s : State) (ns : List Note) (m : Moment l s ns) (t : ℕ) where
   abbrev PointsTold : Note → Type 0
   PointsTold n = TellsAwake t (told_asleep t ns) n
@@ -356,7 +356,7 @@ module _ (l : Layout') (s : State) (ns : List Note) (m : Moment l s ns) (t : ℕ
 
 -- ---- runs
 
--- the moment behind one event more
+-- the moment after one event more
 pub behind : (l : Layout') (counters : ℕ → ℕ) (es : List Event) (e : Event) → IsLayout l → Moment l (happens (run (start l counters) es) e).state (notes (start l counters) es ++ (happens (run (start l counters) es) e).note ∷ [])
 behind l counters es e is = subst (λ (z : State × List Note). Moment l z.0 z.1) (λ i. (run_push (start l counters) es e i, notes_push (start l counters) es e i)) (moment l counters (es ++ e ∷ []) is)
 

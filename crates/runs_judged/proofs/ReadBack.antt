@@ -193,7 +193,7 @@ reply-short reply.XSTATE = omega arith
 abbrev pub most_bytes : ℕ
 most_bytes = 60
 
--- so event i's line tells the fact: these are the words behind its number, this they say, and that is the fact
+-- so event i's line tells the fact: these are the words after its number, this they say, and that is the fact
 record Says (h : Head) (i : ℕ) (f : Fact) : Type 0 where
   rest : List (List ℕ)
   said : Said
@@ -387,7 +387,7 @@ reads_as h w ws f r are forms reads =
 told_in : (h : Head) (i : ℕ) (s : Said) (f : Fact) → 1 ≤ i → i ≤ max_events → fact_in h s ≡ Some f → line_in h (Told (Some i) s) ≡ Some (read.Told (record { event = i; fact = f }))
 told_in h i s f first most is = λ j. within-in 1 max_events i first most j >>= λ e. is j >>= λ g. Some (read.Told (record { event = e; fact = g }))
 
--- a line of this head is read back, whatever stands behind it
+-- a line of this head is read back, whatever stands after it
 pub record ReadsBack (h : Head) (l : Line) : Type 0 where
   pub words : List (List ℕ)
   pub are : AreWords words

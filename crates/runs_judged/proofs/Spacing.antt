@@ -61,7 +61,7 @@ spaced [] = []
 spaced (w ∷ []) = w
 spaced (w ∷ v ∷ ws) = w ++ 32 ∷ spaced (v ∷ ws)
 
--- and a line feed behind the last
+-- and a line feed after the last
 abbrev pub ended : List (List ℕ) → List ℕ
 ended [] = 10 ∷ []
 ended (w ∷ []) = w ++ 10 ∷ []
@@ -96,7 +96,7 @@ ended_ascii (w ∷ v ∷ ws) are = bytes_append (λ b. b < 128) w (32 ∷ ended 
 
 -- ---- lengths
 
--- so many bytes: each word, and the space or the line feed behind it
+-- this many bytes: each word, and the space or the line feed after it
 abbrev pub width : List (List ℕ) → ℕ
 width [] = 0
 width (w ∷ ws) = length w + 1 + width ws

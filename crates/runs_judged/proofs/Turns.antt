@@ -1,4 +1,5 @@
--- Each fact that is told of a thread fits those told of it before, where its calls go through their stages and its sleeps alternate.
+-- Each fact that is recorded of a thread fits those recorded of it before, where its calls go through their stages and
+-- its sleeps alternate.
 use Rattle.std.proofs.Common.{◌≡◌, ◌≢◌, ℕ, ◌==◌, Bool, true, false, ◌&&◌, Option, Some, None, List, [], ◌∷◌, refl, sym, ap, ◌∙◌, subst, eqb-true, eq-eqb}
 use Rattle.std.specs.Prelude.{if◌then◌else◌, MatchBool}
 use Rattle.std.specs.Option.{is_some}
@@ -20,14 +21,15 @@ use Rattle.protocol.specs.Applies.{Told, AtRest, InCall, Dead, Gone, told_next}
 use Rattle.protocol.specs.Wakings.{asleep_next, MayFollow, Alternates}
 use Rattle.runs_judged.proofs.Lives.{Runs}
 
--- ---- what is told of one thread
+-- ---- what is recorded of one thread
 
 -- of its calls and its death
 abbrev pub own_of : ℕ → List Fact → List Fact
 own_of t [] = []
 own_of t (f ∷ fs) = if is_of_call f && (thread_of f == t) then f ∷ own_of t fs else own_of t fs
 
--- where thread t's calls are so far and where it sleeps, a point of it or a return may be told only while it is awake, and a sleep, a wake and a move only in a call
+-- where thread t's calls are so far and where it sleeps, a point of it or a return may be recorded only while it is
+-- awake, and a sleep, a wake and a move only in a call
 abbrev pub Placed : ℕ → Told → Option Queue → Fact → Type 0
 Placed t o w (Point d) = d.thread ≡ t → w ≡ None
 Placed t o w (Return u x) = u ≡ t → w ≡ None
@@ -52,7 +54,7 @@ abbrev asleep_in : Stage → Option Queue → Stage
 asleep_in (Calling c m z) w = Calling c m (is_some w)
 asleep_in v w = v
 
--- it is what was told of its calls; and at rest it is awake, and so once it is dead
+-- it is what was recorded of its calls; and at rest it is awake, and so once it is dead
 abbrev Agrees : Told → Stage → Option Queue → Type 0
 Agrees AtRest Resting w = w ≡ None
 Agrees InCall (Calling c m z) w = z ≡ false
@@ -142,7 +144,7 @@ sleeps_on t (Move u k) c m w is call follows = record {
 }
 sleeps_on t f c m w is call follows = absurd cc
 
--- it is told of who sleeps only in a call
+-- it is recorded of who sleeps only in a call
 in_call : (t : ℕ) (f : Fact) (o : Told) (w : Option Queue) → thread_of f ≡ t → is_of_call f ≡ false → Placed t o w f → o ≡ InCall
 in_call t (Sleep u q) o w is call placed = placed is
 in_call t (Wake u) o w is call placed = placed is
@@ -182,7 +184,7 @@ told_other t o (Reap u) e = ap (λ (b : Bool). if b then Gone else o) e
 told_other t o (Renew u) e = ap (λ (b : Bool). if b then AtRest else o) e
 told_other t o f e = refl
 
--- what is told of its calls and not of its sleeps
+-- what is recorded of its calls and not of its sleeps
 told_sleeping : (t : ℕ) (o : Told) (f : Fact) → is_of_call f ≡ false → told_next t o f ≡ o
 told_sleeping t o (Sleep u q) e = refl
 told_sleeping t o (Move u m) e = refl
@@ -213,6 +215,6 @@ fits_along t (f ∷ fs) before v o w kept a runs alternates placed = go (thread_
         let g = stays_on t f v o w is call (in_call t f o w is call placed.0) a alternates.0 in
         (may_fits (asleep_in v w) f before kept g.may, rest (f ∷ before) v (told_next t o f) (asleep_next t w f) (subst (λ (x : Stage). Kept x (f ∷ before)) g.leads (next_kept (asleep_in v w) f before kept g.may)) g.agrees runs alternates.1 placed.1)
 
--- from the beginning, when nothing is told yet
+-- from the beginning, when nothing is recorded yet
 pub all_fit : (t : ℕ) (fs : List Fact) → Runs Resting (own_of t fs) → Alternates t None fs → ArePlaced t AtRest None fs → FitAlong t [] fs
 all_fit t fs runs alternates placed = fits_along t fs [] Resting AtRest None (refl, refl, refl, refl) refl runs alternates placed

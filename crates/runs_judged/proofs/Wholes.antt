@@ -44,7 +44,7 @@ module _ (h : Head) (n : ℕ) (most : n ≤ max_events) where
       subst (EachByte (λ b. b < 128)) (sym (append_assoc (line_text l) (concat (map line_text ls)) (end_line n)))
       (bytes_append (λ b. b < 128) (line_text l) (tail_text ls n) (subst (EachByte (λ b. b < 128)) (sym back.0.text) (ended_ascii back.0.words back.0.are)) (tail_ascii ls back.1))
 
--- a first line, and others behind it
+-- a first line, and others after it
 first_of : (text : List ℕ) (ls : List (List ℕ)) → 1 ≤ length ls → text_read (text ∷ ls) ≡ (met_at 1 (head_read text) >>= λ h. lines_read 2 h [] ls)
 first_of text [] long = absurd (omega (arith, long))
 first_of text (l ∷ ls) long = refl

@@ -1,7 +1,7 @@
 -- What is printed of a run is a legal trace.
 --
 -- *Judged legal.* The text of a run is a trace without fault, and that is legal; so whatever answers for it as a
--- checker does answers that it is legal, with exactly the number of its points, or that memory was wanted.
+-- checker does answers that it is legal, with exactly the number of its points, or that memory was needed.
 use Rattle.std.specs.Prelude.{ℕ, ◌≡◌, ◌≤◌, ◌⊎◌, List, ◌++◌, length, map, reverse, count_by, None, Result, Ok, Err, IfOk}
 use Rattle.std.specs.List.{concat}
 use Rattle.memorymap.specs.Layouts.{Layout', IsLayout}
@@ -27,8 +27,8 @@ use Rattle.verdict.specs.Verdicts.{IsLegal, Answers}
 
 -- ---- the trace of a run
 
--- what is printed of a run with these notes: so many threads, mutexes and condition variables, then each event's lines,
--- then the number of events
+-- what is printed of a run with these notes: this many threads, mutexes and condition variables, then each event's
+-- lines, then the number of events
 abbrev pub run_text : ℕ → ℕ → ℕ → List Note → List ℕ
 run_text threads mutexes conditions ns =
     head_line threads mutexes conditions ++ (concat (map line_text (lines_from 1 ns)) ++ end_line (length ns))
@@ -43,7 +43,7 @@ points_told ns = count_by is_point (facts_among ns)
 
 -- ---- verdicts
 
--- this is the verdict, unless memory was wanted
+-- this is the verdict, unless memory was needed
 abbrev pub IsVerdict : Verdict → Result Verdict TraceFault → Type 0
 IsVerdict v r = (r ≡ Ok v) ⊎ (r ≡ Err (fault_at 1 OutOfMemory))
 

@@ -1,7 +1,8 @@
 -- Which lines a trace may have, and that each is read as what was written.
 --
 -- *Written and read back.* Which lines a trace may have, by its first line: their numbers are in their ranges, their
--- operations those that calls have. Each is one line, whatever stands behind it, and is read as what it was written of.
+-- operations those that calls have. Each is one line, whatever stands after it, and is read as what it was written
+-- of.
 use Rattle.std.specs.Prelude.{ℕ, ◌≡◌, ◌<◌, ◌≤◌, Option, Some, None, List, ◌∷◌, ◌++◌, Ok}
 use Rattle.posixmutex.specs.declared.point.Operation.{Operation}
 use Rattle.posixmutex.specs.declared.point.Operation.TheVariants.{Lock, TimedLock, TryLock, Unlock, Consistent}
@@ -24,7 +25,7 @@ use Rattle.verdict.specs.Reading.{IsHead, head_read, line_read}
 abbrev pub IsThreadOf : Head → ℕ → Type 0
 IsThreadOf h t = (1 ≤ t) × (t ≤ h.threads)
 
--- a call on a mutex, as a reinit is told too, or on the condition variable with this number
+-- a call on a mutex, as a reinit is recorded too, or on the condition variable with this number
 abbrev pub IsCallOf : Head → Operation → Option ℕ → Type 0
 IsCallOf h Lock None = Unit {0}
 IsCallOf h TimedLock None = Unit {0}
@@ -66,7 +67,7 @@ pub record IsLineOf (h : Head) (l : Line) : Type 0 where
 
 -- ---- reading is the inverse of writing
 
--- whatever stands behind it, what is written is one line, of which this holds without its line feed
+-- whatever stands after it, what is written is one line, of which this holds without its line feed
 abbrev pub IsLine : List ℕ → (List ℕ → Type 0) → Type 0
 IsLine written Holds =
     (text : List ℕ) × ((behind : List ℕ) → lines_of (written ++ behind) ≡ text ∷ lines_of behind) × Holds text
@@ -75,7 +76,7 @@ IsLine written Holds =
 abbrev pub IsWhole : Head → Type 0
 IsWhole h = IsHead h × (h.conditions ≤ max_conditions)
 
--- the first line, each line behind it and the last one are read as what they were written of
+-- the first line, each line after it and the last one are read as what they were written of
 pub record LinesAreReadBack : Type 0 where
   pub head : (h : Head) → IsWhole h
       → IsLine (head_line h.threads h.mutexes h.conditions) (λ text. head_read text ≡ Ok h)

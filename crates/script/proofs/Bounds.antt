@@ -53,7 +53,7 @@ grown : (limit : ℕ) (names : List (List ℕ)) (w : List ℕ) → IfOk (added l
 grown limit names w = refused (nat_le limit (length names)) OutOfRange (refuse (is_declared w names) NoSuchName (Ok (names ++ w ∷ []))) (λ ns. (length names ≤ length ns) × (length ns ≤ limit))
     (λ room. refused (is_declared w names) NoSuchName (Ok (names ++ w ∷ [])) (λ ns. (length names ≤ length ns) × (length ns ≤ limit)) (λ new. rw (length-append names (w ∷ [])) (omega arith, grind (arith, nat_tests))))
 
--- so many numbered names
+-- this many numbered names
 length-numbered : (w : List ℕ) (n : ℕ) → length (numbered w n) ≡ n
 length-numbered w zero = refl
 length-numbered w (suc n) = let fewer = length-numbered w n in omega (arith, length-append (numbered w n) ((w ++ decimal n) ∷ []))

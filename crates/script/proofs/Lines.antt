@@ -27,7 +27,7 @@ unfolding lines_read
 unrolled n s text [] h = absurd (omega (arith, h))
 unrolled n s text (l ∷ ls) h = refl
 
--- a fault of what follows a line stands below it
+-- a fault of what follows a line is below it
 weaker : (n : ℕ) (r : Result Scope ScriptFault) → IfErr r (λ e. n + 1 ≤ e.line) → IfErr r (λ e. n ≤ e.line)
 weaker n (Ok t) h = tt
 weaker n (Err e) h = omega (arith, h)
@@ -77,7 +77,7 @@ met_last n NoSuchName r never h = rw h refl
 met_last n TooLong r never h = rw h refl
 met_last n OutOfMemory r never h = absurd (never h)
 
--- a line was read: the lines behind it say what all said
+-- a line was read: the lines after it say what all said
 pub goes_on : (n : ℕ) (s t : Scope) (text rest after : List ℕ) (total : Result Scope ScriptFault) → slice_split (λ b. b == 10) rest ≡ text ∷ slice_split (λ b. b == 10) after → line_read n s text ≡ Ok t
     → lines_read n s (slice_split (λ b. b == 10) rest) ≡ total → lines_read (n + 1) t (slice_split (λ b. b == 10) after) ≡ total
 goes_on n s t text rest after total parts read so_far =
@@ -91,7 +91,7 @@ stops n s f text rest after total parts told so_far =
     let one : lines_read n s (split rest) ≡ (met_at n (line_read n s text) >>= then_lines n (split after)) = rw (parts, unrolled n s text (split after) (one_or_more (λ b. b == 10) after)) refl in
     subst (λ (r : Result Scope ScriptFault). TellsAt (fault_at n f) f r) (sym one ∙ so_far) (met n f (line_read n s text) (then_lines n (split after)) (λ t. faults_from (n + 1) t (split after)) told)
 
--- the same where the fault stands at the line
+-- the same where the fault is at the line
 pub stops_at : (n : ℕ) (s : Scope) (e : ScriptFault) (text rest after : List ℕ) (total : Result Scope ScriptFault) → slice_split (λ b. b == 10) rest ≡ text ∷ slice_split (λ b. b == 10) after → (e.line ≡ n) × Tells e.fault (line_read n s text)
     → lines_read n s (slice_split (λ b. b == 10) rest) ≡ total → TellsAt e e.fault total
 stops_at n s e text rest after total parts told so_far =
@@ -114,14 +114,14 @@ ends_ill n s f rest total parts told so_far =
 
 -- ---- how a script ends
 
--- something stands behind the last line feed
+-- something stands after the last line feed
 pub ends_late : (n : ℕ) (s : Scope) (text : List ℕ) → (length text == 0) ≡ false → max_lines < n → Err TooLong ≡ finished n s text
 ends_late n s text behind late = let past : nat_lt max_lines n ≡ true = grind (arith, nat_tests) in rw (behind, past) refl
 
 pub ends_behind : (n : ℕ) (s : Scope) (text : List ℕ) → (length text == 0) ≡ false → n ≤ max_lines → Err UnknownWord ≡ finished n s text
 ends_behind n s text behind few = let in_time : nat_lt max_lines n ≡ false = grind (arith, nat_tests) in rw (behind, in_time) refl
 
--- nothing stands there, and too little was declared
+-- nothing is there, and too little was declared
 pub ends_without_threads : (n : ℕ) (s : Scope) (text : List ℕ) (ks : List (String Global)) → (length text == 0) ≡ true → (length ks == 0) ≡ true → Err OutOfRange ≡ finished n (record s { threads = texts ks }) text
 ends_without_threads n s text ks empty none = rw (empty, no_names ks none) refl
 
@@ -132,7 +132,7 @@ ends_without_mutexes n s text ks empty none = go (length s.threads == 0)
     go true = rw empty refl
     go false = rw (empty, no_names ks none) refl
 
--- ---- where memory was wanted
+-- ---- where memory was needed
 
 -- the lines of the rest are those of the text from line n on
 pub record IsBehind (text rest : List ℕ) (n : ℕ) : Type 0 where

@@ -47,7 +47,7 @@ then_adds s s' s'' ns ns' ns'' es es' (Err UnknownWord) a b = absurd b
 then_adds s s' s'' ns ns' ns'' es es' (Err OutOfRange) a b = absurd b
 then_adds s s' s'' ns ns' ns'' es es' (Err NoSuchName) a b = absurd b
 
--- events that fail fail with more behind them
+-- events that fail fail with more after them
 pub adds_fewer : (s s' s'' : State) (ns ns' ns'' : List Note) (es es' : List Event) (f : Fault) → Adds s s' ns ns' es (Err f) → Adds s s'' ns ns'' (es ++ es') (Err f)
 adds_fewer s s' s'' ns ns' ns'' es es' TooLong a = omega (arith, length-append es es')
 adds_fewer s s' s'' ns ns' ns'' es es' OutOfMemory a = let some = a.0 in (omega (arith, length-append es es'), a.1)
@@ -56,7 +56,7 @@ adds_fewer s s' s'' ns ns' ns'' es es' UnknownWord a = absurd a
 adds_fewer s s' s'' ns ns' ns'' es es' OutOfRange a = absurd a
 adds_fewer s s' s'' ns ns' ns'' es es' NoSuchName a = absurd a
 
--- so many of one event, one more, and the rest
+-- this many of one event, one more, and the rest
 pub replicate-split : (n k : ℕ) (e : Event) → k < n → (replicate k e ++ e ∷ []) ++ replicate (n - (k + 1)) e ≡ replicate n e
 replicate-split n k e lt =
     let all : (k + 1) + (n - (k + 1)) ≡ n = omega arith in

@@ -4,7 +4,7 @@ use Rattle.script.specs.declared.fault.Fault.{Fault}
 use Rattle.script.specs.declared.fault.Fault.TheVariants.{NotUtf8, UnknownWord, OutOfRange}
 use Rattle.script.specs.declared.fault.Fault.TheVariants.{NoSuchName, TooLong, OutOfMemory}
 
--- the number that a fault is told by
+-- the number by which a fault is reported
 abbrev pub number_of : Fault → ℕ
 number_of NotUtf8 = 1
 number_of UnknownWord = 2

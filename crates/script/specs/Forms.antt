@@ -135,7 +135,7 @@ cond_form w c m n = if bytes_eq w (codes "cond") && is_name c && is_name m && is
     then Some (cond c m (within 0 max_counter (digits_value 10 n)))
     else None
 
--- the call of an operation, with this name; no call dies or makes a mutex anew
+-- the call of an operation, with this name; no call dies or reinitialises a mutex
 abbrev pub call_on : List ℕ → Operation → Option CallForm
 call_on m Lock = Some (lock m)
 call_on m TryLock = Some (trylock m)

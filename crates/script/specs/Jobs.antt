@@ -74,7 +74,7 @@ abbrev pub jobs_up_to : ℕ → List Command → List Job'
 jobs_up_to zero cs = []
 jobs_up_to (suc n) cs = jobs_up_to n cs ++ job_of (suc n) (calls_by (suc n) cs)
 
--- what stands between the ends of phases, phase after phase; behind the last end stands one more, which may be empty
+-- what stands between the ends of phases, phase after phase; after the last end stands one more, which may be empty
 abbrev pub phases_in : Scope → List (List Command)
 phases_in s = slice_split ends_phase s.commands
 

@@ -39,8 +39,8 @@ max_counter = 4294967295
 abbrev pub max_name : ℕ
 max_name = 16
 
--- the characters of the name in a `mutexes` line: with four digits behind it, for the numbers below 4,096, it is a name
--- still
+-- the characters of the name in a `mutexes` line: with four digits after it, for the numbers below 4,096, it is a
+-- name still
 abbrev pub max_stem : ℕ
 max_stem = 12
 

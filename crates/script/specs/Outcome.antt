@@ -1,8 +1,8 @@
 -- What a call gave of what the definitions say: the same, unless memory ran out.
 --
 -- *What memory allows.* Reading gives the same as the definition, or wants memory at a line that says something and up
--- to which the definition finds no fault. A line's fault is told at that line (`GivesAt`), and a command's at its own
--- (`AddsAt`). Playing wants memory only at a command that runs one of the 100,000 events that may run
+-- to which the definition finds no fault. A line's fault is reported at that line (`GivesAt`), and a command's at
+-- its own (`AddsAt`). Playing wants memory only at a command that runs one of the 100,000 events that may run
 -- (`RefusesCommand`); where the machine to play on can't be had, the program tells that at line 1 (`WantsAtFirst`).
 use Rattle.std.specs.Prelude.{ℕ, ◌≡◌, ◌+◌, ◌<◌, false, List, ◌∷◌, ◌++◌, length, Result, Ok, Err, IsOk, IfErr}
 use Rattle.script.specs.Forms.{is_silent}
@@ -11,12 +11,12 @@ use Rattle.script.specs.declared.fault.Fault.{Fault}
 use Rattle.script.specs.declared.fault.Fault.TheVariants.{OutOfMemory}
 use Rattle.script.specs.declared.fault.ScriptFault.{ScriptFault}
 
--- a fault is the one that the definition names; want of memory comes only where it names none
+-- a fault is the one that the definition names; lack of memory comes only where it names none
 abbrev pub Tells : {A : Type 0} → Fault → Result A Fault → Type 0
 Tells OutOfMemory said = IsOk said
 Tells f said = said ≡ Err f
 
--- the same for a fault at a line; want of memory comes only where no line up to there has a fault
+-- the same for a fault at a line; lack of memory comes only where no line up to there has a fault
 abbrev pub TellsAt : {A : Type 0} → ScriptFault → Fault → Result A ScriptFault → Type 0
 TellsAt e OutOfMemory said = IfErr said (λ first. e.line < first.line)
 TellsAt e _ said = said ≡ Err e
@@ -26,7 +26,7 @@ abbrev pub Gives : {X A : Type 0} → (X → A) → Result X Fault → Result A 
 Gives view (Ok x) said = said ≡ Ok (view x)
 Gives view (Err f) said = Tells f said
 
--- the same for line n, at which a fault is told, and no other
+-- the same for line n, at which a fault is reported, and no other
 abbrev pub GivesAt : {X A : Type 0} → ℕ → (X → A) → Result X ScriptFault → Result A Fault → Type 0
 GivesAt n view (Ok x) said = said ≡ Ok (view x)
 GivesAt n view (Err e) said = (e.line ≡ n) × Tells e.fault said

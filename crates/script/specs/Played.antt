@@ -34,7 +34,7 @@ pub record RunsAt (s : Scope) (line : ℕ) : Type 0 where
   pub room : length (events_from (first_state s) before) < max_events
 
 -- why the commands, one after the other, stop: the line is that of the first command that would run one event too many;
--- or memory was wanted at a command, for the note of an event that may run
+-- or memory was needed at a command, for the note of an event that may run
 abbrev pub RefusesCommand : Scope → ℕ → Fault → Type 0
 RefusesCommand s line TooLong = overlong s ≡ Some line
 RefusesCommand s line OutOfMemory = RunsAt s line

@@ -1,6 +1,6 @@
 -- The events that a script stands for, and what it means to play them.
 --
--- *Processes of a script.* Process 0 has base 0, and behind it come those that `process` lines declare, each with the
+-- *Processes of a script.* Process 0 has base 0, and after it come those that `process` lines declare, each with the
 -- base that its line gives; a thread is of the process that its line names, of process 0 where it names none. The
 -- machine that plays the script has this layout, and so have the words of its real threads. The law
 -- `processes_are_as_told` says so of the lines' words alone, and of which process each `killall` is asked;
@@ -10,9 +10,9 @@
 -- its own. The law `killall_kills_one_process`: whatever happened before, these are kills and nothing else, of exactly
 -- the threads that the script has in that process, each once.
 --
--- *Events of a script.* `begin` and `kill` are one event, `step` so many, `killall` one for each thread of its process;
--- `go` is steps until the thread isn't going any more, `call` a begin and then the same, `locks` as many calls; a
--- script is too long at the first line that would run event 100,001.
+-- *Events of a script.* `begin` and `kill` are one event, `step` this many, `killall` one for each thread of its
+-- process; `go` is steps until the thread isn't going any more, `call` a begin and then the same, `locks` as many
+-- calls; a script is too long at the first line that would run event 100,001.
 --
 -- *Going.* A thread is going that is in a call or dying, and doesn't sleep. The law `threads_come_to_rest`: the number
 -- of steps that `go` makes is the least of its own after which it isn't going any more.
@@ -62,7 +62,7 @@ counter_of s k = slice_index_or (counters_of s) k 0
 abbrev pub first_state : Scope → State
 first_state s = start (layout_of s) (counter_of s)
 
--- the first threads of a process, so many being looked at
+-- the first threads of a process, this many being looked at
 abbrev pub members_among : Layout' → ℕ → ℕ → List ℕ
 members_among l p n = filter (λ t. slice_index l.processes (t - 1) == p) (range_with_len 1 n)
 
@@ -74,7 +74,7 @@ killing l p = map event.Kill (members_among l p l.threads)
 abbrev pub is_going : State → ℕ → Bool
 is_going s t = (is_busy s t || is_dying s t) && not (is_asleep s t)
 
--- the least number of its own steps after which thread t isn't going any more, looked for among at most so many
+-- the least number of its own steps after which thread t isn't going any more, looked for among at most this many
 unfoldable pub steps_to_rest : ℕ → State → ℕ → ℕ
 steps_to_rest zero s t = 0
 steps_to_rest (suc most) s t = if is_going s t then suc (steps_to_rest most (happens s (event.Step t)).state t) else 0

@@ -57,12 +57,12 @@ with_name names w = refuse (is_declared w names) NoSuchName (Ok (names ++ w ∷ 
 abbrev pub added : ℕ → List (List ℕ) → List ℕ → Result (List (List ℕ)) Fault
 added limit names w = refuse (nat_le limit (length names)) OutOfRange (with_name names w)
 
--- a name with a number behind it, for each number below n
+-- a name with a number after it, for each number below n
 abbrev pub numbered : List ℕ → ℕ → List (List ℕ)
 numbered w zero = []
 numbered w (suc n) = numbered w n ++ (w ++ decimal n) ∷ []
 
--- whether a name is w with a number below n behind it
+-- whether a name is w with a number below n after it
 abbrev pub is_numbered : List ℕ → ℕ → List ℕ → Bool
 is_numbered w n name = bytes_eq (take (length w) name) w && is_number (drop (length w) name)
     && nat_lt (digits_value 10 (drop (length w) name)) n
@@ -196,7 +196,7 @@ died s t access = ok_or access OutOfRange >>= λ k.
     thread_of s t >>= λ i.
     refuse (is_some (death_of i s.commands)) NoSuchName (Ok (action.Die i k))
 
--- one more command, which stands at line n
+-- one more command, which is at line n
 abbrev pub with_action : ℕ → Scope → Action → Scope
 with_action n s a = record s { commands = s.commands ++ record { line = n; action = a } ∷ [] }
 
@@ -242,7 +242,7 @@ met_at n (Err f) = Err (fault_at n f)
 abbrev pub line_read : ℕ → Scope → List ℕ → Result Scope Fault
 line_read n s text = refuse (nat_lt max_lines n) TooLong (ok_or (form_of s.mode text) UnknownWord >>= λ f. enter n s f)
 
--- what stands behind the last line feed: nothing, and what was declared is enough
+-- what stands after the last line feed: nothing, and what was declared is enough
 abbrev pub finished : ℕ → Scope → List ℕ → Result Scope Fault
 finished n s text = refuse (not (length text == 0)) (if nat_lt max_lines n then TooLong else UnknownWord)
     (refuse (length s.threads == 0 || length s.mutexes == 0) OutOfRange (Ok s))

@@ -7,7 +7,7 @@ use Rattle.protocol.specs.Sleepers.{alone}
 use Rattle.script.specs.Playing.{is_going, steps_to_rest}
 use Rattle.script.specs.Limits.{rest_steps}
 
--- after so many steps of its own the thread rests, and after fewer it doesn't
+-- after this many steps of its own the thread rests, and after fewer it doesn't
 abbrev pub RestsAfter : State → ℕ → ℕ → Type 0
 RestsAfter s t n = (is_going (alone s t n) t ≡ false) × ((k : ℕ) → k < n → is_going (alone s t k) t ≡ true)
 

@@ -53,7 +53,7 @@ IsPossible processes threads mutexes conditions (Locks t m n) = (1 ≤ t) × (t 
 IsPossible processes threads mutexes conditions Phase = Unit {0}
 IsPossible processes threads mutexes conditions (Die t n) = (1 ≤ t) × (t ≤ threads) × (1 ≤ n) × (n ≤ max_access)
 
--- a condition variable of one of so many mutexes, with a value that its counter may have
+-- a condition variable of one of this many mutexes, with a value that its counter may have
 abbrev pub IsCondition : ℕ → Condition → Type 0
 IsCondition mutexes c = (c.mutex < mutexes) × (c.counter ≤ max_counter)
 

@@ -23,7 +23,7 @@ outcome (Ok s) = Ok (without_lines s)
 outcome (Err e) = Err e.fault
 
 -- where there are fewer lines than may be, an empty line or a comment may be left out: the names and the commands
--- stay, or the fault; something stands behind the line, if only the empty end of the text
+-- stay, or the fault; something stands after the line, if only the empty end of the text
 abbrev pub SilentLinesSayNothing : Type 0
 SilentLinesSayNothing = (k : Mode) (before after : List (List ℕ)) (line : List ℕ) →
     is_silent line ≡ true → 0 < length after → length before + length after < max_lines

@@ -26,7 +26,7 @@ fn end_of(commands: &[Command]) -> Option<usize>
         .position(|command| matches!(command.action, Action::Phase))
 }
 
-/// The first phase, and what stands behind its end.
+/// The first phase, and what stands after its end.
 fn cut_phase(commands: &[Command]) -> Option<(&[Command], &[Command])>
     ensures parts { MatchOption result
         (slice_split ends_phase commands.now ≡ commands.now ∷ [])

@@ -14,13 +14,13 @@ pub fn silent_lines_say_nothing()
 {}
 
 /// Threads come to rest: whatever happened before, a thread that is in a call or dying and isn't asleep ends its call,
-/// is reaped or falls asleep after so many steps of its own as `go` makes, and not before. So
+/// is reaped or falls asleep after this many steps of its own as `go` makes, and not before. So
 /// [`REST_STEPS`](crate::REST_STEPS) cuts no call off.
 pub fn threads_come_to_rest()
     ensures { ThreadsComeToRest }
 {}
 
-/// Of every script that is read: each process has the base that its own line gives, process 0 has base 0; each thread
+/// For every script that is read: each process has the base that its own line gives, process 0 has base 0; each thread
 /// is of the process that its own line names, or of process 0 where that names none; and `killall` is asked of the
 /// process that it names.
 pub fn processes_are_as_told()
@@ -38,7 +38,7 @@ pub fn killall_kills_one_process()
     ensures { KillallKillsOneProcess }
 {}
 
-/// Of every script that is read: the deaths that its commands ask for, in their order, are those that its `die` lines
+/// For every script that is read: the deaths that its commands ask for, in their order, are those that its `die` lines
 /// say, each of the thread that the line names, before the access that it gives. A thread's number is its place, from
 /// 1, among those that `thread` lines declare, in their order: these names too are taken from the lines' words.
 pub fn deaths_are_as_told()

@@ -30,7 +30,7 @@ pub const MAX_COUNTER: u32 = 4_294_967_295;
 /// The characters of a name.
 pub const MAX_NAME: usize = 16;
 
-/// The characters of the name in a `mutexes` line, behind which numbers of up to four digits are added.
+/// The characters of the name in a `mutexes` line, after which numbers of up to four digits are added.
 pub const MAX_STEM: usize = 12;
 
 /// The steps of one `step` line.

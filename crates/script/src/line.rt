@@ -107,7 +107,7 @@ fn die<'a>(keyword: &'a str, thread: &'a str, number: &'a str) -> Option<Line<'a
     None
 }
 
-/// Whether the word is spelled as a name that stays one with a number behind it.
+/// Whether the word is spelled as a name that stays one with a number after it.
 fn is_word_stem(word: &str) -> bool
     ensures { result ≡ is_stem word.now }
 {

@@ -73,7 +73,7 @@ pub(crate) fn declare(
     add_name(alloc, names, word)
 }
 
-/// Whether a name is a word with a number below `count` behind it.
+/// Whether a name is a word with a number below `count` after it.
 fn is_numbered(name: &str, word: &str, count: u32) -> bool
     ensures { result ≡ is_numbered word.now count name.now }
 {
@@ -83,7 +83,7 @@ fn is_numbered(name: &str, word: &str, count: u32) -> bool
     }
 }
 
-/// Whether one of the names is a word with a number below `count` behind it.
+/// Whether one of the names is a word with a number below `count` after it.
 fn clashes(names: &IndexSet<String>, word: &str, count: u32) -> bool
     ensures { result ≡ list_any (λ name. is_numbered word.now count name) (map string_bytes names.now.keys) }
 {
@@ -92,7 +92,7 @@ fn clashes(names: &IndexSet<String>, word: &str, count: u32) -> bool
         .any(|name| is_numbered(name.as_str(), word, count))
 }
 
-/// Adds `count` names, a word with each number from 0 on behind it, unless there would be more than may be, or one is
+/// Adds `count` names, a word with each number from 0 on after it, unless there would be more than may be, or one is
 /// there.
 pub(crate) fn declare_numbered(
     alloc: Global,

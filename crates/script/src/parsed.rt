@@ -122,7 +122,7 @@ impl Script {
         *declared
     }
 
-    /// Its commands, in the order of their lines.
+    /// The commands, in the order of their lines.
     pub fn commands(&self) -> &[Command]
         ensures value { result.now ≡ self.now.commands }
         ensures well_formed { IsWellFormed self.now }

@@ -29,7 +29,7 @@ fn add<T: Copy>(list: &mut Vec<T>, item: &T) -> Result<(), Fault>
     Ok(())
 }
 
-/// One event on the machine, noted behind the others.
+/// One event on the machine, noted after the others.
 fn play_event(machine: &mut Machine, notes: &mut Vec<Note>, event: Event) -> Result<(), Fault>
     ensures { Adds (state_of machine.old) (state_of machine.new) notes.old.items notes.new.items (event ∷ []) result }
 {
@@ -40,7 +40,7 @@ fn play_event(machine: &mut Machine, notes: &mut Vec<Note>, event: Event) -> Res
     add(notes, &note)
 }
 
-/// So many steps of a thread.
+/// This many steps of a thread.
 fn play_steps(
     machine: &mut Machine,
     notes: &mut Vec<Note>,
@@ -160,7 +160,7 @@ fn play_action(machine: &mut Machine, notes: &mut Vec<Note>, action: Action) -> 
     }
 }
 
-/// The events of a command. A fault is told at the command's line.
+/// The events of a command. A fault is reported at the command's line.
 fn play_command(
     machine: &mut Machine,
     notes: &mut Vec<Note>,
@@ -180,8 +180,8 @@ fn play_command(
     }
 }
 
-/// The events of all the commands, on a machine and a list of notes that are new. Want of memory is told at the line of
-/// a command that runs an event, and at no other.
+/// The events of all the commands, on a machine and a list of notes that are new. Want of memory is reported at the
+/// line of a command that runs an event, and at no other.
 fn play_commands(
     machine: &mut Machine,
     notes: &mut Vec<Note>,

@@ -16,7 +16,7 @@ use crate::parsed::Script;
 use lines::{cut, text_of};
 use std::alloc::Global;
 
-/// The script, where nothing stands behind its last line feed, and it declares enough.
+/// The script, where nothing stands after its last line feed, and it declares enough.
 fn finish(draft: Draft, number: usize, text: &str) -> Result<Script, Fault>
     requires { IsWithinLimits (scope_of draft) }
     ensures { result ≡ finished number (scope_of draft) text.now }
@@ -34,7 +34,7 @@ fn finish(draft: Draft, number: usize, text: &str) -> Result<Script, Fault>
     Ok(Script::of(draft))
 }
 
-/// Reads line `number` into the draft. A fault is told at that line.
+/// Reads line `number` into the draft. A fault is reported at that line.
 fn read_line(alloc: Global, draft: &mut Draft, number: usize, text: &str) -> Result<(), ScriptFault>
     requires { IsWithinLimits (scope_of draft.old) }
     ensures gives { GivesAt number (λ _. scope_of draft.new) result (line_read number (scope_of draft.old) text.now) }
@@ -70,7 +70,7 @@ fn read_text(alloc: Global, text: &str, mode: Mode) -> Result<Script, ScriptFaul
     }
 }
 
-/// The script that the bytes are, or their first fault. Only want of memory may come in its place, at a line before it
+/// The script that the bytes are, or their first fault. Only lack of memory may come instead, at a line before it
 /// that says something.
 pub fn parse(alloc: Global, bytes: &[u8], mode: Mode) -> Result<Script, ScriptFault>
     ensures reads { Reads result (script_read mode bytes.now) }

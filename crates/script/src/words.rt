@@ -1,4 +1,4 @@
-//! Names, and numbers behind them.
+//! Names, and numbers after them.
 
 ghost use Rattle.std.specs.Prelude.{◌≡◌, true, nat_lt};
 ghost use Rattle.std.specs.List.{list_all};

@@ -8,7 +8,7 @@ use lockword::Tid;
 pub struct Job {
     /// The thread.
     pub thread: Tid,
-    /// Its calls, on mutexes and on condition variables.
+    /// The calls, on mutexes and on condition variables.
     pub calls: Vec<Op>,
 }
 

@@ -110,7 +110,7 @@ TrimsAreRight = (at w : ℕ) (queue : List ℕ)
     → (trimmed : Bool) × (answer_among (Trim at) w queue ≡ Trimmed trimmed)
     × Trims w queue (word_among (Trim at) w queue) trimmed
 
--- what such an access is answered, but for a fault (futex(2))
+-- what such an access is answered, except for a fault (futex(2))
 abbrev pub IsAnswerOf : Access → Answer → Type 0
 IsAnswerOf (Load at) (Value w) = Unit {0}
 IsAnswerOf (Store at v) Stored = Unit {0}

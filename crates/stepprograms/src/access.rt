@@ -4,7 +4,7 @@ ghost use Rattle.stepprograms.specs.Accesses.{TrimsAreRight};
 
 use lockword::MOST_THREADS;
 
-/// As many as there are threads at most: a wake of so many wakes all who sleep on the word, and a requeue moves all
+/// As many as there are threads at most: a wake of this many wakes all who sleep on the word, and a requeue moves all
 /// (futex(2)).
 pub const ALL: u32 = MOST_THREADS as u32;
 
@@ -45,12 +45,12 @@ pub enum Access {
         at: u64,
         expected: u32,
     },
-    /// Wakes at most so many.
+    /// Wakes at most this many.
     Wake {
         at: u64,
         most: u32,
     },
-    /// Wakes at most so many, and moves at most so many of the rest to another word's queue.
+    /// Wakes at most this many, and moves at most this many of the rest to another word's queue.
     Requeue {
         from: u64,
         wake: u32,
@@ -79,11 +79,11 @@ pub enum Answer {
     Value(u64),
     Stored,
     Exchanged,
-    /// The word that was found in place of the expected one.
+    /// The word that was found instead of the expected one.
     Changed(u64),
-    /// It didn't sleep, or move anybody: the word differed.
+    /// The thread didn't sleep, or move anybody: the word differed.
     Again,
-    /// It slept, and was woken.
+    /// The thread slept, and was woken.
     Woken,
     /// How many were woken.
     Count(u32),

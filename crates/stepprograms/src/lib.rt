@@ -2,10 +2,10 @@
 //!
 //! [`Access`] and [`Answer`] are the steps that programs take on words; `specs/Accesses.antt` says what each does to
 //! its word, a trim's with its meaning (`trims_are_right`). A [`StepProgram`] is a call, a part of one, or the kernel's
-//! walk: it says which access comes next and is told the answer, whoever runs it. [`Progress`] is how far an answer
-//! brought it.
+//! walk: it says which access comes next and gets the answer, whoever runs it. [`Progress`] is how far an
+//! answer brought it.
 //!
-//! Stands on `posixmutex`, for the points at which calls take effect, and on `lockword`, for replies and cells.
+//! Is on `posixmutex`, for the points at which calls take effect, and on `lockword`, for replies and cells.
 #![tactic(auto)]
 
 mod access;

@@ -1,4 +1,4 @@
-//! Step programs: calls and walks that say which access comes next, and are told its answer.
+//! Step programs: calls and walks that say which access comes next, and get its answer.
 ghost use Rattle.std.specs.Prelude.{◌≡◌};
 ghost use Rattle.stepprograms.specs.declared.access.Access.{Access};
 ghost use Rattle.stepprograms.specs.declared.access.Answer.{Answer};
@@ -17,7 +17,7 @@ pub enum Progress {
 }
 
 /// A call of a thread, a part of one, or the kernel's walk over a dead thread's list, as a value: it says which access
-/// it makes next, and is told what that was answered. Whoever runs it has the words, the queues and the locks. So one
+/// it makes next, and gets what that was answered. Whoever runs it has the words, the queues and the locks. So one
 /// program runs on a plain memory, event by event, and on words that running threads share.
 pub trait StepProgram {
     /// Whether it has accesses to make.

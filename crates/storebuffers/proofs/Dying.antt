@@ -1,4 +1,4 @@
--- Who is dead behind an event.
+-- Which threads are dead after an event.
 use Rattle.std.proofs.Common.{◌≡◌, ◌≢◌, ◌⊎◌, inl, inr, ℕ, Bool, true, false, Result, Ok, Err, refl, sym, ap, ◌∙◌, arith}
 use Rattle.std.specs.Prelude.{if◌then◌else◌}
 use Rattle.lockword.specs.declared.reply.Reply.{Reply}
@@ -70,7 +70,8 @@ IsStill y = ⊥
 walk_still : (l : Layout') (t h : ℕ) (r : walk_row.Row) → IsStill (way_of l t (exit.row_access h r))
 walk_still l t h r = grind (arith)
 
--- whoever is dead behind its event was dead before it, and then that leaves the buffer; or all that waited has reached memory
+-- whoever is dead after its event was dead before it, and then that leaves the buffer; or all that waited has
+-- reached memory
 abbrev pub Dies : State → ℕ → Way → After → Type 0
 Dies s t y a = is_alive (a.state.threads t).stage ≡ false → (y ≡ Flushes) ⊎ ((is_alive (s.threads t).stage ≡ false) × IsStill y)
 

@@ -288,7 +288,7 @@ still_by Keeps t waits u still = refl
 still_by (Writes at) t waits u still = refl
 still_by y t waits u still = absurd still
 
--- nothing waits of whoever is dead behind an event
+-- nothing waits of whoever is dead after an event
 dead_by : (w : ℕ → ℕ) (waits : ℕ → List Store) (s : State) (e : Event) → Holds w waits s → (u : ℕ) → is_alive ((happens s e).state.threads u).stage ≡ false → waits_by (way s e (happens s e).note) (caller e) waits u ≡ []
 dead_by w waits s e h u dying = ⊎_elim
     (λ is. subst (λ (k : ℕ). is_alive ((happens s e).state.threads k).stage ≡ false → waits_by (way s e (happens s e).note) (caller e) waits k ≡ []) is its dying)

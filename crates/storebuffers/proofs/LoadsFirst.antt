@@ -67,7 +67,7 @@ use Rattle.storebuffers.proofs.EarlyLoads.{store_elsewhere, look_keeps, quiet_un
 
 -- ---- one moment after the other
 
--- thread t stands in such a phase, or in no call, and these of its own words are as they were in state s0
+-- thread t is in such a phase, or in no call, and these of its own words are as they were in state s0
 record Stands (l : Layout') (t : ℕ) (s0 : State) (Mine : ℕ → Type 0) (P : Phase → Type 0) (s : State) : Type 0 where
   kept : Kept s
   same : s.layout ≡ l
@@ -119,7 +119,7 @@ module _ (l : Layout') (t : ℕ) (s0 : State) (Mine : ℕ → Type 0) (is : IsLa
   stage_in P Q s (Calling o p) more moves at (head, k) = step_at s t o p (In l t Q) at (head, more p.phase k) (λ a. lands l t Q o p (whole_led p a).phase head (moves p p.phase a k))
   stage_in P Q s g more moves at k = absurd k
 
-  -- its own words behind a quiet step
+  -- its own words after a quiet step
   words_then : (P : Phase → Type 0) (s : State) → ((f : Phase) → P f → Quiet f) → ((q : ℕ) → Mine q → q ≢ head_place t + 2) → Stands l t s0 Mine P s → (q : ℕ) → Mine q → ((happens s (Step t)).state.words q ≡ s.words q) × IsOwn (happens s (Step t)).state t q
   words_then P s quiet apart st q m = (
     word_stays s (Step t) st.kept q pos (known_in s st.same) (st.own q m) (elsewhere_in P s q quiet (apart q m) st),

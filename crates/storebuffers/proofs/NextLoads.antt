@@ -55,7 +55,7 @@ use Rattle.protocol.proofs.Working.{call_goes}
 
 -- ---- one event
 
--- who sleeps on a word behind an access
+-- who sleeps on a word after an access
 abbrev queues_by : State → ℕ → Access → ℕ → List ℕ
 queues_by s t a key = joined s.layout t a (moved_by a (s.words (place_met s.layout t a)) (s.queues (place_met s.layout t a))) (put s.queues (place_met s.layout t a) (queue_after t a (s.words (place_met s.layout t a)) (s.queues (place_met s.layout t a)))) key
 

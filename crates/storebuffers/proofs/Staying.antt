@@ -82,7 +82,7 @@ by_refusal_of : (s : State) (t : ℕ) (o : Op) (r : Result Stage Reply) (u k : �
 by_refusal_of s t o (Ok g) u k own = own
 by_refusal_of s t o (Err x) u k own = own
 
--- a mutex that is made anew was nobody's
+-- a mutex that is reinitialised was nobody's
 anew_stays : (s : State) → Kept s → (t m w : ℕ) → Says_nothing w → MayRemake s t m → (k u : ℕ) → (seen s k).owner ≡ Some u → (seen (reinited s t m w).state k).owner ≡ Some u
 anew_stays s inv t m w says may k u own = ⊎_elim
     (λ is. absurd (cc (sym own ∙ ap (λ (j : ℕ). (seen s j).owner) is ∙ unowned s t m w says may inv)))
@@ -155,7 +155,7 @@ call_keeps l u held p (Unlinking k d) o stands written a x point loses = plain_u
 call_keeps l u held p (Clearing y) o stands written a x point loses = plain_unwritten l u (phase_access p (Clearing y)) tt written
 call_keeps l u held p (Ended y) o stands written a x point loses = absurd stands
 
--- what thread t owns it owns behind its event, if that writes in memory and t lives
+-- what thread t owns it owns after its event, if that writes in memory and t lives
 abbrev pub OwnStays : State → Event → After → Type 0
 OwnStays s e a = IsWritten (way s e a.note) → is_alive (s.threads (caller e)).stage ≡ true → StaysOwn s (caller e) a.state
 

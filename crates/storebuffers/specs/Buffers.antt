@@ -81,7 +81,7 @@ pub data Way : Type 0 where
   Flushes : Way
 
 -- a load leaves it, and a store waits. An exchange or a fetch, a locked instruction, writes its word in memory. A
--- release, which is the one fetch-xor, flushes first: behind it others may own the mutex, and store its links. (On x86
+-- release, which is the one fetch-xor, flushes first: after it others may own the mutex, and store its links. (On x86
 -- each locked instruction flushes: drains right before it.) A trim, by the kernel under a bucket's lock, writes its
 -- word too. The kernel's other sections change no word, and a driver that knows that nobody sleeps leaves them out
 abbrev pub way_of : Layout' → ℕ → Access → Way
@@ -97,7 +97,7 @@ way_of l t (access.CmpRequeue from e n to k) = Keeps
 way_of l t (access.FetchXor at o) = Flushes
 way_of l t a = Writes (place_met l t a)
 
--- the next access of a thread that stands there
+-- the next access of a thread that is there
 abbrev pub way_at : Layout' → ℕ → Stage → Way
 way_at l t (Calling o p) = way_of l t (whole_access p)
 way_at l t (AtCondition c p) = way_of l t (cond_access p)

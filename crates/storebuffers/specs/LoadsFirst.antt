@@ -51,7 +51,7 @@ steps_now b t = next b (Happens (Step t))
 
 -- ---- a lock, or a trylock
 
--- from b on it has announced its entry, and directly behind that looked at the cell
+-- from b on it has announced its entry, and directly after that looked at the cell
 abbrev pub lock_announced : Buffered → ℕ → Call → Buffered
 lock_announced b t c = steps_now (begins_now b t c) t
 
@@ -74,7 +74,7 @@ pub record NobodyCrosses (b : Buffered) (t : ℕ) (c : Call) (others : List Happ
       ≡ b.memory.words (cell_place b.memory.layout (mutex_of c))
 
 -- it looks at the cell, and finds what it would have found before it announced; then memory is as it was; the first
--- entry of its list is the same from b on, up to its exchange, and behind that, where it loads it
+-- entry of its list is the same from b on, up to its exchange, and after that, where it loads it
 pub record LockLoadsFirst (b : Buffered) (t : ℕ) (c : Call) (others more : List Happening) : Type 0 where
   pub cell : finds (lock_announced b t c) t (cell_place b.memory.layout (mutex_of c))
       ≡ finds b t (cell_place b.memory.layout (mutex_of c))

@@ -58,8 +58,8 @@ reached l counters hs = run_buffered (start_buffered l counters) hs
 abbrev pub told : Layout' → (ℕ → ℕ) → List Happening → List Note
 told l counters hs = noted (start_buffered l counters) hs
 
--- what is told is what the machine without buffers tells of the same events, and memory, with all that waits, is its
--- state
+-- what is recorded is what the machine without buffers tells of the same events, and memory, with all that waits, is
+-- its state
 pub record RunsAsWithout (l : Layout') (counters : ℕ → ℕ) (hs : List Happening) : Type 0 where
   pub notes : told l counters hs ≡ notes (start l counters) (without_drains hs)
   pub state : settled (reached l counters hs) ≡ run (start l counters) (without_drains hs)
@@ -75,7 +75,7 @@ BuffersChangeNothing = (l : Layout') (counters : ℕ → ℕ) (hs : List Happeni
 abbrev pub AreSteps : ℕ → ℕ → List Happening → Type 0
 AreSteps t n hs = without_drains hs ≡ replicate n (Step t)
 
--- so many steps of thread t, run alone, n at most, take mutex m or wake one that sleeps on it
+-- this many steps of thread t, run alone, n at most, take mutex m or wake one that sleeps on it
 abbrev pub Owes : Buffered → ℕ → ℕ → ℕ → Type 0
 Owes b t m n = (k : ℕ) × (k ≤ n) × ((hs : List Happening) → AreSteps t k hs
     → ((seen (run_buffered b hs).memory m).owner ≡ Some t)
@@ -109,8 +109,8 @@ abbrev pub AreUndivided : Buffered → ℕ → Type 0
 AreUndivided b t = (c : Op) (n : ℕ) (hs : List Happening) → may_begin b.memory t c ≡ true
     → without_drains hs ≡ Begin t c ∷ replicate n (Step t) → IsUndivided b t c n hs
 
--- thread t is killed, and then this happens: its death is told, once, of each mutex that it owned and has lost since,
--- and of no other; once it is reaped, of each mutex that it owned
+-- thread t is killed, and then this happens: its death is recorded, once, of each mutex that it owned and has lost
+-- since, and of no other; once it is reaped, of each mutex that it owned
 pub record ReportsDeath (b : Buffered) (t : ℕ) (hs : List Happening) : Type 0 where
   pub owned : (m : ℕ) → m < b.memory.layout.mutexes → (seen b.memory m).owner ≡ Some t →
       ((deaths t m (facts_among (noted (next b (Happens (Kill t))) hs)) ≡ 1)
@@ -132,10 +132,10 @@ ReportsDeaths b hs = (before after rest : List Happening) (t : ℕ)
     → IsNotRenewed t (facts_among (noted (next (run_buffered b before) (Happens (Kill t))) after))
     → ReportsDeath (run_buffered b before) t after
 
--- the points and deaths that were told are a legal history, after which every mutex is as its cell in memory says; the
--- trace is explained; no reaped thread owns a mutex; nobody who sleeps on a mutex is stranded; who runs alone comes to
--- rest; undivided calls reply; deaths are told; no wait is passed by; and the next event is noted as what it is where
--- it applies, and else does nothing, to no buffer either
+-- the points and deaths that were recorded are a legal history, after which every mutex is as its cell in memory
+-- says; the trace is explained; no reaped thread owns a mutex; nobody who sleeps on a mutex is stranded; who runs
+-- alone comes to rest; undivided calls reply; deaths are recorded; no wait is passed by; and the next event is noted
+-- as what it is where it applies, and else does nothing, to no buffer either
 pub record PromisesHold (l : Layout') (counters : ℕ → ℕ) (hs : List Happening) : Type 0 where
   pub history : IsHistory (reached l counters hs).memory (told l counters hs)
   pub explained : IsExplained (without_drains hs) (told l counters hs)

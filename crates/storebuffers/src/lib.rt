@@ -6,14 +6,14 @@
 //! reaches memory. Between the events of `protocol` stores reach memory one by one, at any moment (`Happening`): so may
 //! all that waits before any other locked instruction, as on x86. The laws:
 //!
-//! - `buffers_change_nothing`: what is told is what the machine without buffers tells, and memory, with all that waits,
-//!   is its state. So whatever the laws of `protocol` say of notes and states holds with buffers too;
+//! - `buffers_change_nothing`: what is recorded is what the machine without buffers tells, and memory, with all that
+//!   waits, is its state. So whatever the laws of `protocol` say of notes and states holds with buffers too;
 //! - `promises_hold_with_buffers`: the headline again, of memory as it stands;
 //! - `buffers_drain`: a buffer can always be emptied, whatever others do;
 //! - `own_words_stay`: nobody else changes what a thread stores, so it may load that as early as it likes;
 //! - `loads_may_come_first`: so a lock, a trylock and an unlock may load all that they need before they store anything.
 //!
-//! Stands on `protocol`, for the machine, its laws and its invariant, on `mutex`, `condvar`, `robustlist` and
+//! Is on `protocol`, for the machine, its laws and its invariant, on `mutex`, `condvar`, `robustlist` and
 //! `exitwalk`, for the accesses of calls and walks, on `stepprograms`, `memorymap`, `posixmutex` and `lockword`, for
 //! accesses, places, histories and words, and on `facts`, for what notes tell.
 //!

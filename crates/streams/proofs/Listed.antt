@@ -3,7 +3,7 @@ use Rattle.std.proofs.Common.{◌≡◌, ℕ, zero, suc, ◌+◌, ◌<◌, lengt
 use Rattle.std.specs.Prelude.{slice_get, option_map}
 use Rattle.std.proofs.lemmas.List.{map-append, take_more}
 
--- so many items, and the next
+-- this many items, and the next
 take_next : {B : Type 0} (xs : List B) (i : ℕ) (x : B) → slice_get xs i ≡ Some x → take (suc i) xs ≡ take i xs ++ x ∷ []
 take_next [] i x is = absurd cc
 take_next (n ∷ xs) zero x is = let same : n ≡ x = cc in ap (λ z. z ∷ []) same
@@ -27,7 +27,7 @@ named_at f [] i y is = absurd cc
 named_at f (x ∷ xs) zero y is = is
 named_at f (x ∷ xs) (suc i) y is = named_at f xs i y is
 
--- what stands at a place
+-- what is at a place
 pub at_place : {A : Type 0} (xs : List A) (i : ℕ) (x : A) → i < length xs → x ≡ slice_index_or xs i x → slice_get xs i ≡ Some x
 at_place [] i x lt is = absurd (omega (arith, lt))
 at_place (y ∷ xs) zero x lt is = ap Some (sym is)

@@ -86,7 +86,7 @@ as_far f xs i d lt =
     let whole : texts f xs ≡ texts f (take (i + 1) xs) ++ texts f (drop (i + 1) xs) = ap (texts f) (sym (take-append-drop (i + 1) xs)) ∙ texts-append f (take (i + 1) xs) (drop (i + 1) xs) in
     whole ∙ rw (one_more f xs i d lt) (append_assoc (texts f (take i xs)) (f (get_or xs i d)) (texts f (drop (i + 1) xs)))
 
--- where one of them was written after those before it, so many are written
+-- where one of them was written after those before it, this many are written
 pub goes_on : {A : Type 0} (f : A → List ℕ) (xs : List A) (i : ℕ) (d : A) (a b c : Option (List ℕ)) → i < length xs → Appends a b (texts f (take i xs)) → Appends b c (f (get_or xs i d)) → Appends a c (texts f (take (i + 1) xs))
 goes_on f xs i d a b c lt before one = subst (Appends a c) (sym (one_more f xs i d lt)) (Appends-trans a b c _ _ before one)
 

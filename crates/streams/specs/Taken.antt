@@ -7,6 +7,6 @@ use Rattle.std.specs.Io.KnownBytes.{Consumes}
 abbrev pub part_bytes : ℕ
 part_bytes = 8192
 
--- at most so many bytes were taken from the reader
+-- at most this many bytes were taken from the reader
 abbrev pub TakesAtMost : ℕ → Option (List ℕ) → Option (List ℕ) → Type 0
 TakesAtMost limit had left = (bytes : List ℕ) × Consumes had left bytes × (length bytes ≤ limit)

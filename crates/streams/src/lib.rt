@@ -6,7 +6,7 @@
 //! holds a beginning of the text. An [`Opener`] opens files by their names, [`SystemFiles`] those of the system.
 //! [`lent`] and [`is_file`] are of the words of a command line, which [`system_words`] gives.
 //!
-//! Stands on no other crate of this repository, and on `itoa`, for numbers.
+//! Is on no other crate of this repository, and on `itoa`, for numbers.
 //!
 //! ```text
 //! /// Writes what the reader has, where that is at most so many bytes. False says that a beginning of it is written.

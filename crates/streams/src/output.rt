@@ -8,7 +8,7 @@ use std::io::{self, BufWriter, Write};
 
 /// A writer that may keep back what it is given, until it lets go of it.
 pub trait Output: Write {
-    /// It keeps nothing back.
+    /// Keeps nothing back.
     ghost is_let_go: { Self → Type 0 };
 
     /// Lets go of what was kept back.
@@ -17,7 +17,7 @@ pub trait Output: Write {
         ensures gone { OnOk result (is_let_go self.new) };
 }
 
-/// It keeps nothing back where its buffer is empty. What the writer below it does with the bytes then is in no contract
+/// Keeps nothing back where its buffer is empty. What the writer below it does with the bytes then is in no contract
 /// of the library.
 impl<W: Write + Drop> Output for BufWriter<W> {
     ghost is_let_go = { λ w. writer_buffer w ≡ [] };

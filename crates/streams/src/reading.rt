@@ -46,7 +46,7 @@ pub enum ReadFault {
     Failed,
 }
 
-/// A buffer of so many bytes, each 0.
+/// A buffer of this many bytes, each 0.
 fn zeros(alloc: Global, len: usize) -> Result<Vec<u8>, AllocError>
     requires { len ≤ part_bytes }
     ensures { IfOk result (λ v. vec_len v ≡ len) }

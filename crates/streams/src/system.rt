@@ -4,7 +4,7 @@ use crate::opening::Opener;
 use std::io::{self, Read};
 use std::{env, fs};
 
-/// The standard input's name among files. It is read as it stands, since opening it anew is refused where it is a
+/// The standard input's name among files. It is read as it stands, since opening it again is refused where it is a
 /// socket, or another user's pipe.
 const STANDARD_INPUT: &str = "/dev/stdin";
 

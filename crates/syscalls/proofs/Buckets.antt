@@ -40,7 +40,7 @@ queues_set bs i b f lt here there k = go (cases_eq (k % length bs) i)
     go (inl e) = queue_here bs i b k lt e ∙ here k ∙ ap (λ (j : ℕ). f k (queue (bucket_at bs j) k)) (sym e)
     go (inr ne) = queue_there bs i b k ne ∙ sym (there k ne)
 
--- who stands in a bucket stands in the queue of a key of that bucket
+-- who is in a bucket stands in the queue of a key of that bucket
 pub stands_home : (n : ℕ) (hs : List ℕ) (bs : List Sleepers) (i k t : ℕ) → HasBuckets (kernel n hs bs) → i < length bs → Contains (queue (bucket_at bs i) k) t → (k % length bs ≡ i) × Contains (queue_in bs k) t
 stands_home n hs bs i k t has lt c = go (cases_eq (k % length bs) i)
   where
@@ -52,7 +52,7 @@ stands_home n hs bs i k t has lt c = go (cases_eq (k % length bs) i)
 pub inside : (n : ℕ) (hs : List ℕ) (bs : List Sleepers) (k : ℕ) → HasBuckets (kernel n hs bs) → k % length bs < length bs
 inside n hs bs k has = let count = has.count in mod-lt k (omega arith)
 
--- who sleeps nowhere stands in no bucket
+-- who sleeps nowhere is in no bucket
 pub awake_nowhere : (n : ℕ) (hs : List ℕ) (bs : List Sleepers) (i t : ℕ) → HasBuckets (kernel n hs bs) → i < length bs → IsAwake (kernel n hs bs) t → StandsNowhere (bucket_at bs i) t
 awake_nowhere n hs bs i t has lt awake k c = awake k (stands_home n hs bs i k t has lt c).1
 

@@ -21,7 +21,7 @@ nobody_in : (ids : List ℕ) → ((t : ℕ) → ¬ Contains ids t) → ids ≡ [
 nobody_in [] h = refl
 nobody_in (t ∷ ids) h = absurd (h t (0, omega arith, refl))
 
--- ---- a bucket is replaced by one where those stand that stood there, and those that J says of a key and a thread
+-- ---- a bucket is replaced by one where those stand that was there, and those that J says of a key and a thread
 
 -- J says at most one thing of a thread: a key of bucket i; and only of threads that slept nowhere
 record Joins (n : ℕ) (hs : List ℕ) (bs : List Sleepers) (i : ℕ) (J : ℕ → ℕ → Type 0) : Type 0 where

@@ -45,7 +45,7 @@ changed n hs bs cs has c = record {
 
 -- ---- who stands after a move
 
--- those moved stood on the one key
+-- those moved was on the one key
 pub moved_from : (old new : Kernel') (from m to : ℕ) (moved : List ℕ) (t : ℕ) → Moves old new from m to moved → Contains moved t → Contains (take m (queue_of old from)) t
 moved_from old new from m to moved t e c = subst (λ (q : List ℕ). Contains q t) e.firsts c
 
@@ -56,7 +56,7 @@ came old new from m to moved is ne e k t c = go (cases_eq k from) (cases_eq k to
     stood : Contains moved t → Contains (queue_of old from) t
     stood moves = contains_take m (queue_of old from) t (moved_from old new from m to moved t e moves)
 
-    -- who stands on another key wasn't moved
+    -- who is on another key wasn't moved
     elsewhere : (j : ℕ) → j ≢ from → Contains (queue_of old j) t → ¬ Contains moved t
     elsewhere j other at moves = other (is.one_queue t j from at (stood moves))
 

@@ -1,4 +1,4 @@
--- The bucket that is told of each thread, in which it stands if it stands.
+-- The bucket that is recorded of each thread, in which it stands if it stands.
 use Rattle.std.proofs.Common.{◌≡◌, ◌≢◌, ℕ, ◌+◌, ◌-◌, ◌<◌, ◌≤◌, Bool, true, false, List, [], ◌∷◌, ◌++◌, length, set, take, drop, Option, Some, None, refl, sym, ap, ◌∙◌, subst, ◌⊎◌, inl, inr, arith, eqb-true}
 use Rattle.std.specs.Prelude.{◌%◌, ◌==◌, slice_get, get_or, All, Contains, if◌then◌else◌}
 use Rattle.std.proofs.Math.Seq.{take-append_seam}
@@ -13,7 +13,7 @@ use Rattle.syscalls.proofs.Buckets.{kernel, stands_home, inside}
 use Rattle.syscalls.proofs.Changes.{Sound, contains_drop, contains_without}
 use Rattle.syscalls.proofs.Moves.{came, moved_from}
 
--- ---- the one bucket that is told is asked
+-- ---- the one bucket that is recorded is asked
 
 abbrev number_in : Option ℕ → ℕ
 number_in None = 0
@@ -31,7 +31,7 @@ untold_nowhere told bs t stand is i lt k c = none-some i (sym is ∙ stand i k t
 pub told_read : (told : List ℕ) (i j number d : ℕ) → i ≡ j → i < length told → number ≡ get_or told j d → slice_get told i ≡ Some number
 told_read told i j number d same lt is = slice_get-get_or told i d lt ∙ ap Some (ap (λ (k : ℕ). get_or told k d) same ∙ sym is)
 
--- ---- one is told anew
+-- ---- one is recorded again
 
 told_same : (told : List ℕ) (i x : ℕ) → i < length told → slice_get (set told i x) i ≡ Some x
 told_same told i x lt = let len = length-set told i x in slice_get-get_or (set told i x) i 0 (omega arith) ∙ ap Some (get_or-set_same told i x 0 lt)
@@ -101,7 +101,7 @@ remembers_asleep n hs bs cs told t key i number s after long low high is at awak
     go k u true same c = either k u (eqb-true _ _ same) (Contains-push_cases (queue_in bs key) t u c)
     go k u false same c = stays k u c
 
--- threads are moved, and told anew where the bucket is another one
+-- threads are moved, and told again where the bucket is another one
 pub remembers_moved : (n : ℕ) (hs : List ℕ) (bs cs : List Sleepers) (told anew : List ℕ) (key m to : ℕ) (moved : List ℕ) → Sound n hs bs → Sound n hs cs → length cs ≡ length bs → key ≢ to → Moves (kernel n hs bs) (kernel n hs cs) key m to moved
     → ((t : ℕ) → Contains moved t → slice_get anew (t - 1) ≡ Some (to % length bs)) → ((t : ℕ) → 1 ≤ t → ¬ Contains moved t → slice_get anew (t - 1) ≡ slice_get told (t - 1)) → length anew ≡ length told
     → Remembers told n bs → Remembers anew n cs
@@ -124,7 +124,7 @@ moved_within n hs bs cs told key m to moved s after long ne one e r =
 pub remembers_nobody : (n : ℕ) (bs : List Sleepers) (told : List ℕ) → length told ≡ n → ((i k t : ℕ) → i < length bs → ¬ Contains (queue (bucket_at bs i) k) t) → Remembers told n bs
 remembers_nobody n bs told long nobody = record { long = long; stand = λ i k t lt c. absurd (nobody i k t lt c) }
 
--- ---- so many of these threads are told anew
+-- ---- this many of these threads are recorded again
 
 one_more : (ids : List ℕ) (i t : ℕ) → slice_get ids i ≡ Some t → take (i + 1) ids ≡ take i ids ++ t ∷ []
 one_more ids i t e = take_more ids i t (slice_get_within ids i t e) ∙ ap (λ (u : ℕ). take i ids ++ u ∷ []) (get_or_from_slice_get ids i t t e)

@@ -4,7 +4,7 @@
 -- other word stays, and so does every queue. EFAULT tells that the address is invalid, and then no word changes.
 --
 -- *Requeue.* The first of the one word's queue are woken, and then the first of the rest are moved to the end of the
--- other word's queue, in order, at most so many of each; every other queue and each head stays. Refused with EINVAL
+-- other word's queue, in order, at most this many of each; every other queue and each head stays. Refused with EINVAL
 -- where the addresses are equal, else with EFAULT where one is invalid, and, where it compares, else with EAGAIN where
 -- the low half of the first word isn't the expected value; then nothing is changed. That equal addresses are refused,
 -- that this comes first, and that both calls answer who was woken and who was moved, is the project's own. Source:
@@ -78,7 +78,7 @@ SetHeadAnswers len (Err r) = ⊥
 abbrev pub IsThread : Kernel' → ℕ → Type 0
 IsThread k id = (1 ≤ id) × (id ≤ k.threads)
 
--- a thread's head is told with its size, and ESRCH tells that no thread has the id
+-- a thread's head is recorded with its size, and ESRCH tells that no thread has the id
 abbrev pub GetHeadAnswers : Kernel' → ℕ → Result (ℕ × ℕ) Reply → Type 0
 GetHeadAnswers k id (Ok (head, len)) = IsThread k id × (head ≡ head_of k id) × (len ≡ head_size)
 GetHeadAnswers k id (Err ESRCH) = ¬ IsThread k id

@@ -12,8 +12,8 @@ use Rattle.lockword.specs.Threads.{most_threads}
 use Rattle.buckets.specs.BucketCount.{bucket_count}
 use Rattle.buckets.specs.Queues.{Sleepers, queue, without, IsOrderly}
 
--- hash buckets and heads for so many threads. What calls speak of is each key's queue, `queue_of`, and each thread's
--- head, `head_of`
+-- hash buckets and heads for this many threads. What calls speak of is each key's queue, `queue_of`, and each
+-- thread's head, `head_of`
 pub record Kernel' : Type 0 where
   pub threads : ℕ
   pub buckets : List Sleepers
@@ -70,17 +70,17 @@ pub record HasQueuesOf (k : Kernel') (i : ℕ) (b : Sleepers) : Type 0 where
   pub own : (key : ℕ) → key % bucket_count ≡ i → queue b key ≡ queue_of k key
   pub others : (key : ℕ) → key % bucket_count ≢ i → queue b key ≡ []
 
--- whoever stands in a bucket stands in that whose number is told of the thread
+-- whoever is in a bucket is in that whose number is recorded of the thread
 abbrev pub StandWhereTold : List ℕ → List Sleepers → Type 0
 StandWhereTold told buckets =
     (i key t : ℕ) → i < length buckets → Contains (queue (bucket_at buckets i) key) t → slice_get told (t - 1) ≡ Some i
 
--- the number of a bucket is told of each of so many threads, and whoever stands stands there
+-- the number of a bucket is recorded of each of this many threads, and whoever stands is there
 pub record Remembers (told : List ℕ) (threads : ℕ) (buckets : List Sleepers) : Type 0 where
   pub long : length told ≡ threads
   pub stand : StandWhereTold told buckets
 
--- nobody sleeps and each head is 0, of so many threads
+-- nobody sleeps and each head is 0, of this many threads
 pub record IsIdle (k : Kernel') (count : ℕ) : Type 0 where
   pub threads : k.threads ≡ count
   pub queues : (key : ℕ) → queue_of k key ≡ []
@@ -122,7 +122,7 @@ pub record Requeues (old new : Kernel') (from wake to moves : ℕ) (woken moved 
   pub threads : new.threads ≡ old.threads
   pub heads : new.heads ≡ old.heads
 
--- the thread was taken out of the queue it stood in, if it stood, and everybody else and each head stays
+-- the thread was taken out of the queue it was in, if it stood, and everybody else and each head stays
 pub record Leaves (old new : Kernel') (thread : ℕ) (slept : Bool) : Type 0 where
   pub answer : MatchBool slept (IsAsleep old thread) (IsAwake old thread)
   pub queues : (k : ℕ) → queue_of new k ≡ without thread (queue_of old k)

@@ -18,7 +18,7 @@ use memorymap::{HEAD_SIZE, Key, NoMem, bucket_of, key_of};
 use std::alloc::{AllocError, Global};
 use std::marker::Model;
 
-/// Who sleeps on which word, of threads whose ids go from 1 to a number (futex(2), shared futexes), and where each
+/// Which threads sleep on which word, of threads whose ids go from 1 to a number (futex(2), shared futexes), and where each
 /// one's robust list begins (get_robust_list(2)).
 ///
 /// A word is known by its place: whatever addresses it has for the processes of those who sleep on it, they meet.
@@ -27,7 +27,7 @@ pub struct Kernel {
     threads: u8,
     buckets: Vec<Bucket>,
     /// The number of the bucket in which each thread last came to stand, 0 before it first slept: a thread that sleeps
-    /// stands there.
+    /// is there.
     stood_in: Vec<u8>,
     heads: Vec<u64>,
 }
@@ -62,7 +62,7 @@ impl Clone for Kernel {
     }
 }
 
-/// Buckets where nobody sleeps, each with room for so many.
+/// Buckets where nobody sleeps, each with room for this many.
 fn empty_buckets(alloc: Global, capacity: usize) -> Result<Vec<Bucket>, NoMem>
     requires first { 1 ≤ capacity }
     requires last { capacity ≤ most_threads }
@@ -77,7 +77,7 @@ fn empty_buckets(alloc: Global, capacity: usize) -> Result<Vec<Bucket>, NoMem>
     Ok(buckets)
 }
 
-/// The number of the bucket that the thread stands in; None where it stands in none. Only the one in which it last came
+/// The number of the bucket that the thread is in; None where it stands in none. Only the one in which it last came
 /// to stand is asked.
 fn bucket_with(buckets: &[Bucket], stood_in: &[u8], thread: Tid) -> Option<usize>
     requires many { length buckets.now ≡ bucket_count }
@@ -332,7 +332,7 @@ impl Kernel {
         self.buckets[bucket_of(key, self.buckets.len())].count(key) != 0
     }
 
-    /// Takes a thread out of the queue that it stands in, as its death does. False where it stood in none.
+    /// Takes a thread out of the queue that it is in, as its death does. False where it was in none.
     pub fn remove(&mut self, thread: Tid) -> bool
         ensures changes { Leaves self.old self.new thread result }
         ensures sound { IsKernel self.new }
@@ -351,7 +351,7 @@ impl Kernel {
         bucket_with(&self.buckets, &self.stood_in, thread).is_some()
     }
 
-    /// Who sleeps on the word at a place, in the order in which they are to be woken.
+    /// Which threads sleep on the word at a place, in the order in which they are to be woken.
     pub fn sleepers(&self, at: u64) -> Batch
         ensures value { result ≡ queue_of self.now at }
         ensures sound { IsKernel self.now }
@@ -389,7 +389,7 @@ impl Kernel {
 
     /// The address of a thread's robust list head, 0 before it set one, and 24, the size of a head in bytes
     /// (get_robust_list(2)). Refused with ESRCH where no thread has the id. Id 0 doesn't stand for the caller here: it
-    /// is no thread and answers ESRCH.
+    /// is no thread and returns ESRCH.
     pub fn get_robust_list(&self, id: u8) -> Result<(u64, u64), Reply>
         ensures answer { GetHeadAnswers self.now id result }
         ensures sound { IsKernel self.now }

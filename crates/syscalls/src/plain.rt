@@ -32,7 +32,7 @@ impl Clone for PlainMemory {
 }
 
 impl PlainMemory {
-    /// So many words, all of them 0.
+    /// This many words, all of them 0.
     pub fn new(alloc: Global, count: usize) -> Result<PlainMemory, NoMem>
         ensures { IfOk result (λ m. m ≡ replicate count 0) }
     {

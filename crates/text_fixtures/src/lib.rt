@@ -1,7 +1,7 @@
 //! What tests of the programs share: writers that hold little, are slow or fail, readers that are slow or fail, the
-//! files of a folder that is only played, and what a program answered.
+//! files of a directory that is only played, and what a program answered.
 //!
-//! It stands on `streams`. Its functions promise nothing but that they may be called: what comes of them the tests
+//! It is on `streams`. Its functions promise nothing but that they may be called: what comes of them the tests
 //! compare. So a writer that holds five bytes, and then fails:
 //!
 //! ```text

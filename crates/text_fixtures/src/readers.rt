@@ -2,7 +2,8 @@
 
 use std::io::{self, ErrorKind, Read};
 
-/// Gives one byte at a call, and is interrupted before it gives the next one. It fails at its end if it is told to.
+/// Gives one byte at a call, and is interrupted before it gives the next one. It fails at its end if it is told to
+/// to.
 #[derive(Drop)]
 pub struct Slow<'a> {
     pub left: &'a [u8],
@@ -36,7 +37,7 @@ pub fn slow_reader(bytes: &[u8], fails: bool) -> Slow<'_> {
     }
 }
 
-/// Is interrupted so many times before it gives its first byte.
+/// Is interrupted this many times before it gives its first byte.
 pub fn late_reader(bytes: &[u8], interruptions: u32) -> Slow<'_> {
     Slow {
         left: bytes,

@@ -38,7 +38,7 @@ impl Faulty {
         }
     }
 
-    /// Has room for all, and is interrupted so many times before it takes its first bytes.
+    /// Has room for all, and is interrupted this many times before it takes its first bytes.
     pub fn late(alloc: Global, interruptions: u32) -> Faulty {
         Faulty {
             interruptions,

@@ -87,7 +87,8 @@ impl Draft {
         self.tell_doom(Fact::Kill(Tid::new(id)?))
     }
 
-    /// Two threads lock and unlock the mutex in turn, so many times each; each lock begins while the other one has it.
+    /// Two threads lock and unlock the mutex in turn, this many times each; each lock begins while the other one has
+    /// it.
     fn storm(&mut self, pairs: usize) -> Option<()> {
         self.begin(1, Operation::Lock, 0)?;
         for _ in 0..pairs {
@@ -228,7 +229,7 @@ fn join(
     None
 }
 
-/// Whether just these steps' lines are told, in their order.
+/// Whether just these steps' lines are recorded, in their order.
 fn tells(joined: &Joined, steps: &[Entry]) -> bool {
     let mut at: usize = 0;
     for step in steps {

@@ -1,4 +1,4 @@
-//! A script that is played, and refused memory. How many events others run stands in cases/events.
+//! A script that is played, and refused memory. How many events others run is in cases/events.
 
 use crate::faults::{Refused, is_or_wants_memory, read};
 use interleave::{Machine, Trace};

@@ -14,7 +14,7 @@ pub struct Heard {
     pub lines: Vec<HistoryLine>,
 }
 
-/// The lines behind the first, up to the `end` line; None where one is none, or no memory is left.
+/// The lines after the first, up to the `end` line; None where one is none, or no memory is left.
 fn lines_in(alloc: Global, head: &Head, text: &str) -> Option<Vec<HistoryLine>>
     requires { IsHead head.now }
 {

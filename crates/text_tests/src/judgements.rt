@@ -11,7 +11,7 @@ use std::alloc::Global;
 /// What a history is found to be.
 #[derive(Clone, Copy, PartialEq, Eq)]
 enum Found {
-    /// With so many points.
+    /// With this many points.
     Legal(usize),
     /// At this line of the text.
     Illegal(u64, Reason),
@@ -115,7 +115,7 @@ static CASES: [Case; 28] = [
             },
         ),
     },
-    // a wait without a limit is never out of time, nor one that is refused; a dead owner is told first
+    // a wait without a limit is never out of time, nor one that is refused; a dead owner is recorded first
     Case {
         text: "history 3 2 1\n1 begin t1 lock m0\n2 return t1 OK\n3 begin t1 wait c0 m0\n4 return t1 ETIMEDOUT\nend 4\n",
         found: Found::Illegal(

@@ -1,7 +1,7 @@
 //! Tests of how scripts, traces and histories are read, played and judged, by public calls alone: what no program prints.
-//! What the programs print stands in cases/, and is compared by checks/answers.
+//! What the programs print is in cases/, and is compared by checks/answers.
 //!
-//! They stand above the crates that they test, since a crate with tests of its own is proved a second time for them,
+//! They are above the crates that they test, since a crate with tests of its own is proved a second time for them,
 //! and that takes longer than its proof.
 #![tactic(auto)]
 

@@ -10,8 +10,8 @@ use std::process::Abort;
 use std::test::Fail;
 use verdict::{Fault, Finding, Misfit, TraceFault, TraceMisfit, Verdict, check, explain};
 
-/// Why a line doesn't fit, how that is told behind the line's number, and the smallest traces with such a line: their
-/// lines behind the first, and which line is the first that doesn't fit.
+/// Why a line doesn't fit, how that is recorded after the line's number, and the smallest traces with such a line:
+/// their lines after the first, and which line is the first that doesn't fit.
 #[derive(Clone, Copy)]
 struct Reason {
     misfit: Misfit,
@@ -33,7 +33,7 @@ const WAIT: Begun = Begun {
     condition: Some(0),
 };
 
-/// Of a mutex of which nothing was told.
+/// About a mutex of which nothing was recorded.
 const UNTOUCHED: Object = Object {
     owner: None,
     inconsistent: false,
@@ -50,7 +50,7 @@ const UNUSABLE: Object = Object {
     ..UNTOUCHED
 };
 
-/// By the numbers of events.
+/// Indexed by the numbers of events.
 const OF_EVENTS: [Reason; 5] = [
     Reason {
         misfit: Misfit::EventFalls { latest: 2 },
@@ -86,7 +86,7 @@ const OF_EVENTS: [Reason; 5] = [
     },
 ];
 
-/// By what was told of the thread.
+/// By what was recorded of the thread.
 const OF_THREADS: [Reason; 8] = [
     Reason {
         misfit: Misfit::InCall { call: LOCK },
@@ -180,7 +180,7 @@ const OF_CALLS: [Reason; 9] = [
         text: "a call of wait has no such point",
         traces: &[("1 begin t1 wait c0 m0\n2 point t1 m0 lock OK\nend 2", 3)],
     },
-    // With a time limit it is told as a wait.
+    // With a time limit it is recorded as a wait.
     Reason {
         misfit: Misfit::OtherOperation {
             operation: Operation::TimedWait,
@@ -245,7 +245,7 @@ const OF_CALLS: [Reason; 9] = [
     },
 ];
 
-/// By the mutexes, which nobody owns.
+/// Indexed by the mutexes, which nobody owns.
 const OF_MUTEXES: [Reason; 9] = [
     Reason {
         misfit: Misfit::NotAllowed {
@@ -277,7 +277,7 @@ const OF_MUTEXES: [Reason; 9] = [
             13,
         )],
     },
-    // Only an unusable one is made anew.
+    // Only an unusable one is reinitialised.
     Reason {
         misfit: Misfit::NotAllowed {
             object: UNTOUCHED,
@@ -291,7 +291,7 @@ const OF_MUTEXES: [Reason; 9] = [
         text: "the thread doesn't own the mutex: nobody owns it",
         traces: &[("1 kill t1\n2 death t1 m0\nend 2", 3)],
     },
-    // It has no owner, or is the thread's own; and another thread owned it, but before the call.
+    // The mutex has no owner, or is the thread's own; and another thread owned it, but before the call.
     Reason {
         misfit: Misfit::TooEarly { began: 1 },
         text: "no other thread owned the mutex since event 1, in which the call began",
@@ -353,7 +353,7 @@ fn is_found(alloc: Global, trace: &str, line: usize, reason: &Reason) -> bool {
         && checked == Ok(Verdict::Illegal { line })
 }
 
-/// Whether this is told of the misfit behind the number of its line.
+/// Whether this is recorded of the misfit after the number of its line.
 fn is_told(alloc: Global, misfit: TraceMisfit, text: &str) -> Result<bool, AllocError> {
     let line = misfit.line;
     let told = format!(in alloc; "{misfit}")?;
@@ -393,7 +393,7 @@ fn reasons(rt: HostRuntime) {
     all_hold(&rt, first_wrong(rt.alloc(), &OF_MUTEXES));
 }
 
-/// Of a mutex that the thread owns.
+/// About a mutex that the thread owns.
 fn owned_by(thread: Tid) -> Object {
     Object {
         owner: Some(thread),

@@ -67,7 +67,7 @@ fn asks_for(alloc: Global, text: &str, mode: Mode, want: &[&[Calls]]) -> bool {
     }
 }
 
-/// Stands in front of commands of three threads.
+/// Is in front of commands of three threads.
 const THREE_THREADS: &str = "thread a\nthread b\nthread c\nmutex m\ncond q m 0\ncond r m 7\n";
 
 /// The commands of three threads, and the phases that they ask for.

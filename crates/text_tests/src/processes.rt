@@ -59,7 +59,7 @@ fn has_words(machine: &Machine, words: [u64; 5]) -> bool {
         && machine.word(9) == Some(previous)
 }
 
-/// Whether the machine that is left by these commands, behind two processes with a thread each, has these words.
+/// Whether the machine that is left by these commands, after two processes with a thread each, has these words.
 fn leaves(alloc: Global, commands: &str, words: [u64; 5]) -> bool {
     let declared = "process p 1000\nprocess q 2000\nthread a p\nthread b q\nmutex m\n";
     let Ok(text) = joined(alloc, declared, commands, "") else {

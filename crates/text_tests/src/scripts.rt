@@ -1,4 +1,4 @@
-//! What scripts declare and command, and the texts of faults. Which scripts are refused stands in cases/scripts.
+//! What scripts declare and command, and the texts of faults. Which scripts are refused is in cases/scripts.
 
 use crate::built::joined;
 use crate::faults::{Refused, is_or_wants_memory, read};

@@ -1,4 +1,4 @@
-//! The texts of faults of traces. Which traces are refused stands in cases/traces.
+//! The texts of faults of traces. Which traces are refused is in cases/traces.
 
 use Fault::{Cut, NotUtf8, OutOfMemory, OutOfRange, TooLong, UnknownWord};
 use std::alloc::{AllocError, Global};

@@ -1,4 +1,4 @@
-//! Traces of many mutexes, and one that is judged where memory is refused. What others are answered stands in
+//! Traces of many mutexes, and one that is judged where memory is refused. What others are answered is in
 //! cases/traces.
 
 use std::alloc::{AllocError, Global};
@@ -8,7 +8,7 @@ use verdict::{Verdict, check};
 /// What is answered to a trace.
 #[derive(Clone, Copy, Debug, PartialEq, Eq)]
 enum Answer {
-    /// With so many points.
+    /// With this many points.
     Legal(usize),
     /// At this line.
     Illegal(usize),
@@ -30,7 +30,7 @@ fn answered(alloc: Global, bytes: &[u8]) -> Answer {
 const LOCK_AND_UNLOCK: &str =
     "trace 1 1 0\n1 begin t1 lock m0\n4 point t1 m0 lock OK\n9 return t1 OK\n10 begin t1 unlock m0\n16 point t1 m0 unlock OK\n17 return t1 OK\nend 17\n";
 
-/// Passes too where any one allocation fails: the answer is then want of memory at line 1.
+/// Passes too where any one allocation fails: the answer is then lack of memory at line 1.
 #[test]
 fn memory_is_wanted_at_line_1(rt: HostRuntime) {
     let answer = answered(rt.alloc(), LOCK_AND_UNLOCK.as_bytes());
@@ -46,7 +46,7 @@ fn push_lock(text: &mut String, alloc: Global, mutex: u32) -> Result<(), AllocEr
     text.push_str(call.as_str())
 }
 
-/// Thread 1 takes so many mutexes, one after the other, and then asks for one more, which is answered so.
+/// Thread 1 takes this many mutexes, one after the other, and then asks for one more, which is answered so.
 pub fn taken_and_one_more(alloc: Global, held: u32, reply: &str) -> Result<String, AllocError> {
     let mut text = String::from_str(alloc, "trace 1 4096 0\n")?;
     for mutex in 0..held {

@@ -13,7 +13,7 @@ use Rattle.script.specs.Scope.{Scope}
 use Rattle.texts.specs.Tables.{name_in, name_of, comma_name, others_names, queue_names, condition_name}
 use Rattle.streams.proofs.Writers.{texts, goes_on, stops_at}
 
--- where an item was written after those before it, so many are written
+-- where an item was written after those before it, this many are written
 pub item_goes_on : {A : Type 0} (f : A → List ℕ) (xs : List A) (i : ℕ) (x : A) (a b c : Option (List ℕ)) → slice_get xs i ≡ Some x → Appends a b (texts f (take i xs)) → Appends b c (f x) → Appends a c (texts f (take (i + 1) xs))
 item_goes_on f xs i x a b c is before one = goes_on f xs i x a b c (slice_get_within xs i x is) before (subst (λ y. Appends b c (f y)) (sym (get_or_from_slice_get xs i x x is)) one)
 
@@ -21,12 +21,12 @@ item_goes_on f xs i x a b c is before one = goes_on f xs i x a b c (slice_get_wi
 pub item_stops : {A X E : Type 0} (f : A → List ℕ) (xs : List A) (i : ℕ) (x : A) (a b c : Option (List ℕ)) (r : Result X E) → slice_get xs i ≡ Some x → IsErr r → Appends a b (texts f (take i xs)) → AppendsFront b c (f x) → Leaves a c r (texts f xs)
 item_stops f xs i x a b c r is err before one = stops_at f xs i x a b c r (slice_get_within xs i x is) err before (subst (λ y. AppendsFront b c (f y)) (sym (get_or_from_slice_get xs i x x is)) one)
 
--- the items behind the first
+-- the items after the first
 pub behind_first : (xs : List ℕ) (i : ℕ) (x : ℕ) → slice_get xs (suc i) ≡ Some x → slice_get (drop 1 xs) i ≡ Some x
 behind_first [] i x is = absurd (cc is)
 behind_first (y ∷ xs) i x is = is
 
--- names behind commas, as a join has them
+-- names after commas, as a join has them
 pub comma_names : (names : List (List ℕ)) (ts : List ℕ) → flat_map (λ y. codes "," ++ name_of names y) ts ≡ concat (map (comma_name names) ts)
 comma_names names [] = refl
 comma_names names (t ∷ ts) = (λ i. (codes "," ++ sym (append-nil (name_of names t)) i) ++ comma_names names ts i)
@@ -75,7 +75,7 @@ queue_starts names (u ∷ us) t is =
     let named : name_of names u ≡ concat (name_of names t ∷ []) = ap (name_of names) same ∙ sym (append-nil (name_of names t)) in
     (λ i. named i ++ comma_names names us i)
 
--- where the line of a number was written after those before it, so many are written
+-- where the line of a number was written after those before it, this many are written
 pub number_goes_on : (f : ℕ → List ℕ) (first n i x : ℕ) (a b c : Option (List ℕ)) → i < n → x ≡ first + i → Appends a b (texts f (take i (range_with_len first n))) → Appends b c (f x) → Appends a c (texts f (take (i + 1) (range_with_len first n)))
 number_goes_on f first n i x a b c lt is before one =
     let long = length-range_with_len first n in

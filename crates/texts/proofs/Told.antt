@@ -1,4 +1,4 @@
--- The replies that a thread was told.
+-- The replies that a thread got.
 use Rattle.std.proofs.Common.{◌≡◌, ℕ, ◌<◌, List, [], ◌∷◌, ◌++◌, map, take, length, get_or, Option, Some, None, refl, sym, ap, ◌∙◌, append_assoc, append-nil, ◌+◌}
 use Rattle.std.specs.Prelude.{Bool, true, false, option_to_list}
 use Rattle.std.specs.Option.{option_or}

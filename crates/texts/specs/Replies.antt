@@ -32,7 +32,7 @@ abbrev pub name_in : Option ThreadReplies → List ℕ
 name_in None = codes "-"
 name_in (Some t) = t.name.now
 
--- the name of the thread with this id, from 1; 0 and an id that no thread has are told by a hyphen
+-- the name of the thread with this id, from 1; 0 and an id that no thread has are shown as a hyphen
 abbrev pub owner_name : List ThreadReplies → ℕ → List ℕ
 owner_name threads zero = codes "-"
 owner_name threads (suc i) = name_in (slice_get threads i)

@@ -25,7 +25,7 @@ abbrev pub name_in : Option (List ℕ) → List ℕ
 name_in None = codes "-"
 name_in (Some name) = name
 
--- the name of the thread with this id, from 1; an id that no thread has is told by a hyphen
+-- the name of the thread with this id, from 1; an id that no thread has is shown as a hyphen
 abbrev pub name_of : List (List ℕ) → ℕ → List ℕ
 name_of names zero = codes "-"
 name_of names (suc i) = name_in (slice_get names i)
@@ -80,7 +80,7 @@ abbrev pub queue_names : List (List ℕ) → List ℕ → List ℕ
 queue_names names [] = codes "-"
 queue_names names (t ∷ ts) = join_by (name_of names) (codes ",") (t ∷ ts)
 
--- the names behind the first, each after a comma
+-- the names after the first, each after a comma
 abbrev pub comma_name : List (List ℕ) → ℕ → List ℕ
 comma_name names t = concat (codes "," ∷ name_of names t ∷ [])
 

@@ -76,7 +76,7 @@ return_line i t r = concat (decimal i ∷ codes " return t" ∷ decimal t ∷ co
 abbrev pub kill_line : ℕ → ℕ → List ℕ
 kill_line i t = concat (decimal i ∷ codes " kill t" ∷ decimal t ∷ codes "\n" ∷ [])
 
--- i death tT mM: the thread's death was told of the mutex
+-- i death tT mM: the thread's death was recorded of the mutex
 abbrev pub death_line : ℕ → ℕ → ℕ → List ℕ
 death_line i t m = concat (decimal i ∷ codes " death t" ∷ decimal t ∷ codes " m" ∷ decimal m ∷ codes "\n" ∷ [])
 
@@ -84,7 +84,7 @@ death_line i t m = concat (decimal i ∷ codes " death t" ∷ decimal t ∷ code
 abbrev pub reaped_line : ℕ → ℕ → List ℕ
 reaped_line i t = concat (decimal i ∷ codes " reaped t" ∷ decimal t ∷ codes "\n" ∷ [])
 
--- i renew tT: the thread lives anew
+-- i renew tT: the thread lives again
 abbrev pub renew_line : ℕ → ℕ → List ℕ
 renew_line i t = concat (decimal i ∷ codes " renew t" ∷ decimal t ∷ codes "\n" ∷ [])
 

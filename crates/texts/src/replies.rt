@@ -18,7 +18,7 @@ pub struct ThreadReplies<'a> {
     pub name: &'a str,
     /// The replies of its calls, in their order.
     pub replies: &'a [Reply],
-    /// It died, and made no further call.
+    /// The thread died, and made no further call.
     pub died: bool,
 }
 

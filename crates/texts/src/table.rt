@@ -142,7 +142,7 @@ fn owner_word(script: &Script, owner: Option<Tid>) -> &str
     }
 }
 
-/// The names of a queue's threads behind the first, with a comma before each.
+/// The names of a queue's threads after the first, with a comma before each.
 fn write_others<W: Write>(out: &mut W, script: &Script, queue: &Batch) -> io::Result<()>
     ensures { Leaves (W.contents out.old) (W.contents out.new) result (others_names script.now.threads queue.now) }
 {

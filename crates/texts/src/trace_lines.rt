@@ -52,7 +52,7 @@ fn write_alone<W: Write>(out: &mut W, event: usize, what: &str, thread: Tid) -> 
     )
 }
 
-/// `i WHAT tT mM`, or `cC` in place of `mM`: what befell the thread at a mutex or a condition variable. `what` ends
+/// `i WHAT tT mM`, or `cC` instead of `mM`: what befell the thread at a mutex or a condition variable. `what` ends
 /// with the `t`, `of` with the `m` or the `c`.
 fn write_at<'a, W: Write>(
     out: &mut W,

@@ -1,7 +1,7 @@
-//! What tests of a bench share: a team of threads, calls that are told by their replies, steps that are played by
+//! What tests of a bench share: a team of threads, calls that are known by their replies, steps that are played by
 //! turns, a fate that counts, and waiting for one another.
 //!
-//! It stands on `threadbench`. Its contracts say what tests need to go on: that passes are passes of the bench still,
+//! It is on `threadbench`. Its contracts say what tests need to go on: that passes are passes of the bench still,
 //! of threads that are in no call. Here each is proved once, and tests that call it see no more than that of what the
 //! bench promises:
 //!

@@ -26,7 +26,7 @@ fn told<R: Wait>(rt: &R, bench: &Bench, outcome: Outcome) -> Option<(Pass<Live>,
     }
 }
 
-/// Makes a call, and tells its reply. None where its thread died in it, whose list is walked then. It is told EINVAL,
+/// Makes a call, and tells its reply. None where its thread died in it, whose list is walked then. It gets EINVAL,
 /// unmade, on what the bench hasn't.
 pub fn makes<R: Wait, F: Fate>(
     rt: &R,

@@ -43,7 +43,7 @@ struct Four {
     fourth: Option<Pass<Live>>,
 }
 
-/// What a thread is told, if it lives. Its pass is gone where it dies.
+/// What a thread gets, if it lives. Its pass is gone where it dies.
 fn told<R: Wait>(rt: &R, bench: &Bench, pass: &mut Option<Pass<Live>>, op: Op) -> Option<Reply>
     requires { IfSome pass.old (λ p. IsLive bench.now p) }
     ensures { IfSome pass.new (λ p. IsLive bench.now p) }
@@ -88,7 +88,7 @@ fn goes<R: Wait>(rt: &R, bench: &Bench, four: &mut Four, step: Step) -> bool
     }
 }
 
-/// Plays steps with a team of such a bench, one after the other: what is left then, if each call was told what stands
+/// Plays steps with a team of such a bench, one after the other: what is left then, if each call got what is
 /// in its step.
 pub fn plays<R: Wait>(
     rt: &R,

@@ -29,7 +29,7 @@ pub fn last_of(_words: &Words, passes: &mut Vec<Pass<Live>>) -> Pass<Live>
 }
 
 /// A bench of a layout of five threads or more, whose counters begin so, one preset for each of its condition
-/// variables; and its last five threads, by their ids. It is refused as for want of memory where there are fewer
+/// variables; and its last five threads, by their ids. It is refused as when memory runs out where there are fewer
 /// threads, or not as many presets.
 pub fn team(alloc: Global, layout: Layout, presets: &[u32]) -> Result<Team, NoMem>
     ensures first { IfOk result (λ t. IsLive t.0 t.1) }

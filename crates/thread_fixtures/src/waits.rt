@@ -51,7 +51,7 @@ pub fn are_asleep<R: Wait>(rt: &R, bench: &Bench, threads: &[u8]) -> bool {
         .all(|thread| bench.sleeps(rt, *thread) == Ok(true))
 }
 
-/// Kills all threads, so that a test in which one sleeps for good ends. Where all went well it kills nobody.
+/// Kills all threads, so that a test in which one sleeps forever ends. Where all went well it kills nobody.
 pub fn ends_unless<R: Wait>(rt: &R, bench: &Bench, well: bool) -> bool {
     if !well {
         for thread in 1..=bench.words().layout().threads() {

@@ -15,7 +15,7 @@ use thread_fixtures::{Asked, Left, makes, team};
 #[derive(Clone, Copy, PartialEq, Eq)]
 struct Story {
     reply: Option<Reply>,
-    /// So often its fate was asked.
+    /// How often its fate was asked.
     asked: u64,
     cell: u64,
     counter: u64,

@@ -17,7 +17,7 @@ fn as_owner(call: CondCall) -> [Op; 3] {
 }
 
 /// Thread 1 waits on the condition variable as the mutex's owner, and thread 2 makes the call on it as the next one.
-/// Whether all was answered OK, and the call counted once.
+/// Whether all was returned OK, and the call counted once.
 fn wakes<R: Threads + Wait + Sync>(rt: &R, alloc: Global, call: CondCall) -> Result<bool, Fail> {
     let waits = as_owner(CondCall::Wait(0));
     let calls = as_owner(call);

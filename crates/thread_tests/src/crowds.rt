@@ -1,4 +1,4 @@
-//! Many threads, whose mutexes' sleepers all stand in one bucket: so a section often waits for the bucket's lock, and
+//! Many threads, whose mutexes' sleepers all are in one bucket: so a section often waits for the bucket's lock, and
 //! what it saw before it had that is old.
 ghost use Rattle.std.specs.Prelude.{true, All, IfOk};
 ghost use Rattle.condvar.specs.Ops.{is_in};
@@ -15,7 +15,7 @@ use std::alloc::Global;
 use std::test::Fail;
 use threadbench::{Bench, Job, Open, Record, WorkerPass};
 
-/// How many mutexes there are between two whose sleepers stand in one bucket.
+/// How many mutexes there are between two whose sleepers are in one bucket.
 const APART: u16 = 256;
 
 /// How many pairs of threads there are, each with a mutex of its own.
@@ -63,13 +63,13 @@ fn jobs_in_pairs(alloc: Global, bench: &Bench, passes: Vec<Pass<Live>>) -> Resul
     Ok(jobs)
 }
 
-/// Whether a worker was told OK of all its calls.
+/// Whether a worker got OK of all its calls.
 fn is_well(record: &Record) -> bool {
     record.replies.len() == 2 * ROUNDS && record.replies.iter().all(|reply| *reply == OK)
 }
 
 /// Where a thread fell asleep by a word that it had loaded before it had the bucket's lock, its partner would have
-/// woken nobody in between, and it would sleep for good.
+/// woken nobody in between, and it would sleep forever.
 #[test]
 fn pairs_in_one_bucket_lose_nobody(rt: HostRuntime) -> Result<(), Fail> {
     let layout = Layout::new(2 * PAIRS, u16::from(PAIRS - 1) * APART + 1, &[])?;

@@ -20,12 +20,12 @@ use threadbench::{Bench, Gate, Open, WorkerCall, WorkerPass};
 /// number.
 #[derive(Clone, Copy, PartialEq, Eq)]
 struct Story {
-    /// How many calls were told OK in each phase.
+    /// How many calls got OK in each phase.
     told: [usize; 2],
     dead: bool,
     /// What its number has left.
     left: Option<u32>,
-    /// What another thread's trylock is told afterwards.
+    /// What another thread's trylock returns afterwards.
     next: Option<Reply>,
     cell: u64,
 }
@@ -120,7 +120,7 @@ pub(crate) fn dies_at<R: Threads + Wait + Sync, G: Gate + Sync>(
     Ok((first.replies.len(), first.die))
 }
 
-/// A gate is told of each call that was answered, and of the one in which its thread died.
+/// A gate learns of each call that was answered, and of the one in which its thread died.
 #[test]
 fn a_gate_is_told_of_a_death(rt: HostRuntime) -> Result<(), Fail> {
     let calls = [OnMutex(Lock(0)), OnMutex(Unlock(0)), OnMutex(Lock(0))];

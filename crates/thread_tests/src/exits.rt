@@ -57,7 +57,7 @@ fn walk(words: &Words, pass: Pass<Dead>) -> Option<(Pass<Reaped>, u32)>
 struct Story {
     /// How many accesses its walk made.
     accesses: u32,
-    /// Whether all calls were told what they should be.
+    /// Whether all calls got what they should be.
     well: bool,
     cells: [u64; CELLS],
 }

@@ -89,9 +89,9 @@ struct Case {
     call: Call,
     /// How many accesses it makes; its fate was asked before each.
     accesses: u32,
-    /// What it is told after them.
+    /// What it gets after them.
     reply: Reply,
-    /// The thread owns the mutex before this access, and those behind it..
+    /// The thread owns the mutex before this access, and those after it..
     owns_from: u32,
     /// ..up to this one.
     owns_until: u32,
@@ -144,7 +144,7 @@ const TRYLOCK: Case = Case {
     other: 0,
 };
 
-/// It loads the cell, announces the mutex, takes it out of the list by 3, and flips the cell.
+/// Loads the cell, announces the mutex, takes it out of the list by 3, and flips the cell.
 const RELEASE: Case = Case {
     before: &[TryLock(0)],
     call: Unlock(0),
@@ -173,7 +173,7 @@ static CASES: [Case; 5] = [
         ..TRYLOCK
     },
     RELEASE,
-    // it takes the mutex out of the list, where another one stands behind it, by 4
+    // it takes the mutex out of the list, where another one stands after it, by 4
     Case {
         before: &[TryLock(1), TryLock(0)],
         accesses: 7,

@@ -99,7 +99,7 @@ fn the_second_worker_follows(rt: HostRuntime) -> Result<(), Fail> {
     Ok(())
 }
 
-/// What comes behind the lock of thread 1 waits until the call of thread 2 was answered, and that call until the lock
+/// What comes after the lock of thread 1 waits until the call of thread 2 was answered, and that call until the lock
 /// was.
 #[derive(Drop)]
 struct Between {
@@ -153,7 +153,7 @@ impl Gate for Refuses {
     fn after(&self, _thread: Tid, _call: WorkerCall) {}
 }
 
-/// All threads of a bench make these calls under this gate: how many threads were told so many replies.
+/// All threads of a bench make these calls under this gate: how many threads were told this many replies.
 fn all_work<R: Threads + Wait + Sync, G: Gate + Sync>(
     rt: &R,
     alloc: Global,
@@ -250,7 +250,7 @@ impl<R: Wait + Clock> Gate for OwnerLast<'_, R> {
     fn after(&self, _thread: Tid, _call: WorkerCall) {}
 }
 
-/// These jobs, and the owner's behind them.
+/// These jobs, and the owner's after them.
 fn with_owner(jobs: Vec<Job>, bench: &Bench, owner: Job) -> Result<Vec<Job>, NoMem>
     requires jobs { All (λ j. IsJobOf bench.now j) jobs.items }
     requires owner { IsJobOf bench.now owner }
@@ -264,15 +264,15 @@ fn with_owner(jobs: Vec<Job>, bench: &Bench, owner: Job) -> Result<Vec<Job>, NoM
     }
 }
 
-/// So many accesses a thread may make that sleeps for its turn: far more than it needs, and far fewer than one makes
-/// meanwhile that doesn't sleep.
+/// This many accesses a thread may make that sleeps for its turn: far more than it needs, and far fewer than one
+/// makes meanwhile that doesn't sleep.
 const ACCESSES: u32 = 200;
 
 /// What became of a mutex's last owner but one.
 #[derive(Clone, Copy, PartialEq, Eq)]
 enum Before {
     Nobody,
-    /// It died, and nobody will declare the mutex consistent.
+    /// The thread died, and nobody will declare the mutex consistent.
     Died,
 }
 
@@ -286,8 +286,8 @@ fn dies_as_owner<R: Wait>(rt: &R, bench: &Bench, pass: Pass<Live>) -> bool
     dies(rt, bench, pass, OnMutex(Unlock(0)), 1) && taken == OK
 }
 
-/// A thread owns the mutex while so many others come for it; it unlocks, and each of them has it in turn, or is told
-/// that it can't be used any more. Whether all were told so, and what is left in the cell.
+/// A thread owns the mutex while this many others come for it; it unlocks, and each of them has it in turn, or is
+/// told that it can't be used any more. Whether all were told so, and what is left in the cell.
 fn all_have_it<R: Threads + Wait + Clock + Sync>(
     rt: &R,
     alloc: Global,
@@ -346,7 +346,7 @@ fn all_have_it<R: Threads + Wait + Clock + Sync>(
     })
 }
 
-/// How many workers were told just this.
+/// How many workers got just this.
 fn count_of(records: &[Record], told: &[Reply]) -> usize {
     records
         .iter()

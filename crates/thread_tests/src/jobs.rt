@@ -28,7 +28,7 @@ fn with_call(all: Vec<Op>, bench: &Bench, op: Op) -> Result<Vec<Op>, NoMem>
     }
 }
 
-/// These calls, as a job has them. They are refused as for want of memory where one is on a mutex or a condition
+/// These calls, as a job has them. They are refused as when memory runs out where one is on a mutex or a condition
 /// variable that the bench hasn't.
 fn calls_of(alloc: Global, bench: &Bench, calls: &[Op]) -> Result<Vec<Op>, NoMem>
     ensures { IfOk result (λ cs. All (λ c. is_in (layout_of bench.now) c ≡ true) cs.items) }
@@ -120,8 +120,8 @@ fn both<R: Threads + Wait + Sync, G: Gate + Sync>(
     Ok((first, second))
 }
 
-/// A thread between two phases of work: its pass, what it was told in the last one, and what is left of the number of
-/// its access before which it dies.
+/// A thread between two phases of work: its pass, what it got in the last one, and what is left of the
+/// number of its access before which it dies.
 pub(crate) fn fresh(alloc: Global, bench: &Bench, pass: Pass<Live>, die: Option<u32>) -> Record
     requires { IsLive bench.now pass }
     ensures { IsWorkerOf bench.now result.pass }

@@ -1,4 +1,4 @@
-//! Threads that die and are killed at a bench: before an access, between their calls, asleep, and living anew.
+//! Threads that die and are killed at a bench: before an access, between their calls, asleep, and living again.
 
 mod accesses;
 mod between;

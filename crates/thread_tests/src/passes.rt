@@ -11,7 +11,7 @@ use std::alloc::Global;
 use std::test::Fail;
 use std::thread;
 
-/// Whether the two are told what stands in these steps, and leave these cells.
+/// Whether the two get what is in these steps, and leave these cells.
 fn goes(alloc: Global, layout: Layout, steps: &[Step], want: [u64; CELLS]) -> Result<bool, Fail> {
     let (two, well) = plays(of_two(alloc, layout, &[])?, steps);
     Ok(well && left(two) == want)

@@ -17,7 +17,7 @@ use std::thread::Threads;
 use thread_fixtures::{Left, last_of, team};
 use threadbench::{Bench, Job, Open, Record, WorkerPass};
 
-/// What two threads call at once, and what they are told.
+/// What two threads call at once, and what they return.
 struct Phase {
     calls: [&'static [Op]; 2],
     replies: [&'static [Reply]; 2],

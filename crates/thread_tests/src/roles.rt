@@ -38,7 +38,7 @@ pub(crate) struct Board {
 /// The threads that wait, in the order of their numbers.
 static WAITERS: [u8; 3] = [1, 2, 3];
 
-/// The first so many of them.
+/// The first this many of them.
 fn first_waiters(waiters: usize) -> &'static [u8] {
     match waiters {
         0 => &[],
@@ -48,7 +48,7 @@ fn first_waiters(waiters: usize) -> &'static [u8] {
     }
 }
 
-/// Those behind the first so many.
+/// Those after the first this many.
 fn last_waiters(waiters: usize) -> &'static [u8] {
     match waiters {
         0 => &WAITERS,
@@ -58,7 +58,7 @@ fn last_waiters(waiters: usize) -> &'static [u8] {
     }
 }
 
-/// Waits until the first so many waiters stand in the condition variable's queue.
+/// Waits until the first this many waiters stand in the condition variable's queue.
 fn sleep<R: Wait + Clock>(rt: &R, bench: &Bench, waiters: usize) -> bool {
     fall_asleep(rt, bench, first_waiters(waiters))
 }
@@ -140,7 +140,7 @@ impl Board {
     }
 }
 
-/// Makes a call of a thread that is to live: its pass, if it was told OK.
+/// Makes a call of a thread that is to live: its pass, if it got OK.
 fn is_told_ok<R: Wait>(rt: &R, bench: &Bench, pass: Pass<Live>, op: Op) -> Option<Pass<Live>>
     requires { IsLive bench.now pass }
     ensures { IfSome result (λ p. IsLive bench.now p) }
@@ -151,7 +151,7 @@ fn is_told_ok<R: Wait>(rt: &R, bench: &Bench, pass: Pass<Live>, op: Op) -> Optio
     }
 }
 
-/// Makes a call as the owner of the mutex: its pass, if all was told OK.
+/// Makes a call as the owner of the mutex: its pass, if all got OK.
 fn as_owner<R: Wait>(rt: &R, bench: &Bench, pass: Pass<Live>, call: CondCall) -> Option<Pass<Live>>
     requires { IsLive bench.now pass }
     ensures { IfSome result (λ p. IsLive bench.now p) }
@@ -161,7 +161,7 @@ fn as_owner<R: Wait>(rt: &R, bench: &Bench, pass: Pass<Live>, call: CondCall) ->
     is_told_ok(rt, bench, pass, OnMutex(Unlock(0)))
 }
 
-/// Takes the mutex and waits, with the second thread asleep on the mutex by then: whether all was told OK.
+/// Takes the mutex and waits, with the second thread asleep on the mutex by then: whether all got OK.
 fn waits_above<R: Wait + Clock>(rt: &R, bench: &Bench, pass: Pass<Live>, board: &Board) -> bool
     requires { IsLive bench.now pass }
 {
@@ -209,7 +209,7 @@ impl Waiter {
     }
 }
 
-/// Takes the mutex, waits, and gives it back; whether it lives and all was told OK.
+/// Takes the mutex, waits, and gives it back; whether it lives and all got OK.
 fn waits<R: Wait>(rt: &R, bench: &Bench, pass: Pass<Live>, board: &Board, waiter: Waiter) -> bool
     requires { IsLive bench.now pass }
 {
@@ -280,7 +280,7 @@ fn broadcasts<R: Wait + Clock>(rt: &R, bench: &Bench, pass: Pass<Live>, board: &
     are_asleep(rt, bench, &WAITERS) && is_told_ok(rt, bench, pass, OnMutex(Unlock(0))).is_some()
 }
 
-/// Each signal wakes one, and those behind it sleep on.
+/// Each signal wakes one, and those after it sleep on.
 fn signals<R: Wait + Clock>(rt: &R, bench: &Bench, first: Pass<Live>, board: &Board) -> bool
     requires { IsLive bench.now first }
 {

@@ -21,7 +21,7 @@ use threadbench::Bench;
 
 const ROUNDS: u32 = 500;
 
-/// Locks and unlocks: how many calls were told OK.
+/// Locks and unlocks: how many calls got OK.
 fn rounds<R: Wait>(rt: &R, bench: &Bench, first: Pass<Live>) -> u32
     requires { IsLive bench.now first }
 {
@@ -71,7 +71,7 @@ struct Before {
 /// The id of the thread that sleeps.
 const SLEEPER: u8 = 2;
 
-/// The end of an unlock: whether it was told OK.
+/// The end of an unlock: whether it got OK.
 pub(crate) fn pays<R: Wait>(rt: &R, bench: &Bench, owed: Owed) -> bool
     requires { IsOwedOf bench.now owed }
 {
@@ -108,7 +108,7 @@ fn free_and_look<R: Wait + Clock>(
     before
 }
 
-/// What a lock with this count is told.
+/// What a lock with this count returns.
 fn counted_lock<R: Wait>(
     rt: &R,
     bench: &Bench,
@@ -188,7 +188,7 @@ fn own_id<R: Files + AllocGlobal>(rt: &R) -> Option<u64> {
 }
 
 /// Whether the thread of this process with this id sleeps just now, and doesn't even wait for a processor (proc(5),
-/// `stat`: its state, behind its name).
+/// `stat`: its state, after its name).
 fn is_at_rest<R: Files + AllocGlobal>(rt: &R, id: u64) -> bool {
     let Ok(name) = format!(in rt.alloc(); "/proc/self/task/{id}/stat") else {
         return false;
@@ -246,7 +246,7 @@ fn frees_both<R: Wait + Clock + Files + AllocGlobal>(
     true
 }
 
-/// Locks both mutexes: the pass then, if both calls were told OK.
+/// Locks both mutexes: the pass then, if both calls got OK.
 fn takes_both<R: Wait>(rt: &R, bench: &Bench, first: Pass<Live>) -> Option<Pass<Live>>
     requires { IsLive bench.now first }
     ensures { IfSome result (λ p. IsLive bench.now p) }

@@ -60,7 +60,7 @@ impl<R: Clock> Fate for HeldBack<'_, R> {
     }
 }
 
-/// The unlock that trims: what it is told.
+/// The unlock that trims: what it returns.
 fn unlock<R: Wait + Clock>(rt: &R, bench: &Bench, pass: Pass<Live>, board: &Board) -> Option<Reply>
     requires { IsLive bench.now pass }
 {
@@ -71,7 +71,7 @@ fn unlock<R: Wait + Clock>(rt: &R, bench: &Bench, pass: Pass<Live>, board: &Boar
     made.map(|made| made.1)
 }
 
-/// The sleeper's lock, once another thread has the mutex: what it is told.
+/// The sleeper's lock, once another thread has the mutex: what it returns.
 fn sleep<R: Wait + Clock>(rt: &R, bench: &Bench, pass: Pass<Live>, board: &Board) -> Option<Reply>
     requires { IsLive bench.now pass }
 {
@@ -111,7 +111,7 @@ fn wakes_of(owed: &Option<Owed>) -> Option<Wakes> {
     }
 }
 
-/// Ends an unlock, if there is one: whether it was told OK.
+/// Ends an unlock, if there is one: whether it got OK.
 fn ends<R: Wait>(rt: &R, bench: &Bench, owed: Option<Owed>) -> bool
     requires { IfSome owed (λ o. IsOwedOf bench.now o) }
 {
@@ -160,7 +160,7 @@ struct Story {
     unlocked: Option<Reply>,
     /// How many sleepers the last unlock had to wake.
     wakes: Option<Wakes>,
-    /// What the sleeper was told.
+    /// What the sleeper got.
     slept: Option<Reply>,
 }
 

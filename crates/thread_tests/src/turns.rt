@@ -58,7 +58,7 @@ static BEHIND_A_DEATH: [Step; 6] = [
 ];
 
 /// Owners of the mutex are killed, one after the other: one whose unlock has somebody to wake, as a broadcast has set
-/// WAITERS, and which frees it all the same; one that signals; and one that broadcasts. Each dies in its next call.
+/// WAITERS, and which frees it anyway; one that signals; and one that broadcasts. Each dies in its next call.
 static KILLED: [Step; 10] = [
     Calls(First, &[LOCK, BROADCAST], Some(OK)),
     Kills(1),

@@ -29,10 +29,10 @@ pub(crate) enum Who {
     Second,
 }
 
-/// A thread, its calls, one after the other, and what each is told.
+/// A thread, its calls, one after the other, and what each returns.
 pub(crate) type Step = (Who, &'static [(Call, Reply)]);
 
-/// The last of these passes. Where there is none, it is refused as for want of memory.
+/// The last of these passes. Where there is none, it is refused as when memory runs out.
 fn popped(_words: &Words, passes: &mut Vec<Pass<Live>>) -> Result<Pass<Live>, NoMem>
     requires { All (λ p. IsLive _words.now p) passes.old.items }
     ensures pass { IfOk result (λ p. IsLive _words.now p) }
@@ -41,8 +41,8 @@ fn popped(_words: &Words, passes: &mut Vec<Pass<Live>>) -> Result<Pass<Live>, No
     passes.pop().ok_or(NoMem)
 }
 
-/// The words of a layout of two threads, with these presets for its condition variables. It is refused as for want of
-/// memory where there are other threads, or not as many presets.
+/// The words of a layout of two threads, with these presets for its condition variables. It is refused as when
+/// memory runs out where there are other threads, or not as many presets.
 pub(crate) fn of_two(alloc: Global, layout: Layout, presets: &[u32]) -> Result<Two, NoMem>
     ensures first { IfOk result (λ t. IsLive t.0 t.1) }
     ensures second { IfOk result (λ t. IsLive t.0 t.2) }
@@ -125,7 +125,7 @@ pub(crate) fn makes(words: &Words, pass: Pass<Live>, call: Call) -> (Pass<Live>,
     }
 }
 
-/// Makes calls one after the other: the pass after them, and whether each was told what stands beside it.
+/// Makes calls one after the other: the pass after them, and whether each got what stands beside it.
 pub(crate) fn told(words: &Words, pass: Pass<Live>, calls: &[(Call, Reply)]) -> (Pass<Live>, bool)
     requires { IsLive words.now pass }
     ensures { IsLive words.now result.0 }
@@ -160,7 +160,7 @@ fn turn(two: Two, who: Who, calls: &[(Call, Reply)]) -> (Two, bool)
     }
 }
 
-/// Makes these steps' calls one after the other. Whether each was told what stands in its step.
+/// Makes these steps' calls one after the other. Whether each got what is in its step.
 pub(crate) fn plays(two: Two, steps: &[Step]) -> (Two, bool)
     requires first { IsLive two.0 two.1 }
     requires second { IsLive two.0 two.2 }

@@ -288,7 +288,7 @@ fn dies_beside_a_move<R: Threads + Wait + Clock + Sync>(
 }
 
 /// A broadcast comes to its move while the waiter is looked for in one bucket after the other, in the order of their
-/// numbers: it is found all the same, since nobody is moved during a kill.
+/// numbers: it is found anyway, since nobody is moved during a kill.
 #[test]
 fn a_waiter_is_killed_while_it_is_moved(rt: HostRuntime) -> Result<(), Fail> {
     let buckets = FAR.buckets()?;

@@ -25,7 +25,7 @@ pub heeds_onward : (f f' n n' : ℕ) (t : Turn) (s : Stretch) → s ≡ stretch_
 heeds_onward f f' n n' (turn.Goes q) s is heeded = subst (λ (z : Stretch). Heeds f f' n n' (stops_stretching z)) (sym is) heeded
 heeds_onward f f' n n' (turn.Lives b x) s is heeded = subst (λ (z : Stretch). Heeds f f' n n' (stops_stretching z)) (sym is) heeded
 
--- what the call's fate is told of it
+-- what the call's fate says of it
 pub is_heeded : (f f' n n' : ℕ) (o : Outcome) → Heeds f f' n n' (stops_in o) → IsHeeded f f' o
 is_heeded f f' n n' (outcome.Lives b r) heeded = let x = heeded.fate in let y = heeded.note in let once = heeded.once in omega (arith, x, y, once)
 is_heeded f f' n n' (outcome.Dead d) heeded =
@@ -34,7 +34,7 @@ is_heeded f f' n n' (outcome.Dead d) heeded =
     let once = heeded.once in
     dite (ℕ_discrete f' f) (λ same. inr same) (λ other. inl (omega (arith, x, y, once, other)))
 
--- a fate that was told once where it stops, and else never
+-- a fate that was recorded once where it stops, and else never
 pub is_heeded_alone : (f f' : ℕ) (o : Outcome) → f' ≡ f + stops_in o → IsHeeded f f' o
 is_heeded_alone f f' (outcome.Lives b r) told = omega (arith, told)
 is_heeded_alone f f' (outcome.Dead d) told = inl told

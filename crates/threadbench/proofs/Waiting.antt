@@ -158,7 +158,7 @@ took_again_in w a e (Broadcast q) end low was ran = let bad = was.of in absurd (
 
 -- ---- a call that is run
 
--- wherever the call began that stood at r, it stands at r' now
+-- wherever the call began that was at r, it is at r' now
 abbrev pub ComesFar : Words → CondRunning → CondRunning → Type 0
 ComesFar w r r' = (a : Pass Live) (cl : CondCall) → IsCondUnderWay w a cl r → IsCondUnderWay w a cl r'
 

@@ -4,7 +4,7 @@
 -- the pass before the first to the pass after the last; a job is done when all of its calls were answered, or those
 -- before the one that its gate refused or in which its thread died.
 --
--- *Dying at work.* A worker's thread that dies does so in the call behind those that were answered: it had made all of
+-- *Dying at work.* A worker's thread that dies does so in the call after those that were answered: it had made all of
 -- that call's points, or some of the first, and then its list was walked (*reaped*). Where the thread of a job with a
 -- number lives, some number is left; where it died, by its number or by a kill, none is. A job of a thread that has
 -- died makes no call.
@@ -55,7 +55,7 @@ abbrev pub CallEnds : Words → Pass Live → Op → Outcome → Type 0
 CallEnds w a call (outcome.Lives b r) = IsLive w b × Replied (layout_of w) (card a) call r (card b)
 CallEnds w a call (outcome.Dead d) = IsDying w d × DiesIn (layout_of w) (card a) call (card d)
 
--- so many calls, a reply each
+-- this many calls, a reply each
 abbrev pub Answered : Layout' → Card → List Op → List Reply → Card → Type 0
 Answered k c [] [] d = c ≡ d
 Answered k c (x ∷ xs) (r ∷ rs) d = (e : Card) × Replied k c x r e × Answered k e xs rs d

@@ -6,6 +6,6 @@ use Rattle.threadbench.specs.declared.numbered.Numbered.{Numbered}
 abbrev pub AreNumbered : List Numbered → Type 0
 AreNumbered buckets = (i : ℕ) (b : Numbered) → slice_get buckets i ≡ Some b → b.number ≡ i
 
--- each was made for so many threads
+-- each was made for this many threads
 abbrev pub HaveRoomFor : ℕ → List Numbered → Type 0
 HaveRoomFor threads buckets = All (λ (b : Numbered). b.threads ≡ threads) buckets

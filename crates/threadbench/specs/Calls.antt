@@ -26,7 +26,7 @@ abbrev pub Locked : Words → ℕ → Pass Live → Outcome → Type 0
 Locked w m a (outcome.Lives b r) = IsLive w b × Takes (layout_of w) m operation.Lock (card a) r (card b)
 Locked w m a (outcome.Dead d) = IsDying w d × DiesTaking (layout_of w) m operation.Lock (card a) (card d)
 
--- an unlock ends with OK once its sleepers are woken, or its word is trimmed. Nothing is seen anew
+-- an unlock ends with OK once its sleepers are woken, or its word is trimmed. Nothing new is seen
 abbrev pub Paid : Words → Owed → Outcome → Type 0
 Paid w o (outcome.Lives b r) = IsLive w b × (r ≡ OK) × SeesNoMore w o (card b)
 Paid w o (outcome.Dead d) = IsDying w d × SeesNoMore w o (card d)

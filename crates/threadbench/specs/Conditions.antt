@@ -3,16 +3,16 @@
 --
 -- *What calls on condition variables by a bench answer.* A signal and a broadcast end as such a call does (`CondEnded`;
 -- `ruledwords/specs/ConditionStands.antt`). A wait ends so too where it is refused; else it has released its mutex,
--- which was usable then, and taken it again: its two points stand in this order, and the second, which has its reply,
+-- which was usable then, and taken it again: its two points are in this order, and the second, which has its reply,
 -- is the last that its thread has seen of the mutex. It has loaded the counter of its own condition variable
--- (`Loaded`). One whose thread died has made some of its first points, or all, and behind its release it had loaded
+-- (`Loaded`). One whose thread died has made some of its first points, or all, and after its release it had loaded
 -- that counter. Source: pthread_cond_wait(3p), pthread_cond_broadcast(3p).
 --
 -- *What a broadcast's move does under the locks of two buckets.* Where the low half of the counter that was loaded is
--- the expected one, at most so many of the first threads of its queue move to the end of that of the mutex's cell, and
--- nobody is woken. That is all of them: nobody is left there, and they stand at the cell in their order. Else nothing
--- changes, nor where the other bucket has no room for them. The counter is what its thread knew of it, if it knew it.
--- Source: futex(2), FUTEX_CMP_REQUEUE.
+-- the expected one, at most this many of the first threads of its queue move to the end of that of the mutex's cell,
+-- and nobody is woken. That is all of them: nobody is left there, and they are at the cell in their order. Else
+-- nothing changes, nor where the other bucket has no room for them. The counter is what its thread knew of it, if it
+-- knew it. Source: futex(2), FUTEX_CMP_REQUEUE.
 use Rattle.std.specs.Prelude.{ℕ, ◌≡◌, ◌≢◌, ◌%◌, ◌^◌, ◌⊎◌, true, Option, None}
 use Rattle.std.specs.Prelude.{Some, Result, Ok, Err, List, [], ◌∷◌, ◌++◌}
 use Rattle.lockword.specs.declared.reply.Reply.{Reply}
@@ -51,7 +51,7 @@ use Rattle.threadbench.specs.declared.section.Waited.TheVariants.{Stopped}
 -- ---- calls
 
 -- a wait on condition variable q, by the thread whose card was c, loaded the counter of q, released its mutex, which
--- was usable then, and took it again by a lock that was answered x: its two points stand in this order, and the second
+-- was usable then, and took it again by a lock that was answered x: its two points are in this order, and the second
 -- is the last that its thread, whose card is d now, has seen of the mutex
 pub record TookAgain (k : Layout') (c : Card) (q : ℕ) (x : Reply) (d : Card) : Type 0 where
   pub awake : Card
@@ -70,7 +70,7 @@ CondReplied k c (TimedWait q y) x d = CondEnded k q operation.Wait x c d ⊎ Too
 CondReplied k c (Signal q) x d = CondEnded k q operation.Signal x c d
 CondReplied k c (Broadcast q) x d = CondEnded k q operation.Broadcast x c d
 
--- the thread died in it: it had made all of the call's points, or some of the first; behind the release of a wait it
+-- the thread died in it: it had made all of the call's points, or some of the first; after the release of a wait it
 -- had loaded the counter of the call's condition variable
 abbrev pub CondDies : Layout' → Card → CondCall → Card → Type 0
 CondDies k c call d = DiesOn k (condition_of call) (acts_as call) c d
@@ -95,7 +95,7 @@ abbrev pub StaysOn : Words → CondRunning → CondTurn → Type 0
 StaysOn w r (Goes r') = condition_at (layout_of w) (cond_call r') ≡ condition_at (layout_of w) (cond_call r)
 StaysOn w r t = Unit {0}
 
--- a running call came to this turn by the access that was next, or its thread died in place of that
+-- a running call came to this turn by the access that was next, or its thread died instead of that
 abbrev pub CondComesTo : Words → CondRunning → Result CondTurn (Pass Dead) → Type 0
 CondComesTo w r (Ok turn) = IsCondTurnOf w turn × CondKeeps w r turn × StaysOn w r turn
 CondComesTo w r (Err d) = (a : Pass Live) (call : CondCall) → IsCondUnderWay w a call r → HasDiedInCondition w a call d
@@ -128,7 +128,7 @@ abbrev pub MovesInside : Sleepers → Sleepers → ℕ → ℕ → ℕ → ℕ �
 MovesInside old new k n e j m (Some moved) = (n % 2 ^ 32 ≡ e) × MovesWithin old new k m j moved
 MovesInside old new k n e j m None = (n % 2 ^ 32 ≢ e) × (new ≡ old)
 
--- the same from a bucket to another one. Nothing changes either where that has no room for them, or one of them stands
+-- the same from a bucket to another one. Nothing changes either where that has no room for them, or one of them is
 -- there
 abbrev pub MovesAcross : Sleepers → Sleepers → Sleepers → Sleepers → ℕ → ℕ → ℕ → ℕ → ℕ → Option (List ℕ) → Type 0
 MovesAcross old new other other' k n e j m (Some moved) = (n % 2 ^ 32 ≡ e) × MovesTo old new other other' k m j moved
@@ -136,7 +136,7 @@ MovesAcross old new other other' k n e j m None =
     ((n % 2 ^ 32 ≢ e) ⊎ (¬ Fits old other k m)) × (new ≡ old) × (other' ≡ other)
 
 -- a broadcast's move from key k's queue to the end of key j's, which may be in another bucket: where it is made, nobody
--- is left on k, and those that stood there stand, in their order, behind those that stood on j
+-- is left on k, and those that was there stand, in their order, after those that was on j
 abbrev pub MovesAll : Sleepers → Sleepers → Sleepers → Sleepers → ℕ → ℕ → Option (List ℕ) → Type 0
 MovesAll old new other other' k j (Some moved) = (queue new k ≡ []) × (queue other' j ≡ queue other j ++ queue old k)
 MovesAll old new other other' k j None = Unit {0}

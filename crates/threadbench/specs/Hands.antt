@@ -1,7 +1,7 @@
 -- Jobs that were handed to a worker's thread, and those that no thread was started for.
 --
 -- *Workers begin, or none does.* They may begin where each job that has calls has its worker. What became of a job is
--- told by what its worker was told: it began and its job is done, or it didn't and the job is as it was.
+-- known by what its worker was told: it began and its job is done, or it didn't and the job is as it was.
 use Rattle.std.specs.Prelude.{ℕ, Bool, false, Option, None, Some, ◌≡◌}
 use Rattle.std.specs.declared.sync.OnceToken.{OnceToken}
 use Rattle.threadbench.specs.declared.job.Job.{Job}

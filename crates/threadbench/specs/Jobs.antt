@@ -25,7 +25,7 @@ abbrev pub HasNoWork : WorkerPass → List Op → Type 0
 HasNoWork (Lives p) calls = calls ≡ []
 HasNoWork (Reaped p) calls = Unit {0}
 
--- the thread whose card was c died in the call, and its list was walked: the death of its owner is told of each mutex
+-- the thread whose card was c died in the call, and its list was walked: the death of its owner is recorded for each mutex
 -- that it held, and it holds nothing
 pub record WasLost (k : Layout') (c : Card) (call : Op) (d : Card) : Type 0 where
   pub dead : Card

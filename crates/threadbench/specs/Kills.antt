@@ -1,7 +1,7 @@
 -- Kills of a bench's threads (kill(2), with SIGKILL).
 --
 -- *Kills.* There is a note for each thread, and a place to sleep, in the order of their ids, and each bucket has the
--- number of its place. A kill of a thread or of a process's threads is answered ESRCH exactly where the layout has no
+-- number of its place. A kill of a thread or of a process's threads is returned ESRCH exactly where the layout has no
 -- such thread or process. What the kill of a thread gives back says whose it is, and by its stage that the thread was
 -- looked for in each bucket, in the order of their numbers, and was given a token then; a look takes the thread out of
 -- the queue in which it stands (`Removes`; `buckets/specs/Queues.antt`). The kill of a process comes to each thread in

@@ -83,13 +83,13 @@ pub record TrimsNobodys (queue : List ℕ) (c d : Card) (told : Bool) : Type 0 w
   pub cleared : told ≡ true → (queue ≡ []) × (d.last ≡ 0x8000_0000)
   pub spared : queue ≢ [] → d.trims ≡ c.trims
 
--- where nobody sleeps there, the word at p that the trim found, by which it is answered, is 0 behind it if it said
+-- where nobody sleeps there, the word at p that the trim found, by which it is answered, is 0 after it if it said
 -- WAITERS and nothing else, and else as it was
 abbrev pub TrimLeaves : List ℕ → Card → ℕ → Card → Type 0
 TrimLeaves queue c p d = queue ≡ [] → Writes c p d.last (if d.last == 0x8000_0000 then 0 else d.last) d
 
 -- a wake of n took these threads out of a queue: a wake of `most_threads`, as many as there are threads at most, takes
--- all, and nobody is left; and one of 1 takes the first, where there is one, and leaves those behind it
+-- all, and nobody is left; and one of 1 takes the first, where there is one, and leaves those after it
 pub record WakesFirsts (old new : List ℕ) (n : ℕ) (woken : List ℕ) : Type 0 where
   pub all : n ≡ most_threads → (woken ≡ old) × (new ≡ [])
   pub one : (t : ℕ) (behind : List ℕ) → n ≡ 1 → old ≡ t ∷ behind → (woken ≡ t ∷ []) × (new ≡ behind)

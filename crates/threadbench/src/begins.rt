@@ -3,7 +3,7 @@ ghost use Rattle.std.specs.Prelude.{◌≡◌};
 
 use std::sync::{OnceLock, OnceToken, Wait};
 
-/// Waits until it is told whether workers begin. The token shows what was told.
+/// Waits until it learns whether workers begin. The token shows what was recorded.
 pub(crate) fn told<'a, R: Wait>(rt: &R, begins: &'a OnceLock<bool>) -> OnceToken<'a, bool>
     ensures { result.of ≡ begins.now.id }
 {
@@ -16,7 +16,7 @@ pub(crate) fn told<'a, R: Wait>(rt: &R, begins: &'a OnceLock<bool>) -> OnceToken
     unreachable!()
 }
 
-/// Tells whether workers begin. It is told once.
+/// Tells whether workers begin. It is recorded once.
 pub(crate) fn tell<'a, R: Wait>(
     rt: &R,
     begins: &'a OnceLock<bool>,

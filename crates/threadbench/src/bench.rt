@@ -30,11 +30,11 @@ pub(crate) const THREADS: u8 = MOST_THREADS;
 #[derive(Drop)]
 pub struct Bench {
     pub(crate) words: Words,
-    /// Who sleeps. Each bucket has a lock of its own; a word's key says in which its sleepers stand.
+    /// Which threads sleep. Each bucket has a lock of its own; a word's key says in which its sleepers stand.
     pub(crate) buckets: Vec<Numbered>,
     /// Where each thread sleeps that there may be, in the order of their ids.
     pub(crate) parkers: Vec<Parker>,
-    /// Who was killed: a note for each thread that there may be, in the order of their ids.
+    /// Which threads were killed: a note for each thread that there may be, in the order of their ids.
     pub(crate) notes: Vec<Note>,
     /// Whoever looks for a sleeper in one bucket after the other holds it, so that nobody is moved meanwhile.
     pub(crate) moves: Mutex<()>,
@@ -61,7 +61,7 @@ impl Model for Bench {
 impl Bench {
     /// A bench, and a pass for each thread in the order of their ids. Nobody owns a mutex, nobody sleeps, and the
     /// counters of the condition variables are those given, in the order of their numbers. It takes all the memory that
-    /// its calls need, but for [`Bench::work`].
+    /// its calls need, except for [`Bench::work`].
     pub fn new(
         alloc: Global,
         layout: Layout,
@@ -91,7 +91,7 @@ impl Bench {
         ))
     }
 
-    /// Its words, which callers' own threads may use too.
+    /// The words, which callers' own threads may use too.
     pub fn words(&self) -> &Words
         ensures { result.now ≡ self.now }
     {
@@ -136,7 +136,7 @@ impl Bench {
     }
 
     /// Ends the bench. The history of each mutex begins with what the pass has seen, and the counters of its condition
-    /// variables, added up, are as they began and one more for each signal or broadcast in it that was answered OK.
+    /// variables, added up, are as they began and one more for each signal or broadcast in it that was returned OK.
     pub fn close<A>(self, pass: Pass<A>) -> Last
         requires { IsPassOf self pass }
         ensures layout { last_layout result ≡ layout_of self }
@@ -170,7 +170,7 @@ impl Bench {
     }
 }
 
-/// Buckets where nobody stands, each with room for so many threads, in the order of their numbers.
+/// Buckets where nobody stands, each with room for this many threads, in the order of their numbers.
 fn buckets(alloc: Global, threads: u8) -> Result<Vec<Numbered>, NoMem>
     requires first { 1 ≤ threads }
     requires last { threads ≤ most_threads }

@@ -163,8 +163,8 @@ impl Bench {
         }
     }
 
-    /// Makes a wait, and sleeps where the counter is the expected one. A thread whose note tells it to stop dies in
-    /// place of that.
+    /// Makes a wait, and sleeps where the counter is the expected one. A thread whose note tells it to stop dies
+    /// instead of that.
     fn wait_on_counter<R: Wait, N: ByOthers>(
         &self,
         rt: &R,
@@ -201,7 +201,7 @@ impl Bench {
         }
     }
 
-    /// Makes a wake: wakes at most so many sleepers of the word.
+    /// Makes a wake: wakes at most this many sleepers of the word.
     fn wake_on_condition<R: Wait>(&self, rt: &R, running: CondRunning, most: u32) -> CondTurn
         requires words { IsCondRunningOf self.now running }
         requires wake { (at : ℕ) × (cond_access_in running ≡ AtWake at most) }
@@ -215,8 +215,8 @@ impl Bench {
         running.answer(Answer::Count(roused.count()))
     }
 
-    /// Makes a broadcast's requeue: moves at most so many sleepers of the counter to the end of those of the mutex's
-    /// cell, where the counter is the expected one.
+    /// Makes a broadcast's requeue: moves at most this many sleepers of the counter to the end of those of the
+    /// mutex's cell, where the counter is the expected one.
     fn move_sleepers<R: Wait>(
         &self,
         rt: &R,
@@ -295,7 +295,7 @@ impl Bench {
         )
     }
 
-    /// Sleeps until the thread, which fell asleep on a counter, stands in no bucket any more.
+    /// Sleeps until the thread, which fell asleep on a counter, is in no bucket any more.
     fn sleep_through_moves<R: Wait>(&self, rt: &R, thread: Tid, counter: Key, cell: Key) -> Away
         ensures { (result.thread ≡ thread) × (result.first ≡ counter.0 % 256) × (result.second ≡ cell.0 % 256) }
     {
@@ -309,7 +309,7 @@ impl Bench {
         unreachable!()
     }
 
-    /// Looks whether the thread stands in the counter's bucket, and then whether it stands in the cell's. Whoever stands
+    /// Looks whether the thread is in the counter's bucket, and then whether it is in the cell's. Whoever stands
     /// in neither, looked at in this order, was woken or killed.
     fn left_both<R: Wait>(&self, rt: &R, thread: Tid, counter: Key, cell: Key) -> Option<Away>
         ensures { IfSome result

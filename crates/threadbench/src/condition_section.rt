@@ -11,7 +11,7 @@ use buckets::{Batch, Bucket};
 use memorymap::Key;
 use ruledwords::{CondRunning, Words};
 
-/// A wake: takes at most so many threads out of the key's queue, those that stand first, in their order.
+/// A wake: takes at most this many threads out of the key's queue, those that stand first, in their order.
 pub(crate) fn wake_for_condition(
     bucket: &mut Bucket,
     running: &CondRunning,
@@ -29,7 +29,7 @@ pub(crate) fn wake_for_condition(
     bucket.take(key, most)
 }
 
-/// A requeue within one bucket: loads the counter, and where its low half is the expected one moves at most so many
+/// A requeue within one bucket: loads the counter, and where its low half is the expected one moves at most this many
 /// threads of the key's queue, those that stand first, to the end of the other key's queue. It wakes nobody. None where
 /// the counter differs; then nothing changes.
 pub(crate) fn move_within_in(
@@ -61,7 +61,7 @@ pub(crate) fn move_within_in(
 }
 
 /// A requeue from a bucket to another one, as [`move_within_in`]. Nothing changes either where the other bucket has no
-/// room for them, or one of them stands there, which can't come up, but what lies under locks doesn't say so.
+/// room for them, or one of them is there, which can't come up, but what lies under locks doesn't say so.
 pub(crate) fn move_to_in(
     bucket: &mut Bucket,
     other: &mut Bucket,
@@ -82,7 +82,7 @@ pub(crate) fn move_to_in(
         expected to.0 moves result }
     ensures all { MovesAll bucket.old bucket.new other.old other.new key.0 to.0 result }
 {
-    // As in `move_within_in`.
+    // Like `move_within_in`.
     let _stands = bucket.stands(running.thread());
     let seen = running.load(words).get();
     if (seen & 0xffff_ffff) as u32 != expected || !bucket.fits(other, key, moves) {

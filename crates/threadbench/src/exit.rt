@@ -14,7 +14,7 @@ use stepprograms::{Access, Answer};
 impl Bench {
     /// Walks a dead thread's list to its end, as the kernel does when a thread exits (robust-futexes;
     /// get_robust_list(2)). Each mutex that the thread held is marked with OWNER_DIED and is nobody's then, and whoever
-    /// takes it next is told EOWNERDEAD. One of its sleepers is woken; one is woken too where the thread had released
+    /// takes it next gets EOWNERDEAD. One of its sleepers is woken; one is woken too where the thread had released
     /// its pending mutex and died before the wake that it owed. The pass holds nothing afterwards.
     pub fn exit<R: Wait>(&self, rt: &R, pass: Pass<Dead>) -> Pass<Reaped>
         requires pass { IsDying self.now pass }
@@ -42,7 +42,7 @@ impl Bench {
         }
     }
 
-    /// Makes a wake of the walk: wakes at most so many sleepers of the word.
+    /// Makes a wake of the walk: wakes at most this many sleepers of the word.
     fn wake_dead<R: Wait>(&self, rt: &R, reaping: Reaping, most: u32) -> Walked
         requires words { IsReapingOf self.now reaping }
         requires wake { (at : ℕ) × (reaping_access reaping ≡ AtWake at most) }

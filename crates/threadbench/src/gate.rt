@@ -8,7 +8,7 @@ use lockword::Tid;
 /// One of a worker's calls.
 #[derive(Clone, Copy, Debug, PartialEq, Eq)]
 pub struct WorkerCall {
-    /// Its number among the worker's calls, from 1.
+    /// The number among the worker's calls, from 1.
     pub number: usize,
     /// What is called.
     pub op: Op,
@@ -19,7 +19,8 @@ pub trait Gate {
     /// What it says for certain of a thread's call with this number, of those calls of which that is known.
     ghost says: { Self → ℕ → ℕ → Op → Option Bool };
 
-    /// Whether the worker makes the call. One that is told false stops, and makes none of its further calls either.
+    /// Whether the worker makes the call. One that gets false stops, and makes none of its further calls
+    /// either.
     fn before(&self, thread: Tid, call: WorkerCall) -> bool
         ensures { (b : Bool) → says self.now thread call.number call.op ≡ Some b → result ≡ b };
 

@@ -28,8 +28,8 @@ impl<'a, G: Gate> Promise<End<'a>> for Promised<'a, G> {
 /// A job in the hands of a thread, or of none.
 #[derive(Drop)]
 pub(crate) enum Hand<'a, G: Gate> {
-    /// Its worker waits in a thread of its own.
+    /// The worker waits in a thread of its own.
     There(PromisedHandle<End<'a>, Promised<'a, G>>),
-    /// It has no worker: it has no calls to make, or workers don't begin.
+    /// The hand has no worker: it has no calls to make, or workers don't begin.
     Idle(Job),
 }

@@ -55,7 +55,7 @@ impl Job {
         }
     }
 
-    /// Its record, where it has no work.
+    /// The record, where it has no work.
     pub(crate) fn unworked(self, alloc: Global) -> Record
         requires { HasNoWork self.pass self.calls.items }
         ensures { (w : Words) (says : ℕ → ℕ → Op → Option Bool) → IsJobOf w self → IsDone w says self result }

@@ -15,15 +15,15 @@ use std::sync::{MutexGuard, Wait};
 
 pub(crate) mod note;
 
-/// The kill of a process on its way: it came to so many threads, in the order of their ids, and each of these that is
-/// of the process was killed, and no other. Nothing begins or ends one but [`Bench::kill_process`].
+/// The kill of a process on its way: it came to this many threads, in the order of their ids, and each of these that
+/// is of the process was killed, and no other. Nothing begins or ends one but [`Bench::kill_process`].
 pub(crate) struct Sweep {
     process: u8,
     come: u8,
 }
 
 impl Sweep {
-    /// It came to nobody yet.
+    /// The kill came to nobody yet.
     fn begin(process: u8) -> Sweep
         ensures { (result.process ≡ process) × (result.come ≡ 0) }
     {
@@ -60,7 +60,7 @@ impl Sweep {
         self.come += 1;
     }
 
-    /// It came to each thread.
+    /// The kill came to each thread.
     fn over(self, process: u8, layout: &Layout)
         requires process { self.process ≡ process }
         requires come { self.come ≡ layout.now.threads }
@@ -133,7 +133,7 @@ impl Bench {
         Ok(stands)
     }
 
-    /// Whether the thread stands in a bucket. The lock of moves is held, so that nobody is moved meanwhile.
+    /// Whether the thread is in a bucket. The lock of moves is held, so that nobody is moved meanwhile.
     fn stands<R: Wait>(&self, rt: &R, moves: &MutexGuard<'_, ()>, thread: Tid) -> bool {
         let _moves = moves;
         for place in 0..BUCKETS {
@@ -145,7 +145,7 @@ impl Bench {
     }
 }
 
-/// The thread that comes after so many.
+/// The thread that comes after this many.
 pub(crate) fn thread_after(before: u8) -> Tid
     requires { before < most_threads }
     ensures { result ≡ before + 1 }

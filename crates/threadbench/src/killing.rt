@@ -1,4 +1,4 @@
-//! How threads are killed. Nothing here begins or ends a kill of a process, or lets a kill go: that stands in `kill`.
+//! How threads are killed. Nothing here begins or ends a kill of a process, or lets a kill go: that is in `kill`.
 ghost use Rattle.std.specs.Prelude.{◌≡◌};
 ghost use Rattle.threadbench.specs.declared.kill.note.KillStage.TheVariants.{Ended};
 

@@ -1,4 +1,4 @@
-//! Buckets behind their locks, each with its number.
+//! Buckets after their locks, each with its number.
 ghost use Rattle.std.specs.Prelude.{◌≡◌, IfSome, MatchOption};
 ghost use Rattle.std.specs.Sync.Mutex.{mutex_guard_value};
 ghost use Rattle.buckets.specs.Queues.{IsEmptied, Stands, StandsNowhere};
@@ -8,7 +8,7 @@ use crossbeam_utils::CachePadded;
 use lockword::Tid;
 use std::sync::{Mutex, MutexGuard, Wait};
 
-/// A futex hash bucket behind a lock of its own, its number among all, and how many threads it was made for.
+/// A futex hash bucket after a lock of its own, its number among all, and how many threads it was made for.
 #[derive(Drop)]
 pub(crate) struct Numbered {
     number: usize,
@@ -24,7 +24,7 @@ pub(crate) struct Held<'a> {
     pub(crate) bucket: MutexGuard<'a, Bucket>,
 }
 
-/// That a thread which slept stands in the bucket with this number no more, as a look under its lock told. Nothing makes
+/// Evidence that a thread which slept is in the bucket with this number no more, as a look under its lock told. Nothing makes
 /// one but [`Held::left_by`].
 #[derive(Drop)]
 pub(crate) struct Gone {
@@ -32,7 +32,7 @@ pub(crate) struct Gone {
     number: usize,
 }
 
-/// That a thread which slept stands in neither of two buckets any more, as a look at the first told, and then one at the
+/// Evidence that a thread which slept stands in neither of two buckets any more, as a look at the first told, and then one at the
 /// second. (A move takes a sleeper from the first to the second, under both locks, and never back.) Nothing makes one but
 /// [`Held::left_too`].
 #[derive(Drop)]
@@ -43,7 +43,7 @@ pub(crate) struct Away {
 }
 
 impl Numbered {
-    /// One where nobody stands, which has room for so many threads.
+    /// One where nobody stands, which has room for this many threads.
     pub(crate) fn new(number: usize, bucket: Bucket, threads: u8) -> Numbered
         requires { IsEmptied bucket threads }
         ensures number { result.number ≡ number }
@@ -73,14 +73,14 @@ impl Numbered {
 }
 
 impl Held<'_> {
-    /// Its number.
+    /// The number.
     pub(crate) fn number(&self) -> usize
         ensures { result ≡ self.now.number }
     {
         self.number
     }
 
-    /// Looks whether the thread stands in the bucket, and tells where it doesn't.
+    /// Looks whether the thread is in the bucket, and tells where it doesn't.
     pub(crate) fn left_by(&self, thread: Tid) -> Option<Gone>
         ensures looks { MatchOption result (Stands (mutex_guard_value self.now.bucket) thread)
             (λ g. StandsNowhere (mutex_guard_value self.now.bucket) thread) }
@@ -89,7 +89,7 @@ impl Held<'_> {
         look(&self.bucket, self.number, thread)
     }
 
-    /// The same of a thread that stands in another bucket no more, which was looked at before.
+    /// The same of a thread that is in another bucket no more, which was looked at before.
     pub(crate) fn left_too(&self, gone: Gone) -> Option<Away>
         ensures looks { MatchOption result (Stands (mutex_guard_value self.now.bucket) gone.thread)
             (λ a. StandsNowhere (mutex_guard_value self.now.bucket) gone.thread) }
@@ -107,7 +107,7 @@ impl Held<'_> {
     }
 }
 
-/// Looks whether the thread stands in the bucket with this number.
+/// Looks whether the thread is in the bucket with this number.
 fn look(bucket: &Bucket, number: usize, thread: Tid) -> Option<Gone>
     ensures looks { MatchOption result (Stands bucket.now thread) (λ g. StandsNowhere bucket.now thread) }
     ensures whose { IfSome result (λ g. (g.thread ≡ thread) × (g.number ≡ number)) }

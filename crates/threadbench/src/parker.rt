@@ -1,5 +1,5 @@
-//! Where threads sleep: tokens, and the bells by which sleepers are told of them. What a sleep and a wake have to show
-//! is made here alone.
+//! Where threads sleep: tokens, and the bells by which sleepers learn of them. What a sleep and a wake have
+//! to show is made here alone.
 ghost use Rattle.std.specs.Prelude.{◌≡◌, ◌<◌, ◌+◌, true, false, Some, length, slice_get, IfOk};
 ghost use Rattle.std.specs.Sync.Mutex.{mutex_guard_value};
 ghost use Rattle.lockword.specs.Threads.{most_threads};
@@ -37,33 +37,33 @@ pub(crate) struct Bell {
     rung: Condvar,
 }
 
-/// That a thread took its token, so that it sleeps anew where it parks again. Nothing makes one but [`Token::take`].
+/// Evidence that a thread took its token, so that it sleeps again where it parks again. Nothing makes one but [`Token::take`].
 #[derive(Drop)]
 pub(crate) struct Taken {
     left: bool,
 }
 
-/// That a thread is out of the queue in which it slept, if it did, and is to be given a token. It is of a thread that a
+/// Evidence that a thread is out of the queue in which it slept, if it did, and is to be given a token. It is of a thread that a
 /// wake took ([`Due::woken`]), or that a kill has looked for in each bucket ([`Due::killed`]). It can't be let go:
 /// whoever has one gives the token. (It is no stage of a [`Kill`], since a wake takes threads that nobody killed.)
 pub(crate) struct Due {
     thread: Tid,
 }
 
-/// That a thread was given a token. Nothing makes one but [`Bell::ring`].
+/// Evidence that a thread was given a token. Nothing makes one but [`Bell::ring`].
 #[derive(Drop)]
 pub(crate) struct Given {
     thread: Tid,
 }
 
-/// That there is no token any more for a thread that was reaped, so that none of its last life ends a sleep of its next
+/// Evidence that there is no token any more for a thread that was reaped, so that none of its last life ends a sleep of its next
 /// one. Nothing makes one but [`Parker::drained`].
 #[derive(Drop)]
 pub(crate) struct Drained {
     thread: Tid,
 }
 
-/// Those of a batch who were given tokens, so many from its first on.
+/// Those of a batch who were given tokens, this many from its first on.
 #[derive(Drop)]
 pub(crate) struct Roused {
     count: u32,

@@ -2,7 +2,7 @@
 use crate::bench::Bench;
 use std::sync::OnceLock;
 
-/// The bench and the gate of some workers, and whether they begin, once that is told.
+/// The bench and the gate of some workers, and whether they begin, once that is recorded.
 pub(crate) struct Phase<'a, G> {
     pub(crate) bench: &'a Bench,
     pub(crate) gate: &'a G,

@@ -1,4 +1,4 @@
-//! Threads that live anew.
+//! Threads that live again.
 ghost use Rattle.std.specs.Prelude.{◌≡◌};
 ghost use Rattle.ruledwords.specs.Passes.{card, layout_of, IsLive};
 ghost use Rattle.ruledwords.specs.Renewals.{IsGone, renewed};
@@ -8,8 +8,8 @@ use ruledwords::{Live, Pass, Reaped};
 use std::sync::Wait;
 
 impl Bench {
-    /// Lets a thread that was reaped live anew, so that its id is used again: it is in no call, its list is empty and
-    /// nothing is pending (get_robust_list(2)). The history goes on: what the pass has seen stays. No kill of an
+    /// Lets a thread that was reaped live again, so that its id is used again: it is in no call, its list is empty
+    /// and nothing is pending (get_robust_list(2)). The history goes on: what the pass has seen stays. No kill of an
     /// earlier life reaches this one: one that is under way comes to its end first, and its note and its token are taken
     /// back.
     pub fn renew<R: Wait>(&self, rt: &R, pass: Pass<Reaped>) -> Pass<Live>

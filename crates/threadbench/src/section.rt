@@ -28,7 +28,7 @@ use ruledwords::{CondRunning, CondTurn, Reaping, Running, Turn, Words};
 use stepprograms::Answer;
 
 /// Puts the thread at the end of the key's queue where the low half of the word that was seen is the expected one, and
-/// tells so. Nothing changes where it differs; nor where the thread stands in the bucket already or the bucket is full,
+/// tells so. Nothing changes where it differs; nor where the thread is in the bucket already or the bucket is full,
 /// which can't come up, but what lies under a lock doesn't say so.
 fn compare_and_enqueue(bucket: &mut Bucket, thread: Tid, key: Key, seen: u64, expected: u32) -> bool
     ensures { Waits bucket.old bucket.new thread key.0 seen expected result }
@@ -39,7 +39,7 @@ fn compare_and_enqueue(bucket: &mut Bucket, thread: Tid, key: Key, seen: u64, ex
     bucket.wait_section(thread, key, seen, expected)
 }
 
-/// That a thread stands in the queue of its word, which has this key, and that its note, asked under the lock of that
+/// Evidence that a thread stands in the queue of its word, which has this key, and that its note, asked under the lock of that
 /// queue's bucket, told it to go on. Nothing makes one but a wait's section; a bench's calls go on by it as those that have slept.
 pub(crate) struct Asleep<N> {
     spared: Spared<N>,
@@ -48,7 +48,7 @@ pub(crate) struct Asleep<N> {
 }
 
 impl<N> Asleep<N> {
-    /// Goes on with the call of a thread that slept and was woken: it stands in its word's bucket no more.
+    /// Goes on with the call of a thread that slept and was woken: it is in its word's bucket no more.
     pub(crate) fn woken(self, running: Running, gone: Gone) -> Turn
         requires answer { IsAnswerOf (access_in running) Woken }
         requires gone { (gone.thread ≡ self.thread) × (gone.number ≡ self.key.0 % 256) }
@@ -62,7 +62,7 @@ impl<N> Asleep<N> {
         running.answer(Answer::Woken)
     }
 
-    /// The same of a call on a condition variable, whose thread stands in the bucket of its counter no more, and in that
+    /// The same of a call on a condition variable, whose thread is in the bucket of its counter no more, and in that
     /// of its mutex's cell neither, to which a broadcast may have moved it.
     pub(crate) fn woken_on_condition(
         self,
@@ -187,7 +187,7 @@ pub(crate) fn wait_on_counter_in<N: ByOthers>(
     }
 }
 
-/// A kill: takes the thread out of the queue in which it stands, and tells whether it stood in one.
+/// A kill: takes the thread out of the queue in which it stands, and tells whether it was in one.
 pub(crate) fn remove_in(bucket: &mut Bucket, kill: &Kill) -> bool
     ensures removes { Removes bucket.old bucket.new kill.now.thread result }
     ensures orderly { IsOrderly bucket.new }
@@ -195,7 +195,7 @@ pub(crate) fn remove_in(bucket: &mut Bucket, kill: &Kill) -> bool
     bucket.remove(kill.thread())
 }
 
-/// A wake: takes at most so many threads out of the key's queue, those that stand first, in their order.
+/// A wake: takes at most this many threads out of the key's queue, those that stand first, in their order.
 pub(crate) fn wake_in(
     bucket: &mut Bucket,
     running: &Running,
@@ -213,7 +213,7 @@ pub(crate) fn wake_in(
     take_firsts(bucket, running.thread(), key, most)
 }
 
-/// Takes at most so many threads out of the key's queue for this thread, those that stand first, in their order.
+/// Takes at most this many threads out of the key's queue for this thread, those that stand first, in their order.
 fn take_firsts(bucket: &mut Bucket, thread: Tid, key: Key, most: u32) -> Batch
     ensures takes { Takes bucket.old bucket.new key.0 most result }
     ensures wakes { WakesFirsts (queue bucket.old key.0) (queue bucket.new key.0) most result }
@@ -224,8 +224,8 @@ fn take_firsts(bucket: &mut Bucket, thread: Tid, key: Key, most: u32) -> Batch
     bucket.take(key, most)
 }
 
-/// A wake by the walk over a dead thread's list: takes at most so many threads out of the key's queue, those that stand
-/// first, in their order.
+/// A wake by the walk over a dead thread's list: takes at most this many threads out of the key's queue, those that
+/// stand first, in their order.
 pub(crate) fn wake_for_dead(
     bucket: &mut Bucket,
     reaping: &Reaping,

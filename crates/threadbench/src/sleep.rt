@@ -98,8 +98,8 @@ impl Bench {
     }
 
     /// Runs a lock or an unlock to its end that left its line, or until one of its thread's fates ends it. It asks the
-    /// note of the call's own thread anew, and is compiled apart: so what it keeps in memory costs a call nothing that
-    /// stays in its line.
+    /// note of the call's own thread again, and is compiled apart: so what it keeps in memory costs a call nothing
+    /// that stays in its line.
     #[inline(never)]
     pub(crate) fn run_crossed<R: Wait, F: Fate>(
         &self,
@@ -145,7 +145,7 @@ impl Bench {
         unreachable!()
     }
 
-    /// Makes the steps on words that come next, where the call stands, and the access behind them, a section under the
+    /// Makes the steps on words that come next, where the call stands, and the access after them, a section under the
     /// bucket's lock or a step, unless one of the thread's fates ends the call before it.
     fn turn<R: Wait, F: Fate, N: ByOthers>(
         &self,
@@ -175,7 +175,7 @@ impl Bench {
         }
     }
 
-    /// Makes a wait, and sleeps where the word is the expected one. A thread whose note tells it to stop dies in place
+    /// Makes a wait, and sleeps where the word is the expected one. A thread whose note tells it to stop dies instead
     /// of that.
     fn wait_on_cell<R: Wait, N: ByOthers>(
         &self,
@@ -205,7 +205,7 @@ impl Bench {
         }
     }
 
-    /// Makes a wake: wakes at most so many sleepers of the word.
+    /// Makes a wake: wakes at most this many sleepers of the word.
     fn wake<R: Wait>(&self, rt: &R, running: Running, most: u32) -> Turn
         requires words { IsRunningOf self.now running }
         requires wake { (at : ℕ) × (access_in running ≡ AtWake at most) }
@@ -293,7 +293,7 @@ impl Bench {
 const PATIENCE: u32 = 2_000;
 
 /// Lets some time pass, and looks at nothing. Whoever owns the mutex has mostly freed it by then, and perhaps taken it
-/// anew: so the thread goes on and tries again, and needn't be woken.
+/// again: so the thread goes on and tries again, and needn't be woken.
 fn hesitate() {
     for _ in 0..PATIENCE {
         spin_loop();

@@ -16,7 +16,7 @@ use std::snapshot::Snapshot;
 use std::sync::{OnceToken, Wait};
 use std::thread::{Promise, PromisedHandle, Scope, SpawnError, Threads};
 
-/// As [`Scope::spawn_with`], of a closure that may wait: the runtime says so of this call.
+/// Like [`Scope::spawn_with`], of a closure that may wait: the runtime says so of this call.
 fn spawn<
     'a,
     E,
@@ -40,8 +40,8 @@ fn spawn<
     scope.spawn_with(promise, f)
 }
 
-/// A thread in which a job's worker waits. Where it or its memory is refused, all workers are told not to begin, and
-/// the job is given back.
+/// A thread in which a job's worker waits. Where it or its memory is refused, all workers are told not to begin,
+/// and the job is given back.
 fn start<'a, E, R: Threads + Wait + Sync, G: Gate + Sync>(
     rt: &'a R,
     alloc: Global,

@@ -60,7 +60,7 @@ pub(crate) fn work_on<'a, E, R: Threads + Wait + Sync, G: Gate + Sync>(
     work_at_once(rt, alloc, scope, phase, all)
 }
 
-/// As [`thread::scope`], of a closure that may wait as its gate does.
+/// Like [`thread::scope`], of a closure that may wait as its gate does.
 pub(crate) fn in_scope<
     'e,
     R: Threads + Wait,

@@ -52,7 +52,7 @@ impl Worker {
         }
     }
 
-    /// Waits until it is told, and makes its calls if it is told to begin.
+    /// Waits until it learns whether, and makes its calls if it is told to begin.
     pub(crate) fn run<'a, R: Wait, G: Gate>(self, rt: &R, phase: &Phase<'a, G>) -> End<'a>
         requires { IsJobOf phase.now.bench.now self.job }
         ensures { HasEnded phase.now.bench.now (G.says phase.now.gate.now) phase.now.begins.now.id self.job result }

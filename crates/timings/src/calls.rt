@@ -67,7 +67,7 @@ fn wait(condition: u16) -> Op {
     Op::OnCondition(CondCall::Wait(condition))
 }
 
-/// The calls of the thread that comes so many after the first.
+/// The calls of the thread that comes this many after the first.
 pub(crate) fn calls_for(
     alloc: Global,
     bench: &Bench,

@@ -17,7 +17,7 @@ use std::thread::Threads;
 use std::time::{Clock, Duration, Instant};
 use threadbench::{Bench, Gate, Job, Open, Record, WorkerPass};
 
-/// The job of the thread that comes so many after the first.
+/// The job of the thread that comes this many after the first.
 fn job_for(
     alloc: Global,
     bench: &Bench,
@@ -56,7 +56,7 @@ fn jobs_of(
     Ok(jobs)
 }
 
-/// How many calls went well: were answered OK, or that the mutex's owner had died.
+/// How many calls went well: were returned OK, or that the mutex's owner had died.
 fn went_well(records: &[Record]) -> u64 {
     let mut well = 0_u64;
     for record in records {

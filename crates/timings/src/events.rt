@@ -10,7 +10,7 @@ use std::alloc::{AllocError, Global};
 use std::io;
 use std::time::{Duration, Instant};
 
-/// Of so many of its calls a thread makes one on the mutex that all threads share.
+/// Of this many of its calls a thread makes one on the mutex that all threads share.
 const SHARED: u64 = 8;
 
 /// How many condition variables are waited on, where there are any. All are of the shared mutex.
@@ -56,14 +56,14 @@ fn next_event(machine: &Machine, thread: Tid, turn: u64) -> Event {
     }
 }
 
-/// Makes an event, behind the others.
+/// Makes an event, after the others.
 fn make(machine: &mut Machine, events: &mut Vec<Event>, event: &Event) -> Result<(), AllocError> {
     let _ = machine.step(*event);
     events.push(*event)?;
     Ok(())
 }
 
-/// So many events, the threads taking turns, in which those that sleep are passed over.
+/// This many events, the threads taking turns, in which those that sleep are passed over.
 fn schedule(alloc: Global, machine: &mut Machine, count: u64) -> Result<Vec<Event>, AllocError> {
     let threads = u64::from(machine.layout().threads());
     let mut events = Vec::new(alloc);
@@ -104,7 +104,7 @@ fn tell(
     )
 }
 
-/// A machine of so many, if there can be one.
+/// A machine of this many, if there can be one.
 fn machine_of(alloc: Global, threads: u8, mutexes: u16, conditions: &[u16]) -> Option<Machine> {
     let layout = Layout::new(threads, mutexes, conditions).ok()?;
     Machine::new(alloc, layout).ok()
@@ -132,8 +132,8 @@ fn measure(
     tell(rt, machine.layout(), events.len(), done, took)
 }
 
-/// Lets threads take so many turns in each of the three, of which those of sleepers are passed over; then it makes the
-/// same events once more, and prints nanoseconds an event.
+/// Lets threads take this many turns in each of the three, of which those of sleepers are passed over; then it makes
+/// the same events once more, and prints nanoseconds an event.
 pub(crate) fn tell_all(rt: &HostRuntime, count: u64) -> io::Result<()> {
     measure(rt, 4, 16, &[], count)?;
     measure(rt, 64, 4096, &[], count)?;

@@ -70,7 +70,7 @@ impl Load {
         }
     }
 
-    /// Before which of its accesses a thread dies: behind the eight of a lock and the two of a declaration.
+    /// Before which of its accesses a thread dies: after the eight of a lock and the two of a declaration.
     pub(crate) fn dies_before(&self) -> Option<u32> {
         if self.case == Case::Death {
             Some(11)

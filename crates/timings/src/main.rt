@@ -25,7 +25,7 @@ mod rounds;
 use crate::load::Load;
 use std::{env, io};
 
-/// What is measured so many times.
+/// What is measured this many times.
 fn tell_counted(rt: &HostRuntime, what: &str, count: &str) -> io::Result<()> {
     let Ok(count) = count.parse::<u64>() else {
         return Ok(());

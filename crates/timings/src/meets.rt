@@ -18,7 +18,7 @@ pub(crate) struct Meets {
     come: AtomicU64,
 }
 
-/// Waits until so many have come.
+/// Waits until this many have come.
 fn wait_for(come: &AtomicU64, count: u64) -> bool {
     for _ in 0..1_000_000_000_u64 {
         if come.load(Ordering::SeqCst) >= count {

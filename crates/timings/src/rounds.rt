@@ -17,7 +17,7 @@ fn plain_round(word: &AtomicU64) -> bool {
     taken.is_ok() && freed == 1
 }
 
-/// Makes so many plain rounds, and tells how many went well.
+/// Makes this many plain rounds, and tells how many went well.
 fn plain_rounds(count: u64) -> u64 {
     let word = AtomicU64::new(0);
     let mut well = 0_u64;
@@ -60,7 +60,7 @@ fn same_round(met: &Met) -> bool {
     taken.is_ok() && owned == 1 && freed == 1 && before == 1
 }
 
-/// Makes so many rounds of the same accesses, and tells how many went well.
+/// Makes this many rounds of the same accesses, and tells how many went well.
 fn same_rounds(count: u64) -> u64 {
     let met = Met {
         head: AtomicU64::new(1),
@@ -76,7 +76,7 @@ fn same_rounds(count: u64) -> u64 {
     well
 }
 
-/// A trylock and an unlock. There is no pass where one of them wasn't answered OK, or somebody was to be woken: then
+/// A trylock and an unlock. There is no pass where one of them wasn't returned OK, or somebody was to be woken: then
 /// the thread has stopped.
 fn round(words: &Words, pass: Pass<Live>) -> Option<Pass<Live>>
     requires pass { IsLive words.now pass }
@@ -98,7 +98,7 @@ fn round(words: &Words, pass: Pass<Live>) -> Option<Pass<Live>>
     }
 }
 
-/// Makes so many rounds, and tells how many went well.
+/// Makes this many rounds, and tells how many went well.
 fn rounds(words: &Words, first: Pass<Live>, count: u64) -> u64
     requires pass { IsLive words.now first }
     requires mutex { 0 < (layout_of words.now).mutexes }
@@ -120,7 +120,7 @@ fn tell(rt: &HostRuntime, what: &str, count: u64, well: u64, took: Duration) -> 
     println!(rt; "{what}: {each} ns a round, {well} of {count} went well")
 }
 
-/// Makes so many rounds of each, in one thread, and prints nanoseconds a round.
+/// Makes this many rounds of each, in one thread, and prints nanoseconds a round.
 pub(crate) fn tell_all(rt: &HostRuntime, count: u64) -> io::Result<()> {
     let Ok(layout) = Layout::new(1, 1, &[]) else {
         return Ok(());

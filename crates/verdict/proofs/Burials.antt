@@ -1,4 +1,4 @@
--- What fits line by line is a legal history, in which each death is told as often as it should be.
+-- What fits line by line is a legal history, in which each death is recorded as often as it should be.
 use Rattle.std.proofs.Common.{◌≡◌, ◌≢◌, ℕ, ◌+◌, ◌<◌, ◌≤◌, ◌==◌, ◌&&◌, Bool, true, false, List, [], ◌∷◌, ◌++◌, Option, None, Some, refl, sym, ap, subst, ◌∙◌, arith}
 use Rattle.std.specs.Prelude.{if◌then◌else◌, reverse}
 use Rattle.std.proofs.lemmas.List.{reverse-append}
@@ -160,7 +160,8 @@ balance n t m es (Death u k) free fits a = go (u == t) refl where
 
 -- ---- from a kill on
 
--- what is told after the kill of thread t, before it lives anew, the newest first, upon what was told with and before it
+-- what is recorded after the kill of thread t, before it lives again, the newest first, upon what was recorded with
+-- and before it
 still_killed : (t : ℕ) (f : Fact) (fs : List Fact) → (thread_of f == t) ≡ true → is_renewing t f ≡ false → is_killed fs ≡ true → is_killed (f ∷ fs) ≡ true
 still_killed t (Begin u c) fs is old k = k
 still_killed t (Kill u) fs is old k = refl
@@ -182,7 +183,8 @@ killed_after t e es old k = go (thread_of e.fact == t) refl where
 killed_now : (t : ℕ) (i : ℕ) (es : List Line) → is_killed (told_of t ((record { event = i; fact = Kill t }) ∷ es)) ≡ true
 killed_now t i es = let yes : (t == t) ≡ true = grind (arith, nat_tests) in ap (λ b. is_killed (if b then Kill t ∷ told_of t es else told_of t es)) yes
 
--- so far: each mutex that t owned at its kill is told of once, or is still owned; and a reaped thread owns nothing
+-- so far: each mutex that t owned at its kill is reported once, or is still owned; and a reaped thread owns
+-- nothing
 record Settled (t n : ℕ) (earlier newer told : List Line) : Type 0 where
   killed : is_killed (told_of t told) ≡ true
   each : (m : ℕ) → deaths t m newer + owns t (objects_after told m) ≡ owns t (objects_after earlier m)
@@ -217,7 +219,7 @@ settle t n earlier newer told e old fit fits s = record {
     go true is w m lt = let was = reap_owns t n (objects_after told) e.fact fits.reaped is m lt in let b = one_more m in omega (arith, was, b)
     go false is w m lt = let was = s.gone w m lt in let b = one_more m in omega (arith, was, b)
 
--- none of these lines tells that t lives anew
+-- none of these lines tells that t lives again
 not_yet : (b c : Bool) → (if b then true else c) ≡ false → (b ≡ false) × (c ≡ false)
 not_yet false c e = (refl, e)
 not_yet true c e = absurd cc
@@ -243,7 +245,7 @@ buries t n earlier newer told s = record {
   no_other = λ m lt owner. let a = s.each m in let c = ap one (not_owner t (objects_after earlier m).owner owner) in omega (arith, a, c);
 }
 
--- behind the first line that tells that t lives anew nothing counts
+-- after the first line that tells that t lives again nothing counts
 buries_life : (t n i : ℕ) (earlier newer : List Line) → AllFit n (newer ++ (record { event = i; fact = Kill t }) ∷ earlier) → Buries t n (objects_after earlier) (in_this_life t newer)
 buries_life t n i earlier [] fit = buries t n earlier [] ((record { event = i; fact = Kill t }) ∷ earlier) (settled t n i earlier [] refl fit)
 buries_life t n i earlier (e ∷ newer) fit = go (renewed t (e ∷ newer)) refl (buries_life t n i earlier newer fit.1) where
@@ -261,7 +263,7 @@ pub each_reverse : (P : Line → Type 0) (es : List Line) → Each P es → Each
 each_reverse P [] all = tt
 each_reverse P (e ∷ es) all = subst (Each P) (sym (reverse-append (e ∷ []) es)) (each_append P (reverse es) (e ∷ []) (each_reverse P es all.1) (all.0, tt))
 
--- a line behind all of them
+-- a line after all of them
 orderly_behind : (xs : List Line) (e : Line) → Orderly xs → Each (λ a. Later a e) xs → Orderly (xs ++ e ∷ [])
 orderly_behind [] e order before = (tt, tt)
 orderly_behind (x ∷ xs) e order before = (each_append (Later x) xs (e ∷ []) order.0 (before.0, tt), orderly_behind xs e order.1 before.1)

@@ -178,7 +178,7 @@ still_unpointed t e es old is = go (thread_of e.fact == t) refl is where
   go false mine is = is
   go true mine is = unpointed t e.fact (told_of t es) mine old is
 
--- its own begin stands in an event before that of another thread's step
+-- its own begin is in an event before that of another thread's step
 a_begin : (t : ℕ) (f : Fact) → begins_call t f ≡ true → (is_passive f ≡ false) × (thread_of f ≡ t)
 a_begin t (Begin u c) is = (refl, grind (arith, nat_tests))
 a_begin t f is = absurd cc

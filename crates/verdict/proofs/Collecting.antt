@@ -14,13 +14,14 @@ use Rattle.verdict.specs.Told.{Gives, IsTelling}
 use Rattle.verdict.proofs.Lines.{all_from, faults_from, goes_told}
 use Rattle.verdict.proofs.Whole.{whole}
 
--- one line more, behind the others
+-- one line more, after the others
 pub keeps : (n : ℕ) (h : Head) (kept more : List Line) (e : Line) (text rest after : List ℕ) (total : Result Trace TraceFault) → lines_of rest ≡ text ∷ lines_of after → line_read h text ≡ Ok (told_line e) → more ≡ kept ++ e ∷ [] → lines_read n h (reverse kept) (lines_of rest) ≡ total → lines_read (n + 1) h (reverse more) (lines_of after) ≡ total
 keeps n h kept more e text rest after total parts read is so_far =
     let turned : reverse more ≡ e ∷ reverse kept = ap reverse is ∙ reverse-append kept (e ∷ []) in
     ap (λ (ls : List Line). lines_read (n + 1) h ls (lines_of after)) turned ∙ goes_told n h (reverse kept) e text rest after total parts read so_far
 
--- memory is wanted for what a line tells, behind as many others as its number says: the lines behind it tell of no fault before it
+-- memory is needed for what a line tells, after as many others as its number says: the lines after it tell of no
+-- fault before it
 pub wants : (n : ℕ) (h : Head) (told : List Line) (e : Line) (text rest after : List ℕ) (total : Result Trace TraceFault) → n ≡ length told + 2 → lines_of rest ≡ text ∷ lines_of after → line_read h text ≡ Ok (told_line e) → lines_read n h told (lines_of rest) ≡ total → IsTelling n total
 wants n h told e text rest after total count parts read so_far =
     subst (IsTelling n) (goes_told n h told e text rest after total parts read so_far)
@@ -30,7 +31,7 @@ wants n h told e text rest after total count parts read so_far =
     go (Ok t) before all = (omega (arith, count), omega (arith, count, all))
     go (Err f) before all = (omega (arith, count), omega (arith, before))
 
--- what the lines behind the head give, all lines give
+-- what the lines after the head give, all lines give
 pub gives : (text first rest : List ℕ) (h : Head) (r : Result Told TraceFault) → lines_of text ≡ first ∷ lines_of rest → head_read first ≡ Ok h → Gives (lines_read 2 h [] (lines_of rest)) r → Gives (text_read (lines_of text)) r
 gives text first rest h r parts head g = subst (λ said. Gives said r) (sym same) g
   where

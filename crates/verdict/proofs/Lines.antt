@@ -22,7 +22,7 @@ unfolding lines_read
 unrolled n h told text [] long = absurd (omega (arith, long))
 unrolled n h told text (l ∷ ls) long = refl
 
--- a line is read behind which others stand
+-- a line is read after which others stand
 at_line : (n : ℕ) (h : Head) (told : List Line) (text rest after : List ℕ) (total : Result Trace TraceFault) → lines_of rest ≡ text ∷ lines_of after → lines_read n h told (lines_of rest) ≡ total
     → (met_at n (line_read h text) >>= goes_on (n + 1) h told (lines_of after) (λ e. lines_read (n + 1) h (e ∷ told) (lines_of after))) ≡ total
 at_line n h told text rest after total parts so_far = sym (unrolled n h told text (lines_of after) (one_or_more (λ b. b == 10) after)) ∙ sym (ap (lines_read n h told) parts) ∙ so_far

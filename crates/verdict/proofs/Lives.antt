@@ -49,7 +49,7 @@ made_more : (t : ℕ) (c : Begun) (ps : List Act) (p : Act) → made t c ps ++ m
 made_more t c [] p = refl
 made_more t c (q ∷ ps) p = ap (λ fs. made_by t c q ∷ fs) (made_more t c ps p)
 
--- a fact behind a call's points
+-- a fact after a call's points
 behind : (t : ℕ) (c : Begun) (fs before : List Fact) (ps : List Act) (f : Fact) (later : List Fact) → fs ≡ before ++ Begin t c ∷ made t c ps → (fs ++ f ∷ []) ++ later ≡ before ++ Begin t c ∷ (made t c ps ++ f ∷ later)
 behind t c fs before ps f later all = append_assoc fs (f ∷ []) later ∙ ap (λ gs. gs ++ f ∷ later) all ∙ append_assoc before (Begin t c ∷ made t c ps) (f ∷ later)
 
@@ -118,7 +118,7 @@ all_lives t s fs n = subst (Lives t) (sym n.all) (n.goes_on n.life (Last n.life 
 newborn : (t : ℕ) → Now t Resting []
 newborn t = record { former = []; life = []; all = refl; goes_on = λ later h. h; past = λ later h. h }
 
--- the thread lives anew
+-- the thread lives again
 renewed_fact : (t : ℕ) (s : Stage) (f : Fact) (fs : List Fact) → is_renewal f ≡ true → thread_of f ≡ t → May s f → Now t s fs → Now t (next s f) (fs ++ f ∷ [])
 renewed_fact t Reaped (Renew u) fs new is m n = record {
   former = n.former ++ (n.life ++ Renew t ∷ []);

@@ -63,7 +63,7 @@ forbids_out m s f fs kept h = absurd h
 
 -- ---- such a line breaks its clause of Fits
 
--- of a killed thread nothing fits but its death and its reaping, and then that it lives anew
+-- of a killed thread nothing fits but its death and its reaping, and then that it lives again
 ended_breaks : (fs : List Fact) (f : Fact) → IsEnded fs → (needs_kill f ≡ true → is_reaped fs ≡ false → ⊥) → (is_renewal f ≡ true → is_reaped fs ≡ true → ⊥) → FitsThread fs f → ⊥
 ended_breaks fs (fact.Begin t c) e mourned renewed fits = unkilled _ e.killed fits.1
 ended_breaks fs (fact.Kill t) e mourned renewed fits = unkilled _ e.killed fits

@@ -1,4 +1,4 @@
--- Where no thread lives anew, each has one life.
+-- Where no thread lives again, each has one life.
 use Rattle.std.proofs.Common.{◌≡◌, ℕ, ◌==◌, ◌&&◌, Bool, true, false, List, [], ◌∷◌, ◌++◌, refl, ap, subst, ◌∙◌}
 use Rattle.std.specs.Prelude.{if◌then◌else◌, reverse}
 use Rattle.facts.specs.declared.fact.Fact.{Fact}

@@ -190,7 +190,7 @@ shows_next n p q told line e shows takes sound is some lt mutex here = go p.ille
       } in
       subst (λ o. MatchOption o (AllFit n (e ∷ told) × Reflects q.judge (e ∷ told) × (q.points ≡ point_lines (e ∷ told))) (λ why. IsReason n (e ∷ told) why)) (sym d) found
 
--- before the first line behind the head
+-- before the first line after the head
 reflects_new : (h : Head) (j : Judge) → IsNew h j → Reflects j []
 reflects_new h j new = record {
   stages = λ t. subst (λ s. Kept s []) (sym (new.stages t)) (refl, refl, refl, refl);

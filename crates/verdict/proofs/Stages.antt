@@ -1,4 +1,4 @@
--- What is kept of a thread says what was told of it.
+-- What is kept of a thread says what was recorded of it.
 use Rattle.std.proofs.Common.{◌≡◌, ◌≢◌, ⊎_elim, inl, inr, Bool, true, false, List, [], ◌∷◌, ◌++◌, Option, None, Some, refl, sym, ap, subst, ◌∙◌, append_assoc}
 use Rattle.lockword.specs.declared.reply.Reply.{Reply}
 use Rattle.lockword.specs.declared.reply.Reply.TheVariants.{OK}
@@ -90,7 +90,7 @@ none_more a (q ∷ []) (r ∷ rest) p x y is also = also
 none_more a (q ∷ r ∷ []) rest p x y is also = also
 none_more a (q ∷ r ∷ s ∷ qs) rest p x y is also = is
 
--- nor behind all of them
+-- nor after all of them
 pub no_more : (a : Operation) (ps : List Act) (y : Reply) (b : Operation) (x : Reply) → Complete a ps y → Beginning a (ps ++ (b, x) ∷ []) → ⊥
 no_more a ps y b x of is = none_more a ps is.0 (b, x) y is.1 of (subst (λ ys. Complete a ys is.1) (append_assoc ps ((b, x) ∷ []) is.0) is.2)
 

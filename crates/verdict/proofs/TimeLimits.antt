@@ -11,7 +11,7 @@ use Rattle.verdict.specs.Explained.{facts_of}
 use Rattle.verdict.specs.Fits.{IsDue}
 use Rattle.verdict.specs.Verdicts.{AllFit}
 
--- one fact more, behind the others
+-- one fact more, after the others
 after_more : (t m : ℕ) (c : Chances) (fs : List Fact) (f : Fact) → chances_after t m c (fs ++ f ∷ []) ≡ chances_next t m (chances_after t m c fs) f
 after_more t m c [] f = refl
 after_more t m c (g ∷ fs) f = after_more t m (chances_next t m c g) fs f

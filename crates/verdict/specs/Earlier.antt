@@ -18,13 +18,13 @@ use Rattle.facts.specs.Chances.{Chances, begins_call, chances_next, no_chances}
 
 -- ---- one thread
 
--- what is told of thread t
+-- what is recorded of thread t
 abbrev pub told_of : ℕ → List Line → List Fact
 told_of t [] = []
 told_of t (e ∷ es) = if thread_of e.fact == t then e.fact ∷ told_of t es else told_of t es
 
--- the call in which a thread is, of which these facts are told: it began, and has neither returned nor been cut by a
--- kill
+-- the call in which a thread is, of which these facts are recorded: it began, and has neither returned nor been cut
+-- by a kill
 abbrev pub call_in : List Fact → Option Begun
 call_in [] = None
 call_in (Begin t c ∷ fs) = Some c
@@ -47,14 +47,14 @@ is_asleep (Wake t ∷ fs) = false
 is_asleep (Kill t ∷ fs) = false
 is_asleep (f ∷ fs) = is_asleep fs
 
--- it was killed, and hasn't lived anew since
+-- it was killed, and hasn't lived again since
 abbrev pub is_killed : List Fact → Bool
 is_killed [] = false
 is_killed (Kill t ∷ fs) = true
 is_killed (Renew t ∷ fs) = false
 is_killed (f ∷ fs) = is_killed fs
 
--- it was reaped, and hasn't lived anew since
+-- it was reaped, and hasn't lived again since
 abbrev pub is_reaped : List Fact → Bool
 is_reaped [] = false
 is_reaped (Reap t ∷ fs) = true

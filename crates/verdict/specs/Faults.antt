@@ -3,7 +3,7 @@ use Rattle.std.specs.Prelude.{ℕ, List, codes}
 use Rattle.verdict.specs.declared.fault.Fault.{Fault}
 use Rattle.verdict.specs.declared.fault.Fault.TheVariants.{NotUtf8, UnknownWord, OutOfRange, TooLong, Cut, OutOfMemory}
 
--- the number that a fault is told by
+-- the number by which a fault is reported
 abbrev pub number_of : Fault → ℕ
 number_of NotUtf8 = 1
 number_of UnknownWord = 2

@@ -1,6 +1,6 @@
--- Which line may stand behind the lines before it.
+-- Which line may be after the lines before it.
 --
--- *Fits.* Which line may stand behind the lines before it: in the order of events (`Later`), as its thread's calls,
+-- *Fits.* Which line may be after the lines before it: in the order of events (`Later`), as its thread's calls,
 -- sleep and death allow, and as the mutex's object allows; a call is out of time only where another thread owned its
 -- mutex since it began (`MayTimeOut`); who is reaped owns nothing.
 use Rattle.std.specs.Prelude.{ℕ, ◌≡◌, ◌≢◌, ◌<◌, true, false, Option, Some, None, List, [], ◌∷◌, ◌++◌}
@@ -20,7 +20,7 @@ use Rattle.facts.specs.Orders.{Later, Each}
 use Rattle.verdict.specs.Earlier.{told_of, call_in, points_in, is_asleep, is_killed, is_reaped}
 use Rattle.verdict.specs.Earlier.{objects_after, chances_behind}
 
--- what may be told of a thread of which the facts so far are told: one clause for each kind of line
+-- what may be recorded of a thread of which the facts so far are recorded: one clause for each kind of line
 abbrev pub FitsThread : List Fact → Fact → Type 0
 FitsThread fs (Begin t c) = (call_in fs ≡ None) × (is_killed fs ≡ false)
 FitsThread fs (Kill t) = is_killed fs ≡ false
@@ -51,7 +51,7 @@ abbrev pub OwnsNothing : ℕ → (ℕ → Object) → Fact → Type 0
 OwnsNothing n os (Reap t) = (m : ℕ) → m < n → (os m).owner ≢ Some t
 OwnsNothing n os f = Unit {0}
 
--- a line may stand behind the earlier ones
+-- a line may be after the earlier ones
 pub record Fits (n : ℕ) (earlier : List Line) (e : Line) : Type 0 where
   pub in_order : Each (λ a. Later a e) earlier
   pub of_thread : FitsThread (told_of (thread_of e.fact) earlier) e.fact

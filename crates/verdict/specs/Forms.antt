@@ -40,7 +40,7 @@ mutex_word w = numbered 109 w
 abbrev pub condition_word : List ℕ → Option (Option ℕ)
 condition_word w = numbered 99 w
 
--- the calls on a mutex, of which a reinit is told as one
+-- the calls on a mutex, of which a reinit is recorded as one
 abbrev pub of_mutex : Operation → Option Operation
 of_mutex Lock = Some Lock
 of_mutex TryLock = Some TryLock
@@ -138,7 +138,7 @@ many_form e w t a b c = number_of e >>= λ i. thread_word t >>= λ u.
     if bytes_eq w (codes "begin") then (begin_on_said u a b c >>= λ s. Some (Told i s))
     else (if bytes_eq w (codes "point") then (point_said u a b c >>= λ s. Some (Told i s)) else None)
 
--- a line behind the first, by its words
+-- a line after the first, by its words
 abbrev pub words_form : List (List ℕ) → Option Form
 words_form (w ∷ n ∷ []) = end_form w n
 words_form (e ∷ w ∷ t ∷ []) = mark_form e w t

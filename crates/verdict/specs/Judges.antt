@@ -48,7 +48,7 @@ IsMutex n f = Unit {0}
 abbrev pub IsInside : ℕ → ℕ → Fact → Type 0
 IsInside threads n f = (thread_of f < threads) × IsMutex n f
 
--- what a line behind the head can tell
+-- what a line after the head can tell
 abbrev pub IsRead : Head → Read → Type 0
 IsRead h (Told e) = (1 ≤ e.event) × IsInside (h.threads + 1) h.mutexes e.fact
 IsRead h (End n) = Unit {0}
@@ -124,7 +124,7 @@ pub record Moves (j : Judge) (e : Line) (k : Judge) : Type 0 where
   pub begun : k.begun.items ≡ begun_next j.begun.items e.event e.fact
   pub freed : k.freed.items ≡ freed_next j.freed.items e.event e.fact
 
--- before the first line behind the head
+-- before the first line after the head
 pub record IsNew (h : Head) (j : Judge) : Type 0 where
   pub head : j.head ≡ h
   pub place : j.place ≡ nowhere

@@ -74,7 +74,7 @@ needs_kill (Reap t) = true
 needs_kill (Renew t) = true
 needs_kill f = false
 
--- the thread was killed, which ended its call and its sleep, and hasn't lived anew since
+-- the thread was killed, which ended its call and its sleep, and hasn't lived again since
 pub record IsEnded (fs : List Fact) : Type 0 where
   pub killed : is_killed fs ≡ true
   pub no_call : call_in fs ≡ None
@@ -120,8 +120,8 @@ IsOutOfLife m fs f = ⊥
 
 -- ---- the mutexes
 
--- the mutex's object doesn't allow the step of a thread that owns so many mutexes: it is a lock or trylock of a thread
--- that owns as many as it may, a death of one that isn't the owner, or neither. A death replies OK
+-- the mutex's object doesn't allow the step of a thread that owns this many mutexes: it is a lock or trylock of a
+-- thread that owns as many as it may, a death of one that isn't the owner, or neither. A death replies OK
 abbrev pub RefusesStep : Misfit → ℕ → Object → Decision → Type 0
 RefusesStep (NotAllowed p x) held o d = (p ≡ o) × (x ≡ d.reply) × (acquires d.operation ≡ true → held < held_limit)
     × (d.operation ≡ operation.Death → x ≢ OK) × ((new : Object) → Permits o d.thread d.operation x new → ⊥)
@@ -146,7 +146,7 @@ OwnsSome m n os f = ⊥
 
 -- ---- the line
 
--- the reason is true of the line behind the earlier ones, and the clause of Fits that it is about is the first that
+-- the reason is true of the line after the earlier ones, and the clause of Fits that it is about is the first that
 -- isn't: the line's event comes first, then its thread, then its mutex; n is the number of mutexes
 abbrev pub IsMisfit : Misfit → ℕ → List Line → Line → Type 0
 IsMisfit m n earlier e =

@@ -28,7 +28,7 @@ Decides p n e q =
     × (q.points ≡ (if is_point e.fact then 1 + p.points else p.points)))
     ⊎ ((m : Misfit) × Rejects m p.judge e × (q.illegal ≡ Some (misfit_at n m)))
 
--- behind such an entry nothing is judged
+-- after such an entry nothing is judged
 abbrev pub Takes : Pass → ℕ → Line → Pass → Type 0
 Takes p n e q = MatchOption p.illegal (Decides p n e q) (λ why. q.illegal ≡ Some why)
 
@@ -37,19 +37,19 @@ abbrev pub found_at : Option TraceMisfit → ℕ → ℕ → ℕ → Bool → Fi
 found_at (Some why) points n event short = Illegal why
 found_at None points n event short = if short then Illegal (misfit_at n (EndFalls event)) else Legal points
 
--- before the first line behind the head
+-- before the first line after the head
 pub record IsFresh (p : Pass) : Type 0 where
   pub head : IsHead p.judge.head
   pub judge : IsNew p.judge.head p.judge
   pub points : p.points ≡ 0
   pub illegal : p.illegal ≡ None
 
--- a pass over the lines behind the head answers what they say
+-- a pass over the lines after the head answers what they say
 abbrev pub AnswersLines : Result Trace TraceFault → Result Finding TraceFault → Type 0
 AnswersLines said (Ok f) = (t : Trace) × (said ≡ Ok t) × IsFound t f
 AnswersLines said (Err e) = said ≡ Err e
 
--- a pass that begins behind this head line, its fault, or want of memory where it has none
+-- a pass that begins after this head line, its fault, or lack of memory where it has none
 abbrev pub MakesPass : Result Head Fault → Result Pass Fault → Type 0
 MakesPass said (Ok p) = (said ≡ Ok p.judge.head) × IsFresh p
 MakesPass said (Err f) = (said ≡ Err f) ⊎ ((f ≡ OutOfMemory) × IsOk said)

@@ -41,7 +41,7 @@ ClashesHere KillShares p f = (p.killed ≡ false) × (is_kill f ≡ true)
 ClashesHere EventDecided p f = (p.decided ≡ true) × (decides f ≡ true)
 ClashesHere m p f = IsAnothers m p.thread f
 
--- why the entry may not stand there
+-- why the entry may not are there
 abbrev pub Clashes : Misfit → Place → Line → Type 0
 Clashes (EventFalls n) p e = (n ≡ p.event) × (e.event < n)
 Clashes m p e = (p.event ≡ e.event) × ClashesHere m p e.fact

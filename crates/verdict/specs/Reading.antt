@@ -1,8 +1,8 @@
 -- What a trace says, and its first fault: each line in turn.
 --
 -- *The trace and its first fault.* First the bytes (too many; not UTF-8), then the lines, each in turn: its form, then
--- its numbers; then whether the last is an `end` line with nothing behind it. A fault is told wherever a line before it
--- doesn't fit.
+-- its numbers; then whether the last is an `end` line with nothing after it. A fault is recorded wherever a line
+-- before it doesn't fit.
 use Rattle.std.specs.Prelude.{ℕ, ◌+◌, ◌≤◌, nat_lt, List, [], ◌∷◌, length, Option}
 use Rattle.std.specs.Prelude.{Some, None, Result, Ok, Err, if◌then◌else◌}
 use Rattle.std.specs.Option.{ok_or}
@@ -118,7 +118,7 @@ line_in h (form.End n) = n >>? λ i. Some (read.End i)
 abbrev pub head_read : List ℕ → Result Head Fault
 head_read text = ok_or (head_form (words_of text)) UnknownWord >>= λ f. ok_or (head_in f) OutOfRange
 
--- a line behind the first, which a line feed ends
+-- a line after the first, which a line feed ends
 abbrev pub line_read : Head → List ℕ → Result Read Fault
 line_read h text = ok_or (form_of text) UnknownWord >>= λ f. ok_or (line_in h f) OutOfRange
 
@@ -130,24 +130,24 @@ abbrev pub met_at : {A : Type 0} → ℕ → Result A Fault → Result A TraceFa
 met_at n (Ok x) = Ok x
 met_at n (Err f) = Err (fault_at n f)
 
--- nothing stands behind a line feed, though there was no `end` line; or something stands there, which no line feed ends
+-- nothing stands after a line feed, though there was no `end` line; or something is there, which no line feed ends
 abbrev pub unended : List ℕ → Fault
 unended [] = Cut
 unended (b ∷ bs) = UnknownWord
 
--- nothing stands behind the `end` line; where something does, it is at line n
+-- nothing stands after the `end` line; where something does, it is at line n
 abbrev pub ended : ℕ → Head → List Line → ℕ → List (List ℕ) → Result Trace TraceFault
 ended n h told i ([] ∷ []) = Ok (record { head = h; told = told; last = i })
 ended n h told i _ = Err (fault_at n Cut)
 
--- what follows a line: the lines behind it, the first of which is line n
+-- what follows a line: the lines after it, the first of which is line n
 abbrev pub goes_on : ℕ → Head → List Line → List (List ℕ) → (Line → Result Trace TraceFault) → Read
     → Result Trace TraceFault
 goes_on n h told ls more (read.Told e) = more e
 goes_on n h told ls more (read.End i) = ended n h told i ls
 
--- these lines, the first of which is line n, behind a first line and what the lines behind that one told; what stands
--- behind the last line feed is the last of them
+-- these lines, the first of which is line n, after a first line and what the lines after that one told; what stands
+-- after the last line feed is the last of them
 unfoldable pub lines_read : ℕ → Head → List Line → List (List ℕ) → Result Trace TraceFault
 lines_read n h told [] = Err (fault_at n Cut)
 lines_read n h told (text ∷ []) = Err (fault_at n (unended text))

@@ -48,7 +48,7 @@ abbrev pub MayReturnNow : Operation → Made → Reply → Type 0
 MayReturnNow a (Decided y) x = MayReturn a y x
 MayReturnNow a made x = ⊥
 
--- what may be told of a thread at a stage
+-- what may be recorded of a thread at a stage
 abbrev pub May : Stage → Fact → Type 0
 May Resting (Begin t c) = Unit {0}
 May Resting (Kill t) = Unit {0}
@@ -64,7 +64,7 @@ May Dying (Reap t) = Unit {0}
 May Reaped (Renew t) = Unit {0}
 May stage f = ⊥
 
--- why a fact may not be told of a thread at a stage
+-- why a fact may not be recorded of a thread at a stage
 abbrev pub Forbids : Misfit → Stage → Fact → Type 0
 Forbids (misfit.InCall k) (Calling c made asleep) f = (begins f ≡ true) × (k ≡ c)
 Forbids misfit.NoCall Resting f = acts f ≡ true

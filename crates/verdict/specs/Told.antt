@@ -1,6 +1,6 @@
 -- What was read of a trace.
 --
--- *What a trace told.* The first line, what each line behind it tells, in their order, and the number on the last one;
+-- *What a trace told.* The first line, what each line after it tells, in their order, and the number on the last one;
 -- of a trace that isn't legal too. Memory is wanted for what a line tells, at that line, before which there is no
 -- fault.
 use Rattle.std.specs.Prelude.{ℕ, ◌≡◌, ◌+◌, ◌<◌, ◌≤◌, ◌⊎◌, All, length, reverse, Result, Ok, Err}
@@ -26,14 +26,14 @@ pub record IsWithin (t : Told) : Type 0 where
   pub head : IsHead t.head
   pub lines : All (IsOf t.head) t.lines.items
 
--- line n tells of an event: it stands behind the first line, before the last one of a trace, and before the first fault
--- of what is none
+-- line n tells of an event: it stands after the first line, before the last one of a trace, and before the first
+-- fault of what is none
 abbrev pub IsTelling : ℕ → Result Trace TraceFault → Type 0
 IsTelling n (Ok t) = (2 ≤ n) × (n < length t.told + 2)
 IsTelling n (Err first) = (2 ≤ n) × (n < first.line)
 
--- what is given where the bytes say this: the trace that they are; their first fault; or want of memory for what a line
--- tells, at that line
+-- what is given where the bytes say this: the trace that they are; their first fault; or lack of memory for what a
+-- line tells, at that line
 abbrev pub Gives : Result Trace TraceFault → Result Told TraceFault → Type 0
 Gives said (Ok t) = said ≡ Ok (trace_of t)
 Gives said (Err e) = (said ≡ Err e) ⊎ ((e.fault ≡ OutOfMemory) × IsTelling e.line said)

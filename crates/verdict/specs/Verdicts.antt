@@ -37,7 +37,7 @@ pub record IsLegal (t : Trace) : Type 0 where
   pub explained : Explains t.head.mutexes t.told
 
 -- of these lines, which stand newest first, this is the first that doesn't fit those before it; line 2 is the first
--- behind the head
+-- after the head
 pub record IsFirstMisfit (n : ℕ) (told : List Line) (line : ℕ) : Type 0 where
   pub newer : List Line
   pub misfit : Line
@@ -57,7 +57,7 @@ abbrev pub IsJudged : Trace → Verdict → Type 0
 IsJudged t (Legal points) = IsLegal t × (points ≡ point_lines t.told)
 IsJudged t (Illegal line) = IsFirstMisfit t.head.mutexes t.told line ⊎ IsShort t line
 
--- what is answered where the bytes say this: the verdict on the trace that they are; their first fault; or want of
+-- what is answered where the bytes say this: the verdict on the trace that they are; their first fault; or lack of
 -- memory at line 1, where that line has no fault
 abbrev pub Answers : Result Trace TraceFault → Result Verdict TraceFault → Type 0
 Answers said (Ok v) = (t : Trace) × (said ≡ Ok t) × IsJudged t v

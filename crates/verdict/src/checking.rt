@@ -68,7 +68,7 @@ pub struct Pass {
 }
 
 impl Pass {
-    /// Before the first line behind the head.
+    /// Before the first line after the head.
     fn new(alloc: Global, head: Head) -> Result<Pass, AllocError>
         requires { IsHead head }
         ensures { IfOk result (λ p. IsFresh p × (p.judge.head ≡ head)) }
@@ -130,7 +130,7 @@ impl Pass {
     }
 }
 
-/// What is wrong with what stands behind the last line feed, where there was no `end` line.
+/// What is wrong with what stands after the last line feed, where there was no `end` line.
 pub(crate) fn unended_by(rest: &str) -> Fault
     ensures { result ≡ unended rest.now }
 {
@@ -217,7 +217,7 @@ pub fn explain(alloc: Global, bytes: &[u8]) -> Result<Finding, TraceFault>
 }
 
 /// Whether the bytes are a legal trace, or the first line that doesn't fit those before it; where they are no trace,
-/// their first fault, wherever a line doesn't fit. Only want of memory, at line 1, may come in the place of a verdict
+/// their first fault, wherever a line doesn't fit. Only lack of memory, at line 1, may come in the place of a verdict
 /// or of a later line's fault.
 pub fn check(alloc: Global, bytes: &[u8]) -> Result<Verdict, TraceFault>
     ensures { Answers (trace_read bytes.now) result }

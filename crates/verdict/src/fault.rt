@@ -20,7 +20,7 @@ pub enum Fault {
     /// There are too many bytes.
     #[error("too long")]
     TooLong,
-    /// There is no `end` line, or something stands behind it.
+    /// There is no `end` line, or something stands after it.
     #[error("cut")]
     Cut,
     /// No memory was left.
@@ -29,7 +29,7 @@ pub enum Fault {
 }
 
 impl Fault {
-    /// Its number, from 1 to 6.
+    /// The number, from 1 to 6.
     pub fn number(self) -> u8
         ensures { result ≡ number_of self }
     {
@@ -43,7 +43,7 @@ impl Fault {
         }
     }
 
-    /// Its words, as its message has them.
+    /// The words, as its message has them.
     pub fn words(self) -> &'static str
         ensures { result.now ≡ words_of self }
     {

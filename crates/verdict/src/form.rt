@@ -37,7 +37,7 @@ pub enum Said {
     Renew(Spelled),
 }
 
-/// What a line behind the first spells.
+/// What a line after the first spells.
 #[derive(Clone, Copy)]
 pub enum Form {
     /// What an event did, with the event's number.
@@ -61,7 +61,7 @@ fn operation(word: &str) -> Option<Operation>
     word.parse::<Operation>().ok()
 }
 
-/// A call on a mutex, by its word; a reinit is told as one.
+/// A call on a mutex, by its word; a reinit is recorded as one.
 fn mutex_operation(word: &str) -> Option<Operation>
     ensures { result ≡ mutex_operation word.now }
 {
@@ -125,7 +125,7 @@ fn end(keyword: &str, count: &str) -> Option<Form>
     None
 }
 
-/// A line with nothing behind its thread.
+/// A line with nothing after its thread.
 fn mark(event: &str, keyword: &str, thread: &str) -> Option<Form>
     ensures { result ≡ mark_form event.now keyword.now thread.now }
 {
@@ -161,7 +161,7 @@ fn with_object(keyword: &str, thread: Spelled, object: &str) -> Option<Said>
     }
 }
 
-/// A line with one word behind its thread.
+/// A line with one word after its thread.
 fn object(event: &str, keyword: &str, thread: &str, object: &str) -> Option<Form>
     ensures { result ≡ object_form event.now keyword.now thread.now object.now }
 {
@@ -202,7 +202,7 @@ fn point(thread: Spelled, mutex: &str, call: &str, word: &str) -> Option<Said>
     Some(Said::Point(thread, mutex, operation, reply(word)?))
 }
 
-/// A line with three words behind its thread.
+/// A line with three words after its thread.
 fn many(
     event: &str,
     keyword: &str,
@@ -222,7 +222,7 @@ fn many(
     }
 }
 
-/// What a line behind the first spells, and None where it is no such line.
+/// What a line after the first spells, and None where it is no such line.
 pub fn read_form(text: &str) -> Option<Form>
     ensures { result ≡ form_of text.now }
 {

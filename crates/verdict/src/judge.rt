@@ -24,11 +24,11 @@ use std::alloc::{AllocError, Global};
 pub struct Judge {
     pub head: Head,
     pub place: Place,
-    /// By the threads' ids, from 0, which is no thread's.
+    /// Indexed by the threads' ids, from 0, which is no thread's.
     pub stages: Vec<Stage>,
     /// How many mutexes each thread owns, by the threads' ids.
     pub held: Vec<u16>,
-    /// By the mutexes' numbers.
+    /// Indexed by the mutexes' numbers.
     pub objects: Vec<Object>,
     /// The event in which each thread began its newest call, by the threads' ids; 0 where it has begun none.
     pub begun: Vec<u32>,
@@ -84,7 +84,7 @@ fn acquires(operation: Operation) -> bool
     )
 }
 
-/// Why a step is refused that a mutex's object doesn't allow to a thread that owns so many.
+/// Why a step is refused that a mutex's object doesn't allow to a thread that owns this many.
 fn refusal(held: u16, object: Object, decision: &Decision) -> Misfit
     requires { (new : Object) → ¬ Does held object decision.now.thread decision.now.operation decision.now.reply new }
     ensures { RefusesStep result held object decision.now }
@@ -207,7 +207,7 @@ fn note_freeing(freed: &mut Vec<u32>, event: u32, fact: &Fact)
 }
 
 impl Judge {
-    /// Before the first line behind the head, with room for all that is kept.
+    /// Before the first line after the head, with room for all that is kept.
     pub fn new(alloc: Global, head: Head) -> Result<Judge, AllocError>
         requires { IsHead head }
         ensures { IfOk result (λ j. IsNew head j) }

@@ -6,10 +6,10 @@ use posixmutex::{Object, Operation};
 use std::fmt;
 use thiserror::Error;
 
-/// What a line of a trace says that can't be, behind the lines before it.
+/// What a line of a trace says that can't be, after the lines before it.
 #[derive(Clone, Copy, Debug, PartialEq, Eq, Error)]
 pub enum Misfit {
-    /// The line is of an event before this one, of which a line was told: the numbers of events never fall.
+    /// The line is of an event before this one, of which a line was recorded: the numbers of events never fall.
     #[error("the event is before event {latest}, of which a line was told")]
     EventFalls { latest: u32 },
     /// A line of the event tells what this thread did, and an event is one thread's, whomever it wakes or moves.
@@ -40,13 +40,13 @@ pub enum Misfit {
     /// The thread was killed, and does nothing more in this life.
     #[error("the thread was killed")]
     Killed,
-    /// The thread was killed, isn't reaped yet, and so doesn't live anew.
+    /// The thread was killed, isn't reaped yet, and so doesn't live again.
     #[error("the thread was killed, and isn't reaped yet")]
     NotReaped,
-    /// The thread was reaped, and nothing is told of it before it lives anew.
+    /// The thread was reaped, and nothing is recorded of it before it lives again.
     #[error("the thread was reaped")]
     Reaped,
-    /// The thread lives, and so its death isn't told, it isn't reaped and it doesn't live anew.
+    /// The thread lives, and so its death isn't told, it isn't reaped and it doesn't live again.
     #[error("the thread lives")]
     Alive,
 
@@ -79,7 +79,7 @@ pub enum Misfit {
     /// The thread holds as many mutexes as it may, and the reply to a further lock or trylock isn't X_HELD.
     #[error("the thread holds {held} mutexes, so that the reply is X_HELD")]
     AtLimit { held: u16 },
-    /// A death is told of a mutex, as it is, that the dead thread doesn't own.
+    /// A death is recorded of a mutex, as it is, that the dead thread doesn't own.
     #[error("the thread doesn't own the mutex: {}", State(*.object))]
     NotOwner { object: Object },
     /// The call is out of time, and since it began, in this event, no other thread has owned the mutex.
@@ -108,7 +108,7 @@ pub struct TraceMisfit {
 #[derive(Clone, Copy)]
 struct State(Object);
 
-/// What else is said of a mutex, behind who owns it.
+/// What else is said of a mutex, after who owns it.
 fn marks_of(object: &Object) -> &'static str {
     match (object.inconsistent, object.unusable) {
         (false, false) => "",

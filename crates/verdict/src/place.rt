@@ -10,13 +10,13 @@ use lockword::Tid;
 /// What the lines of the newest event told so far.
 #[derive(Clone, Copy)]
 pub struct Place {
-    /// Its number; 0 before the first.
+    /// The number; 0 before the first.
     pub event: u32,
     /// Whose event it is, where a line has told.
     pub thread: Option<Tid>,
     /// It had a point or a death.
     pub decided: bool,
-    /// It is a kill.
+    /// The event is a kill.
     pub killed: bool,
 }
 
@@ -33,7 +33,7 @@ impl Place {
         }
     }
 
-    /// That the entry may stand behind the lines so far, by its number; or why not.
+    /// Evidence that the entry may be after the lines so far, by its number; or why not.
     pub fn stands(&self, entry: &Line) -> Result<(), Misfit>
         ensures { MatchResult result (λ _. Stands self.now entry.now) (λ m. Clashes m self.now entry.now) }
     {
@@ -46,7 +46,7 @@ impl Place {
         self.shared(&entry.fact)
     }
 
-    /// That the newest event may have a further line; or why not.
+    /// Evidence that the newest event may have a further line; or why not.
     fn shared(&self, fact: &Fact) -> Result<(), Misfit>
         ensures { MatchResult result (λ _. Shares self.now fact.now) (λ m. ClashesHere m self.now fact.now) }
     {
@@ -63,7 +63,7 @@ impl Place {
         Ok(())
     }
 
-    /// That the fact may be of the newest event by its thread; or why not.
+    /// Evidence that the fact may be of the newest event by its thread; or why not.
     fn admits(&self, fact: &Fact) -> Result<(), Misfit>
         ensures { MatchResult result (λ _. Admits self.now.thread fact.now)
             (λ m. IsAnothers m self.now.thread fact.now) }
@@ -83,7 +83,7 @@ impl Place {
         }
     }
 
-    /// The place behind the entry.
+    /// The place after the entry.
     pub fn behind(&self, entry: &Line) -> Place
         ensures { result ≡ placed self.now entry.now }
     {

@@ -15,7 +15,7 @@ use facts::{Begun, Fact, Line, Queue};
 use lockword::{Reply, Tid};
 use posixmutex::{Decision, Operation};
 
-/// A line behind the first: an entry of the trace, or its end.
+/// A line after the first: an entry of the trace, or its end.
 #[derive(Clone, Copy)]
 pub enum Read {
     Told(Line),
@@ -216,7 +216,7 @@ pub fn head_of(text: &str) -> Result<Head, Fault>
     head_in(&form).ok_or(Fault::OutOfRange)
 }
 
-/// Reads a line behind the first.
+/// Reads a line after the first.
 pub fn line_of(head: &Head, text: &str) -> Result<Read, Fault>
     requires { head.now.threads ≤ max_threads }
     ensures value { result ≡ line_read head.now text.now }

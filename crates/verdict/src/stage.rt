@@ -81,7 +81,7 @@ fn made_by(call: Operation, made: Made, operation: Operation, reply: Reply) -> R
 }
 
 impl Stage {
-    /// Where a fact leaves the thread, or why it may not be told of it.
+    /// Where a fact leaves the thread, or why it may not be recorded of it.
     pub fn after(self, fact: &Fact) -> Result<Stage, Misfit>
         ensures { MatchResult result (λ after. May self fact.now × (after ≡ next self fact.now))
             (λ m. Forbids m self fact.now) }

@@ -19,15 +19,15 @@ use std::alloc::Global;
 /// A trace that was read.
 #[derive(Drop)]
 pub struct Told {
-    /// Its first line.
+    /// The first line.
     pub head: Head,
-    /// What each line behind the first tells, in their order.
+    /// What each line after the first tells, in their order.
     pub lines: Vec<Line>,
     /// The number on its last line.
     pub last: u32,
 }
 
-/// Keeps a copy of what this line tells behind the others.
+/// Keeps a copy of what this line tells after the others.
 fn keep<T: Copy>(lines: &mut Vec<T>, line: usize, entry: &T) -> Result<(), TraceFault>
     ensures kept { IfOk result (λ _. lines.new.items ≡ lines.old.items ++ entry.now ∷ []) }
     ensures wanted { IfErr result (λ e. e ≡ fault_at line OutOfMemory) }
@@ -97,8 +97,8 @@ fn read_text(alloc: Global, text: &str) -> Result<Told, TraceFault>
     }
 }
 
-/// Reads a trace, legal or not: what its lines tell; or, as [`check`](crate::check) does, its first fault. Only want of
-/// memory for what a line tells, at that line, may come in the place of the trace or of a later line's fault.
+/// Reads a trace, legal or not: what its lines tell; or, as [`check`](crate::check) does, its first fault. Only lack
+/// of memory for what a line tells, at that line, may come in the place of the trace or of a later line's fault.
 pub fn read_trace(alloc: Global, bytes: &[u8]) -> Result<Told, TraceFault>
     ensures gives { Gives (trace_read bytes.now) result }
     ensures within { IfOk result IsWithin }

@@ -46,7 +46,7 @@ threads_next xs lines e after lt kept goes t = by_cases (thread_of e.fact == t) 
 
 -- ---- stages
 
--- the stage of each thread of a trace says what was told of it
+-- the stage of each thread of a trace says what was recorded of it
 kept_after : (n : ℕ) (es : List Line) → AllFit n es → (t : ℕ) → Kept (stage_after (told_of t es)) (told_of t es)
 kept_after n [] fit t = (refl, refl, refl, refl)
 kept_after n (e ∷ es) fit t = go (thread_of e.fact == t) refl (kept_after n es fit.1 t) where

@@ -43,7 +43,7 @@ more_with xs ys (Adds more is) = (
       ∙ texts-append (reverse (trace_of (reverse xs))) (reverse more),
 )
 
--- steps behind others add to the text
+-- steps after others add to the text
 steps_more : (xs ys : List Entry) → (rest : List ℕ) × (steps_lines (xs ++ ys) ≡ steps_lines xs ++ rest)
 steps_more xs ys = more_with xs ys (newer (reverse ys) (reverse xs))
 
@@ -76,7 +76,7 @@ count_step : (xs : List Entry) (e : Entry) → steps_count (xs ++ e ∷ []) ≡ 
 count_step xs (Told f) = count_told xs f
 count_step xs (Doom t) = count_doom xs t
 
--- where one step was written behind those before it, so many are written
+-- where one step was written after those before it, this many are written
 pub goes_on : (xs : List Entry) (i : ℕ) (x : Entry) (n : ℕ) (a b c : Option (List ℕ)) → i < length xs → x ≡ get_or xs i x → n ≡ steps_count (take i xs) → Appends a b (steps_lines (take i xs)) → Appends b c (step_text n x) → Appends a c (steps_lines (take (i + 1) xs))
 goes_on xs i x n a b c lt at count before one =
     let e = get_or xs i x in

@@ -20,17 +20,17 @@ use Rattle.certificates.specs.Certificates.{trace_of}
 use Rattle.certificates.specs.Phases.{stage_of}
 use Rattle.certificates.specs.States.{Accepts, Moves, phase_at}
 
--- the lines of the first steps, so many of them; the newest first
+-- the lines of the first steps, this many of them; the newest first
 abbrev pub told : ℕ → List Entry → List Line
 told n steps = trace_of (reverse (take n steps))
 
--- where what is told of a thread leaves it: in which call, with which points, or dead; by the rules of the judge of
--- traces
+-- where what is recorded of a thread leaves it: in which call, with which points, or dead; by the rules of the judge
+-- of traces
 abbrev pub stage_after : List Fact → Stage
 stage_after [] = Resting
 stage_after (f ∷ fs) = next (stage_after fs) f
 
--- two traces leave each thread and each mutex alike, so that what may come behind one may come behind the other
+-- two traces leave each thread and each mutex alike, so that what may come after one may come after the other
 pub record LeaveAlike (a b : List Line) : Type 0 where
   pub threads : (t : ℕ) → stage_after (told_of t a) ≡ stage_after (told_of t b)
   pub mutexes : (m : ℕ) → objects_after a m ≡ objects_after b m

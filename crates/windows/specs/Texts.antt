@@ -7,7 +7,7 @@ use Rattle.histories.specs.declared.entry.Entry.{Entry}
 use Rattle.histories.specs.declared.entry.Entry.TheVariants.{Told, Doom}
 use Rattle.certificates.specs.Certificates.{trace_of}
 
--- what a step tells behind so many lines: a line more, or nothing
+-- what a step tells after this many lines: a line more, or nothing
 abbrev pub step_text : ℕ → Entry → List ℕ
 step_text n (Told f) = fact_text (n + 1) f
 step_text n (Doom t) = []

@@ -26,7 +26,7 @@ use verdict::{Fault, Finding, MAX_CONDITIONS, MAX_EVENTS, MAX_MUTEXES, explain};
 pub struct Window {
     /// The place of its first step among the certificate's, counted from 0.
     pub from: usize,
-    /// The place behind its last step.
+    /// The place after its last step.
     pub to: usize,
     /// How many lines stand before those of its steps: without the `trace` line.
     pub preamble: usize,
@@ -42,8 +42,8 @@ pub struct Cutter {
     pub state: State,
 }
 
-/// The last place behind this one where the steps can be cut, so that at most so many lines stand between; the last of
-/// all, where they go so far.
+/// The last place after this one where the steps can be cut, so that at most this many lines stand between; the last
+/// of all, where they go so far.
 fn farthest(
     state: &mut State,
     steps: &[Entry],
@@ -102,7 +102,7 @@ fn judge(alloc: Global, text: &[u8]) -> Result<(), Stop>
     }
 }
 
-/// The text of these lines and of those of a part behind them, where the judge of traces finds it legal.
+/// The text of these lines and of those of a part after them, where the judge of traces finds it legal.
 fn legal_text(alloc: Global, head: &Head, before: &[Entry], part: &[Entry]) -> Result<Vec<u8>, Stop>
     ensures text { IfOk result (λ v. v.items ≡ certificate_text head.now (before.now ++ part.now)) }
     ensures legal { IfOk result (λ v. IsLegalText v.items) }
@@ -176,7 +176,7 @@ impl Cutter {
         Ok(Cutter { from: 0, state })
     }
 
-    /// Cuts off the next window of the steps, which are the same at each call; None behind the last. Behind an error
+    /// Cuts off the next window of the steps, which are the same at each call; None after the last. After an error
     /// there is no further one. Memory is asked for what a window has, and no more than once for what is kept.
     pub fn next(
         &mut self,

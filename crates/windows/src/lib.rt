@@ -6,12 +6,12 @@
 //! it leave them, by the same judge's rules, and then the lines of its own steps. The steps of the next window begin
 //! where those of the one before end, and the last ones end with the certificate.
 //!
-//! It is cut between two steps where each thread rests, is dead, or is in a call that can be brought so far anew: which
-//! has no point yet, took its mutex and has it still, released it, or has a reply that its mutex has for it still. The
-//! last such place that a window may reach is taken. That there is one isn't proved, nor that a certificate is never
-//! refused: what is handed out is.
+//! It is cut between two steps where each thread rests, is dead, or is in a call that can be brought so far again:
+//! which has no point yet, took its mutex and has it still, released it, or has a reply that its mutex has for it
+//! still. The last such place that a window may reach is taken. That there is one isn't proved, nor that a
+//! certificate is never refused: what is handed out is.
 //!
-//! Stands on `certificates`, for steps and where they leave threads and mutexes, on `verdict`, for the judgement and its
+//! Is on `certificates`, for steps and where they leave threads and mutexes, on `verdict`, for the judgement and its
 //! limits, on `histories`, `facts`, `posixmutex` and `lockword`, for what steps say, and on `texts` and `streams`, for
 //! a trace's lines and writing them.
 //!

@@ -1,4 +1,4 @@
-//! Places between two steps where a certificate can be cut: what threads are in can be brought about anew.
+//! Places between two steps where a certificate can be cut: what threads are in can be brought about again.
 
 use certificates::{Made, Phase, State};
 use facts::Begun;
@@ -21,7 +21,7 @@ pub fn mutex_at(place: usize) -> Option<u16> {
     }
 }
 
-/// An owner of it died, and nobody has declared it consistent or made it anew since.
+/// An owner of it died, and nobody has declared it consistent or reinitialised it since.
 pub fn is_spoiled(object: &Object) -> bool {
     object.inconsistent || object.unusable
 }
@@ -53,8 +53,8 @@ pub fn has_taken(call: Begun, made: Made) -> bool {
     }
 }
 
-/// The operation of the first point by which a call is told so: a lock with a time limit is told as a lock, unless the
-/// limit came; a wait with one as a wait.
+/// The operation of the first point by which a call is told so: a lock with a time limit is recorded as a lock,
+/// unless the limit came; a wait with one as a wait.
 pub fn told_as(call: Operation, reply: Reply) -> Operation {
     match call {
         Operation::TimedLock if reply != Reply::ETIMEDOUT => Operation::Lock,
@@ -72,7 +72,7 @@ fn is_anothers(object: &Object, thread: Tid) -> bool {
 }
 
 /// Whether nobody owns the mutex of the thread's call now, and another thread has owned it since the call began: so a
-/// time limit may be told, which the same call begun anew may not be told.
+/// time limit may be recorded, which the same call begun again may not be recorded.
 fn has_missed(state: &State, thread: Tid, mutex: u16) -> bool {
     if object_at(&state.objects, mutex).owner.is_some() {
         return false;
@@ -85,7 +85,7 @@ fn has_missed(state: &State, thread: Tid, mutex: u16) -> bool {
     }
 }
 
-/// A call of which these points are made can be brought so far anew, with its mutex as it is.
+/// A call of which these points are made can be brought so far again, with its mutex as it is.
 fn suits_call(object: Object, held: u16, thread: Tid, call: Begun, made: Made) -> bool {
     let Made::Decided(reply) = made else {
         return true;

@@ -1,7 +1,8 @@
 //! The lines before a window's own, which bring threads and mutexes to where the window before it left them.
 //!
-//! A thread takes what it owns before it begins the call that it is in; a mutex is spoiled before its owner takes it, and
-//! released by whoever released it before it is spoiled. Such an order there is: that of the certificate itself.
+//! A thread takes what it owns before it begins the call that it is in; a mutex becomes unusable before its owner takes
+//! it, and released by whoever released it before it becomes unusable. Such an order there is: that of the certificate
+//! itself.
 
 use crate::place::{
     has_released, has_taken, idle, is_releaser, is_spoiled, mutex_at, thread_at, told_as,
@@ -133,7 +134,7 @@ fn is_meant(state: &State, whose: &Whose, object: &Object) -> bool {
     }
 }
 
-/// Spoils such mutexes, where they are spoiled.
+/// Makes such mutexes unusable, where they become so.
 fn add_spoiled(
     lines: &mut Vec<Entry>,
     state: &State,
@@ -233,7 +234,7 @@ fn next_call(state: &State, settled: &[bool], id: usize) -> Option<(Tid, Begun)>
     }
 }
 
-/// Settles the releasers that can be, one behind the other.
+/// Settles the releasers that can be, one after the other.
 fn add_ready(
     lines: &mut Vec<Entry>,
     state: &State,
@@ -302,7 +303,7 @@ fn add_thread(lines: &mut Vec<Entry>, thread: Tid, phase: Phase) -> Result<(), A
     }
 }
 
-/// What threads are in, but for releasers, each of whom is in its call by now.
+/// What threads are in, except for releasers, each of whom is in its call by now.
 fn add_threads(lines: &mut Vec<Entry>, state: &State) -> Result<(), AllocError> {
     for id in 0..state.phases.len() {
         if let Some(thread) = thread_at(id) {
@@ -317,7 +318,7 @@ fn add_threads(lines: &mut Vec<Entry>, state: &State) -> Result<(), AllocError> 
     Ok(())
 }
 
-/// Lines behind which threads and mutexes are so, where that suits.
+/// Lines after which threads and mutexes are so, where that suits.
 pub fn preamble(alloc: Global, state: &State) -> Result<Vec<Entry>, AllocError> {
     let mut lines = Vec::new(alloc);
     add_releases(alloc, &mut lines, state)?;

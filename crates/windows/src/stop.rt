@@ -8,7 +8,7 @@ use std::alloc::AllocError;
 #[derive(Clone, Copy, Debug, PartialEq, Eq)]
 pub enum Stop {
     /// There is no place to cut as far as a window may go: everywhere a thread is in a call whose reply can't be had
-    /// anew.
+    /// again.
     NoPlace,
     /// There are more mutexes or condition variables than a trace may have.
     TooMany,

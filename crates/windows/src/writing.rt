@@ -32,7 +32,7 @@ fn write_alone<W: Write>(out: &mut W, event: u64, what: &str, thread: Tid) -> io
     )
 }
 
-/// `i WHAT tT mM`, or `cC` in place of `mM`: what befell the thread at a mutex or a condition variable. `what` ends
+/// `i WHAT tT mM`, or `cC` instead of `mM`: what befell the thread at a mutex or a condition variable. `what` ends
 /// with the `t`, `of` with the `m` or the `c`.
 fn write_at<'a, W: Write>(
     out: &mut W,
@@ -187,7 +187,7 @@ fn write_head<W: Write>(out: &mut W, head: &Head) -> io::Result<()>
     )
 }
 
-/// The line that a step tells behind so many, if it tells one. It answers how many there are then.
+/// The line that a step tells after this many, if it tells one. It answers how many there are then.
 fn write_step<W: Write>(out: &mut W, events: u64, step: Entry) -> io::Result<u64>
     requires { events + 1 < 2 ^ 64 }
     ensures text { Leaves (W.contents out.old) (W.contents out.new) result (step_text events step) }

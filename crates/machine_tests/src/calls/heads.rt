@@ -29,7 +29,7 @@ fn has_no_head(rt: &impl Abort, kernel: &Kernel, id: u8) {
     }
 }
 
-/// A head is told as its thread set it, and a set with another length is refused.
+/// A head is recorded as its thread set it, and a set with another length is refused.
 #[test]
 fn heads_of_two_threads(rt: HostRuntime) -> Result<(), Fail> {
     let mut kernel = Kernel::new(rt.alloc(), 2)?;

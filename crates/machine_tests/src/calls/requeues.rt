@@ -25,7 +25,7 @@ static REQUEUES: [Call; 17] = [
     Call::Requeue(RequeueCall(5, 4, Woken(64, &[]), Moved(64, &[]))),
 ];
 
-/// Those who are moved stand behind those who slept on the other word, and a requeue that is refused changes nothing.
+/// Those who are moved stand after those who slept on the other word, and a requeue that is refused changes nothing.
 #[test]
 fn requeues_of_five_threads(rt: HostRuntime) -> Result<(), Fail> {
     play(&rt, rt.alloc(), 5, &REQUEUES)

@@ -44,7 +44,7 @@ static ONE_DIES: [Call; 6] = [
     Call::Asleep(5, true),
 ];
 
-/// A sleeper that dies leaves its queue, and those behind it keep their order.
+/// A sleeper that dies leaves its queue, and those after it keep their order.
 #[test]
 fn a_removal_takes_one_thread(rt: HostRuntime) -> Result<(), Fail> {
     let memory = words(&rt, rt.alloc())?;

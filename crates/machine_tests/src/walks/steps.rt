@@ -16,9 +16,9 @@ enum Then {
     Goes,
     /// On, by the death of the owner of the word at 7.
     Dies,
-    /// To its end.
+    /// Leads to its end.
     Ends,
-    /// To its end, by such a death.
+    /// Leads to its end, by such a death.
     DiesAndEnds,
 }
 

@@ -13,7 +13,7 @@ use std::test::Fail;
 use thread_fixtures::{Asked, Left, makes, team};
 use threadbench::Bench;
 
-/// Makes calls with this fate, as far as the thread lives: how many were told OK.
+/// Makes calls with this fate, as far as the thread lives: how many got OK.
 fn made<R: Wait, F: Fate>(
     rt: &R,
     bench: &Bench,
@@ -40,9 +40,9 @@ fn made<R: Wait, F: Fate>(
 /// What came of calls in which the thread may have died.
 #[derive(Clone, Copy, PartialEq, Eq)]
 struct Story {
-    /// So many were told OK.
+    /// This many got OK.
     made: u64,
-    /// So often their fate was asked.
+    /// How often their fate was asked.
     asked: u64,
     /// What another thread's trylock is told then.
     told: Option<Reply>,
@@ -89,7 +89,7 @@ fn lock_dies_before_each_access(rt: HostRuntime) -> Result<(), Fail> {
 }
 
 /// A thread dies before each access of a lock and an unlock in turn, 15 in all, and its list is walked. Whoever takes
-/// the mutex next is told EOWNERDEAD exactly where the dead thread owned it.
+/// the mutex next gets EOWNERDEAD exactly where the dead thread owned it.
 #[test]
 fn dies_before_each_access_and_exits(rt: HostRuntime) -> Result<(), Fail> {
     for access in 1..17_u64 {
@@ -137,7 +137,7 @@ impl<R: Wait> Fate for KillsAt<'_, R> {
     }
 }
 
-/// What the next one is told of the mutex where thread 1 is killed right before an access of its lock; None where it
+/// What the next one learns of the mutex where thread 1 is killed right before an access of its lock; None where it
 /// lived.
 fn killed_at<R: Wait>(rt: &R, alloc: Global, access: u32) -> Result<Option<Reply>, Fail> {
     let (bench, first, second, _, _, _) = team(alloc, Layout::new(5, 1, &[])?, &[])?;
@@ -161,7 +161,7 @@ fn killed_at<R: Wait>(rt: &R, alloc: Global, access: u32) -> Result<Option<Reply
 }
 
 /// A lock makes eight accesses. Whoever is killed before one of them doesn't make it: before the fourth it owns the
-/// mutex, and the next one is told of its death.
+/// mutex, and the next one learns of its death.
 #[test]
 fn a_thread_dies_before_its_next_access(rt: HostRuntime) -> Result<(), Fail> {
     for access in 1..=9_u32 {

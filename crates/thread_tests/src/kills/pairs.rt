@@ -37,18 +37,18 @@ impl Board {
     }
 }
 
-/// How the owner leaves two sleepers. It had the mutex from a dead owner where it spoils it: it frees it without
+/// How the owner leaves two sleepers. It had the mutex from a dead owner if it makes it unusable: it frees it without
 /// declaring it consistent.
 #[derive(Clone, Copy, PartialEq, Eq)]
 enum End {
-    /// It dies before its next access.
+    /// Dies before its next access.
     Dies,
     /// The same, and each of the two sleeps on a mutex of its own.
     DiesWithBoth,
     Spoils,
-    /// It spoils it, and dies before it wakes anybody.
+    /// Makes it unusable, and dies before it wakes anybody.
     SpoilsAndDies,
-    /// It kills their process, which is 1, waits until both have ended, and frees the mutex.
+    /// Kills their process, which is 1, waits until both have ended, and frees the mutex.
     KillsTheirProcess,
     /// Likewise that of a layout in which theirs is 0.
     KillsProcess0,
@@ -77,7 +77,7 @@ impl End {
 }
 
 /// A sleeper's part: it locks, looks whether the other one sleeps on if the owner has died, declares what it repaired
-/// consistent, and unlocks. What its lock was told.
+/// consistent, and unlocks. What its lock returned.
 fn follows<R: Wait + Clock>(
     rt: &R,
     bench: &Bench,
@@ -134,7 +134,7 @@ fn ends<R: Wait + Clock>(rt: &R, bench: &Bench, pass: Pass<Live>, end: End, boar
     ends_unless(rt, bench, came && went && ended)
 }
 
-/// Two sleepers at once: what each was told.
+/// Two sleepers at once: what each got.
 fn both_follow<R: Threads + Wait + Clock + Sync>(
     rt: &R,
     bench: &Bench,
@@ -157,7 +157,7 @@ fn both_follow<R: Threads + Wait + Clock + Sync>(
     )
 }
 
-/// The three parts at once: whether the owner's went so, and what the sleepers were told.
+/// The three parts at once: whether the owner's went so, and what the sleepers got.
 fn all_act<R: Threads + Wait + Clock + Sync>(
     rt: &R,
     bench: &Bench,
@@ -187,7 +187,7 @@ fn all_act<R: Threads + Wait + Clock + Sync>(
 struct Story {
     /// Whether the owner did its part, and both sleepers ended theirs.
     well: bool,
-    /// What the two were told.
+    /// What the two got.
     told: [Option<Reply>; 2],
     /// How many were told that the owner had died while the other one slept on.
     alone: u64,
@@ -201,8 +201,8 @@ fn has<R: Wait>(rt: &R, bench: &Bench, pass: Pass<Live>, mutex: u16) -> Option<P
     makes(rt, bench, pass, OnMutex(Lock(mutex)), &mut Never).map(|made| made.0)
 }
 
-/// The third of a team owns both mutexes, the first of which its first had and died with if it is to be spoiled, and
-/// the last two sleep.
+/// The third of a team owns both mutexes, the first of which its first had and died with if it is to become unusable,
+/// and the last two sleep.
 fn played<R: Threads + Wait + Clock + Sync>(
     rt: &R,
     alloc: Global,

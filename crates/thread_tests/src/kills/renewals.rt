@@ -1,4 +1,4 @@
-//! Threads that live anew after they were killed.
+//! Threads that live again after they were killed.
 ghost use Rattle.ruledwords.specs.Passes.{IsLive};
 ghost use Rattle.std.specs.Prelude.{IfSome};
 
@@ -27,7 +27,7 @@ fn is_told<R: Wait>(
     if told == reply { Some(pass) } else { None }
 }
 
-/// Is killed, dies in its next call, is reaped, killed again and lives anew. None where it doesn't die.
+/// Is killed, dies in its next call, is reaped, killed again and lives again. None where it doesn't die.
 fn begins_anew<R: Wait>(rt: &R, bench: &Bench, pass: Pass<Live>, thread: u8) -> Option<Pass<Live>>
     requires { IsLive bench.now pass }
     ensures { IfSome result (λ p. IsLive bench.now p) }
@@ -48,7 +48,7 @@ fn begins_anew<R: Wait>(rt: &R, bench: &Bench, pass: Pass<Live>, thread: u8) -> 
     }
 }
 
-/// Dies as the owner of mutex 0, and is told of that in its next life, which isn't killed again.
+/// Dies as the owner of mutex 0, and learns of that in its next life, which isn't killed again.
 fn one_life<R: Wait>(rt: &R, bench: &Bench, pass: Pass<Live>) -> Option<Pass<Live>>
     requires { IsLive bench.now pass }
     ensures { IfSome result (λ p. IsLive bench.now p) }
@@ -73,7 +73,7 @@ fn three_lives<R: Wait>(rt: &R, bench: &Bench, pass: Pass<Live>) -> Option<Pass<
 }
 
 /// A server's worker dies three times, and each time its id is used again: the kill of an earlier life doesn't end the
-/// next one, it owns nothing at first, and it is told of what the last one left.
+/// next one, it owns nothing at first, and it learns what the last one left.
 #[test]
 fn a_thread_lives_four_times(rt: HostRuntime) -> Result<(), Fail> {
     let (bench, first, _, _, _, _) = team(rt.alloc(), Layout::new(5, 2, &[])?, &[])?;

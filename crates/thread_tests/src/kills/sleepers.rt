@@ -22,17 +22,17 @@ const ASLEEP: u64 = 4;
 /// What the owner does while another thread sleeps on its mutex.
 #[derive(Clone, Copy, PartialEq, Eq)]
 enum Act {
-    /// It kills the sleeper, waits for its death, and frees the mutex, so that whoever sleeps on still wakes.
+    /// Kills the sleeper, waits for its death, and frees the mutex, so that whoever sleeps on still wakes.
     Kills,
-    /// It does so once the other one was asked so often, and gives it no time to fall asleep.
+    /// Does so once the other one was asked so often, and gives it no time to fall asleep.
     KillsAfter(u64),
-    /// It kills the sleeper's process, which is 1, in place of the sleeper.
+    /// Kills the sleeper's process, which is 1, instead of the sleeper.
     KillsItsProcess,
-    /// It dies before its next access.
+    /// Dies before its next access.
     Dies,
-    /// It frees the mutex, and dies before it wakes anybody.
+    /// Frees the mutex, and dies before it wakes anybody.
     DiesOwing,
-    /// It is killed, and dies in its next call.
+    /// The thread is killed, and dies in its next call.
     IsKilled,
 }
 
@@ -64,7 +64,7 @@ impl Board {
         }
     }
 
-    /// The sleeper's part: what its lock is told, if it lives.
+    /// The sleeper's part: what its lock returns, if it lives.
     fn sleep<R: Wait>(&self, rt: &R, bench: &Bench, pass: Pass<Live>) -> Option<Reply>
         requires { IsLive bench.now pass }
     {
@@ -112,7 +112,7 @@ impl Board {
         ends_unless(rt, bench, came && killed && died)
     }
 
-    /// Both parts at once: whether the owner's went so, and what the sleeper's lock is told.
+    /// Both parts at once: whether the owner's went so, and what the sleeper's lock returns.
     fn both<R: Threads + Wait + Clock + Sync>(
         &self,
         rt: &R,
@@ -140,7 +140,7 @@ impl Board {
 struct Story {
     /// Whether the owner took the mutex, and did its part.
     well: bool,
-    /// What the sleeper's lock was told, if it lives.
+    /// What the sleeper's lock returned, if it lives.
     sleeper: Option<Reply>,
     /// What a third thread's trylock is told then.
     next: Option<Reply>,
@@ -230,7 +230,7 @@ fn whoever_is_about_to_sleep_is_killed(rt: HostRuntime) -> Result<(), Fail> {
 /// cells.
 const BUCKETS: u16 = 256;
 
-/// A sleeper is found, whichever bucket it stands in.
+/// A sleeper is found, whichever bucket it is in.
 #[test]
 fn a_sleeper_is_killed_in_each_bucket(rt: HostRuntime) -> Result<(), Fail> {
     for mutex in 0..BUCKETS {
@@ -241,7 +241,7 @@ fn a_sleeper_is_killed_in_each_bucket(rt: HostRuntime) -> Result<(), Fail> {
     Ok(())
 }
 
-/// The last of the mutexes whose sleepers stand in a bucket with a high number.
+/// The last of the mutexes whose sleepers are in a bucket with a high number.
 fn in_a_high_bucket(layout: &Layout) -> u16 {
     let mut found = 0;
     for mutex in 0..layout.mutexes() {
@@ -263,8 +263,8 @@ fn the_last_of_250_threads_is_killed_in_a_high_bucket(rt: HostRuntime) -> Result
     Ok(())
 }
 
-/// Twenty times: what the sleeper is told of its owner's fate, which has the mutex then. Whoever takes a mutex leaves
-/// WAITERS where it stands.
+/// Twenty times: what the sleeper learns of its owner's fate, which has the mutex then. Whoever takes a mutex
+/// leaves WAITERS where it stands.
 fn always<R: Threads + Wait + Clock + Sync>(
     rt: &R,
     alloc: Global,

@@ -34,7 +34,7 @@ pub(crate) struct Note {
 }
 
 /// A kill. Nothing makes one but [`Note::kill`], so whoever has one has noted that its thread was killed. The note
-/// comes before the search, so that a thread which comes to sleep in a bucket behind the search finds it there.
+/// comes before the search, so that a thread which comes to sleep in a bucket after the search finds it there.
 ///
 /// It can't be let go: whoever has noted a kill goes on to its end, where a [`Sweep`](crate::kill::Sweep) or
 /// [`Bench::kill`](crate::Bench::kill) takes it, and nothing else.
@@ -46,20 +46,20 @@ pub(crate) struct Kill {
 /// How far a kill has come.
 #[derive(Clone, Copy)]
 pub(crate) enum KillStage {
-    /// Its thread was looked for in so many buckets, from the first on.
+    /// The thread was looked for in this many buckets, from the first on.
     Looked(usize),
-    /// Its thread was looked for in each bucket, and then it was given a token, so that it wakes where it sleeps.
+    /// The thread was looked for in each bucket, and then it was given a token, so that it wakes where it sleeps.
     Ended,
 }
 
-/// That a thread's note says no more that it was killed, so that the thread may live anew. Nothing makes one but
+/// Evidence that a thread's note says no more that it was killed, so that the thread may live again. Nothing makes one but
 /// [`Note::clear`].
 #[derive(Drop)]
 pub(crate) struct Cleared {
     thread: Tid,
 }
 
-/// That a thread's note told it to go on, under the lock of a bucket. Nothing makes one but [`ask`], which asks the
+/// Evidence that a thread's note told it to go on, under the lock of a bucket. Nothing makes one but [`ask`], which asks the
 /// note.
 pub(crate) struct Spared<N> {
     note: PhantomData<N>,
@@ -156,7 +156,7 @@ impl Kill {
         self.stage = KillStage::Ended;
     }
 
-    /// It came to its end, and is the kill of this thread.
+    /// The kill came to its end, and is the kill of this thread.
     pub(super) fn over(self, thread: Tid)
         requires thread { self.thread ≡ thread }
         requires stage { self.stage ≡ Ended }
@@ -170,7 +170,7 @@ impl Kill {
 }
 
 impl Cleared {
-    /// The thread whose note it was lives anew, and has no token.
+    /// The thread whose note it was lives again, and has no token.
     pub(crate) fn begin(self, drained: Drained, words: &Words, pass: Pass<Reaped>) -> Pass<Live>
         requires thread { self.thread ≡ (card pass).thread }
         requires drained { drained.thread ≡ (card pass).thread }
@@ -185,7 +185,7 @@ impl Cleared {
 }
 
 impl<N> Spared<N> {
-    /// It has been shown.
+    /// The kill has been shown.
     pub(crate) fn spend(self) {
         let Spared { note: _ } = self;
     }
@@ -223,7 +223,7 @@ impl Fate for Noted<'_> {
 
     #[inline(always)]
     fn stops(&mut self) -> bool {
-        // It is told to stop once.
+        // The kill is told to stop once.
         if self.told {
             return false;
         }

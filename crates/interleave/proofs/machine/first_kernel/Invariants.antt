@@ -3,7 +3,7 @@ use Rattle.memorymap.specs.Layouts.{head_place, address_in}
 use Rattle.syscalls.specs.Kernels.{queue_of, head_of}
 use Rattle.interleave.proofs.machine.first_kernel.Given as goal
 
--- so many heads are set, and nobody sleeps
+-- this many heads are set, and nobody sleeps
 abbrev pub invariant-loop-before : goal.invariant-loop-before
 invariant-loop-before l = record {
   threads : l.kernel.threads ≡ l.layout.threads;

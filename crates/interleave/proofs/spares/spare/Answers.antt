@@ -11,7 +11,7 @@ use Rattle.interleave.proofs.Sparing.{stands_there, rests, fails_first, fails_se
 use Rattle.interleave.proofs.spares.spare.Goals.{In-Calling, In-AtCondition}
 use Rattle.interleave.proofs.spares.spare.Goals as goal
 
--- it stands in a call on a mutex
+-- it is in a call on a mutex
 calls : (c : In-Calling) → (thread_at c.args.threads.now.items c.args.thread).stage ≡ stage.Calling c.in-Calling.op c.in-Calling.program
 calls c = stands_there c.args.threads.now.items c.as_index.result c.args.thread c.index.result.now _ (omega arith) (grind (arith, common_steps)) c.in-Calling.is
 

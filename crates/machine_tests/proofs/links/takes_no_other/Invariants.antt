@@ -1,4 +1,4 @@
--- It hasn't ended yet.
+-- The call hasn't ended yet.
 use Rattle.machine_tests.proofs.links.takes_no_other.Given as goal
 
 abbrev pub invariant-loop-answer : goal.invariant-loop-answer

@@ -1,4 +1,4 @@
--- It hasn't ended yet.
+-- The call hasn't ended yet.
 use Rattle.exitwalk.specs.Walks.{IsGoing}
 use Rattle.machine_tests.proofs.walks.steps.takes.Given as goal
 
