@@ -7,7 +7,7 @@
 //! thread, which [`Bucket::rows`] lends ([`Row`]). A [`Batch`] is threads in order, as one wake or one requeue takes
 //! them. All the room is made by `Bucket::new` and by a clone; no other call takes memory.
 //!
-//! Is on `memorymap`, for a word's key and lack of memory, and on `lockword`, for thread ids.
+//! Depends on `memorymap`, for a word's key and lack of memory, and on `lockword`, for thread ids.
 //!
 //! ```text
 //! let mut bucket = Bucket::new(rt.alloc(), 64)?;

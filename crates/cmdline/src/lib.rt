@@ -4,7 +4,7 @@
 //! `clap` is asked first, and then the words are matched. It is in a crate of its own, so that no other proof reads
 //! what `clap` promises.
 //!
-//! Is on `clap`, for commands, options and arguments, and on `memorymap`, when memory runs out, and on `streams`, for
+//! Depends on `clap`, for commands, options and arguments, on `memorymap`, for lack of memory, and on `streams`, for
 //! which words name files.
 //!
 //! ```text

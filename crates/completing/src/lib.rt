@@ -12,7 +12,7 @@
 //! It is proved to be safe and to end, whatever the history; that it finds what there is, and refuses only what it may,
 //! isn't.
 //!
-//! Is on `histories`, for a history's lines, on `facts`, for what lines say, on `posixmutex`, for mutexes as objects,
+//! Depends on `histories`, for a history's lines, on `facts`, for what lines say, on `posixmutex`, for mutexes as objects,
 //! and on `lockword`, for thread ids and replies.
 //!
 //! ```text

@@ -13,7 +13,7 @@
 //! the owner of its mutex (`timed_waits_are_right`). An [`Op`] is what a thread may call, on a mutex or on a
 //! condition variable.
 //!
-//! Is on `mutex`, for the lock that a wait ends with, on `robustlist`, for the entry's way out of the list, on
+//! Depends on `mutex`, for the lock that a wait ends with, on `robustlist`, for the entry's way out of the list, on
 //! `memorymap`, for layouts, on `stepprograms` and `posixmutex`, for accesses and points, and on `lockword`, for cells
 //! and replies.
 //!

@@ -8,7 +8,7 @@
 //! ([`names_are_plain`]); each thing in the trace has one ([`names_suffice`]). For `--legend` it reads nothing, and
 //! writes what the signs of pictures mean. Of a page nothing is written where memory is refused (`IsUndrawn`).
 //!
-//! Is on `verdict`, for reading traces and their faults, on `script` and `lockword`, for names, on `lines`, for which
+//! Depends on `verdict`, for reading traces and their faults, on `script` and `lockword`, for names, on `lines`, for which
 //! characters they have, on `picture` and `page`, for drawing, and on `streams`, for reading, writing and opening.
 //!
 //! ```text

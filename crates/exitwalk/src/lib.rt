@@ -10,7 +10,7 @@
 //! whole list keeps its owner (`whole_lists_are_treated`). Where others write, each of its accesses is the death of
 //! an owner or changes nothing (`steps_are_right`).
 //!
-//! Is on `stepprograms`, for accesses and answers, on `posixmutex`, for points and how many entries are walked at
+//! Depends on `stepprograms`, for accesses and answers, on `posixmutex`, for points and how many entries are walked at
 //! most, and on `lockword`, for cells.
 //!
 //! ```text

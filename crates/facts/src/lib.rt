@@ -4,7 +4,7 @@
 //! and deaths are, what all lines of one thread must be together, and how lines may be after each other: what a run
 //! prints and what a trace is judged by (of replies, the law `only_late_waits_differ`).
 //!
-//! Is on `posixmutex`, for operations and decisions, and on `lockword`, for thread ids and replies.
+//! Depends on `posixmutex`, for operations and decisions, and on `lockword`, for thread ids and replies.
 //!
 //! ```text
 //! // `16 death t1 m0`: thread 1 died as the owner of mutex 0.

@@ -6,7 +6,7 @@
 //! and traces have them. [`known_words`] has the words that may be at a place, which is proved too
 //! ([`known_words_are_those_that_fit`]), and [`nearest`] the one of several words that a misspelt one is next to.
 //!
-//! Is on `script` and `verdict`, for their kinds of line, on `lines`, for words and numbers, on `posixmutex` and
+//! Depends on `script` and `verdict`, for their kinds of line, on `lines`, for words and numbers, on `posixmutex` and
 //! `lockword`, for the words of operations and replies, and on `strsim`, for how far words are apart.
 //!
 //! ```text

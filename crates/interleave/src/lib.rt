@@ -8,7 +8,7 @@
 //! one thread would do if no other stepped: after each event no sleeper is stranded, and whoever is awake comes to
 //! rest (`runs_alone`).
 //!
-//! Is on `protocol`, for events, notes and the laws, on `syscalls`, for the memory and the kernel, on `mutex`,
+//! Depends on `protocol`, for events, notes and the laws, on `syscalls`, for the memory and the kernel, on `mutex`,
 //! `condvar`, `robustlist` and `exitwalk`, for the programs that it runs, on `buckets`, for who is woken, on `facts`,
 //! for notes, on `memorymap`, for layouts, and on `stepprograms`, `posixmutex` and `lockword`.
 //!

@@ -5,7 +5,7 @@
 //! and its flags; the other bits stay. [`Tid`] is a thread's id, 1 to [`MOST_THREADS`], and [`Reply`] is how a call
 //! answers, whose name is read back as that reply (`replies_are_read_back`).
 //!
-//! Is on `thiserror` alone, for the message of a text that is no reply's name.
+//! Depends on `thiserror` alone, for the message of a text that is no reply's name.
 //!
 //! ```text
 //! // Nobody owns the mutex, and its last owner died. Thread 2 takes it.

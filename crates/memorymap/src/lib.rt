@@ -6,7 +6,7 @@
 //! `addresses_are_seen`, `writes_are_seen`). Sleepers meet by a word's [`Key`], which every process has alike.
 //! `specs/Chains.antt` says what a robust list is, as the kernel finds it through words.
 //!
-//! Is on `lockword`, for thread ids, and on `thiserror`, for the messages of what is refused. [`NoMem`], lack of
+//! Depends on `lockword`, for thread ids, and on `thiserror`, for the messages of what is refused. [`NoMem`], lack of
 //! memory, is here for all crates above.
 //!
 //! ```text

@@ -11,7 +11,7 @@
 //! had exactly one point, whose reply it returned (`whole_calls_are_right`, `whole_calls_are_decided`); and wherever
 //! its thread dies, the kernel finds in the thread's own words all that it owns (`whole_calls_keep_lists`).
 //!
-//! Is on `memorymap`, for layouts, on `stepprograms` and `posixmutex`, for accesses and points, on `lockword`, for
+//! Depends on `memorymap`, for layouts, on `stepprograms` and `posixmutex`, for accesses and points, on `lockword`, for
 //! cells and replies, and on `robustlist`, for the entry's way into and out of the list.
 //!
 //! ```text

@@ -14,7 +14,7 @@
 //! [`pz_plan_refusal`]), [`signals_by_plan`], [`broadcasts_by_plan`], [`declares_by_plan`] and [`refusals_by_plan`] say
 //! so. A lock may be out of time ([`pz_expire`]) where it looks or sleeps, and nowhere else ([`only_sleepers_expire`]).
 //!
-//! Is on `mutex`, `condvar` and `exitwalk`, whose programs these are, on `stepprograms` for accesses, on
+//! Depends on `mutex`, `condvar` and `exitwalk`, whose programs these are, on `stepprograms` for accesses, on
 //! `memorymap` and `posixmutex` for addresses and points, and on `lockword` for replies.
 //!
 //! ```text

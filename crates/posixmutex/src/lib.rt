@@ -9,7 +9,7 @@
 //! at which a call takes effect; a [`Decision`] is a point as traces tell it. `specs/Histories.antt` says which lists
 //! of them are legal. An operation's word is read back as that operation (`operations_are_read_back`).
 //!
-//! Is on `lockword`, for thread ids, replies and what cells say, and on `thiserror`, for the message of what is
+//! Depends on `lockword`, for thread ids, replies and what cells say, and on `thiserror`, for the message of what is
 //! refused.
 //!
 //! ```text

@@ -29,7 +29,7 @@
 //! - `nobody_is_passed_by`, `signals_are_right`, `counters_count_up`, `waits_release_consistent_mutexes`: of condition
 //!   variables.
 //!
-//! Is on `mutex` and `condvar`, for the calls' programs, on `robustlist` and `exitwalk`, for lists and the walk
+//! Depends on `mutex` and `condvar`, for the calls' programs, on `robustlist` and `exitwalk`, for lists and the walk
 //! over them, on `memorymap`, `stepprograms` and `posixmutex`, for layouts, accesses and histories, on `buckets`, for
 //! who is woken or moved, on `facts`, for what notes tell, and on `lockword`, for cells and replies.
 //!

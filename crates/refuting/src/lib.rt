@@ -13,7 +13,7 @@
 //! Else it takes mutexes one by one, so it may miss what is wrong with several together: that a doomed thread died in
 //! time for all of them. That it refutes each illegal history isn't proved.
 //!
-//! Is on `histories`, for a history's lines and what a legal one is, on `verdict`, for the rules of a trace's lines,
+//! Depends on `histories`, for a history's lines and what a legal one is, on `verdict`, for the rules of a trace's lines,
 //! on `facts`, for what lines say, on `posixmutex`, for mutexes as objects, and on `lockword`, for thread ids and
 //! replies.
 //!

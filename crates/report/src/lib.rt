@@ -6,7 +6,7 @@
 //! finds legal, unless it is refused memory. [`run`] does the same for the words of a command line and whatever opens
 //! files ([`Opener`]). What is reported of a failure is in both contracts.
 //!
-//! Is on `cmdline`, for the forms, on `streams`, for files and texts, on `script`, `interleave` and `protocol`, for
+//! Depends on `cmdline`, for the forms, on `streams`, for files and texts, on `script`, `interleave` and `protocol`, for
 //! scripts and runs, on `threadbench`, `ruledwords`, `mutex` and `condvar`, for real threads, on `texts`, for what is
 //! written, on `verdict` and `runs_judged`, for judging it, and on `facts`, `posixmutex`, `memorymap` and `lockword`,
 //! for lines, histories, lack of memory and replies.

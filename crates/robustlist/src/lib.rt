@@ -8,7 +8,7 @@
 //! (`links_alone`, `unlinks_alone`). The words of a thread's own head are an empty list before anything has happened
 //! (`heads_begin_empty`), and words that are a chain are the chain of one list (`chains_are_unique`).
 //!
-//! Is on `memorymap`, for lists through words, on `stepprograms`, for accesses and answers, and on `lockword`, for
+//! Depends on `memorymap`, for lists through words, on `stepprograms`, for accesses and answers, and on `lockword`, for
 //! replies.
 //!
 //! ```text

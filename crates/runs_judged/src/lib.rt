@@ -5,7 +5,7 @@
 //! it, and the verdict is that it is legal, with exactly the number of its points (`lines_are_read_back`,
 //! `runs_are_judged_legal`, `scripts_are_judged_legal`, `printed_runs_are_legal`).
 //!
-//! Is on `texts` and `verdict`, which it joins, on `script` and `protocol`, for the runs, on `mutex`, `condvar` and
+//! Depends on `texts` and `verdict`, which it joins, on `script` and `protocol`, for the runs, on `mutex`, `condvar` and
 //! `exitwalk`, for what their calls tell, and on `facts`, `lines`, `memorymap`, `posixmutex`, `stepprograms` and
 //! `lockword`, for lines, words and numbers. It has no code but the laws: whoever checks what was written relies on
 //! them, as `report` does.

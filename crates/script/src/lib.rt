@@ -6,7 +6,7 @@
 //! say (`processes_are_as_told`, `one_process_without_a_line`, `killall_kills_one_process`, `deaths_are_as_told`), and
 //! `go` cuts no call off (`threads_come_to_rest`).
 //!
-//! Is on `lines`, for words and numbers, on `interleave` and `protocol`, for playing, on `mutex`, `condvar`,
+//! Depends on `lines`, for words and numbers, on `interleave` and `protocol`, for playing, on `mutex`, `condvar`,
 //! `memorymap`, `posixmutex`, `stepprograms` and `lockword`, for calls, layouts and thread ids, on `indexmap`, for
 //! names, and on `thiserror`, for messages.
 //!

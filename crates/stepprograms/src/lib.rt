@@ -5,7 +5,7 @@
 //! walk: it says which access comes next and gets the answer, whoever runs it. [`Progress`] is how far an
 //! answer brought it.
 //!
-//! Is on `posixmutex`, for the points at which calls take effect, and on `lockword`, for replies and cells.
+//! Depends on `posixmutex`, for the points at which calls take effect, and on `lockword`, for replies and cells.
 #![tactic(auto)]
 
 mod access;

@@ -13,7 +13,7 @@
 //! - `own_words_stay`: nobody else changes what a thread stores, so it may load that as early as it likes;
 //! - `loads_may_come_first`: so a lock, a trylock and an unlock may load all that they need before they store anything.
 //!
-//! Is on `protocol`, for the machine, its laws and its invariant, on `mutex`, `condvar`, `robustlist` and
+//! Depends on `protocol`, for the machine, its laws and its invariant, on `mutex`, `condvar`, `robustlist` and
 //! `exitwalk`, for the accesses of calls and walks, on `stepprograms`, `memorymap`, `posixmutex` and `lockword`, for
 //! accesses, places, histories and words, and on `facts`, for what notes tell.
 //!

@@ -9,7 +9,7 @@
 //! head is 0 until its thread sets it, and a futex call changes none. All the room is made by `Kernel::new` and by a
 //! clone; no other call of a kernel takes memory.
 //!
-//! Is on `buckets`, for the queues, on `memorymap`, for places, keys and a word's bucket, on `stepprograms`, for
+//! Depends on `buckets`, for the queues, on `memorymap`, for places, keys and a word's bucket, on `stepprograms`, for
 //! what accesses answer, and on `lockword`, for cells, thread ids and replies.
 //!
 //! ```text

@@ -4,7 +4,7 @@
 //! [`write_trace`], [`write_table`] and [`write_replies`] write, byte for byte, what `specs/` says of a run or of
 //! replies.
 //!
-//! Is on `script` and `interleave`, for what was run and how it left the machine, on `facts` and `protocol`, for
+//! Depends on `script` and `interleave`, for what was run and how it left the machine, on `facts` and `protocol`, for
 //! what notes tell, on `streams`, for writing, on `posixmutex`, `memorymap`, `lockword`, `mutex` and `buckets`, for
 //! operations, cells, replies and sleepers, and on `itoa` and `hex`, for numbers.
 //!

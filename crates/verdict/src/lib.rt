@@ -13,7 +13,7 @@
 //! forbids it, the first of these that does. [`read_trace`] gives the lines themselves, of a trace that needn't be
 //! legal.
 //!
-//! Is on `facts`, for what lines say and how they follow each other, on `lines`, for words and numbers, on
+//! Depends on `facts`, for what lines say and how they follow each other, on `lines`, for words and numbers, on
 //! `posixmutex`, for mutexes as objects and operations, on `lockword`, for thread ids and replies, and on `thiserror`,
 //! for messages.
 //!

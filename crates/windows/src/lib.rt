@@ -11,7 +11,7 @@
 //! still. The last such place that a window may reach is taken. That there is one isn't proved, nor that a
 //! certificate is never refused: what is handed out is.
 //!
-//! Is on `certificates`, for steps and where they leave threads and mutexes, on `verdict`, for the judgement and its
+//! Depends on `certificates`, for steps and where they leave threads and mutexes, on `verdict`, for the judgement and its
 //! limits, on `histories`, `facts`, `posixmutex` and `lockword`, for what steps say, and on `texts` and `streams`, for
 //! a trace's lines and writing them.
 //!
