@@ -12,7 +12,7 @@ use ruledwords::{Live, Never, Outcome, Pass, Reaped, Released, Running};
 use std::sync::Wait;
 use threadbench::{Bench, WorkerPass};
 
-/// Accounts after a mutex of a bench.
+/// Accounts that a mutex of a bench guards.
 #[derive(Drop)]
 pub(crate) struct Guarded {
     mutex: u16,
@@ -39,7 +39,7 @@ pub(crate) enum NotOwned {
 }
 
 impl Guarded {
-    /// Accounts after this mutex.
+    /// Accounts that this mutex guards.
     pub(crate) fn new(mutex: u16, accounts: Accounts) -> Guarded
         ensures { result.mutex ≡ mutex }
     {

@@ -1,11 +1,12 @@
 //! Real threads at work on shared words.
 //!
-//! A [`Bench`] has the words of a layout, 256 futex hash buckets, each after a lock of its own, and a place to sleep
+//! A [`Bench`] has the words of a layout, 256 futex hash buckets, each with a lock of its own, and a place to sleep
 //! for each thread. [`Bench::lock`] sleeps while another thread owns the mutex, and [`Bench::pay`] wakes those that a
 //! release has to wake, and trims the word where there is nobody. [`Bench::wait`] sleeps on a condition variable's
 //! counter; [`Bench::signal`] wakes a sleeper of it, and [`Bench::broadcast`] moves them all to the mutex's cell. Under
-//! a bucket's lock they do what the machine's kernel does there, as far as `docs/PROVED.md` says it is proved. A call
-//! speaks of words by the addresses that its thread's process has for them; sleepers meet by places.
+//! a bucket's lock they do what the machine's kernel does there, as far as the contracts say (`docs/TESTED.md` has what
+//! is only tested). A call speaks of words by the addresses that its thread's process has for them; sleepers meet by
+//! places.
 //!
 //! [`Bench::work`] runs one worker for each [`Job`] that has calls, all of them at once, and joins them: each makes its
 //! job's calls, on mutexes and on condition variables, in their order, as far as a [`Gate`] lets it, and its [`Record`]
