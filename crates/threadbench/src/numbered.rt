@@ -8,7 +8,7 @@ use crossbeam_utils::CachePadded;
 use lockword::Tid;
 use std::sync::{Mutex, MutexGuard, Wait};
 
-/// A futex hash bucket after a lock of its own, its number among all, and how many threads it was made for.
+/// A futex hash bucket with a lock of its own, its number among all, and how many threads it was made for.
 #[derive(Drop)]
 pub(crate) struct Numbered {
     number: usize,
