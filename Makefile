@@ -121,7 +121,7 @@ out/programs/help-%.o: programs/help.c out/help/%.h out/with
 
 $(LINK_TO)/rfx: $(OBJECTS_IN)/rfx.o out/programs/system.o out/programs/hint.o
 	$(call say,LD,$@)
-	$(Q)$(CC) -pthread $(CFLAGS) $(LDFLAGS) -Wl,--wrap=_exit -o $@ $^
+	$(Q)$(CC) -pthread $(CFLAGS) $(LDFLAGS) -Wl,--wrap=_exit,--wrap=write -o $@ $^
 
 $(LINK_TO)/rfx-%: $(OBJECTS_IN)/rfx-%.o out/programs/system.o out/programs/help-rfx-%.o
 	$(call say,LD,$@)
