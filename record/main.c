@@ -79,7 +79,7 @@ static void read_words(struct asked *a, char **word)
         misused();
 }
 
-/* Prints what -h, --help or --version ask for, if the word is one of these, and exits. */
+/* Prints what -h, --help or --version ask for, if the only word is one of these, and exits. */
 static void give_help(const char *word)
 {
     int is_version = !strcmp(word, "--version");
@@ -94,7 +94,7 @@ static void give_help(const char *word)
 int main(int argc, char **argv)
 {
     struct asked a = {.clock = NO_CLOCK, .size = (uint64_t)USUAL_MIB * MIB};
-    if (argc > 1)
+    if (argc == 2)
         give_help(argv[1]);
     read_words(&a, argv + (argc > 0));
     if (a.history)
