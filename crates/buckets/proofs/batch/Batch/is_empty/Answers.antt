@@ -1,4 +1,0 @@
-use Rattle.buckets.proofs.batch.Batch.is_empty.Goals as goal
-
-pub returns : goal.returns
-returns c = cc

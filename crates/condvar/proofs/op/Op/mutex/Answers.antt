@@ -1,4 +1,0 @@
-use Rattle.condvar.proofs.op.Op.mutex.Goals as goal
-
-pub returns-in-OnCondition : goal.returns-in-OnCondition
-returns-in-OnCondition c = cc

@@ -1,4 +1,0 @@
-use Rattle.memorymap.proofs.layout.Layout.address.Goals as goal
-
-pub returns : goal.returns
-returns c = cc
