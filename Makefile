@@ -119,13 +119,14 @@ out/programs/help-%.o: programs/help.c out/help/%.h out/with
 	$(call say,CC,$<)
 	$(Q)$(CC) $(FLAGS) -Ilib -Iout -DPROGRAM='"$*"' -DHELP='"help/$*.h"' -MMD -MP -c $< -o $@
 
-$(LINK_TO)/rfx: $(OBJECTS_IN)/rfx.o out/programs/system.o out/programs/hint.o
+# Linked again if this file changes, as it has the words for the linker.
+$(LINK_TO)/rfx: $(OBJECTS_IN)/rfx.o out/programs/system.o out/programs/hint.o Makefile
 	$(call say,LD,$@)
-	$(Q)$(CC) -pthread $(CFLAGS) $(LDFLAGS) -Wl,--wrap=_exit,--wrap=write -o $@ $^
+	$(Q)$(CC) -pthread $(CFLAGS) $(LDFLAGS) -Wl,--wrap=_exit,--wrap=write -o $@ $(filter %.o,$^)
 
-$(LINK_TO)/rfx-%: $(OBJECTS_IN)/rfx-%.o out/programs/system.o out/programs/help-rfx-%.o
+$(LINK_TO)/rfx-%: $(OBJECTS_IN)/rfx-%.o out/programs/system.o out/programs/help-rfx-%.o Makefile
 	$(call say,LD,$@)
-	$(Q)$(CC) -pthread $(CFLAGS) $(LDFLAGS) -o $@ $^
+	$(Q)$(CC) -pthread $(CFLAGS) $(LDFLAGS) -o $@ $(filter %.o,$^)
 
 # A text as a string of C.
 out/help/%.h: programs/help/%.txt out/with

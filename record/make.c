@@ -28,10 +28,27 @@ static void fill(struct recording *r, const struct asked *a)
     h->magic = MAGIC;
 }
 
+/* Refuses to overwrite a file that isn't a recording, for example the program itself. A recording whose start was cut
+ * off begins with zeros. */
+static void expect_a_recording(const char *name)
+{
+    struct stat s;
+    struct head h = {0};
+    int fd = open(name, O_RDONLY | O_NONBLOCK | O_CLOEXEC);
+    if (fd < 0)
+        return;
+    int is_empty = !fstat(fd, &s) && S_ISREG(s.st_mode) && !s.st_size;
+    ssize_t n = read(fd, &h, sizeof h);
+    close(fd);
+    if (!is_empty && (n != sizeof h || (h.magic && h.magic != MAGIC)))
+        rec_fail(name, "exists, and isn't a recording of pz-record");
+}
+
 /* Everything before the chunks gets its disk space now, because programs write there at any time. An older recording of
  * this name may still be in use, so it is unlinked instead of truncated. */
 struct recording *rec_make_file(const struct asked *a)
 {
+    expect_a_recording(a->file);
     unlink(a->file);
     int fd = open(a->file, O_RDWR | O_CREAT | O_EXCL | O_CLOEXEC, 0666);
     if (fd < 0)
