@@ -2,10 +2,7 @@
 
 use crate::words::{ANSWERS, load, store};
 use lockword::Reply;
-use robustlist::{
-    Link, Unlink, chains_are_unique, heads_begin_empty, links_alone, links_are_right,
-    unlinks_alone, unlinks_are_right,
-};
+use robustlist::{Link, Unlink};
 use std::process::Abort;
 use stepprograms::{Access, Answer, Progress, StepProgram};
 
@@ -157,14 +154,4 @@ fn a_link_takes_any_other_answer_for_a_fault(rt: HostRuntime) {
 #[test]
 fn an_unlink_takes_any_other_answer_for_a_fault(rt: HostRuntime) {
     takes_no_other(&rt, Unlink::new(1, 5), &UNLINK);
-}
-
-#[test]
-fn laws_can_be_called(_rt: HostRuntime) {
-    chains_are_unique();
-    heads_begin_empty();
-    links_are_right();
-    links_alone();
-    unlinks_are_right();
-    unlinks_alone();
 }

@@ -3,7 +3,7 @@ ghost use Rattle.exitwalk.specs.Walks.{IsGoing};
 
 use crate::batches::thread;
 use crate::words::{exchange, load};
-use exitwalk::{Walk, any_answers_end, steps_are_right, walks_are_right, whole_lists_are_treated};
+use exitwalk::Walk;
 use lockword::{Reply, Tid};
 use posixmutex::{Operation, Point};
 use std::alloc::Global;
@@ -208,12 +208,4 @@ fn a_list_may_be_too_long(rt: HostRuntime) -> Result<(), Fail> {
         }
     }
     Ok(())
-}
-
-#[test]
-fn laws_can_be_called(_rt: HostRuntime) {
-    walks_are_right();
-    any_answers_end();
-    steps_are_right();
-    whole_lists_are_treated();
 }

@@ -1,10 +1,6 @@
-//! `rfx-draw`: what it opens, writers that fail, refused memory; and laws that can be called.
+//! `rfx-draw`: what it opens, writers that fail, refused memory.
 
 use draw_report::{OUT_OF_MEMORY, run};
-use picture::{
-    marks_stand_in_their_lanes, pictures_have_room_for_names, shown_lanes_stand_in_their_columns,
-    texts_have_room, used_mutexes_have_bands,
-};
 use std::alloc::{AllocError, Global};
 use std::io::{self, ErrorKind};
 use text_fixtures::{Answered, Faulty, Fixed, Folder, wants_memory, words};
@@ -179,13 +175,4 @@ fn faults_are_those_of_the_judge(rt: HostRuntime) {
             }
         );
     }
-}
-
-#[test]
-fn laws_can_be_called(_rt: HostRuntime) {
-    marks_stand_in_their_lanes();
-    shown_lanes_stand_in_their_columns();
-    texts_have_room();
-    pictures_have_room_for_names();
-    used_mutexes_have_bands();
 }
