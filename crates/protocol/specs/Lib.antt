@@ -24,3 +24,4 @@ pub mod Counting
 pub mod Releases
 pub mod Expiries
 pub mod TimeLimits
+pub mod Promises

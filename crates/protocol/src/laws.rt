@@ -21,6 +21,13 @@ ghost use Rattle.protocol.specs.Counting.{CountersCountUp};
 ghost use Rattle.protocol.specs.Releases.{WaitsReleaseConsistentMutexes};
 ghost use Rattle.protocol.specs.Reinits.{NobodyJoinsAnUnusableMutex, UnusableStays, RemakesForgetNobody};
 ghost use Rattle.protocol.specs.Spares.{SparesAreLone};
+ghost use Rattle.protocol.specs.Promises.{Promises};
+
+/// The promises of the algorithm, in every run: one legal history, one moment for each call, each death once, no reaped
+/// owner, no lost wake, bounded steps, no wait that is passed by, and no event that is ignored.
+pub fn promises_are_kept()
+    ensures { Promises }
+{}
 
 /// Whatever happens, the points are one legal history of POSIX robust mutexes, which says at each moment what every
 /// cell says.

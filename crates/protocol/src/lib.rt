@@ -6,6 +6,7 @@
 //! does and notes ([`Note`]), and a trace is what the notes tell ([`Note::facts`]). The theorems about every run,
 //! wherever threads are killed and renewed, and mutexes reinitialised:
 //!
+//! - `promises_are_kept`: what README promises, in one record; the other laws stand under it;
 //! - `history_is_legal`: the points and the deaths are one legal history of POSIX robust mutexes;
 //! - `trace_is_explained`, `events_apply`: each call has its points and returns their reply, and no event is passed
 //!   over;
@@ -60,10 +61,11 @@ pub use laws::{
     history_is_legal, late_waits_time_out, leaves_and_declines_are_lone, lists_are_kept,
     lone_threads_come_to_rest, no_reaped_owner, no_sleeper_is_stranded, nobody_is_passed_by,
     nobody_joins_an_unusable_mutex, nobody_times_out_early, only_locks_and_waits_wait,
-    remakes_forget_nobody, renewals_begin_anew, signals_are_right, sleeps_are_told,
-    spares_are_lone, trace_is_explained, undivided_calls_reply, waited_is_owned, waiters_are_kept,
-    waits_release_consistent_mutexes, wakes_are_right, walks_go_on, without_expiries_as_before,
-    without_leaves_as_before, without_reinits_as_before, without_renewals_as_before,
+    promises_are_kept, remakes_forget_nobody, renewals_begin_anew, signals_are_right,
+    sleeps_are_told, spares_are_lone, trace_is_explained, undivided_calls_reply, waited_is_owned,
+    waiters_are_kept, waits_release_consistent_mutexes, wakes_are_right, walks_go_on,
+    without_expiries_as_before, without_leaves_as_before, without_reinits_as_before,
+    without_renewals_as_before,
 };
 pub use note::{Facts, Note};
 pub use thread::{Stage, Thread};
