@@ -2,6 +2,7 @@
 
 ghost use Rattle.histories.specs.Histories.{BeginningsAreLegal, CertificatesSuffice};
 ghost use Rattle.histories.specs.Histories.{HistoriesAreExplained, TracesAreHistories};
+ghost use Rattle.histories.specs.Written.{FaultsAreTheTraces, LinesAreInRange, LinesAreReadBack};
 
 /// Where a history is legal, so is each of its beginnings: so there is a first line that no order of the calls explains,
 /// or none.
@@ -25,4 +26,21 @@ pub fn traces_are_histories()
 /// owned then and of nothing else (`Explains` of the judge of traces).
 pub fn histories_are_explained()
     ensures { HistoriesAreExplained }
+{}
+
+/// Each line that a history with this head may have is read as it was written: the head, each entry, what a trace says that
+/// isn't seen from outside, and the last line.
+pub fn lines_are_read_back()
+    ensures { LinesAreReadBack }
+{}
+
+/// Whatever is read is one of these: the numbers of a head are in their ranges, events are counted from 1, and an entry's
+/// thread, mutex and condition variable are among the head's, its operation one that calls have.
+pub fn lines_are_in_range()
+    ensures { LinesAreInRange }
+{}
+
+/// A fault has the number and the words of a trace's fault of its kind.
+pub fn faults_are_the_traces()
+    ensures { FaultsAreTheTraces }
 {}
