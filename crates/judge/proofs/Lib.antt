@@ -4,3 +4,4 @@ pub mod Lines
 pub mod Some
 pub mod Table
 pub mod Truths
+pub mod Turns

@@ -7,8 +7,9 @@
 -- the reaping of who is alive, the renewal of who isn't reaped. Else a return has one: it names the call that the thread
 -- is in, with the reply, and the line where it began. No other line in its turn has one.
 --
--- *What it says is so.* Law `reasons_hold`, of any lines: a thread's newest line is one behind which only other threads
--- have lines. The call that is named began at its thread's newest line, and the reply is the line's own.
+-- *What it says is so.* Law `reasons_hold`, of any lines: a thread's newest line is one after which only other threads
+-- have lines. The call that is named began at its thread's newest line, and the reply is the line's own. Law
+-- `turns_have_reasons`: whatever is out of turn has a reason.
 --
 -- Lines stand newest first.
 use Rattle.std.specs.Prelude.{ℕ, ◌≡◌, ◌≢◌, ◌==◌, ◌+◌, Bool, true, false, Option, Some, None}
@@ -19,7 +20,9 @@ use Rattle.facts.specs.declared.fact.Begun.{Begun}
 use Rattle.facts.specs.declared.fact.Fact.TheVariants.{Begin, Return, Kill, Reap, Renew}
 use Rattle.histories.specs.declared.entry.Entry.{Entry}
 use Rattle.histories.specs.declared.entry.Entry.TheVariants.{Told, Doom}
+use Rattle.histories.specs.Histories.{is_hidden}
 use Rattle.certificates.specs.Certificates.{whose}
+use Rattle.judge.specs.declared.reason.OutOfTurn.{OutOfTurn as OutOfTurn'}
 use Rattle.judge.specs.declared.reason.OutOfTurn.TheVariants as turn
 use Rattle.judge.specs.declared.reason.Reason.{Reason}
 use Rattle.judge.specs.declared.reason.Reason.TheVariants.{OutOfTurn, NoOrder}
@@ -139,3 +142,16 @@ IsSo es e (NoOrder op m x n) = IsReturn (whose e) es e op m x n
 
 abbrev pub ReasonsHold : Type 0
 ReasonsHold = (es : List Entry) (e : Entry) (why : Reason) → reason_of es e ≡ Some why → IsSo es e why
+
+-- nobody outside sees points, deaths, sleep, wakes and moves; each other line is a history's
+abbrev pub IsSeen : Entry → Type 0
+IsSeen (Told f) = is_hidden f ≡ false
+IsSeen (Doom t) = Unit {0}
+
+-- and the other way round: a line of a history that is out of its thread's turn has such a reason, and a return of a call
+-- has the reason that names it
+pub record AreGivenReasons : Type 0 where
+  pub turns : (es : List Entry) (e : Entry) (why : OutOfTurn') → IsSeen e → IsSo es e (OutOfTurn why)
+      → (told : OutOfTurn') × (reason_of es e ≡ Some (OutOfTurn told))
+  pub returns : (es : List Entry) (e : Entry) (op : Operation) (m : ℕ) (x : Reply) (n : ℕ) → IsSo es e (NoOrder op m x n)
+      → reason_of es e ≡ Some (NoOrder op m x n)

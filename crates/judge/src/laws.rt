@@ -1,12 +1,19 @@
 //! What holds of the reasons and replies that are told of illegal lines.
 
-ghost use Rattle.judge.specs.Reasons.{ReasonsHold};
+ghost use Rattle.judge.specs.Reasons.{AreGivenReasons, ReasonsHold};
 ghost use Rattle.judge.specs.Replies.{PointsHaveTheseReplies};
 
 /// What is told of a line is so: it is out of its thread's turn as the newest line of that says; or it is a return, of
 /// the call that its thread's newest line began, which is the line that is named.
 pub fn reasons_hold()
     ensures { ReasonsHold }
+{}
+
+/// A line of a history that is out of its thread's turn has a reason that says so: a begin in a call, a return in none, a
+/// line of who is dead or reaped, the reaping of who is alive, the renewal of who isn't reaped. So has a return of a call,
+/// whose reason names the call.
+pub fn turns_have_reasons()
+    ensures { AreGivenReasons }
 {}
 
 /// Each reply that a step of a mutex gives a call is one of its operation's, which are tried at an illegal return.

@@ -6,9 +6,9 @@
 //! what it finds illegal is illegal. Else it answers that a history isn't decided at a line.
 //!
 //! Why a line is illegal is read off its thread's own lines (`specs/Reasons.antt`), not told by the search: it is out of
-//! turn, or a return of the call that is named. A law says that these are so ([`reasons_hold`]). With the reason
-//! come replies that the return could have told, each of which has a certificate ([`points_have_these_replies`] says which
-//! are tried).
+//! turn, or a return of the call that is named. A law says that these are so ([`reasons_hold`]), and another one that each
+//! line that is out of turn has a reason ([`turns_have_reasons`]). With the reason come replies that the return could have
+//! told, each of which has a certificate ([`points_have_these_replies`] says which are tried).
 //!
 //! Stands on `certificates`, for what is checked, on `completing`, for the search, on `refuting`, for what is refuted,
 //! on `histories` and `facts`, for a history's lines, and on `posixmutex` and `lockword`, for operations, thread ids and
@@ -32,5 +32,5 @@ mod replies;
 
 pub use evidence::{Change, EarlierReply, Evidence, evidence_of};
 pub use judging::{Judgement, judge};
-pub use laws::{points_have_these_replies, reasons_hold};
+pub use laws::{points_have_these_replies, reasons_hold, turns_have_reasons};
 pub use reason::{OutOfTurn, Reason};
