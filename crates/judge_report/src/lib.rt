@@ -25,6 +25,7 @@
 
 mod asking;
 mod keeping;
+mod laws;
 mod making;
 mod messages;
 mod program;
@@ -33,6 +34,10 @@ mod serving;
 mod telling;
 mod writing;
 
+pub use laws::{
+    lines_are_numbered, options_are_read, options_write, quotes_are_read_back, statuses_are_right,
+    turn_words_are_so, waiters_are_named, windows_are_in_order,
+};
 pub use making::Maker;
 pub use messages::OUT_OF_MEMORY;
 pub use program::run;
