@@ -45,7 +45,7 @@ raised h i most r = record { below = λ k d lt. let b = r.below k d lt in omega 
 adds_none : (n : ℕ) (h : Heard) (i : ℕ) → h.last ≤ i → Adds n h (Ok (read.Told i None)) (record h { seen = h.seen; last = i })
 adds_none n h i most = record { head = refl; seen = λ more. refl; rising = raised h i most }
 
-adds_some : (n : ℕ) (h : Heard) (i : ℕ) (e : Entry) → h.last ≤ i → Adds n h (Ok (read.Told i (Some e))) (record h { seen = (record { number = n; event = i; entry = e }) ∷ h.seen; last = i })
+adds_some : (n : ℕ) (h : Heard) (i : ℕ) (e : Entry) → h.last ≤ i → Adds n h (Ok (read.Told i (Some e))) (record h { seen = seen_with n i (Some e) h.seen; last = i })
 adds_some n h i e most =
     let l : HistoryLine = record { number = n; event = i; entry = e } in
     record {
@@ -71,10 +71,10 @@ taken_adds n h (Ok (read.Told i None)) t is = go (nat_lt i h.last) refl is
         subst (λ (u : Taken). Adds n h (Ok (read.Told i None)) u.heard) made (adds_none n h i (not_low i h.last low))
 taken_adds n h (Ok (read.Told i (Some e))) t is = go (nat_lt i h.last) refl is
   where
-    go : (b : Bool) → nat_lt i h.last ≡ b → met_at n (if b then Err OutOfRange else Ok (record { ends = false; heard = record h { seen = (record { number = n; event = i; entry = e }) ∷ h.seen; last = i } })) ≡ Ok t → Adds n h (Ok (read.Told i (Some e))) t.heard
+    go : (b : Bool) → nat_lt i h.last ≡ b → met_at n (if b then Err OutOfRange else Ok (record { ends = false; heard = record h { seen = seen_with n i (Some e) h.seen; last = i } })) ≡ Ok t → Adds n h (Ok (read.Told i (Some e))) t.heard
     go true low is = let no : Err (fault_at n OutOfRange) ≡ Ok t = is in absurd cc
     go false low is =
-        let made : record { ends = false; heard = record h { seen = (record { number = n; event = i; entry = e }) ∷ h.seen; last = i } } ≡ t = cc in
+        let made : record { ends = false; heard = record h { seen = seen_with n i (Some e) h.seen; last = i } } ≡ t = cc in
         subst (λ (u : Taken). Adds n h (Ok (read.Told i (Some e))) u.heard) made (adds_some n h i e (not_low i h.last low))
 taken_adds n h (Ok (read.End i)) t is = go (nat_lt i h.last) refl is
   where
