@@ -20,7 +20,7 @@ use Rattle.histories.specs.declared.fault.Fault.{Fault}
 use Rattle.histories.specs.declared.fault.Fault.TheVariants.{NotUtf8, OutOfRange, Cut}
 use Rattle.histories.specs.declared.fault.HistoryFault.{HistoryFault}
 use Rattle.histories.specs.Reading.{head_read, line_read, line_said}
-use Rattle.judge_report.specs.Heard.{Heard, Taken, begun, closed, fault_at, goes_on, line_taken, lines_read, met_at, taken_by, text_read, unended}
+use Rattle.judge_report.specs.Heard.{Heard, Taken, begun, closed, fault_at, goes_on, line_taken, lines_read, met_at, seen_with, taken_by, text_read, unended}
 use Rattle.judge_report.specs.Laws.{AreNumbered, LinesAreNumbered, seen_by, seen_from}
 
 -- ---- one line
