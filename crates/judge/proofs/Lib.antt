@@ -5,3 +5,4 @@ pub mod Some
 pub mod Table
 pub mod Truths
 pub mod Turns
+pub mod Changes

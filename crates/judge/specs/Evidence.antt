@@ -8,12 +8,15 @@
 -- in this life.
 --
 -- Lines stand newest first.
-use Rattle.std.specs.Prelude.{ℕ, ◌+◌, ◌==◌, nat_lt, Bool, true, false, ◌&&◌, Option, Some, None}
+use Rattle.std.specs.Prelude.{ℕ, ◌≡◌, ◌≢◌, ◌+◌, ◌==◌, nat_lt, Bool, true, false, ◌&&◌, Option, Some, None}
+use Rattle.std.specs.Bool.{Decides}
 use Rattle.std.specs.Prelude.{List, [], ◌∷◌, length, if◌then◌else◌}
 use Rattle.lockword.specs.declared.reply.Reply.{Reply}
 use Rattle.lockword.specs.declared.reply.Reply.TheVariants.{OK, ETIMEDOUT, EOWNERDEAD, ENOTRECOVERABLE}
 use Rattle.posixmutex.specs.declared.point.Operation.{Operation}
-use Rattle.posixmutex.specs.declared.point.Operation.TheVariants.{Lock, TryLock, TimedLock, Unlock, Wait, TimedWait, Reinit}
+use Rattle.posixmutex.specs.declared.point.Operation.TheVariants.{Lock, TryLock, TimedLock, Unlock, Wait, TimedWait, Death, Reinit}
+use Rattle.posixmutex.specs.declared.object.Object.{Object}
+use Rattle.posixmutex.specs.Objects.{Permits}
 use Rattle.facts.specs.declared.fact.Fact.TheVariants.{Return, Renew}
 use Rattle.histories.specs.declared.entry.Entry.{Entry}
 use Rattle.histories.specs.declared.entry.Entry.TheVariants.{Told}
@@ -153,3 +156,23 @@ evidence_of m es = record {
   got = reply_behind Gets m es;
   left = left_since (reply_behind Gets m es) (reply_behind Leaves m es);
 }
+
+-- ---- what a reply did to the mutex's object
+
+-- at a call's own step of the object, a reply gives its thread the mutex exactly if the thread owns it then and didn't
+-- before; and an owner's reply leaves the mutex exactly if nobody owns it then. The lock that ends a wait, and that of a
+-- call with a time limit, is a lock; a wait that doesn't own its mutex after that has left it; and a wait whose time limit
+-- came has it
+pub record ChangesAreTheObjects : Type 0 where
+  pub gives_it : (o : Object) (t : ℕ) (op : Operation) (x : Reply) (n : Object) → op ≢ Death → o.owner ≢ Some t
+      → Permits o t op x n → Decides (gets op x) (n.owner ≡ Some t)
+  pub gives_up : (o : Object) (t : ℕ) (op : Operation) (x : Reply) (n : Object) → op ≢ Death → o.owner ≡ Some t
+      → Permits o t op x n → Decides (leaves op x) (n.owner ≡ None)
+  pub remade : (o : Object) (t : ℕ) (x : Reply) (n : Object) → Permits o t Reinit x n → leaves Reinit x ≡ true
+  pub timed : (o : Object) (t : ℕ) (x : Reply) (n : Object) → o.owner ≢ Some t → Permits o t Lock x n
+      → Decides (gets TimedLock x) (n.owner ≡ Some t)
+  pub waits : (o : Object) (t : ℕ) (x : Reply) (n : Object) → o.owner ≢ Some t → Permits o t Lock x n
+      → Decides (gets Wait x) (n.owner ≡ Some t) × Decides (gets TimedWait x) (n.owner ≡ Some t)
+  pub left : (o : Object) (t : ℕ) (x : Reply) (n : Object) → o.owner ≢ Some t → Permits o t Lock x n
+      → Decides (leaves Wait x) (n.owner ≢ Some t) × Decides (leaves TimedWait x) (n.owner ≢ Some t)
+  pub late : gets TimedWait ETIMEDOUT ≡ true

@@ -1,5 +1,6 @@
 //! What holds of the reasons and replies that are told of illegal lines.
 
+ghost use Rattle.judge.specs.Evidence.{ChangesAreTheObjects};
 ghost use Rattle.judge.specs.Reasons.{AreGivenReasons, ReasonsHold};
 ghost use Rattle.judge.specs.Replies.{PointsHaveTheseReplies};
 
@@ -19,4 +20,10 @@ pub fn turns_have_reasons()
 /// Each reply that a step of a mutex gives a call is one of its operation's, which are tried at an illegal return.
 pub fn points_have_these_replies()
     ensures { PointsHaveTheseReplies }
+{}
+
+/// The replies that are named for giving a thread a mutex are those after whose step of the mutex's object the thread owns
+/// it, and those that are named for leaving it are those after which nobody does, or a wait's thread doesn't.
+pub fn changes_are_the_objects()
+    ensures { ChangesAreTheObjects }
 {}

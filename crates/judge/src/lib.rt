@@ -32,5 +32,7 @@ mod replies;
 
 pub use evidence::{Change, EarlierReply, Evidence, evidence_of};
 pub use judging::{Judgement, judge};
-pub use laws::{points_have_these_replies, reasons_hold, turns_have_reasons};
+pub use laws::{
+    changes_are_the_objects, points_have_these_replies, reasons_hold, turns_have_reasons,
+};
 pub use reason::{OutOfTurn, Reason};
