@@ -6,3 +6,4 @@ pub mod Table
 pub mod Truths
 pub mod Turns
 pub mod Changes
+pub mod Newest

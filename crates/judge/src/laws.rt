@@ -1,6 +1,6 @@
 //! What holds of the reasons and replies that are told of illegal lines.
 
-ghost use Rattle.judge.specs.Evidence.{ChangesAreTheObjects};
+ghost use Rattle.judge.specs.Evidence.{ChangesAreTheObjects, EvidenceIsNewest};
 ghost use Rattle.judge.specs.Reasons.{AreGivenReasons, ReasonsHold};
 ghost use Rattle.judge.specs.Replies.{PointsHaveTheseReplies};
 
@@ -26,4 +26,10 @@ pub fn points_have_these_replies()
 /// it, and those that are named for leaving it are those after which nobody does, or a wait's thread doesn't.
 pub fn changes_are_the_objects()
     ensures { ChangesAreTheObjects }
+{}
+
+/// The line that is named for giving a thread a mutex is the newest one that did, if any did; and the one that is named for
+/// leaving it is the newest one that did, and newer.
+pub fn evidence_is_newest()
+    ensures { EvidenceIsNewest }
 {}

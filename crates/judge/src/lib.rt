@@ -7,7 +7,8 @@
 //!
 //! Why a line is illegal is read off its thread's own lines (`specs/Reasons.antt`), not told by the search: it is out of
 //! turn, or a return of the call that is named. A law says that these are so ([`reasons_hold`]), and another one that each
-//! line that is out of turn has a reason ([`turns_have_reasons`]). With the reason come replies that the return could have
+//! line that is out of turn has a reason ([`turns_have_reasons`]). [`evidence_of`] names the lines that say how a mutex
+//! stood ([`evidence_is_newest`], [`changes_are_the_objects`]). With the reason come replies that the return could have
 //! told, each of which has a certificate ([`points_have_these_replies`] says which are tried).
 //!
 //! Stands on `certificates`, for what is checked, on `completing`, for the search, on `refuting`, for what is refuted,
@@ -33,6 +34,7 @@ mod replies;
 pub use evidence::{Change, EarlierReply, Evidence, evidence_of};
 pub use judging::{Judgement, judge};
 pub use laws::{
-    changes_are_the_objects, points_have_these_replies, reasons_hold, turns_have_reasons,
+    changes_are_the_objects, evidence_is_newest, points_have_these_replies, reasons_hold,
+    turns_have_reasons,
 };
 pub use reason::{OutOfTurn, Reason};

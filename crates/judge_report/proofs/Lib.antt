@@ -10,3 +10,4 @@ pub mod Options
 pub mod Naming
 pub mod Turning
 pub mod Quoting
+pub mod Faulty

@@ -1,5 +1,11 @@
 -- What options ask for, and what is kept then.
-use Rattle.std.proofs.Common.{◌≡◌, ◌≢◌, ℕ, zero, suc, ◌+◌, Bool, true, false, List, [], ◌∷◌, ◌++◌, length, reverse, take, Option, Some, None, refl, sym, ap, subst, ◌∙◌, arith}
+use Rattle.std.proofs.Common.{◌≡◌, ◌≢◌, ℕ, zero, suc, ◌+◌, ◌<◌, ◌^◌, ◌==◌, ◌&&◌, not, Bool, true, false, List, [], ◌∷◌, ◌++◌, length, reverse, take, drop, Option, Some, None, refl, sym, ap, subst, ◌∙◌, arith}
+use Rattle.std.specs.Prelude.{nat_eq}
+use Rattle.std.specs.Char.{is_ascii_digit}
+use Rattle.std.specs.List.{list_all, starts_with}
+use Rattle.std.proofs.lemmas.Bool.Decides.{nat_tests}
+use Rattle.lines.specs.Numbers.{is_number}
+use Rattle.lines.proofs.Numerals.{written}
 use Rattle.std.specs.Prelude.{codes, decimal, if◌then◌else◌}
 use Rattle.std.specs.List.{Contains}
 use Rattle.std.specs.Str.{bytes_eq}
@@ -16,9 +22,9 @@ use Rattle.windows.specs.declared.cutting.Window.{Window}
 use Rattle.windows.specs.Texts.{steps_count}
 use Rattle.windows.specs.Windows.{IsWindow}
 use Rattle.judge_report.specs.declared.keeping.Cut.{Cut}
-use Rattle.judge_report.specs.Asked.{Judging, Kept, Nothing, Nowhere, Overwrites, Whole, Windows, is_window, judging, place_words, placed, with_place}
+use Rattle.judge_report.specs.Asked.{Judging, Kept, Nothing, Nowhere, Overwrites, Whole, Windows, is_number_part, is_window, judging, place_words, placed, with_place}
 use Rattle.judge_report.specs.Heard.{Heard}
-use Rattle.judge_report.specs.Kept.{AreKept, IsFilled, IsKept, IsWritten}
+use Rattle.judge_report.specs.Kept.{AreKept, IsFilled, IsKept, IsWritten, window_name}
 use Rattle.judge_report.specs.Laws.{AreJoined, OptionsAreKept, OptionsAreRead, OptionsWrite}
 
 -- ---- what the words ask for
@@ -45,6 +51,37 @@ overwritten file is_file =
     ap (λ (b : Bool). with_place false (if b then Some (Whole file) else None) file) is_file
     ∙ named_file false (Whole file) file is_file ∙ ap (λ (b : Bool). if b then Overwrites file else Judging false (Whole file) file) ((bytes_eq-Decides file file).1 refl)
 
+-- a window's name
+number_digits : (w : List ℕ) → is_number w ≡ true → list_all is_ascii_digit w ≡ true
+number_digits [] e = absurd cc
+number_digits (b ∷ []) e = ap (λ (t : Bool). t && true) e
+number_digits (b ∷ c ∷ bs) e = behind (not (b == 48)) (list_all is_ascii_digit (b ∷ c ∷ bs)) e
+  where
+    behind : (a d : Bool) → (a && d) ≡ true → d ≡ true
+    behind true d h = h
+    behind false d h = absurd cc
+
+begins : (out rest : List ℕ) → starts_with nat_eq (out ++ rest) out ≡ true
+begins [] rest = refl
+begins (b ∷ out) rest =
+    let same : nat_eq b b ≡ true = grind (arith, nat_tests) in
+    ap (λ (t : Bool). t && starts_with nat_eq (out ++ rest) out) same ∙ begins out rest
+
+rests : (out rest : List ℕ) → drop (length out) (out ++ rest) ≡ rest
+rests [] rest = refl
+rests (b ∷ out) rest = rests out rest
+
+of_window : (out : List ℕ) (n : ℕ) → n < 2 ^ 64 → is_window out (window_name out n) ≡ true
+of_window out n small =
+    ap (λ (t : Bool). t && is_number_part (drop (length out) (window_name out n))) (begins out (codes "." ++ decimal n))
+    ∙ ap is_number_part (rests out (codes "." ++ decimal n)) ∙ number_digits (decimal n) (written n small)
+
+over : (out : List ℕ) (n : ℕ) → is_file_word out ≡ true → is_file_word (window_name out n) ≡ true → n < 2 ^ 64 → with_place false (place_words (codes "--windows") out) (window_name out n) ≡ Overwrites (window_name out n)
+over out n is_out is_file small =
+    ap (λ (b : Bool). with_place false (if b then Some (Windows out) else None) (window_name out n)) is_out
+    ∙ named_file false (Windows out) (window_name out n) is_file
+    ∙ ap (λ (b : Bool). if b then Overwrites (window_name out n) else Judging false (Windows out) (window_name out n)) (of_window out n small)
+
 pub options_read : OptionsAreRead
 options_read = record {
   plain = λ p file is. named_file false Nowhere file is;
@@ -52,6 +89,7 @@ options_read = record {
   trace = λ p out file is_out is_file other. (whole false out file is_out is_file other, whole true out file is_out is_file other, whole true out file is_out is_file other);
   windows = λ p out file is_out is_file apart. (cut false out file is_out is_file apart, cut true out file is_out is_file apart, cut true out file is_out is_file apart);
   over = λ p file is. overwritten file is;
+  over_window = λ p out n is_out is_file small. over out n is_out is_file small;
 }
 
 -- ---- what is kept

@@ -1,6 +1,6 @@
 -- What holds of whatever the program says, in the words of who reads it.
-use Rattle.std.specs.Prelude.{ℕ, ◌≡◌, ◌≢◌, ◌<◌, ◌≤◌, ◌+◌, ◌⊎◌, Bool, true, false, List, [], ◌∷◌, ◌++◌, reverse, take}
-use Rattle.std.specs.Prelude.{codes, decimal, Option, Some, None, Result, Ok, Vec}
+use Rattle.std.specs.Prelude.{ℕ, ◌≡◌, ◌≢◌, ◌<◌, ◌≤◌, ◌+◌, ◌^◌, ◌⊎◌, Bool, true, false, List, [], ◌∷◌, ◌++◌, length, reverse, take}
+use Rattle.std.specs.Prelude.{codes, decimal, Option, Some, None, Result, Ok, Err, Vec}
 use Rattle.std.specs.List.{AllPairs, Contains}
 use Rattle.std.specs.declared.alloc.Global.{Global}
 use Rattle.std.specs.declared.io.ErrorKind.{ErrorKind}
@@ -15,6 +15,7 @@ use Rattle.facts.specs.declared.fact.Fact.{Fact}
 use Rattle.histories.specs.declared.entry.Entry.{Entry}
 use Rattle.histories.specs.declared.entry.HistoryLine.{HistoryLine}
 use Rattle.histories.specs.declared.fault.Fault.{Fault}
+use Rattle.histories.specs.declared.fault.HistoryFault.{HistoryFault}
 use Rattle.histories.specs.declared.head.Head.{Head}
 use Rattle.histories.specs.declared.reading.Read.{Read}
 use Rattle.histories.specs.declared.reading.Read.TheVariants.{Told}
@@ -37,7 +38,7 @@ use Rattle.judge_report.specs.declared.keeping.Cut.{Cut}
 use Rattle.judge_report.specs.declared.messages.Failure.{Failure}
 use Rattle.judge_report.specs.Asked.{Asked, Judging, Kept, Nothing, Nowhere, Overwrites, Whole, Windows, asked_of, is_window}
 use Rattle.judge_report.specs.Heard.{Heard, history_read}
-use Rattle.judge_report.specs.Kept.{IsFilled, IsKept, IsWritten}
+use Rattle.judge_report.specs.Kept.{IsFilled, IsKept, IsWritten, window_name}
 use Rattle.judge_report.specs.Messages.{failure_text}
 use Rattle.judge_report.specs.Programs.{RunEnds}
 use Rattle.judge_report.specs.Said.{IsFirstIllegal, IsLegalBefore, IsSaid, told}
@@ -111,6 +112,11 @@ pub record StatusesAreRight (Opens : List ℕ → Result (Option (List ℕ)) Err
 
 -- ---- the number of a line
 
+-- a fault is at a line of the bytes, counted from 1; what follows the last line feed is one, too
+abbrev pub FaultsAreAtLines : Type 0
+FaultsAreAtLines = (bytes : List ℕ) (f : HistoryFault) → history_read bytes ≡ Err f
+    → (1 ≤ f.line) × (f.line ≤ length (lines_of bytes))
+
 -- what these lines say that is seen, the first of which is line n; lines that are read otherwise are left out
 abbrev pub seen_by : ℕ → Result Read Fault → List HistoryLine → List HistoryLine
 seen_by n (Ok (Told i (Some e))) more = (record { number = n; event = i; entry = e }) ∷ more
@@ -148,9 +154,11 @@ pub record OptionsAreRead : Type 0 where
       → (asked_of (p ∷ codes "--windows" ∷ out ∷ file ∷ []) ≡ Judging false (Windows out) file)
       × (asked_of (p ∷ codes "--waiting" ∷ codes "--windows" ∷ out ∷ file ∷ []) ≡ Judging true (Windows out) file)
       × (asked_of (p ∷ codes "--windows" ∷ out ∷ codes "--waiting" ∷ file ∷ []) ≡ Judging true (Windows out) file)
-  -- and the history isn't written over
+  -- and the history isn't written over, by a whole certificate or by a window
   pub over : (p file : List ℕ) → is_file_word file ≡ true
       → asked_of (p ∷ codes "--trace" ∷ file ∷ file ∷ []) ≡ Overwrites file
+  pub over_window : (p out : List ℕ) (n : ℕ) → is_file_word out ≡ true → is_file_word (window_name out n) ≡ true
+      → n < 2 ^ 64 → asked_of (p ∷ codes "--windows" ∷ out ∷ window_name out n ∷ []) ≡ Overwrites (window_name out n)
 
 -- what is kept then: with `--trace` one file, which has the whole certificate, or the trace up to the illegal line; with
 -- `--windows` a file for each window

@@ -1,6 +1,6 @@
 //! What holds of all that the program says.
 
-ghost use Rattle.judge_report.specs.Laws.{LinesAreNumbered, OptionsAreRead, OptionsWrite, QuotesAreReadBack};
+ghost use Rattle.judge_report.specs.Laws.{FaultsAreAtLines, LinesAreNumbered, OptionsAreRead, OptionsWrite, QuotesAreReadBack};
 ghost use Rattle.judge_report.specs.Laws.{StatusesAreRight, TurnWordsAreSo, WaitersAreNamed, WindowsAreInOrder};
 ghost use Rattle.std.specs.Prelude.{◌≡◌};
 
@@ -26,6 +26,11 @@ pub fn statuses_are_right<F: Opener, M: Maker, W: Output, E: Write>(
 /// says something is left out. So the L in `illegal at line L` is a line of the file.
 pub fn lines_are_numbered()
     ensures { LinesAreNumbered }
+{}
+
+/// A fault is reported at a line of the file, counted from 1.
+pub fn faults_are_at_lines()
+    ensures { FaultsAreAtLines }
 {}
 
 /// Each option asks for what its name says: `--waiting` for the calls that still wait, `--trace OUT` for a whole

@@ -35,8 +35,8 @@ mod telling;
 mod writing;
 
 pub use laws::{
-    lines_are_numbered, options_are_read, options_write, quotes_are_read_back, statuses_are_right,
-    turn_words_are_so, waiters_are_named, windows_are_in_order,
+    faults_are_at_lines, lines_are_numbered, options_are_read, options_write, quotes_are_read_back,
+    statuses_are_right, turn_words_are_so, waiters_are_named, windows_are_in_order,
 };
 pub use making::Maker;
 pub use messages::OUT_OF_MEMORY;
