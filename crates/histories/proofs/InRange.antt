@@ -34,16 +34,16 @@ use Rattle.histories.specs.Written.{IsThreadOf, IsCallOf, IsEntryOf, IsEvent, Li
 -- ---- one thing and then another
 
 -- what came of both came of the first
-record Both {A B : Type 0} (o : Option A) (f : A → Option B) (y : B) : Type 0 where
-  value : A
-  first : o ≡ Some value
-  then_is : f value ≡ Some y
+pub record Both {A B : Type 0} (o : Option A) (f : A → Option B) (y : B) : Type 0 where
+  pub value : A
+  pub first : o ≡ Some value
+  pub then_is : f value ≡ Some y
 
-both : {A B : Type 0} (o : Option A) (f : A → Option B) (y : B) → (o >>= f) ≡ Some y → Both o f y
+pub both : {A B : Type 0} (o : Option A) (f : A → Option B) (y : B) → (o >>= f) ≡ Some y → Both o f y
 both (Some x) f y is = record { value = x; first = refl; then_is = is }
 both None f y is = let no : None ≡ Some y = is in absurd cc
 
-some_of : {A : Type 0} (o : Option A) (e : Fault) (x : A) → ok_or o e ≡ Ok x → o ≡ Some x
+pub some_of : {A : Type 0} (o : Option A) (e : Fault) (x : A) → ok_or o e ≡ Ok x → o ≡ Some x
 some_of (Some y) e x is = let same : ok_or (Some y) e ≡ Ok x = is in cc
 some_of None e x is = let no : Err e ≡ Ok x = is in absurd cc
 
@@ -263,12 +263,12 @@ line_is h (End None) r form is = let no : None ≡ Some r = is in absurd cc
 -- ---- lines
 
 -- what came of a reading came of both its steps
-record Steps {A B : Type 0} (o : Result A Fault) (f : A → Result B Fault) (y : B) : Type 0 where
-  value : A
-  first : o ≡ Ok value
-  then_is : f value ≡ Ok y
+pub record Steps {A B : Type 0} (o : Result A Fault) (f : A → Result B Fault) (y : B) : Type 0 where
+  pub value : A
+  pub first : o ≡ Ok value
+  pub then_is : f value ≡ Ok y
 
-steps : {A B : Type 0} (o : Result A Fault) (f : A → Result B Fault) (y : B) → (o >>! f) ≡ Ok y → Steps o f y
+pub steps : {A B : Type 0} (o : Result A Fault) (f : A → Result B Fault) (y : B) → (o >>! f) ≡ Ok y → Steps o f y
 steps (Ok x) f y is = record { value = x; first = refl; then_is = is }
 steps (Err e) f y is = let no : Err e ≡ Ok y = is in absurd cc
 

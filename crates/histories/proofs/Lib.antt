@@ -4,3 +4,4 @@ pub mod Showing
 pub mod Spacing
 pub mod ReadBack
 pub mod InRange
+pub mod Only

@@ -1,7 +1,7 @@
 -- Which lines a history may have, and that each is read as it was written.
 --
 -- *Written and read back.* By a history's first line, which entries it may have: their numbers are in their ranges, and
--- their operations are those that calls have. Each is read as what it was written of, and nothing else is read.
+-- their operations are those that calls have. Each is read as what it was written of, and nothing else is read as it.
 use Rattle.std.specs.Prelude.{ℕ, ◌≡◌, ◌<◌, ◌≤◌, true, false, Option, Some, None, List, [], ◌∷◌, ◌++◌, Ok, codes, decimal}
 use Rattle.lockword.specs.Replies.{reply_word}
 use Rattle.posixmutex.specs.declared.point.Operation.{Operation}
@@ -153,6 +153,12 @@ pub record LinesAreInRange : Type 0 where
   pub entry : (h : Head) (bytes : List ℕ) (i : ℕ) (e : Entry) → line_read h bytes ≡ Ok (read.Told i (Some e))
       → IsEntryOf h e
   pub end : (h : Head) (bytes : List ℕ) (n : ℕ) → line_read h bytes ≡ Ok (read.End n) → n ≤ max_events
+
+-- and no other text is read as it; but of what isn't seen only the keyword and the thread are read
+pub record OnlyTheseAreRead : Type 0 where
+  pub entry : (h : Head) (bytes : List ℕ) (i : ℕ) (e : Entry) → line_read h bytes ≡ Ok (read.Told i (Some e))
+      → bytes ≡ entry_line i e
+  pub end : (h : Head) (bytes : List ℕ) (n : ℕ) → line_read h bytes ≡ Ok (read.End n) → bytes ≡ end_line n
 
 -- ---- faults
 

@@ -3,6 +3,7 @@
 ghost use Rattle.histories.specs.Histories.{BeginningsAreLegal, CertificatesSuffice};
 ghost use Rattle.histories.specs.Histories.{HistoriesAreExplained, TracesAreHistories};
 ghost use Rattle.histories.specs.Written.{FaultsAreTheTraces, LinesAreInRange, LinesAreReadBack};
+ghost use Rattle.histories.specs.Written.{OnlyTheseAreRead};
 
 /// Where a history is legal, so is each of its beginnings: so there is a first line that no order of the calls explains,
 /// or none.
@@ -38,6 +39,11 @@ pub fn lines_are_read_back()
 /// thread, mutex and condition variable are among the head's, its operation one that calls have.
 pub fn lines_are_in_range()
     ensures { LinesAreInRange }
+{}
+
+/// No text but an entry's own line is read as the entry, and none but the last line's as that.
+pub fn only_these_are_read()
+    ensures { OnlyTheseAreRead }
 {}
 
 /// A fault has the number and the words of a trace's fault of its kind.

@@ -10,8 +10,8 @@
 //!
 //! [`head_of`] and [`line_of`] read a history line by line. A trace's lines are read too: those that aren't seen from
 //! outside say nothing. `specs/Written.antt` says how lines are written: each is read as it was ([`lines_are_read_back`]),
-//! and what is read is one that the head allows ([`lines_are_in_range`]). Faults are a trace's
-//! ([`faults_are_the_traces`]).
+//! and no other text is read as it ([`only_these_are_read`]); what is read is one that the head allows
+//! ([`lines_are_in_range`]). Faults are a trace's ([`faults_are_the_traces`]).
 //!
 //! Stands on `verdict`, for what a legal trace is and for words, on `facts`, for what lines say, on `lines`, for words
 //! and numbers, on `posixmutex` and `lockword`, for operations, thread ids and replies, and on `thiserror`, for messages.
@@ -40,7 +40,7 @@ pub use fault::{Fault, HistoryFault};
 pub use head::Head;
 pub use laws::{
     beginnings_are_legal, certificates_suffice, faults_are_the_traces, histories_are_explained,
-    lines_are_in_range, lines_are_read_back, traces_are_histories,
+    lines_are_in_range, lines_are_read_back, only_these_are_read, traces_are_histories,
 };
 pub use limits::{MAX_CONDITIONS, MAX_EVENTS, MAX_MUTEXES, MAX_THREADS};
 pub use reading::{Read, head_of, line_of};
