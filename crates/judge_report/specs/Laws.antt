@@ -12,6 +12,7 @@ use Rattle.lockword.specs.declared.reply.Reply.{Reply}
 use Rattle.lockword.specs.Threads.{named_threads}
 use Rattle.facts.specs.declared.fact.Begun.{Begun}
 use Rattle.facts.specs.declared.fact.Fact.{Fact}
+use Rattle.verdict.specs.Earlier.{objects_after}
 use Rattle.histories.specs.declared.entry.Entry.{Entry}
 use Rattle.histories.specs.declared.entry.HistoryLine.{HistoryLine}
 use Rattle.histories.specs.declared.fault.Fault.{Fault}
@@ -43,7 +44,7 @@ use Rattle.judge_report.specs.Messages.{failure_text}
 use Rattle.judge_report.specs.Programs.{RunEnds}
 use Rattle.judge_report.specs.Said.{IsFirstIllegal, IsLegalBefore, IsSaid, told}
 use Rattle.judge_report.specs.Served.{IsRead}
-use Rattle.judge_report.specs.Texts.{quote, turn_words}
+use Rattle.judge_report.specs.Texts.{legal_text, quote, turn_words}
 
 -- ---- verdicts and exit statuses
 
@@ -207,14 +208,23 @@ pub record WindowsAreInOrder (Makes Fills : List ℕ → Option (List ℕ) → T
 
 -- ---- calls that still wait
 
+-- what is said of the mutex that a call waits for
+abbrev pub state_words : Bool → List ℕ
+state_words true = codes ", which is unusable"
+state_words false = codes ", which nobody "
+
 -- with `--waiting`, each lock of a thread that is neither killed nor doomed is named, if it has had no point and nobody
--- owns its mutex
-abbrev pub WaitersAreNamed : Type 0
-WaitersAreNamed = (k : Heard) (steps : Vec Entry Global) (cuts : List Cut) (text : List ℕ) (t : ℕ) (call : Begun)
-    → IsSaid true k (Legal steps) cuts text → 0 < t → t ≤ named_threads
-    → IsStuck t (trace_of (reverse steps.items)) call → is_doomed t (reverse steps.items) ≡ false
-    → (before after : List ℕ)
-    × (text ≡ before ++ (codes "still waits: t" ++ (decimal t ++ (codes " for m" ++ (decimal call.mutex ++ after)))))
+-- owns its mutex, of which it is said whether it is unusable; without it none is
+pub record WaitersAreNamed : Type 0 where
+  pub each : (k : Heard) (steps : Vec Entry Global) (cuts : List Cut) (text : List ℕ) (t : ℕ) (call : Begun)
+      → IsSaid true k (Legal steps) cuts text → 0 < t → t ≤ named_threads
+      → IsStuck t (trace_of (reverse steps.items)) call → is_doomed t (reverse steps.items) ≡ false
+      → (before after : List ℕ)
+      × (text ≡ before ++ (codes "still waits: t" ++ (decimal t ++ (codes " for m" ++ (decimal call.mutex
+      ++ (state_words (objects_after (trace_of (reverse steps.items)) call.mutex).unusable ++ after))))))
+  pub unasked : (k : Heard) (steps : Vec Entry Global) (cuts : List Cut) (text : List ℕ)
+      → IsSaid false k (Legal steps) cuts text
+      → (points : ℕ) × (text ≡ legal_text points (reverse k.seen) ++ window_lines cuts)
 
 -- ---- why a line is out of turn
 

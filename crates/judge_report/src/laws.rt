@@ -51,7 +51,8 @@ pub fn windows_are_in_order<M: Maker>(maker: &M)
     ensures { WindowsAreInOrder (M.makes maker.now) (M.fills maker.now) }
 {}
 
-/// With `--waiting`, each lock that still waits and shouldn't is named, with its thread and its mutex.
+/// With `--waiting`, each lock that still waits and shouldn't is named, with its thread and its mutex, and whether the mutex
+/// is unusable. Without it no call is named.
 pub fn waiters_are_named()
     ensures { WaitersAreNamed }
 {}
