@@ -3,14 +3,14 @@
 ghost use Rattle.certificates.specs.Laws.{NamedCallsAreStuck, PointsAreTheJudges, SinceIsTheLast};
 ghost use Rattle.certificates.specs.Laws.{StuckCallsAreNamed, WaitersAreInOrder};
 
-/// Behind a certificate, each call that is named still waits and shouldn't: its thread is alive, it is a lock that has
+/// After a certificate, each call that is named still waits and shouldn't: its thread is alive, it is a lock that has
 /// had no point, with a time limit or without, nobody owns its mutex, which would have a reply for it and is unusable
 /// where that is said, and it began at the line of the history that is named.
 pub fn named_calls_are_stuck()
     ensures { NamedCallsAreStuck }
 {}
 
-/// Behind steps, each lock of any thread that is neither killed nor doomed, which has had no point and whose mutex nobody
+/// After steps, each lock of any thread that is neither killed nor doomed, which has had no point and whose mutex nobody
 /// owns, is named.
 pub fn stuck_calls_are_named()
     ensures { StuckCallsAreNamed }

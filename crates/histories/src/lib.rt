@@ -1,6 +1,6 @@
 //! Histories: what is seen of robust mutexes from outside, by whoever knows no moment at which a call takes effect.
 //!
-//! A history is a trace whose points and deaths are missing, with one line more: a thread's doom, behind which it tells
+//! A history is a trace whose points and deaths are missing, with one line more: a thread's doom, after which it tells
 //! nothing, as it dies at some moment that nobody knows. `specs/Histories.antt` says when a history is legal: where some
 //! trace shows just its lines, each line of which fits those before it by the rules of the judge of traces. Four laws
 //! say what that is worth. A legal history's beginnings are legal, so there is a first line that no order of the calls
@@ -19,7 +19,7 @@
 //! ```text
 //! let head = head_of(b"history 2 1 0")?;
 //! let line = line_of(&head, b"17 doom t1")?;
-//! // Line 17 tells that thread 1 dies at some moment behind it.
+//! // Line 17 tells that thread 1 dies at some moment after it.
 //! assert_eq!(rt; line, Read::Told(17, Some(Entry::Doom(first))));
 //! // What a trace tells of points isn't seen.
 //! assert_eq!(rt; line_of(&head, b"18 point t2 m0 lock OK")?, Read::Told(18, None));

@@ -7,3 +7,4 @@ pub mod Truths
 pub mod Turns
 pub mod Changes
 pub mod Newest
+pub mod Deaths

@@ -213,3 +213,17 @@ pub record EvidenceIsNewest : Type 0 where
   pub got : (m : ℕ) (es : List Entry) → IsNewestOrNone Gets m es (evidence_of m es).got
   pub left : (m : ℕ) (es : List Entry) (r : EarlierReply) → (evidence_of m es).left ≡ Some r
       → IsNewestChange Leaves m es r × ((g : EarlierReply) → (evidence_of m es).got ≡ Some g → g.place < r.place)
+
+-- the line that is named for a death tells of one, of a thread that may have owned the mutex, and is the newest such line;
+-- a thread in a call on a mutex may own it, and so may one whose newest line is a reply of such a call that gave it the mutex
+pub record DeathIsNamed : Type 0 where
+  pub death : (m : ℕ) (es : List Entry) (n : ℕ) → (evidence_of m es).death ≡ Some n
+      → (later : List Entry) × (e : Entry) × (earlier : List Entry) × (es ≡ later ++ e ∷ earlier) × (n ≡ length earlier + 1)
+      × (dies e ≡ true) × (may_own m (whose e) earlier ≡ true)
+  pub found : (m : ℕ) (e : Entry) (es : List Entry) → dies e ≡ true → may_own m (whose e) es ≡ true
+      → (evidence_of m (e ∷ es)).death ≡ Some (length es + 1)
+  pub calling : (m t : ℕ) (es : List Entry) (c : Begun) → IsNewest t es (Told (Begin t c)) → c.mutex ≡ m
+      → may_own m t es ≡ true
+  pub given : (m t : ℕ) (es : List Entry) (c : Begun) (x : Reply) → IsNewest t es (Told (Begin t c)) → c.mutex ≡ m
+      → gets c.operation x ≡ true → may_own m t (Told (Return t x) ∷ es) ≡ true
+  pub renewed : (m t : ℕ) (es : List Entry) → may_own m t (Told (Renew t) ∷ es) ≡ false

@@ -39,7 +39,7 @@ standing_after (Told (Reap t)) n = Reaped
 standing_after (Told f) n = Resting
 standing_after (Doom t) n = Dead
 
--- where thread t is behind lines
+-- where thread t is after lines
 abbrev pub standing_behind : ℕ → List Entry → Standing
 standing_behind t [] = Resting
 standing_behind t (e ∷ es) = if whose e == t then standing_after e (length es + 1) else standing_behind t es
@@ -79,7 +79,7 @@ reason_by s (Told (Renew t)) = renewal_reason s
 reason_by s (Told f) = None
 reason_by s (Doom t) = death_reason s
 
--- what may be wrong with a line behind these
+-- what may be wrong with a line after these
 abbrev pub reason_of : List Entry → Entry → Option Reason
 reason_of es e = reason_by (standing_behind (whose e) es) e
 
@@ -130,7 +130,7 @@ pub record IsReturn (t : ℕ) (es : List Entry) (e : Entry) (operation : Operati
   pub mutex_is : call.mutex ≡ m
   pub place : n ≡ length newest.earlier + 1
 
--- behind lines, what is told of a line is so
+-- after lines, what is told of a line is so
 abbrev pub IsSo : List Entry → Entry → Reason → Type 0
 IsSo es e (OutOfTurn turn.InCall) = (begins e ≡ true) × Newest begins (whose e) es
 IsSo es e (OutOfTurn turn.NoCall) = (returns e ≡ true) × NotNewest begins (whose e) es

@@ -1,6 +1,6 @@
 //! What holds of the reasons and replies that are told of illegal lines.
 
-ghost use Rattle.judge.specs.Evidence.{ChangesAreTheObjects, EvidenceIsNewest};
+ghost use Rattle.judge.specs.Evidence.{ChangesAreTheObjects, DeathIsNamed, EvidenceIsNewest};
 ghost use Rattle.judge.specs.Reasons.{AreGivenReasons, ReasonsHold};
 ghost use Rattle.judge.specs.Replies.{PointsHaveTheseReplies};
 
@@ -32,4 +32,10 @@ pub fn changes_are_the_objects()
 /// leaving it is the newest one that did, and newer.
 pub fn evidence_is_newest()
     ensures { EvidenceIsNewest }
+{}
+
+/// The line that is named for a death tells that a thread died which may have owned the mutex. A thread may own a mutex if
+/// it is in a call on it, or was given it by its newest reply; and owns nothing in a new life.
+pub fn death_is_named()
+    ensures { DeathIsNamed }
 {}

@@ -1,4 +1,4 @@
--- What is written behind a legal verdict: a line for each window, and one for each call that still waits and shouldn't.
+-- What is written after a legal verdict: a line for each window, and one for each call that still waits and shouldn't.
 use Rattle.std.proofs.Common.{Vec, ◌≡◌, ℕ, zero, suc, ◌-◌, ◌<◌, ◌≤◌, List, [], ◌∷◌, ◌++◌, map, reverse, Option, Some, append_assoc, refl, sym, ap, ◌∙◌, arith, Bool, true, false, None}
 use Rattle.std.specs.Prelude.{codes, count_by, decimal}
 use Rattle.std.specs.declared.alloc.Global.{Global}
@@ -39,7 +39,7 @@ windows_in_order Makes Fills = record {
 
 -- ---- calls that still wait
 
--- one of the texts that stand one behind the other
+-- one of the texts that stand one after the other
 part_of : {X : Type 0} (f : X → List ℕ) (xs : List X) (x : X) → Contains xs x → (before after : List ℕ) × (concat (map f xs) ≡ before ++ (f x ++ after))
 part_of f [] x (k, few, is) = absurd (omega (arith, few))
 part_of f (y ∷ xs) x (zero, few, is) = ([], concat (map f xs), ap (λ z. f z ++ concat (map f xs)) is)

@@ -25,7 +25,7 @@ use Rattle.judge_report.specs.Laws.{AreNumbered, LinesAreNumbered, seen_by, seen
 
 -- ---- one line
 
--- behind these, no event is below one before it
+-- after these, no event is below one before it
 record IsRising (h : Heard) : Type 0 where
   below : All (λ (l : HistoryLine). l.event ≤ h.last) h.seen
   pairs : AllPairs (λ (a b : HistoryLine). b.event ≤ a.event) h.seen

@@ -48,7 +48,7 @@ use Rattle.judge_report.specs.Texts.{legal_text, quote, turn_words}
 
 -- ---- verdicts and exit statuses
 
--- the text begins so, and this is behind it
+-- the text begins so, and this is after it
 abbrev pub BeginsWith : List ℕ → List ℕ → Type 0
 BeginsWith start text = (rest : List ℕ) × (text ≡ start ++ rest)
 

@@ -1,7 +1,7 @@
 //! What holds of all that the program says.
 
-ghost use Rattle.judge_report.specs.Laws.{FaultsAreAtLines, LinesAreNumbered, OptionsAreRead, OptionsWrite, QuotesAreReadBack};
-ghost use Rattle.judge_report.specs.Laws.{StatusesAreRight, TurnWordsAreSo, WaitersAreNamed, WindowsAreInOrder};
+ghost use Rattle.judge_report.specs.Laws.{FaultsAreAtLines, LinesAreNumbered, OptionsAreRead, OptionsWrite};
+ghost use Rattle.judge_report.specs.Laws.{QuotesAreReadBack, StatusesAreRight, TurnWordsAreSo, WaitersAreNamed, WindowsAreInOrder};
 ghost use Rattle.std.specs.Prelude.{◌≡◌};
 
 use crate::making::Maker;
@@ -51,8 +51,8 @@ pub fn windows_are_in_order<M: Maker>(maker: &M)
     ensures { WindowsAreInOrder (M.makes maker.now) (M.fills maker.now) }
 {}
 
-/// With `--waiting`, each lock that still waits and shouldn't is named, with its thread and its mutex, and whether the mutex
-/// is unusable. Without it no call is named.
+/// With `--waiting`, each lock that still waits and shouldn't is named, with its thread and its mutex, and whether that is
+/// unusable. Without it no call is named.
 pub fn waiters_are_named()
     ensures { WaitersAreNamed }
 {}
@@ -62,8 +62,8 @@ pub fn turn_words_are_so()
     ensures { TurnWordsAreSo }
 {}
 
-/// A line that is quoted is read back as the line that it quotes; and what a trace says that isn't seen from outside is read
-/// as that.
+/// A line that is quoted is read back as the line that it quotes; and what a trace says that isn't seen from outside is
+/// read as that.
 pub fn quotes_are_read_back()
     ensures { QuotesAreReadBack }
 {}
