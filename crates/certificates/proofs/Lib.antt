@@ -5,4 +5,5 @@ pub mod Following
 pub mod Behind
 pub mod Naming
 pub mod Members
+pub mod Leaving
 pub mod Points

@@ -25,7 +25,7 @@ still ws (Some v) w h = Contains-append_left ws (v ∷ []) w h
 last : (ws : List Waiter) (o : Option Waiter) (w : Waiter) → o ≡ Some w → Contains (added ws o) w
 last ws o w is = subst (λ (p : Option Waiter). Contains (added ws p) w) (sym is) (Contains-push ws w)
 
-of_member : (n : ℕ) (es : List Entry) (w : Waiter) → Contains (waiters_to n es) w → (t : ℕ) × (waiter_of t es ≡ Some w)
+pub of_member : (n : ℕ) (es : List Entry) (w : Waiter) → Contains (waiters_to n es) w → (t : ℕ) × (waiter_of t es ≡ Some w)
 unfolding waiters_to
 of_member zero es w (k, few, is) = absurd (omega (arith, few))
 of_member (suc n) es w h = ⊎_elim (λ old. of_member n es w old) (λ new. (suc n, new)) (from_added (waiters_to n es) (waiter_of (suc n) es) w h)

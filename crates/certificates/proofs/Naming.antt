@@ -32,7 +32,7 @@ use Rattle.certificates.proofs.Standing.{told_seen}
 data Began (t : ℕ) (c : Begun) (es : List Entry) : Type 0 where
   At : (newer older : List Entry) → seen_of es ≡ newer ++ Told (Begin t c) ∷ older → begun_at t es ≡ length older + 1 → Began t c es
 
--- a step behind it
+-- a step after it
 further : (t : ℕ) (c : Begun) (e : Entry) (es : List Entry) → begun_at t (e ∷ es) ≡ begun_at t es → Began t c es → Began t c (e ∷ es)
 further t c e es same (At newer older is at) = go (is_seen e (is_doomed (whose e) es)) refl where
   go : (b : Bool) → is_seen e (is_doomed (whose e) es) ≡ b → Began t c (e ∷ es)

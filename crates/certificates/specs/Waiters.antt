@@ -1,4 +1,4 @@
--- Which calls still wait and shouldn't, behind the steps of a certificate. Steps stand newest first.
+-- Which calls still wait and shouldn't, after the steps of a certificate. Steps stand newest first.
 --
 -- *A call that still waits and shouldn't.* Its thread is neither killed nor doomed, and the call is a lock, with a time
 -- limit or without, that has had no point, of a mutex that nobody owns: it is free or unusable. The trace that the steps

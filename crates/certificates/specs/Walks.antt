@@ -28,7 +28,7 @@ idle = record { locks = None; begin = 0; doomed = false }
 abbrev pub thread_at : List Thread → ℕ → Thread
 thread_at ts t = slice_index_or ts t idle
 
--- what a fact of its own makes of it, behind n lines of the history
+-- what a fact of its own makes of it, after n lines of the history
 abbrev pub told_thread : Thread → Fact → ℕ → Thread
 told_thread p (Begin t c) n = record { locks = locked_by c.operation c.mutex; begin = n + 1; doomed = p.doomed }
 told_thread p (Point d) n = record p { locks = None }
@@ -40,7 +40,7 @@ abbrev pub thread_after : Thread → Entry → ℕ → Thread
 thread_after p (Told f) n = told_thread p f n
 thread_after p (Doom t) n = record p { doomed = true }
 
--- what it is behind steps
+-- what it is after steps
 abbrev pub thread_behind : ℕ → List Entry → Thread
 thread_behind t es = record { locks = locks t (trace_of es); begin = begun_at t es; doomed = is_doomed t es }
 
@@ -94,13 +94,13 @@ pub record Walks (w : Walk) (e : Entry) (k : Walk) : Type 0 where
   pub lines : k.lines
       ≡ (if is_seen e (thread_at w.threads.items (whose e)).doomed then w.lines + 1 else w.lines)
 
--- it is behind these steps
+-- it is after these steps
 pub record IsBehind (es : List Entry) (w : Walk) : Type 0 where
   pub threads : (t : ℕ) → t < length w.threads.items → thread_at w.threads.items t ≡ thread_behind t es
   pub mutexes : (m : ℕ) → m < length w.mutexes.items → mutex_at w.mutexes.items m ≡ mutex_behind m es
   pub lines : w.lines ≡ length (seen_of es)
 
--- ---- what still waits, behind steps that led there
+-- ---- what still waits, after steps that led there
 
 abbrev pub IsWaiterFor : Walk → ℕ → ℕ → ℕ → Option Waiter → Type 0
 IsWaiterFor w t begin m r = (es : List Entry) → IsBehind es w → r ≡ waiter_for t begin es (Some m)

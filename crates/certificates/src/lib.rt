@@ -7,10 +7,11 @@
 //! That it accepts whatever is a certificate isn't proved. It asks for memory once, for each thread and each mutex. A
 //! [`State`] is where steps leave threads and mutexes.
 //!
-//! [`still_waiting`] names the calls that a certificate leaves waiting, though nobody owns their mutex. Two laws say what
+//! [`still_waiting`] names the calls that a certificate leaves waiting, though nobody owns their mutex. Four laws say what
 //! that is worth: each call that is named is a lock that has had no point and would have a reply, and it began at the line
-//! that is named ([`named_calls_are_stuck`]); and each such call of a thread that isn't doomed is named
-//! ([`stuck_calls_are_named`]). [`points_of`] counts the points as the judge of traces does
+//! that is named ([`named_calls_are_stuck`]); each such call of a thread that isn't doomed is named
+//! ([`stuck_calls_are_named`]), once, in the order of threads ([`waiters_are_in_order`]); and it is said which step was
+//! the last that left its mutex without an owner ([`since_is_the_last`]). [`points_of`] counts the points as the judge of traces does
 //! ([`points_are_the_judges`]).
 //!
 //! Stands on `histories`, for what a legal history is, on `verdict`, for the rules of a trace's lines, on `facts`, for
@@ -33,7 +34,10 @@ mod waiting;
 mod walk;
 
 pub use certifying::{certify, points_of};
-pub use laws::{named_calls_are_stuck, points_are_the_judges, stuck_calls_are_named};
+pub use laws::{
+    named_calls_are_stuck, points_are_the_judges, since_is_the_last, stuck_calls_are_named,
+    waiters_are_in_order,
+};
 pub use phase::{Made, Phase};
 pub use state::State;
 pub use waiting::{Waiter, still_waiting};

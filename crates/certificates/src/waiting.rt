@@ -65,7 +65,7 @@ fn add(found: &mut Vec<Waiter>, waiter: Option<Waiter>) -> Result<(), AllocError
     Ok(())
 }
 
-/// The calls that still wait and shouldn't, behind the steps of a certificate, in the order of their threads' ids.
+/// The calls that still wait and shouldn't, after the steps of a certificate, in the order of their threads' ids.
 /// Memory is asked for once, for every thread and every mutex that steps may name, and for each such call.
 pub fn still_waiting(alloc: Global, steps: &[Entry]) -> Result<Vec<Waiter>, AllocError>
     ensures { IfOk result (λ ws. ws.items ≡ waiters (reverse steps.now)) }

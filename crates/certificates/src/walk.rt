@@ -60,7 +60,7 @@ fn locked_by(call: Begun) -> Option<u16>
     }
 }
 
-/// What a fact of its own makes of a thread, behind so many lines of the history.
+/// What a fact of its own makes of a thread, after so many lines of the history.
 fn told_thread(thread: Thread, fact: &Fact, lines: usize) -> Thread
     requires { lines + 1 < 2 ^ 64 }
     ensures { result ≡ told_thread thread fact.now lines }
@@ -85,7 +85,7 @@ fn told_thread(thread: Thread, fact: &Fact, lines: usize) -> Thread
     }
 }
 
-/// What a step of its own makes of a thread, behind so many lines of the history.
+/// What a step of its own makes of a thread, after so many lines of the history.
 fn thread_after(thread: Thread, step: &Entry, lines: usize) -> Thread
     requires { lines + 1 < 2 ^ 64 }
     ensures { result ≡ thread_after thread step.now lines }
@@ -187,7 +187,7 @@ fn stepped(object: Object, decision: &Decision) -> Object
     }
 }
 
-/// The mutex when its object became this one, behind so many lines of the history.
+/// The mutex when its object became this one, after so many lines of the history.
 fn became(mutex: Mutex, object: Object, lines: usize) -> Mutex
     ensures { result ≡ became mutex object lines }
 {
@@ -309,7 +309,7 @@ impl Walk {
     }
 }
 
-/// What is kept behind all steps. It asks for memory once, for every thread and every mutex that steps may name.
+/// What is kept after all steps. It asks for memory once, for every thread and every mutex that steps may name.
 pub fn walked(alloc: Global, steps: &[Entry]) -> Result<Walk, AllocError>
     ensures behind { IfOk result (IsBehind (reverse steps.now)) }
     ensures room { IfOk result HasRoom }

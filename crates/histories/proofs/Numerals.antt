@@ -13,7 +13,7 @@ both : (a b : Bool) → (a && b) ≡ true → b ≡ true
 both true b e = e
 both false b e = absurd cc
 
-is_digits : (w : List ℕ) → is_number w ≡ true → all_ascii_digits w ≡ true
+pub is_digits : (w : List ℕ) → is_number w ≡ true → all_ascii_digits w ≡ true
 is_digits [] e = absurd cc
 is_digits (b ∷ []) e = rw e refl
 is_digits (b ∷ c ∷ bs) e = sym (same_digits (b ∷ c ∷ bs)) ∙ both (not (b == 48)) (list_all is_ascii_digit (b ∷ c ∷ bs)) e

@@ -84,7 +84,7 @@ begin_on_form e w t a c m = number_of e >>= λ i. thread_word t >>= λ u.
     Some (Told i (said.BeginOn u operation condition mutex)))
     else (if bytes_eq w (codes "point") then Some (Told i (said.Hidden u)) else None)
 
--- a line behind the first, by its words
+-- a line after the first, by its words
 abbrev pub words_form : List (List ℕ) → Option Form
 words_form (w ∷ n ∷ []) = end_form w n
 words_form (e ∷ w ∷ t ∷ []) = mark_form e w t

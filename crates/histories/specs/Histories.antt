@@ -3,7 +3,7 @@
 -- *Legal history.* A trace's points and deaths are seen by nobody, and when a thread was killed is seldom known. A
 -- history has what is seen, and `doom` where a thread is last heard of. It is legal where some trace shows just its
 -- lines, in their order: each line of the trace fits those before it, as the judge of traces has it (`Fits`); a wait
--- releases its mutex only where that is consistent; and for each doom there is one kill, behind it.
+-- releases its mutex only where that is consistent; and for each doom there is one kill, after it.
 --
 -- The trace's numbers are its own: nothing is said of how many events it has.
 use Rattle.std.specs.Prelude.{ℕ, ◌≡◌, ◌==◌, Bool, true, false, Some, List, [], ◌∷◌, ◌++◌, if◌then◌else◌}
@@ -45,7 +45,7 @@ with t d u = if t == u then true else d u
 abbrev pub without : ℕ → (ℕ → Bool) → ℕ → Bool
 without t d u = if t == u then false else d u
 
--- these lines of a trace show that history, both the newest first; d are the threads that are doomed behind them. What
+-- these lines of a trace show that history, both the newest first; d are the threads that are doomed after them. What
 -- is doomed is alive, and tells nothing more but its kill
 pub data Shows : (ℕ → Bool) → List Line → List Entry → Type 0 where
   Nothing : Shows nobody [] []
@@ -70,7 +70,7 @@ abbrev pub AllReleaseWell : List Line → Type 0
 AllReleaseWell [] = Unit {0}
 AllReleaseWell (e ∷ es) = ReleasesWell es e.fact × AllReleaseWell es
 
--- this trace of n mutexes, behind which the threads d are doomed, shows the history legal; both the newest first
+-- this trace of n mutexes, after which the threads d are doomed, shows the history legal; both the newest first
 pub record Certifies (n : ℕ) (d : ℕ → Bool) (trace : List Line) (h : List Entry) : Type 0 where
   pub fits : AllFit n trace
   pub waits : AllReleaseWell trace

@@ -3,3 +3,4 @@ pub mod Faults
 pub mod Forms
 pub mod Reading
 pub mod Histories
+pub mod Written

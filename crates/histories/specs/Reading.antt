@@ -92,6 +92,6 @@ line_said h text = ok_or (form_of text) UnknownWord >>= λ f. ok_or (line_in h f
 abbrev pub head_read : List ℕ → Result Head Fault
 head_read bytes = if is_utf8 bytes then head_said bytes else Err NotUtf8
 
--- a line behind the first, without its line feed
+-- a line after the first, without its line feed
 abbrev pub line_read : Head → List ℕ → Result Read Fault
 line_read h bytes = if is_utf8 bytes then line_said h bytes else Err NotUtf8

@@ -8,7 +8,7 @@ use lockword::Tid;
 pub enum Entry {
     /// A line of a trace that is seen from outside: a begin, a return, a kill, a reaping or a renewal.
     Told(Fact),
-    /// The thread tells nothing more: it dies at some moment behind this line, and before its reaping.
+    /// The thread tells nothing more: it dies at some moment after this line, and before its reaping.
     Doom(Tid),
 }
 

@@ -17,7 +17,7 @@ pub enum Fault {
     /// A number is out of its range, or below one before it.
     #[error("number out of range")]
     OutOfRange,
-    /// There is no `end` line, or something stands behind it.
+    /// There is no `end` line, or something stands after it.
     #[error("cut")]
     Cut,
     /// No memory was left.

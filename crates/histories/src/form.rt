@@ -32,7 +32,7 @@ pub enum Said {
     Hidden(Spelled),
 }
 
-/// What a line behind the first spells.
+/// What a line after the first spells.
 #[derive(Clone, Copy)]
 pub enum Form {
     /// What an event did, with the event's number.
@@ -110,7 +110,7 @@ fn end(keyword: &str, count: &str) -> Option<Form>
     None
 }
 
-/// A line with nothing behind its thread.
+/// A line with nothing after its thread.
 fn mark(event: &str, keyword: &str, thread: &str) -> Option<Form>
     ensures { result ≡ mark_form event.now keyword.now thread.now }
 {
@@ -126,7 +126,7 @@ fn mark(event: &str, keyword: &str, thread: &str) -> Option<Form>
     }
 }
 
-/// A line with one word behind its thread.
+/// A line with one word after its thread.
 fn with_word(event: &str, keyword: &str, thread: &str, word: &str) -> Option<Form>
     ensures { result ≡ word_form event.now keyword.now thread.now word.now }
 {
@@ -178,7 +178,7 @@ fn begin_on(
     None
 }
 
-/// What a line behind the first spells, and None where it is no such line.
+/// What a line after the first spells, and None where it is no such line.
 pub fn read_form(text: &str) -> Option<Form>
     ensures { result ≡ form_of text.now }
 {

@@ -14,7 +14,7 @@ use facts::{Begun, Fact};
 use lockword::Tid;
 use posixmutex::Operation;
 
-/// A line behind the first.
+/// A line after the first.
 #[derive(Clone, Copy, Debug, PartialEq, Eq)]
 pub enum Read {
     /// What the event with this number did; None where that isn't seen from outside.
@@ -196,7 +196,7 @@ pub fn head_of(line: &[u8]) -> Result<Head, Fault>
     }
 }
 
-/// Reads a line behind the first, without its line feed.
+/// Reads a line after the first, without its line feed.
 pub fn line_of(head: &Head, line: &[u8]) -> Result<Read, Fault>
     requires { IsHead head.now }
     ensures { result ≡ line_read head.now line.now }

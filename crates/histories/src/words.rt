@@ -30,7 +30,7 @@ pub fn number(word: &str) -> Option<Option<u64>>
     Some(number_in(word, 0, MAX_EVENTS))
 }
 
-/// The number that stands behind the letter, as [`number`] gives it.
+/// The number that stands after the letter, as [`number`] gives it.
 pub fn numbered(letter: char, word: &str) -> Option<Option<u64>>
     requires { letter < 128 }
     ensures { result ≡ numbered letter word.now }

@@ -4,3 +4,7 @@ pub mod Lines
 pub mod Some
 pub mod Table
 pub mod Truths
+pub mod Turns
+pub mod Changes
+pub mod Newest
+pub mod Deaths

@@ -1,11 +1,10 @@
 -- What is told of a line is so.
-use Rattle.std.proofs.Common.{◌≡◌, ◌≢◌, ℕ, ◌+◌, ◌==◌, Bool, true, false, List, [], ◌∷◌, ◌++◌, length, if◌then◌else◌, Option, Some, None, refl, sym, ap, subst, ◌∙◌, eqb-true, eq-eqb}
+use Rattle.std.proofs.Common.{◌≡◌, ◌≢◌, ℕ, ◌+◌, ◌==◌, Bool, true, false, List, [], ◌∷◌, ◌++◌, length, if◌then◌else◌, Some, None, refl, sym, ap, subst, ◌∙◌, eqb-true, eq-eqb}
 use Rattle.std.specs.Prelude.{All}
 use Rattle.std.proofs.lemmas.Bool.{ne_eqb}
 use Rattle.std.proofs.lemmas.List.Elements.{All-nil, All-cons, All-head, All-tail}
 use Rattle.lockword.specs.declared.reply.Reply.{Reply}
 use Rattle.facts.specs.declared.fact.Begun.{Begun}
-use Rattle.facts.specs.declared.fact.Fact.{Fact}
 use Rattle.facts.specs.declared.fact.Fact.TheVariants.{Begin, Return, Kill, Reap, Renew}
 use Rattle.histories.specs.declared.entry.Entry.{Entry}
 use Rattle.histories.specs.declared.entry.Entry.TheVariants.{Told, Doom}
@@ -15,7 +14,7 @@ use Rattle.judge.specs.declared.reason.Reason.{Reason}
 use Rattle.judge.specs.declared.reason.Reason.TheVariants.{OutOfTurn, NoOrder}
 use Rattle.judge.specs.declared.reason.Standing.{Standing}
 use Rattle.judge.specs.declared.reason.Standing.TheVariants.{Resting, Calling, Dead, Reaped}
-use Rattle.judge.specs.Reasons.{IsNewest, IsReturn, IsSo, Newest, NotNewest, begin_reason, begins, death_reason, dies, reap_reason, reaps, reason_of, renewal_reason, renews, return_reason, standing_after, standing_behind}
+use Rattle.judge.specs.Reasons.{IsNewest, IsSo, Newest, begin_reason, begins, death_reason, dies, reap_reason, reaps, reason_of, renewal_reason, renews, return_reason, standing_after, standing_behind}
 
 -- ---- the newest line says where its thread is
 
@@ -25,7 +24,7 @@ says_of t (o ∷ later) earlier e own others =
     ap (λ (b : Bool). if b then standing_after o (length (later ++ e ∷ earlier) + 1) else standing_behind t (later ++ e ∷ earlier)) (ne_eqb (whose o) t (All-head (λ (x : Entry). whose x ≢ t) o later others))
     ∙ says_of t later earlier e own (All-tail (λ (x : Entry). whose x ≢ t) o later others)
 
-says : (t : ℕ) (es : List Entry) (e : Entry) (n : IsNewest t es e) → standing_behind t es ≡ standing_after e (length n.earlier + 1)
+pub says : (t : ℕ) (es : List Entry) (e : Entry) (n : IsNewest t es e) → standing_behind t es ≡ standing_after e (length n.earlier + 1)
 says t es e n = ap (standing_behind t) n.all ∙ says_of t n.later n.earlier e n.own n.others
 
 -- who rests has begun no call since
@@ -44,7 +43,7 @@ unreaped e k s is apart = refl
 
 -- ---- where a thread is, its newest line says
 
-abbrev Found : ℕ → List Entry → Standing → Type 0
+abbrev pub Found : ℕ → List Entry → Standing → Type 0
 Found t es Resting = Unit {0}
 Found t es (Calling c k) = (n : IsNewest t es (Told (Begin t c))) × (k ≡ length n.earlier + 1)
 Found t es Dead = Newest dies t es
@@ -75,7 +74,7 @@ further t o es (Calling c k) other f = (there t o (Told (Begin t c)) es other f.
 further t o es Dead other f = (f.0, there t o f.0 es other f.1, f.2)
 further t o es Reaped other f = (f.0, there t o f.0 es other f.1, f.2)
 
-found : (t : ℕ) (es : List Entry) → Found t es (standing_behind t es)
+pub found : (t : ℕ) (es : List Entry) → Found t es (standing_behind t es)
 found t [] = tt
 found t (e ∷ es) = by_cases (whose e == t) refl (found t es) where
   by_cases : (b : Bool) → (whose e == t) ≡ b → Found t es (standing_behind t es) → Found t (e ∷ es) (if b then standing_after e (length es + 1) else standing_behind t es)

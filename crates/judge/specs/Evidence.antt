@@ -8,13 +8,17 @@
 -- in this life.
 --
 -- Lines stand newest first.
-use Rattle.std.specs.Prelude.{ℕ, ◌+◌, ◌==◌, nat_lt, Bool, true, false, ◌&&◌, Option, Some, None}
-use Rattle.std.specs.Prelude.{List, [], ◌∷◌, length, if◌then◌else◌}
+use Rattle.std.specs.Prelude.{ℕ, ◌≡◌, ◌≢◌, ◌<◌, ◌+◌, ◌==◌, nat_lt, Bool, true, false, ◌&&◌, Option, Some, None}
+use Rattle.std.specs.Bool.{Decides}
+use Rattle.std.specs.Prelude.{List, [], ◌∷◌, ◌++◌, length, if◌then◌else◌}
 use Rattle.lockword.specs.declared.reply.Reply.{Reply}
 use Rattle.lockword.specs.declared.reply.Reply.TheVariants.{OK, ETIMEDOUT, EOWNERDEAD, ENOTRECOVERABLE}
 use Rattle.posixmutex.specs.declared.point.Operation.{Operation}
-use Rattle.posixmutex.specs.declared.point.Operation.TheVariants.{Lock, TryLock, TimedLock, Unlock, Wait, TimedWait, Reinit}
-use Rattle.facts.specs.declared.fact.Fact.TheVariants.{Return, Renew}
+use Rattle.posixmutex.specs.declared.point.Operation.TheVariants.{Lock, TryLock, TimedLock, Unlock, Wait, TimedWait, Death, Reinit}
+use Rattle.posixmutex.specs.declared.object.Object.{Object}
+use Rattle.posixmutex.specs.Objects.{Permits}
+use Rattle.facts.specs.declared.fact.Begun.{Begun}
+use Rattle.facts.specs.declared.fact.Fact.TheVariants.{Begin, Return, Renew}
 use Rattle.histories.specs.declared.entry.Entry.{Entry}
 use Rattle.histories.specs.declared.entry.Entry.TheVariants.{Told}
 use Rattle.certificates.specs.Certificates.{whose}
@@ -24,7 +28,7 @@ use Rattle.judge.specs.declared.evidence.Change.{Change}
 use Rattle.judge.specs.declared.evidence.Change.TheVariants.{Gets, Leaves}
 use Rattle.judge.specs.declared.evidence.EarlierReply.{EarlierReply}
 use Rattle.judge.specs.declared.evidence.Evidence.{Evidence}
-use Rattle.judge.specs.Reasons.{dies, standing_behind}
+use Rattle.judge.specs.Reasons.{IsNewest, dies, standing_behind}
 
 -- ---- a reply and its mutex
 
@@ -153,3 +157,73 @@ evidence_of m es = record {
   got = reply_behind Gets m es;
   left = left_since (reply_behind Gets m es) (reply_behind Leaves m es);
 }
+
+-- ---- what a reply did to the mutex's object
+
+-- at a call's own step of the object, a reply gives its thread the mutex exactly if the thread owns it then and didn't
+-- before; and an owner's reply leaves the mutex exactly if nobody owns it then. The lock that ends a wait, and that of a
+-- call with a time limit, is a lock; a wait that doesn't own its mutex after that has left it; and a wait whose time limit
+-- came has it
+pub record ChangesAreTheObjects : Type 0 where
+  pub gives_it : (o : Object) (t : ℕ) (op : Operation) (x : Reply) (n : Object) → op ≢ Death → o.owner ≢ Some t
+      → Permits o t op x n → Decides (gets op x) (n.owner ≡ Some t)
+  pub gives_up : (o : Object) (t : ℕ) (op : Operation) (x : Reply) (n : Object) → op ≢ Death → o.owner ≡ Some t
+      → Permits o t op x n → Decides (leaves op x) (n.owner ≡ None)
+  pub remade : (o : Object) (t : ℕ) (x : Reply) (n : Object) → Permits o t Reinit x n → leaves Reinit x ≡ true
+  pub timed : (o : Object) (t : ℕ) (x : Reply) (n : Object) → o.owner ≢ Some t → Permits o t Lock x n
+      → Decides (gets TimedLock x) (n.owner ≡ Some t)
+  pub waits : (o : Object) (t : ℕ) (x : Reply) (n : Object) → o.owner ≢ Some t → Permits o t Lock x n
+      → Decides (gets Wait x) (n.owner ≡ Some t) × Decides (gets TimedWait x) (n.owner ≡ Some t)
+  pub left : (o : Object) (t : ℕ) (x : Reply) (n : Object) → o.owner ≢ Some t → Permits o t Lock x n
+      → Decides (leaves Wait x) (n.owner ≢ Some t) × Decides (leaves TimedWait x) (n.owner ≢ Some t)
+  pub late : gets TimedWait ETIMEDOUT ≡ true
+
+-- ---- the newest lines
+
+-- this line, after those, is thread r.thread's reply in a call on mutex m, which changed the mutex so
+pub record IsChange (k : Change) (m : ℕ) (e : Entry) (earlier : List Entry) (r : EarlierReply) : Type 0 where
+  pub line : e ≡ Told (Return r.thread r.reply)
+  pub place : r.place ≡ length earlier + 1
+  pub call : Begun
+  pub newest : IsNewest r.thread earlier (Told (Begin r.thread call))
+  pub mutex : call.mutex ≡ m
+  pub operation : call.operation ≡ r.operation
+  pub changed : changes k r.operation r.reply ≡ true
+
+-- it is the newest such line; or there is none
+pub record IsNewestChange (k : Change) (m : ℕ) (es : List Entry) (r : EarlierReply) : Type 0 where
+  pub later : List Entry
+  pub line : Entry
+  pub earlier : List Entry
+  pub all : es ≡ later ++ line ∷ earlier
+  pub is_change : IsChange k m line earlier r
+  pub none_later : (last : List Entry) (e : Entry) (between : List Entry) (s : EarlierReply) → later ≡ last ++ e ∷ between
+      → IsChange k m e (between ++ line ∷ earlier) s → ⊥
+
+abbrev pub NoChange : Change → ℕ → List Entry → Type 0
+NoChange k m es = (later : List Entry) (e : Entry) (earlier : List Entry) (r : EarlierReply) → es ≡ later ++ e ∷ earlier
+    → IsChange k m e earlier r → ⊥
+
+abbrev pub IsNewestOrNone : Change → ℕ → List Entry → Option EarlierReply → Type 0
+IsNewestOrNone k m es (Some r) = IsNewestChange k m es r
+IsNewestOrNone k m es None = NoChange k m es
+
+-- who got the mutex last; and who left it, if that is newer
+pub record EvidenceIsNewest : Type 0 where
+  pub got : (m : ℕ) (es : List Entry) → IsNewestOrNone Gets m es (evidence_of m es).got
+  pub left : (m : ℕ) (es : List Entry) (r : EarlierReply) → (evidence_of m es).left ≡ Some r
+      → IsNewestChange Leaves m es r × ((g : EarlierReply) → (evidence_of m es).got ≡ Some g → g.place < r.place)
+
+-- the line that is named for a death tells of one, of a thread that may have owned the mutex, and is the newest such line;
+-- a thread in a call on a mutex may own it, and so may one whose newest line is a reply of such a call that gave it the mutex
+pub record DeathIsNamed : Type 0 where
+  pub death : (m : ℕ) (es : List Entry) (n : ℕ) → (evidence_of m es).death ≡ Some n
+      → (later : List Entry) × (e : Entry) × (earlier : List Entry) × (es ≡ later ++ e ∷ earlier) × (n ≡ length earlier + 1)
+      × (dies e ≡ true) × (may_own m (whose e) earlier ≡ true)
+  pub found : (m : ℕ) (e : Entry) (es : List Entry) → dies e ≡ true → may_own m (whose e) es ≡ true
+      → (evidence_of m (e ∷ es)).death ≡ Some (length es + 1)
+  pub calling : (m t : ℕ) (es : List Entry) (c : Begun) → IsNewest t es (Told (Begin t c)) → c.mutex ≡ m
+      → may_own m t es ≡ true
+  pub given : (m t : ℕ) (es : List Entry) (c : Begun) (x : Reply) → IsNewest t es (Told (Begin t c)) → c.mutex ≡ m
+      → gets c.operation x ≡ true → may_own m t (Told (Return t x) ∷ es) ≡ true
+  pub renewed : (m t : ℕ) (es : List Entry) → may_own m t (Told (Renew t) ∷ es) ≡ false

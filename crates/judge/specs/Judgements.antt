@@ -2,7 +2,7 @@
 --
 -- *The judgement.* A history that is found legal has a certificate, which is handed out. One that is found illegal is
 -- legal up to the line that is named, and with that line no trace shows it; the reason is that of the thread's own lines;
--- and with each reply that is named in place of the line's the history is legal. One that isn't decided is legal up to
+-- and with each reply that is named instead of the line's the history is legal. One that isn't decided is legal up to
 -- the line that is named.
 use Rattle.std.specs.Prelude.{ℕ, ◌≡◌, ◌<◌, ◌≤◌, ◌+◌, Some, List, [], ◌∷◌, ◌++◌, All, length, reverse, take}
 use Rattle.std.specs.List.{slice_get}
@@ -33,7 +33,7 @@ IsLegalBefore h history at = (at < length history) × IsLegal h history at
 abbrev pub IsNeverLegal : Head → List HistoryLine → ℕ → Type 0
 IsNeverLegal h history at = LegalHistory h.mutexes (reverse (entries (take (at + 1) history))) → ⊥
 
--- lines with one more behind them, by which thread t is told y
+-- lines with one more after them, by which thread t is told y
 abbrev pub IsWithReturn : List HistoryLine → ℕ → Reply → List HistoryLine → Type 0
 IsWithReturn lines t y longer = reverse (entries longer) ≡ Told (Return t y) ∷ reverse (entries lines)
 
@@ -41,11 +41,11 @@ IsWithReturn lines t y longer = reverse (entries longer) ≡ Told (Return t y) �
 abbrev pub CouldBeTold : Head → List HistoryLine → ℕ → Reply → Type 0
 CouldBeTold h lines t y = LegalHistory h.mutexes (Told (Return t y) ∷ reverse (entries lines))
 
--- the latter are some of those replies, in their order, each of which thread t could be told behind these lines
+-- the latter are some of those replies, in their order, each of which thread t could be told after these lines
 abbrev pub AreSome : Head → List HistoryLine → ℕ → List Reply → List Reply → Type 0
 AreSome h lines t xs ys = All (CouldBeTold h lines t) ys × IsPartOf ys xs
 
--- replies that thread t could be told behind these lines, in place of one for which there is this reason: in the order
+-- replies that thread t could be told after these lines, instead of one for which there is this reason: in the order
 -- of their numbers, each once at most; of a line out of turn none
 abbrev pub ArePossible : Head → List HistoryLine → ℕ → Reason → List Reply → Type 0
 ArePossible h lines t (OutOfTurn why) ys = ys ≡ []
@@ -56,7 +56,7 @@ abbrev pub told_of : Entry → Entry
 told_of (Told f) = Told f
 told_of (Doom t) = Told (Kill t)
 
--- these steps are a certificate of the lines, and behind it one line more
+-- these steps are a certificate of the lines, and after it one line more
 abbrev pub EndsIn : Head → List HistoryLine → Entry → List Entry → Type 0
 EndsIn h lines e steps =
     (before : List Entry) × IsCertificate h.mutexes lines before × (steps ≡ before ++ told_of e ∷ [])

@@ -7,8 +7,9 @@
 -- the reaping of who is alive, the renewal of who isn't reaped. Else a return has one: it names the call that the thread
 -- is in, with the reply, and the line where it began. No other line in its turn has one.
 --
--- *What it says is so.* Law `reasons_hold`, of any lines: a thread's newest line is one behind which only other threads
--- have lines. The call that is named began at its thread's newest line, and the reply is the line's own.
+-- *What it says is so.* Law `reasons_hold`, of any lines: a thread's newest line is one after which only other threads
+-- have lines. The call that is named began at its thread's newest line, and the reply is the line's own. Law
+-- `turns_have_reasons`: whatever is out of turn has a reason.
 --
 -- Lines stand newest first.
 use Rattle.std.specs.Prelude.{ℕ, ◌≡◌, ◌≢◌, ◌==◌, ◌+◌, Bool, true, false, Option, Some, None}
@@ -19,7 +20,9 @@ use Rattle.facts.specs.declared.fact.Begun.{Begun}
 use Rattle.facts.specs.declared.fact.Fact.TheVariants.{Begin, Return, Kill, Reap, Renew}
 use Rattle.histories.specs.declared.entry.Entry.{Entry}
 use Rattle.histories.specs.declared.entry.Entry.TheVariants.{Told, Doom}
+use Rattle.histories.specs.Histories.{is_hidden}
 use Rattle.certificates.specs.Certificates.{whose}
+use Rattle.judge.specs.declared.reason.OutOfTurn.{OutOfTurn as OutOfTurn'}
 use Rattle.judge.specs.declared.reason.OutOfTurn.TheVariants as turn
 use Rattle.judge.specs.declared.reason.Reason.{Reason}
 use Rattle.judge.specs.declared.reason.Reason.TheVariants.{OutOfTurn, NoOrder}
@@ -36,7 +39,7 @@ standing_after (Told (Reap t)) n = Reaped
 standing_after (Told f) n = Resting
 standing_after (Doom t) n = Dead
 
--- where thread t is behind lines
+-- where thread t is after lines
 abbrev pub standing_behind : ℕ → List Entry → Standing
 standing_behind t [] = Resting
 standing_behind t (e ∷ es) = if whose e == t then standing_after e (length es + 1) else standing_behind t es
@@ -76,7 +79,7 @@ reason_by s (Told (Renew t)) = renewal_reason s
 reason_by s (Told f) = None
 reason_by s (Doom t) = death_reason s
 
--- what may be wrong with a line behind these
+-- what may be wrong with a line after these
 abbrev pub reason_of : List Entry → Entry → Option Reason
 reason_of es e = reason_by (standing_behind (whose e) es) e
 
@@ -127,7 +130,7 @@ pub record IsReturn (t : ℕ) (es : List Entry) (e : Entry) (operation : Operati
   pub mutex_is : call.mutex ≡ m
   pub place : n ≡ length newest.earlier + 1
 
--- behind lines, what is told of a line is so
+-- after lines, what is told of a line is so
 abbrev pub IsSo : List Entry → Entry → Reason → Type 0
 IsSo es e (OutOfTurn turn.InCall) = (begins e ≡ true) × Newest begins (whose e) es
 IsSo es e (OutOfTurn turn.NoCall) = (returns e ≡ true) × NotNewest begins (whose e) es
@@ -139,3 +142,16 @@ IsSo es e (NoOrder op m x n) = IsReturn (whose e) es e op m x n
 
 abbrev pub ReasonsHold : Type 0
 ReasonsHold = (es : List Entry) (e : Entry) (why : Reason) → reason_of es e ≡ Some why → IsSo es e why
+
+-- nobody outside sees points, deaths, sleep, wakes and moves; each other line is a history's
+abbrev pub IsSeen : Entry → Type 0
+IsSeen (Told f) = is_hidden f ≡ false
+IsSeen (Doom t) = Unit {0}
+
+-- and the other way round: a line of a history that is out of its thread's turn has such a reason, and a return of a call
+-- has the reason that names it
+pub record AreGivenReasons : Type 0 where
+  pub turns : (es : List Entry) (e : Entry) (why : OutOfTurn') → IsSeen e → IsSo es e (OutOfTurn why)
+      → (told : OutOfTurn') × (reason_of es e ≡ Some (OutOfTurn told))
+  pub returns : (es : List Entry) (e : Entry) (op : Operation) (m : ℕ) (x : Reply) (n : ℕ) → IsSo es e (NoOrder op m x n)
+      → reason_of es e ≡ Some (NoOrder op m x n)

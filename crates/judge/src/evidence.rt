@@ -93,7 +93,7 @@ fn is_calling(mutex: u16, standing: Standing) -> bool
     }
 }
 
-/// Whether a thread that was there owns the mutex behind this reply, if the reply says so.
+/// Whether a thread that was there owns the mutex after this reply, if the reply says so.
 fn owned_after(mutex: u16, standing: Standing, reply: Reply) -> Option<bool>
     ensures { result ≡ owned_after mutex standing reply }
 {
@@ -113,7 +113,7 @@ fn owned_after(mutex: u16, standing: Standing, reply: Reply) -> Option<bool>
     }
 }
 
-/// Whether a thread that was there owns the mutex behind this line, if the line says so.
+/// Whether a thread that was there owns the mutex after this line, if the line says so.
 fn owned_by(mutex: u16, standing: Standing, entry: &Entry) -> Option<bool>
     ensures { result ≡ owned_by mutex standing entry.now }
 {
@@ -127,7 +127,7 @@ fn owned_by(mutex: u16, standing: Standing, entry: &Entry) -> Option<bool>
     }
 }
 
-/// The same of a line behind these, if it is the thread's.
+/// The same of a line after these, if it is the thread's.
 fn owned_at(lines: &[HistoryLine], entry: &Entry, mutex: u16, thread: Tid) -> Option<bool>
     ensures { result ≡ owned_at mutex thread entry.now (reverse (entries lines.now)) }
 {
@@ -153,7 +153,7 @@ fn owned(lines: &[HistoryLine], mutex: u16, thread: Tid) -> Option<bool>
     None
 }
 
-/// Whether the thread may own the mutex behind these lines: it is in a call on it, or its newest line says so that tells
+/// Whether the thread may own the mutex after these lines: it is in a call on it, or its newest line says so that tells
 /// of it.
 fn may_own(lines: &[HistoryLine], mutex: u16, thread: Tid) -> bool
     ensures { result ≡ may_own mutex thread (reverse (entries lines.now)) }
@@ -177,7 +177,7 @@ fn dies(entry: &Entry) -> bool
     }
 }
 
-/// Whether a line behind these tells of the death of a thread that may have owned the mutex.
+/// Whether a line after these tells of the death of a thread that may have owned the mutex.
 fn is_death(lines: &[HistoryLine], entry: &Entry, mutex: u16) -> bool
     ensures { result ≡ is_death mutex entry.now (reverse (entries lines.now)) }
 {
@@ -247,7 +247,7 @@ fn reply_by(
     }
 }
 
-/// The same of a line behind these.
+/// The same of a line after these.
 fn reply_at(
     lines: &[HistoryLine],
     entry: &Entry,

@@ -21,8 +21,8 @@ pub enum Judgement {
     /// Some trace shows it: these are its steps, a certificate.
     Legal(Vec<Entry>),
     /// The history is legal up to this place of a line, counted from 0; with that line no order of the calls explains
-    /// it. With each of these replies in place of the line's own some order does; there may be others. The steps are a
-    /// certificate of the lines before it, and behind them that line, a doom as the kill.
+    /// it. With each of these replies instead of the line's own some order does; there may be others. The steps are a
+    /// certificate of the lines before it, and after them that line, a doom as the kill.
     Illegal {
         at: usize,
         why: Reason,
@@ -103,7 +103,7 @@ fn reach(alloc: Global, head: &Head, lines: &[HistoryLine]) -> Result<usize, Sto
     Ok(lines.len())
 }
 
-/// The place up to which the lines have a certificate, and behind which they have none.
+/// The place up to which the lines have a certificate, and after which they have none.
 fn first_without(alloc: Global, head: &Head, lines: &[HistoryLine]) -> Result<usize, Stop>
     requires { IsHead head.now }
     ensures { IfOk result (IsLegal head.now lines.now) }
@@ -169,7 +169,7 @@ fn told_of(entry: Entry) -> Entry
     }
 }
 
-/// A certificate of the lines, and behind it one line more.
+/// A certificate of the lines, and after it one line more.
 fn steps_to(
     alloc: Global,
     head: &Head,
@@ -252,7 +252,7 @@ fn judged(alloc: Global, head: &Head, lines: &[HistoryLine]) -> Result<Judgement
 /// Judges a history. What it finds legal has the certificate that is handed out: a trace that shows the history, each
 /// line of which was accepted by the rules of the judge of traces. What it finds illegal or can't decide is legal up to
 /// the line that it names; with the illegal line no trace shows the history. Why is told by that line and its thread's
-/// own lines before it; and with each reply that it names in place of an illegal return's the history is legal up to
+/// own lines before it; and with each reply that it names instead of an illegal return's the history is legal up to
 /// there. That it decides isn't proved, nor that it names each such reply.
 pub fn judge(alloc: Global, head: &Head, lines: &[HistoryLine]) -> Result<Judgement, AllocError>
     requires { IsHead head.now }

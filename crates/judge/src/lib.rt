@@ -5,9 +5,11 @@
 //! the lines before that have a certificate, too, and with it they were refuted (`refuting`): no trace shows them. So
 //! what it finds illegal is illegal. Else it answers that a history isn't decided at a line.
 //!
-//! Why a line is illegal is read off its thread's own lines (`specs/Reasons.antt`), not told by the search: it is out of
-//! turn, or a return of the call that is named. A law says that these are so ([`reasons_hold`]). With the reason
-//! come replies that the return could have told, each of which has a certificate ([`points_have_these_replies`] says which
+//! Why a line is illegal is read off its thread's own lines (`specs/Reasons.antt`), not told by the search: it is out
+//! of turn, or a return of the call that is named. A law says that these are so ([`reasons_hold`]), and another one
+//! that each line that is out of turn has a reason ([`turns_have_reasons`]). [`evidence_of`] names the lines that say
+//! how a mutex stood ([`evidence_is_newest`], [`death_is_named`], [`changes_are_the_objects`]). With the reason come
+//! replies that the return could have told, each of which has a certificate ([`points_have_these_replies`] says which
 //! are tried).
 //!
 //! Stands on `certificates`, for what is checked, on `completing`, for the search, on `refuting`, for what is refuted,
@@ -32,5 +34,8 @@ mod replies;
 
 pub use evidence::{Change, EarlierReply, Evidence, evidence_of};
 pub use judging::{Judgement, judge};
-pub use laws::{points_have_these_replies, reasons_hold};
+pub use laws::{
+    changes_are_the_objects, death_is_named, evidence_is_newest, points_have_these_replies,
+    reasons_hold, turns_have_reasons,
+};
 pub use reason::{OutOfTurn, Reason};

@@ -78,7 +78,7 @@ fn standing_after(entry: &Entry, line: usize) -> Standing
     }
 }
 
-/// Where the thread is behind these lines.
+/// Where the thread is after these lines.
 pub fn standing_behind(lines: &[HistoryLine], thread: Tid) -> Standing
     ensures { result ≡ standing_behind thread (reverse (entries lines.now)) }
 {
@@ -164,7 +164,7 @@ fn reason_by(standing: Standing, entry: &Entry) -> Option<Reason>
     }
 }
 
-/// What may be wrong with a line behind these, by its thread's lines among them.
+/// What may be wrong with a line after these, by its thread's lines among them.
 pub fn reason_of(lines: &[HistoryLine], entry: &Entry) -> Option<Reason>
     ensures { result ≡ reason_of (reverse (entries lines.now)) entry.now }
 {

@@ -65,7 +65,7 @@ fn replies_of(operation: Operation) -> &'static [Reply]
     }
 }
 
-/// These lines, and a return behind them, which tells the thread of this line that.
+/// These lines, and a return after them, which tells the thread of this line that.
 fn with_return(
     alloc: Global,
     lines: &[HistoryLine],
@@ -83,7 +83,7 @@ fn with_return(
     Ok(told)
 }
 
-/// Whether a certificate is found of these lines and a return behind them, which tells the thread of this line that.
+/// Whether a certificate is found of these lines and a return after them, which tells the thread of this line that.
 fn could_be_told(
     alloc: Global,
     head: &Head,
@@ -130,7 +130,7 @@ fn possible_among(
     Ok(found)
 }
 
-/// The replies that the line could have told behind these lines, where it is a return in its turn: those with which a
+/// The replies that the line could have told after these lines, where it is a return in its turn: those with which a
 /// certificate is found. That each possible reply is found isn't proved.
 pub fn possible_at(
     alloc: Global,

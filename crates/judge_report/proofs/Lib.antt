@@ -4,3 +4,10 @@ pub mod Taking
 pub mod Saying
 pub mod Ends
 pub mod Filing
+pub mod Statuses
+pub mod Numbered
+pub mod Options
+pub mod Naming
+pub mod Turning
+pub mod Quoting
+pub mod Faulty

@@ -22,7 +22,7 @@ last_one : (n : ℕ) (h : Heard) (text : List ℕ) → lines_read n h (text ∷ 
 unfolding lines_read
 last_one n h text = refl
 
--- a line is taken, behind which others stand
+-- a line is taken, after which others stand
 taken : (n : ℕ) (h : Heard) (text bytes rest : List ℕ) (r : Result Taken HistoryFault) → lines_of bytes ≡ text ∷ lines_of rest → line_taken n h text ≡ r
     → lines_read n h (lines_of bytes) ≡ (r >>= goes_on (n + 1) (lines_of rest) (λ k. lines_read (n + 1) k (lines_of rest)))
 taken n h text bytes rest r parts is =
@@ -119,7 +119,7 @@ ends_ill had left after head n h k line e same cut takes close =
     at_last had left after head n h k line (λ (said : Result Heard HistoryFault). Gives said (Err e)) same cut takes
     (λ ls is. closes_ill (n + 1) k (lines_of ls) e (some_at after ls (λ bytes. Closes (n + 1) (lines_of bytes) (Err e)) is close))
 
--- ---- behind the last line
+-- ---- after the last line
 
 closes_at : (n : ℕ) (h : Heard) (line : List ℕ) (ls : List (List ℕ)) → 1 ≤ length ls → closed n h (line ∷ ls) ≡ Err (fault_at n Cut)
 closes_at n h line [] long = absurd (omega (arith, long))

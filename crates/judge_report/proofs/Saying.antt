@@ -15,7 +15,7 @@ use Rattle.judge_report.specs.declared.reading.History.{History}
 use Rattle.judge_report.specs.Heard.{heard_of}
 use Rattle.judge_report.specs.Said.{IsFirstIllegal, IsIllegal, IsLegal, IsLegalBefore, told}
 
-told-append : (xs ys : List HistoryLine) → told (xs ++ ys) ≡ told xs ++ told ys
+pub told-append : (xs ys : List HistoryLine) → told (xs ++ ys) ≡ told xs ++ told ys
 told-append [] ys = refl
 told-append (x ∷ xs) ys = ap (λ (es : List Entry). x.entry ∷ es) (told-append xs ys)
 

@@ -42,7 +42,7 @@ abbrev pub is_number_part : List ℕ → Bool
 is_number_part [] = false
 is_number_part (b ∷ bs) = (b == 46) && list_all is_ascii_digit bs
 
--- a window that is kept in OUT.1, OUT.2 and so on could be in the file of this name: behind OUT and a point it has digits
+-- a window that is kept in OUT.1, OUT.2 and so on could be in the file of this name: after OUT and a point it has digits
 abbrev pub is_window : List ℕ → List ℕ → Bool
 is_window out file = starts_with nat_eq file out && is_number_part (drop (length out) file)
 

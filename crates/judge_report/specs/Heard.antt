@@ -1,7 +1,7 @@
 -- What a history's text says, and its first fault: each line in turn.
 --
 -- *The history and its first fault.* Each line in turn: whether it is text, its form, its numbers, that of its event not
--- below the one before; then whether the last is an `end` line with nothing behind it.
+-- below the one before; then whether the last is an `end` line with nothing after it.
 use Rattle.std.specs.Prelude.{ℕ, ◌≡◌, ◌+◌, nat_lt, Bool, true, false, List, [], ◌∷◌, reverse, if◌then◌else◌}
 use Rattle.std.specs.Prelude.{Option, Some, None, Result, Ok, Err}
 use Rattle.lines.specs.Lines.{lines_of}
@@ -37,7 +37,7 @@ abbrev pub met_at : {A : Type 0} → ℕ → Result A Fault → Result A History
 met_at n (Ok x) = Ok x
 met_at n (Err f) = Err (fault_at n f)
 
--- nothing stands behind a line feed, though there was no `end` line; or something stands there, which no line feed ends
+-- nothing stands after a line feed, though there was no `end` line; or something stands there, which no line feed ends
 abbrev pub unended : List ℕ → Fault
 unended [] = Cut
 unended (b ∷ bs) = UnknownWord
@@ -51,7 +51,7 @@ seen_with n i (Some e) es = (record { number = n; event = i; entry = e }) ∷ es
 abbrev pub risen : Heard → ℕ → Taken → Result Taken Fault
 risen h i t = if nat_lt i h.last then Err OutOfRange else Ok t
 
--- line n, which says this, behind what was read
+-- line n, which says this, after what was read
 abbrev pub taken_by : ℕ → Heard → Read → Result Taken Fault
 taken_by n h (read.Told i e) =
     risen h i (record { ends = false; heard = record h { seen = seen_with n i e h.seen; last = i } })
@@ -60,16 +60,16 @@ taken_by n h (read.End i) = risen h i (record { ends = true; heard = record h { 
 abbrev pub line_taken : ℕ → Heard → List ℕ → Result Taken HistoryFault
 line_taken n h text = met_at n (line_read h.head text >>= taken_by n h)
 
--- nothing stands behind the `end` line; where something does, it is at line n
+-- nothing stands after the `end` line; where something does, it is at line n
 abbrev pub closed : ℕ → Heard → List (List ℕ) → Result Heard HistoryFault
 closed n h ([] ∷ []) = Ok h
 closed n h _ = Err (fault_at n Cut)
 
--- what follows a line: the lines behind it, the first of which is line n
+-- what follows a line: the lines after it, the first of which is line n
 abbrev pub goes_on : ℕ → List (List ℕ) → (Heard → Result Heard HistoryFault) → Taken → Result Heard HistoryFault
 goes_on n ls more t = if t.ends then closed n t.heard ls else more t.heard
 
--- these lines, the first of which is line n, behind what was read; what stands behind the last line feed is the last of
+-- these lines, the first of which is line n, after what was read; what stands after the last line feed is the last of
 -- them
 unfoldable pub lines_read : ℕ → Heard → List (List ℕ) → Result Heard HistoryFault
 lines_read n h [] = Err (fault_at n Cut)
@@ -77,7 +77,7 @@ lines_read n h (text ∷ []) = Err (fault_at n (unended text))
 lines_read n h (text ∷ next ∷ more) =
     line_taken n h text >>= goes_on (n + 1) (next ∷ more) (λ k. lines_read (n + 1) k (next ∷ more))
 
--- before the first line behind the head
+-- before the first line after the head
 abbrev pub begun : Head → Heard
 begun h = record { head = h; seen = []; last = 0 }
 
@@ -119,7 +119,7 @@ Takes h n text (Err (Ill f)) k = line_taken n h text ≡ Err f
 Takes h n text (Err Failed) k = Unit {0}
 Takes h n text (Err Memory) k = Unit {0}
 
--- nothing stands behind the `end` line, at line n; or something does
+-- nothing stands after the `end` line, at line n; or something does
 abbrev pub Closes : ℕ → List (List ℕ) → Result (Unit {0}) ReadFault → Type 0
 Closes n ls (Ok u) = (h : Heard) → closed n h ls ≡ Ok h
 Closes n ls (Err (Ill f)) = (h : Heard) → closed n h ls ≡ Err f
@@ -131,7 +131,7 @@ abbrev pub Cuts : List ℕ → Option (List ℕ) → Bool → List ℕ → Type 
 Cuts bytes left true line = (rest : List ℕ) × (left ≡ Some rest) × (lines_of bytes ≡ line ∷ lines_of rest)
 Cuts bytes left false line = lines_of bytes ≡ line ∷ []
 
--- the first line is read, and what stands behind it is left; or its fault is told
+-- the first line is read, and what stands after it is left; or its fault is told
 abbrev pub Begins : List ℕ → Option (List ℕ) → Result Head ReadFault → Type 0
 Begins bytes left (Ok h) =
     (rest : List ℕ) × (left ≡ Some rest) × (history_read bytes ≡ lines_read 2 (begun h) (lines_of rest))

@@ -6,3 +6,4 @@ pub mod Said
 pub mod Messages
 pub mod Served
 pub mod Programs
+pub mod Laws

@@ -1,10 +1,10 @@
 -- What the program says of a history, and what that means.
 --
--- *What is said of a history.* `legal N points`: it is a legal history, with a certificate that has N points; behind that
+-- *What is said of a history.* `legal N points`: it is a legal history, with a certificate that has N points; after that
 -- is told which windows it was cut into, where it was, and the calls are named that the certificate leaves waiting and
 -- shouldn't, where they are asked for. `illegal at line L`: those of its lines that stand before line L are a legal
 -- history, and with line L they aren't; the reason is that of its thread's lines before it, and with each reply that is
--- named in place of the line's they are. `undecided at line L`: those before it are a legal history.
+-- named instead of the line's they are. `undecided at line L`: those before it are a legal history.
 use Rattle.std.specs.Prelude.{ℕ, ◌≡◌, Bool, true, false, List, [], ◌∷◌, ◌++◌, map, reverse, count_by}
 use Rattle.std.specs.Prelude.{Option, Some, Result}
 use Rattle.streams.specs.Leaves.{Leaves}
@@ -53,7 +53,7 @@ pub record IsIllegal (k : Heard) (line : HistoryLine) (why : Reason) (possible :
   pub could : ArePossible k.head (reverse first.before.earlier) (whose line.entry) why possible
   pub shown : EndsIn k.head (reverse first.before.earlier) line.entry steps
 
--- the calls that are named behind these steps, if they are asked for
+-- the calls that are named after these steps, if they are asked for
 abbrev pub named : Bool → List Entry → List Waiter
 named true steps = waiters (reverse steps)
 named false steps = []

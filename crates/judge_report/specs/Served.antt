@@ -62,7 +62,7 @@ Unread had OutOfMemory = Unit {0}
 Unread had (Ill f) = IfSome had (λ bytes. history_read bytes ≡ Err f)
 
 -- why nothing was told of a history, or not all: it couldn't be read, or memory was wanted, or the certificate couldn't
--- be written or cut, or the bytes have this fault, before anything was told; or a write failed, behind a beginning
+-- be written or cut, or the bytes have this fault, before anything was told; or a write failed, after a beginning
 abbrev pub Fails : (List ℕ → Option (List ℕ) → Type 0) → (List ℕ → Option (List ℕ) → Type 0) → Bool → Kept
     → Option (List ℕ) → Option (List ℕ) → Option (List ℕ) → Failure → Type 0
 Fails Makes Fills waiting kept had old new Usage = ⊥

@@ -143,7 +143,7 @@ abbrev pub evidence_notes : List HistoryLine → ℕ → Evidence → List ℕ
 evidence_notes ls m e =
     death_note m (line_of ls e.death) ++ (earlier_note ls m e.got ++ earlier_note ls m e.left)
 
--- what is said of an illegal line, and behind its quotation
+-- what is said of an illegal line, and after its quotation
 abbrev pub illegal_title : HistoryLine → Reason → List ℕ
 illegal_title l (reason.OutOfTurn why) = concat
     (codes "illegal at line " ∷ decimal l.number ∷ codes " (event " ∷ decimal l.event ∷ codes "): t"
@@ -153,7 +153,7 @@ illegal_title l (reason.NoOrder op m x begin) = concat
     ∷ codes "): no order of the calls gives t" ∷ decimal (entry_thread l.entry) ∷ codes " " ∷ reply_word x ∷ codes " for its " ∷ operation_word op ∷ codes " of m"
     ∷ decimal m ∷ codes "\n" ∷ [])
 
--- the lines behind which the line stands say how its mutex stood, and where its call began
+-- the lines after which the line stands say how its mutex stood, and where its call began
 abbrev pub why_note : List HistoryLine → Reason → List ℕ
 why_note ls (reason.OutOfTurn why) = []
 why_note ls (reason.NoOrder op m x begin) =

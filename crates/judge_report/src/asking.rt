@@ -58,7 +58,7 @@ fn are_digits(bytes: &[u8]) -> bool
     bytes.iter().all(|b| b.is_ascii_digit())
 }
 
-/// Whether a point stands there, and a number behind it.
+/// Whether a point stands there, and a number after it.
 fn is_number_part(bytes: &[u8]) -> bool
     ensures { result ≡ is_number_part bytes.now }
 {
@@ -68,7 +68,7 @@ fn is_number_part(bytes: &[u8]) -> bool
     }
 }
 
-/// Whether a window of a certificate that is kept in OUT.1, OUT.2 and so on could be written to this file: behind OUT and
+/// Whether a window of a certificate that is kept in OUT.1, OUT.2 and so on could be written to this file: after OUT and
 /// a point its name has a number.
 fn is_window(out: &[u8], file: &[u8]) -> bool
     ensures { result ≡ is_window out.now file.now }

@@ -3,7 +3,7 @@
 //! [`run`] is given the words of the command line, what opens files and what makes them, and the two writers. Where it
 //! writes `legal N points`, its file is a legal history (`LegalHistory`), of just the lines that its text has, and a
 //! certificate with N points was checked, which `--trace` writes, and `--windows` in windows that the judge of traces
-//! finds legal; behind that it names with `--waiting` just the calls that the certificate leaves waiting and shouldn't.
+//! finds legal; after that it names with `--waiting` just the calls that the certificate leaves waiting and shouldn't.
 //! Where it writes `illegal at line L`, the lines before L are a legal history, and with line L they aren't, for the reason
 //! that it tells; with each reply that it says could be told there they are one. Where it writes `undecided at line L`,
 //! the lines before L are one. A file that is no history is told by its first fault (`history_read`).
@@ -25,6 +25,7 @@
 
 mod asking;
 mod keeping;
+mod laws;
 mod making;
 mod messages;
 mod program;
@@ -33,6 +34,10 @@ mod serving;
 mod telling;
 mod writing;
 
+pub use laws::{
+    faults_are_at_lines, lines_are_numbered, options_are_read, options_write, quotes_are_read_back,
+    statuses_are_right, turn_words_are_so, waiters_are_named, windows_are_in_order,
+};
 pub use making::Maker;
 pub use messages::OUT_OF_MEMORY;
 pub use program::run;

@@ -80,7 +80,7 @@ fn next_line<R: BufRead>(input: &mut R, line: &mut Vec<u8>) -> Result<bool, Read
     }
 }
 
-/// What is wrong with what stands behind the last line feed, where there was no `end` line.
+/// What is wrong with what stands after the last line feed, where there was no `end` line.
 fn unended(rest: &[u8]) -> Fault
     ensures { result ≡ unended rest.now }
 {
@@ -92,7 +92,7 @@ fn unended(rest: &[u8]) -> Fault
 }
 
 impl History {
-    /// Before the first line behind the head.
+    /// Before the first line after the head.
     fn new(alloc: Global, head: Head) -> History
         ensures { heard_of result ≡ begun head }
     {
@@ -167,7 +167,7 @@ impl History {
     }
 }
 
-/// Nothing stands behind the `end` line, at line `number`.
+/// Nothing stands after the `end` line, at line `number`.
 fn close<R: BufRead>(input: &mut R, line: &mut Vec<u8>, number: u64) -> Result<(), ReadFault>
     ensures { IfSome (R.remaining input.old) (λ bytes. Closes number (lines_of bytes) result) }
 {
@@ -185,7 +185,7 @@ fn close<R: BufRead>(input: &mut R, line: &mut Vec<u8>, number: u64) -> Result<(
     }
 }
 
-/// Reads the lines behind the first.
+/// Reads the lines after the first.
 fn read_lines<R: BufRead>(alloc: Global, head: Head, input: &mut R) -> Result<History, ReadFault>
     requires { IsHead head }
     ensures gives { IfSome (R.remaining input.old) (λ bytes. Gives (lines_read 2 (begun head) (lines_of bytes)) result) }

@@ -1,4 +1,4 @@
-//! The program, but for opening its file.
+//! The program, except for opening its file.
 
 ghost use Rattle.std.specs.Prelude.{◌≡◌, ◌<◌, get_or, length, take, IfOk, IfErr, OnOk};
 ghost use Rattle.histories.specs.Reading.{IsHead};
@@ -47,7 +47,7 @@ fn read_file<R: Read + Drop>(alloc: Global, input: R) -> Result<History, Failure
     }
 }
 
-/// The calls that are named behind the judgement, if they are asked for.
+/// The calls that are named after the judgement, if they are asked for.
 fn named(alloc: Global, waiting: bool, judgement: &Judgement) -> Result<Vec<Waiter>, AllocError>
     ensures { IfOk result (λ ws. AreNamed waiting judgement.now ws.items) }
 {

@@ -285,7 +285,7 @@ fn write_replies<W: Write>(
     write_left_since(out, lines, mutex, evidence)
 }
 
-/// How the mutex stood behind these lines.
+/// How the mutex stood after these lines.
 fn write_evidence<W: Write>(
     out: &mut W,
     lines: &[HistoryLine],
@@ -298,7 +298,7 @@ fn write_evidence<W: Write>(
     write_replies(out, lines, mutex, evidence)
 }
 
-/// How the mutex stood behind these lines, and where the call began that returns there.
+/// How the mutex stood after these lines, and where the call began that returns there.
 fn write_call<W: Write>(
     out: &mut W,
     lines: &[HistoryLine],
@@ -389,7 +389,7 @@ fn write_possible<W: Write>(out: &mut W, line: &HistoryLine, possible: &[Reply])
     }
 }
 
-/// What stands behind the line's quotation.
+/// What stands after the line's quotation.
 fn write_notes<W: Write>(
     out: &mut W,
     lines: &[HistoryLine],
@@ -642,7 +642,7 @@ pub fn tell_legal<W: Write>(
     write_rest(out, cuts, lines, waiters)
 }
 
-/// Tells that no order of the calls explains these lines and this one behind them, why, and which replies its thread could
+/// Tells that no order of the calls explains these lines and this one after them, why, and which replies its thread could
 /// have been told.
 pub fn tell_illegal<W: Write>(
     out: &mut W,

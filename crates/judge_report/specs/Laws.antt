@@ -1,0 +1,253 @@
+-- What holds of whatever the program says, in the words of who reads it.
+use Rattle.std.specs.Prelude.{ℕ, ◌≡◌, ◌≢◌, ◌<◌, ◌≤◌, ◌+◌, ◌^◌, ◌⊎◌, Bool, true, false, List, [], ◌∷◌, ◌++◌, length, reverse, take}
+use Rattle.std.specs.Prelude.{codes, decimal, Option, Some, None, Result, Ok, Err, Vec}
+use Rattle.std.specs.List.{AllPairs, Contains}
+use Rattle.std.specs.declared.alloc.Global.{Global}
+use Rattle.std.specs.declared.io.ErrorKind.{ErrorKind}
+use Rattle.std.specs.Io.KnownBytes.{Appends}
+use Rattle.streams.specs.Leaves.{AppendsFront}
+use Rattle.streams.specs.Words.{is_file_word}
+use Rattle.lines.specs.Lines.{lines_of}
+use Rattle.lockword.specs.declared.reply.Reply.{Reply}
+use Rattle.lockword.specs.Threads.{named_threads}
+use Rattle.facts.specs.declared.fact.Begun.{Begun}
+use Rattle.facts.specs.declared.fact.Fact.{Fact}
+use Rattle.verdict.specs.Earlier.{objects_after}
+use Rattle.histories.specs.declared.entry.Entry.{Entry}
+use Rattle.histories.specs.declared.entry.HistoryLine.{HistoryLine}
+use Rattle.histories.specs.declared.fault.Fault.{Fault}
+use Rattle.histories.specs.declared.fault.HistoryFault.{HistoryFault}
+use Rattle.histories.specs.declared.head.Head.{Head}
+use Rattle.histories.specs.declared.reading.Read.{Read}
+use Rattle.histories.specs.declared.reading.Read.TheVariants.{Told}
+use Rattle.histories.specs.Histories.{LegalHistory, is_hidden}
+use Rattle.histories.specs.Reading.{IsHead, head_read, line_read}
+use Rattle.histories.specs.Written.{IsEntryOf, IsEvent, IsFactOf}
+use Rattle.certificates.specs.Certificates.{is_doomed, trace_of, whose}
+use Rattle.certificates.specs.Laws.{IsStuck}
+use Rattle.judge.specs.declared.judging.Judgement.{Judgement}
+use Rattle.judge.specs.declared.judging.Judgement.TheVariants.{Legal, Illegal}
+use Rattle.judge.specs.declared.reason.OutOfTurn.{OutOfTurn as OutOfTurn'}
+use Rattle.judge.specs.declared.reason.Reason.{Reason}
+use Rattle.judge.specs.declared.reason.Reason.TheVariants.{OutOfTurn}
+use Rattle.judge.specs.Reasons.{Newest, NotNewest, begins, dies, reaps, renews, reason_of, returns}
+use Rattle.texts.specs.Text.{fact_text}
+use Rattle.windows.specs.declared.cutting.Window.{Window}
+use Rattle.windows.specs.Texts.{certificate_text, steps_count}
+use Rattle.windows.specs.Windows.{IsWindow}
+use Rattle.judge_report.specs.declared.keeping.Cut.{Cut}
+use Rattle.judge_report.specs.declared.messages.Failure.{Failure}
+use Rattle.judge_report.specs.Asked.{Asked, Judging, Kept, Nothing, Nowhere, Overwrites, Whole, Windows, asked_of, is_window}
+use Rattle.judge_report.specs.Heard.{Heard, history_read}
+use Rattle.judge_report.specs.Kept.{IsFilled, IsKept, IsWritten, window_name}
+use Rattle.judge_report.specs.Messages.{failure_text}
+use Rattle.judge_report.specs.Programs.{RunEnds}
+use Rattle.judge_report.specs.Said.{IsFirstIllegal, IsLegalBefore, IsSaid, told}
+use Rattle.judge_report.specs.Served.{IsRead}
+use Rattle.judge_report.specs.Texts.{legal_text, quote, turn_words}
+
+-- ---- verdicts and exit statuses
+
+-- the text begins so, and this is after it
+abbrev pub BeginsWith : List ℕ → List ℕ → Type 0
+BeginsWith start text = (rest : List ℕ) × (text ≡ start ++ rest)
+
+-- it begins so, with this number and a space
+abbrev pub BeginsWithNumber : List ℕ → ℕ → List ℕ → Type 0
+BeginsWithNumber start n text = (rest : List ℕ) × (text ≡ start ++ (decimal n ++ (codes " " ++ rest)))
+
+-- the history is legal, and that is said
+abbrev pub IsFoundLegal : Heard → List ℕ → Type 0
+IsFoundLegal k text = LegalHistory k.head.mutexes (told k.seen) × BeginsWith (codes "legal ") text
+
+-- it isn't, and its first illegal line is named
+abbrev pub IsFoundIllegal : Heard → List ℕ → Type 0
+IsFoundIllegal k text = (LegalHistory k.head.mutexes (told k.seen) → ⊥)
+    × ((line : HistoryLine) × IsFirstIllegal k line × BeginsWithNumber (codes "illegal at line ") line.number text)
+
+-- it is legal up to a line, which is named, and nothing is said of what follows
+abbrev pub IsFoundUndecided : Heard → List ℕ → Type 0
+IsFoundUndecided k text = (line : HistoryLine) × IsLegalBefore k line
+    × BeginsWithNumber (codes "undecided at line ") line.number text
+
+-- the command line asks for a judgement of a file's history, which was read; and of that this was written, whole
+pub record IsFound (Opens : List ℕ → Result (Option (List ℕ)) ErrorKind → Type 0) (a : Asked) (old new : Option (List ℕ))
+    (LetGo : Type 0) (Such : Heard → List ℕ → Type 0) : Type 0 where
+  pub waiting : Bool
+  pub kept : Kept
+  pub file : List ℕ
+  pub asks : a ≡ Judging waiting kept file
+  pub had : Option (List ℕ)
+  pub opens : Opens file (Ok had)
+  pub heard : Heard
+  pub read : IsRead had heard
+  pub text : List ℕ
+  pub such : Such heard text
+  pub written : Appends old new text
+  pub let_go : LetGo
+
+-- a failure was reported, or a beginning of its message was
+abbrev pub IsFailed : Option (List ℕ) → Option (List ℕ) → Type 0
+IsFailed told told' = (file : List ℕ) × (f : Failure) × AppendsFront told told' (failure_text file f)
+
+-- the words of the command line ask for no judgement
+abbrev pub AsksForNothing : Asked → Type 0
+AsksForNothing a = (a ≡ Nothing) ⊎ ((file : List ℕ) × (a ≡ Overwrites file))
+
+-- what an exit status means: 0 that the history is legal, and that this was written; 1 that it isn't, or isn't decided,
+-- and that this was, or a failure; 2 that the command line is none. There is no other
+pub record StatusMeans (Opens : List ℕ → Result (Option (List ℕ)) ErrorKind → Type 0) (a : Asked)
+    (old new : Option (List ℕ)) (LetGo : Type 0) (told told' : Option (List ℕ)) (status : ℕ) : Type 0 where
+  pub zero : status ≡ 0 → IsFound Opens a old new LetGo IsFoundLegal
+  pub one : status ≡ 1 → IsFound Opens a old new LetGo IsFoundIllegal
+      ⊎ (IsFound Opens a old new LetGo IsFoundUndecided ⊎ IsFailed told told')
+  pub two : status ≡ 2 → AsksForNothing a × IsFailed told told'
+  pub none_else : status ≤ 2
+
+-- so it does however a run ended
+pub record StatusesAreRight (Opens : List ℕ → Result (Option (List ℕ)) ErrorKind → Type 0)
+    (Makes Fills : List ℕ → Option (List ℕ) → Type 0) (LetGo Quiet : Type 0) : Type 0 where
+  pub means : (a : Asked) (old new told told' : Option (List ℕ)) (status : ℕ)
+      → RunEnds Opens Makes Fills a old new LetGo Quiet told told' status
+      → StatusMeans Opens a old new LetGo told told' status
+
+-- ---- the number of a line
+
+-- a fault is at a line of the bytes, counted from 1; what follows the last line feed is one, too
+abbrev pub FaultsAreAtLines : Type 0
+FaultsAreAtLines = (bytes : List ℕ) (f : HistoryFault) → history_read bytes ≡ Err f
+    → (1 ≤ f.line) × (f.line ≤ length (lines_of bytes))
+
+-- what these lines say that is seen, the first of which is line n; lines that are read otherwise are left out
+abbrev pub seen_by : ℕ → Result Read Fault → List HistoryLine → List HistoryLine
+seen_by n (Ok (Told i (Some e))) more = (record { number = n; event = i; entry = e }) ∷ more
+seen_by n said more = more
+
+abbrev pub seen_from : ℕ → Head → List (List ℕ) → List HistoryLine
+seen_from n h [] = []
+seen_from n h (text ∷ more) = seen_by n (line_read h text) (seen_from (n + 1) h more)
+
+-- of a history that was read, line 1 of the bytes is the head, and each line that is kept is what its line of the bytes
+-- says, counted from 1; none is left out; and no event is below one before it
+pub record AreNumbered (bytes : List ℕ) (k : Heard) : Type 0 where
+  pub first : List ℕ
+  pub more : List (List ℕ)
+  pub lines : lines_of bytes ≡ first ∷ more
+  pub head : head_read first ≡ Ok k.head
+  pub seen : reverse k.seen ≡ seen_from 2 k.head more
+  pub rising : AllPairs (λ a b. b.event ≤ a.event) k.seen
+
+abbrev pub LinesAreNumbered : Type 0
+LinesAreNumbered = (bytes : List ℕ) (k : Heard) → history_read bytes ≡ Ok k → AreNumbered bytes k
+
+-- ---- options
+
+-- what is asked for by the words of a command line, whose first is any; file and out are names of files
+pub record OptionsAreRead : Type 0 where
+  pub plain : (p file : List ℕ) → is_file_word file ≡ true → asked_of (p ∷ file ∷ []) ≡ Judging false Nowhere file
+  pub waiting : (p file : List ℕ) → is_file_word file ≡ true
+      → asked_of (p ∷ codes "--waiting" ∷ file ∷ []) ≡ Judging true Nowhere file
+  pub trace : (p out file : List ℕ) → is_file_word out ≡ true → is_file_word file ≡ true → out ≢ file
+      → (asked_of (p ∷ codes "--trace" ∷ out ∷ file ∷ []) ≡ Judging false (Whole out) file)
+      × (asked_of (p ∷ codes "--waiting" ∷ codes "--trace" ∷ out ∷ file ∷ []) ≡ Judging true (Whole out) file)
+      × (asked_of (p ∷ codes "--trace" ∷ out ∷ codes "--waiting" ∷ file ∷ []) ≡ Judging true (Whole out) file)
+  pub windows : (p out file : List ℕ) → is_file_word out ≡ true → is_file_word file ≡ true → is_window out file ≡ false
+      → (asked_of (p ∷ codes "--windows" ∷ out ∷ file ∷ []) ≡ Judging false (Windows out) file)
+      × (asked_of (p ∷ codes "--waiting" ∷ codes "--windows" ∷ out ∷ file ∷ []) ≡ Judging true (Windows out) file)
+      × (asked_of (p ∷ codes "--windows" ∷ out ∷ codes "--waiting" ∷ file ∷ []) ≡ Judging true (Windows out) file)
+  -- and the history isn't written over, by a whole certificate or by a window
+  pub over : (p file : List ℕ) → is_file_word file ≡ true
+      → asked_of (p ∷ codes "--trace" ∷ file ∷ file ∷ []) ≡ Overwrites file
+  pub over_window : (p out : List ℕ) (n : ℕ) → is_file_word out ≡ true → is_file_word (window_name out n) ≡ true
+      → n < 2 ^ 64 → asked_of (p ∷ codes "--windows" ∷ out ∷ window_name out n ∷ []) ≡ Overwrites (window_name out n)
+
+-- what is kept then: with `--trace` one file, which has the whole certificate, or the trace up to the illegal line; with
+-- `--windows` a file for each window
+pub record OptionsAreKept (Makes Fills : List ℕ → Option (List ℕ) → Type 0) (k : Heard) (cuts : List Cut) : Type 0 where
+  pub nothing : (j : Judgement) → IsFilled Makes Fills Nowhere k j cuts → cuts ≡ []
+  pub trace : (out : List ℕ) (steps : Vec Entry Global) → IsFilled Makes Fills (Whole out) k (Legal steps) cuts
+      → IsWritten Makes Fills out (certificate_text k.head steps.items) × (cuts ≡ [])
+  pub illegal : (out : List ℕ) (at : ℕ) (why : Reason) (possible : Vec Reply Global) (steps : Vec Entry Global)
+      → IsFilled Makes Fills (Whole out) k (Illegal at why possible steps) cuts
+      → IsWritten Makes Fills out (certificate_text k.head steps.items) × (cuts ≡ [])
+  pub windows : (out : List ℕ) (steps : Vec Entry Global) (c : Cut)
+      → IsFilled Makes Fills (Windows out) k (Legal steps) cuts → Contains cuts c
+      → (w : Window) × IsWindow k.head steps.items w
+      × IsWritten Makes Fills (out ++ (codes "." ++ decimal c.number)) w.text.items
+      × (c.before ≡ steps_count (take w.from steps.items)) × (c.last ≡ steps_count (take w.to steps.items))
+
+pub record OptionsWrite (Makes Fills : List ℕ → Option (List ℕ) → Type 0) : Type 0 where
+  pub kept : (k : Heard) (cuts : List Cut) → OptionsAreKept Makes Fills k cuts
+
+-- ---- windows
+
+-- what is written of a window
+abbrev pub window_line : Cut → List ℕ
+window_line c = codes "window "
+    ++ (decimal c.number ++ (codes ": events behind " ++ (decimal c.before ++ (codes ", up to "
+    ++ (decimal c.last ++ (codes "; before them " ++ (decimal c.preamble ++ codes " of its own\n")))))))
+
+-- a line for each, in their order
+abbrev pub window_lines : List Cut → List ℕ
+window_lines [] = []
+window_lines (c ∷ cs) = window_line c ++ window_lines cs
+
+-- they are numbered from this number on, the first has the events after this one, each next one those after the last of
+-- the one before, and so they end there
+abbrev pub AreJoined : ℕ → ℕ → List Cut → ℕ → Type 0
+AreJoined n from [] to = from ≡ to
+AreJoined n from (c ∷ cs) to = (c.number ≡ n) × (c.before ≡ from) × AreJoined (n + 1) c.last cs to
+
+-- the windows of a certificate are reported in their order, from its first event to its last
+pub record WindowsAreInOrder (Makes Fills : List ℕ → Option (List ℕ) → Type 0) : Type 0 where
+  pub joined : (out : List ℕ) (h : Head) (steps : List Entry) (cuts : List Cut)
+      → IsKept Makes Fills (Windows out) h steps cuts → AreJoined 1 0 cuts (steps_count steps)
+  pub written : (waiting : Bool) (k : Heard) (steps : Vec Entry Global) (cuts : List Cut) (text : List ℕ)
+      → IsSaid waiting k (Legal steps) cuts text
+      → (points rest : List ℕ) × (text ≡ points ++ (window_lines cuts ++ rest))
+
+-- ---- calls that still wait
+
+-- what is said of the mutex that a call waits for
+abbrev pub state_words : Bool → List ℕ
+state_words true = codes ", which is unusable"
+state_words false = codes ", which nobody "
+
+-- with `--waiting`, each lock of a thread that is neither killed nor doomed is named, if it has had no point and nobody
+-- owns its mutex, of which it is said whether it is unusable; without it none is
+pub record WaitersAreNamed : Type 0 where
+  pub each : (k : Heard) (steps : Vec Entry Global) (cuts : List Cut) (text : List ℕ) (t : ℕ) (call : Begun)
+      → IsSaid true k (Legal steps) cuts text → 0 < t → t ≤ named_threads
+      → IsStuck t (trace_of (reverse steps.items)) call → is_doomed t (reverse steps.items) ≡ false
+      → (before after : List ℕ)
+      × (text ≡ before ++ (codes "still waits: t" ++ (decimal t ++ (codes " for m" ++ (decimal call.mutex
+      ++ (state_words (objects_after (trace_of (reverse steps.items)) call.mutex).unusable ++ after))))))
+  pub unasked : (k : Heard) (steps : Vec Entry Global) (cuts : List Cut) (text : List ℕ)
+      → IsSaid false k (Legal steps) cuts text
+      → (points : ℕ) × (text ≡ legal_text points (reverse k.seen) ++ window_lines cuts)
+
+-- ---- why a line is out of turn
+
+-- of a line that is out of its thread's turn, the words say where the thread is, by its newest line
+pub record AreTurnWords (es : List Entry) (e : Entry) (words : List ℕ) : Type 0 where
+  pub dead : renews e ≡ false → Newest dies (whose e) es → words ≡ codes " is dead or doomed there\n"
+  pub reaped : Newest reaps (whose e) es → words ≡ codes " is reaped there\n"
+  pub in_call : begins e ≡ true → Newest begins (whose e) es → words ≡ codes " is in a call there\n"
+  pub no_call : returns e ≡ true → NotNewest dies (whose e) es → NotNewest reaps (whose e) es
+      → words ≡ codes " is in no call there\n"
+  pub alive : reaps e ≡ true → NotNewest reaps (whose e) es → words ≡ codes " is alive there: nothing told of its death\n"
+  pub not_reaped : renews e ≡ true → words ≡ codes " isn't reaped there\n"
+
+abbrev pub TurnWordsAreSo : Type 0
+TurnWordsAreSo = (es : List Entry) (e : Entry) (why : OutOfTurn') → reason_of es e ≡ Some (OutOfTurn why)
+    → AreTurnWords es e (turn_words why)
+
+-- ---- quotations
+
+-- a line that is quoted is read back as the line that it quotes; and what a trace says that isn't seen is read as that
+pub record QuotesAreReadBack : Type 0 where
+  pub quote : (h : Head) (l : HistoryLine) → IsHead h → IsEvent l.event → IsEntryOf h l.entry
+      → (text : List ℕ) × (quote l ≡ codes "  | " ++ (text ++ codes "\n"))
+      × (line_read h text ≡ Ok (Told l.event (Some l.entry)))
+  pub hidden : (h : Head) (i : ℕ) (f : Fact) → IsHead h → IsEvent i → is_hidden f ≡ true → IsFactOf h f
+      → (text : List ℕ) × (fact_text i f ≡ text ++ codes "\n") × (line_read h text ≡ Ok (Told i None))

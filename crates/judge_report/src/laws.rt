@@ -1,0 +1,69 @@
+//! What holds of all that the program says.
+
+ghost use Rattle.judge_report.specs.Laws.{FaultsAreAtLines, LinesAreNumbered, OptionsAreRead, OptionsWrite};
+ghost use Rattle.judge_report.specs.Laws.{QuotesAreReadBack, StatusesAreRight, TurnWordsAreSo, WaitersAreNamed, WindowsAreInOrder};
+ghost use Rattle.std.specs.Prelude.{◌≡◌};
+
+use crate::making::Maker;
+use std::io::Write;
+use streams::{Opener, Output};
+
+/// The exit status is 0 only if the file's history is legal, and `legal ..` was written, whole; 1 only if it isn't legal,
+/// or not decided, and `illegal at line L ..` or `undecided at line L ..` was written, or a failure was reported; 2 only
+/// if the command line asks for no judgement. There is no other.
+pub fn statuses_are_right<F: Opener, M: Maker, W: Output, E: Write>(
+    files: &F,
+    maker: &M,
+    out: &W,
+    before: &E,
+    after: &E,
+)
+    ensures { StatusesAreRight (F.opens files.now) (M.makes maker.now) (M.fills maker.now) (W.is_let_go out.now)
+        (after.now ≡ before.now) }
+{}
+
+/// Of a history that was read, each line that is kept is what its line of the bytes says, counted from 1, and no line that
+/// says something is left out. So the L in `illegal at line L` is a line of the file.
+pub fn lines_are_numbered()
+    ensures { LinesAreNumbered }
+{}
+
+/// A fault is reported at a line of the file, counted from 1.
+pub fn faults_are_at_lines()
+    ensures { FaultsAreAtLines }
+{}
+
+/// Each option asks for what its name says: `--waiting` for the calls that still wait, `--trace OUT` for a whole
+/// certificate, `--windows OUT` for one in windows.
+pub fn options_are_read()
+    ensures { OptionsAreRead }
+{}
+
+/// And that is what is kept: nothing without an option, one file with the whole certificate or with the trace up to the
+/// illegal line, or a file for each window, which has the certificate's events that its line says.
+pub fn options_write<M: Maker>(maker: &M)
+    ensures { OptionsWrite (M.makes maker.now) (M.fills maker.now) }
+{}
+
+/// A certificate's windows are reported in their order: they are numbered from 1, each has the events after the last of
+/// the one before, and together they have all.
+pub fn windows_are_in_order<M: Maker>(maker: &M)
+    ensures { WindowsAreInOrder (M.makes maker.now) (M.fills maker.now) }
+{}
+
+/// With `--waiting`, each lock that still waits and shouldn't is named, with its thread and its mutex, and whether that is
+/// unusable. Without it no call is named.
+pub fn waiters_are_named()
+    ensures { WaitersAreNamed }
+{}
+
+/// What is said of a line that is out of its thread's turn is so, by the thread's newest line before it.
+pub fn turn_words_are_so()
+    ensures { TurnWordsAreSo }
+{}
+
+/// A line that is quoted is read back as the line that it quotes; and what a trace says that isn't seen from outside is
+/// read as that.
+pub fn quotes_are_read_back()
+    ensures { QuotesAreReadBack }
+{}
