@@ -28,7 +28,7 @@ up_to (suc k) a b le =
     let rest = up_to k a b le in
     omega (arith, rest, le, suc-mul k a, suc-mul k b)
 
-along_last : (x : Extent) (u : ℕ) → u ≤ x.threads → along x u ≤ along x x.threads
+pub along_last : (x : Extent) (u : ℕ) → u ≤ x.threads → along x u ≤ along x x.threads
 along_last x u le = up_to (apart x) (u - 1) (x.threads - 1) (omega (arith, le))
 
 -- the next lane is so far from this one

@@ -2,6 +2,8 @@
 
 ghost use Rattle.picture.specs.Laws.{MarksStandInTheirLanes, PicturesHaveRoomForNames};
 ghost use Rattle.picture.specs.Laws.{ShownLanesStandInTheirColumns, TextsHaveRoom, UsedMutexesHaveBands};
+ghost use Rattle.picture.specs.Positions.{SvgDrawsInPlace};
+ghost use Rattle.picture.specs.States.{BandsShowMutexes, LanesShowThreads, StatesAreToldApart};
 
 /// A line's mark stands in its own thread's lane, behind as many columns as the lanes before that one have, and in no
 /// other lane.
@@ -31,4 +33,30 @@ pub fn pictures_have_room_for_names()
 /// points and deaths. Else all have one.
 pub fn used_mutexes_have_bands()
     ensures { UsedMutexesHaveBands }
+{}
+
+/// After each line, a lane shows what its thread does by the lines up to there: the newest begin, return, kill, reaping or
+/// renewal of the thread says whether it is in a call, dead or reaped, and the newest sleep or wake of a call says whether
+/// it sleeps.
+pub fn lanes_show_threads()
+    ensures { LanesShowThreads }
+{}
+
+/// If the points and deaths of some lines are a legal history of POSIX mutexes, then after these lines each band shows the
+/// object that this history leaves of its mutex: its owner, that an owner died, and that it is unusable.
+pub fn bands_show_mutexes()
+    ensures { BandsShowMutexes }
+{}
+
+/// Each state of a lane has its own sign in text, each state of a mutex its own colour in SVG, and each kind of line its
+/// sign, its colour and its shape, as the documented tables say.
+pub fn states_are_told_apart()
+    ensures { StatesAreToldApart }
+{}
+
+/// An SVG picture draws each thing at its place: a line's mark in the middle of its thread's lane, or the arrow to it from
+/// the middle of the lane that the arrow comes from; a lane's and a band's name, and what they show, at this lane and band;
+/// line k of the trace at row k, with the state after it; and the last row above the foot, which is within the picture.
+pub fn svg_draws_in_place()
+    ensures { SvgDrawsInPlace }
 {}
