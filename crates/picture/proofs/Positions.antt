@@ -1,6 +1,13 @@
 -- Where an SVG picture draws.
-use Rattle.std.proofs.Common.{◌≡◌, ◌∙◌, ◌+◌, ◌-◌, ◌*◌, ◌<◌, ◌≤◌, ◌∷◌, ◌++◌, Bool, true, false, ℕ, zero, suc, Option, Some, None, List, [], append-nil, append_assoc, ap, length, refl, subst, suc-mul, sym, arith}
-use Rattle.std.specs.Prelude.{codes, decimal, if◌then◌else◌, nat_lt}
+use Rattle.picture.specs.Bands.{band_of}
+use Rattle.facts.specs.Facts.{decision_of}
+use Rattle.facts.specs.declared.fact.Fact.TheVariants.{Begin, Point, Death, Sleep, Wake, Move, Return, Kill, Reap, Renew}
+use Rattle.posixmutex.specs.declared.point.Decision.{Decision}
+use Rattle.lockword.specs.Threads.{most_threads}
+use Rattle.std.proofs.lemmas.List.{get_or-replicate, get_or-set_other, get_or-set_same, length-replicate, length-set}
+use Rattle.std.specs.Option.{is_some}
+use Rattle.std.proofs.Common.{eqb-true, ◌≡◌, ◌∙◌, ◌+◌, ◌-◌, ◌*◌, ◌<◌, ◌≤◌, ◌∷◌, ◌++◌, Bool, true, false, ℕ, zero, suc, Option, Some, None, List, [], append-nil, append_assoc, ap, length, refl, subst, suc-mul, sym, arith}
+use Rattle.std.specs.Prelude.{not, slice_index_or, slice_set, ◌==◌, ◌&&◌, ◌≢◌, codes, decimal, if◌then◌else◌, nat_lt}
 use Rattle.std.proofs.lemmas.Bool.Decides.{nat_tests}
 use Rattle.facts.specs.Facts.{thread_of}
 use Rattle.facts.specs.declared.fact.Fact.{Fact}
@@ -8,12 +15,12 @@ use Rattle.facts.specs.declared.fact.Line.{Line}
 use Rattle.picture.specs.Names.{Called}
 use Rattle.picture.specs.Pieces.{each}
 use Rattle.picture.specs.Places.{band_apart, band_middle, band_wide, band_x, lane_x, row_y}
-use Rattle.picture.specs.Positions.{BandIsAtItsPlace, Contains, IsDrawnInPlace, LaneIsAtItsPlace, LineIsAtItsPlace, RowsHaveRoom, SvgDrawsInPlace, path_at, rectangle_at, since_after}
+use Rattle.picture.specs.Positions.{BandIsAtItsPlace, Contains, IsDrawnInPlace, LaneIsAtItsPlace, LineIsAtItsPlace, RowsHaveRoom, SvgDrawsInPlace, is_move, newest_that, turns_lane, path_at, rectangle_at, since_after}
 use Rattle.picture.specs.Rows.{from_at, is_from_right, words_at}
 use Rattle.picture.specs.Scenes.{behind, first_scene}
 use Rattle.picture.specs.Shapes.{band_box, lane_box, mark_class, mark_path, number_label, rectangle, words_label}
 use Rattle.picture.specs.States.{scene_after}
-use Rattle.picture.specs.Svg.{begins_at, end_text, first_since, line_marks, line_parts, mark_of, marks, parts, rests, svg_band, svg_bands, svg_extent, svg_heads, svg_lane, svg_lane_behind, svg_lanes, svg_open, svg_with}
+use Rattle.picture.specs.Svg.{band_from, band_part, band_rest, ends_lane, lane_from, lane_part, lane_rest, lane_rests, part_at, svg_height, svg_width, begins_at, end_text, first_since, line_marks, line_parts, mark_of, marks, parts, rests, svg_band, svg_bands, svg_extent, svg_heads, svg_lane, svg_lane_behind, svg_lanes, svg_open, svg_with}
 use Rattle.picture.specs.declared.bands.Extent.{Extent}
 use Rattle.picture.specs.declared.scene.Scene.{Scene}
 use Rattle.picture.specs.declared.svg.Since.{Since}
@@ -48,6 +55,15 @@ three a b c later = record { before = []; later = later; all = ap (λ l. a ++ l)
 
 four : (a b c d later : List ℕ) → Contains (a ++ (b ++ (c ++ (d ++ later)))) (a ++ (b ++ (c ++ d)))
 four a b c d later = record { before = []; later = later; all = ap (λ l. a ++ (b ++ l)) (sym (append_assoc c d later)) ∙ ap (λ l. a ++ l) (sym (append_assoc b (c ++ d) later)) ∙ sym (append_assoc a (b ++ (c ++ d)) later) }
+
+five : (a b c d e later : List ℕ) → Contains (a ++ (b ++ (c ++ (d ++ (e ++ later))))) (a ++ (b ++ (c ++ (d ++ e))))
+five a b c d e later = record {
+  before = [];
+  later = later;
+  all =
+      ap (λ l. a ++ (b ++ (c ++ l))) (sym (append_assoc d e later)) ∙ ap (λ l. a ++ (b ++ l)) (sym (append_assoc c (d ++ e) later)) ∙ ap (λ l. a ++ l) (sym (append_assoc b (c ++ (d ++ e)) later))
+      ∙ sym (append_assoc a (b ++ (c ++ (d ++ e))) later);
+}
 
 -- of the texts of the numbers below n, one
 one_of : (f : ℕ → List ℕ) (n m : ℕ) → m < n → Contains (each f n) (f m)
@@ -162,6 +178,69 @@ rest_in_parts n x s since k (e ∷ ls) =
     (subst (λ (all : List Line). Contains (parts n x mid then_since (k + 1) ls) (rests n x (scene_after x.bands (behind x.bands s e (e ∷ all)) ls []) (since_after x then_since (k + 1) ls) (length ls + (k + 1)))) (sym (append-nil ls))
     (rest_in_parts n x mid then_since (k + 1) ls)))
 
+-- ---- what a line ends
+
+within : (a b part : List ℕ) → Contains a b → Contains b part → Contains a part
+within a b part outer inner = record {
+  before = outer.before ++ inner.before;
+  later = inner.later ++ outer.later;
+  all =
+      outer.all ∙ ap (λ l. outer.before ++ (l ++ outer.later)) inner.all ∙ ap (λ l. outer.before ++ l) (append_assoc inner.before (part ++ inner.later) outer.later)
+      ∙ sym (append_assoc outer.before inner.before ((part ++ inner.later) ++ outer.later)) ∙ ap (λ l. (outer.before ++ inner.before) ++ l) (append_assoc part inner.later outer.later);
+}
+
+turns_is : (own : Bool) (f : Fact) → (own && not (is_some (decision_of f)) && not (is_move f)) ≡ (own && ends_lane f)
+turns_is true (Begin t c) = refl
+turns_is true (Point d) = refl
+turns_is true (Death t m) = refl
+turns_is true (Sleep t q) = refl
+turns_is true (Wake t) = refl
+turns_is true (Move t m) = refl
+turns_is true (Return t x) = refl
+turns_is true (Kill t) = refl
+turns_is true (Reap t) = refl
+turns_is true (Renew t) = refl
+turns_is false f = refl
+
+turned : (l : Line) → turns_lane (thread_of l.fact) l ≡ true → ends_lane l.fact ≡ true
+turned l h = both (thread_of l.fact == thread_of l.fact) (ends_lane l.fact) (sym (turns_is (thread_of l.fact == thread_of l.fact) l.fact) ∙ h)
+  where
+    both : (a b : Bool) → (a && b) ≡ true → b ≡ true
+    both true b h = h
+    both false b h = absurd cc
+
+ended : (x : Extent) (s : Scene) (since : Since) (f : Fact) (k : ℕ) → ends_lane f ≡ true → Contains (lane_part x s since f k) (lane_from x s.lanes since.lanes (thread_of f) k)
+ended x s since f k is = subst (λ (b : Bool). Contains (if b then lane_from x s.lanes since.lanes (thread_of f) k else []) (lane_from x s.lanes since.lanes (thread_of f) k)) (sym is) (whole (lane_from x s.lanes since.lanes (thread_of f) k))
+
+banded : (n : Called) (x : Extent) (s : Scene) (since : Since) (f : Fact) (d : Decision) (i k : ℕ) → decision_of f ≡ Some d → band_of x.bands d.mutex ≡ Some i → Contains (band_part n x s since (decision_of f) k) (band_from n x s.objects since.bands i k)
+banded n x s since f d i k decides band =
+    subst (λ (D : Option Decision). Contains (band_part n x s since D k) (band_from n x s.objects since.bands i k)) (sym decides)
+    (subst (λ (o : Option ℕ). Contains (part_at n x s since o k) (band_from n x s.objects since.bands i k)) (sym band) (whole (band_from n x s.objects since.bands i k)))
+
+-- ---- since when
+
+since_one : (t k found : ℕ) (lanes : List ℕ) (f : Fact) (own ends : Bool) → (thread_of f == t) ≡ own → ends_lane f ≡ ends → t < length lanes → slice_index_or lanes t 0 ≡ found → slice_index_or (if ends then slice_set lanes (thread_of f) k else lanes) t 0 ≡ (if own && ends then k else found)
+since_one t k found lanes f true true own ends lt is =
+    let same : thread_of f ≡ t = eqb-true (thread_of f) t own in
+    subst (λ (u : ℕ). slice_index_or (slice_set lanes u k) t 0 ≡ k) (sym same) (get_or-set_same lanes t k 0 lt)
+since_one t k found lanes f false true own ends lt is =
+    let other : t ≢ thread_of f = λ e. (let h : (thread_of f == t) ≡ true = grind (arith, nat_tests, e) in let b : true ≡ false = sym h ∙ own in absurd cc) in
+    get_or-set_other lanes (thread_of f) t k 0 other ∙ is
+since_one t k found lanes f true false own ends lt is = is
+since_one t k found lanes f false false own ends lt is = is
+
+since_long : (lanes : List ℕ) (f : Fact) (k : ℕ) (ends : Bool) → length (if ends then slice_set lanes (thread_of f) k else lanes) ≡ length lanes
+since_long lanes f k true = length-set lanes (thread_of f) k
+since_long lanes f k false = refl
+
+since_go : (x : Extent) (t : ℕ) (s : Since) (k found : ℕ) (ls : List Line) → t < length s.lanes → slice_index_or s.lanes t 0 ≡ found → slice_index_or (since_after x s k ls).lanes t 0 ≡ newest_that (turns_lane t) found k ls
+since_go x t s k found [] lt is = is
+since_go x t s k found (l ∷ ls) lt is =
+    since_go x t (begins_at x.bands s l.fact k) (k + 1) (if turns_lane t l then k else found) ls
+    (let long = since_long s.lanes l.fact k (ends_lane l.fact) in omega (arith, long, lt))
+    (since_one t k found s.lanes l.fact (thread_of l.fact == t) (ends_lane l.fact) refl refl lt is
+    ∙ ap (λ (b : Bool). if b then k else found) (sym (turns_is (thread_of l.fact == t) l.fact)))
+
 -- ---- the picture
 
 module _ (n : Called) (x : Extent) (ls : List Line) (last : ℕ) (misfit : Option ℕ) where
@@ -183,13 +262,32 @@ module _ (n : Called) (x : Extent) (ls : List Line) (last : ℕ) (misfit : Optio
       let one = one_of (svg_lane_behind n x (row_y (length ls) + 18)) x.threads (u - 1) (omega (arith, some, few)) in
       of_heads _ (right (svg_bands n x) (svg_lanes n x (row_y (length ls) + 18)) _ (subst (λ (v : ℕ). Contains (svg_lanes n x (row_y (length ls) + 18)) (svg_lane n x (row_y (length ls) + 18) v)) is one))
 
+  of_part : (before later : List Line) (l : Line) (part : List ℕ) → ls ≡ before ++ (l ∷ later) → Contains (line_parts n x (scene_after x.bands first_scene before (l ∷ later)) (since_after x first_since 1 before) l.fact (length before + 1)) part → Contains (svg_with n x ls last misfit) part
+  of_part before later l part is h = of_parts part (subst (λ (all : List Line). Contains (parts n x first_scene first_since 1 all) part) (sym is) (within _ _ part (part_in_parts n x first_scene first_since 1 before later l) h))
+
+  of_rests : (part : List ℕ) → Contains (rests n x (scene_after x.bands first_scene ls []) (since_after x first_since 1 ls) (length ls + 1)) part → Contains (svg_with n x ls last misfit) part
+  of_rests part h = of_parts part (within _ _ part (rest_in_parts n x first_scene first_since 1 ls) h)
+
+  last_lane : (u : ℕ) → 1 ≤ u → u ≤ x.threads → Contains (svg_with n x ls last misfit) (lane_from x (scene_after x.bands first_scene ls []).lanes (since_after x first_since 1 ls).lanes u (length ls + 1))
+  last_lane u some few =
+      let is : u - 1 + 1 ≡ u = omega (arith, some) in
+      let lanes = (scene_after x.bands first_scene ls []).lanes in
+      let since = (since_after x first_since 1 ls).lanes in
+      of_rests _ (left (lane_rests x lanes since (length ls + 1)) _ _ (subst (λ (v : ℕ). Contains (lane_rests x lanes since (length ls + 1)) (lane_from x lanes since v (length ls + 1))) is (one_of (lane_rest x lanes since (length ls + 1)) x.threads (u - 1) (omega (arith, some, few)))))
+
+  size_is : Contains (svg_with n x ls last misfit) (codes "width=\"" ++ (decimal (svg_width x) ++ (codes "\" height=\"" ++ (decimal (svg_height (length ls)) ++ codes "\""))))
+  size_is = left (svg_heads n x (length ls)) _ _ (left (svg_open x (length ls)) _ _ (right (codes "<svg xmlns=\"http://www.w3.org/2000/svg\" ") _ _ (five (codes "width=\"") (decimal (svg_width x)) (codes "\" height=\"") (decimal (svg_height (length ls))) (codes "\"") _)))
+
   drawn_in_place : IsDrawnInPlace n x ls (svg_with n x ls last misfit)
   drawn_in_place = record {
     lanes = lane_is;
     bands = λ i lt. of_heads _ (left (svg_bands n x) _ _ (one_of (svg_band n x) x.bands.count i lt));
     lines = λ before later l is. of_marks _ (subst (λ (all : List Line). Contains (marks n x first_scene 1 all) (line_marks n x (scene_after x.bands first_scene (before ++ (l ∷ [])) later) l (length before + 1))) (sym is) (line_in_marks n x first_scene 1 before later l));
-    parts = λ before later l is. of_parts _ (subst (λ (all : List Line). Contains (parts n x first_scene first_since 1 all) (line_parts n x (scene_after x.bands first_scene before (l ∷ later)) (since_after x first_since 1 before) l.fact (length before + 1))) (sym is) (part_in_parts n x first_scene first_since 1 before later l));
-    rest = of_parts _ (rest_in_parts n x first_scene first_since 1 ls);
+    size = size_is;
+    stays = λ before later l is turns. of_part before later l _ is (left _ _ _ (ended x (scene_after x.bands first_scene before (l ∷ later)) (since_after x first_since 1 before) l.fact (length before + 1) (turned l turns)));
+    owned = λ before later l d i is decides band. of_part before later l _ is (right (lane_part x (scene_after x.bands first_scene before (l ∷ later)) (since_after x first_since 1 before) l.fact (length before + 1)) _ _ (banded n x (scene_after x.bands first_scene before (l ∷ later)) (since_after x first_since 1 before) l.fact d i (length before + 1) decides band));
+    last_lanes = last_lane;
+    last_bands = λ i lt. of_rests _ (right (lane_rests x (scene_after x.bands first_scene ls []).lanes (since_after x first_since 1 ls).lanes (length ls + 1)) _ _ (one_of (band_rest n x (scene_after x.bands first_scene ls []).objects (since_after x first_since 1 ls).bands (length ls + 1)) x.bands.count i lt));
   }
 
 pub svg_draws_in_place : SvgDrawsInPlace
@@ -200,4 +298,5 @@ svg_draws_in_place = record {
   rows = rows_have_room;
   apart = λ x u some few. (omega arith, (let last = along_last x u few in omega (arith, last)));
   all = λ n threads mutexes ls last misfit. drawn_in_place n (svg_extent n threads mutexes ls) ls last misfit;
+  since = λ x ls. record { lanes = λ t few. since_go x t first_since 1 0 ls (let long = length-replicate {A = ℕ} (most_threads + 1) 0 in omega (arith, long, few)) (get_or-replicate {A = ℕ} (most_threads + 1) t 0 0 (omega (arith, few))) };
 }

@@ -4,23 +4,30 @@
 -- are at the middle of this lane; the name of a band, what it shows and its owner are at this band. Line k of a trace has
 -- row k, with the state after it. Rows are below the names, one below the other, and the last one is above the foot,
 -- which is within the picture.
-use Rattle.std.specs.Prelude.{ℕ, ◌≡◌, ◌<◌, ◌≤◌, ◌+◌, ◌-◌, ◌/◌, Option, Some, None, List, [], ◌∷◌, ◌++◌, codes, decimal, length}
+use Rattle.std.specs.Prelude.{ℕ, ◌≡◌, ◌<◌, ◌≤◌, ◌+◌, ◌-◌, ◌/◌, ◌==◌, ◌&&◌, not, Bool, true, false, Option, Some, None, List, [], ◌∷◌, ◌++◌, codes, decimal}
+use Rattle.std.specs.Prelude.{if◌then◌else◌, length, slice_index_or}
 use Rattle.std.specs.List.{concat}
+use Rattle.std.specs.Option.{is_some}
+use Rattle.lockword.specs.Threads.{most_threads}
+use Rattle.posixmutex.specs.Objects.{fresh}
+use Rattle.posixmutex.specs.declared.point.Decision.{Decision}
 use Rattle.posixmutex.specs.declared.object.Object.{Object}
 use Rattle.facts.specs.declared.fact.Line.{Line}
-use Rattle.facts.specs.Facts.{thread_of}
+use Rattle.facts.specs.Facts.{decision_of, thread_of}
+use Rattle.facts.specs.declared.fact.Fact.{Fact}
+use Rattle.facts.specs.declared.fact.Fact.TheVariants.{Move}
 use Rattle.picture.specs.declared.bands.Extent.{Extent}
 use Rattle.picture.specs.declared.lane.Lane.{Lane}
 use Rattle.picture.specs.declared.scene.Scene.{Scene}
 use Rattle.picture.specs.declared.svg.Since.{Since}
-use Rattle.picture.specs.Bands.{mutex_at}
+use Rattle.picture.specs.Bands.{band_of, mutex_at}
 use Rattle.picture.specs.Names.{Called, mutex_head, mutex_tail, thread_head, thread_tail}
 use Rattle.picture.specs.Places.{band_x, lane_x, row_y}
 use Rattle.picture.specs.Rows.{from_at}
-use Rattle.picture.specs.Scenes.{first_scene}
+use Rattle.picture.specs.Scenes.{first_scene, lane_at}
 use Rattle.picture.specs.Shapes.{band_class, lane_class, lane_shape, band_shape}
 use Rattle.picture.specs.States.{scene_after}
-use Rattle.picture.specs.Svg.{begins_at, first_since, foot_text, line_marks, line_parts, misfit_at, rests, svg_band, svg_extent}
+use Rattle.picture.specs.Svg.{begins_at, first_since, foot_text, line_marks, misfit_at, svg_band, svg_extent}
 use Rattle.picture.specs.Svg.{svg_height, svg_lane, svg_marked, svg_width}
 
 -- a text is part of another one
@@ -105,23 +112,54 @@ pub record RowsHaveRoom : Type 0 where
 
 -- ---- the picture
 
--- what lanes and bands show from which line on, after the first lines
+abbrev pub is_move : Fact → Bool
+is_move (Move t m) = true
+is_move f = false
+
+-- from which line on lanes and bands show what they show after the first lines, of which the next one is line k
 abbrev pub since_after : Extent → Since → ℕ → List Line → Since
 since_after x s k [] = s
 since_after x s k (l ∷ ls) = since_after x (begins_at x.bands s l.fact k) (k + 1) ls
 
+-- the number of the newest line that does so, the first of them being line k; found, if none does
+abbrev pub newest_that : (Line → Bool) → ℕ → ℕ → List Line → ℕ
+newest_that does found k [] = found
+newest_that does found k (l ∷ ls) = newest_that does (if does l then k else found) (k + 1) ls
+
+-- it changes what the lane of thread t shows, if that changes at all: it is neither a point, a death nor a move
+abbrev pub turns_lane : ℕ → Line → Bool
+turns_lane t l = thread_of l.fact == t && not (is_some (decision_of l.fact)) && not (is_move l.fact)
+
 -- each thread has its lane, and each mutex with a band its band. Each line is drawn at the row of its number, with the state
--- after it, and what it ends is drawn down to this row, with the state before it; what goes on is drawn down to the end
+-- after it. If a line changes a lane or a band, what this lane or band showed before it is drawn from the line that began
+-- it down to this one; what goes on after the last line is drawn to the row after it
 pub record IsDrawnInPlace (n : Called) (x : Extent) (ls : List Line) (picture : List ℕ) : Type 0 where
+  pub size : Contains picture
+      (codes "width=\"" ++ (decimal (svg_width x) ++ (codes "\" height=\"" ++ (decimal (svg_height (length ls)) ++ codes "\""))))
   pub lanes : (u : ℕ) → 1 ≤ u → u ≤ x.threads → Contains picture (svg_lane n x (row_y (length ls) + 18) u)
   pub bands : (i : ℕ) → i < x.bands.count → Contains picture (svg_band n x i)
   pub lines : (before later : List Line) (l : Line) → ls ≡ before ++ (l ∷ later)
       → Contains picture (line_marks n x (scene_after x.bands first_scene (before ++ (l ∷ [])) later) l (length before + 1))
-  pub parts : (before later : List Line) (l : Line) → ls ≡ before ++ (l ∷ later)
+  pub stays : (before later : List Line) (l : Line) → ls ≡ before ++ (l ∷ later) → turns_lane (thread_of l.fact) l ≡ true
       → Contains picture
-      (line_parts n x (scene_after x.bands first_scene before (l ∷ later)) (since_after x first_since 1 before) l.fact (length before + 1))
-  pub rest : Contains picture
-      (rests n x (scene_after x.bands first_scene ls []) (since_after x first_since 1 ls) (length ls + 1))
+      (lane_shape (lane_at (scene_after x.bands first_scene before (l ∷ later)).lanes (thread_of l.fact)) (lane_x x (thread_of l.fact))
+      (slice_index_or (since_after x first_since 1 before).lanes (thread_of l.fact) 0) (length before + 1))
+  pub owned : (before later : List Line) (l : Line) (d : Decision) (i : ℕ) → ls ≡ before ++ (l ∷ later)
+      → decision_of l.fact ≡ Some d → band_of x.bands d.mutex ≡ Some i
+      → Contains picture
+      (band_shape n x (slice_index_or (scene_after x.bands first_scene before (l ∷ later)).objects i fresh) i
+      (slice_index_or (since_after x first_since 1 before).bands i 0) (length before + 1))
+  pub last_lanes : (u : ℕ) → 1 ≤ u → u ≤ x.threads → Contains picture
+      (lane_shape (lane_at (scene_after x.bands first_scene ls []).lanes u) (lane_x x u)
+      (slice_index_or (since_after x first_since 1 ls).lanes u 0) (length ls + 1))
+  pub last_bands : (i : ℕ) → i < x.bands.count → Contains picture
+      (band_shape n x (slice_index_or (scene_after x.bands first_scene ls []).objects i fresh) i
+      (slice_index_or (since_after x first_since 1 ls).bands i 0) (length ls + 1))
+
+-- a lane or a band shows what it shows since the newest line that changed it
+pub record SinceIsTheNewest (x : Extent) (ls : List Line) : Type 0 where
+  pub lanes : (t : ℕ) → t ≤ most_threads
+      → slice_index_or (since_after x first_since 1 ls).lanes t 0 ≡ newest_that (turns_lane t) 0 1 ls
 
 pub record SvgDrawsInPlace : Type 0 where
   pub line : (n : Called) (x : Extent) (s : Scene) (l : Line) (k : ℕ) → LineIsAtItsPlace n x s l k
@@ -133,3 +171,4 @@ pub record SvgDrawsInPlace : Type 0 where
       → (band_x x x.bands.count + 20 ≤ lane_x x u) × (lane_x x u < svg_width x)
   pub all : (n : Called) (threads mutexes : ℕ) (ls : List Line) (last : ℕ) (misfit : Option ℕ)
       → IsDrawnInPlace n (svg_extent n threads mutexes ls) ls (svg_marked n threads mutexes ls last misfit)
+  pub since : (x : Extent) (ls : List Line) → SinceIsTheNewest x ls
