@@ -1,6 +1,6 @@
 -- The words for a mutex are those of its state.
-use Rattle.std.proofs.Common.{◌≡◌, ◌++◌, ◌∙◌, Bool, true, false, ℕ, Option, Some, None, List, ap, refl, sym}
-use Rattle.std.specs.Prelude.{[], ◌∷◌, codes, decimal, if◌then◌else◌}
+use Rattle.std.proofs.Common.{◌≡◌, ◌∙◌, Bool, true, false, ℕ, Option, Some, None, List, ap}
+use Rattle.std.specs.Prelude.{[], ◌∷◌, codes, if◌then◌else◌}
 use Rattle.std.specs.List.{concat}
 use Rattle.posixmutex.specs.declared.object.Object.{Object}
 use Rattle.reasons.specs.Reasons.{owner_text}

@@ -1,5 +1,5 @@
 -- Each reason has its words, and what they say is so.
-use Rattle.std.proofs.Common.{◌≡◌, ◌≢◌, ◌≤◌, inl, inr, ℕ, Option, Some, None, List, [], ◌∷◌, ◌++◌, refl, sym, ap, subst, ◌∙◌, append_assoc, append-nil, arith}
+use Rattle.std.proofs.Common.{◌≡◌, ◌≢◌, ◌≤◌, inl, inr, ℕ, Option, Some, None, List, [], ◌++◌, refl, sym, ap, subst, ◌∙◌, append_assoc, append-nil}
 use Rattle.std.specs.Prelude.{codes, decimal}
 use Rattle.facts.specs.declared.fact.Begun.{Begun}
 use Rattle.facts.specs.declared.fact.Fact.{Fact}
@@ -20,7 +20,7 @@ use Rattle.verdict.specs.declared.misfit.Misfit.{Misfit}
 use Rattle.verdict.specs.declared.misfit.Misfit.TheVariants as misfit
 use Rattle.verdict.specs.Earlier.{begun_at, objects_after, points_in, told_of}
 use Rattle.verdict.specs.Misfits.{IsMisfit, IsOutOfLife, IsOutOfOrder, IsTooEarly, OwnsSome, Refuses, RefusesStep}
-use Rattle.reasons.specs.Reasons.{object_text, reason_text}
+use Rattle.reasons.specs.Reasons.{object_text}
 use Rattle.reasons.specs.Truths.{EndHasItsWords, HasReleased, IsDecided, IsIn, ReasonsAreTrue}
 
 -- ---- a reason is of the line's order, of its thread's life, of its mutex, of its time or of what its thread owns
@@ -113,7 +113,7 @@ other_reply x fs f h = absurd h
 
 not_allowed : (o : Object) (x : Reply) (n : ℕ) (os : ℕ → Object) (D : Option Decision) → Refuses (misfit.NotAllowed o x) n os D → (d : Decision) × (D ≡ Some d) × (x ≡ d.reply) × (o ≡ os d.mutex) × ((new : Object) → Permits o d.thread d.operation x new → ⊥)
 not_allowed o x n os None h = absurd h
-not_allowed o x n os (Some d) h = (d, refl, h.1, h.0, λ new p. h.4 new (subst (λ (q : Object). Permits q d.thread d.operation d.reply new) h.0 (subst (λ (y : Reply). Permits o d.thread d.operation y new) h.1 p)))
+not_allowed o x n os (Some d) h = (d, refl, h.1, h.0, λ new p. h.4 new (subst (λ (q : Object). Permits q d.thread d.operation x new) h.0 p))
 
 at_limit : (k : ℕ) (n : ℕ) (os : ℕ → Object) (D : Option Decision) → Refuses (misfit.AtLimit k) n os D → (d : Decision) × (D ≡ Some d) × (k ≡ held_by d.thread os n) × (held_limit ≤ k) × (d.reply ≢ XHELD)
 at_limit k n os None h = absurd h

@@ -2,7 +2,7 @@
 --
 -- *Reasons are true.* Each reason that the judge of traces finds has its own words, and what they say of the line's thread,
 -- its event and its mutex is so after the earlier lines. The words for a mutex are those of its state.
-use Rattle.std.specs.Prelude.{ℕ, ◌≡◌, ◌≢◌, ◌<◌, ◌≤◌, Bool, true, false, Option, Some, None, List, [], ◌∷◌, ◌++◌, codes}
+use Rattle.std.specs.Prelude.{ℕ, ◌≡◌, ◌≢◌, ◌<◌, ◌≤◌, true, false, Some, None, List, [], ◌∷◌, ◌++◌, codes}
 use Rattle.std.specs.Prelude.{decimal}
 use Rattle.lockword.specs.declared.reply.Reply.{Reply}
 use Rattle.lockword.specs.declared.reply.Reply.TheVariants.{OK, XHELD}
@@ -62,7 +62,8 @@ Says KillShares words n earlier e =
 Says EventKilled words n earlier e =
     (words ≡ codes "the event is a kill, and has no other line") × Told (λ f. is_kill f ≡ true) e.event earlier
 Says (InCall c) words n earlier e =
-    (words ≡ codes "the thread is in a call already: " ++ operation_word c.operation ++ codes " of m" ++ decimal c.mutex)
+    (words
+    ≡ codes "the thread is in a call already: " ++ (operation_word c.operation ++ (codes " of m" ++ decimal c.mutex)))
     × IsIn (told_of (thread_of e.fact) earlier) c
 Says NoCall words n earlier e =
     (words ≡ codes "the thread is in no call") × (call_in (told_of (thread_of e.fact) earlier) ≡ None)
@@ -79,31 +80,31 @@ Says Reaped words n earlier e =
 Says Alive words n earlier e =
     (words ≡ codes "the thread lives") × (is_killed (told_of (thread_of e.fact) earlier) ≡ false)
 Says (OtherMutex m) words n earlier e = (words ≡ codes "the thread's call is on m" ++ decimal m)
-    × (c : Begun) × IsIn (told_of (thread_of e.fact) earlier) c × (c.mutex ≡ m)
+    × ((c : Begun) × IsIn (told_of (thread_of e.fact) earlier) c × (c.mutex ≡ m))
 Says (OtherOperation o) words n earlier e =
     (words ≡ codes "a call of " ++ operation_word o ++ codes " has no such point")
-    × (c : Begun) × IsIn (told_of (thread_of e.fact) earlier) c × (c.operation ≡ o)
+    × ((c : Begun) × IsIn (told_of (thread_of e.fact) earlier) c × (c.operation ≡ o))
 Says ReleaseRefused words n earlier e = (words ≡ codes "the unlock of a wait replies OK")
-    × (c : Begun) × IsIn (told_of (thread_of e.fact) earlier) c × IsWait c.operation
+    × ((c : Begun) × IsIn (told_of (thread_of e.fact) earlier) c × IsWait c.operation)
 Says Released words n earlier e = (words ≡ codes "the wait has released its mutex, and locks it next")
     × HasReleased (told_of (thread_of e.fact) earlier)
 Says (Decided x) words n earlier e =
     (words ≡ codes "the call has its points already, and the last replied " ++ reply_word x)
     × IsDecided (told_of (thread_of e.fact) earlier) x
 Says Undecided words n earlier e = (words ≡ codes "the call has had no point yet")
-    × (c : Begun) × IsIn (told_of (thread_of e.fact) earlier) c × (points_in (told_of (thread_of e.fact) earlier) ≡ [])
+    × ((c : Begun) × IsIn (told_of (thread_of e.fact) earlier) c × (points_in (told_of (thread_of e.fact) earlier) ≡ []))
 Says (OtherReply x) words n earlier e = (words ≡ codes "the call's point replied " ++ reply_word x)
     × IsDecided (told_of (thread_of e.fact) earlier) x
 Says (NotAllowed o x) words n earlier e =
-    (words ≡ codes "the mutex doesn't allow the reply " ++ reply_word x ++ codes ": " ++ object_text o)
-    × (d : Decision) × (decision_of e.fact ≡ Some d) × (x ≡ d.reply) × (o ≡ objects_after earlier d.mutex)
-    × ((new : Object) → Permits o d.thread d.operation x new → ⊥)
+    (words ≡ codes "the mutex doesn't allow the reply " ++ (reply_word x ++ (codes ": " ++ object_text o)))
+    × ((d : Decision) × (decision_of e.fact ≡ Some d) × (x ≡ d.reply) × (o ≡ objects_after earlier d.mutex)
+    × ((new : Object) → Permits o d.thread d.operation x new → ⊥))
 Says (AtLimit k) words n earlier e =
     (words ≡ codes "the thread holds " ++ decimal k ++ codes " mutexes, so that the reply is X_HELD")
-    × (d : Decision) × (decision_of e.fact ≡ Some d) × (k ≡ held_by d.thread (objects_after earlier) n)
-    × (held_limit ≤ k) × (d.reply ≢ XHELD)
+    × ((d : Decision) × (decision_of e.fact ≡ Some d) × (k ≡ held_by d.thread (objects_after earlier) n)
+    × (held_limit ≤ k) × (d.reply ≢ XHELD))
 Says (NotOwner o) words n earlier e = (words ≡ codes "the thread doesn't own the mutex: " ++ object_text o)
-    × (d : Decision) × (decision_of e.fact ≡ Some d) × (o ≡ objects_after earlier d.mutex) × (o.owner ≢ Some d.thread)
+    × ((d : Decision) × (decision_of e.fact ≡ Some d) × (o ≡ objects_after earlier d.mutex) × (o.owner ≢ Some d.thread))
 Says (TooEarly i) words n earlier e =
     (words ≡ codes "no other thread owned the mutex since event " ++ decimal i ++ codes ", in which the call began")
     × (i ≡ begun_at (thread_of e.fact) earlier)
