@@ -1,18 +1,17 @@
 -- The page's data as its script reads it.
 --
--- *Values.* What JSON.parse makes of a text (RFC 8259): a number, a word in quotes, or an array. `written` is the text
--- of a value.
+-- *Values.* What JSON.parse makes of a text (RFC 8259): a number, a word in quotes, or an array. `writes` gives its
+-- text.
 --
 -- *The script.* What a thread does, what a mutex is, what a line tells and how the trace ends, by the places of the
 -- arrays, as the page's script takes them; 0 is what isn't there. `checks/page` compares the script with these rows, value
 -- by value.
-use Rattle.std.specs.Prelude.{ℕ, zero, suc, ◌≡◌, ◌≢◌, ◌+◌, ◌==◌, nat_lt, not, Bool, true, false, Option, Some, None, option_map, List, []}
-use Rattle.std.specs.Prelude.{◌∷◌, ◌++◌, codes, decimal, map, if◌then◌else◌, length}
+use Rattle.std.specs.Prelude.{ℕ, zero, suc, ◌≡◌, ◌≢◌, ◌-◌, ◌==◌, not, Bool, true, false, Option, Some, None, option_map, List, []}
+use Rattle.std.specs.Prelude.{◌∷◌, ◌++◌, codes, decimal, if◌then◌else◌, length, slice_get}
 use Rattle.std.specs.Str.{bytes_eq}
 use Rattle.lockword.specs.Replies.{reply_word}
 use Rattle.posixmutex.specs.Words.{operation_word}
 use Rattle.posixmutex.specs.declared.object.Object.{Object}
-use Rattle.facts.specs.Facts.{decision_of, thread_of}
 use Rattle.facts.specs.Lives.{Act}
 use Rattle.facts.specs.declared.fact.Begun.{Begun}
 use Rattle.facts.specs.declared.fact.Fact.{Fact}
@@ -20,10 +19,14 @@ use Rattle.facts.specs.declared.fact.Fact.TheVariants as fact
 use Rattle.facts.specs.declared.fact.Line.{Line}
 use Rattle.facts.specs.declared.fact.Queue.{Queue}
 use Rattle.facts.specs.declared.fact.Queue.TheVariants as queue
-use Rattle.page.specs.Data.{legal_text, illegal_start}
-use Rattle.page.specs.Shows.{Turn}
-use Rattle.page.specs.States.{Shown, change_of}
-use Rattle.page.specs.Texts.{item_text, object_text, status_text, whole_text, line_text}
+use Rattle.reasons.specs.Reasons.{reason_text}
+use Rattle.verdict.specs.declared.checking.Finding.{Finding}
+use Rattle.verdict.specs.declared.checking.Finding.TheVariants.{Illegal, Legal}
+use Rattle.page.specs.Data.{end_text}
+use Rattle.page.specs.Escapes.{escaped}
+use Rattle.page.specs.Shows.{Turn, Whole}
+use Rattle.page.specs.States.{Mutex, Shown, change_of}
+use Rattle.page.specs.Texts.{item_text, object_text, status_text}
 use Rattle.page.specs.declared.status.Bed.{Bed}
 use Rattle.page.specs.declared.status.Status.{Status}
 
@@ -44,9 +47,6 @@ writes true Nothing after = codes "[]" ++ after
 writes false Nothing after = codes "]" ++ after
 writes true (Array first others) after = codes "[" ++ writes true first (writes false others after)
 writes false (Array first others) after = codes "," ++ writes true first (writes false others after)
-
-abbrev pub written : Json → List ℕ
-written v = writes true v []
 
 -- ---- as scripts take values
 
@@ -74,12 +74,12 @@ is_there Nothing = false
 is_there (Array first rest) = true
 
 -- whether an array has more values after place i
+abbrev pub is_some_array : Json → Bool
+is_some_array (Array first rest) = true
+is_some_array v = false
+
 abbrev pub has : ℕ → Json → Bool
-has i v = is_there_at (beyond i v)
-  where
-    is_there_at : Json → Bool
-    is_there_at (Array first rest) = true
-    is_there_at w = false
+has i v = is_some_array (beyond i v)
 
 abbrev pub number : Json → ℕ
 number (Number n) = n
@@ -212,34 +212,58 @@ fact_shown (fact.Renew t) = LivesAgain t
 
 -- ---- what is written is read as what it stands for
 
--- the text is that of a value
-pub record Reads (text : List ℕ) (P : Json → Type 0) : Type 0 where
+-- the text is that of a value, and these bytes follow it
+pub record Reads (text after : List ℕ) (P : Json → Type 0) : Type 0 where
   pub value : Json
-  pub is : text ≡ written value
+  pub is : text ≡ writes true value after
   pub says : P value
 
--- the items of an array of things, behind the word at place 0: one for each, in their order
-abbrev pub AreRead : {A : Type 0} → (Json → A → Type 0) → Json → List A → Type 0
-AreRead says v [] = v ≡ Nothing
-AreRead says (Array first rest) (x ∷ xs) = says first x × AreRead says rest xs
-AreRead says v (x ∷ xs) = ⊥
-
--- a value that the script takes for this status, for this object
 abbrev pub IsStatus : Json → Status → Type 0
 IsStatus v s = status_read v ≡ status_shown s
 
+-- no thread has the number 0, which stands for no owner
 abbrev pub IsObject : Json → Object → Type 0
-IsObject v o = object_read v ≡ o
+IsObject v o = o.owner ≢ Some 0 → object_read v ≡ o
 
--- threads count from 1
-abbrev pub HasOwner : Object → Type 0
-HasOwner o = o.owner ≢ Some 0
+-- the values of an array, or those after its first ones, say this of these things, one by one
+abbrev pub Say : {A : Type 0} → (Json → A → Type 0) → Json → List A → Type 0
+Say says v [] = v ≡ Nothing
+Say says (Array first rest) (x ∷ xs) = says first x × Say says rest xs
+Say says v (x ∷ xs) = ⊥
 
--- a line's value: its event, what it tells, what its thread does after it, and if it is a point or a death what its mutex
--- is after it. The script sets the thread and the mutex that the fact names at places 1 and 2
+-- a line's value: its event, what it tells, what its thread does after it, and after a point or a death what its mutex is.
+-- The script changes the thread and the mutex that places 1 and 2 of the fact name
 pub record IsLine (e : Line) (es : List Line) (v : Json) : Type 0 where
   pub event : number (at 0 v) ≡ e.event
-  pub fact : fact_read (at 1 v) ≡ fact_shown e.fact
+  pub tells : fact_read (at 1 v) ≡ fact_shown e.fact
   pub thread : number (at 1 (at 1 v)) ≡ (change_of e es).thread
   pub status : IsStatus (at 2 v) (change_of e es).status
   pub unchanged : (change_of e es).mutex ≡ None → has 3 v ≡ false
+  pub mutex : (m : Mutex) → (change_of e es).mutex ≡ Some m
+      → (has 3 v ≡ true) × (number (at 2 (at 1 v)) ≡ m.number) × IsObject (at 3 v) m.object
+
+-- a whole state: [["threads", ..], ["mutexes", ..]]
+pub record IsWhole (s : Shown) (v : Json) : Type 0 where
+  pub threads : (word (at 0 (at 0 v)) ≡ codes "threads") × Say IsStatus (others (at 0 v)) s.threads
+  pub mutexes : (word (at 0 (at 1 v)) ≡ codes "mutexes") × Say IsObject (others (at 1 v)) s.mutexes
+
+-- the line that doesn't fit: 0 if it is the trace's last one
+abbrev pub IsMisfitLine : Option Line → Json → Type 0
+IsMisfitLine None v = is_there v ≡ false
+IsMisfitLine (Some e) v = (is_there v ≡ true) × (number (at 0 v) ≡ e.event) × (fact_read (at 1 v) ≡ fact_shown e.fact)
+
+-- how the trace ends: the number of its events, how many lines it has between its first and its last one, and of an illegal
+-- trace the number of the line that doesn't fit, why, and that line
+abbrev pub IsEnd : Finding → ℕ → List Line → Json → Type 0
+IsEnd (Legal points) last ls v =
+    (word (at 0 v) ≡ codes "legal") × (number (at 1 v) ≡ last) × (number (at 2 v) ≡ length ls)
+IsEnd (Illegal found) last ls v = (word (at 0 v) ≡ codes "illegal") × (number (at 1 v) ≡ last)
+    × (number (at 2 v) ≡ length ls) × (number (at 3 v) ≡ found.line)
+    × (word (at 4 v) ≡ escaped (reason_text found.misfit)) × IsMisfitLine (slice_get ls (found.line - 2)) (at 5 v)
+
+pub record ScriptReadsStates : Type 0 where
+  pub statuses : (s : Status) → Reads (status_text s) [] (λ v. IsStatus v s)
+  pub objects : (o : Object) → Reads (object_text o) [] (λ v. IsObject v o)
+  pub lines : (e : Line) (es : List Line) → Reads (item_text (Turn e (change_of e es))) (codes ",\n") (IsLine e es)
+  pub wholes : (s : Shown) → Reads (item_text (Whole s)) (codes ",\n") (IsWhole s)
+  pub ends : (f : Finding) (last : ℕ) (ls : List Line) → Reads (end_text f last ls) (codes "\n]\n") (IsEnd f last ls)

@@ -1,5 +1,6 @@
 //! What holds of every page.
 
+ghost use Rattle.page.specs.Decoding.{ScriptReadsStates};
 ghost use Rattle.page.specs.Escapes.{NamesAreEscaped};
 ghost use Rattle.page.specs.Flags.{FlagsAreRead};
 ghost use Rattle.page.specs.Judged.{FittingLinesAreShown, MisfitsAreTold, ShownLinesFit, StatesAreTheJudges};
@@ -55,4 +56,13 @@ pub fn names_stand_in_quotes()
 /// `names_are_plain` of `draw_report` says.
 pub fn names_are_escaped()
     ensures { NamesAreEscaped }
+{}
+
+/// The texts of a page's data are those of values as JSON has them, and taken as the page's script takes them, place by
+/// place, they say what they stand for: which life a thread is in, whether it was killed and reaped, its call, that call's
+/// newest point, and on which mutex or condition variable it sleeps, since which line; a mutex's owner, and whether it is
+/// inconsistent and unusable; what a line tells, and which thread and mutex it changes; how many events and lines the
+/// trace has, and which line doesn't fit.
+pub fn script_reads_states()
+    ensures { ScriptReadsStates }
 {}

@@ -37,5 +37,5 @@ mod texts;
 pub use html::write_page;
 pub use laws::{
     fitting_lines_are_shown, flags_are_read, misfits_are_told, names_are_escaped,
-    names_stand_in_quotes, page_shows, shown_lines_fit, states_are_the_judges,
+    names_stand_in_quotes, page_shows, script_reads_states, shown_lines_fit, states_are_the_judges,
 };
