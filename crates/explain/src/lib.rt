@@ -8,6 +8,11 @@
 //! wait makes its mutex unusable (`IsFirstSpoiling`). Else it has written a beginning of it, and one message on `err`
 //! says why. It reads at most one byte more than a trace may have.
 //!
+//! What it claims is so: it says that a mutex may reply so exactly if the mutex permits it ([`replies_are_those_allowed`]);
+//! the earlier line is of the kind that the reason speaks of ([`origins_are_of_their_kind`],
+//! [`all_of_the_kind_are_origins`]); and a wait is named exactly if it makes its mutex unusable
+//! ([`spoiling_waits_are_found`]).
+//!
 //! Stands on `grammar`, for the first wrong word of a line and the nearest known one, on `script` and `verdict`, for
 //! faults and reasons, on `reasons`, for the words of these, on `lines`, for lines and words, on `facts`, `posixmutex` and
 //! `lockword`, for what lines of a trace tell, on `streams`, for reading, writing and opening, and on `itoa`, for numbers.
@@ -30,6 +35,7 @@ mod explaining;
 mod explanation;
 mod failures;
 mod modes;
+mod laws;
 mod names;
 mod notes;
 mod origins;
@@ -47,4 +53,7 @@ mod traces;
 mod words;
 
 pub use failures::OUT_OF_MEMORY;
+pub use laws::{
+    all_of_the_kind_are_origins, origins_are_of_their_kind, replies_are_those_allowed, spoiling_waits_are_found,
+};
 pub use program::run;
