@@ -1,6 +1,6 @@
 -- What an explanation claims is so.
 use Rattle.std.proofs.Common.{◌≡◌, ◌≢◌, ◌⊎◌, ◌∙◌, ◌==◌, ◌&&◌, ◌||◌, ◌∷◌, ◌++◌, Bool, true, false, ℕ, Option, Some, None, List, [], append-nil, append_assoc, ap, eqb-true, inl, inr, not, refl, subst, sym, arith}
-use Rattle.std.specs.Prelude.{codes, if◌then◌else◌}
+use Rattle.std.specs.Prelude.{codes, decimal, if◌then◌else◌}
 use Rattle.std.specs.List.{concat}
 use Rattle.std.specs.Option.{is_some}
 use Rattle.std.proofs.lemmas.Bool.{and_parts}
@@ -23,12 +23,55 @@ use Rattle.facts.specs.declared.fact.Line.{Line}
 use Rattle.verdict.specs.Earlier.{call_in, objects_after, told_of}
 use Rattle.verdict.specs.declared.misfit.Misfit.{Misfit}
 use Rattle.verdict.specs.declared.misfit.Misfit.TheVariants as misfit
+use Rattle.explain.specs.Advised.{asked_at}
 use Rattle.explain.specs.Allowed.{allowed_words, allows, before_reply, behind_replies, end_words, reply_words, standing_of, unanswered}
-use Rattle.explain.specs.Laws.{AllOfTheKindAreOrigins, Among, Begins, FallsAsleep, HasPoint, IsKilled, IsMoved, IsOwn, IsReaped, IsSpoilingWait, IsStepOf, IsWoken, LivesAgain, MayReply, NamesItsReplies, OriginsAreOfTheirKind, RepliesAreThoseAllowed, Returns, Speaks, SpoilingWaitsAreFound, no_reply, or_others, replies_said, where_said}
+use Rattle.script.specs.Faults as script
+use Rattle.script.specs.declared.command.Mode.TheVariants.{Run, Threads}
+use Rattle.verdict.specs.Faults as traces
+use Rattle.explain.specs.Texts.{fault_text, place_text, point_words, points_text, spoiling_text}
+use Rattle.explain.specs.declared.explanation.Title.TheVariants.{Good, Illegal, Legal, Script, Trace}
+use Rattle.explain.specs.Laws.{TitlesSayWhatIsFound, at_line, fault_said, points_said, AllOfTheKindAreOrigins, Among, Begins, FallsAsleep, HasPoint, IsKilled, IsMoved, IsOwn, IsReaped, IsSpoilingWait, IsStepOf, IsWoken, LivesAgain, MayReply, NamesItsReplies, OriginsAreOfTheirKind, RepliesAreThoseAllowed, Returns, Speaks, SpoilingWaitsAreFound, WaitsAreAskedAsWaits, no_reply, or_others, replies_said, where_said}
 use Rattle.explain.specs.Origins.{is_begin, is_origin, is_own, is_reap, is_return, is_sleep, is_step_like, is_step_of, is_wake}
 use Rattle.explain.specs.Spoiling.{is_release, is_wait, is_waiting, spoils}
 use Rattle.explain.specs.declared.explanation.Standing.{Standing}
 use Rattle.explain.proofs.Allowing.{permitted}
+
+-- ---- titles
+
+abbrev pub joined : List (List ℕ) → List ℕ → List ℕ
+joined [] after = after
+joined (p ∷ ps) after = p ++ joined ps after
+
+spread : (ps : List (List ℕ)) (after : List ℕ) → concat ps ++ after ≡ joined ps after
+spread [] after = refl
+spread (p ∷ ps) after = append_assoc p (concat ps) after ∙ ap (λ l. p ++ l) (spread ps after)
+
+placed : (file : List ℕ) (line : ℕ) (after : List ℕ) → place_text file line ++ after ≡ at_line file line after
+placed file line after = spread (file ∷ codes ": line " ∷ decimal line ∷ codes ": " ∷ []) after
+
+faulted : (number : ℕ) (words kind : List ℕ) → fault_text number words ++ kind ≡ fault_said number words kind
+faulted number words kind = spread (codes "fault " ∷ decimal number ∷ codes ": " ∷ words ∷ []) kind
+
+pointed : (points : ℕ) → concat (decimal points ∷ point_words points ∷ []) ≡ points_said points
+unfolding point_words
+pointed points = ap (λ l. decimal points ++ l) (append-nil (point_words points))
+
+legal : (file : List ℕ) (points : ℕ) → points_text file points ≡ file ++ (codes ": a legal trace, of " ++ points_said points)
+legal file points = spread (file ∷ codes ": a legal trace, of " ∷ []) _ ∙ ap (λ l. file ++ (codes ": a legal trace, of " ++ l)) (pointed points)
+
+pub titles_say_what_is_found : TitlesSayWhatIsFound
+titles_say_what_is_found (Good true false) file = (spread (file ∷ codes ": a good script for " ∷ []) _, refl)
+titles_say_what_is_found (Good false true) file = (spread (file ∷ codes ": a good script for " ∷ []) _, refl)
+titles_say_what_is_found (Good true true) file = (spread (file ∷ codes ": a good script for " ∷ []) _, refl)
+titles_say_what_is_found (Good false false) file = refl
+titles_say_what_is_found (Script Run e) file = (placed file e.line _ ∙ ap (λ l. at_line file e.line l) (faulted (script.number_of e.fault) (script.words_of e.fault) _), refl)
+titles_say_what_is_found (Script Threads e) file = (placed file e.line _ ∙ ap (λ l. at_line file e.line l) (faulted (script.number_of e.fault) (script.words_of e.fault) _), refl)
+titles_say_what_is_found (Trace e) file = (placed file e.line _ ∙ ap (λ l. at_line file e.line l) (faulted (traces.number_of e.fault) (traces.words_of e.fault) _), refl)
+titles_say_what_is_found (Illegal why) file = (placed file why.line _, refl)
+titles_say_what_is_found (Legal points None) file = (append-nil (points_text file points) ∙ legal file points, refl)
+titles_say_what_is_found (Legal points (Some line)) file = (
+    ap (λ l. l ++ spoiling_text file (Some line)) (legal file points)
+    ∙ append_assoc file (codes ": a legal trace, of " ++ points_said points) _ ∙ ap (λ l. file ++ (codes ": a legal trace, of " ++ l)) (append_assoc (decimal points) _ _ ∙ ap (λ l. decimal points ++ l) (ap (λ l. (if points == 1 then codes " point\n" else codes " points\n") ++ l) (placed file line _)) ∙ sym (append_assoc (decimal points) _ _)), refl)
 
 -- ---- the replies that are named
 
@@ -133,6 +176,83 @@ replies_are_those_allowed o t op =
           ∙ ap (λ l. codes "  = " ++ (operation_word op ++ (l ++ concat (behind_replies op ∷ [])))) (replies_are_said s op all_replies)
           ∙ ap (λ l. codes "  = " ++ (operation_word op ++ (replies_said op (kept s op all_replies) ++ l))) (where_same op);
     }
+
+-- ---- what is asked
+
+asked_owned : (op : Operation) (call : Option Operation) → asked_at true op call ≡ op
+asked_owned operation.Lock call = refl
+asked_owned operation.TryLock call = refl
+asked_owned operation.TimedLock call = refl
+asked_owned operation.Unlock call = refl
+asked_owned operation.Consistent call = refl
+asked_owned operation.Wait call = refl
+asked_owned operation.TimedWait call = refl
+asked_owned operation.Signal call = refl
+asked_owned operation.Broadcast call = refl
+asked_owned operation.Death call = refl
+asked_owned operation.Reinit call = refl
+
+asked_refused : (call : Operation) → IsWait call → asked_at false operation.Unlock (Some call) ≡ operation.Wait
+asked_refused call (inl h) = ap (λ (c : Operation). asked_at false operation.Unlock (Some c)) h
+asked_refused call (inr h) = ap (λ (c : Operation). asked_at false operation.Unlock (Some c)) h
+
+asked_other : (owns : Bool) (op : Operation) (call : Option Operation) → op ≢ operation.Unlock → asked_at owns op call ≡ op
+asked_other true op call other = asked_owned op call
+asked_other false operation.Unlock call other = absurd (other refl)
+asked_other false operation.Lock call other = refl
+asked_other false operation.TryLock call other = refl
+asked_other false operation.TimedLock call other = refl
+asked_other false operation.Consistent call other = refl
+asked_other false operation.Wait call other = refl
+asked_other false operation.TimedWait call other = refl
+asked_other false operation.Signal call other = refl
+asked_other false operation.Broadcast call other = refl
+asked_other false operation.Death call other = refl
+asked_other false operation.Reinit call other = refl
+
+asked_no_call : (owns : Bool) (op : Operation) → asked_at owns op None ≡ op
+asked_no_call true op = asked_owned op None
+asked_no_call false operation.Lock = refl
+asked_no_call false operation.TryLock = refl
+asked_no_call false operation.TimedLock = refl
+asked_no_call false operation.Unlock = refl
+asked_no_call false operation.Consistent = refl
+asked_no_call false operation.Wait = refl
+asked_no_call false operation.TimedWait = refl
+asked_no_call false operation.Signal = refl
+asked_no_call false operation.Broadcast = refl
+asked_no_call false operation.Death = refl
+asked_no_call false operation.Reinit = refl
+
+asked_unlock : (call : Operation) → (IsWait call → ⊥) → asked_at false operation.Unlock (Some call) ≡ operation.Unlock
+asked_unlock operation.Wait other = absurd (other (inl refl))
+asked_unlock operation.TimedWait other = absurd (other (inr refl))
+asked_unlock operation.Lock other = refl
+asked_unlock operation.TryLock other = refl
+asked_unlock operation.TimedLock other = refl
+asked_unlock operation.Unlock other = refl
+asked_unlock operation.Consistent other = refl
+asked_unlock operation.Signal other = refl
+asked_unlock operation.Broadcast other = refl
+asked_unlock operation.Death other = refl
+asked_unlock operation.Reinit other = refl
+
+asked_no_wait : (owns : Bool) (op call : Operation) → (IsWait call → ⊥) → asked_at owns op (Some call) ≡ op
+asked_no_wait true op call other = asked_owned op (Some call)
+asked_no_wait false operation.Unlock call other = asked_unlock call other
+asked_no_wait false operation.Lock call other = refl
+asked_no_wait false operation.TryLock call other = refl
+asked_no_wait false operation.TimedLock call other = refl
+asked_no_wait false operation.Consistent call other = refl
+asked_no_wait false operation.Wait call other = refl
+asked_no_wait false operation.TimedWait call other = refl
+asked_no_wait false operation.Signal call other = refl
+asked_no_wait false operation.Broadcast call other = refl
+asked_no_wait false operation.Death call other = refl
+asked_no_wait false operation.Reinit call other = refl
+
+pub waits_are_asked_as_waits : WaitsAreAskedAsWaits
+waits_are_asked_as_waits = record { refused = asked_refused; owned = asked_owned; others = asked_other; no_wait = asked_no_wait; no_call = asked_no_call }
 
 -- ---- origins
 

@@ -10,7 +10,7 @@
 --
 -- *Waits that make their mutexes unusable.* A line tells of one exactly if it is the unlock of a wait, with a time limit or
 -- without, whose mutex is inconsistent: the object's step makes it unusable.
-use Rattle.std.specs.Prelude.{ℕ, ◌≡◌, ◌≢◌, ◌⊎◌, ◌↔◌, ◌<◌, ◌≤◌, ◌+◌, ◌-◌, Bool, true, false, Option, Some, None, List, [], ◌∷◌, ◌++◌}
+use Rattle.std.specs.Prelude.{ℕ, ◌≡◌, ◌≢◌, ◌⊎◌, ◌↔◌, ◌==◌, Bool, true, false, Option, Some, None, List, [], ◌∷◌, ◌++◌}
 use Rattle.std.specs.Prelude.{codes, decimal, length, reverse, take, slice_get, if◌then◌else◌}
 use Rattle.lockword.specs.Replies.{all_replies, reply_word}
 use Rattle.lockword.specs.declared.reply.Reply.{Reply}
@@ -32,9 +32,58 @@ use Rattle.verdict.specs.Earlier.{call_in, objects_after, told_of}
 use Rattle.verdict.specs.declared.misfit.Misfit.{Misfit}
 use Rattle.verdict.specs.declared.misfit.Misfit.TheVariants as misfit
 use Rattle.verdict.specs.declared.misfit.TraceMisfit.{TraceMisfit}
+use Rattle.script.specs.Faults as script
+use Rattle.script.specs.declared.command.Mode.TheVariants.{Run, Threads}
+use Rattle.verdict.specs.Faults as traces
+use Rattle.reasons.specs.Reasons.{reason_text}
+use Rattle.explain.specs.Advised.{asked_at}
 use Rattle.explain.specs.Allowed.{allowed_text, standing_of}
+use Rattle.explain.specs.Explains.{status_of}
+use Rattle.explain.specs.Texts.{title_text}
+use Rattle.explain.specs.declared.explanation.Title.{Title}
+use Rattle.explain.specs.declared.explanation.Title.TheVariants.{Good, Illegal, Legal, Script, Trace}
 use Rattle.explain.specs.Origins.{is_origin, origin_of}
 use Rattle.explain.specs.Spoiling.{spoils}
+
+-- ---- the title
+
+-- of a line of the file
+abbrev pub at_line : List ℕ → ℕ → List ℕ → List ℕ
+at_line file line rest = file ++ (codes ": line " ++ (decimal line ++ (codes ": " ++ rest)))
+
+-- a fault's number and its words, and for which kind of file
+abbrev pub fault_said : ℕ → List ℕ → List ℕ → List ℕ
+fault_said number words kind = codes "fault " ++ (decimal number ++ (codes ": " ++ (words ++ kind)))
+
+-- how many points a trace has
+abbrev pub points_said : ℕ → List ℕ
+points_said n = decimal n ++ (if n == 1 then codes " point\n" else codes " points\n")
+
+-- what the title says, and its exit status
+abbrev pub Claims : Title → List ℕ → List ℕ → ℕ → Type 0
+Claims (Good true false) file text status = (text ≡ file ++ codes ": a good script for `rfx run`\n") × (status ≡ 0)
+Claims (Good false true) file text status = (text ≡ file ++ codes ": a good script for `rfx threads`\n") × (status ≡ 0)
+Claims (Good true true) file text status =
+    (text ≡ file ++ codes ": a good script for `rfx run` and `rfx threads`\n") × (status ≡ 0)
+Claims (Good false false) file text status = status ≡ 0
+Claims (Script Run e) file text status = (text
+    ≡ at_line file e.line (fault_said (script.number_of e.fault) (script.words_of e.fault) (codes " (a script for `rfx run`)\n")))
+    × (status ≡ 1)
+Claims (Script Threads e) file text status = (text
+    ≡ at_line file e.line (fault_said (script.number_of e.fault) (script.words_of e.fault) (codes " (a script for `rfx threads`)\n")))
+    × (status ≡ 1)
+Claims (Trace e) file text status = (text
+    ≡ at_line file e.line (fault_said (traces.number_of e.fault) (traces.words_of e.fault) (codes " (a trace)\n"))) × (status ≡ 1)
+Claims (Illegal why) file text status =
+    (text ≡ at_line file why.line (codes "illegal: " ++ (reason_text why.misfit ++ codes "\n"))) × (status ≡ 1)
+Claims (Legal points None) file text status =
+    (text ≡ file ++ (codes ": a legal trace, of " ++ points_said points)) × (status ≡ 0)
+Claims (Legal points (Some line)) file text status = (text
+    ≡ file ++ (codes ": a legal trace, of " ++ (points_said points
+    ++ at_line file line (codes "no run has this: the wait makes its mutex unusable\n")))) × (status ≡ 0)
+
+abbrev pub TitlesSayWhatIsFound : Type 0
+TitlesSayWhatIsFound = (t : Title) (file : List ℕ) → Claims t file (title_text file t) (status_of t)
 
 -- ---- what a mutex allows
 
@@ -78,6 +127,15 @@ pub record NamesItsReplies (o : Object) (t : ℕ) (op : Operation) : Type 0 wher
 
 abbrev pub RepliesAreThoseAllowed : Type 0
 RepliesAreThoseAllowed = (o : Object) (t : ℕ) (op : Operation) → NamesItsReplies o t op
+
+-- what a point asks of the mutex: an unlock by a thread that doesn't own it, in a wait with a time limit or without, is asked
+-- as this wait, which is refused; all else is asked as it stands
+pub record WaitsAreAskedAsWaits : Type 0 where
+  pub refused : (call : Operation) → IsWait call → asked_at false operation.Unlock (Some call) ≡ operation.Wait
+  pub owned : (op : Operation) (call : Option Operation) → asked_at true op call ≡ op
+  pub others : (owns : Bool) (op : Operation) (call : Option Operation) → op ≢ operation.Unlock → asked_at owns op call ≡ op
+  pub no_wait : (owns : Bool) (op call : Operation) → (IsWait call → ⊥) → asked_at owns op (Some call) ≡ op
+  pub no_call : (owns : Bool) (op : Operation) → asked_at owns op None ≡ op
 
 -- ---- the earlier line
 

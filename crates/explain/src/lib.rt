@@ -8,7 +8,8 @@
 //! wait makes its mutex unusable (`IsFirstSpoiling`). Else it has written a beginning of it, and one message on `err`
 //! says why. It reads at most one byte more than a trace may have.
 //!
-//! What it claims is so: it says that a mutex may reply so exactly if the mutex permits it ([`replies_are_those_allowed`]);
+//! What it claims is so: its first line names the line and the fault or the reason ([`titles_say_what_is_found`]); it says that a mutex may reply so exactly if the mutex permits it ([`replies_are_those_allowed`],
+//! [`waits_are_asked_as_waits`]);
 //! the earlier line is of the kind that the reason speaks of ([`origins_are_of_their_kind`],
 //! [`all_of_the_kind_are_origins`]); and a wait is named exactly if it makes its mutex unusable
 //! ([`spoiling_waits_are_found`]).
@@ -55,5 +56,6 @@ mod words;
 pub use failures::OUT_OF_MEMORY;
 pub use laws::{
     all_of_the_kind_are_origins, origins_are_of_their_kind, replies_are_those_allowed, spoiling_waits_are_found,
+    titles_say_what_is_found, waits_are_asked_as_waits,
 };
 pub use program::run;
