@@ -1,5 +1,15 @@
 -- What lanes and bands show is what the lines tell.
-use Rattle.std.proofs.Common.{◌≡◌, ◌≢◌, ◌∙◌, ◌+◌, ◌<◌, ◌≤◌, ◌==◌, ◌∷◌, ◌++◌, Bool, true, false, ℕ, Option, Some, None, List, [], length, ap, refl, subst, sym, arith, eqb-true}
+use Rattle.std.specs.List.{concat}
+use Rattle.std.specs.Str.{bytes_eq}
+use Rattle.std.proofs.lemmas.Slice.Eq.{bytes_eq-Decides}
+use Rattle.posixmutex.proofs.Words.{operations_read_back}
+use Rattle.lockword.specs.Replies.{reply_word}
+use Rattle.posixmutex.specs.Words.{operation_of, operation_word}
+use Rattle.posixmutex.specs.declared.point.Operation.{Operation}
+use Rattle.picture.specs.Names.{Called, condition_head, condition_tail, mutex_head, mutex_tail, thread_head, thread_tail}
+use Rattle.picture.specs.Words.{words}
+use Rattle.picture.specs.States.{BandsHaveTheirWords, LinesHaveTheirWords}
+use Rattle.std.proofs.Common.{codes, append-nil, not, ◌≡◌, ◌≢◌, ◌∙◌, ◌+◌, ◌<◌, ◌≤◌, ◌==◌, ◌∷◌, ◌++◌, Bool, true, false, ℕ, Option, Some, None, List, [], length, ap, refl, subst, sym, arith, eqb-true}
 use Rattle.std.specs.Prelude.{if◌then◌else◌, nat_lt, slice_index_or, slice_set}
 use Rattle.std.proofs.lemmas.Bool.Decides.{nat_tests}
 use Rattle.std.proofs.lemmas.List.{get_or-replicate, get_or-set_other, get_or-set_same, length-replicate, length-set}
@@ -11,7 +21,7 @@ use Rattle.posixmutex.specs.declared.point.Decision.{Decision}
 use Rattle.posixmutex.proofs.Steps as steps
 use Rattle.facts.specs.Facts.{decision_of, thread_of}
 use Rattle.facts.specs.declared.fact.Fact.{Fact}
-use Rattle.facts.specs.declared.fact.Fact.TheVariants.{Begin, Sleep, Wake, Return, Kill, Reap, Renew}
+use Rattle.facts.specs.declared.fact.Fact.TheVariants.{Begin, Kill, Point, Reap, Renew, Return, Sleep, Wake}
 use Rattle.facts.specs.declared.fact.Line.{Line}
 use Rattle.facts.specs.declared.fact.Queue.{Queue}
 use Rattle.picture.specs.Bands.{band_of, mutex_at, shown}
@@ -153,9 +163,64 @@ bands_show_mutexes room mutexes n all ls later new low legal i lt =
 
 -- ---- signs and classes
 
+-- the last piece of a text, and the last two
+last_piece : (a : List ℕ) → a ++ codes "" ≡ a
+last_piece a = append-nil a
+
+band_words_are : (n : Called) → BandsHaveTheirWords n
+band_words_are n = record {
+  owned = λ o t h k. rw (h, k) (ap (λ l. thread_head n t ++ l) (last_piece (thread_tail n t)));
+  undeclared = λ o t h k. rw (h, k) refl;
+  free = λ o h k m. rw (h, k, m) refl;
+  died = λ o h k m. rw (h, k, m) refl;
+  unusable = λ o h k. rw (h, k) refl;
+}
+
+words_differ : (a b : Operation) → a ≢ b → bytes_eq (operation_word a) (operation_word b) ≡ false
+words_differ a b other = go (bytes_eq (operation_word a) (operation_word b)) refl
+  where
+    go : (r : Bool) → bytes_eq (operation_word a) (operation_word b) ≡ r → r ≡ false
+    go true is =
+        let same : operation_word a ≡ operation_word b = (bytes_eq-Decides (operation_word a) (operation_word b)).0 is in
+        let read : Some a ≡ Some b = sym (operations_read_back.back a) ∙ ap operation_of same ∙ operations_read_back.back b in
+        absurd (other (let e : a ≡ b = cc in e))
+    go false is = refl
+
+own_words : (n : Called) (l : Lane) (d : Decision) → l ≡ lane.Calling d.operation → concat (words n l (Point d)) ≡ mutex_head n d.mutex ++ (mutex_tail n d.mutex ++ (codes " " ++ reply_word d.reply))
+own_words n l d is =
+    let same : bytes_eq (operation_word d.operation) (operation_word d.operation) ≡ true = (bytes_eq-Decides (operation_word d.operation) (operation_word d.operation)).1 refl in
+    ap (λ (k : Lane). concat (words n k (Point d))) is
+    ∙ ap (λ (b : Bool). concat (if not b then mutex_head n d.mutex ∷ mutex_tail n d.mutex ∷ codes " " ∷ operation_word d.operation ∷ codes " " ∷ reply_word d.reply ∷ [] ∷ [] else mutex_head n d.mutex ∷ mutex_tail n d.mutex ∷ codes " " ∷ [] ∷ [] ∷ reply_word d.reply ∷ [] ∷ [])) same
+    ∙ ap (λ l. mutex_head n d.mutex ++ (mutex_tail n d.mutex ++ (codes " " ++ l))) (last_piece (reply_word d.reply))
+
+other_words : (n : Called) (l : Lane) (d : Decision) (op : Operation) → l ≡ lane.Calling op → op ≢ d.operation → concat (words n l (Point d)) ≡ mutex_head n d.mutex ++ (mutex_tail n d.mutex ++ (codes " " ++ (operation_word d.operation ++ (codes " " ++ reply_word d.reply))))
+other_words n l d op is other =
+    ap (λ (k : Lane). concat (words n k (Point d))) is
+    ∙ ap (λ (b : Bool). concat (if not b then mutex_head n d.mutex ∷ mutex_tail n d.mutex ∷ codes " " ∷ operation_word d.operation ∷ codes " " ∷ reply_word d.reply ∷ [] ∷ [] else mutex_head n d.mutex ∷ mutex_tail n d.mutex ∷ codes " " ∷ [] ∷ [] ∷ reply_word d.reply ∷ [] ∷ [])) (words_differ op d.operation other)
+    ∙ ap (λ l. mutex_head n d.mutex ++ (mutex_tail n d.mutex ++ (codes " " ++ (operation_word d.operation ++ (codes " " ++ l))))) (last_piece (reply_word d.reply))
+
+line_words_are : (n : Called) (l : Lane) → LinesHaveTheirWords n l
+line_words_are n l = record {
+  begins = λ t m op. ap (λ r. operation_word op ++ (codes " " ++ (mutex_head n m ++ r))) (last_piece (mutex_tail n m));
+  waits = λ t m k op. ap (λ r. operation_word op ++ (codes " " ++ (condition_head n k ++ (condition_tail n k ++ (codes " " ++ (mutex_head n m ++ r)))))) (last_piece (mutex_tail n m));
+  own_point = own_words n l;
+  other_point = other_words n l;
+  death = λ t m. refl;
+  sleeps = λ t m. ap (λ r. codes "on " ++ (mutex_head n m ++ r)) (last_piece (mutex_tail n m));
+  waits_on = λ t k. ap (λ r. codes "on " ++ (condition_head n k ++ r)) (last_piece (condition_tail n k));
+  woken = λ t. refl;
+  moved = λ t m. ap (λ r. codes "to " ++ (mutex_head n m ++ r)) (last_piece (mutex_tail n m));
+  returns = λ t x. last_piece (reply_word x);
+  killed = λ t. refl;
+  reaped = λ t. refl;
+  renewed = λ t. refl;
+}
+
 pub states_are_told_apart : StatesAreToldApart
 unfolding lib.Utf8.encode
 states_are_told_apart = record {
+  band_words = band_words_are;
+  line_words = line_words_are;
   lane_signs = record { idle = refl; calling = λ op. refl; asleep = λ op. refl; dying = refl; reaped = refl };
   line_signs = record {
     begins = λ t c from. refl;

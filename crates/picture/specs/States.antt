@@ -7,10 +7,18 @@
 -- *A band shows its mutex.* If the points and deaths are a legal history of all mutexes (posixmutex), a band shows the
 -- object that this history leaves of its mutex.
 --
--- *Signs and classes tell states apart.* The signs of a row, the colours of a lane and a band, and the shapes of marks are
--- those of the tables in FORMATS, and no two states or kinds of lines that differ there look the same.
+-- *Signs and classes tell states apart.* The signs and words of a row, the colours of a lane and a band, and the shapes of
+-- marks are those of the tables in FORMATS, and no two states or kinds of lines that differ there look the same.
 use Rattle.std.specs.Prelude.{ℕ, ◌≡◌, ◌<◌, ◌≤◌, ◌==◌, Bool, true, false, Option, Some, None, List, [], ◌∷◌, ◌++◌}
 use Rattle.std.specs.Prelude.{codes, if◌then◌else◌, slice_index_or}
+use Rattle.std.specs.Prelude.{◌≢◌}
+use Rattle.std.specs.List.{concat}
+use Rattle.lockword.specs.Replies.{reply_word}
+use Rattle.posixmutex.specs.Words.{operation_word}
+use Rattle.facts.specs.declared.fact.Queue.TheVariants.{Condition, Mutex}
+use Rattle.picture.specs.Names.{Called, condition_head, condition_tail, mutex_head, mutex_tail, thread_head, thread_tail}
+use Rattle.picture.specs.Rows.{owner_pieces}
+use Rattle.picture.specs.Words.{words}
 use Rattle.std.specs.Char.{encode_utf8}
 use Rattle.lockword.specs.declared.reply.Reply.{Reply}
 use Rattle.lockword.specs.Threads.{most_threads}
@@ -192,7 +200,48 @@ pub record MarksHaveTheirShapes : Type 0 where
   pub reaped : (t : ℕ) → mark_path (Reap t) ≡ codes "m0-6v12m-4-8h8"
   pub renewed : (t : ℕ) → mark_path (Renew t) ≡ codes "m0-6v12m-5-9l10 6m0-6l-10 6"
 
+-- ---- words
+
+-- the text of a mutex in its column: its owner's name, with `!` if an owner died and nobody has declared it consistent; `-`
+-- without an owner; `lost` if it is unusable
+pub record BandsHaveTheirWords (n : Called) : Type 0 where
+  pub owned : (o : Object) (t : ℕ) → o.owner ≡ Some t → o.inconsistent ≡ false
+      → concat (owner_pieces n o) ≡ thread_head n t ++ thread_tail n t
+  pub undeclared : (o : Object) (t : ℕ) → o.owner ≡ Some t → o.inconsistent ≡ true
+      → concat (owner_pieces n o) ≡ thread_head n t ++ (thread_tail n t ++ codes "!")
+  pub free : (o : Object) → o.owner ≡ None → o.unusable ≡ false → o.inconsistent ≡ false
+      → concat (owner_pieces n o) ≡ codes "-"
+  pub died : (o : Object) → o.owner ≡ None → o.unusable ≡ false → o.inconsistent ≡ true
+      → concat (owner_pieces n o) ≡ codes "-!"
+  pub unusable : (o : Object) → o.owner ≡ None → o.unusable ≡ true → concat (owner_pieces n o) ≡ codes "lost"
+
+-- the words of a line whose lane shows this: of a call its operation, its condition variable if it has one, and its mutex; of
+-- a point its mutex, its operation if that isn't the call's, and the reply; and so on
+pub record LinesHaveTheirWords (n : Called) (l : Lane) : Type 0 where
+  pub begins : (t m : ℕ) (op : Operation) → concat (words n l (Begin t (record { operation = op; mutex = m; condition = None })))
+      ≡ operation_word op ++ (codes " " ++ (mutex_head n m ++ mutex_tail n m))
+  pub waits : (t m k : ℕ) (op : Operation)
+      → concat (words n l (Begin t (record { operation = op; mutex = m; condition = Some k })))
+      ≡ operation_word op
+      ++ (codes " " ++ (condition_head n k ++ (condition_tail n k ++ (codes " " ++ (mutex_head n m ++ mutex_tail n m)))))
+  pub own_point : (d : Decision) → l ≡ lane.Calling d.operation → concat (words n l (Point d))
+      ≡ mutex_head n d.mutex ++ (mutex_tail n d.mutex ++ (codes " " ++ reply_word d.reply))
+  pub other_point : (d : Decision) (op : Operation) → l ≡ lane.Calling op → op ≢ d.operation → concat (words n l (Point d))
+      ≡ mutex_head n d.mutex
+      ++ (mutex_tail n d.mutex ++ (codes " " ++ (operation_word d.operation ++ (codes " " ++ reply_word d.reply))))
+  pub death : (t m : ℕ) → concat (words n l (Death t m)) ≡ mutex_head n m ++ (mutex_tail n m ++ codes " owner died")
+  pub sleeps : (t m : ℕ) → concat (words n l (Sleep t (Mutex m))) ≡ codes "on " ++ (mutex_head n m ++ mutex_tail n m)
+  pub waits_on : (t k : ℕ) → concat (words n l (Sleep t (Condition k))) ≡ codes "on " ++ (condition_head n k ++ condition_tail n k)
+  pub woken : (t : ℕ) → concat (words n l (Wake t)) ≡ codes "woken"
+  pub moved : (t m : ℕ) → concat (words n l (Move t m)) ≡ codes "to " ++ (mutex_head n m ++ mutex_tail n m)
+  pub returns : (t : ℕ) (x : Reply) → concat (words n l (Return t x)) ≡ reply_word x
+  pub killed : (t : ℕ) → concat (words n l (Kill t)) ≡ codes "killed"
+  pub reaped : (t : ℕ) → concat (words n l (Reap t)) ≡ codes "reaped"
+  pub renewed : (t : ℕ) → concat (words n l (Renew t)) ≡ codes "renewed"
+
 pub record StatesAreToldApart : Type 0 where
+  pub band_words : (n : Called) → BandsHaveTheirWords n
+  pub line_words : (n : Called) (l : Lane) → LinesHaveTheirWords n l
   pub lane_signs : LanesHaveTheirSigns
   pub line_signs : LinesHaveTheirSigns
   pub lane_colours : LanesHaveTheirColours
