@@ -6,6 +6,11 @@ use Rattle.posixmutex.specs.declared.point.Decision.{Decision}
 use Rattle.lockword.specs.Threads.{most_threads}
 use Rattle.std.proofs.lemmas.List.{get_or-replicate, get_or-set_other, get_or-set_same, length-replicate, length-set}
 use Rattle.std.specs.Option.{is_some}
+use Rattle.std.specs.List.{concat, repeat}
+use Rattle.picture.specs.Drawn.{drawn_with, rows_text, text_extent}
+use Rattle.picture.specs.Heads.{heads}
+use Rattle.picture.specs.Positions.{TextDrawsInOrder, TextIsInOrder}
+use Rattle.picture.specs.Rows.{end_text as end_row, row_text}
 use Rattle.std.proofs.Common.{eqb-true, ◌≡◌, ◌∙◌, ◌+◌, ◌-◌, ◌*◌, ◌<◌, ◌≤◌, ◌∷◌, ◌++◌, Bool, true, false, ℕ, zero, suc, Option, Some, None, List, [], append-nil, append_assoc, ap, length, refl, subst, suc-mul, sym, arith}
 use Rattle.std.specs.Prelude.{not, slice_index_or, slice_set, ◌==◌, ◌&&◌, ◌≢◌, codes, decimal, if◌then◌else◌, nat_lt}
 use Rattle.std.proofs.lemmas.Bool.Decides.{nat_tests}
@@ -300,3 +305,31 @@ svg_draws_in_place = record {
   all = λ n threads mutexes ls last misfit. drawn_in_place n (svg_extent n threads mutexes ls) ls last misfit;
   since = λ x ls. record { lanes = λ t few. since_go x t first_since 1 0 ls (let long = length-replicate {A = ℕ} (most_threads + 1) 0 in omega (arith, long, few)) (get_or-replicate {A = ℕ} (most_threads + 1) t 0 0 (omega (arith, few))) };
 }
+
+-- ---- the picture in text
+
+line_in_rows : (n : Called) (x : Extent) (s : Scene) (before later : List Line) (l : Line) → Contains (rows_text n x s (before ++ (l ∷ later))) (row_text n x (scene_after x.bands s (before ++ (l ∷ [])) later) l)
+line_in_rows n x s [] later l = left (row_text n x (behind x.bands s l (l ∷ later)) l) _ _ (whole (row_text n x (behind x.bands s l (l ∷ later)) l))
+line_in_rows n x s (e ∷ before) later l =
+    let mid : Scene = behind x.bands s e (e ∷ (before ++ (l ∷ later))) in
+    let there : (before ++ (l ∷ [])) ++ later ≡ before ++ (l ∷ later) = append_assoc before (l ∷ []) later in
+    right (row_text n x mid e) (rows_text n x mid (before ++ (l ∷ later))) _
+    (subst (λ (ls : List Line). Contains (rows_text n x mid (before ++ (l ∷ later))) (row_text n x (scene_after x.bands (behind x.bands s e (e ∷ ls)) (before ++ (l ∷ [])) later) l)) (sym there)
+    (line_in_rows n x mid before later l))
+
+end_is : (last : ℕ) → end_row last ≡ repeat (6 - length (decimal last)) (codes " ") ++ (decimal last ++ codes "  end\n")
+end_is last = append_assoc (repeat (6 - length (decimal last)) (codes " ")) (concat (decimal last ∷ codes "  " ∷ [])) (codes "end\n") ∙ ap (λ l. repeat (6 - length (decimal last)) (codes " ") ++ l) (append_assoc (decimal last) (codes "  ") (codes "end\n"))
+
+in_order : (n : Called) (x : Extent) (ls : List Line) (last : ℕ) → TextIsInOrder n x ls last (drawn_with n x ls last)
+in_order n x ls last = record {
+  lines = λ before later l is. right (heads n x) _ _ (left (rows_text n x first_scene ls) _ _ (subst (λ (all : List Line). Contains (rows_text n x first_scene all) (row_text n x (scene_after x.bands first_scene (before ++ (l ∷ [])) later) l)) (sym is) (line_in_rows n x first_scene before later l)));
+  end = (
+    heads n x ++ (rows_text n x first_scene ls ++ repeat (6 - length (decimal last)) (codes " ")),
+    ap (λ e. heads n x ++ (rows_text n x first_scene ls ++ e)) (end_is last)
+        ∙ ap (λ e. heads n x ++ e) (sym (append_assoc (rows_text n x first_scene ls) (repeat (6 - length (decimal last)) (codes " ")) (decimal last ++ codes "  end\n")))
+        ∙ sym (append_assoc (heads n x) (rows_text n x first_scene ls ++ repeat (6 - length (decimal last)) (codes " ")) (decimal last ++ codes "  end\n")),
+  );
+}
+
+pub text_draws_in_order : TextDrawsInOrder
+text_draws_in_order n threads mutexes ls last = in_order n (text_extent n threads mutexes ls) ls last

@@ -23,7 +23,8 @@ use Rattle.picture.specs.declared.svg.Since.{Since}
 use Rattle.picture.specs.Bands.{band_of, mutex_at}
 use Rattle.picture.specs.Names.{Called, mutex_head, mutex_tail, thread_head, thread_tail}
 use Rattle.picture.specs.Places.{band_x, lane_x, row_y}
-use Rattle.picture.specs.Rows.{from_at}
+use Rattle.picture.specs.Drawn.{drawn, text_extent}
+use Rattle.picture.specs.Rows.{from_at, row_text}
 use Rattle.picture.specs.Scenes.{first_scene, lane_at}
 use Rattle.picture.specs.Shapes.{band_class, lane_class, lane_shape, band_shape}
 use Rattle.picture.specs.States.{scene_after}
@@ -172,3 +173,15 @@ pub record SvgDrawsInPlace : Type 0 where
   pub all : (n : Called) (threads mutexes : ℕ) (ls : List Line) (last : ℕ) (misfit : Option ℕ)
       → IsDrawnInPlace n (svg_extent n threads mutexes ls) ls (svg_marked n threads mutexes ls last misfit)
   pub since : (x : Extent) (ls : List Line) → SinceIsTheNewest x ls
+
+-- ---- the picture in text
+
+-- each line has its row, with the state after it; the last row has the number of events
+pub record TextIsInOrder (n : Called) (x : Extent) (ls : List Line) (last : ℕ) (picture : List ℕ) : Type 0 where
+  pub lines : (before later : List Line) (l : Line) → ls ≡ before ++ (l ∷ later)
+      → Contains picture (row_text n x (scene_after x.bands first_scene (before ++ (l ∷ [])) later) l)
+  pub end : (rows : List ℕ) × (picture ≡ rows ++ (decimal last ++ codes "  end\n"))
+
+abbrev pub TextDrawsInOrder : Type 0
+TextDrawsInOrder = (n : Called) (threads mutexes : ℕ) (ls : List Line) (last : ℕ)
+    → TextIsInOrder n (text_extent n threads mutexes ls) ls last (drawn n threads mutexes ls last)

@@ -2,7 +2,7 @@
 
 ghost use Rattle.picture.specs.Laws.{MarksStandInTheirLanes, PicturesHaveRoomForNames};
 ghost use Rattle.picture.specs.Laws.{ShownLanesStandInTheirColumns, TextsHaveRoom, UsedMutexesHaveBands};
-ghost use Rattle.picture.specs.Positions.{SvgDrawsInPlace};
+ghost use Rattle.picture.specs.Positions.{SvgDrawsInPlace, TextDrawsInOrder};
 ghost use Rattle.picture.specs.States.{BandsShowMutexes, LanesShowThreads, StatesAreToldApart};
 
 /// A line's mark stands in its own thread's lane, behind as many columns as the lanes before that one have, and in no
@@ -59,4 +59,10 @@ pub fn states_are_told_apart()
 /// line k of the trace at row k, with the state after it; and the last row above the foot, which is within the picture.
 pub fn svg_draws_in_place()
     ensures { SvgDrawsInPlace }
+{}
+
+/// A picture in text has a row for each line of the trace, with the state after this line, and its last row has the number
+/// of events.
+pub fn text_draws_in_order()
+    ensures { TextDrawsInOrder }
 {}

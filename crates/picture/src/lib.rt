@@ -45,7 +45,7 @@ pub use drawing::{Unwritten, draw};
 pub use laws::{
     bands_show_mutexes, lanes_show_threads, marks_stand_in_their_lanes,
     pictures_have_room_for_names, shown_lanes_stand_in_their_columns, states_are_told_apart,
-    svg_draws_in_place, texts_have_room, used_mutexes_have_bands,
+    svg_draws_in_place, text_draws_in_order, texts_have_room, used_mutexes_have_bands,
 };
 pub use names::Names;
 pub use svg_drawing::{draw_svg, draw_svg_marked};
