@@ -70,8 +70,10 @@ titles_say_what_is_found (Trace e) file = (placed file e.line _ ∙ ap (λ l. at
 titles_say_what_is_found (Illegal why) file = (placed file why.line _, refl)
 titles_say_what_is_found (Legal points None) file = (append-nil (points_text file points) ∙ legal file points, refl)
 titles_say_what_is_found (Legal points (Some line)) file = (
-    ap (λ l. l ++ spoiling_text file (Some line)) (legal file points)
-    ∙ append_assoc file (codes ": a legal trace, of " ++ points_said points) _ ∙ ap (λ l. file ++ (codes ": a legal trace, of " ++ l)) (append_assoc (decimal points) _ _ ∙ ap (λ l. decimal points ++ l) (ap (λ l. (if points == 1 then codes " point\n" else codes " points\n") ++ l) (placed file line _)) ∙ sym (append_assoc (decimal points) _ _)), refl)
+  ap (λ l. l ++ spoiling_text file (Some line)) (legal file points)
+      ∙ append_assoc file (codes ": a legal trace, of " ++ points_said points) _ ∙ ap (λ l. file ++ (codes ": a legal trace, of " ++ l)) (append_assoc (decimal points) _ _ ∙ ap (λ l. decimal points ++ l) (ap (λ l. (if points == 1 then codes " point\n" else codes " points\n") ++ l) (placed file line _)) ∙ sym (append_assoc (decimal points) _ _)),
+  refl,
+)
 
 -- ---- the replies that are named
 

@@ -3,7 +3,7 @@
 -- *The title.* Of a fault, the line, the fault's number and its words, and for which kind of file; of an illegal trace the
 -- line that doesn't fit, and the reason; the exit status is 0 for a good script and a legal trace, and 1 else.
 --
--- *What a mutex allows.* A reply stands behind `may reply` exactly if the mutex, as it is, permits it to the thread's
+-- *What a mutex allows.* A reply comes after `may reply` exactly if the mutex, as it is, permits it to the thread's
 -- operation; `or` parts the replies. If it permits none, that is said, in words of the operation.
 --
 -- *The earlier line.* The newest earlier line of which the reason speaks, of the kind that belongs to this reason.

@@ -1,5 +1,5 @@
-//! `rfx-explain` but for opening its file: what a script or a trace is, and where it is faulty or illegal, which word
-//! of which line is wrong, what could stand there, and which earlier line it goes back to.
+//! `rfx-explain` except for opening its file: what a script or a trace is, and where it is faulty or illegal, which word
+//! of which line is wrong, what could be there, and which earlier line it goes back to.
 //!
 //! [`run`] is given the words of the command line, what opens files, and the two writers. Where nothing is told on
 //! `err` it has written all of an explanation of the file's bytes and let go of it, whose title is what the readers of
@@ -35,8 +35,8 @@ mod encodings;
 mod explaining;
 mod explanation;
 mod failures;
-mod modes;
 mod laws;
+mod modes;
 mod names;
 mod notes;
 mod origins;
@@ -55,7 +55,7 @@ mod words;
 
 pub use failures::OUT_OF_MEMORY;
 pub use laws::{
-    all_of_the_kind_are_origins, origins_are_of_their_kind, replies_are_those_allowed, spoiling_waits_are_found,
-    titles_say_what_is_found, waits_are_asked_as_waits,
+    all_of_the_kind_are_origins, origins_are_of_their_kind, replies_are_those_allowed,
+    spoiling_waits_are_found, titles_say_what_is_found, waits_are_asked_as_waits,
 };
 pub use program::run;

@@ -50,7 +50,7 @@ writes false (Array first others) after = codes "," ++ writes true first (writes
 
 -- ---- as scripts take values
 
--- what stands at place i of an array; nothing where it ends before
+-- what is at place i of an array; nothing where it ends before
 abbrev pub others : Json → Json
 others (Array first rest) = rest
 others v = Nothing

@@ -56,7 +56,7 @@ found b a i lt (Some j) is =
 
 -- ---- one line
 
--- behind one line, or several: bands that there were are still there, and no others but those of mutexes that were used; and a mutex that was used has a band, where there is room
+-- after one line, or several: bands that there were are still there, and no others but those of mutexes that were used; and a mutex that was used has a band, where there is room
 record Goes (room : ℕ) (b c : Bands) (IsUsed : ℕ → Type 0) : Type 0 where
   pub apart : Apart c
   pub few : c.count ≤ room

@@ -102,7 +102,7 @@ abbrev pub decisions : List Line → List Decision
 decisions [] = []
 decisions (l ∷ ls) = and_then (decision_of l.fact) (decisions ls)
 
--- the bands of a picture that has room for so many show their mutexes, as a legal history of n mutexes leaves them
+-- the bands of a picture that has room for that many show their mutexes, as a legal history of n mutexes leaves them
 abbrev pub BandsShowMutexes : Type 0
 BandsShowMutexes = (room mutexes n : ℕ) (all ls later : List Line) (new : ℕ → Object) → room ≤ 16
     → Legal n opening (decisions ls) new → (i : ℕ) → i < (shown room mutexes all).count

@@ -2,7 +2,7 @@
 //! lane of its thread and at its event.
 //!
 //! [`draw`] draws a trace as rows of text, [`draw_svg`] as scalable vector graphics, each byte for byte as `specs/`
-//! says: what a lane shows between the lines of its thread, and which mark a line has in it. A mark stands in its own
+//! says: what a lane shows between the lines of its thread, and which mark a line has in it. A mark is in its own
 //! thread's lane (`marks_stand_in_their_lanes`), each lane in its own columns at every row
 //! (`shown_lanes_stand_in_their_columns`), and in SVG the words of a line have room (`texts_have_room`) and each thing is
 //! drawn at its lane, its band and its row (`svg_draws_in_place`). Lanes and bands show what the lines tell

@@ -2,10 +2,12 @@
 
 ghost use Rattle.reasons.specs.Truths.{EndHasItsWords, MutexesAreTrue, ReasonsAreTrue};
 
-/// If a line doesn't fit the lines before it, the text of the reason is the one that belongs to this reason, and what
-/// it says of the line's event, its thread and its mutex is so: the thread is asleep, or isn't; it is in this call, or
-/// in none; the call has had no point yet, or all of them, with this reply; it lives, was killed or was reaped; it holds
-/// this many mutexes; the mutex is in this state.
+/// If a line doesn't fit the lines before it, the text of the reason is the one that belongs to this reason. What the text
+/// says of the line's event, its thread and its mutex is so:
+///
+/// - the thread is asleep, or isn't; it is in this call, or in none; it lives, was killed or was reaped;
+/// - the call has had no point yet, or all of them, with this reply;
+/// - the thread holds this number of mutexes; the mutex is in this state.
 pub fn reasons_are_true()
     ensures { ReasonsAreTrue }
 {}
