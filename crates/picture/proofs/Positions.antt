@@ -11,6 +11,10 @@ use Rattle.picture.specs.Drawn.{drawn_with, rows_text, text_extent}
 use Rattle.picture.specs.Heads.{heads}
 use Rattle.picture.specs.Positions.{TextDrawsInOrder, TextIsInOrder}
 use Rattle.picture.specs.Rows.{end_text as end_row, row_text}
+use Rattle.picture.specs.Positions.{decides_band, is_band, turns_band}
+use Rattle.picture.specs.Scenes.{most_bands}
+use Rattle.picture.specs.Svg.{since_at, since_band}
+use Rattle.picture.specs.declared.bands.Bands.{Bands}
 use Rattle.std.proofs.Common.{eqb-true, ◌≡◌, ◌∙◌, ◌+◌, ◌-◌, ◌*◌, ◌<◌, ◌≤◌, ◌∷◌, ◌++◌, Bool, true, false, ℕ, zero, suc, Option, Some, None, List, [], append-nil, append_assoc, ap, length, refl, subst, suc-mul, sym, arith}
 use Rattle.std.specs.Prelude.{not, slice_index_or, slice_set, ◌==◌, ◌&&◌, ◌≢◌, codes, decimal, if◌then◌else◌, nat_lt}
 use Rattle.std.proofs.lemmas.Bool.Decides.{nat_tests}
@@ -246,6 +250,37 @@ since_go x t s k found (l ∷ ls) lt is =
     (since_one t k found s.lanes l.fact (thread_of l.fact == t) (ends_lane l.fact) refl refl lt is
     ∙ ap (λ (b : Bool). if b then k else found) (sym (turns_is (thread_of l.fact == t) l.fact)))
 
+band_one : (i k found : ℕ) (bands : List ℕ) (j : ℕ) (own : Bool) → (j == i) ≡ own → i < length bands → slice_index_or bands i 0 ≡ found → slice_index_or (slice_set bands j k) i 0 ≡ (if own then k else found)
+band_one i k found bands j true own lt is =
+    let same : j ≡ i = eqb-true j i own in
+    subst (λ (u : ℕ). slice_index_or (slice_set bands u k) i 0 ≡ k) (sym same) (get_or-set_same bands i k 0 lt)
+band_one i k found bands j false own lt is =
+    let other : i ≢ j = λ e. (let h : (j == i) ≡ true = grind (arith, nat_tests, e) in let b : true ≡ false = sym h ∙ own in absurd cc) in
+    get_or-set_other bands j i k 0 other ∙ is
+
+band_at_one : (i k found : ℕ) (bands : List ℕ) (r : Option ℕ) → i < length bands → slice_index_or bands i 0 ≡ found → slice_index_or (since_at bands r k) i 0 ≡ (if is_band i r then k else found)
+band_at_one i k found bands None lt is = is
+band_at_one i k found bands (Some j) lt is = band_one i k found bands j (j == i) refl lt is
+
+band_by_one : (x : Extent) (i k found : ℕ) (bands : List ℕ) (D : Option Decision) → i < length bands → slice_index_or bands i 0 ≡ found → slice_index_or (since_band x.bands bands D k) i 0 ≡ (if decides_band x i D then k else found)
+band_by_one x i k found bands None lt is = is
+band_by_one x i k found bands (Some d) lt is = band_at_one i k found bands (band_of x.bands d.mutex) lt is
+
+bands_long : (bands : List ℕ) (r : Option ℕ) (k : ℕ) → length (since_at bands r k) ≡ length bands
+bands_long bands None k = refl
+bands_long bands (Some j) k = length-set bands j k
+
+all_long : (b : Bands) (bands : List ℕ) (D : Option Decision) (k : ℕ) → length (since_band b bands D k) ≡ length bands
+all_long b bands None k = refl
+all_long b bands (Some d) k = bands_long bands (band_of b d.mutex) k
+
+bands_go : (x : Extent) (i : ℕ) (s : Since) (k found : ℕ) (ls : List Line) → i < length s.bands → slice_index_or s.bands i 0 ≡ found → slice_index_or (since_after x s k ls).bands i 0 ≡ newest_that (turns_band x i) found k ls
+bands_go x i s k found [] lt is = is
+bands_go x i s k found (l ∷ ls) lt is =
+    bands_go x i (begins_at x.bands s l.fact k) (k + 1) (if turns_band x i l then k else found) ls
+    (let long = all_long x.bands s.bands (decision_of l.fact) k in omega (arith, long, lt))
+    (band_by_one x i k found s.bands (decision_of l.fact) lt is)
+
 -- ---- the picture
 
 module _ (n : Called) (x : Extent) (ls : List Line) (last : ℕ) (misfit : Option ℕ) where
@@ -303,7 +338,10 @@ svg_draws_in_place = record {
   rows = rows_have_room;
   apart = λ x u some few. (omega arith, (let last = along_last x u few in omega (arith, last)));
   all = λ n threads mutexes ls last misfit. drawn_in_place n (svg_extent n threads mutexes ls) ls last misfit;
-  since = λ x ls. record { lanes = λ t few. since_go x t first_since 1 0 ls (let long = length-replicate {A = ℕ} (most_threads + 1) 0 in omega (arith, long, few)) (get_or-replicate {A = ℕ} (most_threads + 1) t 0 0 (omega (arith, few))) };
+  since = λ x ls. record {
+    bands = λ i lt. bands_go x i first_since 1 0 ls (let long = length-replicate {A = ℕ} most_bands 0 in omega (arith, long, lt)) (get_or-replicate {A = ℕ} most_bands i 0 0 lt);
+    lanes = λ t few. since_go x t first_since 1 0 ls (let long = length-replicate {A = ℕ} (most_threads + 1) 0 in omega (arith, long, few)) (get_or-replicate {A = ℕ} (most_threads + 1) t 0 0 (omega (arith, few)));
+  };
 }
 
 -- ---- the picture in text

@@ -25,7 +25,7 @@ use Rattle.picture.specs.Names.{Called, mutex_head, mutex_tail, thread_head, thr
 use Rattle.picture.specs.Places.{band_x, lane_x, row_y}
 use Rattle.picture.specs.Drawn.{drawn, text_extent}
 use Rattle.picture.specs.Rows.{from_at, row_text}
-use Rattle.picture.specs.Scenes.{first_scene, lane_at}
+use Rattle.picture.specs.Scenes.{first_scene, lane_at, most_bands}
 use Rattle.picture.specs.Shapes.{band_class, lane_class, lane_shape, band_shape}
 use Rattle.picture.specs.States.{scene_after}
 use Rattle.picture.specs.Svg.{begins_at, first_since, foot_text, line_marks, misfit_at, svg_band, svg_extent}
@@ -157,10 +157,24 @@ pub record IsDrawnInPlace (n : Called) (x : Extent) (ls : List Line) (picture : 
       (band_shape n x (slice_index_or (scene_after x.bands first_scene ls []).objects i fresh) i
       (slice_index_or (since_after x first_since 1 ls).bands i 0) (length ls + 1))
 
+-- it is a point or a death of the mutex of band i
+abbrev pub is_band : ℕ → Option ℕ → Bool
+is_band i None = false
+is_band i (Some j) = j == i
+
+abbrev pub decides_band : Extent → ℕ → Option Decision → Bool
+decides_band x i None = false
+decides_band x i (Some d) = is_band i (band_of x.bands d.mutex)
+
+abbrev pub turns_band : Extent → ℕ → Line → Bool
+turns_band x i l = decides_band x i (decision_of l.fact)
+
 -- a lane or a band shows what it shows since the newest line that changed it
 pub record SinceIsTheNewest (x : Extent) (ls : List Line) : Type 0 where
   pub lanes : (t : ℕ) → t ≤ most_threads
       → slice_index_or (since_after x first_since 1 ls).lanes t 0 ≡ newest_that (turns_lane t) 0 1 ls
+  pub bands : (i : ℕ) → i < most_bands
+      → slice_index_or (since_after x first_since 1 ls).bands i 0 ≡ newest_that (turns_band x i) 0 1 ls
 
 pub record SvgDrawsInPlace : Type 0 where
   pub line : (n : Called) (x : Extent) (s : Scene) (l : Line) (k : ℕ) → LineIsAtItsPlace n x s l k
