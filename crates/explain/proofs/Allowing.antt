@@ -154,7 +154,7 @@ one_reply s op told now rs i d before after total lt e is so_far =
     ap (λ b. after ++ allowed_words s op b (drop (i + 1) rs)) e ∙ ap (λ l. l ++ rest) is ∙ append_assoc before one rest
     ∙ sym (ap (λ l. before ++ l) (at_drop_more (allowed_words s op told) rs i d lt)) ∙ so_far
 
--- behind all
+-- after all
 pub all_replied : (s : Standing) (op : Operation) (told : Bool) (rs : List Reply) (i : ℕ) (before after total : List ℕ) → length rs ≤ i → after ≡ before ++ end_words op told → before ++ allowed_words s op told (drop i rs) ≡ total → after ≡ total
 unfolding allowed_words
 all_replied s op told rs i before after total le is so_far = is ∙ sym (ap (λ l. before ++ l) (at_drop_all (allowed_words s op told) rs i le)) ∙ so_far

@@ -15,7 +15,7 @@ too_few bs lt = sym (false_from_ne_true (begins_trace bs) (λ yes.
     let six : length (map to_ascii_lowercase (take 6 bs)) ≡ 6 = ap length same in
     omega (arith, all, six, lt)))
 
--- six that are those letters, but for capitals
+-- six that are those letters, except for capitals
 pub same_letters : (bs : List ℕ) (b : Bool) → (b ≡ true) ↔ (map to_ascii_lowercase (take 6 bs) ≡ map to_ascii_lowercase (codes "trace ")) → b ≡ begins_trace bs
 same_letters bs true h = sym ((bytes_eq-Decides (map to_ascii_lowercase (take 6 bs)) (codes "trace ")).1 (h.0 refl))
 same_letters bs false h = sym (false_from_ne_true (begins_trace bs) (λ yes. absurd (cc (h.1 ((bytes_eq-Decides (map to_ascii_lowercase (take 6 bs)) (codes "trace ")).0 yes)))))

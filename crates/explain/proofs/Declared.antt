@@ -15,7 +15,7 @@ use Rattle.explain.proofs.Titles.{if_ok_weaker}
 
 -- ---- the names
 
--- a line's name stands before those of the lines behind it
+-- a line's name comes before those of the lines after it
 step : (things : Things) (before n : ℕ) (t : List ℕ) (ls ts : List (List ℕ)) → n < before → ls ≡ t ∷ ts
     → names_in things (take (before - n) ls) ≡ listed (single_name things t) ++ names_in things (take (before - (n + 1)) ts)
 step things before n t ls ts lt e = ap (λ l. names_in things (take (before - n) l)) e ∙ ap (names_in things) (taken before n (before - (n + 1)) (t ∷ ts) (omega (arith, lt)))

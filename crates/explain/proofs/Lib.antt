@@ -8,3 +8,4 @@ pub mod Letters
 pub mod Pointing
 pub mod Allowing
 pub mod Recalling
+mod Claims

@@ -14,7 +14,7 @@ one_shown line n seen c old before after counted here so_far is =
     is ∙ ap (λ l. l ++ shown_char c) so_far ∙ append_assoc old (flat_map shown_char (take n cs)) (shown_char c)
     ∙ ap (λ l. old ++ l) (sym (ap (flat_map shown_char) more ∙ flat_map-append shown_char (take n cs) (c ∷ []) ∙ ap (λ l. flat_map shown_char (take n cs) ++ l) (append-nil (shown_char c))))
 
--- more stand behind
+-- more come after
 pub some_shown : (line : List ℕ) (n : ℕ) (seen old before after : List ℕ) → n ≡ length seen → length seen < length (chars line) → n ≡ width → before ≡ old ++ flat_map shown_char (take n (chars line)) → after ≡ before ++ cut_mark true → after ≡ old ++ shown line
 unfolding shown
 some_shown line n seen old before after counted lt full so_far is =

@@ -18,7 +18,7 @@ use Rattle.verdict.specs.Reading.{Trace}
 use Rattle.verdict.specs.Verdicts.{Tells}
 use Rattle.explain.specs.Explains.{IsFaultOf}
 
--- a fault that isn't want of memory is the reader's
+-- a fault that isn't lack of memory is the reader's
 its_own : (e : ScriptFault) (f : Fault) (said : Result Scope ScriptFault) → f ≢ OutOfMemory → TellsAt e f said → said ≡ Err e
 its_own e NotUtf8 said n h = h
 its_own e UnknownWord said n h = h

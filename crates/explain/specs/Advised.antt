@@ -73,7 +73,7 @@ marking i n = record {
   origin = None;
 }
 
--- and something is said besides
+-- and something is said as well
 abbrev pub besides : Note → Advice → Advice
 besides n a = record { mark = a.mark; note = a.note; also = Some n; origin = a.origin }
 
@@ -166,7 +166,7 @@ abbrev pub head_range : List (List ℕ) → Advice
 head_range ws = ranged ws 1 1 trace.max_threads
     (ranged ws 2 1 trace.max_mutexes (ranged ws 3 0 trace.max_conditions nothing))
 
--- what stands behind a letter
+-- what comes after a letter
 abbrev pub behind : ℕ → List ℕ → Option (List ℕ)
 behind letter [] = None
 behind letter (b ∷ bs) = if b == letter then Some bs else None
@@ -175,7 +175,7 @@ behind letter (b ∷ bs) = if b == letter then Some bs else None
 abbrev pub counted_in : List ℕ → ℕ → ℕ
 counted_in head i = count_of (word_of (words_of head) i)
 
--- of so many things from `first` on, the digits write the number of none
+-- of that many things from `first` on, the digits write the number of none
 abbrev pub is_uncounted : ℕ → ℕ → List ℕ → Bool
 is_uncounted first count digits = is_number digits
     && not (nat_le first (digits_value 10 digits) && nat_lt (digits_value 10 digits) (first + count))
@@ -302,7 +302,7 @@ abbrev pub late : Option ℕ → Advice
 late None = nothing
 late (Some m) = back_to (Some m) (marking 0 BehindCommand)
 
--- a declaration behind a command goes back to the first one
+-- a declaration after a command goes back to the first one
 abbrev pub behind_command : List ℕ → ℕ → Advice
 behind_command text n = late (command_before text n)
 
@@ -334,7 +334,7 @@ IsScriptAdvice k bytes text n of_script.OutOfMemory a = a ≡ nothing
 abbrev pub kind_of : ℕ → Kind
 kind_of n = if n == 1 then kind.Head else kind.Trace
 
--- no `end` line, or something behind it
+-- no `end` line, or something after it
 abbrev pub cut_short : List ℕ → ℕ → Advice
 cut_short text n = if (length (line_of text n) == 0) && is_last (lines_of text) n then saying NoEnd
     else saying BehindEnd

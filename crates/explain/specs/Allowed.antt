@@ -80,12 +80,12 @@ unanswered Wait = codes " isn't refused"
 unanswered TimedWait = codes " has no point of its own"
 unanswered op = codes " has no reply"
 
--- what stands before an allowed reply: it is the first, or another one stands before it
+-- what comes before an allowed reply: it is the first, or another one comes before it
 abbrev pub before_reply : Bool → List ℕ
 before_reply true = codes " or "
 before_reply false = codes " may reply "
 
--- a reply, if it is allowed, behind others or none
+-- a reply, if it is allowed, after others or none
 abbrev pub reply_words : Standing → Operation → Bool → Reply → List ℕ
 reply_words s op told r = if allows s op r then concat (before_reply told ∷ reply_word r ∷ []) else []
 
@@ -97,7 +97,7 @@ unfoldable pub allowed_words : Standing → Operation → Bool → List Reply �
 allowed_words s op told [] = end_words op told
 allowed_words s op told (r ∷ rs) = reply_words s op told r ++ allowed_words s op (told || allows s op r) rs
 
--- what stands behind them: a time limit may come only behind another's ownership, which this mutex needn't show any
+-- what comes after them: a time limit may come only after another's ownership, which this mutex needn't show any
 -- more, and a lock whose limit doesn't come is told as a lock without one
 abbrev pub behind_replies : Operation → List ℕ
 behind_replies TimedLock = codes " where another thread owned the mutex since the call began, and else its point is a `lock`\n"

@@ -25,7 +25,7 @@ use Rattle.explain.specs.Spoiling.{IsFirstSpoiling}
 use Rattle.explain.specs.Stray.{byte_order_mark, lines_in, word_of}
 use Rattle.explain.specs.Texts.{explanation_text}
 
--- the bytes behind blanks and tabs, and those behind a byte order mark, if they begin so
+-- the bytes after blanks and tabs, and those after a byte order mark, if they begin so
 abbrev pub behind_blanks : List ℕ → List ℕ
 behind_blanks [] = []
 behind_blanks (b ∷ bs) = if (b == 32) || (b == 9) then behind_blanks bs else b ∷ bs
@@ -37,7 +37,7 @@ behind_mark bytes = if starts_with nat_eq bytes byte_order_mark then drop 3 byte
 abbrev pub begins_trace : List ℕ → Bool
 begins_trace bytes = bytes_eq (map to_ascii_lowercase (take 6 bytes)) (codes "trace ")
 
--- a trace begins so, as it should or behind what mustn't stand there
+-- a trace begins so, as it should or after what mustn't be there
 abbrev pub is_trace : List ℕ → Bool
 is_trace bytes = begins_trace (behind_blanks (behind_mark bytes))
 
@@ -51,7 +51,7 @@ IsFaultOf Run bytes (Some e) = (script_read Run bytes ≡ Err e)
     ⊎ ((s : Scope) × (script_read Run bytes ≡ Ok s) × (overlong s ≡ Some e.line) × (e.fault ≡ fault.TooLong))
 
 -- the mode that the first line points to which only scripts of one mode have, and the machine's where none does; what
--- stands behind the last line feed is a line too, and none need be text
+-- comes after the last line feed is a line too, and none need be text
 abbrev pub mode_or : Option Mode → Mode → Mode
 mode_or (Some k) other = k
 mode_or None other = other

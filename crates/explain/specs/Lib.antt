@@ -14,3 +14,4 @@ pub mod Advised
 pub mod Explains
 pub mod Served
 pub mod Programs
+pub mod Laws

@@ -29,7 +29,7 @@ abbrev pub TellsFront : List ℕ → List ℕ → Option (List ℕ) → Option (
 TellsFront file bytes old new =
     (text : List ℕ) × ((status : ℕ) × (IsTold file bytes text status × AppendsFront old new text))
 
--- why nothing was told of bytes, or not all: want of memory, before the first byte; or a write that failed, behind a
+-- why nothing was told of bytes, or not all: lack of memory, before the first byte; or a write that failed, after a
 -- beginning
 abbrev pub FailsTelling : List ℕ → List ℕ → Option (List ℕ) → Option (List ℕ) → Failure → Type 0
 FailsTelling file bytes old new Usage = ⊥

@@ -9,7 +9,7 @@ use Rattle.std.specs.Str.{chars}
 abbrev pub width : ℕ
 width = 200
 
--- a character that can't be seen, or that turns others about: a control character behind DEL, the marks and overrides
+-- a character that can't be seen, or that turns others about: a control character after DEL, the marks and overrides
 -- of directions, the ends of lines and paragraphs, what has no width
 abbrev pub is_hidden : ℕ → Bool
 is_hidden c = (nat_le 0x80 c && nat_le c 0x9f) || ((c == 0x61c) || ((nat_le 0x200b c && nat_le c 0x200f)
@@ -21,7 +21,7 @@ abbrev pub shown_char : ℕ → List ℕ
 shown_char c = if nat_lt c 32 then 226 ∷ 144 ∷ (128 + c) ∷ []
     else (if c == 127 then 226 ∷ 144 ∷ 161 ∷ [] else (if is_hidden c then 239 ∷ 191 ∷ 189 ∷ [] else encode_utf8 c))
 
--- an ellipsis (U+2026), behind a line that is longer
+-- an ellipsis (U+2026), after a line that is longer
 abbrev pub cut_mark : Bool → List ℕ
 cut_mark true = concat ((226 ∷ 128 ∷ 166 ∷ []) ∷ [])
 cut_mark false = []

@@ -39,7 +39,7 @@ abbrev pub count_of : List ℕ → ℕ
 count_of w = if is_number w then unwrap_or (within 0 max_mutexes (digits_value 10 w)) 0 else 0
 
 -- a declaration of these words gives the name: it is the second word, or of `mutexes` that word with a number below the
--- count behind it
+-- count after it
 abbrev pub gives : List (List ℕ) → List ℕ → Bool
 gives ws name = if bytes_eq (word_of ws 0) (codes "mutexes")
     then is_numbered (word_of ws 1) (count_of (word_of ws 2)) name
@@ -53,7 +53,7 @@ declares ws things name = is_of things (things_of (word_of ws 0)) && gives ws na
 abbrev pub declares_any : List (List ℕ) → List ℕ → Bool
 declares_any ws name = is_some (things_of (word_of ws 0)) && gives ws name
 
--- a name that it declares is the stem with a number below n behind it, as a single name has it, or one of the same stem
+-- a name that it declares is the stem with a number below n after it, as a single name has it, or one of the same stem
 abbrev pub is_clashing : List (List ℕ) → List ℕ → ℕ → Bool
 is_clashing ws stem n = if bytes_eq (word_of ws 0) (codes "mutex") then is_numbered stem n (word_of ws 1)
     else (if bytes_eq (word_of ws 0) (codes "mutexes") then bytes_eq (word_of ws 1) stem else false)

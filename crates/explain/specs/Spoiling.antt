@@ -31,7 +31,7 @@ abbrev pub is_release : Operation → Reply → Bool
 is_release Unlock OK = true
 is_release op x = false
 
--- behind these lines, which stand newest first, the step is the release of a wait whose mutex is inconsistent: that
+-- after these lines, which stand newest first, the step is the release of a wait whose mutex is inconsistent: that
 -- makes it unusable
 abbrev pub spoils : List Line → Option Decision → Bool
 spoils earlier None = false

@@ -24,7 +24,7 @@ use Rattle.explain.specs.declared.explanation.Note.TheVariants.{Capitals, Slashe
 
 -- ---- what is said
 
--- a word without a letter is all of its line, or stands before the first blank, behind the last one, or between two
+-- a word without a letter is all of its line, or comes before the first blank, after the last one, or between two
 abbrev pub blank_note : List ℕ → ℕ → Note
 blank_note text i = if length text == 0 then EmptyLine
     else (if i == 0 then LeadingBlank
@@ -124,7 +124,7 @@ abbrev pub IsMarked : Kind → List (List ℕ) → Option Mark → Type 0
 IsMarked k ws None = is_line k ws ≡ true
 IsMarked k ws (Some m) = IsFirstWrong k ws m.word × IsExpected k ws m.word m.expected (option_map (λ w. w.now) m.near)
 
--- no line stands behind line n
+-- no line comes after line n
 abbrev pub is_last : List (List ℕ) → ℕ → Bool
 is_last ls n = not (is_some (slice_get ls n))
 

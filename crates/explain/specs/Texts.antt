@@ -89,8 +89,8 @@ line_named (Trace e) = Some e.line
 abbrev pub line_text : List ℕ → List ℕ
 line_text line = concat (codes "  | " ∷ []) ++ (shown line ++ concat (codes "\n" ∷ []))
 
--- under the bytes from start to end of the line stand carets, one at least, and blanks before them; a start one behind
--- the line's end is a column more. What stands behind the columns that are shown is marked by one caret, at the
+-- under the bytes from start to end of the line stand carets, one at least, and blanks before them; a start one after
+-- the line's end is a column more. What comes after the columns that are shown is marked by one caret, at the
 -- ellipsis
 abbrev pub carets : List ℕ → ℕ → ℕ → List ℕ
 carets line start end =

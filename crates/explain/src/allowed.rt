@@ -153,7 +153,7 @@ fn allows(standing: Standing, operation: Operation, reply: Reply) -> bool
     }
 }
 
-/// What stands before a reply, where another one was told or none.
+/// What comes before a reply, where another one was told or none.
 fn before_reply(told: bool) -> &'static str
     ensures { result.now ≡ before_reply told }
 {
@@ -172,7 +172,7 @@ fn unanswered(operation: Operation) -> &'static str
     }
 }
 
-/// What stands behind the replies: a time limit may come only behind another's ownership, which this mutex needn't show
+/// What comes after the replies: a time limit may come only after another's ownership, which this mutex needn't show
 /// any more, and a lock whose limit doesn't come is told as a lock without one; a wait with a limit is told as a wait.
 fn behind_replies(operation: Operation) -> &'static str
     ensures { result.now ≡ behind_replies operation }

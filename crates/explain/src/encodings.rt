@@ -7,7 +7,7 @@ ghost use Rattle.explain.specs.Advised.{looks_of, no_text};
 
 use crate::explanation::{Advice, Looks, Note};
 
-/// How many bytes stand before the first that is no part of a character in UTF-8.
+/// How many bytes come before the first that is no part of a character in UTF-8.
 fn valid_len(bytes: &[u8]) -> usize
     ensures { result ≡ utf8_valid_len bytes.now }
 {

@@ -14,7 +14,7 @@ use crate::telling::explanation_text;
 use crate::traces::explain_trace;
 use std::alloc::{AllocError, Global};
 
-/// The bytes behind a byte order mark, if they begin with one.
+/// The bytes after a byte order mark, if they begin with one.
 fn behind_mark(bytes: &[u8]) -> &[u8]
     ensures { result.now ≡ behind_mark bytes.now }
 {
@@ -25,7 +25,7 @@ fn behind_mark(bytes: &[u8]) -> &[u8]
     }
 }
 
-/// The bytes behind blanks and tabs, if they begin with some.
+/// The bytes after blanks and tabs, if they begin with some.
 fn behind_blanks(bytes: &[u8]) -> &[u8]
     ensures { result.now ≡ behind_blanks bytes.now }
 {
@@ -56,7 +56,7 @@ fn is_trace(bytes: &[u8]) -> bool
     begins_trace(behind_blanks(behind_mark(bytes)))
 }
 
-/// What is told of the bytes: of a trace, where they begin with `trace `, in capitals too, and behind blanks or a byte
+/// What is told of the bytes: of a trace, where they begin with `trace `, in capitals too, and after blanks or a byte
 /// order mark; else of a script.
 pub fn explain<'a>(alloc: Global, bytes: &'a [u8]) -> Result<Explanation<'a>, AllocError>
     requires { length bytes.now < 2 ^ 32 }

@@ -40,25 +40,25 @@ pub enum Note {
     NoLineFeed,
     /// The line ends with CR LF.
     CarriageReturn,
-    /// A blank stands before the first word.
+    /// A blank comes before the first word.
     LeadingBlank,
-    /// Two blanks stand one behind the other.
+    /// Two blanks stand one after the other.
     TwoBlanks,
-    /// A blank stands behind the last word.
+    /// A blank comes after the last word.
     TrailingBlank,
-    /// A tab stands in a word.
+    /// A tab is in a word.
     Tab,
-    /// A byte order mark stands before the first word.
+    /// A byte order mark comes before the first word.
     ByteOrderMark,
     /// The first word has capitals.
     Capitals,
-    /// A remark stands behind words.
+    /// A remark comes after words.
     Remark,
     /// The line begins as a remark does elsewhere.
     Slashes,
     /// A line of a trace is empty.
     EmptyLine,
-    /// A remark stands in a trace.
+    /// A remark is in a trace.
     NoRemarks,
     /// The line is one of scripts of this mode alone.
     OtherMode(Mode),
@@ -70,13 +70,13 @@ pub enum Note {
     OfScript,
     /// A word is missing.
     Missing(Lack),
-    /// A declaration stands behind a command.
+    /// A declaration comes after a command.
     BehindCommand,
     /// The number isn't from the first to the last of these.
     Range { low: u32, high: u32 },
     /// There are more of them than there may be.
     TooMany(Things, u32),
-    /// There aren't so many mutexes from this one on.
+    /// There aren't that many mutexes from this one on.
     PastLast,
     /// The script declares none.
     NothingDeclared(Things),
@@ -106,7 +106,7 @@ pub enum Note {
     SpoilingWait,
     /// No `end` line ends the trace.
     NoEnd,
-    /// Something stands behind the `end` line.
+    /// Something comes after the `end` line.
     BehindEnd,
 }
 
@@ -162,7 +162,7 @@ pub enum Looks {
 /// A word of a line, and what is wrong with it.
 #[derive(Clone, Copy, Debug, PartialEq, Eq)]
 pub struct Mark<'a> {
-    /// The word, from 0; as many as the line has where one is missing behind the last.
+    /// The word, from 0; as many as the line has where one is missing after the last.
     pub word: usize,
     /// What it has to be, where it is of another kind.
     pub expected: Option<Next>,
@@ -175,7 +175,7 @@ pub struct Mark<'a> {
 pub struct Advice<'a> {
     pub mark: Option<Mark<'a>>,
     pub note: Option<Note>,
-    /// What is said besides.
+    /// What is said as well.
     pub also: Option<Note>,
     /// From 1.
     pub origin: Option<usize>,
@@ -222,7 +222,7 @@ impl Advice<'_> {
         }
     }
 
-    /// The same, and something said besides.
+    /// The same, and something said as well.
     pub fn besides(self, note: Note) -> Self
         ensures { result ≡ besides note self.entry }
     {

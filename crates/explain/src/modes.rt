@@ -10,7 +10,7 @@ ghost use Rattle.explain.specs.Stray.{word_of};
 use grammar::mode_of_word;
 use script::Mode;
 
-/// What stands before the first of these bytes, and what behind it; None where there is none.
+/// What comes before the first of these bytes, and what after it; None where there is none.
 fn cut(bytes: &[u8], at: u8) -> Option<(&[u8], &[u8])>
     ensures parts { MatchOption result
         (slice_split (λ b. b == at) bytes.now ≡ bytes.now ∷ [])
@@ -44,7 +44,7 @@ fn mode_of_line(line: &[u8]) -> Option<Mode>
 }
 
 /// The mode that the first line points to which only scripts of one mode have; the machine's, where none does. What
-/// stands behind the last line feed is a line too, and a line needn't be text behind its first word.
+/// comes after the last line feed is a line too, and a line needn't be text after its first word.
 pub fn mode_of(bytes: &[u8]) -> Mode
     ensures { result ≡ mode_in (lines_of bytes.now) }
 {

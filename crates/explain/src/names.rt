@@ -26,7 +26,7 @@ fn single_name(line: &str, things: Things) -> Option<&str>
     }
 }
 
-/// Keeps a name behind the others, if there is one.
+/// Keeps a name after the others, if there is one.
 fn keep<'a>(names: &mut Vec<&'a str>, name: Option<&'a str>) -> Result<(), AllocError>
     ensures { OnOk result
         (map (λ w. w.now) names.new.items

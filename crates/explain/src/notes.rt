@@ -125,7 +125,7 @@ fn said_of(note: &Note) -> &'static str
     }
 }
 
-/// What is said of a line, and a line feed behind it.
+/// What is said of a line, and a line feed after it.
 pub fn add_note(text: &mut Vec<u8>, note: Option<Note>) -> Result<(), AllocError>
     ensures { OnOk result (text.new.items ≡ text.old.items ++ note_text note) }
 {

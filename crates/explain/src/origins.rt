@@ -68,7 +68,7 @@ fn decides_on(line: &Line, mutex: u16) -> bool
     }
 }
 
-/// The newest of these entries, the first of which stands at line 2, that is one of which the reason speaks.
+/// The newest of these entries, the first of which is at line 2, that is one of which the reason speaks.
 fn newest(entries: &[Line], why: &Misfit, entry: &Line) -> Option<usize>
     ensures { result ≡ newest_line (λ e. is_origin why.now entry.now e) (reverse entries.now) }
 {

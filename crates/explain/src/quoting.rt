@@ -6,7 +6,7 @@ ghost use Rattle.explain.specs.Stray.{is_last, line_of, lines_in};
 
 use lines::{cut, text_of};
 
-/// The line at this index, from 0. Behind the last line feed stands a line too, which may be empty.
+/// The line at this index, from 0. After the last line feed stands a line too, which may be empty.
 fn nth_line(text: &str, index: usize) -> Option<&str>
     ensures { option_map (λ t. t.now) result ≡ slice_get (lines_of text.now) index }
 {
@@ -36,7 +36,7 @@ pub fn line_of(text: &str, number: usize) -> &str
     line_at(text, number).unwrap_or("")
 }
 
-/// Whether no line stands behind the one with this number.
+/// Whether no line comes after the one with this number.
 pub fn is_last(text: &str, number: usize) -> bool
     ensures { result ≡ is_last (lines_of text.now) number }
 {

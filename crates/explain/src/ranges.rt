@@ -34,7 +34,7 @@ pub fn ranged(
     }
 }
 
-/// Whether the digits write a number, and of so many things from `first` on the number of none.
+/// Whether the digits write a number, and of that many things from `first` on the number of none.
 fn is_uncounted(first: u32, count: u32, digits: &str) -> bool
     requires few { count ≤ 4096 }
     requires small { first ≤ 1 }
@@ -44,7 +44,7 @@ fn is_uncounted(first: u32, count: u32, digits: &str) -> bool
         && (count == 0 || number_in(digits, first, first + (count - 1)).is_none())
 }
 
-/// What stands behind the letter.
+/// What comes after the letter.
 fn behind(letter: char, word: &str) -> Option<&str>
     requires { letter < 128 }
     ensures { option_map (λ w. w.now) result ≡ behind letter word.now }
@@ -52,7 +52,7 @@ fn behind(letter: char, word: &str) -> Option<&str>
     word.strip_prefix(letter)
 }
 
-/// That so many things from `first` on don't have one with the number that the word writes behind the letter.
+/// That `count` things from `first` on don't have one with the number that the word writes after the letter.
 fn missing(things: Things, first: u32, count: u32, letter: char, word: &str) -> Option<Note>
     requires few { count ≤ 4096 }
     requires small { first ≤ 1 }

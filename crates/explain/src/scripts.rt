@@ -35,7 +35,7 @@ fn command_before(text: &str, number: usize) -> Option<usize>
     }
 }
 
-/// A declaration behind a command.
+/// A declaration after a command.
 fn behind_command(text: &str, number: usize) -> Advice<'static>
     ensures { result ≡ behind_command text.now number }
 {
@@ -173,7 +173,7 @@ fn run_fault(alloc: Global, bytes: &[u8]) -> Result<Option<ScriptFault>, AllocEr
     }
 }
 
-/// The fault, where it isn't want of memory.
+/// The fault, where it isn't lack of memory.
 fn known(fault: ScriptFault) -> Result<Option<ScriptFault>, AllocError>
     ensures { IfOk result (λ o. (o ≡ Some fault) × (fault.fault ≢ Fault.OutOfMemory)) }
 {

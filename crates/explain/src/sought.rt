@@ -21,7 +21,7 @@ pub enum Sought<'a> {
     Declaration(Things, &'a str),
     /// It declares this name, as whatever.
     Name(&'a str),
-    /// It declares a mutex whose name is this word with a number below this behind it, or begins so.
+    /// It declares a mutex whose name is this word with a number below this after it, or begins so.
     Numbered(&'a str, u32),
     /// It declares such a thing.
     Any(Things),
@@ -74,7 +74,7 @@ fn is_below(digits: &str, count: u32) -> bool
     }
 }
 
-/// Whether a name is the stem with a number below `count` behind it.
+/// Whether a name is the stem with a number below `count` after it.
 fn is_numbered(stem: &str, count: u32, name: &str) -> bool
     ensures { result ≡ is_numbered stem.now count name.now }
 {
@@ -109,7 +109,7 @@ fn declares_any(line: &str, name: &str) -> bool
     things_of(word_of(line, 0)).is_some() && gives(line, name)
 }
 
-/// Whether a name that the line declares is the stem with a number below `count` behind it, so far as that is seen at
+/// Whether a name that the line declares is the stem with a number below `count` after it, so far as that is seen at
 /// once: it is a single name, or has the same stem.
 fn is_clashing(line: &str, stem: &str, count: u32) -> bool
     ensures { result ≡ is_clashing (words_of line.now) stem.now count }

@@ -41,7 +41,7 @@ fn is_release(step: &Decision) -> bool
     step.operation == Operation::Unlock && step.reply == Reply::OK
 }
 
-/// Whether the fact's thread is in a wait behind it, where this tells whether it was.
+/// Whether the fact's thread is in a wait after it, where this tells whether it was.
 fn waits_behind(waits: bool, fact: &Fact) -> bool
     ensures { (told : List Fact) → waits ≡ is_waiting (call_in told) → result ≡ is_waiting (call_in (fact.now ∷ told)) }
 {
@@ -52,7 +52,7 @@ fn waits_behind(waits: bool, fact: &Fact) -> bool
     }
 }
 
-/// The line of the last owner's death where the step's mutex is inconsistent behind it, where this is that before it;
+/// The line of the last owner's death where the step's mutex is inconsistent after it, where this is that before it;
 /// `line` is the step's.
 fn death_behind(death: Option<usize>, line: usize, step: &Decision) -> Option<usize>
     ensures { (earlier : List Line) (e : Line) → decision_of e.fact ≡ Some step.now → line ≡ length earlier + 2
@@ -69,7 +69,7 @@ fn death_behind(death: Option<usize>, line: usize, step: &Decision) -> Option<us
 }
 
 impl Past {
-    /// Before the first line behind the head.
+    /// Before the first line after the head.
     fn new(alloc: Global, head: Head) -> Result<Past, AllocError>
         ensures recalls { IfOk result (λ p. Recalls p []) }
         ensures threads { IfOk result (λ p. length p.waits.items ≡ head.threads + 1) }

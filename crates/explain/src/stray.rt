@@ -59,7 +59,7 @@ fn has_capital(word: &str) -> bool
     word.as_bytes().iter().any(|b| b'A' <= *b && *b <= b'Z')
 }
 
-/// Whether a byte order mark stands before the word.
+/// Whether a byte order mark comes before the word.
 fn is_marked(word: &str) -> bool
     ensures { result ≡ starts_with nat_eq word.now byte_order_mark }
 {
@@ -147,7 +147,7 @@ fn first_note(kind: Kind, text: &str, word: &str) -> Option<Note>
     }
 }
 
-/// What is said of a wrong word behind the first: it may be a call that only scripts for the machine make.
+/// What is said of a wrong word after the first: it may be a call that only scripts for the machine make.
 fn later_note(kind: Kind, text: &str) -> Option<Note>
     ensures { result ≡ later_note kind (words_of text.now) }
 {

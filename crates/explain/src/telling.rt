@@ -79,7 +79,7 @@ fn add_trace(text: &mut Vec<u8>, file: &str, fault: TraceFault) -> Result<(), Al
     add(text, &[" (a trace)\n"])
 }
 
-/// What so many points are called.
+/// The word for this number of points.
 #[tactic(auto, unfolding(crate::specs::Texts::point_words))]
 fn point_words(points: usize) -> &'static str
     ensures { result.now ≡ point_words points }
@@ -182,7 +182,7 @@ fn add_line(text: &mut Vec<u8>, line: &str) -> Result<(), AllocError>
     add(text, &["\n"])
 }
 
-/// The line that marks a word of the line above it: one column at least, and none behind what is shown of that.
+/// The line that marks a word of the line above it: one column at least, and none after what is shown of that.
 fn add_carets(text: &mut Vec<u8>, line: &str, word: usize) -> Result<(), AllocError>
     ensures { OnOk result (text.new.items ≡ text.old.items ++ caret_text line.now word) }
 {

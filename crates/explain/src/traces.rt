@@ -86,7 +86,7 @@ fn out_of_range(text: &str, number: usize) -> Advice<'static>
     }
 }
 
-/// No `end` line, or something behind it.
+/// No `end` line, or something after it.
 fn cut_short(text: &str, number: usize) -> Advice<'static>
     ensures { result ≡ cut_short text.now number }
 {
@@ -243,7 +243,7 @@ fn legal<'a>(alloc: Global, bytes: &'a [u8], points: usize) -> Result<Explanatio
     }
 }
 
-/// The fault, where it isn't want of memory.
+/// The fault, where it isn't lack of memory.
 fn known(fault: TraceFault) -> Result<TraceFault, AllocError>
     ensures { IfOk result (λ f. (f ≡ fault) × (fault.fault ≢ Fault.OutOfMemory)) }
 {

@@ -28,7 +28,7 @@ pub fn things_words(things: Things) -> &'static str
     }
 }
 
-/// What so many of them are called, behind the number.
+/// The words for this number of them, after the number.
 pub fn many_words(count: u32, things: Things) -> &'static str
     ensures { result.now ≡ many_words count things }
 {

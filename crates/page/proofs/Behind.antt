@@ -1,4 +1,4 @@
--- What threads and mutexes are behind one line more.
+-- What threads and mutexes are after one line more.
 use Rattle.std.proofs.Common.{◌≡◌, ◌≢◌, ℕ, ◌+◌, ◌<◌, ◌⊎◌, inl, inr, Bool, true, false, Option, Some, None, List, [], ◌∷◌, length, get_or, refl, sym, ap, subst, ◌∙◌, arith}
 use Rattle.std.specs.Prelude.{◌==◌, option_map, replicate, slice_set, if◌then◌else◌}
 use Rattle.std.proofs.Math.ListN.{set}
@@ -34,7 +34,7 @@ told_more (Kill t) k fs b = refl
 told_more (Reap t) k fs b = refl
 told_more (Renew t) k fs b = refl
 
--- what thread t does behind a line, told by whether the line is its own
+-- what thread t does after a line, told by whether the line is its own
 abbrev pub told_by : Bool → ℕ → Line → List Line → Status
 told_by own t e es = told_so (if own then e.fact ∷ told_of t es else told_of t es) (if own then slept e.fact (length es + 2) (bed_of t es) else bed_of t es)
 
@@ -85,7 +85,7 @@ moved_other os d i ne = ap (λ (b : Bool). if b then stepped (os i) d.thread d.o
 pub moved_own : (os : ℕ → Object) (d : Decision) → moved os (Some d) d.mutex ≡ stepped (os d.mutex) d.thread d.operation d.reply
 moved_own os d = ap (λ (b : Bool). if b then stepped (os d.mutex) d.thread d.operation d.reply else os d.mutex) (same_thread d.mutex d.mutex refl)
 
--- a mutex as it is behind a step
+-- a mutex as it is after a step
 abbrev pub stepped_in : (ℕ → Object) → Decision → Mutex
 stepped_in os d = record { number = d.mutex; object = os d.mutex }
 
@@ -99,7 +99,7 @@ mutexes_behind n e es = mutexes_moved n (objects_after es) (decision_of e.fact)
 abbrev pub shown_so : List Status → List Object → Shown
 shown_so ts os = record { threads = ts; mutexes = os }
 
--- what a line changes makes of the state before it the state behind it
+-- what a line changes makes of the state before it the state after it
 pub change_leads : (threads mutexes : ℕ) (e : Line) (es : List Line) → changed (state_behind threads mutexes es) (change_of e es) ≡ state_behind threads mutexes (e ∷ es)
 change_leads threads mutexes e es =
     ap (λ (ts : List Status). shown_so ts (replaced (listed (objects_after es) mutexes) (option_map (mutex_behind (e ∷ es)) (decision_of e.fact)))) (threads_behind (threads + 1) e es)

@@ -47,7 +47,7 @@ shown_lines_fit t (Illegal why) (inr found) = fit_taken t.head.mutexes (shown_li
 
 -- ---- and none is left out
 
--- a line up to which all fit stands before the first that doesn't
+-- a line up to which all fit comes before the first that doesn't
 before_misfit : (n k line : ℕ) (ls : List Line) → IsFirstMisfit n (reverse ls) line → k < length ls → AllFit n (reverse (take (k + 1) ls)) → k < line - 2
 before_misfit n k line ls first inside fit =
     let same : first.newer ++ first.misfit ∷ first.earlier ≡ reverse (drop (k + 1) ls) ++ reverse (take (k + 1) ls) = sym first.all ∙ parted ls (k + 1) in

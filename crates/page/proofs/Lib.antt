@@ -7,3 +7,4 @@ mod Judged
 mod Fitting
 mod Flagging
 mod Quoting
+mod Decoding

@@ -22,7 +22,7 @@ items_joined xs ys = ap concat (map-append item_text xs ys) ∙ concat-append (m
 pub items_next : (threads mutexes : ℕ) (es ls : List Line) (i : ℕ) (l : Line) → i < length ls → l ≡ get_or ls i l → items_text (items_behind threads mutexes es (drop i ls)) ≡ items_text (turn threads mutexes es l) ++ items_text (items_behind threads mutexes (l ∷ es) (drop (i + 1) ls))
 items_next threads mutexes es ls i l lt is = subst (λ (xs : List Line). items_text (items_behind threads mutexes es xs) ≡ items_text (turn threads mutexes es l) ++ items_text (items_behind threads mutexes (l ∷ es) (drop (i + 1) ls))) (sym (from_next ls i l lt is)) (items_joined (turn threads mutexes es l) (items_behind threads mutexes (l ∷ es) (drop (i + 1) ls)))
 
--- a line more stands in front of those before it
+-- a line more is in front of those before it
 pub turned : (ls : List Line) (i : ℕ) (l : Line) → i < length ls → l ≡ get_or ls i l → l ∷ reverse (take i ls) ≡ reverse (take (i + 1) ls)
 turned ls i l lt is = sym (ap reverse (take_more ls i l lt) ∙ reverse-append (take i ls) (get_or ls i l ∷ []) ∙ ap (λ (x : Line). x ∷ reverse (take i ls)) (sym is))
 

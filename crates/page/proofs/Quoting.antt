@@ -1,4 +1,4 @@
--- Names in the data of a page stand in quotes, and no byte of the data is of markup.
+-- Names in the data of a page are in quotes, and no byte of the data is of markup.
 use Rattle.std.proofs.Common.{◌≡◌, ◌≢◌, inl, inr, ℕ, zero, suc, ◌+◌, ◌/◌, ◌%◌, ◌<◌, Bool, true, false, Option, Some, None, List, [], ◌∷◌, ◌++◌, All, map, refl, sym, ap, subst, ◌∙◌, add-one, append-nil, append_assoc, arith}
 use Rattle.std.specs.Prelude.{◌==◌, ◌&&◌, ◌||◌, not, codes, decimal, nat_lt, if◌then◌else◌}
 use Rattle.std.specs.Fmt.{digit_glyph, digits, digits_onto}

@@ -6,7 +6,7 @@ use Rattle.page.specs.Shows.{Item, Whole, Turn, PageShows, items_behind, lines_i
 use Rattle.page.specs.States.{Shown, change_of, changed, state_behind}
 use Rattle.page.proofs.Behind.{change_leads}
 
--- whether the whole state stands before the other items or not
+-- whether the whole state comes before the other items or not
 abbrev pub perhaps : Bool → Shown → List Item
 perhaps whole s = if whole then Whole s ∷ [] else []
 

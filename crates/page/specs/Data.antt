@@ -1,6 +1,6 @@
 -- The data of a page.
 --
--- *Which lines a page shows.* Those behind the head that fit, up to the first that doesn't; of these the first 100,000.
+-- *Which lines a page shows.* Those after the head that fit, up to the first that doesn't; of these the first 100,000.
 use Rattle.std.specs.Prelude.{ℕ, ◌-◌, min, Option, Some, None, List, [], ◌∷◌, ◌++◌, length, take, codes, decimal}
 use Rattle.std.specs.Prelude.{slice_get, slice_index_or}
 use Rattle.std.specs.List.{concat}
@@ -28,7 +28,7 @@ mutex_in os d = record { number = d.mutex; object = slice_index_or os d.mutex fr
 abbrev pub most_lines : ℕ
 most_lines = 100000
 
--- how many of so many lines fit, as the judge of traces finds; the first line behind the head is line 2
+-- how many of that many lines fit, as the judge of traces finds; the first line after the head is line 2
 abbrev pub fitting_lines : Finding → ℕ → ℕ
 fitting_lines (Legal points) count = count
 fitting_lines (Illegal found) count = min count (found.line - 2)

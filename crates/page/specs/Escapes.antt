@@ -1,4 +1,4 @@
--- How names and words that a trace or a script may choose stand in a page: percent-encoded, all but letters and digits
+-- How names and words that a trace or a script may choose are in a page: percent-encoded, all but letters and digits
 -- (the URL Standard, section 1.3).
 use Rattle.std.specs.Prelude.{ℕ, ◌≡◌, ◌≢◌, ◌<◌, List, All}
 use Rattle.percent_encoding.specs.declared.ascii_set.TheConstants.{NON_ALPHANUMERIC}

@@ -1,7 +1,7 @@
 -- What a page says is so or isn't.
 --
 -- *True and false.* The page's script takes the number 0 for false, and any other for true (ECMAScript, ToBoolean).
-use Rattle.std.specs.Prelude.{ℕ, ◌≡◌, ◌==◌, ◌&&◌, Bool, true, false, not, List, length, slice_index_or}
+use Rattle.std.specs.Prelude.{ℕ, ◌≡◌, ◌==◌, ◌&&◌, Bool, not, List, length, slice_index_or}
 use Rattle.page.specs.Texts.{flag}
 
 abbrev pub is_zero : List ℕ → Bool

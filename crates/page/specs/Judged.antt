@@ -1,9 +1,9 @@
--- What the judge of traces has of threads and mutexes behind some lines, and that a page has just that.
+-- What the judge of traces has of threads and mutexes after some lines, and that a page has just that.
 --
 -- *What the judge has.* The stage that it has come to for a thread, by the thread's facts one after the other (`next`);
 -- and what a judge keeps that has taken the lines one by one (`HasTaken`).
 --
--- *The states are the judge's.* Behind lines of which each fits those before it, a thread's status agrees with its
+-- *The states are the judge's.* After lines of which each fits those before it, a thread's status agrees with its
 -- stage: its call, how far the call's points have come, whether it sleeps, and that it was killed and reaped. Where it
 -- sleeps, and since which line, is what its newest sleep or move tells; its newest point is the newest one that is told
 -- of it; it has lived once, and once more for each renewal. And each mutex is what the judge has of it.
@@ -51,7 +51,7 @@ abbrev pub stage_in : List Fact → Stage
 stage_in [] = Resting
 stage_in (f ∷ fs) = next (stage_in fs) f
 
--- that of thread t behind these lines, the newest first
+-- that of thread t after these lines, the newest first
 abbrev pub stage_of : ℕ → List Line → Stage
 stage_of t es = stage_in (told_of t es)
 
@@ -99,7 +99,7 @@ act_told (Point d) = Some (d.operation, d.reply)
 act_told f = None
 
 -- of these lines, which stand newest first, the newest of thread t that tells one of a kind tells x; it is line k, the
--- first line behind the head being line 2
+-- first line after the head being line 2
 pub record IsNewest {A : Type 0} (kind : Fact → Option A) (t : ℕ) (es : List Line) (x : A) (k : ℕ) : Type 0 where
   pub newer : List Line
   pub line : Line
@@ -112,7 +112,7 @@ pub record IsNewest {A : Type 0} (kind : Fact → Option A) (t : ℕ) (es : List
 
 -- ---- the states
 
--- the status of thread t behind these lines
+-- the status of thread t after these lines
 pub record IsAsJudged (h : Head) (t : ℕ) (es : List Line) (s : Status) : Type 0 where
   pub stage : Agrees (stage_of t es) s
   -- which is the one that a judge has that has taken them

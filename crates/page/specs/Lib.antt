@@ -1,4 +1,5 @@
 pub mod Data
+pub mod Decoding
 pub mod Escapes
 pub mod Flags
 pub mod Judged

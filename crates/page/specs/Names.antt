@@ -5,11 +5,11 @@ use Rattle.picture.specs.Names.{thread_head, thread_tail}
 use Rattle.picture.specs.Pieces.{each}
 use Rattle.page.specs.Escapes.{escaped}
 
--- a name in two pieces, behind others
+-- a name in two pieces, after others
 abbrev pub label_text : List ℕ → List ℕ → List ℕ
 label_text head tail = codes ",\"" ++ (escaped head ++ (escaped tail ++ codes "\""))
 
--- the thread behind i others
+-- the thread after i others
 abbrev pub thread_called : Called → ℕ → List ℕ
 thread_called n i = label_text (thread_head n (i + 1)) (thread_tail n (i + 1))
 

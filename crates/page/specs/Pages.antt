@@ -1,6 +1,6 @@
 -- A page of HTML to step through a trace (the HTML Standard).
 --
--- *The page.* Its data, which a script shows, and its picture, each once; what stands before, between and behind them
+-- *The page.* Its data, which a script shows, and its picture, each once; what comes before, between and after them
 -- is the same in every page.
 use Rattle.std.specs.Prelude.{ℕ, ◌≡◌, List, [], ◌∷◌, ◌++◌, Option, Result, Ok, Err}
 use Rattle.std.specs.List.{concat}
@@ -30,7 +30,7 @@ abbrev pub page_text : Called → Told → Finding → List ℕ
 page_text n t f =
     page_of (data_text n t f) (svg_drawn n t.head.threads t.head.mutexes t.lines.items t.last)
 
--- the page was written; or memory was refused for it, before its first byte; or a write failed behind a beginning of it
+-- the page was written; or memory was refused for it, before its first byte; or a write failed after a beginning of it
 abbrev pub LeavesPage : {X : Type 0} → Option (List ℕ) → Option (List ℕ) → Result X Unwritten → List ℕ → Type 0
 LeavesPage old new (Ok x) text = Appends old new text
 LeavesPage old new (Err OutOfMemory) text = new ≡ old

@@ -1,7 +1,7 @@
 -- Names in the data of a page, whatever they are.
 --
--- *Names stand in quotes.* Who reads the texts in quotes from the data, byte by byte, finds first three words, and
--- behind each what its things are called, escaped, in their order; then he stands outside of quotes, and what follows
+-- *Names are in quotes.* Who reads the texts in quotes from the data, byte by byte, finds first three words, and
+-- after each what its things are called, escaped, in their order; then he stands outside of quotes, and what follows
 -- is the same whatever the names are. No byte of the data begins or ends markup, or escapes another.
 use Rattle.std.specs.Prelude.{ℕ, ◌≡◌, ◌+◌, ◌==◌, ◌⊎◌, Option, Some, None, List, [], ◌∷◌, ◌++◌, All, codes}
 use Rattle.std.specs.Prelude.{if◌then◌else◌}
@@ -46,7 +46,7 @@ read bs = fold read_byte (outside []) bs
 
 -- ---- the names
 
--- the thread behind i others, and the others
+-- the thread after i others, and the others
 abbrev pub thread_name : Called → ℕ → List ℕ
 thread_name n i = escaped (thread_head n (i + 1) ++ thread_tail n (i + 1))
 

@@ -1,8 +1,8 @@
 -- What the page says of a trace, line by line.
 --
--- *What the page shows.* The state behind each line, in the order of the lines: before every thousandth line, the first
--- among them, the whole state; of each line what it changes. Who reads this from any of the whole ones on comes to just
--- the states behind the lines (the law `page_shows`).
+-- *What the page shows.* The state after each line, in the order of the lines: before every thousandth line, the first
+-- among them, the whole state; of each line what it changes. A reader who starts at any of the whole ones gets just
+-- the states after the lines (the law `page_shows`).
 use Rattle.std.specs.Prelude.{ℕ, ◌≡◌, ◌==◌, ◌%◌, List, [], ◌∷◌, ◌++◌, length, if◌then◌else◌}
 use Rattle.facts.specs.declared.fact.Line.{Line}
 use Rattle.page.specs.States.{Change, Shown, change_of, changed, state_behind}
@@ -24,7 +24,7 @@ lines_in [] = []
 lines_in (Whole w ∷ is) = lines_in is
 lines_in (Turn e c ∷ is) = e ∷ lines_in is
 
--- ---- of a trace with so many threads and mutexes, the items of lines behind earlier ones
+-- ---- of a trace with that many threads and mutexes, the items of lines after earlier ones
 
 abbrev pub whole_every : ℕ
 whole_every = 1000
@@ -42,7 +42,7 @@ items_behind threads mutexes es [] = []
 items_behind threads mutexes es (e ∷ more) =
     turn threads mutexes es e ++ items_behind threads mutexes (e ∷ es) more
 
--- the states behind each of these lines
+-- the states after each of these lines
 abbrev pub states_behind : ℕ → ℕ → List Line → List Line → List Shown
 states_behind threads mutexes es [] = []
 states_behind threads mutexes es (e ∷ more) =
@@ -50,7 +50,7 @@ states_behind threads mutexes es (e ∷ more) =
 
 -- ---- what holds of every page
 
--- who reads the items of a trace's lines, whatever he takes for the state before them, comes to the states behind these
+-- who reads the items of a trace's lines, whatever he takes for the state before them, comes to the states after these
 -- lines; and they are of all of these lines, in their order
 pub record IsShown (threads mutexes : ℕ) (ls : List Line) : Type 0 where
   pub states : (s : Shown) → read_from s (items_behind threads mutexes [] ls) ≡ states_behind threads mutexes [] ls

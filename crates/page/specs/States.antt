@@ -1,6 +1,6 @@
--- What all threads and mutexes are behind some lines, which stand newest first, and what one line changes.
+-- What all threads and mutexes are after some lines, which stand newest first, and what one line changes.
 --
--- *The state behind some lines.* What each thread does, and what each mutex is as points and deaths left it
+-- *The state after some lines.* What each thread does, and what each mutex is as points and deaths left it
 -- (`objects_after`): where each line fits those before it, the state that the judge of traces has come to.
 --
 -- *What a line changes.* What its own thread does, and the mutex of its point or its death; nothing else (the law
@@ -52,7 +52,7 @@ pub record Change : Type 0 where
 abbrev pub mutex_behind : List Line → Decision → Mutex
 mutex_behind es d = record { number = d.mutex; object = objects_after es d.mutex }
 
--- what a line changes, behind earlier ones
+-- what a line changes, after earlier ones
 abbrev pub change_of : Line → List Line → Change
 change_of e es = record {
   thread = thread_of e.fact;
@@ -68,7 +68,7 @@ abbrev pub changed : Shown → Change → Shown
 changed s c =
     record { threads = slice_set s.threads c.thread c.status; mutexes = replaced s.mutexes c.mutex }
 
--- the mutexes behind a step of one of them
+-- the mutexes after a step of one of them
 abbrev pub remade : List Object → Option Decision → List Object
 remade os None = os
 remade os (Some d) =

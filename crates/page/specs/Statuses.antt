@@ -1,4 +1,4 @@
--- What a thread does behind some lines, which stand newest first.
+-- What a thread does after some lines, which stand newest first.
 --
 -- *What a thread does.* Which life it is in, counted by its renewals; its call, that call's newest point, and that it
 -- was killed and reaped, as the judge of traces has them; where it sleeps, and since which line.
@@ -14,7 +14,7 @@ use Rattle.verdict.specs.Earlier.{call_in, is_killed, is_reaped, told_of}
 use Rattle.page.specs.declared.status.Bed.{Bed}
 use Rattle.page.specs.declared.status.Status.{Status}
 
--- ---- behind lines
+-- ---- after lines
 
 -- which life a thread is in, of which these facts are told
 abbrev pub life_in : List Fact → ℕ
@@ -31,7 +31,7 @@ point_in (Kill t ∷ fs) = None
 point_in (Point d ∷ fs) = Some (d.operation, d.reply)
 point_in (f ∷ fs) = point_in fs
 
--- where a thread sleeps behind its fact at line k, if it slept there before it
+-- where a thread sleeps after its fact at line k, if it slept there before it
 abbrev pub slept : Fact → ℕ → Option Bed → Option Bed
 slept (Sleep t q) k b = Some (record { queue = q; line = k })
 slept (Move t m) k b = Some (record { queue = Mutex m; line = k })
@@ -39,7 +39,7 @@ slept (Wake t) k b = None
 slept (Kill t) k b = None
 slept f k b = b
 
--- where thread t sleeps; the first line behind the head is line 2
+-- where thread t sleeps; the first line after the head is line 2
 abbrev pub bed_of : ℕ → List Line → Option Bed
 bed_of t [] = None
 bed_of t (e ∷ es) = if thread_of e.fact == t then slept e.fact (length es + 2) (bed_of t es) else bed_of t es

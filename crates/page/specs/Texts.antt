@@ -116,7 +116,7 @@ rest_of (Renew t) = []
 
 -- ---- items, each on a line of its own
 
--- a thing behind others
+-- a thing after others
 abbrev pub status_behind : Status → List ℕ
 status_behind s = codes "," ++ status_text s
 

@@ -25,13 +25,13 @@ use reasons::add_reason;
 use std::alloc::{AllocError, Global};
 use verdict::{Finding, Head, Misfit, Told, TraceMisfit};
 
-/// Before every so many lines the whole state stands, the first line among these.
+/// Before every that many lines the whole state stands, the first line among these.
 const WHOLE: usize = 1_000;
 
 /// How many lines are shown at most.
 const MOST: usize = 100_000;
 
-/// How many lines behind the head are shown, of so many: those that fit, as far as there is room.
+/// How many lines after the head are shown, of that many: those that fit, as far as there is room.
 fn shown_lines(finding: &Finding, count: usize) -> usize
     ensures value { result ≡ shown_lines finding.now count }
     ensures few { result ≤ count }
@@ -72,7 +72,7 @@ fn add_mutex(text: &mut String, state: &State, fact: &Fact) -> Result<(), AllocE
     }
 }
 
-/// A line, and what its thread does and its mutex is behind it.
+/// A line, and what its thread does and its mutex is after it.
 fn add_change(text: &mut String, state: &State, line: &Line) -> Result<(), AllocError>
     requires { IsInside (length state.now.threads.items) (length state.now.mutexes.items) line.now.fact }
     ensures { IfOk result
@@ -87,7 +87,7 @@ fn add_change(text: &mut String, state: &State, line: &Line) -> Result<(), Alloc
     add_mutex(text, state, &line.fact)
 }
 
-/// The items of a line behind these.
+/// The items of a line after these.
 fn add_turn(
     text: &mut String,
     state: &mut State,
@@ -214,7 +214,7 @@ fn add_illegal(
     add_illegal_end(text, line)
 }
 
-/// How a trace was judged, which has so many events and these lines.
+/// How a trace was judged, which has that many events and these lines.
 fn add_end(
     alloc: Global,
     text: &mut String,
@@ -237,7 +237,7 @@ fn add_start(text: &mut String, names: &Names, head: &Head) -> Result<(), AllocE
     add_names(text, names, head.threads, head.mutexes, head.conditions)
 }
 
-/// The data of a trace, `state` being that before its first line: what things are called, the states behind its lines,
+/// The data of a trace, `state` being that before its first line: what things are called, the states after its lines,
 /// and how it was judged.
 pub fn add_data(
     alloc: Global,

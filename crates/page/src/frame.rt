@@ -1,4 +1,4 @@
-//! What stands before and behind the data and the picture of a page.
+//! What comes before and after the data and the picture of a page.
 
 /// Up to the data.
 pub const TOP: &str = r##"<!DOCTYPE html>
@@ -116,11 +116,11 @@ th, td { text-align: left; vertical-align: top; padding: .1rem .4rem .1rem 0; bo
 <script type="application/json" id="data">
 "##;
 
-/// Behind the data, before the script.
+/// After the data, before the script.
 pub const BETWEEN: &str = "</script>\n<script>\n";
 
-/// Behind the script, before the picture.
+/// After the script, before the picture.
 pub const BEHIND: &str = "</script>\n";
 
-/// Behind the picture.
+/// After the picture.
 pub const BOTTOM: &str = "</div>\n</div>\n</main>\n</body>\n</html>\n";

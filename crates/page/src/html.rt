@@ -56,9 +56,9 @@ fn write_parts<W: Write>(states: &str, picture: &[u8], out: &mut W) -> io::Resul
 }
 
 /// Writes a page of HTML to step through a trace, line by line: its picture as [`draw_svg`] draws it, with these names,
-/// and the state behind each line as data, up to the first line that doesn't fit, and at most of 100,000 lines.
+/// and the state after each line as data, up to the first line that doesn't fit, and at most of 100,000 lines.
 /// `finding` is how all of the trace was judged: a line that doesn't fit is named, with the reason, whether it is among
-/// those that are shown or not. Names stand in the picture as they are. All of the page is put together first: where
+/// those that are shown or not. Names are in the picture as they are. All of the page is put together first: where
 /// memory is refused nothing is written. Where a write fails a beginning of the page is written.
 pub fn write_page<W: Write>(
     alloc: Global,

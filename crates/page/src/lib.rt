@@ -1,14 +1,14 @@
 //! Pages of HTML to step through a trace.
 //!
 //! [`write_page`] writes one file: a frame, the trace's picture as `picture` draws it as SVG, and as data the state
-//! behind each line that fits those before it, of the first 100,000: what each thread does, what each mutex is
+//! after each line that fits those before it, of the first 100,000: what each thread does, what each mutex is
 //! (`state_behind`), as the judge of traces has them ([`states_are_the_judges`], [`shown_lines_fit`],
-//! [`fitting_lines_are_shown`], [`flags_are_read`]). The data are whole states, and between them what
-//! each line changes; who reads them comes to just the states behind the lines, in their order ([`page_shows`]). The
-//! page's script shows them. Names in the data are escaped ([`names_are_escaped`]), in quotes that they don't end
-//! ([`names_stand_in_quotes`]). How the judge of traces found all of the trace stands behind the data, with the line
-//! that doesn't fit, where there is one ([`misfits_are_told`]), and why (`reason_text`). Where memory is refused nothing
-//! is written, where a write fails a beginning of the page is (`LeavesPage`).
+//! [`fitting_lines_are_shown`], [`flags_are_read`]). The data are whole states, and between them what each line
+//! changes; a reader gets just the states after the lines, in their order ([`page_shows`]). What is written of a state
+//! is what the page's script reads ([`script_reads_states`]). Names in the data are escaped ([`names_are_escaped`]), in
+//! quotes that they don't end ([`names_stand_in_quotes`]). How the judge of traces found all of the trace comes after the
+//! data, with the line that doesn't fit, if there is one ([`misfits_are_told`]), and why (`reason_text`). If memory is
+//! refused, nothing is written; if a write fails, a beginning of the page is (`LeavesPage`).
 //!
 //! Stands on `verdict`, for what is read of a trace and how it is judged, on `reasons`, for the words of that, on
 //! `picture`, for the picture and names, on `facts`, `posixmutex` and `lockword`, for lines, mutexes as objects, thread
@@ -37,5 +37,5 @@ mod texts;
 pub use html::write_page;
 pub use laws::{
     fitting_lines_are_shown, flags_are_read, misfits_are_told, names_are_escaped,
-    names_stand_in_quotes, page_shows, shown_lines_fit, states_are_the_judges,
+    names_stand_in_quotes, page_shows, script_reads_states, shown_lines_fit, states_are_the_judges,
 };

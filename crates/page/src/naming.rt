@@ -19,7 +19,7 @@ pub fn add_escaped(text: &mut String, word: &[u8]) -> Result<(), AllocError>
     percent_encode(word, NON_ALPHANUMERIC).append_to(text)
 }
 
-/// A name in two pieces, behind what stands before it.
+/// A name in two pieces, after what comes before it.
 fn add_label(text: &mut String, head: &str, tail: &str) -> Result<(), AllocError>
     ensures { IfOk result (λ _. string_bytes text.new ≡ string_bytes text.old ++ label_text head.now tail.now) }
 {
@@ -105,7 +105,7 @@ fn name_conditions(text: &mut String, names: &Names, count: u16) -> Result<(), A
     add_word(text, "]],\n")
 }
 
-/// What so many threads, mutexes and condition variables are called.
+/// What that many threads, mutexes and condition variables are called.
 pub fn add_names(
     text: &mut String,
     names: &Names,

@@ -1,7 +1,7 @@
 //! The script of a page.
 
 /// It shows the data of the page, line by line; it works nothing out but who owns and who sleeps where, from the states
-/// that stand there.
+/// that are there.
 pub const SCRIPT: &str = r##""use strict";
 // Shows the data of the page, which FORMATS describes; all states stand in it.
 const data = JSON.parse(document.getElementById("data").textContent);

@@ -21,7 +21,7 @@ pub struct State {
     pub mutexes: Vec<Object>,
 }
 
-/// What a mutex is behind a point or a death.
+/// What a mutex is after a point or a death.
 fn stepped(object: Object, decision: &Decision) -> Object
     ensures { result ≡ stepped object decision.now.thread decision.now.operation decision.now.reply }
 {
@@ -100,7 +100,7 @@ fn objects(alloc: Global, count: usize) -> Result<Vec<Object>, AllocError>
 }
 
 impl State {
-    /// Before the first line of a trace of so many threads and mutexes.
+    /// Before the first line of a trace of that many threads and mutexes.
     pub fn new(alloc: Global, threads: u8, mutexes: u16) -> Result<State, AllocError>
         ensures { IfOk result (λ s. seen s ≡ state_behind threads mutexes []) }
     {
@@ -109,7 +109,7 @@ impl State {
         Ok(State { threads, mutexes })
     }
 
-    /// Goes on behind a line of one of these threads.
+    /// Goes on after a line of one of these threads.
     pub fn take(&mut self, fact: &Fact, line: usize)
         requires thread { thread_of fact.now < length self.old.threads.items }
         requires young { (slice_index_or self.old.threads.items (thread_of fact.now) first_status).life < 2 ^ 60 }

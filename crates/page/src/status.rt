@@ -12,7 +12,7 @@ use posixmutex::Operation;
 pub struct Bed {
     /// Where the thread sleeps.
     pub queue: Queue,
-    /// The line of the trace since which it stands there, the head being line 1: who sleeps in a queue stands in the
+    /// The line of the trace since which it is there, the head being line 1: who sleeps in a queue is in the
     /// order of these.
     pub line: usize,
 }
@@ -49,7 +49,7 @@ impl Status {
         }
     }
 
-    /// Behind a line of the thread, which tells this.
+    /// After a line of the thread, which tells this.
     pub fn after(self, fact: &Fact, line: usize) -> Status
         requires { self.life < 2 ^ 60 }
         ensures { result ≡ after self fact.now line }

@@ -163,7 +163,7 @@ fn add_object(text: &mut String, object: Object) -> Result<(), AllocError>
     add(text, &[inconsistent, ",", unusable, "]"])
 }
 
-/// What a mutex is, behind what stands before it.
+/// What a mutex is, after what comes before it.
 pub fn add_object_behind(text: &mut String, object: Object) -> Result<(), AllocError>
     ensures { IfOk result (λ _. string_bytes text.new ≡ string_bytes text.old ++ object_behind object) }
 {

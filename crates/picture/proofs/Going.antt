@@ -15,7 +15,7 @@ use Rattle.picture.specs.Rows.{row_text}
 use Rattle.picture.specs.Scenes.{behind}
 use Rattle.picture.specs.Svg.{begins_at, line_marks, line_parts, marks, parts, rests}
 
--- a writer holds a beginning of a text, behind which this is to come
+-- a writer holds a beginning of a text, after which this is to come
 pub record Sofar (a b : Option (List ℕ)) (text rest : List ℕ) : Type 0 where
   pub done : List ℕ
   pub holds : Appends a b done

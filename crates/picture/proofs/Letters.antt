@@ -29,7 +29,7 @@ use Rattle.picture.specs.Pieces.{less}
 use Rattle.picture.specs.Words.{begin_words, call_first, call_second, differs, first_number, point_words, queue_number, second_number, sleep_words, words}
 use Rattle.picture.proofs.Own.{columns-append}
 
--- a text of at most so many letters
+-- a text of at most that many letters
 pub record Letters (text : List ℕ) (most : ℕ) : Type 0 where
   pub single : columns text ≡ length text
   pub few : length text ≤ most
@@ -119,7 +119,7 @@ seven a b c d e f g j k l m n o p q r s t u v w =
 
 -- ---- names
 
--- a name in two pieces, which have so many letters together at most
+-- a name in two pieces, which have that many letters together at most
 pub record TwoPieces (head tail : List ℕ) (most : ℕ) : Type 0 where
   pub one : ℕ
   pub two : ℕ

@@ -5,4 +5,6 @@ pub mod Letters
 pub mod Shown
 pub mod Room
 pub mod Roomy
-mod Used
+pub mod Used
+mod States
+mod Positions

@@ -1,4 +1,4 @@
--- A line's mark stands in its own thread's lane.
+-- A line's mark is in its own thread's lane.
 use Rattle.std.proofs.Common.{◌≡◌, ℕ, zero, suc, ◌+◌, ◌-◌, ◌*◌, ◌<◌, ◌≤◌, ◌==◌, Bool, true, false, Option, Some, None, List, [], ◌∷◌, ◌++◌, refl, sym, ap, ◌∙◌, append_assoc, append-nil, arith, cond, inl, inr, min, max, not}
 use Rattle.std.specs.Prelude.{if◌then◌else◌, nat_lt, nat_le, codes, ◌≢◌, ◌&&◌}
 use Rattle.std.specs.List.{repeat}
@@ -48,7 +48,7 @@ width_some x =
     let plain : 1 ≤ plain_width x.threads = grind (arith, nat_tests) in
     some_either (is_wide x) (plain_width x.threads) _ plain
 
--- ---- what stands in the lanes before the line's own
+-- ---- what is in the lanes before the line's own
 
 -- a sign, and blanks or dashes up to the next lane
 pub sign_wide : (x : Extent) (n : ℕ) (s a : List ℕ) → columns s ≡ 1 → columns a ≡ 1 → n ≡ width x - 1 → columns (s ++ repeat n a) ≡ width x

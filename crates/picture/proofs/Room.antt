@@ -21,14 +21,14 @@ use Rattle.picture.proofs.Shown.{mutex_letters}
 pixels_of : (n k : ℕ) → n ≤ k → pixels n ≤ 15 * k / 2
 pixels_of n k le = omega (arith, le)
 
--- no lane is behind the last one
+-- no lane is after the last one
 up_to : (k a b : ℕ) → a ≤ b → k * a ≤ k * b
 up_to zero a b le = omega arith
 up_to (suc k) a b le =
     let rest = up_to k a b le in
     omega (arith, rest, le, suc-mul k a, suc-mul k b)
 
-along_last : (x : Extent) (u : ℕ) → u ≤ x.threads → along x u ≤ along x x.threads
+pub along_last : (x : Extent) (u : ℕ) → u ≤ x.threads → along x u ≤ along x x.threads
 along_last x u le = up_to (apart x) (u - 1) (x.threads - 1) (omega (arith, le))
 
 -- the next lane is so far from this one
@@ -41,7 +41,7 @@ one_further (suc k) a =
 along_next : (x : Extent) (u : ℕ) → 1 ≤ u → along x (u + 1) ≡ along x u + apart x
 along_next x u some = ap (λ k. apart x * k) (let e : u + 1 - 1 ≡ u - 1 + 1 = omega (arith, some) in e) ∙ one_further (apart x) (u - 1)
 
--- the words of a line, of which names have so many letters at most
+-- the words of a line, of which names have that many letters at most
 words_fit : (m n : ℕ) → 5 ≤ m → m ≤ 16 → n ≤ max (12 + 2 * m) (27 + m) → 17 + pixels n ≤ 220 + 8 * m
 words_fit m n low high le = omega (arith, le, low, high)
 

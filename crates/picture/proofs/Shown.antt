@@ -1,4 +1,4 @@
--- Each lane that shows something stands in its own columns.
+-- Each lane that shows something is in its own columns.
 use Rattle.std.proofs.Common.{◌≡◌, ℕ, zero, suc, ◌+◌, ◌-◌, ◌*◌, ◌/◌, ◌%◌, ◌<◌, ◌≤◌, ◌^◌, ◌==◌, Bool, true, false, Option, Some, None, List, [], ◌∷◌, ◌++◌, length, refl, sym, ap, ◌∙◌, append-nil, subst, append_assoc, arith, cond, inl, inr, min, max, IfSome}
 use Rattle.std.specs.Prelude.{nat_lt, nat_le, codes, decimal, ◌&&◌, slice_index_or, if◌then◌else◌}
 use Rattle.std.specs.List.{concat, repeat}
@@ -30,7 +30,7 @@ use Rattle.picture.proofs.Own.{cell_wide, columns-append, columns-repeat, each_a
 
 -- ---- a line's mark
 
--- how many lanes behind its own the words of a line cover: none where lanes have no room for words, nor beside an arrow from the right
+-- how many lanes after its own the words of a line cover: none where lanes have no room for words, nor beside an arrow from the right
 abbrev over_if : Bool → Bool → ℕ → ℕ
 over_if true false n = n
 over_if w r n = 0
@@ -97,9 +97,9 @@ module _ (x : Extent) (t : ℕ) (from : Option ℕ) (s : List ℕ) (ws : List (L
       let all = sign_wide x (gap x t) s (codes " ") one refl same in
       narrow ∙ blank ∙ all ∙ omega arith
 
--- ---- the lanes behind it
+-- ---- the lanes after it
 
--- what stands in a lane behind the line's own, beside no arrow
+-- what is in a lane after the line's own, beside no arrow
 between_false : (a t u : ℕ) → a ≤ t → t < u → (nat_lt (min t a) u && nat_lt u (max t a)) ≡ false
 between_false a t u le lt = grind (arith, nat_tests)
 
@@ -159,9 +159,9 @@ module _ (x : Extent) (t : ℕ) (s : List ℕ) (ws : List (List ℕ)) (shown : L
       go true = grind (arith, nat_tests, lt)
       go false = grind (arith, nat_tests, lt)
 
--- ---- all lanes, the line's own being behind i others
+-- ---- all lanes, the line's own being after i others
 module _ (f : ℕ → List ℕ) (w i n k : ℕ) (before : (j : ℕ) → j < i → columns (f j) ≡ w) (own : columns (f i) ≡ (1 + n) * w) (behind : (j : ℕ) → i < j → j < k → columns (f j) ≡ cond (nat_lt 0 (1 + n - (j - i))) 0 w) where
-  -- one lane more, behind the line's own
+  -- one lane more, after the line's own
   further : (m : ℕ) → i < m → m < k → columns (each f m) ≡ max m (i + 1 + n) * w → (b : Bool) → nat_lt 0 (1 + n - (m - i)) ≡ b → columns (each f (suc m)) ≡ max (suc m) (i + 1 + n) * w
   further m less le b true is =
       let a = columns-append (each f m) (f m) in
@@ -254,7 +254,7 @@ mark_letters false = record { single = refl; few = omega arith }
 three : (a b c : List ℕ) (j k l : ℕ) → Letters a j → Letters b k → Letters c l → Letters (concat (a ∷ b ∷ c ∷ [])) (j + (k + (l + 0)))
 three a b c j k l p q r = then_letters a (concat (b ∷ c ∷ [])) j (k + (l + 0)) p (then_letters b (concat (c ∷ [])) k (l + 0) q (then_letters c [] l 0 r (record { single = refl; few = omega arith })))
 
--- the owner that a band shows, whose name has so many letters at most
+-- the owner that a band shows, whose name has that many letters at most
 owner_letters : (n : Called) (x : Extent) → AreNames n → HasRoomForNames n x → (o : Object) → IfSome o.owner (λ t. t < 10 ^ 2) → Letters (concat (owner_pieces n o)) (max x.letters 3 + 1)
 owner_letters n x names room o small = go o.owner o.unusable small
   where
@@ -324,7 +324,7 @@ module _ (n : Called) (x : Extent) (names : AreNames n) (room : HasRoomForNames 
       let it = behind_columns x t sg ws (lane_at s.lanes (j + 1)) (j + 1) (omega (arith, some, lt)) (omega (arith, last)) from (is_wide x) (is_from_right t from) refl refl in
       it ∙ ap (λ n. cond (nat_lt 0 (1 + far - n)) 0 (width x)) same
 
-  -- a lane behind the line's own that shows something isn't covered
+  -- a lane after the line's own that shows something isn't covered
   past_words : (u : ℕ) → t < u → Shows n x s l u → t + far < u
   past_words u lt shows = go (is_wide x) (is_from_right t from) refl refl
     where

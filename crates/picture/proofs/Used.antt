@@ -13,11 +13,11 @@ use Rattle.picture.specs.Laws.{AreShown, UsedMutexesHaveBands, Uses}
 
 -- ---- which band a mutex has
 
-record IsBand (ms : List ℕ) (m n i : ℕ) : Type 0 where
+pub record IsBand (ms : List ℕ) (m n i : ℕ) : Type 0 where
   pub inside : i < n
   pub its : slice_index_or ms i 0 ≡ m
 
-band_is : (ms : List ℕ) (m n i : ℕ) → band_in ms m n ≡ Some i → IsBand ms m n i
+pub band_is : (ms : List ℕ) (m n i : ℕ) → band_in ms m n ≡ Some i → IsBand ms m n i
 band_is ms m zero i is = absurd cc
 band_is ms m (suc n) i is = go (slice_index_or ms n 0 == m) refl is (λ e. band_is ms m n i e)
   where
@@ -56,7 +56,7 @@ found b a i lt (Some j) is =
 
 -- ---- one line
 
--- behind one line, or several: bands that there were are still there, and no others but those of mutexes that were used; and a mutex that was used has a band, where there is room
+-- after one line, or several: bands that there were are still there, and no others but those of mutexes that were used; and a mutex that was used has a band, where there is room
 record Goes (room : ℕ) (b c : Bands) (IsUsed : ℕ → Type 0) : Type 0 where
   pub apart : Apart c
   pub few : c.count ≤ room

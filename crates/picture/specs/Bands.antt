@@ -25,7 +25,7 @@ band_of b m = band_in b.mutexes m b.count
 abbrev pub first_bands : ℕ → Bands
 first_bands n = record { mutexes = 0 ∷ 1 ∷ 2 ∷ 3 ∷ 4 ∷ 5 ∷ 6 ∷ 7 ∷ 8 ∷ 9 ∷ 10 ∷ 11 ∷ 12 ∷ 13 ∷ 14 ∷ 15 ∷ []; count = n }
 
--- a band more, behind the others
+-- a band more, after the others
 abbrev pub one_more : Bands → ℕ → Bands
 one_more b m = record { mutexes = slice_set b.mutexes b.count m; count = b.count + 1 }
 
@@ -46,7 +46,7 @@ abbrev pub used : ℕ → Bands → List Line → Bands
 used room b [] = b
 used room b (l ∷ ls) = used room (with_decision room b (decision_of l.fact)) ls
 
--- the bands of a picture that has room for so many, of a trace of so many mutexes with these lines
+-- the bands of a picture that has room for that many, of a trace of that many mutexes with these lines
 abbrev pub shown : ℕ → ℕ → List Line → Bands
 shown room mutexes ls = if nat_le mutexes room then first_bands mutexes else used room (first_bands 0) ls
 

@@ -18,7 +18,7 @@ use Rattle.picture.specs.Scenes.{behind, first_scene}
 abbrev pub lanes_of : ℕ → ℕ
 lanes_of threads = min threads named_threads
 
--- what a picture has, in which there is room for so many bands
+-- what a picture has, in which there is room for that many bands
 abbrev pub extent_in : ℕ → Called → ℕ → ℕ → List Line → Extent
 extent_in room n threads mutexes ls = record {
   threads = lanes_of threads;
@@ -39,7 +39,7 @@ rows_text n x s (l ∷ ls) =
 abbrev pub drawn_with : Called → Extent → List Line → ℕ → List ℕ
 drawn_with n x ls last = heads n x ++ (rows_text n x first_scene ls ++ end_text last)
 
--- the picture of a trace of so many threads and mutexes, with these lines and this number of events, in which things
+-- the picture of a trace of that many threads and mutexes, with these lines and this number of events, in which things
 -- have these names
 abbrev pub drawn : Called → ℕ → ℕ → List Line → ℕ → List ℕ
 drawn n threads mutexes ls last = drawn_with n (text_extent n threads mutexes ls) ls last

@@ -1,4 +1,4 @@
--- The rows above all lanes: what stands in which column.
+-- The rows above all lanes: what is in which column.
 use Rattle.std.specs.Prelude.{ℕ, ◌+◌, ◌-◌, ◌*◌, ◌/◌, ◌%◌, ◌==◌, nat_lt, min, List, [], ◌∷◌}
 use Rattle.std.specs.Prelude.{◌++◌, length, codes, decimal, slice_index_or, if◌then◌else◌}
 use Rattle.std.specs.Char.{encode_utf8}
@@ -15,11 +15,11 @@ band_head n x i = padded (band_width x) (mutex_head n (mutex_at x.bands i) ∷ m
 abbrev pub band_heads : Called → Extent → List ℕ
 band_heads n x = each (band_head n x) x.bands.count
 
--- nothing stands behind the name of the last lane
+-- nothing comes after the name of the last lane
 abbrev pub name_width : Extent → ℕ → ℕ
 name_width x lane = if lane == x.threads then 0 else width x
 
--- the name of the lane behind i others
+-- the name of the lane after i others
 abbrev pub lane_head : Called → Extent → ℕ → List ℕ
 lane_head n x i = padded (name_width x (i + 1)) (thread_head n (i + 1) ∷ thread_tail n (i + 1) ∷ [])
 
@@ -49,7 +49,7 @@ next_row x = codes "\n" ++ repeat (8 + band_width x * x.bands.count) (codes " ")
 abbrev pub numbers_down : Extent → List ℕ
 numbers_down x = tens x ++ (next_row x ++ units x)
 
--- and of a name its letters: here letter k, or a blank behind its last one
+-- and of a name its letters: here letter k, or a blank after its last one
 abbrev pub letter_at : List ℕ → ℕ → List ℕ
 letter_at name k = if nat_lt k (length name) then encode_utf8 (slice_index_or name k 0) else codes " "
 
@@ -66,7 +66,7 @@ letters_below n x k = next_row x ++ letters n x (k + 1)
 abbrev pub letters_down : Called → Extent → ℕ → List ℕ
 letters_down n x rows = letters n x 0 ++ each (letters_below n x) rows
 
--- how many rows of letters stand below the first: as many as the longest name has letters, less one
+-- how many rows of letters are below the first: as many as the longest name has letters, less one
 abbrev pub rows_of : Called → ℕ
 rows_of n = min most_letters (longest_of 1 n.threads) - 1
 

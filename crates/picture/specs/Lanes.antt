@@ -21,8 +21,8 @@ abbrev pub woken : Lane → Lane
 woken (Asleep op) = Calling op
 woken lane = lane
 
--- what it shows behind a line of its thread: a call from its begin to its return or its kill, sleep until a wake, and
--- death until the thread lives anew
+-- what it shows after a line of its thread: a call from its begin to its return or its kill, sleep until a wake, and
+-- death until the thread lives again
 abbrev pub after : Lane → Fact → Lane
 after lane (Begin t c) = Calling c.operation
 after lane (Sleep t q) = slept lane

@@ -1,13 +1,13 @@
 -- What holds of every picture.
 --
--- *A mark stands in its own lane.* What stands in the lanes at a line's row is a text of as many columns as the lanes
+-- *A mark is in its own lane.* What is in the lanes at a line's row is a text of as many columns as the lanes
 -- before its thread's have, then the line's mark, then the rest; in no other lane is a mark. A column is a character of
 -- UTF-8.
 --
--- *A lane that shows something stands in its columns.* A row is a text of 8 columns for the event, those of each band
--- and of each lane before this one, then what stands in the lane, then the rest: of each lane that no words of another
+-- *A lane that shows something is in its columns.* A row is a text of 8 columns for the event, those of each band
+-- and of each lane before this one, then what is in the lane, then the rest: of each lane that no words of another
 -- one cover, where the numbers of the line and the owners have as many digits as a trace's, and names are as a
--- script's. The last column of a band is blank. Where an arrow goes on behind the words of a line, a blank parts them.
+-- script's. The last column of a band is blank. Where an arrow goes on after the words of a line, a blank parts them.
 --
 -- *Texts have room.* A letter is taken to be 7.5 pixels wide at most, which is more than one of a monospaced font at 11
 -- pixels takes: then the words of a line end within the picture, up to five threads before the next lane's marks, and
@@ -47,7 +47,7 @@ abbrev pub columns : List ℕ → ℕ
 columns [] = 0
 columns (b ∷ bs) = column b + columns bs
 
--- what stands in the lanes at the row of a line
+-- what is in the lanes at the row of a line
 abbrev pub lanes_text : Called → Extent → Scene → Line → List ℕ
 lanes_text n x s l = cells x (thread_of l.fact) (from_at s l) (sign l.fact (from_at s l)) (words_at n s l) s.lanes
 
@@ -55,7 +55,7 @@ lanes_text n x s l = cells x (thread_of l.fact) (from_at s l) (sign l.fact (from
 abbrev pub mark_of_line : Called → Extent → Scene → Line → List ℕ
 mark_of_line n x s l = mark x (thread_of l.fact) (from_at s l) (sign l.fact (from_at s l)) (words_at n s l)
 
--- a line's mark stands in its own thread's lane, behind as many columns as the lanes before that one have, and in no
+-- a line's mark is in its own thread's lane, after as many columns as the lanes before that one have, and in no
 -- other
 pub record StandsInItsLane (n : Called) (x : Extent) (s : Scene) (l : Line) : Type 0 where
   pub before : List ℕ
@@ -72,11 +72,11 @@ MarksStandInTheirLanes = (n : Called) (x : Extent) (s : Scene) (l : Line) → 1 
 
 -- ---- in text: all lanes
 
--- what stands in the lane behind i others
+-- what is in the lane after i others
 abbrev pub lane_text : Called → Extent → Scene → Line → ℕ → List ℕ
 lane_text n x s l i = cell_at x (thread_of l.fact) (from_at s l) (sign l.fact (from_at s l)) (words_at n s l) s.lanes i
 
--- no words of another lane stand in lane u
+-- no words of another lane are in lane u
 abbrev pub Shows : Called → Extent → Scene → Line → ℕ → Type 0
 Shows n x s l u = part_of x (thread_of l.fact) (from_at s l) (words_at n s l) u ≢ part.Covered
 
@@ -110,19 +110,19 @@ pub record HasNumbersOfATrace (s : Scene) (l : Line) : Type 0 where
   pub second : second_number l.fact < 10 ^ 4
   pub owners : (m : ℕ) → IfSome (slice_index_or s.objects m fresh).owner (λ t. t < 10 ^ 2)
 
--- lane u stands behind the 8 columns of the event, those of all bands and those of the lanes before it
+-- lane u comes after the 8 columns of the event, those of all bands and those of the lanes before it
 pub record StandsInItsColumns (n : Called) (x : Extent) (s : Scene) (l : Line) (u : ℕ) : Type 0 where
   pub before : List ℕ
   pub behind : List ℕ
   pub whole : row_text n x s l ≡ before ++ (lane_text n x s l (u - 1) ++ behind)
   pub place : columns before ≡ 8 + x.bands.count * band_width x + (u - 1) * width x
 
--- a blank parts a band from what stands behind it
+-- a blank parts a band from what comes after it
 pub record EndsWithABlank (text : List ℕ) : Type 0 where
   pub name : List ℕ
   pub whole : text ≡ name ++ codes " "
 
--- a line's words, and behind a blank the arrow that goes on to the right
+-- a line's words, and after a blank the arrow that goes on to the right
 pub record PartsItsWords (n : Called) (x : Extent) (s : Scene) (l : Line) : Type 0 where
   pub dashes : ℕ
   pub whole : mark_of_line n x s l
@@ -143,7 +143,7 @@ pub record ShownLanesStandInTheirColumns : Type 0 where
 
 -- ---- in SVG
 
--- how many pixels so many letters take at most: no letter is wider than 7.5 at this size. A font is the reader's own;
+-- how many pixels that many letters take at most: no letter is wider than 7.5 at this size. A font is the reader's own;
 -- of one whose letters are equally wide, at 11 pixels, each takes 6.6
 abbrev pub pixels : ℕ → ℕ
 pixels letters = 15 * letters / 2
@@ -172,7 +172,7 @@ pub record IsDrawnSo (n : Called) (x : Extent) (s : Scene) (l : Line) (k : ℕ) 
       ++ ((codes "<text class=\"t\" x=\"" ++ (decimal (words_x (lane_x x (thread_of l.fact))) ++ (codes "\" y=\"" ++ (decimal (words_y k above) ++ codes "\">"))))
       ++ (concat (words_at n s l) ++ codes "</text>\n")))
 
--- whether a text begins so, and whether such a word stands in it
+-- whether a text begins so, and whether such a word is in it
 abbrev pub begins_with : List ℕ → List ℕ → Bool
 begins_with [] text = true
 begins_with (b ∷ bs) [] = false
@@ -211,7 +211,7 @@ pub record TextsHaveRoom : Type 0 where
 abbrev pub Uses : ℕ → Line → Type 0
 Uses m l = IsSomeAnd (decision_of l.fact) (λ d. d.mutex ≡ m)
 
--- mutexes with bands, where there is room for so many: each has one band; where all fit, mutex i has band i; else only
+-- mutexes with bands, where there is room for that many: each has one band; where all fit, mutex i has band i; else only
 -- mutexes have one of which a line tells, and one of which a line tells has none only where all room is taken
 pub record AreShown (room mutexes : ℕ) (ls : List Line) (b : Bands) : Type 0 where
   pub few : b.count ≤ room

@@ -15,3 +15,5 @@ pub mod Shapes
 pub mod Style
 pub mod Svg
 pub mod Laws
+pub mod States
+pub mod Positions

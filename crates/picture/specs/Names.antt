@@ -5,7 +5,7 @@
 use Rattle.std.specs.Prelude.{ℕ, ◌-◌, max, min, nat_lt, List, [], ◌∷◌, length}
 use Rattle.std.specs.Prelude.{codes, decimal, slice_index_or, if◌then◌else◌}
 
--- the names of threads, mutexes and condition variables, in the order of their numbers; what comes behind the last one
+-- the names of threads, mutexes and condition variables, in the order of their numbers; what comes after the last one
 -- has none
 pub record Called : Type 0 where
   pub threads : List (List ℕ)
@@ -42,15 +42,15 @@ condition_head n k = head_of n.conditions k (codes "c")
 abbrev pub condition_tail : Called → ℕ → List ℕ
 condition_tail n k = tail_of n.conditions k (decimal k)
 
--- the most letters of these names, or so many
+-- the most letters of these names, or that many
 abbrev pub longest_of : ℕ → List (List ℕ) → ℕ
 longest_of most [] = most
 longest_of most (n ∷ ns) = longest_of (max most (length n)) ns
 
--- a name has at most so many letters, or more than there is room for
+-- a name has at most that many letters, or more than there is room for
 abbrev pub most_letters : ℕ
 most_letters = 16
 
--- for how many letters of a name there is room: for those of the longest name, and for so many at least
+-- for how many letters of a name there is room: for those of the longest name, and for that many at least
 abbrev pub letters_of : ℕ → Called → ℕ
 letters_of least n = min most_letters (longest_of (longest_of (longest_of least n.threads) n.mutexes) n.conditions)

@@ -7,7 +7,7 @@ abbrev pub less : ℕ → List (List ℕ) → ℕ
 less columns [] = columns
 less columns (p ∷ ps) = less (columns - length p) ps
 
--- the pieces, and blanks up to so many columns
+-- the pieces, and blanks up to that many columns
 abbrev pub padded : ℕ → List (List ℕ) → List ℕ
 padded columns ps = concat ps ++ repeat (less columns ps) (codes " ")
 

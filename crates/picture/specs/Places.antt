@@ -1,8 +1,8 @@
--- Where things stand in an SVG picture, in its pixels.
+-- Where things are in an SVG picture, in its pixels.
 use Rattle.std.specs.Prelude.{ℕ, ◌+◌, ◌-◌, ◌*◌, ◌/◌, nat_le, max, if◌then◌else◌}
 use Rattle.picture.specs.declared.bands.Extent.{Extent}
 
--- how much room the words of any line take, and a blank behind them: 260 pixels, and more where names are long
+-- how much room the words of any line take, and a blank after them: 260 pixels, and more where names are long
 abbrev pub words_room : Extent → ℕ
 words_room x = 220 + 8 * max 5 x.letters
 
@@ -49,7 +49,7 @@ words_x middle = middle + 10
 abbrev pub number_x : ℕ
 number_x = 48
 
--- how much room there is behind the middle of the last lane: enough for the words of each line
+-- how much room there is after the middle of the last lane: enough for the words of each line
 abbrev pub margin : Extent → ℕ
 margin x = words_room x
 

@@ -47,11 +47,11 @@ sign (Kill t) from = cross
 sign (Reap t) from = dagger
 sign (Renew t) from = codes "*"
 
--- how many columns a sign, a blank and the words behind it take; all words have fewer than 62
+-- how many columns a sign, a blank and the words after it take; all words have fewer than 62
 abbrev pub taken : List (List ℕ) → ℕ
 taken ws = 64 - less 62 ws
 
--- how many lanes behind its own the words of a line cover, with a blank behind them
+-- how many lanes after its own the words of a line cover, with a blank after them
 abbrev pub reach : Extent → List (List ℕ) → ℕ
 reach x ws = taken ws / width x
 
@@ -59,15 +59,15 @@ abbrev pub is_from_right : ℕ → Option ℕ → Bool
 is_from_right t None = false
 is_from_right t (Some a) = nat_lt t a
 
--- blanks stand behind the words, up to the next lane that shows; none behind the last lane
+-- blanks come after the words, up to the next lane that shows; none after the last lane
 abbrev pub blanks : Extent → ℕ → List (List ℕ) → ℕ
 blanks x t ws = if nat_le (x.threads - t) (reach x ws) then 0 else width x - (taken ws % width x)
 
--- the end of an arrow from the right, in so many columns behind its words: a blank, and the arrow in the others
+-- the end of an arrow from the right, in that many columns after its words: a blank, and the arrow in the others
 abbrev pub arrow_end : ℕ → List ℕ
 arrow_end n = codes " " ++ repeat (n - 1) dash
 
--- sign and words; an arrow from the right begins behind them
+-- sign and words; an arrow from the right begins after them
 abbrev pub wide_mark : Extent → ℕ → Option ℕ → List ℕ → List (List ℕ) → List ℕ
 wide_mark x t from s ws = (s ++ codes " ") ++ (concat ws ++ (if is_from_right t from
     then arrow_end (less (width x - 2) ws)
@@ -81,7 +81,7 @@ mark x t from s ws = if is_wide x then wide_mark x t from s ws else narrow_mark 
 
 -- ---- a lane
 
--- words of the line stand in lane u, which is neither the line's own nor one of its arrow's
+-- words of the line are in lane u, which is neither the line's own nor one of its arrow's
 abbrev pub is_covered : Extent → ℕ → Option ℕ → List (List ℕ) → ℕ → Bool
 is_covered x t from ws u = is_wide x && not (is_from_right t from) && nat_lt t u && nat_le (u - t) (reach x ws)
 
@@ -94,7 +94,7 @@ in_arrow None t u other = other
 in_arrow (Some a) t u other =
     if u == a then part.Origin else (if nat_lt (min t a) u && nat_lt u (max t a) then part.Arrow else other)
 
--- what stands in lane u at the row of a line of thread t
+-- what is in lane u at the row of a line of thread t
 abbrev pub part_of : Extent → ℕ → Option ℕ → List (List ℕ) → ℕ → Part
 part_of x t from ws u = if u == t then part.Mark else in_arrow from t u (beside x t from ws u)
 
@@ -123,7 +123,7 @@ cell_at x t from s ws lanes i = cell x t from s ws (lane_at lanes (i + 1)) (i + 
 abbrev pub cells : Extent → ℕ → Option ℕ → List ℕ → List (List ℕ) → List Lane → List ℕ
 cells x t from s ws lanes = each (cell_at x t from s ws lanes) x.threads
 
--- where lanes have no room for words, these stand behind all lanes
+-- where lanes have no room for words, these come after all lanes
 abbrev pub tail : Called → Extent → ℕ → List (List ℕ) → List ℕ
 tail n x t ws =
     if is_wide x then [] else concat (codes "  " ∷ thread_head n t ∷ thread_tail n t ∷ codes " " ∷ []) ++ concat ws
@@ -162,7 +162,7 @@ abbrev pub row_of : Called → Extent → Scene → ℕ → ℕ → Option ℕ �
 row_of n x s event t from mark ws =
     event_text event ++ (bands_text n x s.objects ++ (cells x t from mark ws s.lanes ++ (tail n x t ws ++ codes "\n")))
 
--- the row of a line, behind which all lanes and bands show this
+-- the row of a line, after which all lanes and bands show this
 abbrev pub row_text : Called → Extent → Scene → Line → List ℕ
 row_text n x s l = row_of n x s l.event (thread_of l.fact) (from_at s l) (sign l.fact (from_at s l)) (words_at n s l)
 

@@ -1,6 +1,6 @@
 -- What all lanes and bands show, line after line.
 --
--- *Scene.* Behind each line: what each thread's lane shows (`after`: a call from its begin to its return or its kill,
+-- *Scene.* After each line: what each thread's lane shows (`after`: a call from its begin to its return or its kill,
 -- sleep until a wake, death), each mutex's object (`stepped`: pthread_mutex_lock, pthread_mutex_consistent), of those
 -- that have bands, and whose event it is, as far as lines tell.
 use Rattle.std.specs.Prelude.{ℕ, ◌+◌, ◌==◌, Option, Some, None, List, [], ◌∷◌}
@@ -50,7 +50,7 @@ actor_of i (l ∷ ls) =
 abbrev pub first_scene : Scene
 first_scene = record { lanes = replicate (most_threads + 1) Idle; objects = replicate most_bands fresh; event = 0; actor = None }
 
--- behind a line, the first of these
+-- after a line, the first of these
 abbrev pub behind : Bands → Scene → Line → List Line → Scene
 behind b s l ls = record {
   lanes = lanes_behind s.lanes l.fact;

@@ -5,7 +5,7 @@ use Rattle.std.specs.Prelude.{ℕ, List, ◌++◌, codes}
 abbrev pub font_style : List ℕ
 font_style = codes "<style>text{font:11px monospace}.n{text-anchor:end;fill:#777}"
 
--- the names of bands and lanes stand over their middle
+-- the names of bands and lanes are over their middle
 abbrev pub heads_style : List ℕ
 heads_style = codes ".h{text-anchor:middle;font-weight:bold}"
 

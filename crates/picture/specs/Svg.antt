@@ -116,7 +116,7 @@ marks_of x f event from ws k =
     ++ (mark_of x f from k
     ++ words_label ws (lane_x x (thread_of f)) k (is_from_right (thread_of f) from))
 
--- line k; behind it all lanes and bands show this
+-- line k; after it all lanes and bands show this
 abbrev pub line_marks : Called → Extent → Scene → Line → ℕ → List ℕ
 line_marks n x s l k = marks_of x l.fact l.event (from_at s l) (words_at n s l) k
 
@@ -143,7 +143,7 @@ abbrev pub svg_lane : Called → Extent → ℕ → ℕ → List ℕ
 svg_lane n x bottom u =
     name_label (thread_head n u) (thread_tail n u) (lane_x x u) 20 ++ lane_line (decimal (lane_x x u)) (decimal bottom)
 
--- the lane behind i others
+-- the lane after i others
 abbrev pub svg_lane_behind : Called → Extent → ℕ → ℕ → List ℕ
 svg_lane_behind n x bottom i = svg_lane n x bottom (i + 1)
 

@@ -23,7 +23,7 @@ pub const IDS: usize = MOST_THREADS as usize + 1;
 /// The mutexes that have bands.
 #[derive(Clone, Copy)]
 pub struct Bands {
-    /// Their numbers, from left to right; what stands behind the last one says nothing.
+    /// Their numbers, from left to right; what comes after the last one says nothing.
     pub mutexes: [u16; 16],
     pub count: usize,
 }
@@ -115,7 +115,7 @@ impl Bands {
         }
     }
 
-    /// The bands of a trace of so many mutexes with these lines, where there is room for so many.
+    /// The bands of a trace of that many mutexes with these lines, where there is room for that many.
     fn of(room: usize, mutexes: u16, lines: &[Line]) -> Bands
         requires { room ≤ 16 }
         ensures value { result ≡ shown room mutexes lines.now }
@@ -153,7 +153,7 @@ impl Bands {
 }
 
 impl Extent {
-    /// What the picture of a trace has, where there is room for so many bands.
+    /// What the picture of a trace has, where there is room for that many bands.
     pub fn of(room: usize, names: &Names, threads: u8, mutexes: u16, lines: &[Line]) -> Extent
         requires { room ≤ 16 }
         ensures value { result ≡ extent_in room names.now threads mutexes lines.now }

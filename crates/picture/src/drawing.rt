@@ -105,7 +105,7 @@ fn write_end<W: Write>(row: &mut String, last: u32, out: &mut W) -> Result<(), U
     write_text(row, out)
 }
 
-/// Draws a trace of so many threads and mutexes as text, time running downwards: each of its lines as one row, in the
+/// Draws a trace with `threads` threads and `mutexes` mutexes as text, time running downwards: each of its lines as one row, in the
 /// order of the trace, with the number of its event, and its mark in the lane of its thread. Things are called by these
 /// names. `last` is the number of events. At an error a beginning of the picture is written.
 pub fn draw<W: Write>(

@@ -27,7 +27,7 @@ fn add_band_heads(text: &mut String, sheet: &Sheet<'_>) -> Result<(), AllocError
     Ok(())
 }
 
-/// How many columns a lane's name takes: as many as the lane, where another one stands behind it.
+/// How many columns a lane's name takes: as many as the lane, where another one comes after it.
 fn name_width(extent: &Extent, lane: u8) -> usize
     ensures { result ≡ name_width extent.now lane }
 {
@@ -116,7 +116,7 @@ fn add_numbers_down(text: &mut String, extent: &Extent) -> Result<(), AllocError
     add_units(text, extent)
 }
 
-/// A letter of a name, or a blank behind its last one.
+/// A letter of a name, or a blank after its last one.
 fn add_letter_at(text: &mut String, name: &str, place: usize) -> Result<(), AllocError>
     ensures { IfOk result (λ _. string_bytes text.new ≡ string_bytes text.old ++ letter_at name.now place) }
 {
@@ -128,7 +128,7 @@ fn add_letter_at(text: &mut String, name: &str, place: usize) -> Result<(), Allo
     }
 }
 
-/// A letter of the name of the lane behind so many others.
+/// A letter of the name of the lane after that many others.
 fn add_letter(
     text: &mut String,
     sheet: &Sheet<'_>,
@@ -169,7 +169,7 @@ fn add_letters_below(text: &mut String, sheet: &Sheet<'_>, place: usize) -> Resu
     add_letters(text, sheet, place + 1)
 }
 
-/// The names of all lanes, downwards: so many rows below the first.
+/// The names of all lanes, downwards: that many rows below the first.
 fn add_letters_down(text: &mut String, sheet: &Sheet<'_>, rows: usize) -> Result<(), AllocError>
     requires few { sheet.now.extent.threads ≤ named_threads }
     requires narrow { sheet.now.extent.bands.count ≤ 16 }
@@ -197,7 +197,7 @@ fn add_narrow_heads(text: &mut String, sheet: &Sheet<'_>) -> Result<(), AllocErr
     }
 }
 
-/// The rows above all lanes: what stands in which column.
+/// The rows above all lanes: what is in which column.
 pub fn add_heads(text: &mut String, sheet: &Sheet<'_>) -> Result<(), AllocError>
     requires few { sheet.now.extent.threads ≤ named_threads }
     requires narrow { sheet.now.extent.bands.count ≤ 16 }

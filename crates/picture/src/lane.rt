@@ -50,7 +50,7 @@ impl Lane {
         }
     }
 
-    /// What it shows behind a line of its thread.
+    /// What it shows after a line of its thread.
     pub fn after(self, fact: &Fact) -> Lane
         ensures { result ≡ after self fact.now }
     {

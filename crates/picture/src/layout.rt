@@ -5,7 +5,7 @@ ghost use Rattle.picture.specs.Layouts.{band_room, band_width, gap, is_wide, pla
 
 use crate::bands::Extent;
 
-/// How many columns the number of an event takes, with the blanks behind it.
+/// How many columns the number of an event takes, with the blanks after it.
 pub const EVENT: usize = 8;
 
 /// Whether lanes are wide enough for the words of their lines.

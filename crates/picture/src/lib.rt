@@ -2,10 +2,12 @@
 //! lane of its thread and at its event.
 //!
 //! [`draw`] draws a trace as rows of text, [`draw_svg`] as scalable vector graphics, each byte for byte as `specs/`
-//! says: what a lane shows between the lines of its thread, and which mark a line has in it. A mark stands in its own
+//! says: what a lane shows between the lines of its thread, and which mark a line has in it. A mark is in its own
 //! thread's lane (`marks_stand_in_their_lanes`), each lane in its own columns at every row
-//! (`shown_lanes_stand_in_their_columns`), and in SVG the words of a line have room (`texts_have_room`). At an error, a
-//! failed write or want of memory, a beginning of the picture is written ([`Unwritten`]).
+//! (`shown_lanes_stand_in_their_columns`), and in SVG the words of a line have room (`texts_have_room`) and each thing is
+//! drawn at its lane, its band and its row (`svg_draws_in_place`). Lanes and bands show what the lines tell
+//! (`lanes_show_threads`, `bands_show_mutexes`), each state in its own way (`states_are_told_apart`). If a write fails or
+//! memory runs out, a beginning of the picture is written ([`Unwritten`]).
 //!
 //! Stands on `facts`, for the lines, on `posixmutex`, for mutexes as objects and operations, on `lockword`, for thread
 //! ids and replies, on `streams`, for writing, on `itoa`, for numbers, and on `thiserror`, for messages.
@@ -41,8 +43,9 @@ mod words;
 
 pub use drawing::{Unwritten, draw};
 pub use laws::{
-    marks_stand_in_their_lanes, pictures_have_room_for_names, shown_lanes_stand_in_their_columns,
-    texts_have_room, used_mutexes_have_bands,
+    bands_show_mutexes, lanes_show_threads, marks_stand_in_their_lanes,
+    pictures_have_room_for_names, shown_lanes_stand_in_their_columns, states_are_told_apart,
+    svg_draws_in_place, text_draws_in_order, texts_have_room, used_mutexes_have_bands,
 };
 pub use names::Names;
 pub use svg_drawing::{draw_svg, draw_svg_marked};

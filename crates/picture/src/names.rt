@@ -128,7 +128,7 @@ impl Names {
         self.threads.len()
     }
 
-    /// The name of the thread behind so many others; nothing where it has none.
+    /// The name of the thread after that many others; nothing where it has none.
     pub fn lane(&self, index: u8) -> &str
         ensures { result.now ≡ slice_index_or self.now.threads index [] }
     {
@@ -148,7 +148,7 @@ impl Names {
         longest(&self.threads, 1).min(MOST_LETTERS)
     }
 
-    /// For how many letters of a name there is room: for those of the longest name, and for so many at least.
+    /// For how many letters of a name there is room: for those of the longest name, and for that many at least.
     pub fn letters(&self, least: usize) -> u8
         ensures { result ≡ letters_of least self.now }
     {

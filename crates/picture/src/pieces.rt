@@ -16,7 +16,7 @@ pub fn add(text: &mut String, pieces: &[&str]) -> Result<(), AllocError>
     Ok(())
 }
 
-/// Adds a piece so many times.
+/// Adds a piece that many times.
 pub fn fill(text: &mut String, piece: &str, count: usize) -> Result<(), AllocError>
     ensures { IfOk result (λ _. string_bytes text.new ≡ string_bytes text.old ++ repeat count piece.now) }
 {
@@ -38,7 +38,7 @@ pub fn room(columns: usize, pieces: &[&str]) -> usize
     left
 }
 
-/// Adds the pieces, and blanks up to so many columns.
+/// Adds the pieces, and blanks up to that many columns.
 pub fn add_padded(text: &mut String, pieces: &[&str], columns: usize) -> Result<(), AllocError>
     ensures { IfOk result
         (λ _. string_bytes text.new ≡ string_bytes text.old ++ padded columns (map (λ p. p.now) pieces.now)) }

@@ -1,4 +1,4 @@
-//! Where things stand in an SVG picture, in its pixels. Time runs downwards, a line of the trace after the other.
+//! Where things are in an SVG picture, in its pixels. Time runs downwards, a line of the trace after the other.
 
 ghost use Rattle.std.specs.Prelude.{◌≡◌, ◌≤◌, ◌<◌, ◌+◌, ◌*◌, ◌^◌};
 ghost use Rattle.picture.specs.Places.{along, apart, band_apart, band_middle, band_wide};
@@ -9,7 +9,7 @@ use crate::bands::Extent;
 /// Where the number of an event ends.
 pub const NUMBER_X: u32 = 48;
 
-/// How much room the words of any line take: it is also what stands behind the middle of the last lane.
+/// How much room the words of any line take: it is also what comes after the middle of the last lane.
 pub fn words_room(extent: &Extent) -> u32
     ensures value { result ≡ words_room extent.now }
     ensures few { result ≤ 2260 }

@@ -19,7 +19,7 @@ use lockword::Tid;
 use posixmutex::Object;
 use std::alloc::AllocError;
 
-/// What a line's row tells of it, but for its event.
+/// What a line's row tells of it, except for its event.
 #[derive(Clone, Copy)]
 struct Row<'a> {
     extent: Extent,
@@ -31,12 +31,12 @@ struct Row<'a> {
     words: &'a [&'a str],
 }
 
-/// What stands in a lane at a row.
+/// What is in a lane at a row.
 #[derive(Clone, Copy)]
 enum Part {
     /// What the lane showed before, and goes on to show.
     Stays,
-    /// Nothing: words of a lane before it stand here.
+    /// Nothing: words of a lane before it are here.
     Covered,
     /// The line's mark.
     Mark,
@@ -87,14 +87,14 @@ fn sign(fact: &Fact, from: Option<u8>) -> &'static str
     }
 }
 
-/// How many columns a sign, a blank and the words behind it take; all words have fewer than 62.
+/// How many columns a sign, a blank and the words after it take; all words have fewer than 62.
 fn taken(words: &[&str]) -> usize
     ensures { result ≡ taken (map (λ w. w.now) words.now) }
 {
     64 - room(62, words)
 }
 
-/// How many lanes behind its own the words of a line cover, with a blank behind them.
+/// How many lanes after its own the words of a line cover, with a blank after them.
 fn reach(extent: &Extent, words: &[&str]) -> usize
     ensures { result ≡ reach extent.now (map (λ w. w.now) words.now) }
 {
@@ -111,7 +111,7 @@ pub fn is_right_of(thread: u8, from: Option<u8>) -> bool
     }
 }
 
-/// Whether words of a line before it stand in a lane, which is neither the line's own nor one of its arrow's.
+/// Whether words of a line before it are in a lane, which is neither the line's own nor one of its arrow's.
 fn is_covered(row: &Row<'_>, lane: u8) -> bool
     ensures { result ≡ is_covered row.now.extent row.now.thread row.now.from (map (λ w. w.now) row.now.words.now) lane }
 {
@@ -143,7 +143,7 @@ fn part_at(row: &Row<'_>, lane: u8) -> Part
     }
 }
 
-/// How many blanks stand behind the words of a line, up to the next lane that shows; none behind the last lane.
+/// How many blanks come after the words of a line, up to the next lane that shows; none after the last lane.
 fn blanks(row: &Row<'_>) -> usize
     ensures { result ≡ blanks row.now.extent row.now.thread (map (λ w. w.now) row.now.words.now) }
 {
@@ -155,7 +155,7 @@ fn blanks(row: &Row<'_>) -> usize
     width.saturating_sub(taken(row.words) % width)
 }
 
-/// The end of an arrow from the right, in so many columns behind its words: a blank, and the arrow in the others.
+/// The end of an arrow from the right, in that many columns after its words: a blank, and the arrow in the others.
 fn add_arrow_end(text: &mut String, columns: usize) -> Result<(), AllocError>
     ensures { IfOk result (λ _. string_bytes text.new ≡ string_bytes text.old ++ arrow_end columns) }
 {
@@ -227,7 +227,7 @@ fn add_sign(text: &mut String, row: &Row<'_>, shown: Lane, lane: u8) -> Result<(
     fill(text, " ", gap(&row.extent, lane))
 }
 
-/// What stands in a lane at a row, where the lane shows this.
+/// What is in a lane at a row, where the lane shows this.
 fn add_cell(text: &mut String, row: &Row<'_>, shown: Lane, lane: u8) -> Result<(), AllocError>
     ensures { IfOk result
         (λ _. string_bytes text.new
@@ -258,7 +258,7 @@ fn add_cells(text: &mut String, row: &Row<'_>, lanes: &[Lane; IDS]) -> Result<()
     Ok(())
 }
 
-/// The words of a line behind all lanes, where these have no room for them.
+/// The words of a line after all lanes, where these have no room for them.
 fn add_tail(text: &mut String, names: &Names, row: &Row<'_>) -> Result<(), AllocError>
     ensures { IfOk result
         (λ _. string_bytes text.new
@@ -324,7 +324,7 @@ fn add_event(text: &mut String, event: u32) -> Result<(), AllocError>
     add(text, &[event, "  "])
 }
 
-/// The row of a line of this event, behind which all lanes and bands show this.
+/// The row of a line of this event, after which all lanes and bands show this.
 fn add_row_of(
     text: &mut String,
     names: &Names,
@@ -347,7 +347,7 @@ fn add_row_of(
     add(text, &["\n"])
 }
 
-/// The row of a line, behind which all lanes and bands show this.
+/// The row of a line, after which all lanes and bands show this.
 pub fn add_row(
     text: &mut String,
     sheet: &Sheet<'_>,

@@ -11,7 +11,7 @@ use facts::{Fact, Line};
 use lockword::{Reply, Tid};
 use posixmutex::{Decision, Object, Operation};
 
-/// What all lanes and bands show behind a line.
+/// What all lanes and bands show after a line.
 #[derive(Clone, Copy)]
 pub struct Scene {
     /// By the threads' ids, from 0, which is no thread's.
@@ -24,7 +24,7 @@ pub struct Scene {
     pub actor: Option<Tid>,
 }
 
-/// What a mutex is behind a point or a death, also behind one that its object doesn't allow.
+/// What a mutex is after a point or a death, also after one that its object doesn't allow.
 fn stepped(object: Object, decision: &Decision) -> Object
     ensures { result ≡ stepped object decision.now.thread decision.now.operation decision.now.reply }
 {
@@ -119,7 +119,7 @@ impl Scene {
         }
     }
 
-    /// Behind a line, the first of `lines`.
+    /// After a line, the first of `lines`.
     pub fn behind(self, bands: &Bands, line: &Line, lines: &[Line]) -> Scene
         requires { bands.now.count ≤ 16 }
         ensures { result ≡ behind bands.now self line.now lines.now }

@@ -4,7 +4,7 @@
 ghost use Rattle.std.specs.Prelude.{◌≡◌};
 ghost use Rattle.picture.specs.Style.{style};
 
-/// The classes of shapes, an arrow's head, and the ground: what stands before all shapes.
+/// The classes of shapes, an arrow's head, and the ground: what comes before all shapes.
 pub fn style() -> &'static str
     ensures { result.now ≡ style }
 {

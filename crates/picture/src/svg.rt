@@ -88,7 +88,7 @@ impl Since {
         }
     }
 
-    /// Behind this line.
+    /// After this line.
     pub fn behind(self, shown: &Bands, fact: &Fact, line: usize) -> Since
         requires { shown.now.count ≤ 16 }
         ensures { result ≡ begins_at shown.now self fact.now line }
@@ -410,7 +410,7 @@ fn add_open(text: &mut String, extent: &Extent, lines: usize) -> Result<(), Allo
     )
 }
 
-/// What stands before all lines, of which there are so many.
+/// What comes before all lines, of which there are that many.
 pub fn add_svg_heads(text: &mut String, sheet: &Sheet<'_>, lines: usize) -> Result<(), AllocError>
     requires few { sheet.now.extent.threads ≤ named_threads }
     requires narrow { sheet.now.extent.bands.count ≤ 16 }
@@ -477,7 +477,7 @@ fn add_misfit(text: &mut String, misfit: Option<usize>, lines: usize) -> Result<
     }
 }
 
-/// What stands behind all lines: which of them doesn't fit, and the number of events.
+/// What comes after all lines: which of them doesn't fit, and the number of events.
 pub fn add_end(
     text: &mut String,
     misfit: Option<usize>,

@@ -145,7 +145,7 @@ fn write_end<W: Write>(
     write_text(part, out)
 }
 
-/// Draws a trace of so many threads and mutexes as SVG, time running downwards: each of its lines once, in the order of
+/// Draws a trace with `threads` threads and `mutexes` mutexes as SVG, time running downwards: each of its lines once, in the order of
 /// the trace, with the number of its event, and its mark in the lane of its thread. Things are called by these names.
 /// `last` is the number of events. Line `misfit` of the trace, if one is named, is marked as one that doesn't fit; line 1
 /// is the trace's head. At an error a beginning of the picture is written.

@@ -1,4 +1,4 @@
--- Pieces of a text, one behind the other.
+-- Pieces of a text, one after the other.
 use Rattle.std.proofs.Common.{◌≡◌, ℕ, ◌+◌, ◌<◌, List, [], ◌∷◌, ◌++◌, length, get_or, map, take, sym, ap, ◌∙◌, append_assoc, append-nil}
 use Rattle.std.specs.List.{concat}
 use Rattle.std.proofs.lemmas.List.{map-append, take_more}

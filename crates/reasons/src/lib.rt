@@ -1,9 +1,9 @@
 //! The words for why a line of a trace doesn't fit those before it.
 //!
 //! [`add_reason`] says what the judge of traces found of a line: one text for each of its reasons, with their numbers
-//! and words (`reason_text`). What a text says of the line's thread is so ([`reasons_are_true`]), and what it says of a
-//! mutex ([`mutexes_are_true`]). Whoever tells of an illegal trace says it so: `explain`, and `page`. [`add`] puts a text
-//! together of pieces.
+//! and words (`reason_text`). Each reason has its own text, and what that says of the line is so ([`reasons_are_true`],
+//! [`end_has_its_words`]); the words for a mutex are those of its state ([`mutexes_are_true`]). `explain` and `page` use
+//! these texts for illegal traces. [`add`] puts the pieces of a text together.
 //!
 //! Stands on `verdict`, for what is found, on `facts`, `posixmutex` and `lockword`, for what lines tell, mutexes as
 //! objects, operations, replies and thread ids, and on `itoa`, for numbers.
@@ -20,5 +20,5 @@ mod laws;
 mod reasons;
 
 pub use adding::add;
-pub use laws::{mutexes_are_true, reasons_are_true};
+pub use laws::{end_has_its_words, mutexes_are_true, reasons_are_true};
 pub use reasons::add_reason;

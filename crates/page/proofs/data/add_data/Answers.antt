@@ -1,4 +1,4 @@
-use Rattle.std.proofs.Common.{◌++◌, List, [], length, take, sym, ap, subst, ◌∙◌, append_assoc}
+use Rattle.std.proofs.Common.{◌++◌, List, [], take, sym, ap, subst, ◌∙◌, append_assoc}
 use Rattle.std.specs.Prelude.{All, string_bytes}
 use Rattle.std.proofs.lemmas.List.Elements.{All-take}
 use Rattle.facts.specs.declared.fact.Line.{Line}
