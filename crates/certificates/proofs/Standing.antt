@@ -131,7 +131,7 @@ pub takes : (n : ℕ) (h steps : List Entry) (next : Option Entry) (e : Entry) (
 takes n h steps next (Told f) tells s k sound w x = takes_fact n h steps next f tells s k sound w x.0 x.1
 takes n h steps next (Doom t) tells s k sound w x = subst (λ b. Stands n (if b then Doom t ∷ h else h) (Doom t ∷ steps) k) (sym x.0) (dooms n h steps t s k sound w x.2)
 
--- what is told is the history's next entry
+-- what is recorded is the history's next entry
 pub tells_next : (next : Option Entry) (e : Entry) (s k : State) → Takes s next e true k → next ≡ Some e
 tells_next next (Told f) s k x = told x.1 where
   told : TakesFact s next f true k → next ≡ Some (Told f)

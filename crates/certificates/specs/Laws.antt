@@ -69,7 +69,7 @@ abbrev pub NoneLeaves : ℕ → List Entry → Type 0
 NoneLeaves m es = (later : List Entry) (e : Entry) (earlier : List Entry) → es ≡ later ++ e ∷ earlier
     → LeavesUnowned m e earlier → ⊥
 
--- one does, and no later one; so many lines of the history stand before it
+-- one does, and no later one; this many lines of the history stand before it
 pub record IsLastLeft (m : ℕ) (es : List Entry) (n : ℕ) : Type 0 where
   pub later : List Entry
   pub step : Entry

@@ -133,7 +133,7 @@ fn entry_at(history: &[HistoryLine], at: usize) -> Option<Entry>
     }
 }
 
-/// The place after this one, where its entry was told.
+/// The place after this one, where its entry was recorded.
 pub fn behind(at: usize, tells: bool) -> usize
     requires { at + 1 < 2 ^ 64 }
     ensures { result ≡ (if tells then at + 1 else at) }

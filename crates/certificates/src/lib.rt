@@ -14,7 +14,7 @@
 //! the last that left its mutex without an owner ([`since_is_the_last`]). [`points_of`] counts the points as the judge of traces does
 //! ([`points_are_the_judges`]).
 //!
-//! Stands on `histories`, for what a legal history is, on `verdict`, for the rules of a trace's lines, on `facts`, for
+//! Depends on `histories`, for what a legal history is, on `verdict`, for the rules of a trace's lines, on `facts`, for
 //! what lines say, on `posixmutex`, for mutexes as objects, and on `lockword`, for thread ids and replies.
 //!
 //! ```text

@@ -115,7 +115,7 @@ fn called(call: Begun, made: Made, fact: &Fact) -> Option<Phase>
 }
 
 impl Phase {
-    /// Where a fact leaves the thread; None where it may not be told of it.
+    /// Where a fact leaves the thread; None where it may not be recorded of it.
     pub fn after(self, fact: &Fact) -> Option<Phase>
         ensures { IfSome result (λ after. May (stage_of self) fact.now
             × (stage_of after ≡ next (stage_of self) fact.now)) }

@@ -195,7 +195,7 @@ fn note_freeing(freed: &mut Vec<usize>, line: usize, fact: &Fact)
     }
 }
 
-/// So many mutexes that nobody has locked yet.
+/// This many mutexes that nobody has locked yet.
 fn free(alloc: Global, count: usize) -> Result<Vec<Object>, AllocError>
     ensures count { IfOk result (λ v. length v.items ≡ count) }
     ensures each { IfOk result (λ v. (m : ℕ) → object_at v.items m ≡ fresh) }
@@ -209,7 +209,7 @@ fn free(alloc: Global, count: usize) -> Result<Vec<Object>, AllocError>
     Ok(objects)
 }
 
-/// So many threads that rest.
+/// This many threads that rest.
 fn resting(alloc: Global, count: usize) -> Result<Vec<Phase>, AllocError>
     ensures count { IfOk result (λ v. length v.items ≡ count) }
     ensures each { IfOk result (λ v. (t : ℕ) → phase_at v.items t ≡ Phase.Resting) }
@@ -218,7 +218,7 @@ fn resting(alloc: Global, count: usize) -> Result<Vec<Phase>, AllocError>
     Ok(phases)
 }
 
-/// So many threads that own nothing.
+/// This many threads that own nothing.
 fn owning_nothing(alloc: Global, count: usize) -> Result<Vec<u16>, AllocError>
     ensures count { IfOk result (λ v. length v.items ≡ count) }
     ensures each { IfOk result (λ v. (t : ℕ) → slice_index v.items t ≡ 0) }
@@ -227,7 +227,7 @@ fn owning_nothing(alloc: Global, count: usize) -> Result<Vec<u16>, AllocError>
     Ok(held)
 }
 
-/// So many threads, none of which is doomed.
+/// This many threads, none of which is doomed.
 fn undoomed(alloc: Global, count: usize) -> Result<Vec<bool>, AllocError>
     ensures count { IfOk result (λ v. length v.items ≡ count) }
     ensures each { IfOk result (λ v. (t : ℕ) → doom_at v.items t ≡ false) }
@@ -236,7 +236,7 @@ fn undoomed(alloc: Global, count: usize) -> Result<Vec<bool>, AllocError>
     Ok(doomed)
 }
 
-/// So many lines that weren't told yet.
+/// This many lines that weren't told yet.
 fn untold(alloc: Global, count: usize) -> Result<Vec<usize>, AllocError>
     ensures count { IfOk result (λ v. length v.items ≡ count) }
     ensures each { IfOk result (λ v. (k : ℕ) → slice_index v.items k ≡ 0) }

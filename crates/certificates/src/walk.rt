@@ -60,7 +60,7 @@ fn locked_by(call: Begun) -> Option<u16>
     }
 }
 
-/// What a fact of its own makes of a thread, after so many lines of the history.
+/// What a fact of its own makes of a thread, after this many lines of the history.
 fn told_thread(thread: Thread, fact: &Fact, lines: usize) -> Thread
     requires { lines + 1 < 2 ^ 64 }
     ensures { result ≡ told_thread thread fact.now lines }
@@ -85,7 +85,7 @@ fn told_thread(thread: Thread, fact: &Fact, lines: usize) -> Thread
     }
 }
 
-/// What a step of its own makes of a thread, after so many lines of the history.
+/// What a step of its own makes of a thread, after this many lines of the history.
 fn thread_after(thread: Thread, step: &Entry, lines: usize) -> Thread
     requires { lines + 1 < 2 ^ 64 }
     ensures { result ≡ thread_after thread step.now lines }
@@ -187,7 +187,7 @@ fn stepped(object: Object, decision: &Decision) -> Object
     }
 }
 
-/// The mutex when its object became this one, after so many lines of the history.
+/// The mutex when its object became this one, after this many lines of the history.
 fn became(mutex: Mutex, object: Object, lines: usize) -> Mutex
     ensures { result ≡ became mutex object lines }
 {
@@ -252,7 +252,7 @@ fn is_seen(step: &Entry, thread: &Thread) -> bool
     }
 }
 
-/// So many threads of which nothing was told.
+/// This many threads of which nothing was recorded.
 fn idle(alloc: Global, count: usize) -> Result<Vec<Thread>, AllocError>
     ensures count { IfOk result (λ v. length v.items ≡ count) }
     ensures each { IfOk result (λ v. (t : ℕ) → thread_at v.items t ≡ idle) }
@@ -266,7 +266,7 @@ fn idle(alloc: Global, count: usize) -> Result<Vec<Thread>, AllocError>
     Ok(threads)
 }
 
-/// So many mutexes that nobody has owned.
+/// This many mutexes that nobody has owned.
 fn untouched(alloc: Global, count: usize) -> Result<Vec<Mutex>, AllocError>
     ensures count { IfOk result (λ v. length v.items ≡ count) }
     ensures each { IfOk result (λ v. (m : ℕ) → mutex_at v.items m ≡ untouched) }

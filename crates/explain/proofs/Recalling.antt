@@ -1,4 +1,4 @@
--- What is kept of the lines so far, and the first line that spoils a mutex.
+-- What is kept of the lines so far, and the first line that makes a mutex unusable.
 use Rattle.std.proofs.Common.{◌≡◌, ◌≢◌, ℕ, ◌+◌, ◌-◌, ◌<◌, ◌≤◌, ◌==◌, ◌&&◌, Bool, true, false, List, ◌∷◌, length, get_or, slice_set, take, reverse, Option, Some, None, nat_lt, refl, sym, ap, subst, ◌∙◌, arith, get_or-set_same, get_or-set_other}
 use Rattle.std.proofs.Math.ListN.{length-set}
 use Rattle.std.proofs.lemmas.Bool.Decides.{nat_tests}
@@ -17,7 +17,7 @@ use Rattle.explain.specs.Spoiling.{IsDeathOf, death_at, is_death, is_death_of, i
 
 -- ---- a line more
 
--- what is told of its own thread, and of another one
+-- what is reported of its own thread, and of another one
 told_itself : (e : Line) (es : List Line) (t : ℕ) → t ≡ thread_of e.fact → told_of t (e ∷ es) ≡ e.fact ∷ told_of t es
 told_itself e es t is =
     let same : (thread_of e.fact == t) ≡ true = grind (arith, nat_tests) in
@@ -91,7 +91,7 @@ spoils_here es i e lt is =
     let back : i + 2 - 2 ≡ i = omega arith in
     ap (λ k. spoils (reverse (take k es)) (step_at es (i + 2))) back ∙ ap (spoils (reverse (take i es))) (step_here es i e lt is)
 
--- ---- the first that spoils a mutex
+-- ---- the first that makes a mutex unusable
 
 pub none_more : (es : List Line) (i : ℕ) → spoils_at es (i + 2) ≡ false → ((n : ℕ) → 2 ≤ n → n < i + 2 → spoils_at es n ≡ false) → (n : ℕ) → 2 ≤ n → n < i + 1 + 2 → spoils_at es n ≡ false
 none_more es i here before n le lt = by_cases (n == i + 2) refl where

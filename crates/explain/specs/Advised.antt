@@ -1,5 +1,5 @@
--- What is told of the line that a title names: which of its words is marked, what is said of it, and which earlier
--- line it goes back to.
+-- What is reported of the line that a title names: which of its words is marked, what is said of it, and which
+-- earlier line it goes back to.
 use Rattle.std.specs.Prelude.{ℕ, ◌≡◌, ◌⊎◌, ◌+◌, ◌-◌, ◌==◌, ◌++◌, ◌||◌, nat_eq, nat_le, nat_lt, Bool, true, not}
 use Rattle.std.specs.Prelude.{◌&&◌, List, [], ◌∷◌, length, take, reverse, Option, Some, None}
 use Rattle.std.specs.Prelude.{option_map, Ok, codes, if◌then◌else◌, MatchBool, MatchOption}
@@ -96,8 +96,8 @@ note_or (Some n) o = Some n
 note_or None o = o
 
 -- the first word of the line at which no line of the kind can go on is marked, with what it has to be, the known word
--- that it is nearest to, and what is said beside such a word, or what is missing; and what would be told of a right
--- line is said too
+-- that it is nearest to, and what is said beside such a word, or what is missing; and what would be reported of a
+-- right line is said too
 pub record MarksFirstWrong (k : Kind) (line : List ℕ) (here a : Advice) : Type 0 where
   pub mark : Mark
   pub marked : a.mark ≡ Some mark
@@ -120,7 +120,7 @@ IsStray k text n here a = MatchBool (is_last (lines_of text) n)
 abbrev pub is_within : List ℕ → ℕ → ℕ → Bool
 is_within w low high = is_number w && not (is_none (within low high (digits_value 10 w)))
 
--- word i isn't such a number, which is told; else what follows
+-- word i isn't such a number, which is reported; else what follows
 abbrev pub ranged : List (List ℕ) → ℕ → ℕ → ℕ → Advice → Advice
 ranged ws i low high a = if is_within (word_of ws i) low high then a else marking i (Range low high)
 
@@ -320,7 +320,7 @@ no_text bytes = besides (LooksSo (looks_of bytes)) (saying (BadByte (utf8_valid_
 
 -- ---- faults of scripts
 
--- what is told of line n of a script for this mode, for this fault; the text is that of the bytes
+-- what is reported of line n of a script for this mode, for this fault; the text is that of the bytes
 abbrev pub IsScriptAdvice : Mode → List ℕ → List ℕ → ℕ → ScriptReason → Advice → Type 0
 IsScriptAdvice k bytes text n of_script.NotUtf8 a = a ≡ no_text bytes
 IsScriptAdvice k bytes text n of_script.UnknownWord a = IsStray (kind.Script k) text n (behind_command text n) a
@@ -339,7 +339,7 @@ abbrev pub cut_short : List ℕ → ℕ → Advice
 cut_short text n = if (length (line_of text n) == 0) && is_last (lines_of text) n then saying NoEnd
     else saying BehindEnd
 
--- what is told of line n of a trace, for this fault; the text is that of the bytes
+-- what is reported of line n of a trace, for this fault; the text is that of the bytes
 abbrev pub IsTraceAdvice : List ℕ → List ℕ → ℕ → TraceReason → Advice → Type 0
 IsTraceAdvice bytes text n of_trace.NotUtf8 a = a ≡ no_text bytes
 IsTraceAdvice bytes text n of_trace.UnknownWord a = IsStray (kind_of n) text n nothing a
@@ -401,7 +401,7 @@ IsSpoilingAdvice bytes (Some line) a = (t : Trace) × (trace_read bytes ≡ Ok t
 
 -- ---- all of them
 
--- what is told beside this title of these bytes
+-- what is reported beside this title of these bytes
 abbrev pub IsAdvised : List ℕ → Title → Advice → Type 0
 IsAdvised bytes (Good run threads) a = a ≡ nothing
 IsAdvised bytes (Script k e) a = IsScriptAdvice k bytes (lines_in bytes) e.line e.fault a

@@ -1,4 +1,4 @@
--- What is told of a file's bytes.
+-- What is reported of a file's bytes.
 use Rattle.std.specs.Prelude.{ℕ, ◌≡◌, ◌⊎◌, ◌||◌, ◌==◌, Bool, true, false, List, [], ◌∷◌, map, take, drop}
 use Rattle.std.specs.Prelude.{Option, Some, None, Ok, Err, codes, nat_eq, reverse, if◌then◌else◌}
 use Rattle.std.specs.Char.{to_ascii_lowercase}

@@ -54,7 +54,7 @@ abbrev pub is_death : Operation → Reply → Bool
 is_death Death OK = true
 is_death op x = false
 
--- a death that is told of mutex m
+-- a death that is reported of mutex m
 abbrev pub is_death_of : ℕ → Option Decision → Bool
 is_death_of m None = false
 is_death_of m (Some d) = (d.mutex == m) && is_death d.operation d.reply
@@ -86,7 +86,7 @@ pub record Recalls (past : Past) (earlier : List Line) : Type 0 where
       → waits_at past.waits.items t ≡ is_waiting (call_in (told_of t earlier))
   pub deaths : (m : ℕ) → m < length past.deaths.items → IsDeathOf m earlier (death_at past.deaths.items m)
 
--- the step spoils nothing; or it does, and this is the line of its mutex's last owner's death
+-- the step makes nothing unusable; or it does, and this is the line of its mutex's last owner's death
 abbrev pub IsSpoiledBy : List Line → Option Decision → Option ℕ → Type 0
 IsSpoiledBy earlier step None = spoils earlier step ≡ false
 IsSpoiledBy earlier step (Some n) = (spoils earlier step ≡ true)

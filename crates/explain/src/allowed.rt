@@ -153,7 +153,7 @@ fn allows(standing: Standing, operation: Operation, reply: Reply) -> bool
     }
 }
 
-/// What comes before a reply, where another one was told or none.
+/// What comes before a reply, where another one was reported or none.
 fn before_reply(told: bool) -> &'static str
     ensures { result.now ≡ before_reply told }
 {
@@ -173,7 +173,8 @@ fn unanswered(operation: Operation) -> &'static str
 }
 
 /// What comes after the replies: a time limit may come only after another's ownership, which this mutex needn't show
-/// any more, and a lock whose limit doesn't come is told as a lock without one; a wait with a limit is told as a wait.
+/// any more, and a lock whose limit doesn't come is reported as a lock without one; a wait with a limit is reported
+/// as a wait.
 fn behind_replies(operation: Operation) -> &'static str
     ensures { result.now ≡ behind_replies operation }
 {
@@ -204,7 +205,7 @@ fn add_reply(
     Ok(true)
 }
 
-/// That there is none, where none was told.
+/// That there is none, where none was reported.
 fn add_end(text: &mut Vec<u8>, operation: Operation, told: bool) -> Result<(), AllocError>
     ensures { OnOk result (text.new.items ≡ text.old.items ++ end_words operation told) }
 {

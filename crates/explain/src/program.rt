@@ -11,7 +11,7 @@ use std::alloc::Global;
 use std::io::{self, ErrorKind, Write};
 use streams::{Opener, Output, lent};
 
-/// What a failure to open a file is told as.
+/// What a failure to open a file is reported as.
 fn unopened_by(error: &io::Error) -> Failure
     ensures { result ≡ unopened_by (error_kind error.now) }
 {
@@ -21,7 +21,7 @@ fn unopened_by(error: &io::Error) -> Failure
     }
 }
 
-/// What is told of this file.
+/// What is reported of this file.
 fn run_file<F: Opener, W: Output, E: Write>(
     alloc: Global,
     file: &str,

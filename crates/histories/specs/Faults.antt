@@ -3,7 +3,7 @@ use Rattle.std.specs.Prelude.{ℕ, List, codes}
 use Rattle.histories.specs.declared.fault.Fault.{Fault}
 use Rattle.histories.specs.declared.fault.Fault.TheVariants.{NotUtf8, UnknownWord, OutOfRange, Cut, OutOfMemory}
 
--- the number that a fault is told by, which is that of a trace's fault with the same words
+-- the number by which a fault is reported, which is that of a trace's fault with the same words
 abbrev pub number_of : Fault → ℕ
 number_of NotUtf8 = 1
 number_of UnknownWord = 2

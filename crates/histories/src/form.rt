@@ -56,7 +56,7 @@ fn operation(word: &str) -> Option<Operation>
     word.parse::<Operation>().ok()
 }
 
-/// A call on a mutex, by its word; a reinit is told as one.
+/// A call on a mutex, by its word; a reinit is recorded as one.
 fn mutex_operation(word: &str) -> Option<Operation>
     ensures { result ≡ mutex_operation word.now }
 {

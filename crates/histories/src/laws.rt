@@ -23,8 +23,8 @@ pub fn traces_are_histories()
 {}
 
 /// A legal history has a trace that explains itself: its points and deaths are a legal history of robust mutexes, each
-/// call that returned has exactly its points and the last one's reply, and a killed thread's death is told of what it
-/// owned then and of nothing else (`Explains` of the judge of traces).
+/// call that returned has exactly its points and the last one's reply, and a killed thread's death is recorded of
+/// what it owned then and of nothing else (`Explains` of the judge of traces).
 pub fn histories_are_explained()
     ensures { HistoriesAreExplained }
 {}

@@ -13,7 +13,7 @@
 //! and no other text is read as it ([`only_these_are_read`]); what is read is one that the head allows
 //! ([`lines_are_in_range`]). Faults are a trace's ([`faults_are_the_traces`]).
 //!
-//! Stands on `verdict`, for what a legal trace is and for words, on `facts`, for what lines say, on `lines`, for words
+//! Depends on `verdict`, for what a legal trace is and for words, on `facts`, for what lines say, on `lines`, for words
 //! and numbers, on `posixmutex` and `lockword`, for operations, thread ids and replies, and on `thiserror`, for messages.
 //!
 //! ```text

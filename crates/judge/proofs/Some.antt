@@ -26,7 +26,7 @@ pushed : (h : Head) (ls : List HistoryLine) (t : ℕ) (x : Reply) (b : Bool) (xs
 pushed h ls t x true xs ys could s = (All-push (CouldBeTold h ls t) ys x s.0 (could refl), takes x ys xs s.1)
 pushed h ls t x false xs ys could s = (s.0, skips x ys xs s.1)
 
--- reply i of those of a list, which thread t could be told, or wasn't found to
+-- reply i of those of a list, which thread t could get, or wasn't found to
 pub some_more : (h : Head) (ls : List HistoryLine) (t : ℕ) (xs : List Reply) (i : ℕ) (d : Reply) (b : Bool) (old new : List Reply) → i < length xs → (b ≡ true → CouldBeTold h ls t (get_or xs i d))
     → AreSome h ls t (take i xs) old → new ≡ (if b then old ++ get_or xs i d ∷ [] else old) → AreSome h ls t (take (i + 1) xs) new
 some_more h ls t xs i d b old new lt could s added =

@@ -2,7 +2,7 @@
 --
 -- *Who gets and who leaves a mutex.* A lock or a wait that returns OK or EOWNERDEAD gives its thread the mutex, and so does
 -- a wait whose time limit came. An unlock that returns OK leaves it, and so do a wait that returns ENOTRECOVERABLE, whose
--- thread had unlocked it, and the call that makes it anew.
+-- thread had unlocked it, and the call that reinitialises it.
 --
 -- *Who may own a mutex.* A thread in a call on it; or one whose newest reply that changed the mutex gave it the mutex,
 -- in this life.

@@ -29,11 +29,11 @@ IsLegal h history at = (at ≤ length history) × LegalHistory h.mutexes (revers
 abbrev pub IsLegalBefore : Head → List HistoryLine → ℕ → Type 0
 IsLegalBefore h history at = (at < length history) × IsLegal h history at
 
--- no trace shows the lines up to this place and the one that stands there
+-- no trace shows the lines up to this place and the one that is there
 abbrev pub IsNeverLegal : Head → List HistoryLine → ℕ → Type 0
 IsNeverLegal h history at = LegalHistory h.mutexes (reverse (entries (take (at + 1) history))) → ⊥
 
--- lines with one more after them, by which thread t is told y
+-- lines with one more after them, by which thread t gets y
 abbrev pub IsWithReturn : List HistoryLine → ℕ → Reply → List HistoryLine → Type 0
 IsWithReturn lines t y longer = reverse (entries longer) ≡ Told (Return t y) ∷ reverse (entries lines)
 
@@ -41,12 +41,12 @@ IsWithReturn lines t y longer = reverse (entries longer) ≡ Told (Return t y) �
 abbrev pub CouldBeTold : Head → List HistoryLine → ℕ → Reply → Type 0
 CouldBeTold h lines t y = LegalHistory h.mutexes (Told (Return t y) ∷ reverse (entries lines))
 
--- the latter are some of those replies, in their order, each of which thread t could be told after these lines
+-- the latter are some of those replies, in their order, each of which thread t could get after these lines
 abbrev pub AreSome : Head → List HistoryLine → ℕ → List Reply → List Reply → Type 0
 AreSome h lines t xs ys = All (CouldBeTold h lines t) ys × IsPartOf ys xs
 
--- replies that thread t could be told after these lines, instead of one for which there is this reason: in the order
--- of their numbers, each once at most; of a line out of turn none
+-- replies that thread t could get after these lines, instead of one for which there is this reason: in the
+-- order of their numbers, each once at most; of a line out of turn none
 abbrev pub ArePossible : Head → List HistoryLine → ℕ → Reason → List Reply → Type 0
 ArePossible h lines t (OutOfTurn why) ys = ys ≡ []
 ArePossible h lines t (NoOrder op m x n) ys = AreSome h lines t (replies_of op) ys

@@ -121,7 +121,8 @@ Newest such t es = (newest : Entry) × IsNewest t es newest × (such newest ≡ 
 abbrev pub NotNewest : (Entry → Bool) → ℕ → List Entry → Type 0
 NotNewest such t es = (newest : Entry) → IsNewest t es newest → such newest ≡ false
 
--- thread t is told x for the call, with this operation and mutex, that its newest line began, the history's line n
+-- thread t gets x for the call, with this operation and mutex, that its newest line began, the history's line
+-- n
 pub record IsReturn (t : ℕ) (es : List Entry) (e : Entry) (operation : Operation) (m : ℕ) (x : Reply) (n : ℕ) : Type 0 where
   pub line : e ≡ Told (Return t x)
   pub call : Begun
@@ -130,7 +131,7 @@ pub record IsReturn (t : ℕ) (es : List Entry) (e : Entry) (operation : Operati
   pub mutex_is : call.mutex ≡ m
   pub place : n ≡ length newest.earlier + 1
 
--- after lines, what is told of a line is so
+-- after lines, what is recorded of a line is so
 abbrev pub IsSo : List Entry → Entry → Reason → Type 0
 IsSo es e (OutOfTurn turn.InCall) = (begins e ≡ true) × Newest begins (whose e) es
 IsSo es e (OutOfTurn turn.NoCall) = (returns e ≡ true) × NotNewest begins (whose e) es

@@ -1,7 +1,7 @@
 -- Which replies a call may have.
 --
 -- *The replies of an operation.* Those of its points; a lock with a time limit has a lock's too, and a wait those of the
--- lock that it ends with, except for what its thread, which has released the mutex, can't be told. Law
+-- lock that it ends with, except for what its thread, which has released the mutex, can't get. Law
 -- `points_have_these_replies`: no step of an object gives such a call another.
 use Rattle.std.specs.Prelude.{ℕ, ◌≢◌, Some, List, [], ◌∷◌, Contains}
 use Rattle.lockword.specs.declared.reply.Reply.{Reply}

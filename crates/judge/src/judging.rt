@@ -251,9 +251,9 @@ fn judged(alloc: Global, head: &Head, lines: &[HistoryLine]) -> Result<Judgement
 
 /// Judges a history. What it finds legal has the certificate that is handed out: a trace that shows the history, each
 /// line of which was accepted by the rules of the judge of traces. What it finds illegal or can't decide is legal up to
-/// the line that it names; with the illegal line no trace shows the history. Why is told by that line and its thread's
-/// own lines before it; and with each reply that it names instead of an illegal return's the history is legal up to
-/// there. That it decides isn't proved, nor that it names each such reply.
+/// the line that it names; with the illegal line no trace shows the history. Why is recorded by that line and its
+/// thread's own lines before it; and with each reply that it names instead of an illegal return's the history is
+/// legal up to there. That it decides isn't proved, nor that it names each such reply.
 pub fn judge(alloc: Global, head: &Head, lines: &[HistoryLine]) -> Result<Judgement, AllocError>
     requires { IsHead head.now }
     ensures { IfOk result (IsJudged head.now lines.now) }

@@ -1,11 +1,11 @@
-//! What holds of the reasons and replies that are told of illegal lines.
+//! What holds of the reasons and replies that are recorded of illegal lines.
 
 ghost use Rattle.judge.specs.Evidence.{ChangesAreTheObjects, DeathIsNamed, EvidenceIsNewest};
 ghost use Rattle.judge.specs.Reasons.{AreGivenReasons, ReasonsHold};
 ghost use Rattle.judge.specs.Replies.{PointsHaveTheseReplies};
 
-/// What is told of a line is so: it is out of its thread's turn as the newest line of that says; or it is a return, of
-/// the call that its thread's newest line began, which is the line that is named.
+/// What is recorded of a line is so: it is out of its thread's turn as the newest line of that says; or it is a
+/// return, of the call that its thread's newest line began, which is the line that is named.
 pub fn reasons_hold()
     ensures { ReasonsHold }
 {}

@@ -12,7 +12,7 @@
 //! replies that the return could have told, each of which has a certificate ([`points_have_these_replies`] says which
 //! are tried).
 //!
-//! Stands on `certificates`, for what is checked, on `completing`, for the search, on `refuting`, for what is refuted,
+//! Depends on `certificates`, for what is checked, on `completing`, for the search, on `refuting`, for what is refuted,
 //! on `histories` and `facts`, for a history's lines, and on `posixmutex` and `lockword`, for operations, thread ids and
 //! replies.
 //!

@@ -1,4 +1,4 @@
--- What is known where something was told, or wasn't.
+-- What is known where something was reported, or wasn't.
 use Rattle.std.proofs.Common.{◌≡◌, ℕ, ◌<◌, Bool, List, [], ◌++◌, length, reverse, take, get_or, Option, Some, None, IfSome, Result, Ok, Err, IsErr, refl, sym, ap, subst, ◌∙◌}
 use Rattle.std.specs.Prelude.{count_by, Vec}
 use Rattle.std.specs.declared.alloc.Global.{Global}
@@ -73,7 +73,7 @@ illegal_within h j at why possible steps is judged = let found : IsIllegal h.hea
 pub undecided_within : (h : History) (j : Judgement) (at : ℕ) → j ≡ Undecided at → IsJudged h.head h.lines.items j → at < length h.lines.items
 undecided_within h j at is judged = let before : IsLegalBefore h.head h.lines.items at = subst (IsJudged h.head h.lines.items) is judged in before.0
 
--- what was told stays, if what came then kept it
+-- what was reported stays, if what came then kept it
 pub kept_whole : (waiting : Bool) (k : Heard) (j : Judgement) (cs : List Cut) (a b c : Option (List ℕ)) → (text : List ℕ) × IsSaid waiting k j cs text × Appends a b text → Keeps b c → (text : List ℕ) × IsSaid waiting k j cs text × Appends a c text
 kept_whole waiting k j cs a b c t keeps = (t.0, t.1, Appends-kept a b c t.0 t.2 keeps)
 

@@ -13,7 +13,7 @@ use Rattle.histories.specs.Reading.{head_read, line_read}
 use Rattle.judge_report.specs.Heard.{Heard, Taken, begun, closed, fault_at, goes_on, line_taken, lines_read, met_at, taken_by, text_read, unended}
 use Rattle.judge_report.specs.Laws.{FaultsAreAtLines}
 
--- from line n on there are so many
+-- from line n on there are this many
 abbrev IsAmong : ℕ → ℕ → HistoryFault → Type 0
 IsAmong n many f = (n ≤ f.line) × (f.line + 1 ≤ n + many)
 

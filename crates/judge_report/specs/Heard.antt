@@ -37,7 +37,7 @@ abbrev pub met_at : {A : Type 0} → ℕ → Result A Fault → Result A History
 met_at n (Ok x) = Ok x
 met_at n (Err f) = Err (fault_at n f)
 
--- nothing stands after a line feed, though there was no `end` line; or something stands there, which no line feed ends
+-- nothing stands after a line feed, though there was no `end` line; or something is there, which no line feed ends
 abbrev pub unended : List ℕ → Fault
 unended [] = Cut
 unended (b ∷ bs) = UnknownWord
@@ -97,14 +97,14 @@ abbrev pub heard_of : History → Heard
 heard_of h = record { head = h.head; seen = reverse h.lines.items; last = h.last }
 
 -- what is given where the bytes say this: the history that they are; or their first fault; or that a read failed, or
--- memory was wanted
+-- memory was needed
 abbrev pub Gives : Result Heard HistoryFault → Result History ReadFault → Type 0
 Gives said (Ok h) = said ≡ Ok (heard_of h)
 Gives said (Err (Ill f)) = said ≡ Err f
 Gives said (Err Failed) = Unit {0}
 Gives said (Err Memory) = Unit {0}
 
--- it tells no fault: a read failed, or memory was wanted
+-- it tells no fault: a read failed, or memory was needed
 abbrev pub IsUnread : ReadFault → Type 0
 IsUnread (Ill f) = ⊥
 IsUnread Failed = Unit {0}
@@ -112,7 +112,7 @@ IsUnread Memory = Unit {0}
 
 -- ---- one line
 
--- line n is taken, which is the last or isn't; or its fault is told; or memory was wanted
+-- line n is taken, which is the last or isn't; or its fault is reported; or memory was needed
 abbrev pub Takes : Heard → ℕ → List ℕ → Result Bool ReadFault → Heard → Type 0
 Takes h n text (Ok ends) k = line_taken n h text ≡ Ok (record { ends = ends; heard = k })
 Takes h n text (Err (Ill f)) k = line_taken n h text ≡ Err f

@@ -1,8 +1,8 @@
 -- Where a certificate is kept.
 --
 -- *Windows in files.* The certificate is cut into windows (`IsWindow`), each in a file of its own: OUT.1 begins with the
--- certificate, each next one where the one before ends, and the last one ends with it. Of each is told which of the
--- certificate's events it has, and how many of its own stand before them.
+-- certificate, each next one where the one before ends, and the last one ends with it. Of each is reported which of
+-- the certificate's events it has, and how many of its own stand before them.
 use Rattle.std.specs.Prelude.{ℕ, ◌≡◌, ◌+◌, List, [], ◌∷◌, ◌++◌, length, reverse, take, codes, decimal, Option}
 use Rattle.std.specs.Io.KnownBytes.{Appends}
 use Rattle.histories.specs.declared.head.Head.{Head}
@@ -39,14 +39,14 @@ pub record IsCutOf (steps : List Entry) (w : Window) (c : Cut) : Type 0 where
   pub last : c.last ≡ steps_count (take w.to steps)
   pub preamble : c.preamble ≡ w.preamble
 
--- a window of these steps, of which this is told, is kept in the file with its number
+-- a window of these steps, of which this is reported, is kept in the file with its number
 pub record IsWindowKept (Makes Fills : List ℕ → Option (List ℕ) → Type 0) (out : List ℕ) (h : Head) (steps : List Entry)
     (w : Window) (c : Cut) : Type 0 where
   pub window : IsWindow h steps w
   pub cut : IsCutOf steps w c
   pub written : IsWritten Makes Fills (window_name out c.number) w.text.items
 
--- so are windows of the steps up to here, of which these are told, the last first
+-- so are windows of the steps up to here, of which these are reported, the last first
 abbrev pub AreKept : (List ℕ → Option (List ℕ) → Type 0) → (List ℕ → Option (List ℕ) → Type 0) → List ℕ → Head
     → List Entry → ℕ → List Cut → Type 0
 AreKept Makes Fills out h steps to [] = to ≡ 0
@@ -75,7 +75,7 @@ IsFilled Makes Fills kept k (Illegal at why possible steps) cuts =
     IsIllegalKept Makes Fills kept k.head steps.items × (cuts ≡ [])
 IsFilled Makes Fills kept k (Undecided at) cuts = cuts ≡ []
 
--- what it is told as that a certificate isn't cut
+-- what it returns as that a certificate isn't cut
 abbrev pub uncut_by : Stop → Failure
 uncut_by stop.TooMany = TooMany
 uncut_by stop.Memory = OutOfMemory

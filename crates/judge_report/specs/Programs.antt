@@ -22,18 +22,18 @@ abbrev pub asked_in : Result (Vec (String Global) Global) Error → Asked
 asked_in (Ok words) = asked_of (map string_bytes words.items)
 asked_in (Err e) = Nothing
 
--- the failure that an error of opening a file is told as: memory where memory was refused
+-- the failure that an error of opening a file is reported as: memory where memory was refused
 abbrev pub unopened_by : ErrorKind → Failure
 unopened_by kind.OutOfMemory = OutOfMemory
 unopened_by _ = CannotRead
 
--- a failure is told, or a beginning of its message, where that can't be written
+-- a failure is reported, or a beginning of its message, where that can't be written
 abbrev pub IsTold : List ℕ → Failure → Option (List ℕ) → Option (List ℕ) → ℕ → Type 0
 IsTold file f told told' status = AppendsFront told told' (failure_text file f) × (status ≡ failure_status f)
 
 -- how a judgement of the history in a file ended: it was made of what opening the file gave, the writer has let go of
--- what is said, and nothing else was told; or it wasn't, or not all was said, and that is told; or the file couldn't be
--- opened
+-- what is said, and nothing else was reported; or it wasn't, or not all was said, and that is reported; or the file
+-- couldn't be opened
 abbrev pub FileEnds : (List ℕ → Result (Option (List ℕ)) ErrorKind → Type 0) → (List ℕ → Option (List ℕ) → Type 0)
     → (List ℕ → Option (List ℕ) → Type 0) → Bool → Kept → List ℕ → Option (List ℕ) → Option (List ℕ) → Type 0 → Type 0
     → Option (List ℕ) → Option (List ℕ) → ℕ → Type 0

@@ -1,10 +1,11 @@
 -- What the program says of a history, and what that means.
 --
 -- *What is said of a history.* `legal N points`: it is a legal history, with a certificate that has N points; after that
--- is told which windows it was cut into, where it was, and the calls are named that the certificate leaves waiting and
--- shouldn't, where they are asked for. `illegal at line L`: those of its lines that stand before line L are a legal
--- history, and with line L they aren't; the reason is that of its thread's lines before it, and with each reply that is
--- named instead of the line's they are. `undecided at line L`: those before it are a legal history.
+-- is reported which windows it was cut into, where it was, and the calls are named that the certificate leaves
+-- waiting and shouldn't, where they are asked for. `illegal at line L`: those of its lines that stand before line L
+-- are a legal history, and with line L they aren't; the reason is that of its thread's lines before it, and with
+-- each reply that is named instead of the line's they are. `undecided at line L`: those before it are a legal
+-- history.
 use Rattle.std.specs.Prelude.{ℕ, ◌≡◌, Bool, true, false, List, [], ◌∷◌, ◌++◌, map, reverse, count_by}
 use Rattle.std.specs.Prelude.{Option, Some, Result}
 use Rattle.streams.specs.Leaves.{Leaves}
@@ -45,7 +46,8 @@ pub record IsFirstIllegal (k : Heard) (line : HistoryLine) : Type 0 where
   pub before : IsLegalBefore k line
   pub never : LegalHistory k.head.mutexes (told (line ∷ before.earlier)) → ⊥
 
--- for this reason, and these replies its thread could be told; and these steps show the lines before it, and end with it
+-- for this reason, and these replies its thread could be reported; and these steps show the lines before it, and end
+-- with it
 pub record IsIllegal (k : Heard) (line : HistoryLine) (why : Reason) (possible : List Reply) (steps : List Entry)
     : Type 0 where
   pub first : IsFirstIllegal k line

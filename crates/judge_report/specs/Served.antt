@@ -43,13 +43,13 @@ pub record ServesFront (Makes Fills : List ℕ → Option (List ℕ) → Type 0)
   pub said : IsSaid waiting heard judgement cuts text
   pub written : AppendsFront old new text
 
--- the failure that a fault of reading is told as
+-- the failure that a fault of reading is reported as
 abbrev pub failed_by : ReadFault → Failure
 failed_by read.Failed = CannotRead
 failed_by read.Memory = OutOfMemory
 failed_by (read.Ill at) = Ill at
 
--- why there is no history: it couldn't be read, or memory was wanted, or the bytes have this fault
+-- why there is no history: it couldn't be read, or memory was needed, or the bytes have this fault
 abbrev pub Unread : Option (List ℕ) → Failure → Type 0
 Unread had Usage = ⊥
 Unread had Overwriting = ⊥
@@ -61,8 +61,9 @@ Unread had NoPlace = ⊥
 Unread had OutOfMemory = Unit {0}
 Unread had (Ill f) = IfSome had (λ bytes. history_read bytes ≡ Err f)
 
--- why nothing was told of a history, or not all: it couldn't be read, or memory was wanted, or the certificate couldn't
--- be written or cut, or the bytes have this fault, before anything was told; or a write failed, after a beginning
+-- why nothing was reported of a history, or not all: it couldn't be read, or memory was needed, or the certificate
+-- couldn't be written or cut, or the bytes have this fault, before anything was reported; or a write failed, after a
+-- beginning
 abbrev pub Fails : (List ℕ → Option (List ℕ) → Type 0) → (List ℕ → Option (List ℕ) → Type 0) → Bool → Kept
     → Option (List ℕ) → Option (List ℕ) → Option (List ℕ) → Failure → Type 0
 Fails Makes Fills waiting kept had old new Usage = ⊥

@@ -97,7 +97,7 @@ waiter_text ls w = waiter_lines w (slice_get ls (w.begin - 1)) (line_of ls w.sin
 abbrev pub waiters_text : List HistoryLine → List Waiter → List ℕ
 waiters_text ls ws = concat (map (waiter_text ls) ws)
 
--- why a thread's line may not stand there
+-- why a thread's line may not be there
 abbrev pub turn_words : OutOfTurn → List ℕ
 turn_words InCall = codes " is in a call there\n"
 turn_words NoCall = codes " is in no call there\n"

@@ -58,7 +58,7 @@ fn are_digits(bytes: &[u8]) -> bool
     bytes.iter().all(|b| b.is_ascii_digit())
 }
 
-/// Whether a point stands there, and a number after it.
+/// Whether a point is there, and a number after it.
 fn is_number_part(bytes: &[u8]) -> bool
     ensures { result ≡ is_number_part bytes.now }
 {

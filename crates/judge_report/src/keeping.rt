@@ -65,7 +65,7 @@ fn window_name(alloc: Global, out: &str, number: usize) -> Result<String, AllocE
     Ok(name)
 }
 
-/// What it is told as that a certificate isn't cut.
+/// What it is reported as that a certificate isn't cut.
 fn uncut_by(why: Stop) -> Failure
     ensures { result ≡ uncut_by why }
 {

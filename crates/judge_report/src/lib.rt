@@ -6,12 +6,12 @@
 //! finds legal; after that it names with `--waiting` just the calls that the certificate leaves waiting and shouldn't.
 //! Where it writes `illegal at line L`, the lines before L are a legal history, and with line L they aren't, for the reason
 //! that it tells; with each reply that it says could be told there they are one. Where it writes `undecided at line L`,
-//! the lines before L are one. A file that is no history is told by its first fault (`history_read`).
+//! the lines before L are one. A file that is no history is reported by its first fault (`history_read`).
 //!
 //! The file is read once, line by line. What its lines tell is kept, 40 bytes a line; so is what the search keeps of
 //! lines that aren't decided, and the certificate.
 //!
-//! Stands on `judge` and `certificates`, for the judgement, on `windows`, for cutting, on `histories`, for lines and
+//! Depends on `judge` and `certificates`, for the judgement, on `windows`, for cutting, on `histories`, for lines and
 //! faults, on `texts`, for a trace's lines, on `streams`, for reading and writing, on `itoa`, for numbers, and on `facts`,
 //! `lines`, `posixmutex` and `lockword`, for what lines tell.
 //!

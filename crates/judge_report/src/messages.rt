@@ -12,7 +12,7 @@ use streams::{put, put_pieces};
 /// Memory was refused.
 pub const OUT_OF_MEMORY: &str = "rfx-judge: out of memory\n";
 
-/// Why nothing, or not all, was told of a history.
+/// Why nothing, or not all, was reported of a history.
 #[derive(Clone, Copy)]
 pub enum Failure {
     /// The command line has none of the program's forms.

@@ -13,7 +13,7 @@ use std::alloc::Global;
 use std::io::{self, ErrorKind, Write};
 use streams::{Opener, Output, lent};
 
-/// What a failure to open a file is told as.
+/// What a failure to open a file is reported as.
 fn unopened_by(error: &io::Error) -> Failure
     ensures { result ≡ unopened_by (error_kind error.now) }
 {
@@ -23,7 +23,7 @@ fn unopened_by(error: &io::Error) -> Failure
     }
 }
 
-/// What is told of the history in this file.
+/// What is reported of the history in this file.
 fn run_file<F: Opener, M: Maker, W: Output, E: Write>(
     alloc: Global,
     waiting: bool,

@@ -50,7 +50,7 @@ fn failed(error: &io::Error) -> ReadFault
     }
 }
 
-/// Takes the line feed off that stands at the end, if one does.
+/// Takes the line feed off that is at the end, if one does.
 fn strip(line: &mut Vec<u8>) -> bool
     ensures feed { result ≡ ends_with_byte 10 line.old.items }
     ensures rest { line.new.items ≡ strip_last 10 line.old.items }

@@ -21,7 +21,7 @@ use std::alloc::{AllocError, Global};
 use std::io::{self, BufReader, Read, Write};
 use streams::Output;
 
-/// What a fault of reading is told as.
+/// What a fault of reading is reported as.
 fn failed_by(fault: ReadFault) -> Failure
     ensures { result ≡ failed_by fault }
 {
@@ -113,7 +113,7 @@ fn tell<W: Write>(
     }
 }
 
-/// The exit status where this is told.
+/// The exit status where this is reported.
 fn status_of(judgement: &Judgement) -> u8
     ensures { result ≡ status_of judgement.now }
 {

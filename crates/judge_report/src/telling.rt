@@ -1,4 +1,4 @@
-//! What is told of a history.
+//! What is reported of a history.
 
 ghost use Rattle.std.specs.Prelude.{◌≡◌, ◌-◌, ◌∷◌, ◌++◌, Some, None, reverse};
 ghost use Rattle.streams.specs.Leaves.{Leaves};
@@ -33,7 +33,7 @@ fn thread_of(line: &HistoryLine) -> Tid
     }
 }
 
-/// What the thread is, that its line may not stand there.
+/// What the thread is, that its line may not be there.
 fn turn_words(why: OutOfTurn) -> &'static str
     ensures { result.now ≡ turn_words why }
 {
@@ -626,8 +626,8 @@ fn write_rest<W: Write>(
     write_waiters(out, lines, waiters)
 }
 
-/// Tells that the history is legal, with so many points, which windows its certificate was cut into, and names these
-/// calls that still wait and shouldn't.
+/// Tells that the history is legal, with this many points, which windows its certificate was cut into, and names
+/// these calls that still wait and shouldn't.
 pub fn tell_legal<W: Write>(
     out: &mut W,
     points: usize,
@@ -643,7 +643,7 @@ pub fn tell_legal<W: Write>(
 }
 
 /// Tells that no order of the calls explains these lines and this one after them, why, and which replies its thread could
-/// have been told.
+/// have been reported.
 pub fn tell_illegal<W: Write>(
     out: &mut W,
     lines: &[HistoryLine],

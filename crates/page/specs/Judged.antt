@@ -5,8 +5,8 @@
 --
 -- *The states are the judge's.* After lines of which each fits those before it, a thread's status agrees with its
 -- stage: its call, how far the call's points have come, whether it sleeps, and that it was killed and reaped. Where it
--- sleeps, and since which line, is what its newest sleep or move tells; its newest point is the newest one that is told
--- of it; it has lived once, and once more for each renewal. And each mutex is what the judge has of it.
+-- sleeps, and since which line, is what its newest sleep or move tells; its newest point is the newest one that is
+-- reported of it; it has lived once, and once more for each renewal. And each mutex is what the judge has of it.
 use Rattle.std.specs.Prelude.{ℕ, ◌≡◌, ◌+◌, ◌<◌, ◌⊎◌, true, false, Option, Some, None, List, [], ◌∷◌, ◌++◌}
 use Rattle.std.specs.Prelude.{length, reverse, slice_index_or, take}
 use Rattle.std.specs.Option.{is_some}
@@ -46,7 +46,7 @@ use Rattle.page.specs.Statuses.{first_status}
 
 -- ---- the judge
 
--- the stage of a thread of which these facts are told, the newest first
+-- the stage of a thread of which these facts are reported, the newest first
 abbrev pub stage_in : List Fact → Stage
 stage_in [] = Resting
 stage_in (f ∷ fs) = next (stage_in fs) f
@@ -145,7 +145,7 @@ abbrev pub FittingLinesAreShown : Type 0
 FittingLinesAreShown = (t : Told) (f : Finding) (k : ℕ) → IsFound (trace_of t) f → k < length t.lines.items → k < 100000
     → AllFit t.head.mutexes (reverse (take (k + 1) t.lines.items)) → k < length (lines_shown t f)
 
--- and where a line doesn't fit, that line is told, unless it is the last line of the trace
+-- and where a line doesn't fit, that line is reported, unless it is the last line of the trace
 abbrev pub MisfitsAreTold : Type 0
 MisfitsAreTold = (t : Told) (why : TraceMisfit) (r : IsReason t.head.mutexes (reverse t.lines.items) why)
     → misfit_line t.lines.items why.line ≡ Some r.first.misfit

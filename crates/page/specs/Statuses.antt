@@ -44,7 +44,7 @@ abbrev pub bed_of : ℕ → List Line → Option Bed
 bed_of t [] = None
 bed_of t (e ∷ es) = if thread_of e.fact == t then slept e.fact (length es + 2) (bed_of t es) else bed_of t es
 
--- what a thread does of which these facts are told, and which sleeps there
+-- what a thread does of which these facts are reported, and which sleeps there
 abbrev pub told_so : List Fact → Option Bed → Status
 told_so fs b = record {
   life = life_in fs;

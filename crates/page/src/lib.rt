@@ -10,7 +10,7 @@
 //! data, with the line that doesn't fit, if there is one ([`misfits_are_told`]), and why (`reason_text`). If memory is
 //! refused, nothing is written; if a write fails, a beginning of the page is (`LeavesPage`).
 //!
-//! Stands on `verdict`, for what is read of a trace and how it is judged, on `reasons`, for the words of that, on
+//! Depends on `verdict`, for what is read of a trace and how it is judged, on `reasons`, for the words of that, on
 //! `picture`, for the picture and names, on `facts`, `posixmutex` and `lockword`, for lines, mutexes as objects, thread
 //! ids and replies, on `streams`, for writing, on `itoa`, for numbers, and on `percent_encoding`, for names.
 //!

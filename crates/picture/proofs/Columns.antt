@@ -36,7 +36,7 @@ both a b c x y p q = q ∙ ap (λ l. l ++ y) p ∙ append_assoc a x y
 pub one_further : (f : ℕ → List ℕ) (a b c : List ℕ) (n : ℕ) → b ≡ a ++ each f n → c ≡ b ++ f n → c ≡ a ++ each f (n + 1)
 one_further f a b c n before added = added ∙ ap (λ l. l ++ f n) before ∙ append_assoc a (each f n) (f n) ∙ ap (λ m. a ++ each f m) (sym (add-one n))
 
--- and where its text is told otherwise
+-- and where its text differs
 pub once_further : (f : ℕ → List ℕ) (a b c y : List ℕ) (n : ℕ) → b ≡ a ++ each f n → c ≡ b ++ y → y ≡ f n → c ≡ a ++ each f (n + 1)
 once_further f a b c y n before added same = one_further f a b c n before (added ∙ ap (λ l. b ++ l) same)
 
@@ -49,7 +49,7 @@ pub then_text : {X E : Type 0} (r : Result X E) (a b c x y : List ℕ) → b ≡
 then_text (Ok u) a b c x y p q = both a b c x y p q
 then_text (Err e) a b c x y p q = tt
 
--- a text that is told otherwise
+-- a text that differs
 pub told_as : {X E : Type 0} (r : Result X E) (a c x y : List ℕ) → x ≡ y → IfOk r (λ _. c ≡ a ++ x) → IfOk r (λ _. c ≡ a ++ y)
 told_as (Ok u) a c x y same p = p ∙ ap (λ l. a ++ l) same
 told_as (Err e) a c x y same p = tt

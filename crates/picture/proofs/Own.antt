@@ -75,7 +75,7 @@ beside_before x t from ws u lt =
     let covered : is_covered x t from ws u ≡ false = rw behind (middle_false (is_wide x) (not (is_from_right t from)) (nat_le (u - t) (reach x ws))) in
     rw covered refl
 
--- what stands beside the line's own lane before it
+-- what is beside the line's own lane before it
 module _ (x : Extent) (t : ℕ) (s : List ℕ) (ws : List (List ℕ)) (shown : Lane) (u : ℕ) (lt : u < t) (few : t ≤ x.threads) where
   beside_wide : (from : Option ℕ) → columns (part_text x t from s ws shown u (beside x t from ws u)) ≡ width x
   beside_wide from = rw (beside_before x t from ws u lt) (stays_wide x u shown (omega (arith, lt, few)))

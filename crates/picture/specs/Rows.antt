@@ -30,7 +30,7 @@ abbrev pub arrow_from : Option ℕ → Fact → Option ℕ
 arrow_from None f = None
 arrow_from (Some a) f = if is_passive f && not (a == thread_of f) then Some a else None
 
--- an arrow's head; where nobody else is told of, a ring
+-- an arrow's head; where nobody else is named, a ring
 abbrev pub arrow_sign : ℕ → Option ℕ → List ℕ
 arrow_sign t None = ring
 arrow_sign t (Some a) = if nat_lt a t then codes ">" else codes "<"

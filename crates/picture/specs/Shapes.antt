@@ -32,8 +32,8 @@ lane_box (Some class) middle from to = rectangle class (middle - 5) (row_y from)
 abbrev pub lane_shape : Lane → ℕ → ℕ → ℕ → List ℕ
 lane_shape l middle from to = lane_box (lane_class l) middle from to
 
--- an owner, one that hasn't declared the mutex consistent, an owner's death that nobody was told of yet, and a mutex
--- that is lost
+-- an owner, one that hasn't declared the mutex consistent, an owner's death that nobody knows of yet, and a
+-- mutex that is lost
 abbrev pub owned_class : Option ℕ → Bool → Bool → Option (List ℕ)
 owned_class (Some t) inconsistent unusable = if inconsistent then Some (codes "i") else Some (codes "o")
 owned_class None inconsistent unusable =

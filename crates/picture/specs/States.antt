@@ -52,7 +52,7 @@ abbrev pub scene_after : Bands → Scene → List Line → List Line → Scene
 scene_after b s [] later = s
 scene_after b s (l ∷ ls) later = scene_after b (behind b s l (l ∷ (ls ++ later))) ls later
 
--- the facts of thread t, the newest first, if these were told of it before
+-- the facts of thread t, the newest first, if these were reported of it before
 abbrev pub told_of : ℕ → List Fact → List Line → List Fact
 told_of t fs [] = fs
 told_of t fs (l ∷ ls) = told_of t (if thread_of l.fact == t then l.fact ∷ fs else fs) ls

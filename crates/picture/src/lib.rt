@@ -9,7 +9,7 @@
 //! (`lanes_show_threads`, `bands_show_mutexes`), each state in its own way (`states_are_told_apart`). If a write fails or
 //! memory runs out, a beginning of the picture is written ([`Unwritten`]).
 //!
-//! Stands on `facts`, for the lines, on `posixmutex`, for mutexes as objects and operations, on `lockword`, for thread
+//! Depends on `facts`, for the lines, on `posixmutex`, for mutexes as objects and operations, on `lockword`, for thread
 //! ids and replies, on `streams`, for writing, on `itoa`, for numbers, and on `thiserror`, for messages.
 //!
 //! ```text

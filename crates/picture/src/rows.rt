@@ -273,7 +273,7 @@ fn add_tail(text: &mut String, names: &Names, row: &Row<'_>) -> Result<(), Alloc
     add(text, row.words)
 }
 
-/// The name of a mutex's owner; nothing is told of a lost one beside that it is lost.
+/// The name of a mutex's owner; nothing is said of a lost one beside that it is lost.
 fn owner_pieces<'a>(names: &'a Names, digits: &'a mut Buffer, object: Object) -> [&'a str; 3]
     ensures { map (λ p. p.now) result ≡ owner_pieces names.now object }
 {

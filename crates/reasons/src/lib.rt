@@ -5,7 +5,7 @@
 //! [`end_has_its_words`]); the words for a mutex are those of its state ([`mutexes_are_true`]). `explain` and `page` use
 //! these texts for illegal traces. [`add`] puts the pieces of a text together.
 //!
-//! Stands on `verdict`, for what is found, on `facts`, `posixmutex` and `lockword`, for what lines tell, mutexes as
+//! Depends on `verdict`, for what is found, on `facts`, `posixmutex` and `lockword`, for what lines tell, mutexes as
 //! objects, operations, replies and thread ids, and on `itoa`, for numbers.
 //!
 //! ```text
