@@ -30,7 +30,7 @@ pointed None points p = refl
 pointed (Some c) [] p = refl
 pointed (Some c) (q ∷ points) p = refl
 
--- of which these facts are told
+-- of which these facts are recorded
 abbrev of_told : List Fact → ℕ → Bool → Thread
 of_told fs begin doomed = record { locks = unmade_lock (call_in fs) (points_in fs); begin = begin; doomed = doomed }
 

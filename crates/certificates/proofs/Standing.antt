@@ -153,7 +153,7 @@ one_more xs i e is = ap reverse is ∙ reverse-append (take i xs) (e ∷ [])
 pub shown_within : (xs : List Entry) (shown : ℕ) (e : Entry) (s k : State) → Takes s (slice_get xs shown) e true k → shown < length xs
 shown_within xs shown e s k x = (got xs shown e (tells_next (slice_get xs shown) e s k x)).1
 
--- the history's entries up to here are told
+-- the history's entries up to here are recorded
 pub turns : (n : ℕ) (xs steps : List Entry) (shown i : ℕ) (e : Entry) (tells : Bool) (s k : State) → IsSound s → take (i + 1) steps ≡ take i steps ++ e ∷ [] → Takes s (slice_get xs shown) e tells k
     → Stands n (reverse (take shown xs)) (reverse (take i steps)) s → Stands n (reverse (take (if tells then shown + 1 else shown) xs)) (reverse (take (i + 1) steps)) k
 turns n xs steps shown i e true s k sound step x w =

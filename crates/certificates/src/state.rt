@@ -20,13 +20,13 @@ use std::alloc::{AllocError, Global};
 /// What the lines so far told, each of which fits those before it.
 #[derive(Drop)]
 pub struct State {
-    /// By the threads' ids, from 0, which is no thread's.
+    /// Indexed by the threads' ids, from 0, which is no thread's.
     pub phases: Vec<Phase>,
     /// How many mutexes each thread owns, by the threads' ids.
     pub held: Vec<u16>,
-    /// By the mutexes' numbers.
+    /// Indexed by the mutexes' numbers.
     pub objects: Vec<Object>,
-    /// Who is doomed and not killed yet, by the threads' ids.
+    /// Which threads are doomed and not killed yet, by the threads' ids.
     pub doomed: Vec<bool>,
     /// How many lines there are.
     pub lines: usize,

@@ -15,7 +15,7 @@ use std::alloc::{AllocError, Global};
 pub struct Waiter {
     pub thread: Tid,
     pub mutex: u16,
-    /// The mutex is unusable: each lock of it has to be told so.
+    /// The mutex is unusable: each lock of it has to learn that.
     pub unusable: bool,
     /// The line of the history where the call began, counted from 1.
     pub begin: usize,

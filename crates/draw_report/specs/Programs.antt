@@ -46,7 +46,7 @@ PictureEnds Opens k script file old new LetGo Quiet told told' status =
     ⊎ ((f : Failure) × Fails k script had left old new f × IsTold file f told told' status)))
     ⊎ ((e : ErrorKind) × Opens file (Err e) × (new ≡ old) × IsTold file (unopened_by e) told told' status)
 
--- how the script of this name was read: opening it gave one; or a failure, which is told
+-- how the script of this name was read: opening it gave one; or a failure, which is reported
 abbrev pub ScriptOpens : (List ℕ → Result (Option (List ℕ)) ErrorKind → Type 0) → List ℕ → Scope → Type 0
 ScriptOpens Opens name s =
     (had : Option (List ℕ)) × Opens name (Ok had) × (left : Option (List ℕ)) × GivesScript had left s
@@ -59,7 +59,7 @@ ScriptIsTold Opens name told told' status =
     ⊎ ((e : ErrorKind) × Opens name (Err e) × IsTold name (unopened_by e) told told' status)
 
 -- how a picture with the names of a script ended: with those of the script that this file is; or nothing was written,
--- and why there is no script is told
+-- and why there is no script is reported
 abbrev pub NamedEnds : (List ℕ → Result (Option (List ℕ)) ErrorKind → Type 0) → Kind → List ℕ → List ℕ → Option (List ℕ)
     → Option (List ℕ) → Type 0 → Type 0 → Option (List ℕ) → Option (List ℕ) → ℕ → Type 0
 NamedEnds Opens k name file old new LetGo Quiet told told' status =
@@ -67,7 +67,7 @@ NamedEnds Opens k name file old new LetGo Quiet told told' status =
     ⊎ ((new ≡ old) × ScriptIsTold Opens name told told' status)
 
 -- how it ended to tell what the signs mean: all of that was written, the writer has let go of it, and nothing was
--- reported; or a beginning of it, and that it couldn't be written is told
+-- reported; or a beginning of it, and that it couldn't be written is reported
 abbrev pub LegendEnds : Option (List ℕ) → Option (List ℕ) → Type 0 → Type 0 → Option (List ℕ) → Option (List ℕ) → ℕ
     → Type 0
 LegendEnds old new LetGo Quiet told told' status = (Appends old new legend × LetGo × Quiet × (status ≡ 0))
@@ -83,7 +83,7 @@ AskedEnds Opens (Drawing kind (Some name) file) old new LetGo Quiet told told' s
 AskedEnds Opens (Drawing kind None file) old new LetGo Quiet told told' status =
     PictureEnds Opens kind None file old new LetGo Quiet told told' status
 
--- how the program ended: as its command line asks; or memory for its words was wanted, and that is told
+-- how the program ended: as its command line asks; or memory for its words ran out, and that is reported
 abbrev pub RunEnds : (List ℕ → Result (Option (List ℕ)) ErrorKind → Type 0) → Asked → Option (List ℕ) → Option (List ℕ)
     → Type 0 → Type 0 → Option (List ℕ) → Option (List ℕ) → ℕ → Type 0
 RunEnds Opens a old new LetGo Quiet told told' status =

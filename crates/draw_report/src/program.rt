@@ -99,7 +99,7 @@ fn run_legend<W: Output, E: Write>(out: &mut W, err: &mut E) -> u8
 
 /// What `rfx-draw` does with the words of its command line, the first being its name, and the exit status that it
 /// answers: 0 where the picture of the trace, or what the signs of pictures mean, was written and let go of, and
-/// nothing told on `err`; 1 for a fault, which is told there; 2 where the command line has no form. Words that can't be
+/// nothing told on `err`; 1 for a fault, which is reported there; 2 where the command line has no form. Words that can't be
 /// had as text are another command line, unless memory was refused for them.
 pub fn run<F: Opener, W: Output, E: Write>(
     alloc: Global,

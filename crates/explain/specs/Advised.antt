@@ -55,7 +55,7 @@ use Rattle.explain.specs.Sought.{things_of}
 use Rattle.explain.specs.Spoiling.{death_before}
 use Rattle.explain.specs.Stray.{IsExpected, is_last, line_of, lines_in, stray_note, word_of}
 
--- ---- what may be told
+-- ---- what may be reported
 
 abbrev pub nothing : Advice
 nothing = record { mark = None; note = None; also = None; origin = None }
@@ -108,7 +108,7 @@ pub record MarksFirstWrong (k : Kind) (line : List ℕ) (here a : Advice) : Type
   pub origin : a.origin ≡ here.origin
 
 -- line n isn't one of the kind, or not here: no line feed ends it; or its first wrong word is marked; or it is one,
--- and then this is told
+-- and then this is reported
 abbrev pub IsStray : Kind → List ℕ → ℕ → Advice → Advice → Type 0
 IsStray k text n here a = MatchBool (is_last (lines_of text) n)
     (a ≡ saying NoLineFeed)
@@ -314,7 +314,7 @@ abbrev pub looks_of : List ℕ → Looks
 looks_of bytes = if starts_with nat_eq bytes (255 ∷ 254 ∷ []) || starts_with nat_eq bytes (254 ∷ 255 ∷ []) then Utf16
     else (if list_any (λ b. b == 0) bytes then Binary else Latin1)
 
--- the first byte that is no part of a character is told
+-- the first byte that is no part of a character is reported
 abbrev pub no_text : List ℕ → Advice
 no_text bytes = besides (LooksSo (looks_of bytes)) (saying (BadByte (utf8_valid_len bytes + 1)))
 

@@ -70,7 +70,7 @@ IsPermitted o t op r = (new : Object) × Permits o t op r new
 abbrev pub AllowedArePermitted : Object → ℕ → Standing → Type 0
 AllowedArePermitted o t s = (op : Operation) (r : Reply) → (allows s op r ≡ true) ↔ IsPermitted o t op r
 
--- ---- as it is told
+-- ---- as it is reported
 
 -- where it has no reply: a lock of a mutex that another thread owns sleeps, a wait of the owner of a consistent mutex
 -- unlocks it, and what a wait with a time limit does is reported as a wait's

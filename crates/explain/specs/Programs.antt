@@ -49,7 +49,7 @@ AskedEnds Opens None old new LetGo Quiet told told' status = (new ≡ old) × Is
 AskedEnds Opens (Some file) old new LetGo Quiet told told' status =
     FileEnds Opens file old new LetGo Quiet told told' status
 
--- how the program ended: as its command line asks; or memory for its words was wanted, and that is told
+-- how the program ended: as its command line asks; or memory for its words ran out, and that is reported
 abbrev pub RunEnds : (List ℕ → Result (Option (List ℕ)) ErrorKind → Type 0) → Asked → Option (List ℕ) → Option (List ℕ)
     → Type 0 → Type 0 → Option (List ℕ) → Option (List ℕ) → ℕ → Type 0
 RunEnds Opens a old new LetGo Quiet told told' status =

@@ -187,7 +187,7 @@ fn behind_replies(operation: Operation) -> &'static str
     }
 }
 
-/// Tells the reply, if it is allowed, and whether one was told so far.
+/// Tells the reply, if it is allowed, and whether one was named so far.
 fn add_reply(
     text: &mut Vec<u8>,
     standing: Standing,
@@ -205,7 +205,7 @@ fn add_reply(
     Ok(true)
 }
 
-/// That there is none, where none was reported.
+/// Says that there is none, if none was reported.
 fn add_end(text: &mut Vec<u8>, operation: Operation, told: bool) -> Result<(), AllocError>
     ensures { OnOk result (text.new.items ≡ text.old.items ++ end_words operation told) }
 {

@@ -17,13 +17,13 @@ use script::MAX_MUTEXES;
 /// A line that is looked for.
 #[derive(Clone, Copy)]
 pub enum Sought<'a> {
-    /// It declares this name as such a thing.
+    /// Declares this name as such a thing.
     Declaration(Things, &'a str),
-    /// It declares this name, as whatever.
+    /// Declares this name, as whatever.
     Name(&'a str),
-    /// It declares a mutex whose name is this word with a number below this after it, or begins so.
+    /// Declares a mutex whose name is this word with a number below this after it, or begins so.
     Numbered(&'a str, u32),
-    /// It declares such a thing.
+    /// Declares such a thing.
     Any(Things),
     /// It is a command.
     Command,

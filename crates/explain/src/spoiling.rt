@@ -30,7 +30,7 @@ pub struct Spoiling {
 struct Past {
     /// Whether the thread is in a wait, by the threads' ids, from 0, which is no thread's.
     waits: Vec<bool>,
-    /// Of a mutex that is inconsistent the line of its last owner's death, by the mutexes' numbers.
+    /// About a mutex that is inconsistent the line of its last owner's death, by the mutexes' numbers.
     deaths: Vec<Option<usize>>,
 }
 

@@ -81,7 +81,7 @@ own t [] = []
 own t (l ∷ ls) = if is_of_call l.fact && (thread_of l.fact == t) then l.fact ∷ own t ls else own t ls
 
 -- what is recorded of thread t after it was killed: its death, of mutexes; and perhaps that it was reaped, after
--- which nothing is told
+-- which nothing is recorded
 pub data Mourned (t : ℕ) : List Fact → Type 0 where
   Unburied : Mourned t []
   Tells_of : (m : ℕ) (later : List Fact) → Mourned t later → Mourned t (Death t m ∷ later)

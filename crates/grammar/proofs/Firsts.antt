@@ -50,7 +50,7 @@ awaits k ws n e w = (
   λ h. let v = the_value (after n w) h in goes_on k (ws ++ w ∷ []) v.0 (run_more (first_of k) n ws w e ∙ v.1),
 )
 
--- ---- what is told
+-- ---- what is reported
 
 -- after this many of the words, which go from n to what x has
 pub record Found (n : Next) (i at : ℕ) (ws : List (List ℕ)) (x : Wrong) : Type 0 where

@@ -26,7 +26,7 @@ pub enum Fault {
 }
 
 impl Fault {
-    /// Its number, as that of a trace's fault with these words: 1, 2, 3, 5 or 6.
+    /// The number, as that of a trace's fault with these words: 1, 2, 3, 5 or 6.
     pub fn number(self) -> u8
         ensures { result ≡ number_of self }
     {
@@ -39,7 +39,7 @@ impl Fault {
         }
     }
 
-    /// Its words, as its message has them.
+    /// The words, as its message has them.
     pub fn words(self) -> &'static str
         ensures { result.now ≡ words_of self }
     {

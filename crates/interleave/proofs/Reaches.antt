@@ -427,7 +427,7 @@ reached_runs_alone m es r =
 pub reached_reaped : (m : Shown) (es : List Event) → IsReached m → NoReapedOwns (run (state_of m) es)
 reached_reaped m es r = no_reaped_owns (run (state_of m) es) (run_kept (state_of m) es (reached_kept m r))
 
--- and whoever is killed, its death is told
+-- and whoever is killed, its death is recorded
 pub reached_deaths : (m : Shown) (es : List Event) → IsReached m → ReportsDeaths (state_of m) es
 reached_deaths m es r = reports_deaths (state_of m) es (reached_kept m r)
 

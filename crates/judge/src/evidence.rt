@@ -16,9 +16,9 @@ use posixmutex::Operation;
 /// What a reply does to its call's mutex.
 #[derive(Clone, Copy)]
 pub enum Change {
-    /// Its thread owns the mutex now.
+    /// The thread owns the mutex now.
     Gets,
-    /// Its thread doesn't own the mutex any more.
+    /// The thread doesn't own the mutex any more.
     Leaves,
 }
 

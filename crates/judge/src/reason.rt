@@ -13,7 +13,7 @@ use posixmutex::Operation;
 /// Why a thread's line may not stand where it does, whatever its mutex.
 #[derive(Clone, Copy, Debug, PartialEq, Eq)]
 pub enum OutOfTurn {
-    /// It begins a call, and is in one.
+    /// Begins a call, and is in one.
     InCall,
     /// It returns, and is in no call.
     NoCall,

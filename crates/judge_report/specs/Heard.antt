@@ -131,7 +131,7 @@ abbrev pub Cuts : List ℕ → Option (List ℕ) → Bool → List ℕ → Type 
 Cuts bytes left true line = (rest : List ℕ) × (left ≡ Some rest) × (lines_of bytes ≡ line ∷ lines_of rest)
 Cuts bytes left false line = lines_of bytes ≡ line ∷ []
 
--- the first line is read, and what stands after it is left; or its fault is told
+-- the first line is read, and what stands after it is left; or its fault is reported
 abbrev pub Begins : List ℕ → Option (List ℕ) → Result Head ReadFault → Type 0
 Begins bytes left (Ok h) =
     (rest : List ℕ) × (left ≡ Some rest) × (history_read bytes ≡ lines_read 2 (begun h) (lines_of rest))

@@ -53,7 +53,7 @@ AskedEnds Opens Makes Fills (Overwrites file) old new LetGo Quiet told told' sta
 AskedEnds Opens Makes Fills (Judging waiting kept file) old new LetGo Quiet told told' status =
     FileEnds Opens Makes Fills waiting kept file old new LetGo Quiet told told' status
 
--- how the program ended: as its command line asks; or memory for its words was wanted, and that is told
+-- how the program ended: as its command line asks; or memory for its words ran out, and that is reported
 abbrev pub RunEnds : (List ℕ → Result (Option (List ℕ)) ErrorKind → Type 0) → (List ℕ → Option (List ℕ) → Type 0)
     → (List ℕ → Option (List ℕ) → Type 0) → Asked → Option (List ℕ) → Option (List ℕ) → Type 0 → Type 0
     → Option (List ℕ) → Option (List ℕ) → ℕ → Type 0

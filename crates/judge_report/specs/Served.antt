@@ -18,7 +18,7 @@ use Rattle.judge_report.specs.Said.{IsSaid, status_of}
 abbrev pub IsRead : Option (List ℕ) → Heard → Type 0
 IsRead had k = IfSome had (λ bytes. history_read bytes ≡ Ok k)
 
--- a history was read and judged, its certificate was kept, if it was to be, and that was told
+-- a history was read and judged, its certificate was kept, if it was to be, and that was reported
 pub record Serves (Makes Fills : List ℕ → Option (List ℕ) → Type 0) (waiting : Bool) (kept : Kept)
     (had old new : Option (List ℕ)) (status : ℕ) : Type 0 where
   pub heard : Heard
@@ -31,7 +31,7 @@ pub record Serves (Makes Fills : List ℕ → Option (List ℕ) → Type 0) (wai
   pub written : Appends old new text
   pub exit : status ≡ status_of judgement
 
--- the same, but only a beginning was told
+-- the same, but only a beginning was reported
 pub record ServesFront (Makes Fills : List ℕ → Option (List ℕ) → Type 0) (waiting : Bool) (kept : Kept)
     (had old new : Option (List ℕ)) : Type 0 where
   pub heard : Heard

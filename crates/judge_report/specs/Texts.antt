@@ -159,7 +159,7 @@ why_note ls (reason.OutOfTurn why) = []
 why_note ls (reason.NoOrder op m x begin) =
     evidence_notes ls m (evidence_of m (reverse (entries ls))) ++ begin_note (slice_get ls (begin - 1))
 
--- what the thread could be told there, if anything was found: one reply, or another
+-- what the thread could get there, if anything was found: one reply, or another
 abbrev pub or_text : Reply → List ℕ
 or_text x = concat (codes " or " ∷ reply_word x ∷ [])
 

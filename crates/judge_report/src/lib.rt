@@ -5,7 +5,7 @@
 //! certificate with N points was checked, which `--trace` writes, and `--windows` in windows that the judge of traces
 //! finds legal; after that it names with `--waiting` just the calls that the certificate leaves waiting and shouldn't.
 //! Where it writes `illegal at line L`, the lines before L are a legal history, and with line L they aren't, for the reason
-//! that it tells; with each reply that it says could be told there they are one. Where it writes `undecided at line L`,
+//! that it tells; with each reply that it says could get there they are one. Where it writes `undecided at line L`,
 //! the lines before L are one. A file that is no history is reported by its first fault (`history_read`).
 //!
 //! The file is read once, line by line. What its lines tell is kept, 40 bytes a line; so is what the search keeps of

@@ -50,7 +50,7 @@ fn run_file<F: Opener, M: Maker, W: Output, E: Write>(
 
 /// What `rfx-judge` does with the words of its command line, the first being its name, and the exit status that it
 /// answers: 0 where the history is legal, 1 where it is illegal or not decided, and both times all that is said of it was
-/// written and let go of, and nothing told on `err`; 1 for a failure, which is told there; 2 where the command line has
+/// written and let go of, and nothing told on `err`; 1 for a failure, which is reported there; 2 where the command line has
 /// no form. Words that can't be had as text are another command line, unless memory was refused for them.
 pub fn run<F: Opener, M: Maker, W: Output, E: Write>(
     alloc: Global,

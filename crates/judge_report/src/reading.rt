@@ -15,7 +15,7 @@ use std::io::{self, BufRead, ErrorKind};
 /// A history that was read.
 #[derive(Drop)]
 pub struct History {
-    /// Its first line.
+    /// The first line.
     pub head: Head,
     /// What is seen, in its order.
     pub lines: Vec<HistoryLine>,

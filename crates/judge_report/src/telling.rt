@@ -140,7 +140,7 @@ fn write_title<W: Write>(out: &mut W, line: &HistoryLine, why: &Reason) -> io::R
     }
 }
 
-/// That a thread died there which may have owned the mutex.
+/// Writes that a thread died there which may have owned the mutex.
 fn write_death_title<W: Write>(out: &mut W, mutex: u16, line: &HistoryLine) -> io::Result<()>
     ensures { Leaves (W.contents out.old) (W.contents out.new) result (death_title mutex line.now) }
 {
@@ -324,7 +324,7 @@ fn write_why<W: Write>(out: &mut W, lines: &[HistoryLine], why: &Reason) -> io::
     }
 }
 
-/// The first of what the line's thread could be told there.
+/// The first of what the line's thread could get there.
 fn write_first<W: Write>(out: &mut W, line: &HistoryLine, reply: Reply) -> io::Result<()>
     ensures { Leaves (W.contents out.old) (W.contents out.new) result (first_text (entry_thread line.now.entry) reply) }
 {
@@ -363,7 +363,7 @@ fn write_here<W: Write>(out: &mut W) -> io::Result<()>
     put_pieces(out, &[Word(" here\n")])
 }
 
-/// What the line's thread could be told there: this reply, or one of the others.
+/// What the line's thread could get there: this reply, or one of the others.
 fn write_each<W: Write>(
     out: &mut W,
     line: &HistoryLine,
@@ -378,7 +378,7 @@ fn write_each<W: Write>(
     write_here(out)
 }
 
-/// What the line's thread could be told there, if anything was found.
+/// What the line's thread could get there, if anything was found.
 fn write_possible<W: Write>(out: &mut W, line: &HistoryLine, possible: &[Reply]) -> io::Result<()>
     ensures { Leaves (W.contents out.old) (W.contents out.new) result
         (possible_note (entry_thread line.now.entry) possible.now) }

@@ -10,7 +10,7 @@ use Rattle.memorymap.specs.declared.layout.LayoutFault.{LayoutFault}
 use Rattle.memorymap.specs.declared.layout.LayoutFault.TheVariants.{Threads, Mutexes, Conditions}
 use Rattle.memorymap.specs.declared.layout.LayoutFault.TheVariants.{Processes, Bases, Members}
 
--- what is asked for is given, in one process that maps the words at 0, and else the first fault is told
+-- what is asked for is given, in one process that maps the words at 0, and else the first fault is reported
 abbrev pub Lays : ℕ → ℕ → ℕ → List ℕ → Result Layout LayoutFault → Type 0
 Lays most t m cs (Ok l) = HasThreadsTo most t × HasMutexes m × HasConditions m cs × (l ≡ one_process t m cs)
 Lays most t m cs (Err Threads) = ¬ HasThreadsTo most t

@@ -16,7 +16,7 @@ use Rattle.page.specs.declared.status.Status.{Status}
 
 -- ---- after lines
 
--- which life a thread is in, of which these facts are told
+-- which life a thread is in, of which these facts are reported
 abbrev pub life_in : List Fact → ℕ
 life_in [] = 1
 life_in (Renew t ∷ fs) = life_in fs + 1

@@ -282,7 +282,7 @@ if (isCut) {
   element("cut").textContent = "Of " + end[2] + " lines the first " + lines.length + " are shown here; the picture has all." + judged;
   element("cut").className = illegal ? "misfit" : "";
 }
-// the title: whose death is reported first, of which mutex, and what its next owner is told
+// the title: whose death is reported first, of which mutex, and what its next owner is reported
 function story() {
   const first = lines.findIndex(line => line[1][0] === "death");
   if (first < 0) return "";

@@ -15,9 +15,9 @@ use std::alloc::{AllocError, Global};
 /// What all threads and mutexes are.
 #[derive(Drop)]
 pub struct State {
-    /// By the threads' ids, from 0, which is no thread's.
+    /// Indexed by the threads' ids, from 0, which is no thread's.
     pub threads: Vec<Status>,
-    /// By the mutexes' numbers.
+    /// Indexed by the mutexes' numbers.
     pub mutexes: Vec<Object>,
 }
 

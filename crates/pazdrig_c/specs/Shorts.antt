@@ -251,7 +251,7 @@ pub record RefusalsByPlan : Type 0 where
       → wakes_all op (fields_of w) ≡ false
       → GoesOnUndecided (progresses r (up_to_look op (is_own k.thread w) w s))
 
--- ---- what C is told
+-- ---- what C is reported
 
 -- the numbers of accesses
 abbrev pub codes : List Access → List PzAccess

@@ -66,7 +66,7 @@ impl Lane {
         }
     }
 
-    /// Its sign in a row of text.
+    /// The sign in a row of text.
     pub fn sign(self) -> &'static str
         ensures { result.now ≡ stays self }
     {

@@ -14,7 +14,7 @@ use posixmutex::{Decision, Object, Operation};
 /// What all lanes and bands show after a line.
 #[derive(Clone, Copy)]
 pub struct Scene {
-    /// By the threads' ids, from 0, which is no thread's.
+    /// Indexed by the threads' ids, from 0, which is no thread's.
     pub lanes: [Lane; IDS],
     /// The mutexes that have bands, from left to right.
     pub objects: [Object; 16],

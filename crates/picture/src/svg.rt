@@ -27,7 +27,7 @@ const NAME_Y: u128 = 20;
 /// Since which line, from 1, each lane and each band shows what it shows; 0 before the first line.
 #[derive(Clone, Copy)]
 pub struct Since {
-    /// By the threads' ids.
+    /// Indexed by the threads' ids.
     pub lanes: [usize; IDS],
     /// From left to right.
     pub bands: [usize; 16],

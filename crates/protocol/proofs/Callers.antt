@@ -31,7 +31,7 @@ two_else f g t q first second h = ⊎_elim first (one_else g t q second) h
 three_else : (f g k : Fact) (t : ℕ) (q : Queue) → (f ≡ Sleep t q → ⊥) → (g ≡ Sleep t q → ⊥) → (k ≡ Sleep t q → ⊥) → IsAmong (Sleep t q) (f ∷ (g ∷ (k ∷ []))) → ⊥
 three_else f g k t q first second third h = ⊎_elim first (λ more. ⊎_elim second (one_else k t q third) more) h
 
--- ---- where a sleep is told
+-- ---- where a sleep is recorded
 
 slept_is : (k q : Queue) (b : Bool) → slept_in k b ≡ Some q → (b ≡ true) × (k ≡ q)
 slept_is k q true e = (refl, cc)

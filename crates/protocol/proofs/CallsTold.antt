@@ -67,7 +67,7 @@ module _ (s : State) (u t : ℕ) (b : Option Begun) (h : IsTold s.layout (s.thre
   spared_so m held g (Of_unlock o p is mutex at leads) = subst (λ (z : Led). At (put s.threads u (record { stage = z.stage; held = held }) t).stage b) (sym leads) (in_call o p (whole_led p (Count 1)).phase held is)
   spared_so m held g (Of_wait c p seen is mutex at leads) = subst (λ (z : Led). At (put s.threads u (record { stage = z.stage; held = held }) t).stage b) (sym leads) (at_condition c p (cond_led p (Count 1)).phase held is)
 
-  -- a begin puts it into the call that is told
+  -- a begin puts it into the call that is recorded
   begins : (z : Thread) (x : Option Begun) → At z.stage x → At (put s.threads u z t).stage (if u == t then x else b)
   begins z x on =
       by_put (λ (y : Thread). At y.stage (if u == t then x else b)) s.threads u z t (λ is. subst (At z.stage) (sym (mine u t x b is)) on)

@@ -157,7 +157,7 @@ module _ (s : State) (t : ℕ) (c : CondCall) (p : CondWhole) (inv : Kept s) (qu
   abbrev pub Moved_all : CondWhole → Type 0
   Moved_all y = (facts_of (cond_note s t c y) ≡ map (moves_to (its_mutex s c)) (s.queues (its_counter s c)) ++ Return t OK ∷ []) × ((cond_after s t c y).queues (its_counter s c) ≡ [])
 
-  -- as which it was told
+  -- as which it was recorded
   broadcasts : (d : CondCall) → operation_of d ≡ Operation.Broadcast → acts_as d ≡ Operation.Broadcast
   broadcasts (CondCall.Broadcast j) e = refl
   broadcasts (CondCall.Wait j) e = absurd (cc e)

@@ -215,7 +215,7 @@ told_moves l c m (x ∷ xs) rest w of inside g =
 
 -- ---- an event
 
--- in each queue of the layout they stand as was told
+-- in each queue of the layout they stand as was recorded
 abbrev pub AsTold : Layout' → (ℕ → List ℕ) → (Queue → List ℕ) → Type 0
 AsTold l qs w = (q : Queue) → IsQueue l q → qs (queue_place l q) ≡ w q
 
@@ -240,7 +240,7 @@ placed s key t inv queued stands = let slept = queued.sleeps key t stands in go 
     go first last Reaped is h = absurd h
 
 module _ (s : State) (inv : Kept s) (queued : Queued s) where
-  -- who stands in front of a queue, and where the queues say so it was told
+  -- who stands in front of a queue, and where the queues say so it was recorded
   stand_so : (k : Queue) (these rest : List ℕ) (w : Queue → List ℕ) → IsQueue s.layout k → s.queues (queue_place s.layout k) ≡ these ++ rest → AsTold s.layout s.queues w → Stands s.layout w k these rest
   stand_so k these rest w inside is said = record {
     inside = inside;

@@ -98,7 +98,7 @@ module _ (s : State) (t : ℕ) (late : Bool) (h : IsLateAt (s.threads t).stage l
   abbrev Stays : After → Type 0
   Stays a = IsLateAt (a.state.threads t).stage (late_next t late a.note)
 
-  -- thread u comes to stand elsewhere, and no limit is told
+  -- thread u comes to stand elsewhere, and no limit is recorded
   changes : (u : ℕ) (z : Thread) → (IsLateAt (s.threads u).stage late → IsLateAt z.stage late) → IsLateAt (put s.threads u z t).stage late
   changes u z on = by_put (λ (y : Thread). IsLateAt y.stage late) s.threads u z t (λ is. on (subst (λ (v : ℕ). IsLateAt (s.threads v).stage late) is h)) (λ apart. h)
 

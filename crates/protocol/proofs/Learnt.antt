@@ -52,7 +52,7 @@ use Rattle.protocol.proofs.Events.{HowSpared, Of_unlock, Of_wait, Sparing}
 use Rattle.protocol.proofs.Sparing.{spare_is, spared_state, next_of, unwoken}
 use Rattle.lockword.specs.Threads.{most_threads}
 
--- ---- the mutex of a point that is told
+-- ---- the mutex of a point that is recorded
 
 abbrev point_next : ℕ → State → Option Object → Option Decision → Option Object
 point_next t s o None = o

@@ -208,7 +208,7 @@ module _ (s : State) (u : ℕ) (c : CondCall) (p : CondWhole) (inv : Kept s) (co
   noted_point : (d : Decision) → IsAmong (Fact.Point d) (facts_of (cond_note s u c p)) → decision u (its_mutex s c) led_on.operation led_on.point ≡ Some d
   noted_point d h = point_noted d u (its_mutex s c) _ _ _ _ _ h
 
-  -- what was decided, where that is told
+  -- what was decided, where that is recorded
   told_so : (x : Option Point) (d : Decision) → decision u (its_mutex s c) (decided_at (acts_as c) x) (reply_at x) ≡ Some d → (y : Point) × (x ≡ Some y) × (u ≡ d.thread) × (y.operation ≡ d.operation) × (y.reply ≡ d.reply)
   told_so None d e = absurd cc
   told_so (Some y) d e = let same = decided_is u (its_mutex s c) y.operation y.reply d e in (y, refl, same.0, same.1, same.2)
@@ -439,7 +439,7 @@ behind_run s (e ∷ es) inv counted t k first last none h =
     behind_run (happens s e).state es (sound s e inv).kept (counted_on s e inv counted) t k first (subst (λ (l : Layout'). t ≤ l.threads) (sym (sound s e inv).same) last) (begins_later t (facts_of (happens s e).note) (facts_among (notes (happens s e).state es)) none)
     (behind_on s e inv counted t k first last (begins_first t (facts_of (happens s e).note) (facts_among (notes (happens s e).state es)) none) h)
 
--- from a state in which no call was told
+-- from a state in which no call was recorded
 module _ (s0 : State) (events : List Event) (inv : Kept s0) (counted : Counted s0) (untold : (t : ℕ) → IsTold s0.layout (s0.threads t).stage None) (t k : ℕ) (h : IsPassedBy t k (notes s0 events)) where
   release_at : Split s0 h.before h.release (h.between ++ h.count ∷ (h.later ++ h.sleep ∷ h.rest))
   release_at = split s0 events h.before h.release (h.between ++ h.count ∷ (h.later ++ h.sleep ∷ h.rest)) h.told_so

@@ -281,7 +281,7 @@ module _ (s : State) (t : ℕ) (inv : Kept s) (pos : 1 ≤ t) (known : t ≤ s.l
   knows_then : (r : Row) → Knows t (head_in s.layout t) r → Knows t (head_in s.layout t) (row_then s t r)
   knows_then r knows = steps.knows t (head_in s.layout t) r (walk_answer s t r) knows
 
-  -- a row that reads, by which no death is told
+  -- a row that reads, by which no death is recorded
   reads_so : (r : Row) → IsGoing r → Knows t (head_in s.layout t) r → LeftToWalk s t r → death_then s t r ≡ None → changed (walk_access s t r) (s.words (place_met s.layout t (walk_access s t r))) ≡ s.words (place_met s.layout t (walk_access s t r)) → Arrived s t (row_then s t r) → WalkStep s t r
   reads_so r going knows l none reads arrived = record {
     valid = walk_valid r going knows l;

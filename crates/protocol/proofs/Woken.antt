@@ -38,7 +38,7 @@ use Rattle.protocol.proofs.Learnt.{Asks, AsksFor, AsksAt, Learnt, run_learnt}
 use Rattle.protocol.proofs.Sparing.{spare_is}
 use Rattle.lockword.specs.Threads.{most_threads}
 
--- ---- the wakes and the moves that are told
+-- ---- the wakes and the moves that are recorded
 
 none_returned : (u : ℕ) (y : Option Reply) → (wakes_in (return_facts u y) ≡ []) × (moves_in (return_facts u y) ≡ [])
 none_returned u None = (refl, refl)

@@ -72,7 +72,7 @@ told_after t w (f ∷ fs) = told_after t (told_next t w f) fs
 abbrev pub last_told : ℕ → List Note → Told
 last_told t ns = told_after t AtRest (facts_among ns)
 
--- no kill of it was told
+-- no kill of it was recorded
 abbrev pub IsLiving : Told → Type 0
 IsLiving AtRest = Unit {0}
 IsLiving InCall = Unit {0}
@@ -84,7 +84,7 @@ HasAccess InCall = Unit {0}
 HasAccess Dead = Unit {0}
 HasAccess w = ⊥
 
--- where a thread stands of which that was told
+-- where a thread stands of which that was recorded
 abbrev pub Agrees : Told → Stage → Type 0
 Agrees AtRest Idle = Unit {0}
 Agrees InCall (Calling o p) = Unit {0}
@@ -194,7 +194,7 @@ IsNotedAs l s (event.Renew t) n = n ≡ Renewed t
 IsNotedAs l s (event.Remake t m) n = n ≡ Reinited t m
 IsNotedAs l s (event.Spare t by) n = IsSparedAccessOf l s t n
 
--- of a state that events lead to that were noted so: its layout is as it was, and each thread stands where it was told
+-- of a state that events lead to that were noted so: its layout is as it was, and each thread stands where it was recorded
 -- to stand, and is in the call whose begin was recorded last; whatever event comes next, it happens where it
 -- applies, and else it does nothing
 pub record NextApplies (l : Layout') (s : State) (ns : List Note) : Type 0 where

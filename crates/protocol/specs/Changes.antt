@@ -66,7 +66,7 @@ MayStir s InCall (Some b) key = (key ≡ cell_place s.layout b.mutex)
 MayStir s Dead b key = (m : ℕ) × (m < s.layout.mutexes) × (key ≡ cell_place s.layout m)
 MayStir s w b key = ⊥
 
--- it makes a step: at most one word changes, and no other thread; who stands in the queues then is told
+-- it makes a step: at most one word changes, and no other thread; who stands in the queues then is recorded
 pub record OnlySteps (s s' : State) (t : ℕ) (w : Told) (b : Option Begun) : Type 0 where
   pub place : ℕ
   pub words : (p : ℕ) → p ≢ place → s'.words p ≡ s.words p

@@ -19,7 +19,7 @@ deaths t m [] = 0
 deaths t m (Death u k ∷ fs) = (if (u == t) && (k == m) then 1 else 0) + deaths t m fs
 deaths t m (f ∷ fs) = deaths t m fs
 
--- no renewal of thread t is told
+-- no renewal of thread t is recorded
 abbrev pub IsNotRenewed : ℕ → List Fact → Type 0
 IsNotRenewed t [] = Unit {0}
 IsNotRenewed t (Renew u ∷ fs) = (u ≢ t) × IsNotRenewed t fs
@@ -41,7 +41,7 @@ pub record ReportsDeath (s : State) (t : ℕ) (events : List Event) : Type 0 whe
       → deaths t m (facts_among (notes (killed s t).state events)) ≡ 1
 
 -- it is so of each kill among the events, wherever it stands, of a thread that lives then, at each moment after it
--- before the thread is renewed: of each life of a thread its own mutexes are told
+-- before the thread is renewed: of each life of a thread its own mutexes are recorded
 abbrev pub ReportsDeaths : State → List Event → Type 0
 ReportsDeaths s events = (before after rest : List Event) (t : ℕ) → events ≡ before ++ Kill t ∷ (after ++ rest)
     → has_thread (run s before) t ≡ true → is_alive ((run s before).threads t).stage ≡ true

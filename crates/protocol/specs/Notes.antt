@@ -49,7 +49,7 @@ abbrev pub reap_facts : ℕ → Bool → List Fact
 reap_facts t false = []
 reap_facts t true = Reap t ∷ []
 
--- a reinit of mutex m, as its begin is told
+-- a reinit of mutex m, as its begin is recorded
 abbrev pub reinit_of : ℕ → Begun
 reinit_of m = record { operation = operation.Reinit; mutex = m; condition = None }
 

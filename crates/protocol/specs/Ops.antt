@@ -7,7 +7,7 @@ use Rattle.facts.specs.declared.fact.Begun.{Begun}
 use Rattle.facts.specs.declared.fact.Queue.{Queue}
 use Rattle.facts.specs.declared.fact.Queue.TheVariants.{Mutex, Condition}
 
--- as its begin is told
+-- as its begin is recorded
 abbrev pub begun_of : Layout' → Op → Begun
 begun_of l o = record { operation = operation_of o; mutex = mutex_of l o; condition = condition_of o }
 

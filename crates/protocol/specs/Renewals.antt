@@ -27,7 +27,7 @@ pub record OnlyRenews (s s' : State) (t : ℕ) : Type 0 where
   pub awake : IsInNoQueue s' t
   pub owns_none : (m : ℕ) → (seen s' m).owner ≢ Some t
 
--- where it was reaped, and that it is renewed is all that is told
+-- where it was reaped, and that it is renewed is all that is recorded
 abbrev pub RenewsSo : State → ℕ → Type 0
 RenewsSo s t = (s.threads t).stage ≡ Reaped
     → OnlyRenews s (happens s (Renew t)).state t × (facts_of (happens s (Renew t)).note ≡ fact.Renew t ∷ [])

@@ -32,7 +32,7 @@ use Rattle.protocol.specs.PassedBy.{ArePresets}
 abbrev pub call_alone : ℕ → CondCall → ℕ → List Event
 call_alone t c n = event.Begin t (OnCondition c) ∷ replicate n (event.Step t)
 
--- its begin and its one point, and then these facts and its return are told
+-- its begin and its one point, and then these facts and its return are recorded
 abbrev pub told_of_call : State → ℕ → CondCall → ℕ → Operation → Reply → List Fact → List Fact
 told_of_call s t c m op x fs = Begin t (begun_of s.layout (OnCondition c))
     ∷ (Point (record { thread = t; mutex = m; operation = op; reply = x }) ∷ (fs ++ Return t x ∷ []))

@@ -29,7 +29,7 @@ use Rattle.protocol.specs.Headline.{seen}
 use Rattle.protocol.specs.Applies.{Told, InCall, Dead, last_told}
 use Rattle.protocol.specs.PassedBy.{call_told}
 
--- ---- what is told
+-- ---- what is recorded
 
 -- the wakes among some facts, and the moves, in their order
 abbrev pub wakes_in : List Fact → List Fact

@@ -95,7 +95,7 @@ abbrev pub queues_after : (Queue → List ℕ) → List Fact → Queue → List 
 queues_after w [] = w
 queues_after w (f ∷ fs) = queues_after (queues_next f w) fs
 
--- nobody sleeps before anything is told
+-- nobody sleeps before anything is recorded
 abbrev pub nobody : Queue → List ℕ
 nobody q = []
 
@@ -156,7 +156,7 @@ pub record TellsTurns (s : State) (e : Event) (t : ℕ) : Type 0 where
       ↔ (LeavesQueue s (happens s e).state t × (e ≢ event.Kill t))
   pub move : (m : ℕ) → IsAmong (Move t m) (facts_of (happens s e).note) ↔ IsMoved s (happens s e).state t m
 
--- ---- whose sleep is told
+-- ---- whose sleep is recorded
 
 -- a call, as its begin was recorded, may come to sleep there: a lock, with a time limit or without, in the queue of
 -- its mutex, and a wait in that of its condition variable or of its mutex

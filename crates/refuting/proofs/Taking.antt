@@ -134,7 +134,7 @@ none_left n h future e x r k after st none legal =
     let i = s.there in
     omega (arith, none, i.1)
 
--- ---- a line that can't be told
+-- ---- a line that can't be recorded
 
 record Heard (turn : Turn) (e : Entry) (x : Option Reply) (own : ℕ) : Type 0 where
   after : Turn

@@ -106,7 +106,7 @@ pub record StandsFor (m : ℕ) (ts : List Turn) (trace : List Line) (s : State) 
   pub long : length s.calls ≡ ids
   pub calls : (t : ℕ) → Goes m (stage_after t trace) (turn_at ts t) (call_at s.calls t)
 
--- and its calls have waited for what they will be told
+-- and its calls have waited for what they will be recorded
 abbrev pub HaveWaited : ℕ → List Turn → List Line → State → Type 0
 HaveWaited m ts trace s =
     (t : ℕ) → Waits m (stage_after t trace) (turn_at ts t) (call_at s.calls t) (chances_behind t m trace)

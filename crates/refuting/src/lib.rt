@@ -6,7 +6,7 @@
 //! own lines are looked at too: who begins a call in a call is refuted, whatever the mutex.
 //!
 //! A point that changes the mutex is a step from state to state. One that changes nothing is no step: a state notes
-//! that a call could have been told there what it returns. What it returns is looked up in the lines after.
+//! that a call could have got there what it returns. What it returns is looked up in the lines after.
 //!
 //! How many mutexes a thread owns is counted by its own lines: who owns 2,048 gets X_HELD, and nobody else.
 //!

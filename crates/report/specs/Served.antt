@@ -89,7 +89,7 @@ IsFoundLegal s = IsJudgedLegal (script_head s) (told_of s)
 
 -- what may be written of a script: of a run, if it isn't too long to play, its trace or its table, and the run that
 -- they are of is legal; of real threads, what some that made its calls were answered. A script doesn't determine what
--- real threads are told
+-- real threads are reported
 abbrev pub Means : Report → Scope → List ℕ → Type 0
 Means trace s text = (overlong s ≡ None) × RunsLegally s × IsFoundLegal s × (text ≡ meaning s)
 Means table s text = (overlong s ≡ None) × RunsLegally s × (text ≡ meant_table s)

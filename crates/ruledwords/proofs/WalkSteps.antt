@@ -47,7 +47,7 @@ use Rattle.ruledwords.proofs.WalkBeginnings.{found_own, found_owner, here, own_o
 
 -- ---- one access
 
--- so far nothing is told
+-- so far nothing is recorded
 pub walked_nothing : (k : Layout') (c : Card) → HasWalked k c c
 walked_nothing k c = record {
   thread = refl;
@@ -222,7 +222,7 @@ module _ (k : Layout') (c : Card) (is : IsCardOf k c) (knows : KnowsOwn k c) whe
     left_then true e sees remembers = left_marked (gone true refl sees)
     left_then false e sees remembers = left_missed (eqb-false n v e) (kept_all false refl sees) sees.leaves remembers
 
-    -- ---- what is told
+    -- ---- what is recorded
 
     told_here : (first : Card) → HasWalked k first c → (b : Bool) → Sees c q (deaths u q b) (object_of (fields_of (left_word b))) d → owns_in k first m ≡ true → ((owns_in k d m ≡ true) × SawThere first q [] d) ⊎ TellsDeath first q d
     told_here first was b sees own = ⊎_elim (λ still. go b sees still.1) (λ told. absurd (let died = dead told in cc (died, owns_here))) (was.told m treated.0 own)

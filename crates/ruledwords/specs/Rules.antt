@@ -167,7 +167,7 @@ card_of (c ∷ cs) = c
 abbrev pub IsOne : Sat → Type 0
 IsOne me = me ≡ (card_of me.0 ∷ [], [])
 
--- one card becomes another, of which this is told
+-- one card becomes another, of which this is recorded
 abbrev pub Turns : Sat → Sat → (Card → Card → Type 0) → Type 0
 Turns me me' tells = (c : Card) → me ≡ (c ∷ [], []) → (d : Card) × (me' ≡ (d ∷ [], [])) × tells c d
 

@@ -37,7 +37,7 @@ unfinished op x (inr is) all =
     let e : Unlock ≡ Wait = h.0 in
     absurd cc
 
--- a call whose points are made may return what is told
+-- a call whose points are made may return what is recorded
 all_made : (op : Operation) (ps : List Act) (m : Made) (x : Reply) → Of op ps m → Complete op ps x → MayReturnNow op m x
 all_made op ps Nothing x of is = absurd (subst (λ (zs : List Act). Complete op zs x) of is)
 all_made op ps Released x of is = absurd (unfinished op x of.0 (subst (λ (zs : List Act). Complete op zs x) of.1 is))

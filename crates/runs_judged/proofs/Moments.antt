@@ -94,7 +94,7 @@ module _ (l : Layout') (s : State) (ns : List Note) (m : Moment l s ns) where
       go first most alive busy Dead e = absurd (not_dead t first most alive (λ h. subst IsLiving e h))
       go first most alive busy Gone e = absurd (not_dead t first most alive (λ h. subst IsLiving e h))
 
-  -- so whoever isn't sleeps nowhere, and that is told
+  -- so whoever isn't sleeps nowhere, and that is recorded
   pub awake_told : (t : ℕ) → IsInNoQueue s t → told_asleep t ns ≡ None
   awake_told t out = go (told_asleep t ns) refl
     where

@@ -143,7 +143,7 @@ Adds s s' ns ns' es (Err TooLong) = max_events < length ns + length es
 Adds s s' ns ns' es (Err OutOfMemory) = (0 < length es) × (length ns < max_events)
 Adds s s' ns ns' es (Err f) = ⊥
 
--- the same for the command at a line, where a fault is told
+-- the same for the command at a line, where a fault is reported
 abbrev pub AddsAt : ℕ → State → State → List Note → List Note → List Event → Result (Unit {0}) ScriptFault → Type 0
 AddsAt line s s' ns ns' es (Ok u) = Adds s s' ns ns' es (Ok u)
 AddsAt line s s' ns ns' es (Err e) = (e.line ≡ line) × Adds s s' ns ns' es (Err e.fault)

@@ -153,7 +153,7 @@ impl Gate for Refuses {
     fn after(&self, _thread: Tid, _call: WorkerCall) {}
 }
 
-/// All threads of a bench make these calls under this gate: how many threads were told this many replies.
+/// All threads of a bench make these calls under this gate: how many threads got this many replies.
 fn all_work<R: Threads + Wait + Sync, G: Gate + Sync>(
     rt: &R,
     alloc: Global,

@@ -75,7 +75,7 @@ struct Story {
     well: [bool; 4],
     /// Whose waits were answered, as digits, in that order.
     order: u64,
-    /// What the fifth's trylock of the mutex is told then.
+    /// What the fifth's trylock of the mutex returns then.
     told: Option<Reply>,
     counter: u64,
     /// How often the fate of each waiter's wait was asked.

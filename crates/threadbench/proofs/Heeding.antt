@@ -39,7 +39,7 @@ pub is_heeded_alone : (f f' : ℕ) (o : Outcome) → f' ≡ f + stops_in o → I
 is_heeded_alone f f' (outcome.Lives b r) told = omega (arith, told)
 is_heeded_alone f f' (outcome.Dead d) told = inl told
 
--- a fate that let the thread go on, and what a call was told then
+-- a fate that let the thread go on, and what a call returned then
 pub heeded_after : (f g f' : ℕ) (o : Outcome) → g ≡ f + 0 → IsHeeded g f' o → IsHeeded f f' o
 heeded_after f g f' o same heeded = let e : g ≡ f = omega (arith, same) in subst (λ (n : ℕ). IsHeeded n f' o) e heeded
 

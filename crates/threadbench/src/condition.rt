@@ -309,7 +309,7 @@ impl Bench {
         unreachable!()
     }
 
-    /// Looks whether the thread is in the counter's bucket, and then whether it is in the cell's. Whoever stands
+    /// Checks whether the thread is in the counter's bucket, and then whether it is in the cell's. Whoever stands
     /// in neither, looked at in this order, was woken or killed.
     fn left_both<R: Wait>(&self, rt: &R, thread: Tid, counter: Key, cell: Key) -> Option<Away>
         ensures { IfSome result

@@ -80,7 +80,7 @@ impl Held<'_> {
         self.number
     }
 
-    /// Looks whether the thread is in the bucket, and tells where it doesn't.
+    /// Checks whether the thread is in the bucket, and tells where it doesn't.
     pub(crate) fn left_by(&self, thread: Tid) -> Option<Gone>
         ensures looks { MatchOption result (Stands (mutex_guard_value self.now.bucket) thread)
             (λ g. StandsNowhere (mutex_guard_value self.now.bucket) thread) }
@@ -107,7 +107,7 @@ impl Held<'_> {
     }
 }
 
-/// Looks whether the thread is in the bucket with this number.
+/// Checks whether the thread is in the bucket with this number.
 fn look(bucket: &Bucket, number: usize, thread: Tid) -> Option<Gone>
     ensures looks { MatchOption result (Stands bucket.now thread) (λ g. StandsNowhere bucket.now thread) }
     ensures whose { IfSome result (λ g. (g.thread ≡ thread) × (g.number ≡ number)) }

@@ -27,7 +27,7 @@ use Rattle.verdict.specs.Misfits.{IsAwakeIn, IsDoneBy, IsEnded, IsMisfit, IsOutO
 use Rattle.verdict.specs.Stages.{Forbids, ForbidsPoint, MayPoint}
 use Rattle.verdict.proofs.Stages.{Of, Kept, all_made, may_first, may_point, no_more, nobody_calls, same_call, unkilled}
 
--- ---- the thread's stage says what of it was told
+-- ---- the thread's stage says what of it was recorded
 
 point_out : (m : Misfit) (c : Begun) (d : Decision) (made : Made) (fs : List Fact) → Of c.operation (points_in fs) made → IsAwakeIn fs c → ForbidsPoint m c.operation made d.operation d.reply → IsOutOfLife m fs (fact.Point d)
 point_out (misfit.OtherOperation op) c d Nothing fs of awake h =

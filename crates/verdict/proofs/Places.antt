@@ -68,7 +68,7 @@ stands_before p a e (inr ha) (inr h) =
       },
     )
 
--- ---- what is kept is what was told
+-- ---- what is kept is what was recorded
 
 -- the lines of the newest event told what the place has of it
 pub record Recalls (p : Place) (told : List Line) : Type 0 where

@@ -111,7 +111,7 @@ may_point a ps (Decided y) b x of is = absurd (no_more a ps y b x of.0 is)
 
 -- ---- a thread
 
--- this is the stage of a thread of which these facts are told
+-- this is the stage of a thread of which these facts are recorded
 abbrev pub Kept : Stage → List Fact → Type 0
 Kept Resting fs = (call_in fs ≡ None) × (is_asleep fs ≡ false) × (is_killed fs ≡ false) × (is_reaped fs ≡ false)
 Kept (Calling c made asleep) fs = (call_in fs ≡ Some c) × (is_asleep fs ≡ asleep) × (is_killed fs ≡ false) × (is_reaped fs ≡ false) × Of c.operation (points_in fs) made

@@ -67,7 +67,7 @@ acts (Sleep t q) = true
 acts (Return t x) = true
 acts f = false
 
--- only of a thread that was killed it is told
+-- only of a thread that was killed it is recorded
 abbrev pub needs_kill : Fact → Bool
 needs_kill (Death t m) = true
 needs_kill (Reap t) = true
@@ -91,7 +91,7 @@ Replied [] x = ⊥
 Replied (p ∷ []) x = p.1 ≡ x
 Replied (p ∷ q ∷ ps) x = Replied (q ∷ ps) x
 
--- the fact isn't what comes next in the life of a thread of which these facts are told
+-- the fact isn't what comes next in the life of a thread of which these facts are recorded
 abbrev pub IsOutOfLife : Misfit → List Fact → Fact → Type 0
 IsOutOfLife (InCall c) fs f = (begins f ≡ true) × (call_in fs ≡ Some c)
 IsOutOfLife NoCall fs f = (acts f ≡ true) × (call_in fs ≡ None) × (is_killed fs ≡ false)

@@ -70,7 +70,7 @@ pub record IsReason (n : ℕ) (told : List Line) (why : TraceMisfit) : Type 0 wh
   pub first : IsFirstMisfit n told why.line
   pub reason : IsMisfit why.misfit n first.earlier first.misfit
 
--- all fit, and the number on the last line is below the last event's, which is told
+-- all fit, and the number on the last line is below the last event's, which is recorded
 pub record IsShortOf (t : Trace) (why : TraceMisfit) : Type 0 where
   pub short : IsShort t why.line
   pub event : why.misfit ≡ EndFalls (latest t.told)

@@ -43,7 +43,7 @@ pub record IsAt (steps : List Entry) (c : Cutter) : Type 0 where
   pub sound : IsSound c.state
   pub here : Reaches c.state (told c.from steps)
 
--- where there are too many mutexes or condition variables for any trace, that is told
+-- where there are too many mutexes or condition variables for any trace, that is recorded
 abbrev pub Begins : Head → List Entry → Result Cutter Stop → Type 0
 Begins h steps (Ok c) = IsAt steps c × (c.from ≡ 0) × (h.mutexes ≤ max_mutexes) × (h.conditions ≤ max_conditions)
 Begins h steps (Err e) =

@@ -44,7 +44,7 @@ struct Story {
     made: u64,
     /// How often their fate was asked.
     asked: u64,
-    /// What another thread's trylock is told then.
+    /// What another thread's trylock returns then.
     told: Option<Reply>,
     /// The cell of the mutex after that.
     cell: u64,

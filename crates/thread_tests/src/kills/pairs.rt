@@ -76,7 +76,7 @@ impl End {
     }
 }
 
-/// A sleeper's part: it locks, looks whether the other one sleeps on if the owner has died, declares what it repaired
+/// A sleeper's part: it locks, checks whether the other one sleeps on if the owner has died, declares what it repaired
 /// consistent, and unlocks. What its lock returned.
 fn follows<R: Wait + Clock>(
     rt: &R,
@@ -228,7 +228,7 @@ fn played<R: Threads + Wait + Clock + Sync>(
     }))
 }
 
-/// The owner dies while two sleep: the walk wakes one of them, which is told so, declares the mutex consistent and
+/// The owner dies while two sleep: the walk wakes one of them, which learns of it, declares the mutex consistent and
 /// frees it, and only then the other one is woken.
 #[test]
 fn both_sleepers_of_a_dead_owner_wake(rt: HostRuntime) -> Result<(), Fail> {

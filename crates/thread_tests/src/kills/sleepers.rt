@@ -142,7 +142,7 @@ struct Story {
     well: bool,
     /// What the sleeper's lock returned, if it lives.
     sleeper: Option<Reply>,
-    /// What a third thread's trylock is told then.
+    /// What a third thread's trylock returns then.
     next: Option<Reply>,
     /// What it leaves in the cell of the first mutex.
     cell: u64,
