@@ -1,5 +1,5 @@
 -- A fault is at a line of the bytes.
-use Rattle.std.proofs.Common.{◌≡◌, ℕ, ◌+◌, ◌≤◌, ◌==◌, Bool, true, false, List, [], ◌∷◌, length, Result, Ok, Err, refl, sym, ap, subst, arith}
+use Rattle.std.proofs.Common.{◌≡◌, ℕ, ◌+◌, ◌≤◌, ◌==◌, Bool, true, false, List, [], ◌∷◌, length, Result, Ok, Err, refl, subst, arith}
 use Rattle.std.specs.Prelude.{if◌then◌else◌}
 use Rattle.std.proofs.lemmas.List.Splits.{length-slice_split}
 use Rattle.lines.specs.Lines.{lines_of}
@@ -8,7 +8,6 @@ use Rattle.histories.specs.declared.head.Head.{Head}
 use Rattle.histories.specs.declared.fault.Fault.{Fault}
 use Rattle.histories.specs.declared.fault.Fault.TheVariants.{Cut}
 use Rattle.histories.specs.declared.fault.HistoryFault.{HistoryFault}
-use Rattle.histories.specs.declared.reading.Read.{Read}
 use Rattle.histories.specs.Reading.{head_read, line_read}
 use Rattle.judge_report.specs.Heard.{Heard, Taken, begun, closed, fault_at, goes_on, line_taken, lines_read, met_at, taken_by, text_read, unended}
 use Rattle.judge_report.specs.Laws.{FaultsAreAtLines}

@@ -1,7 +1,8 @@
 //! What holds of all that the program says.
 
 ghost use Rattle.judge_report.specs.Laws.{FaultsAreAtLines, LinesAreNumbered, OptionsAreRead, OptionsWrite};
-ghost use Rattle.judge_report.specs.Laws.{QuotesAreReadBack, StatusesAreRight, TurnWordsAreSo, WaitersAreNamed, WindowsAreInOrder};
+ghost use Rattle.judge_report.specs.Laws.{QuotesAreReadBack, StatusesAreRight, TurnWordsAreSo};
+ghost use Rattle.judge_report.specs.Laws.{WaitersAreNamed, WindowsAreInOrder};
 ghost use Rattle.std.specs.Prelude.{◌≡◌};
 
 use crate::making::Maker;

@@ -8,12 +8,18 @@
 //! that it tells; with each reply that it says could get there they are one. Where it writes `undecided at line L`,
 //! the lines before L are one. A file that is no history is reported by its first fault (`history_read`).
 //!
+//! Laws say so in the words of who reads it: what an exit status means ([`statuses_are_right`]), what each option asks for
+//! and keeps ([`options_are_read`], [`options_write`]), that the L of a line or a fault is a line of the file
+//! ([`lines_are_numbered`], [`faults_are_at_lines`]), that windows are reported in their order ([`windows_are_in_order`]),
+//! which calls are named ([`waiters_are_named`]), and that turns and quotes are as they are said to be
+//! ([`turn_words_are_so`], [`quotes_are_read_back`]).
+//!
 //! The file is read once, line by line. What its lines tell is kept, 40 bytes a line; so is what the search keeps of
 //! lines that aren't decided, and the certificate.
 //!
-//! Depends on `judge` and `certificates`, for the judgement, on `windows`, for cutting, on `histories`, for lines and
-//! faults, on `texts`, for a trace's lines, on `streams`, for reading and writing, on `itoa`, for numbers, and on `facts`,
-//! `lines`, `posixmutex` and `lockword`, for what lines tell.
+//! Stands on `judge` and `certificates`, for the judgement, on `windows`, for cutting, on `histories`, for lines and
+//! faults, on `texts`, for a trace's lines, on `streams`, for reading and writing, on `itoa`, for numbers, on `facts`,
+//! `lines`, `posixmutex` and `lockword`, for what lines tell, and on `verdict`, for how a law says what a mutex is.
 //!
 //! ```text
 //! // The words of `rfx-judge storm.history`, the program's name first; `files` opens what they name, `maker` makes it.
