@@ -1,7 +1,7 @@
 //! `rfx-explain` except for opening its file: what a script or a trace is, and where it is faulty or illegal, which word
 //! of which line is wrong, what could be there, and which earlier line it goes back to.
 //!
-//! [`run`] is given the words of the command line, what opens files, and the two writers. Where nothing is told on
+//! [`run`] is given the words of the command line, what opens files, and the two writers. If nothing is written on
 //! `err` it has written all of an explanation of the file's bytes and let go of it, whose title is what the readers of
 //! scripts and the judge of traces find (`RunEnds`, `IsTold`, `IsTitle`), and whose mark is that of the first wrong
 //! word, number or name of the line that the title names (`IsAdvised`). Of a legal trace it names the first at which a
