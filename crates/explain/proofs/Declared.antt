@@ -73,7 +73,7 @@ pub of_one : (text : List ℕ) (n : ℕ) (ws : List (List ℕ)) (things : Things
 of_one text n ws things o is e =
     e ∙ sym (ap (λ (b : Bool). if b then first_earlier text n (λ t. is_clashing (words_of t) (word_of ws 1) (count_of (word_of ws 2))) else first_earlier text n (λ t. declares (words_of t) things (word_of ws 1))) is)
 
--- ---- what is reported
+-- ---- what is said
 
 -- these words name one that isn't declared
 pub tells_undeclared : {E : Type 0} (text : List ℕ) (n : ℕ) (us : List (Things × ℕ)) (u : Things × ℕ) (r : Result Advice E)

@@ -12,7 +12,7 @@ pub leaves_is_front : {X E : Type 0} (a b c : Option (List ℕ)) (r : Result X E
 leaves_is_front a b c (Ok x) text h k = whole_is_front a c text (Appends-kept a b c text h k)
 leaves_is_front a b c (Err e) text h k = (h.0, Appends-kept a b c _ h.1 k)
 
--- what is reported of all that a reader had
+-- what is said of all that a reader had
 pub serves : (file : List ℕ) (had left old new : Option (List ℕ)) (bytes seen : List ℕ) (status : ℕ) → seen ≡ bytes → Consumes had left bytes → (length bytes ≤ max_bytes → IsAtEnd left) → Tells file seen old new status → Serves file had left old new status
 serves file had left old new bytes seen status same taken end tells = (bytes, (taken, (end, subst (λ (bs : List ℕ). Tells file bs old new status) same tells)))
 

@@ -17,7 +17,7 @@ use Rattle.explain.specs.Spoiling.{IsDeathOf, death_at, is_death, is_death_of, i
 
 -- ---- a line more
 
--- what is reported of its own thread, and of another one
+-- what is said of its own thread, and of another one
 told_itself : (e : Line) (es : List Line) (t : ℕ) → t ≡ thread_of e.fact → told_of t (e ∷ es) ≡ e.fact ∷ told_of t es
 told_itself e es t is =
     let same : (thread_of e.fact == t) ≡ true = grind (arith, nat_tests) in

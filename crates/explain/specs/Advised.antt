@@ -1,5 +1,5 @@
--- What is reported of the line that a title names: which of its words is marked, what is said of it, and which
--- earlier line it goes back to.
+-- What is said of the line that a title names: which of its words is marked, what is said of it, and which earlier
+-- line it goes back to.
 use Rattle.std.specs.Prelude.{ℕ, ◌≡◌, ◌⊎◌, ◌+◌, ◌-◌, ◌==◌, ◌++◌, ◌||◌, nat_eq, nat_le, nat_lt, Bool, true, not}
 use Rattle.std.specs.Prelude.{◌&&◌, List, [], ◌∷◌, length, take, reverse, Option, Some, None}
 use Rattle.std.specs.Prelude.{option_map, Ok, codes, if◌then◌else◌, MatchBool, MatchOption}
@@ -55,7 +55,7 @@ use Rattle.explain.specs.Sought.{things_of}
 use Rattle.explain.specs.Spoiling.{death_before}
 use Rattle.explain.specs.Stray.{IsExpected, is_last, line_of, lines_in, stray_note, word_of}
 
--- ---- what may be reported
+-- ---- what may be said
 
 abbrev pub nothing : Advice
 nothing = record { mark = None; note = None; also = None; origin = None }
@@ -96,8 +96,8 @@ note_or (Some n) o = Some n
 note_or None o = o
 
 -- the first word of the line at which no line of the kind can go on is marked, with what it has to be, the known word
--- that it is nearest to, and what is said beside such a word, or what is missing; and what would be reported of a
--- right line is said too
+-- that it is nearest to, and what is said beside such a word, or what is missing; and what would be said of a right
+-- line is said too
 pub record MarksFirstWrong (k : Kind) (line : List ℕ) (here a : Advice) : Type 0 where
   pub mark : Mark
   pub marked : a.mark ≡ Some mark
@@ -108,7 +108,7 @@ pub record MarksFirstWrong (k : Kind) (line : List ℕ) (here a : Advice) : Type
   pub origin : a.origin ≡ here.origin
 
 -- line n isn't one of the kind, or not here: no line feed ends it; or its first wrong word is marked; or it is one,
--- and then this is reported
+-- and then this is said
 abbrev pub IsStray : Kind → List ℕ → ℕ → Advice → Advice → Type 0
 IsStray k text n here a = MatchBool (is_last (lines_of text) n)
     (a ≡ saying NoLineFeed)
@@ -120,7 +120,7 @@ IsStray k text n here a = MatchBool (is_last (lines_of text) n)
 abbrev pub is_within : List ℕ → ℕ → ℕ → Bool
 is_within w low high = is_number w && not (is_none (within low high (digits_value 10 w)))
 
--- word i isn't such a number, which is reported; else what follows
+-- word i isn't such a number, and this is said; else what follows
 abbrev pub ranged : List (List ℕ) → ℕ → ℕ → ℕ → Advice → Advice
 ranged ws i low high a = if is_within (word_of ws i) low high then a else marking i (Range low high)
 
@@ -314,13 +314,13 @@ abbrev pub looks_of : List ℕ → Looks
 looks_of bytes = if starts_with nat_eq bytes (255 ∷ 254 ∷ []) || starts_with nat_eq bytes (254 ∷ 255 ∷ []) then Utf16
     else (if list_any (λ b. b == 0) bytes then Binary else Latin1)
 
--- the first byte that is no part of a character is reported
+-- the first byte that is no part of a character is said
 abbrev pub no_text : List ℕ → Advice
 no_text bytes = besides (LooksSo (looks_of bytes)) (saying (BadByte (utf8_valid_len bytes + 1)))
 
 -- ---- faults of scripts
 
--- what is reported of line n of a script for this mode, for this fault; the text is that of the bytes
+-- what is said of line n of a script for this mode, for this fault; the text is that of the bytes
 abbrev pub IsScriptAdvice : Mode → List ℕ → List ℕ → ℕ → ScriptReason → Advice → Type 0
 IsScriptAdvice k bytes text n of_script.NotUtf8 a = a ≡ no_text bytes
 IsScriptAdvice k bytes text n of_script.UnknownWord a = IsStray (kind.Script k) text n (behind_command text n) a
@@ -339,7 +339,7 @@ abbrev pub cut_short : List ℕ → ℕ → Advice
 cut_short text n = if (length (line_of text n) == 0) && is_last (lines_of text) n then saying NoEnd
     else saying BehindEnd
 
--- what is reported of line n of a trace, for this fault; the text is that of the bytes
+-- what is said of line n of a trace, for this fault; the text is that of the bytes
 abbrev pub IsTraceAdvice : List ℕ → List ℕ → ℕ → TraceReason → Advice → Type 0
 IsTraceAdvice bytes text n of_trace.NotUtf8 a = a ≡ no_text bytes
 IsTraceAdvice bytes text n of_trace.UnknownWord a = IsStray (kind_of n) text n nothing a
@@ -375,7 +375,7 @@ asked_at owns op call = op
 abbrev pub replies_note : Standing → Operation → Option Operation → Note
 replies_note s op call = Allowed s (asked_at s.owns op call)
 
--- of a reply that a mutex doesn't allow in such a call, those are told that it does
+-- if a mutex doesn't allow a reply in such a call, the replies that it allows are named
 abbrev pub allowed_note : Misfit → Option Decision → Option Operation → Option Note
 allowed_note (NotAllowed o x) (Some d) call = Some (replies_note (standing_of o d.thread) d.operation call)
 allowed_note m d call = None
@@ -388,7 +388,7 @@ misfit_advice es why = record {
   origin = origin_of es why;
 }
 
--- of a line that doesn't fit the line is told that its reason goes back to
+-- a line that doesn't fit goes back to the earlier line that its reason speaks of
 abbrev pub IsMisfitAdvice : List ℕ → TraceMisfit → Advice → Type 0
 IsMisfitAdvice bytes why a = (t : Trace) × (trace_read bytes ≡ Ok t) × (a ≡ misfit_advice (reverse t.told) why)
 
@@ -401,7 +401,7 @@ IsSpoilingAdvice bytes (Some line) a = (t : Trace) × (trace_read bytes ≡ Ok t
 
 -- ---- all of them
 
--- what is reported beside this title of these bytes
+-- what is said of these bytes in addition to this title
 abbrev pub IsAdvised : List ℕ → Title → Advice → Type 0
 IsAdvised bytes (Good run threads) a = a ≡ nothing
 IsAdvised bytes (Script k e) a = IsScriptAdvice k bytes (lines_in bytes) e.line e.fault a

@@ -70,10 +70,10 @@ IsPermitted o t op r = (new : Object) × Permits o t op r new
 abbrev pub AllowedArePermitted : Object → ℕ → Standing → Type 0
 AllowedArePermitted o t s = (op : Operation) (r : Reply) → (allows s op r ≡ true) ↔ IsPermitted o t op r
 
--- ---- as it is reported
+-- ---- as it is said
 
 -- where it has no reply: a lock of a mutex that another thread owns sleeps, a wait of the owner of a consistent mutex
--- unlocks it, and what a wait with a time limit does is reported as a wait's
+-- unlocks it, and what a wait with a time limit does is named as a wait's
 abbrev pub unanswered : Operation → List ℕ
 unanswered Lock = codes " sleeps"
 unanswered Wait = codes " isn't refused"
@@ -92,13 +92,13 @@ reply_words s op told r = if allows s op r then concat (before_reply told ∷ re
 abbrev pub end_words : Operation → Bool → List ℕ
 end_words op told = if told then [] else concat (unanswered op ∷ [])
 
--- those of these replies that are allowed; that there is none, where none was reported before either
+-- those of these replies that are allowed; that there is none, where none was said before either
 unfoldable pub allowed_words : Standing → Operation → Bool → List Reply → List ℕ
 allowed_words s op told [] = end_words op told
 allowed_words s op told (r ∷ rs) = reply_words s op told r ++ allowed_words s op (told || allows s op r) rs
 
 -- what comes after them: a time limit may come only after another's ownership, which this mutex needn't show any
--- more, and a lock whose limit doesn't come is reported as a lock without one
+-- more, and a lock whose limit doesn't come is named as a lock without one
 abbrev pub behind_replies : Operation → List ℕ
 behind_replies TimedLock = codes " where another thread owned the mutex since the call began, and else its point is a `lock`\n"
 behind_replies TimedWait = codes ": its first is a `wait` or an `unlock`\n"

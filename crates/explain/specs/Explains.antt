@@ -1,4 +1,4 @@
--- What is reported of a file's bytes.
+-- What is said of a file's bytes.
 use Rattle.std.specs.Prelude.{ℕ, ◌≡◌, ◌⊎◌, ◌||◌, ◌==◌, Bool, true, false, List, [], ◌∷◌, map, take, drop}
 use Rattle.std.specs.Prelude.{Option, Some, None, Ok, Err, codes, nat_eq, reverse, if◌then◌else◌}
 use Rattle.std.specs.Char.{to_ascii_lowercase}
@@ -106,7 +106,7 @@ IsOfKind false (Illegal why) = ⊥
 IsOfKind false (TraceTitle e) = ⊥
 IsOfKind false t = Unit {0}
 
--- the bytes are told to be a trace where they begin as one
+-- the bytes are said to be a trace where they begin as one
 pub record Explains (bytes : List ℕ) (x : Explanation) : Type 0 where
   pub kind : IsOfKind (is_trace bytes) x.title
   pub title : IsTitle bytes x.title

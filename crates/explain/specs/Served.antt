@@ -9,7 +9,7 @@ use Rattle.explain.specs.declared.failures.Failure.{Failure}
 use Rattle.explain.specs.declared.failures.Failure.TheVariants.{Usage, CannotRead, CannotWrite, OutOfMemory}
 use Rattle.explain.specs.Explains.{IsTold}
 
--- the failure that a fault of reading is reported as: memory where memory was refused
+-- the failure that a fault of reading becomes: memory where memory was refused
 abbrev pub failed_by : ReadFault → Failure
 failed_by read.Memory = OutOfMemory
 failed_by read.Failed = CannotRead
@@ -29,8 +29,8 @@ abbrev pub TellsFront : List ℕ → List ℕ → Option (List ℕ) → Option (
 TellsFront file bytes old new =
     (text : List ℕ) × ((status : ℕ) × (IsTold file bytes text status × AppendsFront old new text))
 
--- why nothing was reported of bytes, or not all: lack of memory, before the first byte; or a write that failed,
--- after a beginning
+-- why nothing was said of bytes, or not all: lack of memory, before the first byte; or a write that failed, after a
+-- beginning
 abbrev pub FailsTelling : List ℕ → List ℕ → Option (List ℕ) → Option (List ℕ) → Failure → Type 0
 FailsTelling file bytes old new Usage = ⊥
 FailsTelling file bytes old new CannotRead = ⊥
@@ -46,7 +46,7 @@ abbrev pub Comes : List ℕ → Option (List ℕ) → Option (List ℕ) → Opti
 Comes file had left old new f = (bytes : List ℕ)
     × (Consumes had left bytes × ((length bytes ≤ max_bytes → IsAtEnd left) × FailsTelling file bytes old new f))
 
--- why nothing was reported of a file, or not all: before the first byte it couldn't be read, or memory was needed;
--- or this came of its bytes
+-- why nothing was said of a file, or not all: before the first byte it couldn't be read, or memory was wanted; or this
+-- came of its bytes
 abbrev pub Fails : List ℕ → Option (List ℕ) → Option (List ℕ) → Option (List ℕ) → Option (List ℕ) → Failure → Type 0
 Fails file had left old new f = (IsUnread f × (new ≡ old)) ⊎ Comes file had left old new f

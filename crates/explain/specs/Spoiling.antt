@@ -54,7 +54,7 @@ abbrev pub is_death : Operation → Reply → Bool
 is_death Death OK = true
 is_death op x = false
 
--- a death that is reported of mutex m
+-- a death that is said of mutex m
 abbrev pub is_death_of : ℕ → Option Decision → Bool
 is_death_of m None = false
 is_death_of m (Some d) = (d.mutex == m) && is_death d.operation d.reply

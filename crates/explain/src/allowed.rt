@@ -153,7 +153,7 @@ fn allows(standing: Standing, operation: Operation, reply: Reply) -> bool
     }
 }
 
-/// What comes before a reply, where another one was reported or none.
+/// What comes before a reply, where another one was said or none.
 fn before_reply(told: bool) -> &'static str
     ensures { result.now ≡ before_reply told }
 {
@@ -173,8 +173,7 @@ fn unanswered(operation: Operation) -> &'static str
 }
 
 /// What comes after the replies: a time limit may come only after another's ownership, which this mutex needn't show
-/// any more, and a lock whose limit doesn't come is reported as a lock without one; a wait with a limit is reported
-/// as a wait.
+/// any more, and a lock whose limit doesn't come is named as a lock without one; a wait with a limit is named as a wait.
 fn behind_replies(operation: Operation) -> &'static str
     ensures { result.now ≡ behind_replies operation }
 {
@@ -187,7 +186,7 @@ fn behind_replies(operation: Operation) -> &'static str
     }
 }
 
-/// Tells the reply, if it is allowed, and whether one was named so far.
+/// Adds the reply, if it is allowed, and returns whether one was said up to there.
 fn add_reply(
     text: &mut Vec<u8>,
     standing: Standing,
@@ -205,7 +204,7 @@ fn add_reply(
     Ok(true)
 }
 
-/// Says that there is none, if none was reported.
+/// Says that there is none, if none was said.
 fn add_end(text: &mut Vec<u8>, operation: Operation, told: bool) -> Result<(), AllocError>
     ensures { OnOk result (text.new.items ≡ text.old.items ++ end_words operation told) }
 {

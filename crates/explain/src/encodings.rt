@@ -1,4 +1,4 @@
-//! What is reported of bytes that are no text.
+//! What is said of bytes that are no text.
 
 ghost use Rattle.std.specs.Prelude.{◌≡◌, ◌<◌, ◌==◌, ◌^◌, length};
 ghost use Rattle.std.specs.List.{list_any};
@@ -36,7 +36,7 @@ fn looks_of(bytes: &[u8]) -> Looks
     }
 }
 
-/// What is reported of bytes that aren't UTF-8.
+/// What is said of bytes that aren't UTF-8.
 pub fn no_text(bytes: &[u8]) -> Advice<'static>
     requires { length bytes.now < 2 ^ 32 }
     ensures { result ≡ no_text bytes.now }

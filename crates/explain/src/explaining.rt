@@ -1,4 +1,4 @@
-//! What is reported of a file's bytes.
+//! What is said of a file's bytes.
 
 ghost use Rattle.std.specs.Prelude.{◌≡◌, ◌<◌, ◌^◌, length, IfOk};
 ghost use Rattle.explain.specs.Advised.{IsAdvised};
@@ -56,8 +56,8 @@ fn is_trace(bytes: &[u8]) -> bool
     begins_trace(behind_blanks(behind_mark(bytes)))
 }
 
-/// What is reported of the bytes: of a trace, where they begin with `trace `, in capitals too, and after blanks or a
-/// byte order mark; else of a script.
+/// What is said of the bytes: of a trace, where they begin with `trace `, in capitals too, and after blanks or a byte
+/// order mark; else of a script.
 pub fn explain<'a>(alloc: Global, bytes: &'a [u8]) -> Result<Explanation<'a>, AllocError>
     requires { length bytes.now < 2 ^ 32 }
     ensures kind { IfOk result (λ x. IsOfKind (is_trace bytes.entry.now) x.title) }
@@ -84,7 +84,7 @@ fn status_of(title: &Title) -> u8
     }
 }
 
-/// The text of what is reported of a file, and the exit status.
+/// The text of what is said of a file, and the exit status.
 #[derive(Drop)]
 pub struct Told {
     pub text: Vec<u8>,
@@ -108,7 +108,7 @@ fn tell_explanation(
     Ok(Told { text, status })
 }
 
-/// What is reported of a file of this name.
+/// What is said of a file of this name.
 pub fn tell(alloc: Global, file: &str, bytes: &[u8]) -> Result<Told, AllocError>
     requires { length bytes.now < 2 ^ 32 }
     ensures { IfOk result (λ t. IsTold file.now bytes.now t.text.items t.status) }

@@ -1,4 +1,4 @@
-//! What is reported of a file.
+//! What is said of a file.
 
 ghost use Rattle.std.specs.Prelude.{◌≡◌};
 ghost use Rattle.explain.specs.Advised.{back_to, besides, marking, nothing, saying};
@@ -182,7 +182,7 @@ pub struct Advice<'a> {
 }
 
 impl Advice<'_> {
-    /// Nothing is reported.
+    /// Nothing is said.
     pub fn none() -> Advice<'static>
         ensures { result ≡ nothing }
     {
@@ -240,7 +240,7 @@ impl Advice<'_> {
     }
 }
 
-/// All that is reported of a file: what it is, and what is reported of the line that this names.
+/// All that is said of a file: what it is, and what is said of the line that this names.
 #[derive(Clone, Copy, Debug, PartialEq, Eq)]
 pub struct Explanation<'a> {
     pub title: Title,

@@ -10,7 +10,7 @@ use streams::put;
 /// Memory was refused.
 pub const OUT_OF_MEMORY: &str = "rfx-explain: out of memory\n";
 
-/// Why nothing, or not all, was reported of a file.
+/// Why nothing, or not all, was said of a file.
 #[derive(Clone, Copy)]
 pub enum Failure {
     /// The command line has none of the program's forms.

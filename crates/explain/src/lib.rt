@@ -1,12 +1,12 @@
 //! `rfx-explain` except for opening its file: what a script or a trace is, and where it is faulty or illegal, which word
 //! of which line is wrong, what could be there, and which earlier line it goes back to.
 //!
-//! [`run`] is given the words of the command line, what opens files, and the two writers. Where nothing is reported
-//! on `err` it has written all of an explanation of the file's bytes and let go of it, whose title is what the
-//! readers of scripts and the judge of traces find (`RunEnds`, `IsTold`, `IsTitle`), and whose mark is that of the
-//! first wrong word, number or name of the line that the title names (`IsAdvised`). Of a legal trace it names the
-//! first at which a wait makes its mutex unusable (`IsFirstSpoiling`). Else it has written a beginning of it, and
-//! one message on `err` says why. It reads at most one byte more than a trace may have.
+//! [`run`] is given the words of the command line, what opens files, and the two writers. If nothing is written on
+//! `err` it has written all of an explanation of the file's bytes and let go of it, whose title is what the readers of
+//! scripts and the judge of traces find (`RunEnds`, `IsTold`, `IsTitle`), and whose mark is that of the first wrong
+//! word, number or name of the line that the title names (`IsAdvised`). Of a legal trace it names the first at which a
+//! wait makes its mutex unusable (`IsFirstSpoiling`). Else it has written a beginning of it, and one message on `err`
+//! says why. It reads at most one byte more than a trace may have.
 //!
 //! What it claims is so: its first line names the line and the fault or the reason ([`titles_say_what_is_found`]); it says that a mutex may reply so exactly if the mutex permits it ([`replies_are_those_allowed`],
 //! [`waits_are_asked_as_waits`]);

@@ -158,7 +158,7 @@ fn declared_twice(text: &str, number: usize) -> Advice<'static>
     }
 }
 
-/// What is reported of a line that names what isn't declared, or declares what is.
+/// What is said of a line that names what isn't declared, or declares what is.
 pub fn unknown_name<'a>(
     alloc: Global,
     text: &'a str,

@@ -11,7 +11,7 @@ use std::alloc::Global;
 use std::io::{self, ErrorKind, Write};
 use streams::{Opener, Output, lent};
 
-/// What a failure to open a file is reported as.
+/// The message of a failure to open a file.
 fn unopened_by(error: &io::Error) -> Failure
     ensures { result ≡ unopened_by (error_kind error.now) }
 {
@@ -21,7 +21,7 @@ fn unopened_by(error: &io::Error) -> Failure
     }
 }
 
-/// What is reported of this file.
+/// What is said of this file.
 fn run_file<F: Opener, W: Output, E: Write>(
     alloc: Global,
     file: &str,
@@ -44,7 +44,7 @@ fn run_file<F: Opener, W: Output, E: Write>(
 
 /// What `rfx-explain` does with the words of its command line, the first being its name, and the exit status that it
 /// answers: 0 where the file is a good script or a legal trace, 1 where it is none, and both times all of the
-/// explanation was written and let go of, and nothing told on `err`; 1 for a failure, which is reported there; 2 where the
+/// explanation was written and let go of, and nothing is on `err`; 1 for a failure, which is said there; 2 where the
 /// command line has no form. Words that can't be had as text are another command line, unless memory was refused for
 /// them.
 pub fn run<F: Opener, W: Output, E: Write>(

@@ -17,7 +17,7 @@ fn is_within(word: &str, low: u32, high: u32) -> bool
     is_number_word(word) && number_in(word, low, high).is_some()
 }
 
-/// The number that a word of a line has to write, where it doesn't; else what is reported instead.
+/// The number that a word of a line has to write, where it doesn't; else what is said instead.
 pub fn ranged(
     line: &str,
     word: usize,

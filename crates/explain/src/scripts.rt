@@ -1,4 +1,4 @@
-//! What is reported of a script.
+//! What is said of a script.
 
 ghost use Rattle.std.specs.Prelude.{◌≡◌, ◌≢◌, ◌<◌, ◌^◌, false, length, Some, IfOk};
 ghost use Rattle.lines.specs.Lines.{words_of};
@@ -121,7 +121,7 @@ fn too_long(text: &str, number: usize) -> Advice<'static>
     Advice::at(0, Note::Events(MAX_EVENTS as u32))
 }
 
-/// What is reported of a script's line beside its fault; the text is that of the bytes.
+/// What is said of a script's line in addition to its fault; the text is that of the bytes.
 fn advice<'a>(
     alloc: Global,
     bytes: &[u8],
@@ -183,7 +183,7 @@ fn known(fault: ScriptFault) -> Result<Option<ScriptFault>, AllocError>
     }
 }
 
-/// What is reported of bytes that are no trace.
+/// What is said of bytes that are no trace.
 pub fn explain_script<'a>(alloc: Global, bytes: &'a [u8]) -> Result<Explanation<'a>, AllocError>
     requires { length bytes.now < 2 ^ 32 }
     ensures kind { IfOk result (λ x. IsOfKind false x.title) }

@@ -14,7 +14,7 @@ use std::io::{self, Read};
 use streams::{Output, ReadFault, put_text, read_below};
 use verdict::MAX_BYTES;
 
-/// What a fault of reading is reported as.
+/// The message of a fault of reading.
 fn failed_by(fault: ReadFault) -> Failure
     ensures { result ≡ failed_by fault }
 {
@@ -50,7 +50,7 @@ fn write_out<W: Output>(text: &[u8], out: &mut W) -> io::Result<()>
     }
 }
 
-/// Tells what is to be reported of a file's bytes, and answers the exit status.
+/// Writes what is said of a file's bytes, and returns the exit status.
 fn tell_bytes<W: Output>(
     alloc: Global,
     file: &str,
@@ -71,8 +71,8 @@ fn tell_bytes<W: Output>(
     }
 }
 
-/// Reads a file, tells what is to be reported of it, and answers the exit status. It reads at most one byte more
-/// than a trace may have.
+/// Reads a file, writes what is said of it, and returns the exit status. It reads at most one byte more than a
+/// trace may have.
 pub fn serve<R: Read, W: Output>(
     alloc: Global,
     file: &str,

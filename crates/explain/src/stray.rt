@@ -221,9 +221,8 @@ fn stray_mark(alloc: Global, kind: Kind, text: &str) -> Result<Option<Mark<'stat
     }))
 }
 
-/// What is reported of line `number`, which isn't one of the kind, or not here: no line feed ends it; or its first
-/// word at which no such line can go on is marked, and what is said here is said too; or it is one, and then this is
-/// reported.
+/// What is said of line `number`, which isn't one of the kind, or not here: no line feed ends it; or its first word at
+/// which no such line can go on is marked, and what is said here is said too; or it is one, and then this is said.
 pub fn stray_advice(
     alloc: Global,
     kind: Kind,

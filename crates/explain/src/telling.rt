@@ -1,4 +1,4 @@
-//! The text of what is reported of a file.
+//! The text of what is said of a file.
 
 ghost use Rattle.std.specs.Prelude.{◌≡◌, ◌++◌, map, option_map, IfOk, OnOk};
 ghost use Rattle.explain.specs.Shown.{begins_character, columns};
@@ -231,7 +231,7 @@ fn add_near(text: &mut Vec<u8>, near: Option<&str>) -> Result<(), AllocError>
     }
 }
 
-/// The mark of a line, and what is reported of the marked word.
+/// The mark of a line, and what is said of the marked word.
 fn add_mark(text: &mut Vec<u8>, line: &str, mark: Option<Mark<'_>>) -> Result<(), AllocError>
     ensures { OnOk result (text.new.items ≡ text.old.items ++ mark_text line.now mark.entry) }
 {
@@ -282,7 +282,7 @@ fn add_origin(text: &mut Vec<u8>, file: &str, origin: Option<usize>) -> Result<(
     }
 }
 
-/// The text of what is reported of a file of this name and with these lines.
+/// The text of what is said of a file of this name and with these lines.
 pub fn explanation_text(
     alloc: Global,
     file: &str,

@@ -1,4 +1,4 @@
-//! What is reported of a trace.
+//! What is said of a trace.
 
 ghost use Rattle.std.specs.Prelude.{◌≡◌, ◌≢◌, ◌<◌, ◌^◌, true, length, IfOk};
 ghost use Rattle.lines.specs.Lines.{words_of};
@@ -45,7 +45,7 @@ fn head_out_of_range(line: &str) -> Advice<'static>
     ranged(line, 1, 1, MAX_THREADS, mutexes)
 }
 
-/// Word `word` of a line, where the first line doesn't count what it names; else what is reported instead.
+/// Word `word` of a line, where the first line doesn't count what it names; else what is said instead.
 fn uncounted_at(head: &str, line: &str, word: usize, other: Advice<'static>) -> Advice<'static>
     ensures { result ≡ uncounted_at head.now (words_of line.now) word other.entry }
 {
@@ -97,7 +97,7 @@ fn cut_short(text: &str, number: usize) -> Advice<'static>
     }
 }
 
-/// What is reported of a trace's line beside its fault; the text is that of the bytes.
+/// What is said of a trace's line beside its fault; the text is that of the bytes.
 fn advice(
     alloc: Global,
     bytes: &[u8],
@@ -191,7 +191,7 @@ fn allowed_note(misfit: &Misfit, step: Option<Decision>, call: Option<Operation>
     }
 }
 
-/// What is reported of a line of these that doesn't fit.
+/// What is said of a line of these that doesn't fit.
 fn misfit_advice(entries: &[Line], why: TraceMisfit) -> Advice<'static>
     ensures { result ≡ misfit_advice entries.now why }
 {
@@ -205,7 +205,7 @@ fn misfit_advice(entries: &[Line], why: TraceMisfit) -> Advice<'static>
     }
 }
 
-/// What is reported of a trace whose line doesn't fit.
+/// What is said of a trace whose line doesn't fit.
 fn illegal(alloc: Global, bytes: &[u8], why: TraceMisfit) -> Result<Advice<'static>, AllocError>
     ensures { IfOk result (IsMisfitAdvice bytes.now why) }
 {
@@ -215,7 +215,7 @@ fn illegal(alloc: Global, bytes: &[u8], why: TraceMisfit) -> Result<Advice<'stat
     Ok(misfit_advice(&trace.lines, why))
 }
 
-/// What is reported of a legal trace.
+/// What is said of a legal trace.
 fn legal<'a>(alloc: Global, bytes: &'a [u8], points: usize) -> Result<Explanation<'a>, AllocError>
     requires { Tells (trace_read bytes.now) (Ok (Finding.Legal points)) }
     ensures kind { IfOk result (λ x. IsOfKind true x.title) }
@@ -253,7 +253,7 @@ fn known(fault: TraceFault) -> Result<TraceFault, AllocError>
     }
 }
 
-/// What is reported of a trace without fault, of which the judge finds this.
+/// What is said of a trace without fault, of which the judge finds this.
 fn found<'a>(
     alloc: Global,
     bytes: &'a [u8],
@@ -273,7 +273,7 @@ fn found<'a>(
     }
 }
 
-/// What is reported of bytes that are to be a trace.
+/// What is said of bytes that are to be a trace.
 pub fn explain_trace<'a>(alloc: Global, bytes: &'a [u8]) -> Result<Explanation<'a>, AllocError>
     requires { length bytes.now < 2 ^ 32 }
     ensures kind { IfOk result (λ x. IsOfKind true x.title) }

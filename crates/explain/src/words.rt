@@ -1,4 +1,4 @@
-//! The words of what is reported.
+//! The words of what is said.
 
 ghost use Rattle.std.specs.Prelude.{◌≡◌};
 ghost use Rattle.explain.specs.Words.{expected_words, lack_words, looks_words, many_words, mode_words, things_words};

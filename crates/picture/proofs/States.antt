@@ -9,6 +9,9 @@ use Rattle.posixmutex.specs.declared.point.Operation.{Operation}
 use Rattle.picture.specs.Names.{Called, condition_head, condition_tail, mutex_head, mutex_tail, thread_head, thread_tail}
 use Rattle.picture.specs.Words.{words}
 use Rattle.picture.specs.States.{BandsHaveTheirWords, LinesHaveTheirWords}
+use Rattle.std.specs.Prelude.{◌-◌, decimal}
+use Rattle.picture.specs.Names.{head_of, tail_of}
+use Rattle.picture.specs.States.{ThingsHaveTheirNames}
 use Rattle.std.proofs.Common.{codes, append-nil, not, ◌≡◌, ◌≢◌, ◌∙◌, ◌+◌, ◌<◌, ◌≤◌, ◌==◌, ◌∷◌, ◌++◌, Bool, true, false, ℕ, Option, Some, None, List, [], length, ap, refl, subst, sym, arith, eqb-true}
 use Rattle.std.specs.Prelude.{if◌then◌else◌, nat_lt, slice_index_or, slice_set}
 use Rattle.std.proofs.lemmas.Bool.Decides.{nat_tests}
@@ -216,9 +219,31 @@ line_words_are n l = record {
   renewed = λ t. refl;
 }
 
+-- a name, and what stands for one
+is_named : (names : List (List ℕ)) (i : ℕ) (letter number : List ℕ) → i < length names → head_of names i letter ++ tail_of names i number ≡ slice_index_or names i []
+is_named names i letter number lt =
+    let is : nat_lt i (length names) ≡ true = grind (arith, nat_tests, lt) in
+    ap (λ (b : Bool). (if b then slice_index_or names i [] else letter) ++ (if b then [] else number)) is ∙ append-nil (slice_index_or names i [])
+
+is_numbered : (names : List (List ℕ)) (i : ℕ) (letter number : List ℕ) → length names ≤ i → head_of names i letter ++ tail_of names i number ≡ letter ++ number
+is_numbered names i letter number le =
+    let is : nat_lt i (length names) ≡ false = grind (arith, nat_tests, le) in
+    ap (λ (b : Bool). (if b then slice_index_or names i [] else letter) ++ (if b then [] else number)) is
+
+names_are : (n : Called) → ThingsHaveTheirNames n
+names_are n = record {
+  threads = λ i lt. let is : i + 1 - 1 ≡ i = omega arith in ap (λ (k : ℕ). head_of n.threads k (codes "t") ++ tail_of n.threads k (decimal (i + 1))) is ∙ is_named n.threads i (codes "t") (decimal (i + 1)) lt;
+  numbered_threads = λ i le. let is : i + 1 - 1 ≡ i = omega arith in ap (λ (k : ℕ). head_of n.threads k (codes "t") ++ tail_of n.threads k (decimal (i + 1))) is ∙ is_numbered n.threads i (codes "t") (decimal (i + 1)) le;
+  mutexes = λ i lt. is_named n.mutexes i (codes "m") (decimal i) lt;
+  numbered_mutexes = λ i le. is_numbered n.mutexes i (codes "m") (decimal i) le;
+  conditions = λ i lt. is_named n.conditions i (codes "c") (decimal i) lt;
+  numbered_conditions = λ i le. is_numbered n.conditions i (codes "c") (decimal i) le;
+}
+
 pub states_are_told_apart : StatesAreToldApart
 unfolding lib.Utf8.encode
 states_are_told_apart = record {
+  names = names_are;
   band_words = band_words_are;
   line_words = line_words_are;
   lane_signs = record { idle = refl; calling = λ op. refl; asleep = λ op. refl; dying = refl; reaped = refl };

@@ -12,6 +12,7 @@
 use Rattle.std.specs.Prelude.{ℕ, ◌≡◌, ◌<◌, ◌≤◌, ◌==◌, Bool, true, false, Option, Some, None, List, [], ◌∷◌, ◌++◌}
 use Rattle.std.specs.Prelude.{codes, if◌then◌else◌, slice_index_or}
 use Rattle.std.specs.Prelude.{◌≢◌}
+use Rattle.std.specs.Prelude.{◌+◌, decimal, length}
 use Rattle.std.specs.List.{concat}
 use Rattle.lockword.specs.Replies.{reply_word}
 use Rattle.posixmutex.specs.Words.{operation_word}
@@ -239,7 +240,22 @@ pub record LinesHaveTheirWords (n : Called) (l : Lane) : Type 0 where
   pub reaped : (t : ℕ) → concat (words n l (Reap t)) ≡ codes "reaped"
   pub renewed : (t : ℕ) → concat (words n l (Renew t)) ≡ codes "renewed"
 
+-- what a thing with this number is called: by its name if there is one, else by a letter and its number. The first thread is
+-- thread 1
+pub record ThingsHaveTheirNames (n : Called) : Type 0 where
+  pub threads : (i : ℕ) → i < length n.threads
+      → thread_head n (i + 1) ++ thread_tail n (i + 1) ≡ slice_index_or n.threads i []
+  pub numbered_threads : (i : ℕ) → length n.threads ≤ i
+      → thread_head n (i + 1) ++ thread_tail n (i + 1) ≡ codes "t" ++ decimal (i + 1)
+  pub mutexes : (i : ℕ) → i < length n.mutexes → mutex_head n i ++ mutex_tail n i ≡ slice_index_or n.mutexes i []
+  pub numbered_mutexes : (i : ℕ) → length n.mutexes ≤ i → mutex_head n i ++ mutex_tail n i ≡ codes "m" ++ decimal i
+  pub conditions : (i : ℕ) → i < length n.conditions
+      → condition_head n i ++ condition_tail n i ≡ slice_index_or n.conditions i []
+  pub numbered_conditions : (i : ℕ) → length n.conditions ≤ i
+      → condition_head n i ++ condition_tail n i ≡ codes "c" ++ decimal i
+
 pub record StatesAreToldApart : Type 0 where
+  pub names : (n : Called) → ThingsHaveTheirNames n
   pub band_words : (n : Called) → BandsHaveTheirWords n
   pub line_words : (n : Called) (l : Lane) → LinesHaveTheirWords n l
   pub lane_signs : LanesHaveTheirSigns

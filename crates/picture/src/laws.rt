@@ -48,7 +48,7 @@ pub fn bands_show_mutexes()
     ensures { BandsShowMutexes }
 {}
 
-/// Signs, words, colours and shapes are those of the documented tables. Each state of a lane has its own sign in text, and
+/// Names, signs, words, colours and shapes are those of the documented tables. Each state of a lane has its own sign in text, and
 /// each state of a mutex its own words and its own colour. Each kind of line has its sign, its words, its colour and its
 /// shape.
 pub fn states_are_told_apart()
