@@ -29,7 +29,7 @@ static const struct {
     {"pz_mutex_timedlock", ENOTRECOVERABLE, "the mutex is unusable: an owner that got EOWNERDEAD unlocked it without "
      "pz_mutex_consistent"},
     {"pz_mutex_timedlock", EDEADLK, "the caller owns it already"},
-    {"pz_mutex_timedlock", ETIMEDOUT, "the time came, and another thread owned the mutex until then"},
+    {"pz_mutex_timedlock", ETIMEDOUT, "the deadline passed, and another thread owned the mutex until then"},
     {"pz_mutex_timedlock", EAGAIN, "the caller owns 2,000 mutexes (PZ_MOST_OWNED)"},
     {"pz_mutex_timedlock", EINVAL, "the mutex isn't at a multiple of 64; or the call would have to wait, and tv_nsec "
      "isn't 0 to 999,999,999"},
@@ -41,7 +41,7 @@ static const struct {
     {"pz_mutex_clocklock", ENOTRECOVERABLE, "the mutex is unusable: an owner that got EOWNERDEAD unlocked it without "
      "pz_mutex_consistent"},
     {"pz_mutex_clocklock", EDEADLK, "the caller owns it already"},
-    {"pz_mutex_clocklock", ETIMEDOUT, "the time came, and another thread owned the mutex until then"},
+    {"pz_mutex_clocklock", ETIMEDOUT, "the deadline passed, and another thread owned the mutex until then"},
     {"pz_mutex_clocklock", EAGAIN, "the caller owns 2,000 mutexes (PZ_MOST_OWNED)"},
     {"pz_mutex_clocklock", EINVAL, "the mutex isn't at a multiple of 64; or the clock is neither CLOCK_REALTIME nor "
      "CLOCK_MONOTONIC; or the call would have to wait, and tv_nsec isn't 0 to 999,999,999"},
@@ -68,45 +68,47 @@ static const struct {
      "after a lock"},
     {"pz_cond_wait", ENOTRECOVERABLE, "the mutex became unusable in the meantime; the caller doesn't own it"},
     {"pz_cond_wait", EPERM, "the caller doesn't own the mutex, or its links were overwritten"},
-    {"pz_cond_wait", EINVAL, "the mutex is still to be declared consistent; the caller owns it, and didn't wait; or "
-     "other threads may be waiting there with another mutex; the caller owns its mutex, and didn't wait; or the "
-     "condition variable isn't at a multiple of 16; the caller owns the mutex, and didn't wait"},
+    {"pz_cond_wait", EINVAL, "the mutex has to be declared consistent first; the caller owns it, and didn't wait; or "
+     "other threads may be waiting on the condition variable with another mutex; the caller owns its mutex, and "
+     "didn't wait; or the condition variable isn't at a multiple of 16; the caller owns the mutex, and didn't wait"},
     {"pz_cond_wait", ENOTSUP, "the kernel or the C library lacks something that the library needs; nothing was done"},
     {"pz_cond_timedwait", 0, "the caller owns the mutex again"},
     {"pz_cond_timedwait", EOWNERDEAD, "the caller owns the mutex again, and an owner died in the meantime: repair, "
      "as after a lock"},
     {"pz_cond_timedwait", ENOTRECOVERABLE, "the mutex became unusable in the meantime; the caller doesn't own it"},
-    {"pz_cond_timedwait", ETIMEDOUT, "the time has come, and nobody has signalled or broadcast since the wait began; "
-     "the caller owns the mutex again"},
+    {"pz_cond_timedwait", ETIMEDOUT, "the deadline passed, and nobody has signalled or broadcast since the wait "
+     "began; the caller owns the mutex again"},
     {"pz_cond_timedwait", EPERM, "the caller doesn't own the mutex, or its links were overwritten"},
-    {"pz_cond_timedwait", EINVAL, "the mutex is still to be declared consistent; the caller owns it, and didn't "
-     "wait; or other threads may be waiting there with another mutex; the caller owns its mutex, and didn't wait; or "
-     "the condition variable isn't at a multiple of 16; the caller owns the mutex, and didn't wait; or tv_nsec isn't "
-     "0 to 999,999,999, or the clock is neither CLOCK_REALTIME nor CLOCK_MONOTONIC; nothing was done"},
+    {"pz_cond_timedwait", EINVAL, "the mutex has to be declared consistent first; the caller owns it, and didn't "
+     "wait; or other threads may be waiting on the condition variable with another mutex; the caller owns its mutex, "
+     "and didn't wait; or the condition variable isn't at a multiple of 16; the caller owns the mutex, and didn't "
+     "wait; or tv_nsec isn't 0 to 999,999,999, or the clock is neither CLOCK_REALTIME nor CLOCK_MONOTONIC; nothing "
+     "was done"},
     {"pz_cond_timedwait", ENOTSUP, "the kernel or the C library lacks something that the library needs; nothing was "
      "done"},
     {"pz_cond_clockwait", 0, "the caller owns the mutex again"},
     {"pz_cond_clockwait", EOWNERDEAD, "the caller owns the mutex again, and an owner died in the meantime: repair, "
      "as after a lock"},
     {"pz_cond_clockwait", ENOTRECOVERABLE, "the mutex became unusable in the meantime; the caller doesn't own it"},
-    {"pz_cond_clockwait", ETIMEDOUT, "the time has come, and nobody has signalled or broadcast since the wait began; "
-     "the caller owns the mutex again"},
+    {"pz_cond_clockwait", ETIMEDOUT, "the deadline passed, and nobody has signalled or broadcast since the wait "
+     "began; the caller owns the mutex again"},
     {"pz_cond_clockwait", EPERM, "the caller doesn't own the mutex, or its links were overwritten"},
-    {"pz_cond_clockwait", EINVAL, "the mutex is still to be declared consistent; the caller owns it, and didn't "
-     "wait; or other threads may be waiting there with another mutex; the caller owns its mutex, and didn't wait; or "
-     "the condition variable isn't at a multiple of 16; the caller owns the mutex, and didn't wait; or tv_nsec isn't "
-     "0 to 999,999,999, or the clock is neither CLOCK_REALTIME nor CLOCK_MONOTONIC; nothing was done"},
+    {"pz_cond_clockwait", EINVAL, "the mutex has to be declared consistent first; the caller owns it, and didn't "
+     "wait; or other threads may be waiting on the condition variable with another mutex; the caller owns its mutex, "
+     "and didn't wait; or the condition variable isn't at a multiple of 16; the caller owns the mutex, and didn't "
+     "wait; or tv_nsec isn't 0 to 999,999,999, or the clock is neither CLOCK_REALTIME nor CLOCK_MONOTONIC; nothing "
+     "was done"},
     {"pz_cond_clockwait", ENOTSUP, "the kernel or the C library lacks something that the library needs; nothing was "
      "done"},
     {"pz_cond_signal", 0, "threads that were waiting were signalled; there may have been none"},
     {"pz_cond_signal", EPERM, "the caller doesn't own the mutex"},
-    {"pz_cond_signal", EINVAL, "threads may be waiting there with another mutex; nothing was done; or the condition "
-     "variable isn't at a multiple of 16; nothing was done"},
+    {"pz_cond_signal", EINVAL, "threads may be waiting on the condition variable with another mutex; nothing was "
+     "done; or the condition variable isn't at a multiple of 16; nothing was done"},
     {"pz_cond_signal", ENOTSUP, "the kernel or the C library lacks something that the library needs; nothing was done"},
     {"pz_cond_broadcast", 0, "threads that were waiting were signalled; there may have been none"},
     {"pz_cond_broadcast", EPERM, "the caller doesn't own the mutex"},
-    {"pz_cond_broadcast", EINVAL, "threads may be waiting there with another mutex; nothing was done; or the "
-     "condition variable isn't at a multiple of 16; nothing was done"},
+    {"pz_cond_broadcast", EINVAL, "threads may be waiting on the condition variable with another mutex; nothing was "
+     "done; or the condition variable isn't at a multiple of 16; nothing was done"},
     {"pz_cond_broadcast", ENOTSUP, "the kernel or the C library lacks something that the library needs; nothing was "
      "done"},
     {"pz_rwlock_init", 0, "the lock has that number of lanes"},
@@ -119,8 +121,8 @@ static const struct {
     {"pz_rwlock_rdlock", ENOTRECOVERABLE, "the lock is unusable: a thread that got EOWNERDEAD unlocked it without "
      "pz_rwlock_consistent"},
     {"pz_rwlock_rdlock", EDEADLK, "the caller has the lock already"},
-    {"pz_rwlock_rdlock", EAGAIN, "the caller would own more than 2,000 mutexes (PZ_MOST_OWNED); a writer owns one "
-     "more than there are lanes, and a reader that comes while a writer waits owns the gate for a moment"},
+    {"pz_rwlock_rdlock", EAGAIN, "the caller would own more than 2,000 mutexes (PZ_MOST_OWNED): a writer owns the "
+     "gate and all lanes; a reader a lane, and briefly the gate if a writer waits"},
     {"pz_rwlock_rdlock", EINVAL, "the lock has no number of lanes yet, or isn't at a multiple of 64"},
     {"pz_rwlock_rdlock", ENOTSUP, "the kernel or the C library lacks something that the library needs; nothing was "
      "done"},
@@ -131,8 +133,8 @@ static const struct {
      "pz_rwlock_consistent"},
     {"pz_rwlock_tryrdlock", EBUSY, "the caller has the lock already, a writer has it or waits for it, or all lanes "
      "are taken; or another thread was in a call that may get the lock"},
-    {"pz_rwlock_tryrdlock", EAGAIN, "the caller would own more than 2,000 mutexes (PZ_MOST_OWNED); a writer owns one "
-     "more than there are lanes, and a reader that comes while a writer waits owns the gate for a moment"},
+    {"pz_rwlock_tryrdlock", EAGAIN, "the caller would own more than 2,000 mutexes (PZ_MOST_OWNED): a writer owns the "
+     "gate and all lanes; a reader a lane, and briefly the gate if a writer waits"},
     {"pz_rwlock_tryrdlock", EINVAL, "the lock has no number of lanes yet, or isn't at a multiple of 64"},
     {"pz_rwlock_tryrdlock", ENOTSUP, "the kernel or the C library lacks something that the library needs; nothing "
      "was done"},
@@ -142,9 +144,9 @@ static const struct {
     {"pz_rwlock_timedrdlock", ENOTRECOVERABLE, "the lock is unusable: a thread that got EOWNERDEAD unlocked it "
      "without pz_rwlock_consistent"},
     {"pz_rwlock_timedrdlock", EDEADLK, "the caller has the lock already"},
-    {"pz_rwlock_timedrdlock", ETIMEDOUT, "the time came, and other threads had the lock until then"},
-    {"pz_rwlock_timedrdlock", EAGAIN, "the caller would own more than 2,000 mutexes (PZ_MOST_OWNED); a writer owns "
-     "one more than there are lanes, and a reader that comes while a writer waits owns the gate for a moment"},
+    {"pz_rwlock_timedrdlock", ETIMEDOUT, "the deadline passed, and other threads had the lock until then"},
+    {"pz_rwlock_timedrdlock", EAGAIN, "the caller would own more than 2,000 mutexes (PZ_MOST_OWNED): a writer owns "
+     "the gate and all lanes; a reader a lane, and briefly the gate if a writer waits"},
     {"pz_rwlock_timedrdlock", EINVAL, "the lock has no number of lanes yet, or isn't at a multiple of 64; or the "
      "call would have to wait, and tv_nsec isn't 0 to 999,999,999"},
     {"pz_rwlock_timedrdlock", ENOTSUP, "the kernel or the C library lacks something that the library needs; nothing "
@@ -155,9 +157,9 @@ static const struct {
     {"pz_rwlock_clockrdlock", ENOTRECOVERABLE, "the lock is unusable: a thread that got EOWNERDEAD unlocked it "
      "without pz_rwlock_consistent"},
     {"pz_rwlock_clockrdlock", EDEADLK, "the caller has the lock already"},
-    {"pz_rwlock_clockrdlock", ETIMEDOUT, "the time came, and other threads had the lock until then"},
-    {"pz_rwlock_clockrdlock", EAGAIN, "the caller would own more than 2,000 mutexes (PZ_MOST_OWNED); a writer owns "
-     "one more than there are lanes, and a reader that comes while a writer waits owns the gate for a moment"},
+    {"pz_rwlock_clockrdlock", ETIMEDOUT, "the deadline passed, and other threads had the lock until then"},
+    {"pz_rwlock_clockrdlock", EAGAIN, "the caller would own more than 2,000 mutexes (PZ_MOST_OWNED): a writer owns "
+     "the gate and all lanes; a reader a lane, and briefly the gate if a writer waits"},
     {"pz_rwlock_clockrdlock", EINVAL, "the lock has no number of lanes yet, or isn't at a multiple of 64; or the "
      "clock is neither CLOCK_REALTIME nor CLOCK_MONOTONIC; or the call would have to wait, and tv_nsec isn't 0 to "
      "999,999,999"},
@@ -169,8 +171,8 @@ static const struct {
     {"pz_rwlock_wrlock", ENOTRECOVERABLE, "the lock is unusable: a thread that got EOWNERDEAD unlocked it without "
      "pz_rwlock_consistent"},
     {"pz_rwlock_wrlock", EDEADLK, "the caller has the lock already"},
-    {"pz_rwlock_wrlock", EAGAIN, "the caller would own more than 2,000 mutexes (PZ_MOST_OWNED); a writer owns one "
-     "more than there are lanes, and a reader that comes while a writer waits owns the gate for a moment"},
+    {"pz_rwlock_wrlock", EAGAIN, "the caller would own more than 2,000 mutexes (PZ_MOST_OWNED): a writer owns the "
+     "gate and all lanes; a reader a lane, and briefly the gate if a writer waits"},
     {"pz_rwlock_wrlock", EINVAL, "the lock has no number of lanes yet, or isn't at a multiple of 64"},
     {"pz_rwlock_wrlock", ENOTSUP, "the kernel or the C library lacks something that the library needs; nothing was "
      "done"},
@@ -181,8 +183,8 @@ static const struct {
      "pz_rwlock_consistent"},
     {"pz_rwlock_trywrlock", EBUSY, "a thread has the lock, even if that is the caller; or another thread was in a "
      "call that may get the lock"},
-    {"pz_rwlock_trywrlock", EAGAIN, "the caller would own more than 2,000 mutexes (PZ_MOST_OWNED); a writer owns one "
-     "more than there are lanes, and a reader that comes while a writer waits owns the gate for a moment"},
+    {"pz_rwlock_trywrlock", EAGAIN, "the caller would own more than 2,000 mutexes (PZ_MOST_OWNED): a writer owns the "
+     "gate and all lanes; a reader a lane, and briefly the gate if a writer waits"},
     {"pz_rwlock_trywrlock", EINVAL, "the lock has no number of lanes yet, or isn't at a multiple of 64"},
     {"pz_rwlock_trywrlock", ENOTSUP, "the kernel or the C library lacks something that the library needs; nothing "
      "was done"},
@@ -192,9 +194,9 @@ static const struct {
     {"pz_rwlock_timedwrlock", ENOTRECOVERABLE, "the lock is unusable: a thread that got EOWNERDEAD unlocked it "
      "without pz_rwlock_consistent"},
     {"pz_rwlock_timedwrlock", EDEADLK, "the caller has the lock already"},
-    {"pz_rwlock_timedwrlock", ETIMEDOUT, "the time came, and other threads had the lock until then"},
-    {"pz_rwlock_timedwrlock", EAGAIN, "the caller would own more than 2,000 mutexes (PZ_MOST_OWNED); a writer owns "
-     "one more than there are lanes, and a reader that comes while a writer waits owns the gate for a moment"},
+    {"pz_rwlock_timedwrlock", ETIMEDOUT, "the deadline passed, and other threads had the lock until then"},
+    {"pz_rwlock_timedwrlock", EAGAIN, "the caller would own more than 2,000 mutexes (PZ_MOST_OWNED): a writer owns "
+     "the gate and all lanes; a reader a lane, and briefly the gate if a writer waits"},
     {"pz_rwlock_timedwrlock", EINVAL, "the lock has no number of lanes yet, or isn't at a multiple of 64; or the "
      "call would have to wait, and tv_nsec isn't 0 to 999,999,999"},
     {"pz_rwlock_timedwrlock", ENOTSUP, "the kernel or the C library lacks something that the library needs; nothing "
@@ -205,9 +207,9 @@ static const struct {
     {"pz_rwlock_clockwrlock", ENOTRECOVERABLE, "the lock is unusable: a thread that got EOWNERDEAD unlocked it "
      "without pz_rwlock_consistent"},
     {"pz_rwlock_clockwrlock", EDEADLK, "the caller has the lock already"},
-    {"pz_rwlock_clockwrlock", ETIMEDOUT, "the time came, and other threads had the lock until then"},
-    {"pz_rwlock_clockwrlock", EAGAIN, "the caller would own more than 2,000 mutexes (PZ_MOST_OWNED); a writer owns "
-     "one more than there are lanes, and a reader that comes while a writer waits owns the gate for a moment"},
+    {"pz_rwlock_clockwrlock", ETIMEDOUT, "the deadline passed, and other threads had the lock until then"},
+    {"pz_rwlock_clockwrlock", EAGAIN, "the caller would own more than 2,000 mutexes (PZ_MOST_OWNED): a writer owns "
+     "the gate and all lanes; a reader a lane, and briefly the gate if a writer waits"},
     {"pz_rwlock_clockwrlock", EINVAL, "the lock has no number of lanes yet, or isn't at a multiple of 64; or the "
      "clock is neither CLOCK_REALTIME nor CLOCK_MONOTONIC; or the call would have to wait, and tv_nsec isn't 0 to "
      "999,999,999"},
