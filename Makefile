@@ -38,11 +38,13 @@ LIBRARY := $(patsubst lib/%.c,out/lib/%.o,$(wildcard lib/*.c))
 PRELOAD := $(patsubst lib/preload/%.c,out/preload/%.o,$(wildcard lib/preload/*.c)) out/lib/caller.o
 RECORDER := $(patsubst record/preloaded/%.c,out/record/preloaded/%.o,$(wildcard record/preloaded/*.c))
 RECORD := $(patsubst record/%.c,out/record/%.o,$(wildcard record/*.c))
+# The pages of the library and its calls, which are parts of one file.
+CALL_PAGES := $(shell sed -n 's/^.\\" file //p' lib/man/all.man)
 # The text of each program: its --help and its man page.
 TEXTS := $(wildcard programs/help/*.txt record/*.txt)
 PRODUCTS = out/libpazdrig.a out/libpazdrig.so out/pazdrig.pc $(if $(wildcard lib/preload/*.c),out/libpazdrig_pthread.so) \
     $(if $(RECORD),bin/pz-record out/libpz_record.so) $(if $(OBJECTS),$(PROGRAMS:%=bin/%)) \
-    $(if $(TEXTS),$(patsubst %.txt,out/man/%.1,$(notdir $(TEXTS))) out/completion)
+    out/man/pazdrig.7 $(if $(TEXTS),$(patsubst %.txt,out/man/%.1,$(notdir $(TEXTS))) out/completion)
 
 all: $(PRODUCTS)
 	$(if $(OBJECTS),,@echo 'make: no objects of rfx and its companions in programs/$(MACHINE): only libraries and pz-record are built')
@@ -133,6 +135,10 @@ out/help/%.h: programs/help/%.txt out/with
 	$(Q)sed 's/[\\"]/\\&/g; s/.*/"&\\n"/' $< >$@
 out/help/%.h: record/%.txt out/with
 	$(Q)sed 's/[\\"]/\\&/g; s/.*/"&\\n"/' $< >$@
+out/man/pazdrig.7: lib/man/all.man out/with
+	$(Q)rm -f out/man/*.[37]
+	$(Q)awk '/^\.\\" file / { page = "out/man/" $$3; next } { print >page }' $<
+
 out/man/%.1: programs/help/%.txt programs/pages lib/pazdrig.h out/with
 	$(Q)programs/pages man $(VERSION) $(DATE) $< >$@
 out/man/%.1: record/%.txt programs/pages lib/pazdrig.h out/with
@@ -174,8 +180,8 @@ install: all
 	install -m 644 $(patsubst bin/%,out/man/%.1,$(filter bin/%,$(PRODUCTS))) $(DESTDIR)$(MANDIR)/man1
 	install -m 644 out/completion $(DESTDIR)$(COMPLETIONS)/pazdrig
 	for it in $(notdir $(filter bin/%,$(PRODUCTS))); do ln -sf pazdrig $(DESTDIR)$(COMPLETIONS)/$$it; done
-	install -m 644 lib/man/*.3 $(DESTDIR)$(MANDIR)/man3
-	install -m 644 lib/man/*.7 $(DESTDIR)$(MANDIR)/man7
+	install -m 644 out/man/*.3 $(DESTDIR)$(MANDIR)/man3
+	install -m 644 out/man/*.7 $(DESTDIR)$(MANDIR)/man7
 
 uninstall:
 	rm -f $(addprefix $(DESTDIR)$(INCLUDEDIR)/,pazdrig.h pazdrig.hpp) \
@@ -184,8 +190,8 @@ uninstall:
 	    $(addprefix $(DESTDIR)$(BINDIR)/,$(PROGRAMS) pz-record) \
 	    $(addprefix $(DESTDIR)$(COMPLETIONS)/,$(PROGRAMS) pz-record pazdrig) \
 	    $(patsubst %,$(DESTDIR)$(MANDIR)/man1/%.1,$(PROGRAMS) pz-record) \
-	    $(addprefix $(DESTDIR)$(MANDIR)/man3/,$(notdir $(wildcard lib/man/*.3))) \
-	    $(addprefix $(DESTDIR)$(MANDIR)/man7/,$(notdir $(wildcard lib/man/*.7)))
+	    $(addprefix $(DESTDIR)$(MANDIR)/man3/,$(filter %.3,$(CALL_PAGES))) \
+	    $(addprefix $(DESTDIR)$(MANDIR)/man7/,$(filter %.7,$(CALL_PAGES)))
 
 dist:
 	programs/dist $(VERSION) $(MACHINE)

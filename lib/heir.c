@@ -2,12 +2,19 @@
  *
  * A lock that finds the cell owned tries the slot. The thread that gets it waits awake: with AWAKE set it is the
  * *heir*. All other threads sleep on the cell. An unlock wakes one sleeper, unless it finds an heir: then it leaves the
- * wake to that one. Why no wake is lost: the unlock changes the cell and then looks at the slot, once; owner, AWAKE and
- * OWNER_DIED are one word. The heir sets AWAKE after `pending` is the cell, and clears it before it looks at the cell
- * for the last time, with `pending` still the same: so it finds the cell free. If the heir is killed, the kernel walks
- * its list, where the slot is, before it looks at what was pending. So if an unlock finds the slot not yet marked, the
- * kernel looks at the cell later and wakes a sleeper. An unlock also leaves its wake to the cell's new owner, whose
- * unlock finds WAITERS. */
+ * wake to that heir. No wake is lost:
+ *
+ *      an unlock                                   an heir
+ *  (A) frees the cell                          (C) makes the cell's entry pending, and then sets AWAKE
+ *  (B) loads the slot, once: owner, AWAKE      (D) clears AWAKE
+ *      and OWNER_DIED are one word             (E) looks at the cell for the last time, while it is still pending
+ *
+ * If (B) finds AWAKE, it comes before (D), so (E) finds the cell free, or its next owner. If (B) finds it clear, the
+ * unlock makes its wake. If the heir is killed between (C) and the end of (E), the kernel walks its list, where the
+ * slot is, before it looks at what was pending. So if (B) finds the slot not yet marked, the kernel looks at the cell
+ * later, and wakes a sleeper.
+ *
+ * (F) An unlock also leaves its wake to the cell's new owner, whose own unlock finds WAITERS. */
 #include "mutex.h"
 
 /* Times in ns. How long a thread waits awake at most, and at least if that didn't pay; its first and last interval
@@ -215,8 +222,8 @@ static int take_as_heir(pz_mutex *m, struct caller *s, uint64_t *seen)
  * an unlock from then on makes its wake. */
 static int is_last_look(pz_mutex *m, uint64_t *seen)
 {
-    fetch_and(slot(m), ~AWAKE);
-    *seen = load_in_order(cell(m));
+    fetch_and(slot(m), ~AWAKE);     /* (D) */
+    *seen = load_in_order(cell(m)); /* (E) */
     if (is_free(*seen))
         return 0;
     return (*seen & (WAITERS | UNUSABLE)) || compare_exchange(cell(m), seen, *seen | WAITERS);
@@ -245,7 +252,7 @@ static int wait_awake(pz_mutex *m, struct caller *s, uint64_t *seen, const struc
     if (!(*seen & WAITERS))
         store_release(hint(m), hint_time(began));
     for (;;) {
-        set_pending(s, cell_entry(m));
+        set_pending(s, cell_entry(m)); /* (C) */
         say_awake(m, s);
         *seen = load_in_order(cell(m));
         int is_over = is_free(*seen) || (*seen & UNUSABLE) || watch(m, s, seen, d, began);
@@ -360,7 +367,7 @@ void pz_unannounce_wake(pz_mutex *m) { clear_hint(m, COMES); }
 
 __attribute__((noinline)) int pz_hand_on(pz_mutex *m, int is_announced)
 {
-    if (!is_announced && (answers(load_in_order(slot(m))) || (load_in_order(cell(m)) & OWNER)))
+    if (!is_announced && (answers(load_in_order(slot(m))) || (load_in_order(cell(m)) & OWNER))) /* (B); (F) */
         return 1;
     return wake(cell(m), 1);
 }

@@ -133,7 +133,7 @@ static inline __attribute__((always_inline)) int unlock(pz_mutex *m, struct call
     if (UNLIKELY(!take_off(s, m)))
         return reply_with(s, EPERM);
     int is_announced = UNLIKELY(seen & WAITERS) && announce_wake(m, s);
-    uint64_t left = fetch_sub(cell(m), s->tid) - s->tid;
+    uint64_t left = fetch_sub(cell(m), s->tid) - s->tid; /* (A) of heir.c */
     if (UNLIKELY(left & WAITERS) && !pz_hand_on(m, is_announced))
         trim(m, left);
     return reply_with(s, 0);

@@ -1,4 +1,0 @@
-use Rattle.script.proofs.parsed.Script.commands.Goals as goal
-
-pub returns-clause-value : goal.returns-clause-value
-returns-clause-value c = cc
