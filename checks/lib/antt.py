@@ -1,16 +1,19 @@
 """Reads definitions of the prover's language, as far as tables need it, and evaluates them.
 
 A module is a file of crates/*/specs. Its definitions are clauses (`name pattern .. = expression`) with constructors,
-`if`, records, fields, lists, lambdas and numbers; `module _ (x : T) .. where` has definitions with these parameters. Types
-are skipped. A definition is parsed when it is first used, so a file may have definitions that this can't read. Arguments
-are evaluated when they are needed, once.
+`if`, records, fields, lists, lambdas and numbers; `module _ (x : T) .. where` has definitions with these parameters.
+Types are skipped. A definition is parsed when it is first used, so a file may have definitions that this can't read.
+Arguments are evaluated when they are needed, once.
 """
 
 import os
 import re
 
 TOP = os.path.realpath(os.path.join(os.path.dirname(os.path.realpath(__file__)), "..", ".."))
-TOKEN = re.compile(r"\s+|--.*|(0x[0-9a-fA-F_]+|[0-9][0-9_]*)|([A-Za-z_][\w']*(?:\.[A-Za-z_][\w']*)*)|(\.\w+)|(\[\]|==|&&|\|\||\+\+|.)")
+# Blanks and comments; a number; a name, perhaps with fields; a field of what precedes; a sign
+TOKEN = re.compile(
+    r"\s+|--.*|(0x[0-9a-fA-F_]+|[0-9][0-9_]*)|([A-Za-z_][\w']*(?:\.[A-Za-z_][\w']*)*)|(\.\w+)|(\[\]|==|&&|\|\||\+\+|.)"
+)
 # How tightly an operator binds; ∷ and ++ group to the right
 BINDS = {"∷": 1, "++": 1, "||": 2, "&&": 3, "==": 4, "+": 5, "-": 5, "*": 6, "/": 6, "%": 6, "^": 7}
 KEYWORDS = {"use", "abbrev", "pub", "data", "record", "module", "mod"}
@@ -79,6 +82,7 @@ def said(it):
 
 
 def is_constructor(name):
+    """Their names begin with a capital letter, except those of the truth values."""
     last = name.rpartition(".")[2]
     return last[0].isupper() or last in ("true", "false")
 
@@ -89,6 +93,7 @@ def constructor(name, *given):
 
 
 def apply(it, given):
+    """A constructor, a definition or a function with these arguments."""
     it = force(it)
     if isinstance(it, tuple):
         return it + tuple(given)
@@ -106,6 +111,7 @@ class Function:
         self.module, self.name, self.have = module, name, have
 
     def applied(self, given):
+        """Of these arguments: the value, or the definition with more arguments."""
         have = self.have + tuple(given)
         arity, clauses = self.module.clauses(self.name)
         if len(have) < arity:
@@ -116,10 +122,12 @@ class Function:
                 return apply(body(bound), have[arity:]) if have[arity:] else force(body(bound))
         raise Unknown(f"{self.name}: no clause for {[plain(x) for x in have]}")
 
-    __call__ = lambda self, *given: self.applied(given)
+    def __call__(self, *given):
+        return self.applied(given)
 
 
 def match(pattern, it, bound):
+    """Whether a value fits; then its parts are bound to the pattern's names."""
     if isinstance(pattern, str):
         bound[pattern] = it
         return True
@@ -133,7 +141,7 @@ def match(pattern, it, bound):
     return it[0] == name and all(match(p, x, bound) for p, x in zip(parts, it[1:]))
 
 
-def bit(operation):
+def of_values(operation):
     return lambda x, y: operation(force(x), force(y))
 
 
@@ -142,17 +150,17 @@ PRELUDE = {
     "nat_le": lambda x: lambda y: force(x) <= force(y),
     "nat_lt": lambda x: lambda y: force(x) < force(y),
     "not": lambda x: not force(x),
-    "slice_index": lambda l: lambda k: item(force(l), force(k)),
+    "slice_index": lambda l: lambda k: items(l)[force(k)],
     "length": lambda l: len(items(l)),
 }
 OPERATORS = {
-    "==": bit(lambda x, y: x == y),
-    "+": bit(lambda x, y: x + y),
-    "-": bit(lambda x, y: max(x - y, 0)),
-    "*": bit(lambda x, y: x * y),
-    "/": bit(lambda x, y: x // y if y else 0),
-    "%": bit(lambda x, y: x % y if y else x),
-    "^": bit(lambda x, y: x**y),
+    "==": of_values(lambda x, y: x == y),
+    "+": of_values(lambda x, y: x + y),
+    "-": of_values(lambda x, y: max(x - y, 0)),
+    "*": of_values(lambda x, y: x * y),
+    "/": of_values(lambda x, y: x // y if y else 0),
+    "%": of_values(lambda x, y: x % y if y else x),
+    "^": of_values(lambda x, y: x**y),
     "&&": lambda x, y: force(x) and force(y),
     "||": lambda x, y: force(x) or force(y),
     "∷": lambda x, y: ("∷", x, y),
@@ -173,16 +181,12 @@ def items(l):
     return found
 
 
-def item(l, k):
-    return items(l)[k]
-
-
 def a_list(found):
     return ("∷", found[0], a_list(found[1:])) if found else ("[]",)
 
 
 class Parser:
-    """One clause, or one expression: makes a function of what is bound."""
+    """Reads a clause. An expression becomes a function that takes what its names are bound to."""
 
     def __init__(self, module, text):
         self.module, self.at, self.tokens = module, 0, []
@@ -220,6 +224,7 @@ class Parser:
         return (text.rpartition(".")[2],) if is_constructor(text) else text
 
     def whole_pattern(self):
+        """One pattern, perhaps with arguments or of a list."""
         kind, text = self.peek()
         found = self.pattern()
         if kind == "name" and is_constructor(text):
@@ -261,10 +266,7 @@ class Parser:
 
     def function(self):
         name = self.next()[1]
-        if name.endswith("."):
-            name = name[:-1]
-        elif self.peek()[1] == ".":
-            self.next()
+        self.next(".")
         body = self.expression()
         return lambda bound: lambda it: body({**bound, name: it})
 
@@ -342,11 +344,12 @@ class Parser:
 class Module:
     """A file of definitions, and the names that it uses of others."""
 
-    known = {}
-    # (crate, module, name): what is defined by hand instead
-    by_hand = {}
+    top = TOP  # where crates/ is
+    known = {}  # those that were read, by path
+    by_hand = {}  # what is defined by hand instead, by crate, module and name
 
     def __init__(self, path):
+        # Clauses by name, as text and parsed; the parameters of each name's module; where a name is that this one uses
         self.path, self.texts, self.read, self.given, self.uses = path, {}, {}, {}, {}
         parameters, item = [], []
         with open(path, encoding="utf-8") as it:
@@ -425,6 +428,3 @@ class Module:
         if name in self.uses:
             return self.load(*self.uses[name]).value(name)
         raise Unknown(f"{self.path}: {text} isn't defined")
-
-
-Module.top = TOP

@@ -11,13 +11,13 @@ enum { SLEEP = 8, WAKE, MOVE, CLOCK, DEADLINE, RETURNS };
 
 /* An access: its word and operands, and where in the source it is; or, with RETURNS, the call's reply. */
 struct asked {
-    uint64_t kind, word, is, value, more, chain;
+    uint64_t kind, word, expected, value, chain;
 };
 
 /* What a call is, and what its thread knows of itself. */
 struct asking {
     uint64_t call, deadline; /* 0: none, 1: a time, 2: not a time */
-    uint64_t was_heir, owes, spares, waits;
+    uint64_t was_heir, owes, spares;
 };
 
 enum { MOST_ASKED = 60000 };
@@ -39,10 +39,10 @@ static _Alignas(16) pz_cond cond;
 /* The words by number: where table.py has their names. */
 uint64_t word_at(int i)
 {
-    const void *const words[] = {&head.word[0],     &head.word[1],    &head.word[2],       &mutex.words[0],
-                                 &mutex.words[1],   &mutex.words[2],  &mutex.words[3],     &mutex.words[4],
-                                 &mutex.words[5],   &mutex.words[6],  &cond.words[0],      &cond.words[1],
-                                 &foreign[0].next,  &foreign[0].previous, &foreign[1].next, &foreign[1].previous};
+    const void *const words[] = {&head.word[0],    &head.word[1],        &head.word[2],    &mutex.words[0],
+                                 &mutex.words[1],  &mutex.words[2],      &mutex.words[3],  &mutex.words[4],
+                                 &mutex.words[5],  &mutex.words[6],      &cond.words[0],   &cond.words[1],
+                                 &foreign[0].next, &foreign[0].previous, &foreign[1].next, &foreign[1].previous};
     return (uint64_t)words[i];
 }
 uint64_t distance_of_mutex(void) { return (uint64_t)&mutex - (uint64_t)&cond; }
@@ -57,7 +57,8 @@ static uint64_t chain_of_calls(void)
 
 static int is_same(const struct asked *a, const struct asked *b)
 {
-    return a->kind == b->kind && a->word == b->word && a->is == b->is && a->value == b->value && a->chain == b->chain;
+    return a->kind == b->kind && a->word == b->word && a->expected == b->expected && a->value == b->value &&
+           a->chain == b->chain;
 }
 
 /* Results past the last one are those of the last `cycle`, for as long as the accesses are the same, too. */
@@ -78,11 +79,12 @@ uint64_t play(enum played kind, const pz_word *w, uint64_t is, uint64_t value)
 {
     if (w == &life)
         return 7;
-    return ask((struct asked){.kind = kind, .word = (uint64_t)w, .is = is, .value = value});
+    return ask((struct asked){.kind = kind, .word = (uint64_t)w, .expected = is, .value = value});
 }
 int play_sleep(pz_word *w, uint64_t is, const struct deadline *d)
 {
-    return (int)ask((struct asked){.kind = SLEEP, .word = (uint64_t)w, .is = is, .value = d ? (uint64_t)d->clock + 1 : 0});
+    return (int)ask(
+        (struct asked){.kind = SLEEP, .word = (uint64_t)w, .expected = is, .value = d ? (uint64_t)d->clock + 1 : 0});
 }
 int play_wake(pz_word *w, int most)
 {
@@ -90,10 +92,13 @@ int play_wake(pz_word *w, int most)
 }
 void play_move(pz_word *w, uint64_t is, pz_word *to)
 {
-    ask((struct asked){.kind = MOVE, .word = (uint64_t)w, .is = is, .value = (uint64_t)to});
+    ask((struct asked){.kind = MOVE, .word = (uint64_t)w, .expected = is, .value = (uint64_t)to});
 }
 uint64_t play_clock(void) { return ask((struct asked){.kind = CLOCK}); }
-int play_has_passed(const struct deadline *d) { return (int)ask((struct asked){.kind = DEADLINE, .value = (uint64_t)d->clock}); }
+int play_has_passed(const struct deadline *d)
+{
+    return (int)ask((struct asked){.kind = DEADLINE, .value = (uint64_t)d->clock});
+}
 
 _Thread_local struct caller pz_caller;
 pz_word *_Atomic pz_life = &life;
@@ -133,10 +138,9 @@ int drive(const struct asking *a, const uint64_t *results, int count, int repeat
     pz_caller.was_heir = (uint16_t)a->was_heir;
     pz_caller.owes = a->owes ? &mutex : NULL;
     pz_caller.spares = (uint16_t)a->spares;
-    pz_caller.waits = (uint32_t)a->waits;
     if (!setjmp(ended)) {
         int reply = call(a);
-        asked[asked_count] = (struct asked){.kind = RETURNS, .value = (uint64_t)reply, .more = pz_caller.owned};
+        asked[asked_count] = (struct asked){.kind = RETURNS, .value = (uint64_t)reply};
     }
     return asked_count;
 }
