@@ -10,6 +10,7 @@ once; `State.key` says which states count as the same. Loops that end by a count
 with 1 and the results that lead to the first access that differs.
 """
 
+import bisect
 import collections
 import ctypes
 import errno
@@ -25,11 +26,13 @@ from made import DIED, FLAG, LOW, ON_LIST, OTHER, OWNER, RESTS, SELF, THIRD, TUR
 FLAGS = [died | waiters | above for died in (0, DIED) for waiters in (0, WAITERS) for above in (0, FLAG)]
 # Nobody's, the thread's own and others', with a turn, and with one so much later that the mutex is hot. None is the
 # thread's own and unusable, as no mutex is.
-CELLS = [o | f | n * TURN for o in (0, SELF, OTHER) for f in FLAGS for n in (40, 140) if o != SELF or not f & FLAG]
+CELLS = [o | f | n * TURN for o in (0, SELF, OTHER) for f in FLAGS for n in (40, 50) if o != SELF or not f & FLAG]
 CELLS += [THIRD | f | 40 * TURN for f in FLAGS]
 COUNTERS = [count | slept for count in (1000, 1001, LOW) for slept in (0, FLAG)]
-# Times in ns: the first one; one after which an heir is due; one after which all is late
-BEGIN, SOME_TIME, LONG_TIME = 10**12, 120000, 2 * 10**9
+# Times in ns: the first one; the time after which all is late. And how long a look at the clock comes after the last
+# one: late; if an heir is due; if waiting awake doesn't pay any more; at the same time
+BEGIN, LONG_TIME = 10**12, 2 * 10**9
+INTERVALS = [LONG_TIME, 120000, 40000, 0]
 DUE, COMES = 1, 2
 
 
@@ -77,7 +80,7 @@ WORDS = "head.first head.offset pending cell hint slot cell.previous cell.next s
 WORDS = f"{WORDS} one.next one.previous two.next two.previous".split()
 LIST = [name for name in WORDS if "." in name]
 CALLS = ["lock", "trylock", "unlock", "consistent", "reinit", "wait", "signal", "broadcast"]
-MOST_ASKED, ALL_WOKEN = 60000, 2**31 - 1
+MOST_ASKED, ALL_WOKEN = 16000, 2**31 - 1
 ERRORS = {name: number for name, number in vars(errno).items() if name.startswith("E")}
 ERRORS |= {"OK": 0, "XSTATE": errno.EINVAL}
 
@@ -109,6 +112,9 @@ class Access:
         elif self.kind in (COMPARE_EXCHANGE, MOVE):
             value = f"{self.expected:#x}, {value}"
         return " ".join(it for it in (KINDS.split()[self.kind], self.at, value) if it)
+
+    def with_result(self, result):
+        return str(self) if self.kind in (STORE, EXCHANGE, MOVE) else f"{self} = {result:#x}"
 
 
 class Library:
@@ -178,16 +184,19 @@ At = collections.namedtuple("At", "row stage demand reply late", defaults=(None,
 Outcome = collections.namedtuple("Outcome", "result found woken is_late", defaults=(0, 0, False))
 
 
-class State(collections.namedtuple("State", "rows pending is_late now slept last")):
+class State(collections.namedtuple("State", "rows pending is_late now since slept last")):
     """All rows that the call may be at; the pending entry; what the clock said of the deadline since the last access of
-    a row; the time; how the last sleep ended, or that the slot was tried since; and what the C may remember."""
+    a row; the time, and when the thread became an heir; how the last sleep ended, or that the slot was tried since; and
+    what the C may remember."""
 
     def key(self, a):
         """States with the same key count as one. Their rows and operands may differ in turns, times and in which other
-        thread is the owner, and the C in counts of loops."""
+        thread is the owner, and the C in counts of loops, and in times that are between the same two of INTERVALS."""
         ends = [(it.demand, it.reply, it.late is True) for it in self.rows]
-        rows = frozenset(zip(((abstract(it.row), abstract(it.stage)) for it in self.rows), ends))
-        return rows, a.chain, a.kind, a.at, abstract(a.expected), abstract(a.value), self.is_late, self.slept, self.last
+        rows = frozenset(zip(((abstract(it.row), it.stage) for it in self.rows), ends))
+        place = a.chain, a.kind, a.at, abstract(a.expected), a.named or abstract(a.value)
+        elapsed = bisect.bisect(sorted(INTERVALS), self.now - self.since) if is_heir(self.rows) else 0
+        return rows, place, self.is_late, elapsed, self.slept, self.last
 
     def remembered(self, a, result, is_of_row):
         """What was found last: in the cell; whether there was an heir; and since the last access of a row, in the
@@ -224,6 +233,10 @@ def is_unlinking(state):
     return any(it.row[0] in ON_LIST and not ON_LIST[it.row[0]][0] for it in state.rows)
 
 
+def is_heir(rows):
+    return any(it.row[0].startswith("Heir") for it in rows)
+
+
 def is_timed(row):
     return row[4] if row[0] == "WaitSleeps" else row[1]["timed"]
 
@@ -255,7 +268,7 @@ class Comparison:
 
     def outcomes(self, a, state):
         if a.kind == CLOCK:
-            return [Outcome(state.now + more) for more in (LONG_TIME, SOME_TIME, 0)]
+            return [Outcome(state.now + more) for more in INTERVALS]
         if a.kind == DEADLINE:
             return [Outcome(0), Outcome(1)]
         if a.kind == SLEEP:
@@ -362,7 +375,8 @@ class Comparison:
             slept = "at the slot"
         if reason:  # it may be either
             after |= state.rows
-        return State(after, pending, None, state.now, slept, last)
+        since = state.since if is_heir(state.rows) else state.now
+        return State(after, pending, None, state.now, since, slept, last)
 
     def ends(self, a, state, path):
         for it in state.rows:
@@ -385,13 +399,13 @@ class Comparison:
                 line += f": {' '.join([kind, self.table.names.get(at, hex(at)), *operands])}"
             lines.append(line)
         self.library.drive(self.asking, path)
-        before = [f"{Access(self.library, self.library.asked[i])} = {result:#x}" for i, result in enumerate(path)]
+        before = [Access(self.library, self.library.asked[i]).with_result(result) for i, result in enumerate(path)]
         raise Differs("\n".join([*lines, f"    after: {'; '.join(before[-40:])}"]))
 
     # ---- all states, first those that the fewest accesses lead to
 
     def explore(self, row):
-        self.reach(Node(None, [], State(frozenset([At(row)]), 0, None, BEGIN, "", ())))
+        self.reach(Node(None, [], State(frozenset([At(row)]), 0, None, BEGIN, BEGIN, "", ())))
         while self.to_visit:
             node = self.to_visit.popleft()
             for outcome in self.outcomes(node.access, node.state):
@@ -417,9 +431,10 @@ class Comparison:
     def go_around(self, node, cycle):
         """Gives the same results again and again, until the C does something else than the last time around."""
         path, state, states = node.path, node.state, []
-        if (node.access.chain, len(cycle)) in self.gone_around:
+        name = (*node.key[:2], len(cycle))
+        if name in self.gone_around:
             return
-        self.gone_around.add((node.access.chain, len(cycle)))
+        self.gone_around.add(name)
         for result in cycle * 2:
             a = self.library.next(self.asking, path)
             fitting = [] if a.kind == RETURNS else [it for it in self.outcomes(a, state) if it.result == result]

@@ -3,7 +3,6 @@
  * pointers: an access is named by the chain of calls that leads to it. */
 #include "mutex.h"
 #include <setjmp.h>
-#include <stdio.h>
 #include <stdlib.h>
 
 /* After those of `enum played`. */
@@ -20,7 +19,7 @@ struct asking {
     uint64_t was_heir, owes, spares;
 };
 
-enum { MOST_ASKED = 60000 };
+enum { MOST_ASKED = 16000 }; /* of the longest loop, 1,000 looks of an heir */
 struct asked asked[MOST_ASKED];
 static const uint64_t *given;
 static int asked_count, given_count, cycle;
