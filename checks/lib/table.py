@@ -139,25 +139,28 @@ class Library:
 
 # ---- where the C and the table differ, and what the table leaves out. All of it is here
 
+# Accesses that are no row's, and why the C may make them. They are loads, or store what no promise depends on
 LEFT_OUT = {
-    "hint": "who has waited long, that a woken thread comes, since when. `Choice` stands for what the C finds there",
-    "distance": "with which mutex threads wait. If it is another, the call returns EINVAL; the table has no such call",
-    "clock": "`Choice` stands for it",
-    "deadline": "`Choice` stands for it; see `demand`",
-    "links": "take_off_list looks whether both neighbours lead back. If not, a process has written over the links",
-    "pending": "the pending entry is stored again before an heir says that it is awake (watch), which changes no word",
+    "who has waited long, that a woken thread comes, since when: `Choice` stands for what the C finds there": (
+        lambda a, state: a.at == "hint"
+    ),
+    "with which mutex threads wait: with another one the call returns EINVAL, and the table has no such call": (
+        lambda a, state: a.at == "distance" and a.kind in (LOAD, STORE)
+    ),
+    "`Choice` stands for what clocks say; `demanded` has the place at which that decides": (
+        lambda a, state: a.kind in (CLOCK, DEADLINE)
+    ),
+    "take_off_list checks that both neighbours lead back: if not, another process has written over the links": (
+        lambda a, state: a.kind == LOAD and a.at in LIST and is_unlinking(state)
+    ),
+    "watch stores the pending entry again before the heir says that it is awake, which changes no word": (
+        lambda a, state: a.kind == STORE and a.at == "pending" and a.value == state.pending
+    ),
 }
 
 
 def left_out(a, state):
-    """Why the C may make an access that is no row's, or None."""
-    if a.kind in (CLOCK, DEADLINE):
-        return "clock" if a.kind == CLOCK else "deadline"
-    if a.at == "hint" or (a.at == "distance" and a.kind in (LOAD, STORE)):
-        return a.at
-    if a.kind == LOAD and a.at in LIST and is_unlinking(state):
-        return "links"
-    return "pending" if a.kind == STORE and a.at == "pending" and a.value == state.pending else None
+    return next((reason for reason, holds in LEFT_OUT.items() if holds(a, state)), None)
 
 
 def instead(at, state):
@@ -196,7 +199,7 @@ class State(collections.namedtuple("State", "rows pending is_late now since slep
         rows = frozenset(zip(((abstract(it.row), it.stage) for it in self.rows), ends))
         place = a.chain, a.kind, a.at, abstract(a.expected), a.named or abstract(a.value)
         elapsed = bisect.bisect(sorted(INTERVALS), self.now - self.since) if is_heir(self.rows) else 0
-        return rows, place, self.is_late, elapsed, self.slept, self.last
+        return rows, place, self.pending, self.is_late, elapsed, self.slept, self.last
 
     def remembered(self, a, result, is_of_row):
         """What was found last: in the cell; whether there was an heir; and since the last access of a row, in the
@@ -370,7 +373,7 @@ class Comparison:
         pending = a.value if a.kind == STORE and a.at == "pending" else state.pending
         slept = state.slept
         if a.kind == SLEEP:
-            slept = "not woken" if outcome.result else "woken"
+            slept = {0: "woken", errno.ETIMEDOUT: "late"}.get(outcome.result, "not woken")
         elif a.kind == COMPARE_EXCHANGE and a.at == "slot":
             slept = "at the slot"
         if reason:  # it may be either
