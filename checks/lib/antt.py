@@ -65,7 +65,7 @@ class Record:
 
 
 def plain(it):
-    """A value without anything to evaluate: constructors as tuples, a record as a tuple of its fields."""
+    """The same value without anything left to evaluate."""
     it = force(it)
     if isinstance(it, tuple):
         return it[:1] + tuple(plain(x) for x in it[1:])

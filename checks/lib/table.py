@@ -261,7 +261,7 @@ def late_after(at, outcome):
 
 
 class Comparison:
-    """Of one call."""
+    """Of one call. `met` has the states that were visited, by their keys."""
 
     def __init__(self, library, table, call, asking, met):
         self.library, self.table, self.call, self.asking, self.met = library, table, call, asking, met
@@ -334,7 +334,7 @@ class Comparison:
         return same[a.kind] == (kind, operands)
 
     def rows_now(self, state):
-        """The rows that the clock leaves, or those that the C has instead; and where reinit's next call begins."""
+        """The rows that the clock leaves, those that the C has instead, and where reinit's next call begins."""
         for it in state.rows:
             if it.demand not in (None, state.is_late):
                 continue
@@ -351,6 +351,7 @@ class Comparison:
         made = self.table.makes(at.row, at.stage, a.at, outcome.found, outcome.woken, ticks(state.now))
         for access, row, stage, reply in made:
             if self.is_same(a, access, at.row, outcome.found):
+                self.rows.add(at.row[0])
                 if outcome.is_late:
                     row = self.table.lapsed(row)
                 yield At(row, stage, demanded(at, row), reply, late_after(at, outcome))
@@ -369,7 +370,6 @@ class Comparison:
             if a.kind == CLOCK:
                 return state._replace(now=outcome.result)
             return state._replace(is_late=bool(outcome.result)) if a.kind == DEADLINE else state
-        self.rows.update(it.row[0] for it in state.rows)
         pending = a.value if a.kind == STORE and a.at == "pending" else state.pending
         slept = state.slept
         if a.kind == SLEEP:
@@ -399,6 +399,7 @@ class Comparison:
             else:
                 kind, at, *operands = self.table.makes(it.row, it.stage, a.at, 0, 0, ticks(state.now))[0][0]
                 operands = [self.table.names.get(x, hex(x)) if kind == "Store" else hex(x) for x in operands]
+                operands += ["with a deadline" if is_timed(it.row) else "without a deadline"] * (kind == "Wait")
                 line += f": {' '.join([kind, self.table.names.get(at, hex(at)), *operands])}"
             lines.append(line)
         self.library.drive(self.asking, path)
