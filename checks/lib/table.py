@@ -110,7 +110,7 @@ class Access:
         elif self.kind == SLEEP:
             value = f"{self.expected & LOW:#x}, {'with' if self.value else 'without'} a deadline"
         elif self.kind in (COMPARE_EXCHANGE, MOVE):
-            value = f"{self.expected:#x}, {value}"
+            value = f"{self.expected & LOW if self.kind == MOVE else self.expected:#x}, {value}"
         return " ".join(it for it in (KINDS.split()[self.kind], self.at, value) if it)
 
     def with_result(self, result):
@@ -399,7 +399,8 @@ class Comparison:
             else:
                 kind, at, *operands = self.table.makes(it.row, it.stage, a.at, 0, 0, ticks(state.now))[0][0]
                 operands = [self.table.names.get(x, hex(x)) if kind == "Store" else hex(x) for x in operands]
-                operands += ["with a deadline" if is_timed(it.row) else "without a deadline"] * (kind == "Wait")
+                if kind == "Wait":
+                    operands.append("with a deadline" if is_timed(it.row) else "without a deadline")
                 line += f": {' '.join([kind, self.table.names.get(at, hex(at)), *operands])}"
             lines.append(line)
         self.library.drive(self.asking, path)
