@@ -1,6 +1,6 @@
 -- What a run keeps, and what of the premises of its accesses follows from that.
 use Rattle.std.proofs.Common.{◌≡◌, ◌≢◌, ◌⊎◌, inl, inr, ℕ, ◌<◌, ◌≤◌, ◌==◌, Bool, true, false, List, [], ◌∷◌, refl, sym, ap, ◌∙◌, subst, arith, eqb-true, eq-eqb}
-use Rattle.std.specs.Prelude.{not, ◌&&◌}
+use Rattle.std.specs.Prelude.{if◌then◌else◌, not, ◌&&◌}
 use Rattle.memorymap.specs.Layouts.{IsLayout, Layout', address_in, cell_place, counter_place, head_place}
 use Rattle.protocol.specs.declared.event.Event.{Event}
 use Rattle.protocol.specs.declared.event.Event.TheVariants.{Step, Kill, Leave, Expire, Renew}
@@ -28,15 +28,16 @@ use Rattle.slots.specs.Each.{Assumes}
 use Rattle.slots.specs.Goes.{AssumesToo, AllGranted, Grants, IsAtItsRow, StandsStill, who}
 use Rattle.slots.specs.Runs.{awake_after, slept_after, turns_after}
 use Rattle.slots.specs.Fits.{IsOurs, Fits}
-use Rattle.slots.specs.Premises.{KnowsItsTurn, RunsKeepTurns, AllHold, RunsKeepOwners, SlotsStayQuiet, SlotsAreQuiet, AllTrusted, Owning, PremisesFollow, Trusts, TrustsIn}
+use Rattle.slots.specs.Premises.{KnowsItsTurn, MayOwnMore, RunsKeepRoom, RunsKeepTurns, AllHold, RunsKeepOwners, SlotsStayQuiet, SlotsAreQuiet, AllTrusted, Owning, PremisesFollow, Trusts, TrustsIn}
 use Rattle.slots.proofs.Abouts.{about_it, wakes_its_own}
 use Rattle.slots.proofs.Alive.{standing_lives}
 use Rattle.slots.proofs.AllRows.{layout_run, one_more, reached_run, runs_are_events}
-use Rattle.slots.proofs.Allowed.{apart_row, assume_row, assume_too, sleeps_later}
+use Rattle.slots.proofs.Allowed.{apart_row, assume_row, assume_too, may_own, sleeps_later}
 use Rattle.slots.proofs.CallsFit.{calls_fit}
 use Rattle.slots.proofs.FitsOn.{next_rows_fit}
 use Rattle.slots.proofs.Free.{reached_kept, reached_queued}
 use Rattle.slots.proofs.Keeping.{all_four, dying_at, lapses_so}
+use Rattle.slots.proofs.HeldRows.{RoomAt, first_room, room_row}
 use Rattle.slots.proofs.Leading.{by_test}
 use Rattle.slots.proofs.LeadsOn.{rows_lead}
 use Rattle.slots.proofs.MachineRuns.{next_is}
@@ -63,6 +64,7 @@ pub record Steady (x : Slots) : Type 0 where
   pub owning : (t : ℕ) → 1 ≤ t → t ≤ x.machine.layout.threads → Owning x.machine t (x.rows t)
   pub plain : ArePlain x.machine
   pub turns : (t : ℕ) → 1 ≤ t → t ≤ x.machine.layout.threads → KnowsItsTurn x (x.rows t)
+  pub room : (t : ℕ) → 1 ≤ t → t ≤ x.machine.layout.threads → RoomAt (x.machine.threads t).held (x.rows t)
 
 -- ---- one happening
 
@@ -94,11 +96,21 @@ module _ (x : Slots) (t : ℕ) (pos : 1 ≤ t) (known : t ≤ x.machine.layout.t
   knows : KnowsItsTurn x (x.rows t)
   knows = s.turns t pos known
 
+  room : RoomAt (z.threads t).held (x.rows t)
+  room = s.room t pos known
+
+  pub more : MayOwnMore x t (x.rows t)
+  more = go (is_alive g) refl
+    where
+      go : (b : Bool) → is_alive g ≡ b → MayOwnMore x t (x.rows t)
+      go true lives = may_own x t s.reached pos known (x.rows t) (here lives) fit room
+      go false dead = subst (MayOwnMore x t) (sym (resting dead)) tt
+
   granted : (c : Choice) → Trusts x t (x.rows t) → Grants x (Goes t c)
   granted c w = go (is_alive g) refl
     where
       go : (b : Bool) → is_alive g ≡ b → Grants x (Goes t c)
-      go true lives = (about_it z.layout t (x.rows t) g fit (here lives), assume_row x t s.reached pos known (x.rows t) (here lives) fit own quiet knows w, assume_too x t s.reached pos known (x.rows t) fit own quiet knows w)
+      go true lives = (about_it z.layout t (x.rows t) g fit (here lives), assume_row x t s.reached pos known (x.rows t) (here lives) fit own quiet knows more w, assume_too x t s.reached pos known (x.rows t) fit own quiet knows w)
       go false dead = (
         subst (λ (r : Row). IsAboutIt z.layout r g) (sym (resting dead)) tt,
         subst (Assumes x t) (sym (resting dead)) tt,
@@ -113,17 +125,18 @@ module _ (x : Slots) (t : ℕ) (pos : 1 ≤ t) (known : t ≤ x.machine.layout.t
   RestsIn y = is_alive (y.machine.threads t).stage ≡ false → y.rows t ≡ Row.Rests
 
   abbrev Both : Slots → Type 0
-  Both y = FitsIn y × RestsIn y × Owning y.machine t (y.rows t) × ((m : ℕ) → IsOurs z.layout m → IsPlain y.machine m)
+  Both y = FitsIn y × RestsIn y × Owning y.machine t (y.rows t) × ((m : ℕ) → IsOurs z.layout m → IsPlain y.machine m) × RoomAt (y.machine.threads t).held (y.rows t)
 
   unchanged : Both x
-  unchanged = (fit, resting, own, s.plain)
+  unchanged = (fit, resting, own, s.plain, room)
 
-  at_new : (y : Slots) (r : Row) → Fits z.layout t r (y.machine.threads t).stage → (is_alive (y.machine.threads t).stage ≡ false → r ≡ Row.Rests) → Owning y.machine t r → ((m : ℕ) → IsOurs z.layout m → IsPlain y.machine m) → Both (at_row y t r)
-  at_new y r fits_there rests_there owns_there plain_there = (
+  at_new : (y : Slots) (r : Row) → Fits z.layout t r (y.machine.threads t).stage → (is_alive (y.machine.threads t).stage ≡ false → r ≡ Row.Rests) → Owning y.machine t r → ((m : ℕ) → IsOurs z.layout m → IsPlain y.machine m) → RoomAt (y.machine.threads t).held r → Both (at_row y t r)
+  at_new y r fits_there rests_there owns_there plain_there room_there = (
     subst (λ (q : Row). Fits z.layout t q (y.machine.threads t).stage) (sym (put-same y.rows t r)) fits_there,
     λ dead. put-same y.rows t r ∙ rests_there dead,
     subst (Owning y.machine t) (sym (put-same y.rows t r)) owns_there,
     plain_there,
+    subst (RoomAt (y.machine.threads t).held) (sym (put-same y.rows t r)) room_there,
   )
 
   first_owns : (held : ℕ) (r : Row) → may_call z.layout held r ≡ true → Owning z t r
@@ -139,7 +152,7 @@ module _ (x : Slots) (t : ℕ) (pos : 1 ≤ t) (known : t ≤ x.machine.layout.t
   calls : (r : Row) → Both (next x (Calls t r))
   calls r = by_test Both (has_thread z t && is_alive g && is_resting (x.rows t) && may_call z.layout (z.threads t).held r) (at_row x t r) x
       (λ e. let four = all_four (has_thread z t) (is_alive g) (is_resting (x.rows t)) (may_call z.layout (z.threads t).held r) e in
-      at_new x r (calls_fit z.layout t (z.threads t).held r g four.fourth) (λ dead. absurd (cc (sym dead ∙ four.second))) (first_owns (z.threads t).held r four.fourth) s.plain)
+      at_new x r (calls_fit z.layout t (z.threads t).held r g four.fourth) (λ dead. absurd (cc (sym dead ∙ four.second))) (first_owns (z.threads t).held r four.fourth) s.plain (first_room z.layout (z.threads t).held r four.fourth))
       (λ e. unchanged)
 
   may_go : (a d e : Bool) → (a && d && not e) ≡ true → (d ≡ true) × (e ≡ false)
@@ -165,6 +178,8 @@ module _ (x : Slots) (t : ℕ) (pos : 1 ≤ t) (known : t ≤ x.machine.layout.t
             on_list
             is none_then),
         plain_then,
+        subst (RoomAt (y.machine.threads t).held) (sym (put-same x.rows t (made x t c (x.rows t)).next))
+            (room_row x y t c (reached_kept z s.reached) (reached_kept y.machine (reached_run z (made x t c (x.rows t)).events s.reached)) pos known (small z t (reached_kept z s.reached) known) same (x.rows t) g fit own on_list room is none_then),
       )
         where
           grant : Grants x (Goes t c)
@@ -216,8 +231,8 @@ module _ (x : Slots) (t : ℕ) (pos : 1 ≤ t) (known : t ≤ x.machine.layout.t
               go (inr awake) (inr alike) = alike_plain x y same s.reached (reached_run z (made x t c (x.rows t)).events s.reached) s.plain alike awake
 
   interrupts : Both (next x (Interrupts t))
-  interrupts = by_test (λ (a : After). Fits z.layout t (x.rows t) (a.state.threads t).stage × (is_alive (a.state.threads t).stage ≡ false → x.rows t ≡ Row.Rests) × Owning a.state t (x.rows t) × ((m : ℕ) → IsOurs z.layout m → IsPlain a.state m)) (has_thread z t && is_asleep z t) (departed z t) (nothing z)
-      (λ e. (fit, resting, owning_kept x (record x { machine = (departed z t).state }) t pos refl (record { same = λ k o. refl; none = λ k o. o }) (x.rows t) g fit own, λ m ours. still_plain z (departed z t).state m refl (s.plain m ours))) (λ e. unchanged)
+  interrupts = by_test (λ (a : After). Fits z.layout t (x.rows t) (a.state.threads t).stage × (is_alive (a.state.threads t).stage ≡ false → x.rows t ≡ Row.Rests) × Owning a.state t (x.rows t) × ((m : ℕ) → IsOurs z.layout m → IsPlain a.state m) × RoomAt (a.state.threads t).held (x.rows t)) (has_thread z t && is_asleep z t) (departed z t) (nothing z)
+      (λ e. (fit, resting, owning_kept x (record x { machine = (departed z t).state }) t pos refl (record { same = λ k o. refl; none = λ k o. o }) (x.rows t) g fit own, λ m ours. still_plain z (departed z t).state m refl (s.plain m ours), room)) (λ e. unchanged)
 
   lapse_fits : (r : Row) → Fits z.layout t r g → Fits z.layout t (lapse_row r) ((run z (lapse_events x t r)).threads t).stage
   lapse_fits (Row.Asleep k) o = by_test (λ (r : Row). Fits z.layout t r ((run z (lapse_events x t (Row.Asleep k))).threads t).stage) k.timed (Row.Late k) (Row.Asleep k) (λ e. tt) (λ e. o)
@@ -237,12 +252,22 @@ module _ (x : Slots) (t : ℕ) (pos : 1 ≤ t) (known : t ≤ x.machine.layout.t
   lapse_plain (Row.WaitAsleep j k false) m ours = s.plain m ours
   lapse_plain r m ours = s.plain m ours
 
+  lapse_room : (r : Row) → RoomAt (z.threads t).held r → RoomAt ((run z (lapse_events x t r)).threads t).held (lapse_row r)
+  lapse_room (Row.Asleep k) o = go k.timed
+    where
+      go : (b : Bool) → RoomAt ((run z (if b then Expire t ∷ [] else [])).threads t).held (if b then Row.Late k else Row.Asleep k)
+      go true = tt
+      go false = o
+  lapse_room (Row.WaitAsleep m k true) o = tt
+  lapse_room (Row.WaitAsleep m k false) o = tt
+  lapse_room r o = o
+
   lapses : Both (next x (Lapses t))
   lapses = by_test Both (is_asleep z t) (at_row (after x (lapse_events x t (x.rows t))) t (lapse_row (x.rows t))) x
       (λ asleep. at_new (after x (lapse_events x t (x.rows t))) (lapse_row (x.rows t)) (lapse_fits (x.rows t) fit)
       (λ dead. absurd (cc (sym dead ∙ standing_lives ((run z (lapse_events x t (x.rows t))).threads t).stage (lapse_row (x.rows t))
       (lapses_so x t (reached_kept z s.reached) (x.rows t) (here (alive_asleep g asleep)) (sleeps_later z.layout t (x.rows t) g fit) (is_known z t pos known) asleep))))
-      (lapse_owns (x.rows t) own) (lapse_plain (x.rows t)))
+      (lapse_owns (x.rows t) own) (lapse_plain (x.rows t)) (lapse_room (x.rows t) room))
       (λ e. unchanged)
     where
       alive_asleep : (f : Stage) → sleeps z t f ≡ true → is_alive f ≡ true
@@ -250,11 +275,11 @@ module _ (x : Slots) (t : ℕ) (pos : 1 ≤ t) (known : t ≤ x.machine.layout.t
       alive_asleep f e = absurd cc
 
   dies : Both (next x (Dies t))
-  dies = by_test Both (has_thread z t && is_alive g) (at_row (after x (Kill t ∷ [])) t Row.Rests) x (λ e. at_new (after x (Kill t ∷ [])) Row.Rests tt (λ dead. refl) tt (λ m ours. kill_plain z t m (s.plain m ours))) (λ e. unchanged)
+  dies = by_test Both (has_thread z t && is_alive g) (at_row (after x (Kill t ∷ [])) t Row.Rests) x (λ e. at_new (after x (Kill t ∷ [])) Row.Rests tt (λ dead. refl) tt (λ m ours. kill_plain z t m (s.plain m ours)) tt) (λ e. unchanged)
 
   -- a dead thread is at no row
   at_none : (y : Slots) → is_alive g ≡ false → y.rows t ≡ x.rows t → ((m : ℕ) → IsOurs z.layout m → IsPlain y.machine m) → Both y
-  at_none y dead same plain_there = (subst (λ (r : Row). Fits z.layout t r (y.machine.threads t).stage) (sym (same ∙ resting dead)) tt, λ e. same ∙ resting dead, subst (Owning y.machine t) (sym (same ∙ resting dead)) tt, plain_there)
+  at_none y dead same plain_there = (subst (λ (r : Row). Fits z.layout t r (y.machine.threads t).stage) (sym (same ∙ resting dead)) tt, λ e. same ∙ resting dead, subst (Owning y.machine t) (sym (same ∙ resting dead)) tt, plain_there, subst (RoomAt (y.machine.threads t).held) (sym (same ∙ resting dead)) tt)
 
   exiting_dead : (f : Stage) → is_exiting f ≡ true → is_alive f ≡ false
   exiting_dead (Dying w) e = refl
@@ -272,9 +297,9 @@ module _ (x : Slots) (t : ℕ) (pos : 1 ≤ t) (known : t ≤ x.machine.layout.t
   walks = by_test Both (is_dying z t) (after x (Step t ∷ [])) x (λ e. at_none (after x (Step t ∷ [])) (exiting_dead g (second (has_thread z t) (is_exiting g) e)) refl (λ m ours. let at = dying_at g (second (has_thread z t) (is_exiting g) e) in walk_plain z t m (s.plain m ours) (reached_kept z s.reached) pos known at.0 at.1)) (λ e. unchanged)
 
   lives : Both (next x (Lives t))
-  lives = by_test (λ (a : After). Fits z.layout t (x.rows t) (a.state.threads t).stage × (is_alive (a.state.threads t).stage ≡ false → x.rows t ≡ Row.Rests) × Owning a.state t (x.rows t) × ((m : ℕ) → IsOurs z.layout m → IsPlain a.state m)) (has_thread z t && is_gone g) (renewed z t) (nothing z)
+  lives = by_test (λ (a : After). Fits z.layout t (x.rows t) (a.state.threads t).stage × (is_alive (a.state.threads t).stage ≡ false → x.rows t ≡ Row.Rests) × Owning a.state t (x.rows t) × ((m : ℕ) → IsOurs z.layout m → IsPlain a.state m) × RoomAt (a.state.threads t).held (x.rows t)) (has_thread z t && is_gone g) (renewed z t) (nothing z)
       (λ e. let none : x.rows t ≡ Row.Rests = resting (gone_dead g (second (has_thread z t) (is_gone g) e)) in
-      (subst (λ (r : Row). Fits z.layout t r ((renewed z t).state.threads t).stage) (sym none) tt, λ dead. none, subst (Owning (renewed z t).state t) (sym none) tt, λ m ours. still_plain z (renewed z t).state m (renewed_cell z t pos known (slot_of m)) (s.plain m ours)))
+      (subst (λ (r : Row). Fits z.layout t r ((renewed z t).state.threads t).stage) (sym none) tt, λ dead. none, subst (Owning (renewed z t).state t) (sym none) tt, λ m ours. still_plain z (renewed z t).state m (renewed_cell z t pos known (slot_of m)) (s.plain m ours), subst (RoomAt ((renewed z t).state.threads t).held) (sym none) tt))
       (λ e. unchanged)
 
   -- ---- what it knows of the turn
@@ -347,7 +372,7 @@ abbrev OwnThen : Slots → ℕ → Slots → Type 0
 OwnThen x t y = Fits x.machine.layout t (y.rows t) (y.machine.threads t).stage × (is_alive (y.machine.threads t).stage ≡ false → y.rows t ≡ Row.Rests) × Owning y.machine t (y.rows t)
 
 abbrev AllThen : Slots → ℕ → Slots → Type 0
-AllThen x t y = Fits x.machine.layout t (y.rows t) (y.machine.threads t).stage × (is_alive (y.machine.threads t).stage ≡ false → y.rows t ≡ Row.Rests) × Owning y.machine t (y.rows t) × ((m : ℕ) → IsOurs x.machine.layout m → IsPlain y.machine m)
+AllThen x t y = Fits x.machine.layout t (y.rows t) (y.machine.threads t).stage × (is_alive (y.machine.threads t).stage ≡ false → y.rows t ≡ Row.Rests) × Owning y.machine t (y.rows t) × ((m : ℕ) → IsOurs x.machine.layout m → IsPlain y.machine m) × RoomAt (y.machine.threads t).held (y.rows t)
 
 own_then : (x : Slots) (h : Happening) → Steady x → 1 ≤ who h → who h ≤ x.machine.layout.threads → TrustsIn x h → AllThen x (who h) (next x h)
 own_then x (Calls t r) s pos known w = calls x t pos known s r
@@ -405,6 +430,7 @@ steady_next x h s pos known w = record {
   owning = λ u first last. (each u first (before u last)).2;
   plain = λ m ours. own_all.3 m (subst (λ (l : Layout'). IsOurs l m) layout ours);
   turns = λ u first last. each_turn u first (before u last);
+  room = λ u first last. each_room u first (before u last);
 }
   where
     layout : (next x h).machine.layout ≡ x.machine.layout
@@ -423,6 +449,14 @@ steady_next x h s pos known w = record {
         go true e = subst (λ (v : ℕ). KnowsItsTurn (next x h) ((next x h).rows v)) (eqb-true (who h) u e) (own_turns x h s pos known w)
         go false e = subst (KnowsItsTurn (next x h)) (sym (others_still x h u s.reached (λ same. cc (sym e ∙ eq-eqb (who h) u same))).row)
             (turn_like (after x (events_of x h)) (next x h) (next_is x h) (next_turns x h) (x.rows u) (turn_after x (events_of x h) u (x.rows u) (x.machine.threads u).stage s.reached (s.fits u first last) (s.turns u first last)))
+
+    each_room : (u : ℕ) → 1 ≤ u → u ≤ x.machine.layout.threads → RoomAt ((next x h).machine.threads u).held ((next x h).rows u)
+    each_room u first last = go (who h == u) refl
+      where
+        go : (b : Bool) → (who h == u) ≡ b → RoomAt ((next x h).machine.threads u).held ((next x h).rows u)
+        go true e = subst (λ (v : ℕ). RoomAt ((next x h).machine.threads v).held ((next x h).rows v)) (eqb-true (who h) u e) own_all.4
+        go false e = let still = others_still x h u s.reached (λ same. cc (sym e ∙ eq-eqb (who h) u same)) in
+            subst (λ (v : Thread). RoomAt v.held ((next x h).rows u)) (sym still.thread) (subst (RoomAt (x.machine.threads u).held) (sym still.row) (s.room u first last))
 
     each : (u : ℕ) → 1 ≤ u → u ≤ x.machine.layout.threads → OwnThen x u (next x h)
     each u first last = go (who h == u) refl
@@ -452,6 +486,7 @@ begins_steady l is = record {
   owning = λ t first last. tt;
   plain = λ m ours. record { waiters = ap (λ (w : ℕ). (fields_of w).waiters) (first_cell l (λ c. 0) (slot_of m) (our_slot l m ours)); usable = ap (λ (w : ℕ). (fields_of w).unusable) (first_cell l (λ c. 0) (slot_of m) (our_slot l m ours)) };
   turns = λ t first last. tt;
+  room = λ t first last. tt;
 }
 
 pub premises_follow : PremisesFollow
@@ -465,6 +500,9 @@ owners_kept l hs t is first last trusted = (steady_run (begin l) hs (begins_stea
 
 pub turns_kept : RunsKeepTurns
 turns_kept l hs t is first last trusted = (steady_run (begin l) hs (begins_steady l is) trusted).turns t first (subst (λ (k : Layout'). t ≤ k.threads) (sym (layout_then (begin l) hs (begins_steady l is) trusted)) last)
+
+pub room_kept : RunsKeepRoom
+room_kept l hs t is first last trusted = more (reached l hs) t first (subst (λ (k : Layout'). t ≤ k.threads) (sym (layout_then (begin l) hs (begins_steady l is) trusted)) last) (steady_run (begin l) hs (begins_steady l is) trusted)
 
 pub all_hold : AllHold
 all_hold l hs t c is first last trusted w lives awake = runs_are_events l hs t c is first last (premises_follow l hs is trusted)

@@ -59,4 +59,6 @@ pub mod Quiet
 pub mod PlainSlots
 pub mod TurnRows
 pub mod TurnsKept
+pub mod Held
+pub mod HeldRows
 pub mod Kernels

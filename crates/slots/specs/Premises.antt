@@ -19,8 +19,9 @@ use Rattle.slots.specs.Goes.{AllGranted, who}
 
 -- ---- how many mutexes the thread owns
 
--- At these rows the machine's thread is in no call, or its call is through: it may take another. (At all others, its call
--- knows that.)
+-- At these rows the machine's thread is in no call, or its call is through, and it may take another. (At all others, its
+-- call knows that.) A call of ours begins only if the thread may own two more, and never owns another at these rows but the
+-- slot of its mutex
 abbrev pub MayOwnMore : Slots → ℕ → Row → Type 0
 MayOwnMore x t (Row.Looks k) = (x.machine.threads t).held < 2048
 MayOwnMore x t (Row.Pends k v) = (x.machine.threads t).held < 2048
@@ -160,7 +161,6 @@ KnowsCount x r = Unit {0}
 
 -- thread t's next access, at its row
 pub record Trusts (x : Slots) (t : ℕ) (r : Row) : Type 0 where
-  pub room : MayOwnMore x t r
   pub few : HasFewTurns x r
   pub heir : HeirTakesOver x t r
   pub count : KnowsCount x r
@@ -191,6 +191,11 @@ RunsKeepOwners = (l : Layout') (hs : List Happening) (t : ℕ) → IsLayout l �
 abbrev pub RunsKeepTurns : Type 0
 RunsKeepTurns = (l : Layout') (hs : List Happening) (t : ℕ) → IsLayout l → 1 ≤ t → t ≤ l.threads → AllTrusted (begin l) hs
     → KnowsItsTurn (reached l hs) ((reached l hs).rows t)
+
+-- the thread may own one mutex more if its row is to begin a call of the machine that takes one
+abbrev pub RunsKeepRoom : Type 0
+RunsKeepRoom = (l : Layout') (hs : List Happening) (t : ℕ) → IsLayout l → 1 ≤ t → t ≤ l.threads → AllTrusted (begin l) hs
+    → MayOwnMore (reached l hs) t ((reached l hs).rows t)
 
 -- each access of such a run, of a thread that lives and is awake, is the events that the table has
 abbrev pub AllHold : Type 0

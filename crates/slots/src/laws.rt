@@ -5,7 +5,7 @@ ghost use Rattle.slots.specs.Accesses.{MissesAreNoEvents, PendingAgainIsNoEvent,
 ghost use Rattle.slots.specs.Accesses.{TakesAreEvents, WakesAreEvents};
 ghost use Rattle.slots.specs.Each.{EachAccessIsEvents};
 ghost use Rattle.slots.specs.Fits.{NextRowsFit};
-ghost use Rattle.slots.specs.Premises.{AllHold, PremisesFollow, RunsKeepOwners, RunsKeepTurns, SlotsStayQuiet, WordsStaySound};
+ghost use Rattle.slots.specs.Premises.{AllHold, PremisesFollow, RunsKeepOwners, RunsKeepRoom, RunsKeepTurns, SlotsStayQuiet, WordsStaySound};
 ghost use Rattle.slots.specs.Goes.{OthersStandStill, RowsLeadOn, RunsKeepTheirRows};
 ghost use Rattle.slots.specs.Goes.{AccessesOfRunsAreEvents, ThreadsKeepTheirRows};
 ghost use Rattle.slots.specs.Further.{AnnouncedReleasesAreEvents, CountsAreEvents, DecidingLooksAreEvents};
@@ -337,6 +337,12 @@ pub fn runs_keep_owners()
 /// reinitialised since, or nobody owns it.
 pub fn runs_keep_turns()
     ensures { RunsKeepTurns }
+{}
+
+/// In any run, a thread may own one mutex more when its next access begins a call of the machine that takes one: the cell or
+/// the slot, which are two of the machine's.
+pub fn runs_keep_room()
+    ensures { RunsKeepRoom }
 {}
 
 /// In any run, each access of a thread that lives and is awake is the events that the table has for it. What is still assumed

@@ -19,7 +19,8 @@
 //! - *Runs of the layer*: `others_stand_still`, `rows_lead_on`, `threads_keep_their_rows`,
 //!   `runs_keep_their_rows`, `accesses_of_runs_are_events`; `next_rows_fit`, and so `premises_follow`: what rows assume of
 //!   their mutexes and of the words that they have seen. `words_stay_sound`: the machine's words of mutexes.
-//!   `slots_stay_quiet`, `runs_keep_owners`, `runs_keep_turns`: slots, who owns what, and turns. So `all_hold`: each access of a run is its events.
+//!   `slots_stay_quiet`, `runs_keep_owners`, `runs_keep_turns`, `runs_keep_room`: slots, who owns what, turns, and how many
+//!   mutexes a thread owns. So `all_hold`: each access of a run is its events.
 //! - *Several events at one moment*: `giving_up_leaves_nothing`, `giving_up_is_a_look`, `takes_are_one_exchange`,
 //!   `takes_are_the_exchange`, `announcing_is_one_store`.
 //! - *Newer kernels*: `wakes_without_waiters_wake_nobody`.
@@ -47,7 +48,7 @@ pub use laws::{
     misses_are_no_events, moves_are_events, next_rows_fit, nobody_joins_a_free_mutex,
     others_answer_still, others_leave_heirs, others_leave_what_is_owned, others_stand_still,
     pending_again_is_no_event, premises_follow, releases_are_events, releases_tell, rows_lead_on,
-    runs_keep_owners, runs_keep_their_rows, runs_keep_turns, sleeps_are_events,
+    runs_keep_owners, runs_keep_room, runs_keep_their_rows, runs_keep_turns, sleeps_are_events,
     slots_run_the_machine, slots_stay_quiet, spares_are_events, standing_heirs_answer,
     takes_are_events, takes_are_one_exchange, takes_are_the_exchange, threads_keep_their_rows,
     trims_are_events, trims_are_the_machines, turns_stay_known, turns_stay_known_by_all,
