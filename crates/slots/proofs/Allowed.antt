@@ -37,7 +37,7 @@ use Rattle.slots.specs.Further.{MayTake, OwnsMarked}
 use Rattle.slots.specs.Each.{Assumes, IsToTake, SlotIsSmall}
 use Rattle.slots.specs.Goes.{AssumesToo, SleepsLater}
 use Rattle.slots.specs.Fits.{Fits, IsApart, IsOurs}
-use Rattle.slots.specs.Premises.{KnowsItsTurn, MayOwnMore, Holds, Owning, SlotsAreQuiet, Trusts, WordsAreSound}
+use Rattle.slots.specs.Premises.{KnowsItsTurn, HeirTakesOver, MayOwnMore, Holds, Owning, SlotsAreQuiet, Trusts, WordsAreSound}
 use Rattle.slots.proofs.Free.{reached_kept}
 use Rattle.slots.proofs.HeldRows.{Few, RoomAt, few_says}
 use Rattle.slots.proofs.Meets.{usable_if_owned}
@@ -198,21 +198,21 @@ module _ (x : Slots) (t : ℕ) (from : IsReached x.machine) (first : 1 ≤ t) (l
   assume_row (Row.Unsets m k n) there o own quiet knows more w = record { inside = o.cell.inside; says = w.count }
   assume_row r there o own quiet knows more w = tt
 
-  pub assume_too : (r : Row) → Fits l t r g → Owning z t r → SlotsAreQuiet z → KnowsItsTurn x r → Trusts x t r → AssumesToo x t r
-  assume_too (Row.Pends k v) o own quiet knows w = o.1
-  assume_too (Row.Marks k v (ToSlot sl)) o own quiet knows w = o.1.1
-  assume_too (Row.SeesToSleep k) o own quiet knows w = (o.1, own)
-  assume_too (Row.WaitLooks m k timed) o own quiet knows w = (o.cell, our_cell l m o.ours)
-  assume_too (Row.WaitCounts m k timed true) o own quiet knows w = (o.cell, record { inside = our_cell l m o.ours; owner = own.owner }, own.died)
-  assume_too (Row.CountLooks m k all) o own quiet knows w = (o.cell, our_cell l m o.ours)
-  assume_too (Row.GivePends m (OfWait k n slept timed)) o own quiet knows w = w.count
-  assume_too (Row.Frees k f) o own quiet knows w = own.0.died
-  assume_too (Row.GivePends m (OfUnlock d)) o own quiet knows w = own.died
-  assume_too (Row.FreeGives k f) o own quiet knows w = (quiet k.mutex o.ours).waiters
-  assume_too (Row.HandsOn m y is) o own quiet knows w = w.heir
-  assume_too (Row.LooksBack m (OfUnlock d) is) o own quiet knows w = our_cell l m o
-  assume_too (Row.LooksBack m (OfWait k n slept timed) is) o own quiet knows w = our_cell l m o.ours
-  assume_too r o own quiet knows w = tt
+  pub assume_too : (r : Row) → Fits l t r g → Owning z t r → SlotsAreQuiet z → KnowsItsTurn x r → HeirTakesOver x t r → Trusts x t r → AssumesToo x t r
+  assume_too (Row.Pends k v) o own quiet knows over w = o.1
+  assume_too (Row.Marks k v (ToSlot sl)) o own quiet knows over w = o.1.1
+  assume_too (Row.SeesToSleep k) o own quiet knows over w = (o.1, own)
+  assume_too (Row.WaitLooks m k timed) o own quiet knows over w = (o.cell, our_cell l m o.ours)
+  assume_too (Row.WaitCounts m k timed true) o own quiet knows over w = (o.cell, record { inside = our_cell l m o.ours; owner = own.owner }, own.died)
+  assume_too (Row.CountLooks m k all) o own quiet knows over w = (o.cell, our_cell l m o.ours)
+  assume_too (Row.GivePends m (OfWait k n slept timed)) o own quiet knows over w = w.count
+  assume_too (Row.Frees k f) o own quiet knows over w = own.0.died
+  assume_too (Row.GivePends m (OfUnlock d)) o own quiet knows over w = own.died
+  assume_too (Row.FreeGives k f) o own quiet knows over w = (quiet k.mutex o.ours).waiters
+  assume_too (Row.HandsOn m y is) o own quiet knows over w = over
+  assume_too (Row.LooksBack m (OfUnlock d) is) o own quiet knows over w = our_cell l m o
+  assume_too (Row.LooksBack m (OfWait k n slept timed) is) o own quiet knows over w = our_cell l m o.ours
+  assume_too r o own quiet knows over w = tt
 
   pub apart_row : (r : Row) → Owning z t r → IsApart x t r
   apart_row (Row.SeesToSleep k) own = own

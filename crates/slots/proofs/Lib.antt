@@ -61,4 +61,9 @@ pub mod TurnRows
 pub mod TurnsKept
 pub mod Held
 pub mod HeldRows
+pub mod SlotWords
+pub mod Watching
+pub mod Watched
+pub mod TakesOver
+pub mod Steady
 pub mod Kernels

@@ -10,7 +10,7 @@ use Rattle.slots.specs.Rows.Onward.{Has, Fails, Sleeps}
 use Rattle.slots.specs.Rows.Giving.{OfUnlock, OfWait}
 use Rattle.slots.specs.Shown.{Slots, begin, shown}
 use Rattle.slots.specs.Table.{heir_of, shows_heir}
-use Rattle.slots.specs.Invariant.{fields_at, HasRoom, KnowsTurn, SlotIsQuiet}
+use Rattle.slots.specs.Invariant.{fields_at, HasRoom, HeirsAnswer, KnowsTurn, SlotIsQuiet}
 use Rattle.slots.specs.Fits.{IsOurs}
 use Rattle.slots.specs.Laws.{IsEvents, IsReached}
 use Rattle.slots.specs.Runs.{Happening, next, reached}
@@ -162,7 +162,6 @@ KnowsCount x r = Unit {0}
 -- thread t's next access, at its row
 pub record Trusts (x : Slots) (t : ℕ) (r : Row) : Type 0 where
   pub few : HasFewTurns x r
-  pub heir : HeirTakesOver x t r
   pub count : KnowsCount x r
 
 abbrev pub TrustsIn : Slots → Happening → Type 0
@@ -191,6 +190,15 @@ RunsKeepOwners = (l : Layout') (hs : List Happening) (t : ℕ) → IsLayout l �
 abbrev pub RunsKeepTurns : Type 0
 RunsKeepTurns = (l : Layout') (hs : List Happening) (t : ℕ) → IsLayout l → 1 ≤ t → t ≤ l.threads → AllTrusted (begin l) hs
     → KnowsItsTurn (reached l hs) ((reached l hs).rows t)
+
+-- if a slot has AWAKE and an owner, and isn't marked, its owner is the cell's heir
+abbrev pub RunsKeepHeirs : Type 0
+RunsKeepHeirs = (l : Layout') (hs : List Happening) → IsLayout l → AllTrusted (begin l) hs → HeirsAnswer (reached l hs)
+
+-- so a call that finds an heir after its release may leave its wake to that heir
+abbrev pub HeirsTakeOver : Type 0
+HeirsTakeOver = (l : Layout') (hs : List Happening) (t : ℕ) → IsLayout l → 1 ≤ t → t ≤ l.threads → AllTrusted (begin l) hs
+    → HeirTakesOver (reached l hs) t ((reached l hs).rows t)
 
 -- the thread may own one mutex more if its row is to begin a call of the machine that takes one
 abbrev pub RunsKeepRoom : Type 0

@@ -5,7 +5,7 @@ ghost use Rattle.slots.specs.Accesses.{MissesAreNoEvents, PendingAgainIsNoEvent,
 ghost use Rattle.slots.specs.Accesses.{TakesAreEvents, WakesAreEvents};
 ghost use Rattle.slots.specs.Each.{EachAccessIsEvents};
 ghost use Rattle.slots.specs.Fits.{NextRowsFit};
-ghost use Rattle.slots.specs.Premises.{AllHold, PremisesFollow, RunsKeepOwners, RunsKeepRoom, RunsKeepTurns, SlotsStayQuiet, WordsStaySound};
+ghost use Rattle.slots.specs.Premises.{AllHold, HeirsTakeOver, PremisesFollow, RunsKeepHeirs, RunsKeepOwners, RunsKeepRoom, RunsKeepTurns, SlotsStayQuiet, WordsStaySound};
 ghost use Rattle.slots.specs.Goes.{OthersStandStill, RowsLeadOn, RunsKeepTheirRows};
 ghost use Rattle.slots.specs.Goes.{AccessesOfRunsAreEvents, ThreadsKeepTheirRows};
 ghost use Rattle.slots.specs.Further.{AnnouncedReleasesAreEvents, CountsAreEvents, DecidingLooksAreEvents};
@@ -343,6 +343,18 @@ pub fn runs_keep_turns()
 /// the slot, which are two of the machine's.
 pub fn runs_keep_room()
     ensures { RunsKeepRoom }
+{}
+
+/// In any run, if a slot has AWAKE and an owner, and isn't marked, its owner is the cell's heir: it will look at the cell's
+/// word, or has taken the cell, or was killed, and Linux will look.
+pub fn runs_keep_heirs()
+    ensures { RunsKeepHeirs }
+{}
+
+/// In any run, if a call that has released its mutex finds a slot that shows an heir, the machine lets it leave its wake to
+/// that heir.
+pub fn heirs_take_over()
+    ensures { HeirsTakeOver }
 {}
 
 /// In any run, each access of a thread that lives and is awake is the events that the table has for it. What is still assumed
