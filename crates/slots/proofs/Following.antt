@@ -1,5 +1,6 @@
 -- What a run keeps, and what of the premises of its accesses follows from that.
-use Rattle.std.proofs.Common.{◌≡◌, ◌≢◌, ℕ, ◌≤◌, ◌==◌, Bool, true, false, List, [], ◌∷◌, refl, sym, ap, ◌∙◌, subst, arith, eqb-true, eq-eqb}
+use Rattle.slots.proofs.Each.{each_access}
+use Rattle.std.proofs.Common.{◌≡◌, ◌≢◌, ◌<◌, ℕ, ◌≤◌, ◌==◌, Bool, true, false, List, [], ◌∷◌, refl, sym, ap, ◌∙◌, subst, arith, eqb-true, eq-eqb}
 use Rattle.std.specs.Prelude.{not, ◌&&◌}
 use Rattle.memorymap.specs.Layouts.{IsLayout, Layout'}
 use Rattle.protocol.specs.declared.event.Event.{Event}
@@ -10,6 +11,22 @@ use Rattle.protocol.specs.Machine.{State, has_thread, is_alive, is_asleep, is_dy
 use Rattle.protocol.proofs.Puts.{put-same}
 use Rattle.protocol.proofs.Queued.{in_none}
 use Rattle.lockword.specs.Cells.{fields_of}
+use Rattle.slots.specs.Premises.{SeesCount, RunsKeepCounts}
+use Rattle.slots.proofs.CountRows.{count_row}
+use Rattle.slots.proofs.CountersKept.{count_at, counter_stays, needs_row, sees_like, slept_else}
+use Rattle.slots.proofs.OthersKeep.{owned_seen}
+use Rattle.slots.proofs.Owned.{our_cell}
+use Rattle.slots.specs.Places.{cell_of}
+use Rattle.slots.specs.Fits.{AreOfUs}
+use Rattle.protocol.proofs.Counters.{Counted, run_counted, start_counted}
+use Rattle.std.specs.Prelude.{slice_index}
+use Rattle.protocol.proofs.Renewals.{renewed_counter}
+use Rattle.memorymap.specs.Layouts.{counter_place}
+use Rattle.protocol.specs.Machine.{State, After, departed, is_exiting, is_gone, nothing, renewed, run}
+use Rattle.protocol.specs.declared.thread.Stage.TheVariants.{Dying}
+use Rattle.protocol.specs.declared.thread.Stage.{Stage}
+use Rattle.slots.proofs.Free.{reached_queued}
+use Rattle.slots.proofs.Keeping.{all_four}
 use Rattle.slots.specs.Places.{slot_of}
 use Rattle.slots.specs.Rows.{Choice, Row}
 use Rattle.slots.specs.Rows.Giving.{OfUnlock, OfWait}
@@ -128,6 +145,105 @@ module _ (x : Slots) (t : ℕ) (pos : 1 ≤ t) (known : t ≤ x.machine.layout.t
   walk_turns : Turns (next x (Walks t))
   walk_turns = by_test Turns (is_dying z t) (after x (Step t ∷ [])) x (λ e. turns_then (Step t ∷ [])) (λ e. knows)
 
+-- ---- what a thread has seen of its counter
+
+module _ (x : Slots) (t : ℕ) (pos : 1 ≤ t) (known : t ≤ x.machine.layout.threads) (s : Steady x) where
+  abbrev at_machine : State
+  at_machine = x.machine
+
+  abbrev at_stage : Stage
+  at_stage = (x.machine.threads t).stage
+
+  abbrev Sees : Slots → Type 0
+  Sees y = SeesCount y (y.rows t)
+
+  sees_now : SeesCount x (x.rows t)
+  sees_now = s.sees t pos known
+
+  -- in a state with the same counters
+  still_sees : (y : Slots) → y.machine.layout ≡ x.machine.layout → ((k : ℕ) → count_at y k ≡ count_at x k) → ((k : ℕ) → y.slept k ≡ x.slept k) → SeesCount y (x.rows t)
+  still_sees y layout words slept = sees_like x y t (x.rows t) at_stage layout (s.fits t pos known) (λ m k o own e. (words k, slept k)) (s.owning t pos known) sees_now
+
+  first_sees : (y : Slots) (held : ℕ) (r : Row) → may_call at_machine.layout held r ≡ true → SeesCount y r
+  first_sees y held (Row.Looks k) e = tt
+  first_sees y held (Row.TryLooks m) e = tt
+  first_sees y held (Row.GiveLooks m) e = tt
+  first_sees y held (Row.MendLooks m) e = tt
+  first_sees y held (Row.AnewLooks m) e = tt
+  first_sees y held (Row.WaitLooks m k timed) e = tt
+  first_sees y held (Row.CountLooks m k all) e = tt
+  first_sees y held r e = absurd cc
+
+  call_sees : (r : Row) → Sees (next x (Calls t r))
+  call_sees r = by_test Sees (has_thread at_machine t && is_alive at_stage && is_resting (x.rows t) && may_call at_machine.layout (at_machine.threads t).held r) (at_row x t r) x
+      (λ e. let four = all_four (has_thread at_machine t) (is_alive at_stage) (is_resting (x.rows t)) (may_call at_machine.layout (at_machine.threads t).held r) e in
+      subst (SeesCount (at_row x t r)) (sym (put-same x.rows t r)) (first_sees (at_row x t r) (at_machine.threads t).held r four.fourth))
+      (λ e. sees_now)
+
+  go_sees : (c : Choice) → Trusts x t (x.rows t) → Sees (next x (Goes t c))
+  go_sees c w = by_test Sees (has_thread at_machine t && is_alive at_stage && not (is_asleep at_machine t)) (made_by x t c (made x t c (x.rows t))) x
+      (λ e. let may = may_go (has_thread at_machine t) (is_alive at_stage) (is_asleep at_machine t) e in
+      subst (SeesCount y) (sym (put-same x.rows t (made x t c (x.rows t)).next)) (on_row may.0 may.1))
+      (λ e. sees_now)
+    where
+      y : Slots
+      y = made_by x t c (made x t c (x.rows t))
+
+      on_row : is_alive at_stage ≡ true → is_asleep at_machine t ≡ false → SeesCount (made_by x t c (made x t c (x.rows t))) (made x t c (x.rows t)).next
+      on_row lives awake = count_row x y t c (x.rows t)
+          (needs_row x y t c (reached_kept at_machine s.reached) pos known (layout_run at_machine (made x t c (x.rows t)).events (reached_kept at_machine s.reached)) s.counts
+          (run_counted at_machine (made x t c (x.rows t)).events (reached_kept at_machine s.reached) s.counts) (x.rows t) at_stage (s.fits t pos known) (s.there t pos known lives) sees_now (λ k. refl)
+          (each_access x t c at grant.1).words (λ none. ap (λ (es : List Event). run at_machine es) none))
+        where
+          grant : Grants x (Goes t c)
+          grant = granted x t pos known s c w
+
+          at : IsAtRow x t
+          at = record { reached = s.reached; first = pos; last = known; there = s.there t pos known lives; about = grant.0; out = in_none at_machine t (reached_queued at_machine s.reached) awake }
+
+  leave_sees : Sees (next x (Interrupts t))
+  leave_sees = still_sees (after x (Leave t ∷ [])) (layout_run at_machine (Leave t ∷ []) (reached_kept at_machine s.reached))
+      (λ k. by_test (λ (a : After). a.state.words (counter_place a.state.layout k) ≡ at_machine.words (counter_place at_machine.layout k)) (has_thread at_machine t && is_asleep at_machine t) (departed at_machine t) (nothing at_machine) (λ e. refl) (λ e. refl)) (λ k. refl)
+
+  lapse_sees : Sees (next x (Lapses t))
+  lapse_sees = by_test Sees (is_asleep at_machine t) (at_row (after x (lapse_events x t (x.rows t))) t (lapse_row (x.rows t))) x
+      (λ e. subst (SeesCount (at_row (after x (lapse_events x t (x.rows t))) t (lapse_row (x.rows t)))) (sym (put-same x.rows t (lapse_row (x.rows t)))) (of_row (x.rows t) sees_now)) (λ e. sees_now)
+    where
+      of_row : (r : Row) → SeesCount x r → SeesCount (at_row (after x (lapse_events x t r)) t (lapse_row r)) (lapse_row r)
+      of_row (Row.Asleep k) h = by_test (SeesCount (at_row (after x (lapse_events x t (Row.Asleep k))) t (lapse_row (Row.Asleep k)))) k.timed (Row.Late k) (Row.Asleep k) (λ e. tt) (λ e. tt)
+      of_row (Row.WaitAsleep m k true) h = tt
+      of_row (Row.WaitAsleep m k false) h = tt
+      of_row r h = h
+
+  die_sees : Sees (next x (Dies t))
+  die_sees = by_test Sees (has_thread at_machine t && is_alive at_stage) (at_row (after x (Kill t ∷ [])) t Row.Rests) x
+      (λ e. subst (SeesCount (at_row (after x (Kill t ∷ [])) t Row.Rests)) (sym (put-same x.rows t Row.Rests)) tt) (λ e. sees_now)
+
+  walk_sees : Sees (next x (Walks t))
+  walk_sees = by_test Sees (is_dying at_machine t) (after x (Step t ∷ [])) x
+      (λ e. subst (SeesCount (after x (Step t ∷ []))) (sym (s.rests t pos known (exiting_dead at_stage (second_of (has_thread at_machine t) (is_exiting at_stage) e)))) tt) (λ e. sees_now)
+    where
+      exiting_dead : (f : Stage) → is_exiting f ≡ true → is_alive f ≡ false
+      exiting_dead (Dying w) e = refl
+      exiting_dead f e = absurd cc
+
+      second_of : (a b : Bool) → (a && b) ≡ true → b ≡ true
+      second_of true b e = e
+      second_of false b e = absurd cc
+
+  live_sees : Sees (next x (Lives t))
+  live_sees = still_sees (after x (Renew t ∷ [])) (layout_run at_machine (Renew t ∷ []) (reached_kept at_machine s.reached))
+      (λ k. by_test (λ (a : After). a.state.words (counter_place a.state.layout k) ≡ at_machine.words (counter_place at_machine.layout k)) (has_thread at_machine t && is_gone at_stage) (renewed at_machine t) (nothing at_machine) (λ e. renewed_counter at_machine t pos known k) (λ e. refl)) (λ k. refl)
+
+own_sees : (x : Slots) (h : Happening) → Steady x → 1 ≤ who h → who h ≤ x.machine.layout.threads → TrustsIn x h → SeesCount (next x h) ((next x h).rows (who h))
+own_sees x (Calls t r) s pos known w = call_sees x t pos known s r
+own_sees x (Goes t c) s pos known w = go_sees x t pos known s c w
+own_sees x (Interrupts t) s pos known w = leave_sees x t pos known s
+own_sees x (Lapses t) s pos known w = lapse_sees x t pos known s
+own_sees x (Dies t) s pos known w = die_sees x t pos known s
+own_sees x (Walks t) s pos known w = walk_sees x t pos known s
+own_sees x (Lives t) s pos known w = live_sees x t pos known s
+
 -- whatever happens to it
 abbrev OwnThen : Slots → ℕ → Slots → Type 0
 OwnThen x t y = Fits x.machine.layout t (y.rows t) (y.machine.threads t).stage × (is_alive (y.machine.threads t).stage ≡ false → y.rows t ≡ Row.Rests) × Owning y.machine t (y.rows t)
@@ -192,6 +308,29 @@ awake_but x (Dies t) s pos known m apart = by_test (λ (y : Slots). y.awake m �
 awake_but x (Walks t) s pos known m apart = by_test (λ (y : Slots). y.awake m ≡ x.awake m) (is_dying x.machine t) (after x (Step t ∷ [])) x (λ e. refl) (λ e. refl)
 awake_but x (Lives t) s pos known m apart = refl
 
+-- SLEPT of a counter whose mutex it doesn't own stays
+slept_but : (x : Slots) (h : Happening) → Steady x → 1 ≤ who h → who h ≤ x.machine.layout.threads → (k : ℕ) → (fields_at x.machine (slice_index x.machine.layout.conditions k)).owner ≢ who h → (next x h).slept k ≡ x.slept k
+slept_but x (Calls t r) s pos known k apart = by_test (λ (y : Slots). y.slept k ≡ x.slept k) (has_thread x.machine t && is_alive (x.machine.threads t).stage && is_resting (x.rows t) && may_call x.machine.layout (x.machine.threads t).held r) (at_row x t r) x (λ e. refl) (λ e. refl)
+slept_but x (Goes t c) s pos known k apart = by_test (λ (y : Slots). y.slept k ≡ x.slept k) (has_thread x.machine t && is_alive (x.machine.threads t).stage && not (is_asleep x.machine t)) (made_by x t c (made x t c (x.rows t))) x (λ e. slept_else x t (x.rows t) (x.machine.threads t).stage k (s.fits t pos known) (s.owning t pos known) apart) (λ e. refl)
+slept_but x (Interrupts t) s pos known k apart = refl
+slept_but x (Lapses t) s pos known k apart = by_test (λ (y : Slots). y.slept k ≡ x.slept k) (is_asleep x.machine t) (at_row (after x (lapse_events x t (x.rows t))) t (lapse_row (x.rows t))) x (λ e. refl) (λ e. refl)
+slept_but x (Dies t) s pos known k apart = by_test (λ (y : Slots). y.slept k ≡ x.slept k) (has_thread x.machine t && is_alive (x.machine.threads t).stage) (at_row (after x (Kill t ∷ [])) t Row.Rests) x (λ e. refl) (λ e. refl)
+slept_but x (Walks t) s pos known k apart = by_test (λ (y : Slots). y.slept k ≡ x.slept k) (is_dying x.machine t) (after x (Step t ∷ [])) x (λ e. refl) (λ e. refl)
+slept_but x (Lives t) s pos known k apart = refl
+
+-- what another thread has seen
+others_see : (x : Slots) (h : Happening) (u : ℕ) → Steady x → 1 ≤ who h → who h ≤ x.machine.layout.threads → 1 ≤ u → u ≤ x.machine.layout.threads → who h ≢ u → (next x h).machine.layout ≡ x.machine.layout → SeesCount (next x h) (x.rows u)
+others_see x h u s pos known first last apart layout = sees_like x (next x h) u (x.rows u) (x.machine.threads u).stage layout (s.fits u first last) (λ m k o own e. (same m k o e, slept_but x h s pos known k (λ is. apart (sym is ∙ its m k o e)))) (s.owning u first last) (s.sees u first last)
+  where
+    its : (m k : ℕ) → AreOfUs x.machine.layout m k → (fields_at x.machine (cell_of m)).owner ≡ u → (fields_at x.machine (slice_index x.machine.layout.conditions k)).owner ≡ u
+    its m k o e = ap (λ (i : ℕ). (fields_at x.machine i).owner) o.cell.cell ∙ e
+
+    same : (m k : ℕ) → AreOfUs x.machine.layout m k → (fields_at x.machine (cell_of m)).owner ≡ u → count_at (next x h) k ≡ count_at x k
+    same m k o e =
+        let inside : slice_index x.machine.layout.conditions k < x.machine.layout.mutexes = subst (λ (i : ℕ). i < x.machine.layout.mutexes) (sym o.cell.cell) (our_cell x.machine.layout m o.ours) in
+        ap (λ (z : State). z.words (counter_place z.layout k)) (next_is x h)
+        ∙ counter_stays x.machine (events_of x h) (who h) u k s.reached s.counts (events_of_it x h) apart first inside (owned_seen x.machine (slice_index x.machine.layout.conditions k) u inside first (its m k o e))
+
 pub steady_next : (x : Slots) (h : Happening) → Steady x → 1 ≤ who h → who h ≤ x.machine.layout.threads → TrustsIn x h → Steady (next x h)
 steady_next x h s pos known w = record {
   reached = subst IsReached (sym (next_is x h)) (reached_run x.machine (events_of x h) s.reached);
@@ -202,6 +341,8 @@ steady_next x h s pos known w = record {
   plain = λ m ours. own_all.3 m (subst (λ (l : Layout'). IsOurs l m) layout ours);
   turns = λ u first last. each_turn u first (before u last);
   room = λ u first last. each_room u first (before u last);
+  sees = λ u first last. each_sees u first (before u last);
+  counts = subst Counted (sym (next_is x h)) (run_counted x.machine (events_of x h) (reached_kept x.machine s.reached) s.counts);
   watched = λ u first last. each_watched u first (before u last);
 }
   where
@@ -229,6 +370,13 @@ steady_next x h s pos known w = record {
         go true e = subst (λ (v : ℕ). RoomAt ((next x h).machine.threads v).held ((next x h).rows v)) (eqb-true (who h) u e) own_all.4
         go false e = let still = others_still x h u s.reached (λ same. cc (sym e ∙ eq-eqb (who h) u same)) in
             subst (λ (v : Thread). RoomAt v.held ((next x h).rows u)) (sym still.thread) (subst (RoomAt (x.machine.threads u).held) (sym still.row) (s.room u first last))
+
+    each_sees : (u : ℕ) → 1 ≤ u → u ≤ x.machine.layout.threads → SeesCount (next x h) ((next x h).rows u)
+    each_sees u first last = go (who h == u) refl
+      where
+        go : (b : Bool) → (who h == u) ≡ b → SeesCount (next x h) ((next x h).rows u)
+        go true e = subst (λ (v : ℕ). SeesCount (next x h) ((next x h).rows v)) (eqb-true (who h) u e) (own_sees x h s pos known w)
+        go false e = let apart : who h ≢ u = (λ same. cc (sym e ∙ eq-eqb (who h) u same)) in subst (SeesCount (next x h)) (sym (others_still x h u s.reached apart).row) (others_see x h u s pos known first last apart layout)
 
     each_watched : (u : ℕ) → 1 ≤ u → u ≤ x.machine.layout.threads → OwnWatched (next x h).machine (next x h).awake u ((next x h).rows u)
     each_watched u first last = go (who h == u) refl
@@ -268,6 +416,8 @@ begins_steady l is = record {
   plain = λ m ours. record { waiters = ap (λ (w : ℕ). (fields_of w).waiters) (first_cell l (λ c. 0) (slot_of m) (our_slot l m ours)); usable = ap (λ (w : ℕ). (fields_of w).unusable) (first_cell l (λ c. 0) (slot_of m) (our_slot l m ours)) };
   turns = λ t first last. tt;
   room = λ t first last. tt;
+  sees = λ t first last. tt;
+  counts = start_counted l (λ c. 0) (λ k. omega arith);
   watched = λ t first last. record {
     alone = λ alive m ours mine. absurd (let e : 0 ≡ t = sym (ap (λ (w : ℕ). (fields_of w).owner) (first_cell l (λ c. 0) (slot_of m) (our_slot l m ours))) ∙ mine in omega (arith, e, first));
     calm = λ alive m ours mine on. absurd cc;
@@ -290,6 +440,9 @@ turns_kept l hs t is first last trusted = (steady_run (begin l) hs (begins_stead
 
 pub room_kept : RunsKeepRoom
 room_kept l hs t is first last trusted = more (reached l hs) t first (subst (λ (k : Layout'). t ≤ k.threads) (sym (layout_then (begin l) hs (begins_steady l is) trusted)) last) (steady_run (begin l) hs (begins_steady l is) trusted)
+
+pub counts_kept : RunsKeepCounts
+counts_kept l hs t is first last trusted = (steady_run (begin l) hs (begins_steady l is) trusted).sees t first (subst (λ (k : Layout'). t ≤ k.threads) (sym (layout_then (begin l) hs (begins_steady l is) trusted)) last)
 
 pub heirs_kept : RunsKeepHeirs
 heirs_kept l hs is trusted = let s = steady_run (begin l) hs (begins_steady l is) trusted in heirs_of_all (reached l hs) (reached_kept (reached l hs).machine s.reached) s.watched

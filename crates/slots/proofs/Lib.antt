@@ -64,6 +64,8 @@ pub mod HeldRows
 pub mod SlotWords
 pub mod Watching
 pub mod Watched
+pub mod CountRows
+pub mod CountersKept
 pub mod TakesOver
 pub mod Steady
 pub mod Kernels

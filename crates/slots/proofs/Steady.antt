@@ -11,6 +11,8 @@ use Rattle.protocol.proofs.Kept.{Kept, last_thread}
 use Rattle.protocol.proofs.Events.{is_known}
 use Rattle.protocol.proofs.Puts.{put-same}
 use Rattle.protocol.proofs.Queued.{in_none}
+use Rattle.slots.specs.Premises.{SeesCount}
+use Rattle.protocol.proofs.Counters.{Counted}
 use Rattle.slots.specs.Places.{slot_of}
 use Rattle.slots.specs.Rows.{Choice, Giving, Row}
 use Rattle.slots.specs.Rows.Giving.{OfUnlock, OfWait}
@@ -62,6 +64,8 @@ pub record Steady (x : Slots) : Type 0 where
   pub plain : ArePlain x.machine
   pub turns : (t : ℕ) → 1 ≤ t → t ≤ x.machine.layout.threads → KnowsItsTurn x (x.rows t)
   pub room : (t : ℕ) → 1 ≤ t → t ≤ x.machine.layout.threads → RoomAt (x.machine.threads t).held (x.rows t)
+  pub sees : (t : ℕ) → 1 ≤ t → t ≤ x.machine.layout.threads → SeesCount x (x.rows t)
+  pub counts : Counted x.machine
   pub watched : (t : ℕ) → 1 ≤ t → t ≤ x.machine.layout.threads → OwnWatched x.machine x.awake t (x.rows t)
 
 pub may_go : (a d e : Bool) → (a && d && not e) ≡ true → (d ≡ true) × (e ≡ false)
@@ -135,7 +139,7 @@ module _ (x : Slots) (t : ℕ) (pos : 1 ≤ t) (known : t ≤ x.machine.layout.t
   granted c w = go (is_alive g) refl
     where
       go : (b : Bool) → is_alive g ≡ b → Grants x (Goes t c)
-      go true lives = (about_it z.layout t (x.rows t) g fit (here lives), assume_row x t s.reached pos known (x.rows t) (here lives) fit own quiet knows more w, assume_too x t s.reached pos known (x.rows t) fit own quiet knows heir_over w)
+      go true lives = (about_it z.layout t (x.rows t) g fit (here lives), assume_row x t s.reached pos known (x.rows t) (here lives) fit own quiet knows more (s.sees t pos known) w, assume_too x t s.reached pos known (x.rows t) fit own quiet knows heir_over (s.sees t pos known) s.counts w)
       go false dead = (
         subst (λ (r : Row). IsAboutIt z.layout r g) (sym (resting dead)) tt,
         subst (Assumes x t) (sym (resting dead)) tt,

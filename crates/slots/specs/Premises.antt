@@ -1,6 +1,6 @@
 -- What the laws of runs still take for granted of an access, by what it is about. All else that rows assume is so in every
 -- run (`PremisesFollow`).
-use Rattle.std.specs.Prelude.{ℕ, ◌≡◌, ◌≢◌, ◌<◌, ◌≤◌, ◌+◌, ◌*◌, ◌%◌, ◌^◌, Bool, true, false, List, [], ◌∷◌}
+use Rattle.std.specs.Prelude.{ℕ, ◌≡◌, ◌≢◌, ◌<◌, ◌≤◌, ◌+◌, ◌*◌, Bool, true, false, List, [], ◌∷◌}
 use Rattle.lockword.specs.Cells.{waiters_alone}
 use Rattle.memorymap.specs.Layouts.{Layout', IsLayout, cell_place, counter_place}
 use Rattle.protocol.specs.Machine.{State, is_alive, is_asleep, is_left_to}
@@ -147,22 +147,35 @@ HeirTakesOver x t r = Unit {0}
 
 -- ---- counters
 
--- The call has seen the counter's word. A count is below the largest, and without SLEPT nobody sleeps there
-abbrev pub KnowsCount : Slots → Row → Type 0
-KnowsCount x (Row.GivePends m (OfWait k n slept timed)) = n ≡ x.machine.words (counter_place x.machine.layout k) % 2 ^ 32
-KnowsCount x (Row.WaitSets m k n timed) = x.machine.words (counter_place x.machine.layout k) ≡ n
-KnowsCount x (Row.Counts m k all n) = (shown x (counter_place x.machine.layout k) ≡ n)
-    × (x.machine.words (counter_place x.machine.layout k) < 0xffff_ffff)
-    × (x.slept k ≡ false → x.machine.queues (counter_place x.machine.layout k) ≡ [])
-KnowsCount x (Row.Unsets m k n) = x.machine.words (counter_place x.machine.layout k) ≡ n
-KnowsCount x r = Unit {0}
+-- the call has seen the counter's word as it is
+abbrev pub SeesCount : Slots → Row → Type 0
+SeesCount x (Row.GivePends m (OfWait k n slept timed)) = x.machine.words (counter_place x.machine.layout k) ≡ n
+SeesCount x (Row.GiveUnlinks m (OfWait k n slept timed)) = x.machine.words (counter_place x.machine.layout k) ≡ n
+SeesCount x (Row.WaitSets m k n timed) = x.machine.words (counter_place x.machine.layout k) ≡ n
+SeesCount x (Row.Counts m k all n) = shown x (counter_place x.machine.layout k) ≡ n
+SeesCount x (Row.CountWakes m k n) = x.machine.words (counter_place x.machine.layout k) ≡ n
+SeesCount x (Row.AllMarks m k n) = x.machine.words (counter_place x.machine.layout k) ≡ n
+SeesCount x (Row.AllMoves m k n) = x.machine.words (counter_place x.machine.layout k) ≡ n
+SeesCount x (Row.Unsets m k n) = x.machine.words (counter_place x.machine.layout k) ≡ n
+SeesCount x r = Unit {0}
+
+-- a count is below the largest when a signal adds to it
+abbrev pub HasFewCounts : Slots → Row → Type 0
+HasFewCounts x (Row.Counts m k all n) = x.machine.words (counter_place x.machine.layout k) < 0xffff_ffff
+HasFewCounts x r = Unit {0}
+
+-- without SLEPT nobody sleeps on the counter
+abbrev pub KnowsSlept : Slots → Row → Type 0
+KnowsSlept x (Row.Counts m k all n) = x.slept k ≡ false → x.machine.queues (counter_place x.machine.layout k) ≡ []
+KnowsSlept x r = Unit {0}
 
 -- ---- runs
 
 -- thread t's next access, at its row
 pub record Trusts (x : Slots) (t : ℕ) (r : Row) : Type 0 where
   pub few : HasFewTurns x r
-  pub count : KnowsCount x r
+  pub counts : HasFewCounts x r
+  pub slept : KnowsSlept x r
 
 abbrev pub TrustsIn : Slots → Happening → Type 0
 TrustsIn x (Goes t c) = Trusts x t (x.rows t)
@@ -190,6 +203,11 @@ RunsKeepOwners = (l : Layout') (hs : List Happening) (t : ℕ) → IsLayout l �
 abbrev pub RunsKeepTurns : Type 0
 RunsKeepTurns = (l : Layout') (hs : List Happening) (t : ℕ) → IsLayout l → 1 ≤ t → t ≤ l.threads → AllTrusted (begin l) hs
     → KnowsItsTurn (reached l hs) ((reached l hs).rows t)
+
+-- a call that has seen a counter's word, to wait or to count, has seen it as it is
+abbrev pub RunsKeepCounts : Type 0
+RunsKeepCounts = (l : Layout') (hs : List Happening) (t : ℕ) → IsLayout l → 1 ≤ t → t ≤ l.threads → AllTrusted (begin l) hs
+    → SeesCount (reached l hs) ((reached l hs).rows t)
 
 -- if a slot has AWAKE and an owner, and isn't marked, its owner is the cell's heir
 abbrev pub RunsKeepHeirs : Type 0
