@@ -3,7 +3,7 @@ use Rattle.std.proofs.Common.{◌≡◌, ◌≢◌, ℕ, ◌+◌, ◌*◌, ◌/�
 use Rattle.std.proofs.lemmas.Bool.{eqb-false}
 use Rattle.lockword.specs.Cells.{bit, fields_of}
 use Rattle.lockword.specs.Coding.{word_of-fields_of}
-use Rattle.memorymap.specs.Layouts.{Layout', cell_place}
+use Rattle.memorymap.specs.Layouts.{Layout', cell_place, counter_place}
 use Rattle.protocol.specs.declared.thread.Stage.{Stage}
 use Rattle.protocol.specs.Machine.{State}
 use Rattle.posixmutex.specs.Objects.{acquires}
@@ -20,8 +20,9 @@ use Rattle.condvar.specs.declared.op.Op.TheVariants.{OnMutex, OnCondition}
 use Rattle.protocol.specs.declared.thread.Stage.TheVariants.{Calling}
 use Rattle.protocol.specs.Headline.{seen}
 use Rattle.protocol.proofs.Accesses.{fits_in}
+use Rattle.protocol.proofs.Counters.{Counted}
 use Rattle.protocol.proofs.Kept.{InPhase, Kept}
-use Rattle.slots.specs.Stands.{IsIn, IsRetaking, IsToLook, StandsAs}
+use Rattle.slots.specs.Stands.{HasChosen, IsIn, IsRetaking, IsToLook, IsToSleep, StandsAs}
 use Rattle.slots.specs.Rows.How.{Tried, Later, Waited}
 use Rattle.slots.specs.Places.{cell_of, slot_of}
 use Rattle.slots.specs.Rows.{How, Taking, Row}
@@ -37,8 +38,9 @@ use Rattle.slots.specs.Further.{MayTake, OwnsMarked}
 use Rattle.slots.specs.Each.{Assumes, IsToTake, SlotIsSmall}
 use Rattle.slots.specs.Goes.{AssumesToo, SleepsLater}
 use Rattle.slots.specs.Fits.{Fits, IsApart, IsOurs}
-use Rattle.slots.specs.Premises.{KnowsItsTurn, Holds, Owning, SlotsAreQuiet, Trusts, WordsAreSound}
+use Rattle.slots.specs.Premises.{KnowsItsTurn, HeirTakesOver, MayOwnMore, SeesCount, Holds, Owning, SlotsAreQuiet, Trusts, WordsAreSound}
 use Rattle.slots.proofs.Free.{reached_kept}
+use Rattle.slots.proofs.HeldRows.{Few, RoomAt, few_says}
 use Rattle.slots.proofs.Meets.{usable_if_owned}
 use Rattle.slots.proofs.Rooms.{words_sound}
 use Rattle.slots.proofs.Owned.{our_cell, our_slot}
@@ -88,6 +90,37 @@ module _ (x : Slots) (t : ℕ) (from : IsReached x.machine) (first : 1 ≤ t) (l
   looking k Later there = in_lock (TimedLock (cell_of k.mutex)) _ refl there
   looking k (Waited y) there = in_retake y _ there
 
+  below : (z.threads t).held < 2046 → (z.threads t).held < 2048
+  below w = omega (arith, w)
+
+  below_slot : (z.threads t).held < 2047 → (z.threads t).held < 2048
+  below_slot w = omega (arith, w)
+
+  -- the lock that ends a wait is at the cell
+  marking : (k : Taking) (h : How) (v : ℕ) → HasChosen k h false v g → Few h (z.threads t).held → (z.threads t).held < 2048
+  marking k Tried v there w = below w
+  marking k Later v there w = below w
+  marking k (Waited y) v there w = in_retake y _ there
+
+  sleeping : (k : Taking) (h : How) (v : ℕ) → IsToSleep k h v g → Few h (z.threads t).held → (z.threads t).held < 2048
+  sleeping k Tried v there w = below w
+  sleeping k Later v there w = below w
+  sleeping k (Waited y) v (f, low, there) w = in_retake y _ there
+
+  -- what the row says of it
+  pub may_own : (r : Row) → StandsAs r g → Fits l t r g → RoomAt (z.threads t).held r → MayOwnMore x t r
+  may_own (Row.Looks k) there o w = below w
+  may_own (Row.Pends k v) there o w = below w
+  may_own (Row.SeesAgain k v) there o w = below (few_says k.how (z.threads t).held o.1 w)
+  may_own (Row.Marks k v n) there o w = marking k k.how v there w
+  may_own (Row.SleepsOn k v) there o w = sleeping k k.how v there w
+  may_own (Row.SlotPends k sl) there o w = below w
+  may_own (Row.SlotLeft k) there o w = below w
+  may_own (Row.HeirPends k b) there o w = below_slot w
+  may_own (Row.TryLooks m) there o w = below w
+  may_own (Row.TryPends m v) there o w = below w
+  may_own r there o w = tt
+
   some : (k : ℕ) → (fields_at z k).owner ≡ t → (fields_at z k).owner ≢ 0
   some k own e = absurd (omega (arith, own, e))
 
@@ -116,71 +149,74 @@ module _ (x : Slots) (t : ℕ) (from : IsReached x.machine) (first : 1 ≤ t) (l
   free_one : (m v : ℕ) (r : Row) → IsOurs l m → Trusts x t r → is_free v ≡ true → IsToTake x m v
   free_one m v r ours w free = record { free = free; room = words.room (cell_of m) (our_cell l m ours) }
 
-  pub assume_row : (r : Row) → StandsAs r g → Fits l t r g → Owning z t r → SlotsAreQuiet z → KnowsItsTurn x r → Trusts x t r → Assumes x t r
-  assume_row (Row.Pends k v) there o own quiet knows w = may k.mutex o.0.ours w.room
-  assume_row (Row.Sees k) there o own quiet knows w = may k.mutex o.ours (looking k k.how there)
-  assume_row (Row.Takes k v) there o own quiet knows w = (may k.mutex o.0.ours (looking k k.how there), free_one k.mutex v _ o.0.ours w o.1)
-  assume_row (Row.SeesAgain k v) there o own quiet knows w = (may k.mutex o.0.ours w.room, o.1)
-  assume_row (Row.Marks k v ToSleep) there o own quiet knows w = (may k.mutex o.0.ours w.room, o.1)
-  assume_row (Row.Marks k v (ToSlot sl)) there o own quiet knows w = (may k.mutex o.0.ours w.room, o.1.0)
-  assume_row (Row.SlotPends k sl) there o own quiet knows w = (our_slot l k.mutex o.0.ours, w.room)
-  assume_row (Row.SlotTakes k sl) there o own quiet knows w = record { inside = our_slot l k.mutex o.0.ours; nobody = o.1; usable = (quiet k.mutex o.0.ours).usable; room = words.room (slot_of k.mutex) (our_slot l k.mutex o.0.ours) }
-  assume_row (Row.SlotLeft k) there o own quiet knows w = may k.mutex o.ours w.room
-  assume_row (Row.SeesToSleep k) there o own quiet knows w = may k.mutex o.0.ours (looking k k.how there)
-  assume_row (Row.SlotQuiets k) there o own quiet knows w = slot_small k.mutex o.ours quiet w.few
-  assume_row (Row.SlotMends k) there o own quiet knows w = marked (slot_of k.mutex) _ (our_slot l k.mutex o.ours) w own.0 w.few
-  assume_row (Row.HeirPends k Linked) there o own quiet knows w = may k.mutex o.ours w.room
-  assume_row (Row.HeirPends k Mended) there o own quiet knows w = may k.mutex o.ours w.room
-  assume_row (Row.HeirPends k Again) there o own quiet knows w = tt
-  assume_row (Row.HeirSets k) there o own quiet knows w = record {
+  pub assume_row : (r : Row) → StandsAs r g → Fits l t r g → Owning z t r → SlotsAreQuiet z → KnowsItsTurn x r → MayOwnMore x t r → SeesCount x r → Trusts x t r → Assumes x t r
+  assume_row (Row.Pends k v) there o own quiet knows more sees w = may k.mutex o.0.ours more
+  assume_row (Row.Sees k) there o own quiet knows more sees w = may k.mutex o.ours (looking k k.how there)
+  assume_row (Row.Takes k v) there o own quiet knows more sees w = (may k.mutex o.0.ours (looking k k.how there), free_one k.mutex v _ o.0.ours w o.1)
+  assume_row (Row.SeesAgain k v) there o own quiet knows more sees w = (may k.mutex o.0.ours more, o.1)
+  assume_row (Row.Marks k v ToSleep) there o own quiet knows more sees w = (may k.mutex o.0.ours more, o.1)
+  assume_row (Row.Marks k v (ToSlot sl)) there o own quiet knows more sees w = (may k.mutex o.0.ours more, o.1.0)
+  assume_row (Row.SlotPends k sl) there o own quiet knows more sees w = (our_slot l k.mutex o.0.ours, more)
+  assume_row (Row.SlotTakes k sl) there o own quiet knows more sees w = record { inside = our_slot l k.mutex o.0.ours; nobody = o.1; usable = (quiet k.mutex o.0.ours).usable; room = words.room (slot_of k.mutex) (our_slot l k.mutex o.0.ours) }
+  assume_row (Row.SlotLeft k) there o own quiet knows more sees w = may k.mutex o.ours more
+  assume_row (Row.SeesToSleep k) there o own quiet knows more sees w = may k.mutex o.0.ours (looking k k.how there)
+  assume_row (Row.SlotQuiets k) there o own quiet knows more sees w = slot_small k.mutex o.ours quiet w.few
+  assume_row (Row.SlotMends k) there o own quiet knows more sees w = marked (slot_of k.mutex) _ (our_slot l k.mutex o.ours) w own.0 w.few
+  assume_row (Row.HeirPends k Linked) there o own quiet knows more sees w = may k.mutex o.ours more
+  assume_row (Row.HeirPends k Mended) there o own quiet knows more sees w = may k.mutex o.ours more
+  assume_row (Row.HeirPends k Again) there o own quiet knows more sees w = tt
+  assume_row (Row.HeirSets k) there o own quiet knows more sees w = record {
     inside = our_slot l k.mutex o.ours;
     word = owner_alone (z.words (cell_place l (slot_of k.mutex))) t own.0.owner own.0.died (quiet k.mutex o.ours).waiters (quiet k.mutex o.ours).usable (words.room (slot_of k.mutex) (our_slot l k.mutex o.ours));
   }
-  assume_row (Row.HeirTakes k v) there o own quiet knows w = (may k.mutex o.0.ours (in_lock (TimedLock (cell_of k.mutex)) _ refl there), free_one k.mutex v _ o.0.ours w o.1)
-  assume_row (Row.HeirHas k r) there o own quiet knows w = slot_small k.mutex o.ours quiet w.few
-  assume_row (Row.GivesUp k) there o own quiet knows w = slot_small k.mutex o.ours quiet w.few
-  assume_row (Row.LastLooks k) there o own quiet knows w = (may k.mutex o.ours (in_lock (TimedLock (cell_of k.mutex)) _ refl there), own.1)
-  assume_row (Row.LastMarks k v) there o own quiet knows w = (may k.mutex o.0.ours (in_lock (TimedLock (cell_of k.mutex)) _ refl there), o.1)
-  assume_row (Row.TryPends m v) there o own quiet knows w = may m o.0 w.room
-  assume_row (Row.TryTakes m v) there o own quiet knows w = (may m o.0 (in_lock (TryLock (cell_of m)) _ refl there), free_one m v _ o.0 w o.1)
-  assume_row (Row.Anews m v) there o own quiet knows w = record { inside = our_cell l m o.0; unusable = o.1; died = words.lost (cell_of m) (our_cell l m o.0); room = words.room (cell_of m) (our_cell l m o.0) }
-  assume_row (Row.Mends m) there o own quiet knows w = marked (cell_of m) _ (our_cell l m o) w own w.few
-  assume_row (Row.Looks k) there o own quiet knows w = (our_cell l k.mutex o.0.ours, w.room)
-  assume_row (Row.TryLooks m) there o own quiet knows w = (our_cell l m o, w.room)
-  assume_row (Row.GiveLooks m) there o own quiet knows w = our_cell l m o
-  assume_row (Row.MendLooks m) there o own quiet knows w = our_cell l m o
-  assume_row (Row.WaitLooks m k timed) there o own quiet knows w = o.cell.inside
-  assume_row (Row.WaitCounts m k timed died) there o own quiet knows w = o.cell.inside
-  assume_row (Row.CountLooks m k all) there o own quiet knows w = o.cell.inside
-  assume_row (Row.Frees k f) there o own quiet knows w = record { inside = our_slot l k.mutex o.ours; owner = own.0.owner }
-  assume_row (Row.GivePends m (OfUnlock d)) there o own quiet knows w = record { inside = our_cell l m o; owner = own.owner }
-  assume_row (Row.GivePends m (OfWait k n slept timed)) there o own quiet knows w = (o.cell, record { inside = our_cell l m o.ours; owner = own.owner }, own.died)
-  assume_row (Row.FreeGives k f) there o own quiet knows w = owns (slot_of k.mutex) false (our_slot l k.mutex o.ours) own.0
-  assume_row (Row.Gives m (OfUnlock false)) there o own quiet knows w = owns (cell_of m) false (our_cell l m o) own
-  assume_row (Row.Gives m (OfUnlock true)) there o own quiet knows w = (owns (cell_of m) true (our_cell l m o) own, own.died)
-  assume_row (Row.Gives m (OfWait k n slept timed)) there o own quiet knows w = owns (cell_of m) false (our_cell l m o.ours) own
-  assume_row (Row.SleepsOn k v) there o own quiet knows w = (may k.mutex o.0.ours w.room, o.1)
-  assume_row (Row.Trims m is) there o own quiet knows w = record { inside = our_cell l m o; room = words.room (cell_of m) (our_cell l m o); knows = knows.0; turn = knows.1.0; left = knows.1.1 }
-  assume_row (Row.WaitSets m k n timed) there o own quiet knows w = record { inside = o.cell.inside; says = w.count }
-  assume_row (Row.Counts m k all n) there o own quiet knows w = record { inside = o.cell.inside; cell = o.cell.cell; owns = record { inside = our_cell l m o.ours; owner = own }; found = w.count.0; few = w.count.1; quiet = w.count.2 }
-  assume_row (Row.Unsets m k n) there o own quiet knows w = record { inside = o.cell.inside; says = w.count }
-  assume_row r there o own quiet knows w = tt
+  assume_row (Row.HeirTakes k v) there o own quiet knows more sees w = (may k.mutex o.0.ours (in_lock (TimedLock (cell_of k.mutex)) _ refl there), free_one k.mutex v _ o.0.ours w o.1)
+  assume_row (Row.HeirHas k r) there o own quiet knows more sees w = slot_small k.mutex o.ours quiet w.few
+  assume_row (Row.GivesUp k) there o own quiet knows more sees w = slot_small k.mutex o.ours quiet w.few
+  assume_row (Row.LastLooks k) there o own quiet knows more sees w = (may k.mutex o.ours (in_lock (TimedLock (cell_of k.mutex)) _ refl there), own.1)
+  assume_row (Row.LastMarks k v) there o own quiet knows more sees w = (may k.mutex o.0.ours (in_lock (TimedLock (cell_of k.mutex)) _ refl there), o.1)
+  assume_row (Row.TryPends m v) there o own quiet knows more sees w = may m o.0 more
+  assume_row (Row.TryTakes m v) there o own quiet knows more sees w = (may m o.0 (in_lock (TryLock (cell_of m)) _ refl there), free_one m v _ o.0 w o.1)
+  assume_row (Row.Anews m v) there o own quiet knows more sees w = record { inside = our_cell l m o.0; unusable = o.1; died = words.lost (cell_of m) (our_cell l m o.0); room = words.room (cell_of m) (our_cell l m o.0) }
+  assume_row (Row.Mends m) there o own quiet knows more sees w = marked (cell_of m) _ (our_cell l m o) w own w.few
+  assume_row (Row.Looks k) there o own quiet knows more sees w = (our_cell l k.mutex o.0.ours, more)
+  assume_row (Row.TryLooks m) there o own quiet knows more sees w = (our_cell l m o, more)
+  assume_row (Row.GiveLooks m) there o own quiet knows more sees w = our_cell l m o
+  assume_row (Row.MendLooks m) there o own quiet knows more sees w = our_cell l m o
+  assume_row (Row.WaitLooks m k timed) there o own quiet knows more sees w = o.cell.inside
+  assume_row (Row.WaitCounts m k timed died) there o own quiet knows more sees w = o.cell.inside
+  assume_row (Row.CountLooks m k all) there o own quiet knows more sees w = o.cell.inside
+  assume_row (Row.Frees k f) there o own quiet knows more sees w = record { inside = our_slot l k.mutex o.ours; owner = own.0.owner }
+  assume_row (Row.GivePends m (OfUnlock d)) there o own quiet knows more sees w = record { inside = our_cell l m o; owner = own.owner }
+  assume_row (Row.GivePends m (OfWait k n slept timed)) there o own quiet knows more sees w = (o.cell, record { inside = our_cell l m o.ours; owner = own.owner }, own.died)
+  assume_row (Row.FreeGives k f) there o own quiet knows more sees w = owns (slot_of k.mutex) false (our_slot l k.mutex o.ours) own.0
+  assume_row (Row.Gives m (OfUnlock false)) there o own quiet knows more sees w = owns (cell_of m) false (our_cell l m o) own
+  assume_row (Row.Gives m (OfUnlock true)) there o own quiet knows more sees w = (owns (cell_of m) true (our_cell l m o) own, own.died)
+  assume_row (Row.Gives m (OfWait k n slept timed)) there o own quiet knows more sees w = owns (cell_of m) false (our_cell l m o.ours) own
+  assume_row (Row.SleepsOn k v) there o own quiet knows more sees w = (may k.mutex o.0.ours more, o.1)
+  assume_row (Row.Trims m is) there o own quiet knows more sees w = record { inside = our_cell l m o; room = words.room (cell_of m) (our_cell l m o); knows = knows.0; turn = knows.1.0; left = knows.1.1 }
+  assume_row (Row.WaitSets m k n timed) there o own quiet knows more sees w = record { inside = o.cell.inside; says = sees }
+  assume_row (Row.Counts m k all n) there o own quiet knows more sees w = record { inside = o.cell.inside; cell = o.cell.cell; owns = record { inside = our_cell l m o.ours; owner = own }; found = sees; few = w.counts; quiet = w.slept }
+  assume_row (Row.Unsets m k n) there o own quiet knows more sees w = record { inside = o.cell.inside; says = sees }
+  assume_row r there o own quiet knows more sees w = tt
 
-  pub assume_too : (r : Row) → Fits l t r g → Owning z t r → SlotsAreQuiet z → KnowsItsTurn x r → Trusts x t r → AssumesToo x t r
-  assume_too (Row.Pends k v) o own quiet knows w = o.1
-  assume_too (Row.Marks k v (ToSlot sl)) o own quiet knows w = o.1.1
-  assume_too (Row.SeesToSleep k) o own quiet knows w = (o.1, own)
-  assume_too (Row.WaitLooks m k timed) o own quiet knows w = (o.cell, our_cell l m o.ours)
-  assume_too (Row.WaitCounts m k timed true) o own quiet knows w = (o.cell, record { inside = our_cell l m o.ours; owner = own.owner }, own.died)
-  assume_too (Row.CountLooks m k all) o own quiet knows w = (o.cell, our_cell l m o.ours)
-  assume_too (Row.GivePends m (OfWait k n slept timed)) o own quiet knows w = w.count
-  assume_too (Row.Frees k f) o own quiet knows w = own.0.died
-  assume_too (Row.GivePends m (OfUnlock d)) o own quiet knows w = own.died
-  assume_too (Row.FreeGives k f) o own quiet knows w = (quiet k.mutex o.ours).waiters
-  assume_too (Row.HandsOn m y is) o own quiet knows w = w.heir
-  assume_too (Row.LooksBack m (OfUnlock d) is) o own quiet knows w = our_cell l m o
-  assume_too (Row.LooksBack m (OfWait k n slept timed) is) o own quiet knows w = our_cell l m o.ours
-  assume_too r o own quiet knows w = tt
+  low : (w : ℕ) → w ≤ 4294967295 → w % 4294967296 ≡ w
+  low w most = omega (arith, most)
+
+  pub assume_too : (r : Row) → Fits l t r g → Owning z t r → SlotsAreQuiet z → KnowsItsTurn x r → HeirTakesOver x t r → SeesCount x r → Counted z → Trusts x t r → AssumesToo x t r
+  assume_too (Row.Pends k v) o own quiet knows over sees counted w = o.1
+  assume_too (Row.Marks k v (ToSlot sl)) o own quiet knows over sees counted w = o.1.1
+  assume_too (Row.SeesToSleep k) o own quiet knows over sees counted w = (o.1, own)
+  assume_too (Row.WaitLooks m k timed) o own quiet knows over sees counted w = (o.cell, our_cell l m o.ours)
+  assume_too (Row.WaitCounts m k timed true) o own quiet knows over sees counted w = (o.cell, record { inside = our_cell l m o.ours; owner = own.owner }, own.died)
+  assume_too (Row.CountLooks m k all) o own quiet knows over sees counted w = (o.cell, our_cell l m o.ours)
+  assume_too (Row.GivePends m (OfWait k n slept timed)) o own quiet knows over sees counted w = sym sees ∙ sym (low (z.words (counter_place l k)) (counted.most k o.cell.inside))
+  assume_too (Row.Frees k f) o own quiet knows over sees counted w = own.0.died
+  assume_too (Row.GivePends m (OfUnlock d)) o own quiet knows over sees counted w = own.died
+  assume_too (Row.FreeGives k f) o own quiet knows over sees counted w = (quiet k.mutex o.ours).waiters
+  assume_too (Row.HandsOn m y is) o own quiet knows over sees counted w = over
+  assume_too (Row.LooksBack m (OfUnlock d) is) o own quiet knows over sees counted w = our_cell l m o
+  assume_too (Row.LooksBack m (OfWait k n slept timed) is) o own quiet knows over sees counted w = our_cell l m o.ours
+  assume_too r o own quiet knows over sees counted w = tt
 
   pub apart_row : (r : Row) → Owning z t r → IsApart x t r
   apart_row (Row.SeesToSleep k) own = own

@@ -59,4 +59,13 @@ pub mod Quiet
 pub mod PlainSlots
 pub mod TurnRows
 pub mod TurnsKept
+pub mod Held
+pub mod HeldRows
+pub mod SlotWords
+pub mod Watching
+pub mod Watched
+pub mod CountRows
+pub mod CountersKept
+pub mod TakesOver
+pub mod Steady
 pub mod Kernels

@@ -1,6 +1,6 @@
 -- What the laws of runs still take for granted of an access, by what it is about. All else that rows assume is so in every
 -- run (`PremisesFollow`).
-use Rattle.std.specs.Prelude.{ℕ, ◌≡◌, ◌≢◌, ◌<◌, ◌≤◌, ◌+◌, ◌*◌, ◌%◌, ◌^◌, Bool, true, false, List, [], ◌∷◌}
+use Rattle.std.specs.Prelude.{ℕ, ◌≡◌, ◌≢◌, ◌<◌, ◌≤◌, ◌+◌, ◌*◌, Bool, true, false, List, [], ◌∷◌}
 use Rattle.lockword.specs.Cells.{waiters_alone}
 use Rattle.memorymap.specs.Layouts.{Layout', IsLayout, cell_place, counter_place}
 use Rattle.protocol.specs.Machine.{State, is_alive, is_asleep, is_left_to}
@@ -10,7 +10,7 @@ use Rattle.slots.specs.Rows.Onward.{Has, Fails, Sleeps}
 use Rattle.slots.specs.Rows.Giving.{OfUnlock, OfWait}
 use Rattle.slots.specs.Shown.{Slots, begin, shown}
 use Rattle.slots.specs.Table.{heir_of, shows_heir}
-use Rattle.slots.specs.Invariant.{fields_at, HasRoom, KnowsTurn, SlotIsQuiet}
+use Rattle.slots.specs.Invariant.{fields_at, HasRoom, HeirsAnswer, KnowsTurn, SlotIsQuiet}
 use Rattle.slots.specs.Fits.{IsOurs}
 use Rattle.slots.specs.Laws.{IsEvents, IsReached}
 use Rattle.slots.specs.Runs.{Happening, next, reached}
@@ -19,8 +19,9 @@ use Rattle.slots.specs.Goes.{AllGranted, who}
 
 -- ---- how many mutexes the thread owns
 
--- At these rows the machine's thread is in no call, or its call is through: it may take another. (At all others, its call
--- knows that.)
+-- At these rows the machine's thread is in no call, or its call is through, and it may take another. (At all others, its
+-- call knows that.) A call of ours begins only if the thread may own two more, and never owns another at these rows but the
+-- slot of its mutex
 abbrev pub MayOwnMore : Slots → ℕ → Row → Type 0
 MayOwnMore x t (Row.Looks k) = (x.machine.threads t).held < 2048
 MayOwnMore x t (Row.Pends k v) = (x.machine.threads t).held < 2048
@@ -146,24 +147,35 @@ HeirTakesOver x t r = Unit {0}
 
 -- ---- counters
 
--- The call has seen the counter's word. A count is below the largest, and without SLEPT nobody sleeps there
-abbrev pub KnowsCount : Slots → Row → Type 0
-KnowsCount x (Row.GivePends m (OfWait k n slept timed)) = n ≡ x.machine.words (counter_place x.machine.layout k) % 2 ^ 32
-KnowsCount x (Row.WaitSets m k n timed) = x.machine.words (counter_place x.machine.layout k) ≡ n
-KnowsCount x (Row.Counts m k all n) = (shown x (counter_place x.machine.layout k) ≡ n)
-    × (x.machine.words (counter_place x.machine.layout k) < 0xffff_ffff)
-    × (x.slept k ≡ false → x.machine.queues (counter_place x.machine.layout k) ≡ [])
-KnowsCount x (Row.Unsets m k n) = x.machine.words (counter_place x.machine.layout k) ≡ n
-KnowsCount x r = Unit {0}
+-- the call has seen the counter's word as it is
+abbrev pub SeesCount : Slots → Row → Type 0
+SeesCount x (Row.GivePends m (OfWait k n slept timed)) = x.machine.words (counter_place x.machine.layout k) ≡ n
+SeesCount x (Row.GiveUnlinks m (OfWait k n slept timed)) = x.machine.words (counter_place x.machine.layout k) ≡ n
+SeesCount x (Row.WaitSets m k n timed) = x.machine.words (counter_place x.machine.layout k) ≡ n
+SeesCount x (Row.Counts m k all n) = shown x (counter_place x.machine.layout k) ≡ n
+SeesCount x (Row.CountWakes m k n) = x.machine.words (counter_place x.machine.layout k) ≡ n
+SeesCount x (Row.AllMarks m k n) = x.machine.words (counter_place x.machine.layout k) ≡ n
+SeesCount x (Row.AllMoves m k n) = x.machine.words (counter_place x.machine.layout k) ≡ n
+SeesCount x (Row.Unsets m k n) = x.machine.words (counter_place x.machine.layout k) ≡ n
+SeesCount x r = Unit {0}
+
+-- a count is below the largest when a signal adds to it
+abbrev pub HasFewCounts : Slots → Row → Type 0
+HasFewCounts x (Row.Counts m k all n) = x.machine.words (counter_place x.machine.layout k) < 0xffff_ffff
+HasFewCounts x r = Unit {0}
+
+-- without SLEPT nobody sleeps on the counter
+abbrev pub KnowsSlept : Slots → Row → Type 0
+KnowsSlept x (Row.Counts m k all n) = x.slept k ≡ false → x.machine.queues (counter_place x.machine.layout k) ≡ []
+KnowsSlept x r = Unit {0}
 
 -- ---- runs
 
 -- thread t's next access, at its row
 pub record Trusts (x : Slots) (t : ℕ) (r : Row) : Type 0 where
-  pub room : MayOwnMore x t r
   pub few : HasFewTurns x r
-  pub heir : HeirTakesOver x t r
-  pub count : KnowsCount x r
+  pub counts : HasFewCounts x r
+  pub slept : KnowsSlept x r
 
 abbrev pub TrustsIn : Slots → Happening → Type 0
 TrustsIn x (Goes t c) = Trusts x t (x.rows t)
@@ -191,6 +203,25 @@ RunsKeepOwners = (l : Layout') (hs : List Happening) (t : ℕ) → IsLayout l �
 abbrev pub RunsKeepTurns : Type 0
 RunsKeepTurns = (l : Layout') (hs : List Happening) (t : ℕ) → IsLayout l → 1 ≤ t → t ≤ l.threads → AllTrusted (begin l) hs
     → KnowsItsTurn (reached l hs) ((reached l hs).rows t)
+
+-- a call that has seen a counter's word, to wait or to count, has seen it as it is
+abbrev pub RunsKeepCounts : Type 0
+RunsKeepCounts = (l : Layout') (hs : List Happening) (t : ℕ) → IsLayout l → 1 ≤ t → t ≤ l.threads → AllTrusted (begin l) hs
+    → SeesCount (reached l hs) ((reached l hs).rows t)
+
+-- if a slot has AWAKE and an owner, and isn't marked, its owner is the cell's heir
+abbrev pub RunsKeepHeirs : Type 0
+RunsKeepHeirs = (l : Layout') (hs : List Happening) → IsLayout l → AllTrusted (begin l) hs → HeirsAnswer (reached l hs)
+
+-- so a call that finds an heir after its release may leave its wake to that heir
+abbrev pub HeirsTakeOver : Type 0
+HeirsTakeOver = (l : Layout') (hs : List Happening) (t : ℕ) → IsLayout l → 1 ≤ t → t ≤ l.threads → AllTrusted (begin l) hs
+    → HeirTakesOver (reached l hs) t ((reached l hs).rows t)
+
+-- the thread may own one mutex more if its row is to begin a call of the machine that takes one
+abbrev pub RunsKeepRoom : Type 0
+RunsKeepRoom = (l : Layout') (hs : List Happening) (t : ℕ) → IsLayout l → 1 ≤ t → t ≤ l.threads → AllTrusted (begin l) hs
+    → MayOwnMore (reached l hs) t ((reached l hs).rows t)
 
 -- each access of such a run, of a thread that lives and is awake, is the events that the table has
 abbrev pub AllHold : Type 0

@@ -5,7 +5,7 @@ ghost use Rattle.slots.specs.Accesses.{MissesAreNoEvents, PendingAgainIsNoEvent,
 ghost use Rattle.slots.specs.Accesses.{TakesAreEvents, WakesAreEvents};
 ghost use Rattle.slots.specs.Each.{EachAccessIsEvents};
 ghost use Rattle.slots.specs.Fits.{NextRowsFit};
-ghost use Rattle.slots.specs.Premises.{AllHold, PremisesFollow, RunsKeepOwners, RunsKeepTurns, SlotsStayQuiet, WordsStaySound};
+ghost use Rattle.slots.specs.Premises.{AllHold, HeirsTakeOver, PremisesFollow, RunsKeepCounts, RunsKeepHeirs, RunsKeepOwners, RunsKeepRoom, RunsKeepTurns, SlotsStayQuiet, WordsStaySound};
 ghost use Rattle.slots.specs.Goes.{OthersStandStill, RowsLeadOn, RunsKeepTheirRows};
 ghost use Rattle.slots.specs.Goes.{AccessesOfRunsAreEvents, ThreadsKeepTheirRows};
 ghost use Rattle.slots.specs.Further.{AnnouncedReleasesAreEvents, CountsAreEvents, DecidingLooksAreEvents};
@@ -337,6 +337,30 @@ pub fn runs_keep_owners()
 /// reinitialised since, or nobody owns it.
 pub fn runs_keep_turns()
     ensures { RunsKeepTurns }
+{}
+
+/// In any run, a thread may own one mutex more when its next access begins a call of the machine that takes one: the cell or
+/// the slot, which are two of the machine's.
+pub fn runs_keep_room()
+    ensures { RunsKeepRoom }
+{}
+
+/// In any run, a call that has seen a counter's word, to wait or to count, has seen it as it is until the call stores it or
+/// releases the mutex: a counter changes only by the owner of its mutex.
+pub fn runs_keep_counts()
+    ensures { RunsKeepCounts }
+{}
+
+/// In any run, if a slot has AWAKE and an owner, and isn't marked, its owner is the cell's heir: it will look at the cell's
+/// word, or has taken the cell, or was killed, and Linux will look.
+pub fn runs_keep_heirs()
+    ensures { RunsKeepHeirs }
+{}
+
+/// In any run, if a call that has released its mutex finds a slot that shows an heir, the machine lets it leave its wake to
+/// that heir.
+pub fn heirs_take_over()
+    ensures { HeirsTakeOver }
 {}
 
 /// In any run, each access of a thread that lives and is awake is the events that the table has for it. What is still assumed

@@ -19,7 +19,9 @@
 //! - *Runs of the layer*: `others_stand_still`, `rows_lead_on`, `threads_keep_their_rows`,
 //!   `runs_keep_their_rows`, `accesses_of_runs_are_events`; `next_rows_fit`, and so `premises_follow`: what rows assume of
 //!   their mutexes and of the words that they have seen. `words_stay_sound`: the machine's words of mutexes.
-//!   `slots_stay_quiet`, `runs_keep_owners`, `runs_keep_turns`: slots, who owns what, and turns. So `all_hold`: each access of a run is its events.
+//!   `slots_stay_quiet`, `runs_keep_owners`, `runs_keep_turns`, `runs_keep_room`, `runs_keep_counts`,
+//!   `runs_keep_heirs`: slots, who owns what, turns, how many mutexes a thread owns, counters, and heirs, to whom wakes are
+//!   left (`heirs_take_over`). So `all_hold`: each access of a run is its events.
 //! - *Several events at one moment*: `giving_up_leaves_nothing`, `giving_up_is_a_look`, `takes_are_one_exchange`,
 //!   `takes_are_the_exchange`, `announcing_is_one_store`.
 //! - *Newer kernels*: `wakes_without_waiters_wake_nobody`.
@@ -42,15 +44,15 @@ pub use laws::{
     announcing_rows_are_events, awake_is_cleared, awake_is_set, clearing_rows_are_events,
     counts_are_events, deaths_leave_all, deaths_leave_heirs, deciding_looks_are_events,
     each_access_is_events, first_looks_are_events, giving_up_is_a_look, giving_up_leaves_nothing,
-    heir_takes_are_events, heirs_go_on, heirs_let_spare, last_looks_are_events,
+    heir_takes_are_events, heirs_go_on, heirs_let_spare, heirs_take_over, last_looks_are_events,
     list_rows_are_events, looks_are_events, marks_are_events, mends_are_events,
     misses_are_no_events, moves_are_events, next_rows_fit, nobody_joins_a_free_mutex,
     others_answer_still, others_leave_heirs, others_leave_what_is_owned, others_stand_still,
     pending_again_is_no_event, premises_follow, releases_are_events, releases_tell, rows_lead_on,
-    runs_keep_owners, runs_keep_their_rows, runs_keep_turns, sleeps_are_events,
-    slots_run_the_machine, slots_stay_quiet, spares_are_events, standing_heirs_answer,
-    takes_are_events, takes_are_one_exchange, takes_are_the_exchange, threads_keep_their_rows,
-    trims_are_events, trims_are_the_machines, turns_stay_known, turns_stay_known_by_all,
-    wakes_are_events, wakes_of_nobody_tell, wakes_without_waiters_wake_nobody, walks_leave_all,
-    walks_leave_heirs, words_stay_sound,
+    runs_keep_counts, runs_keep_heirs, runs_keep_owners, runs_keep_room, runs_keep_their_rows,
+    runs_keep_turns, sleeps_are_events, slots_run_the_machine, slots_stay_quiet, spares_are_events,
+    standing_heirs_answer, takes_are_events, takes_are_one_exchange, takes_are_the_exchange,
+    threads_keep_their_rows, trims_are_events, trims_are_the_machines, turns_stay_known,
+    turns_stay_known_by_all, wakes_are_events, wakes_of_nobody_tell,
+    wakes_without_waiters_wake_nobody, walks_leave_all, walks_leave_heirs, words_stay_sound,
 };
