@@ -1,7 +1,7 @@
 //! The script of a page.
 
 /// It shows the data of the page, line by line; it works nothing out but who owns and who sleeps where, from the states
-/// that are there.
+/// that stand there.
 pub const SCRIPT: &str = r##""use strict";
 // Shows the data of the page, which FORMATS describes; all states stand in it.
 const data = JSON.parse(document.getElementById("data").textContent);
@@ -13,7 +13,7 @@ for (let i = 1; i < data.length - 1; i++) (typeof data[i][0] === "number" ? line
 const illegal = end[0] === "illegal";
 const why = illegal ? decodeURIComponent(end[4]) : "";
 const misfit = () => (end[5] ? "It is " + words(end[5]) + "." : "");
-// the line that doesn't fit stands right after those that are shown, unless these are cut before it
+// the line that doesn't fit stands right behind those that are shown, unless these are cut before it
 const stops = illegal && end[3] - 2 === lines.length;
 const isCut = end[2] > lines.length && !stops;
 const last = lines.length + (stops ? 1 : 0);
@@ -26,7 +26,7 @@ const queue = q => (q[0] === "m" ? mutex : condition)(q[1]);
 const call = c => c[0] + " " + (c.length > 2 ? condition(c[2]) + " " + mutex(c[1]) : mutex(c[1]));
 const element = id => document.getElementById(id);
 
-// ---- the state after this many lines
+// ---- the state behind so many lines
 
 let at = -1;
 let threads = [];
@@ -54,7 +54,7 @@ function go(to) {
   at = to;
 }
 
-// what each thread owns, and who sleeps on what, in their order; of those with none nothing is there
+// what each thread owns, and who sleeps on what, in their order; of those with none nothing stands there
 function owned() {
   const all = [];
   mutexes.forEach(([owner], m) => owner && (all[owner] ||= []).push(mutex(m)));
@@ -97,7 +97,7 @@ const told = {
   renew: ([, t]) => thread(t) + " lives anew",
 };
 
-// why a line may come, after the state that is shown
+// why a line may come, behind the state that is shown
 const because = {
   begin: ([, t]) => thread(t) + " is in no call",
   point: ([, t, m]) => thread(t) + " is awake in that call, and " + mutex(m) + " is " + is(mutexes[m]) + (mutexes[m][0] ? ", by " + thread(mutexes[m][0]) : ""),
@@ -179,7 +179,7 @@ function tell() {
   try {
     history.replaceState(null, "", "#" + at);
   } catch {
-    // some browsers allow only this many in a time
+    // some browsers allow only so many in a time
   }
 }
 
@@ -282,7 +282,7 @@ if (isCut) {
   element("cut").textContent = "Of " + end[2] + " lines the first " + lines.length + " are shown here; the picture has all." + judged;
   element("cut").className = illegal ? "misfit" : "";
 }
-// the title: whose death is reported first, of which mutex, and what its next owner is reported
+// the title: whose death is told first, of which mutex, and what its next owner is told
 function story() {
   const first = lines.findIndex(line => line[1][0] === "death");
   if (first < 0) return "";
