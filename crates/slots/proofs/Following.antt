@@ -1,56 +1,45 @@
 -- What a run keeps, and what of the premises of its accesses follows from that.
-use Rattle.slots.proofs.Each.{each_access}
 use Rattle.std.proofs.Common.{◌≡◌, ◌≢◌, ◌<◌, ℕ, ◌≤◌, ◌==◌, Bool, true, false, List, [], ◌∷◌, refl, sym, ap, ◌∙◌, subst, arith, eqb-true, eq-eqb}
-use Rattle.std.specs.Prelude.{not, ◌&&◌}
-use Rattle.memorymap.specs.Layouts.{IsLayout, Layout'}
+use Rattle.std.specs.Prelude.{not, ◌&&◌, slice_index}
+use Rattle.lockword.specs.Cells.{fields_of}
+use Rattle.memorymap.specs.Layouts.{IsLayout, Layout', counter_place}
 use Rattle.protocol.specs.declared.event.Event.{Event}
 use Rattle.protocol.specs.declared.event.Event.TheVariants.{Step, Kill, Leave, Renew}
 use Rattle.protocol.specs.declared.thread.Thread.{Thread}
 use Rattle.protocol.specs.declared.thread.Stage.{Stage}
-use Rattle.protocol.specs.Machine.{State, has_thread, is_alive, is_asleep, is_dying, put}
+use Rattle.protocol.specs.Machine.{State, has_thread, is_alive, is_asleep, is_dying, put, After, departed, is_exiting, is_gone, nothing, renewed, run}
 use Rattle.protocol.proofs.Puts.{put-same}
 use Rattle.protocol.proofs.Queued.{in_none}
-use Rattle.lockword.specs.Cells.{fields_of}
-use Rattle.slots.specs.Premises.{SeesCount, RunsKeepCounts}
-use Rattle.slots.proofs.CountRows.{count_row}
-use Rattle.slots.proofs.CountersKept.{count_at, counter_stays, needs_row, sees_like, slept_else}
-use Rattle.slots.proofs.OthersKeep.{owned_seen}
-use Rattle.slots.proofs.Owned.{our_cell}
-use Rattle.slots.specs.Places.{cell_of}
-use Rattle.slots.specs.Fits.{AreOfUs}
 use Rattle.protocol.proofs.Counters.{Counted, run_counted, start_counted}
-use Rattle.std.specs.Prelude.{slice_index}
 use Rattle.protocol.proofs.Renewals.{renewed_counter}
-use Rattle.memorymap.specs.Layouts.{counter_place}
-use Rattle.protocol.specs.Machine.{State, After, departed, is_exiting, is_gone, nothing, renewed, run}
 use Rattle.protocol.specs.declared.thread.Stage.TheVariants.{Dying}
-use Rattle.protocol.specs.declared.thread.Stage.{Stage}
-use Rattle.slots.proofs.Free.{reached_queued}
-use Rattle.slots.proofs.Keeping.{all_four}
-use Rattle.slots.specs.Places.{slot_of}
+use Rattle.slots.specs.Premises.{SeesCount, RunsKeepCounts, KnowsItsTurn, HeirsTakeOver, RunsKeepHeirs, RunsKeepRoom, RunsKeepTurns, AllHold, RunsKeepOwners, SlotsStayQuiet, AllTrusted, Owning, PremisesFollow, Trusts, TrustsIn}
+use Rattle.slots.specs.Places.{cell_of, slot_of}
+use Rattle.slots.specs.Fits.{AreOfUs, IsOurs, Fits}
 use Rattle.slots.specs.Rows.{Choice, Row}
 use Rattle.slots.specs.Rows.Giving.{OfUnlock, OfWait}
 use Rattle.slots.specs.Shown.{Slots, after, begin}
 use Rattle.slots.specs.Table.{made}
 use Rattle.slots.specs.Heirs.{AreOf}
-use Rattle.slots.specs.Runs.{Happening, at_row, events_of, is_resting, lapse_events, lapse_row, made_by, may_call, next, reached, reached_from}
+use Rattle.slots.specs.Runs.{Happening, at_row, events_of, is_resting, lapse_events, lapse_row, made_by, may_call, next, reached, reached_from, awake_after, slept_after, turns_after}
 use Rattle.slots.specs.Runs.Happening.{Calls, Goes, Interrupts, Lapses, Dies, Walks, Lives}
 use Rattle.slots.specs.Laws.{IsReached}
 use Rattle.slots.specs.Stands.{StandsAs}
 use Rattle.slots.specs.Invariant.{fields_at}
 use Rattle.slots.specs.Accesses.{IsAtRow}
 use Rattle.slots.specs.Goes.{AllGranted, Grants, IsAtItsRow, StandsStill, who}
-use Rattle.slots.specs.Runs.{awake_after, slept_after, turns_after}
-use Rattle.slots.specs.Fits.{IsOurs, Fits}
-use Rattle.slots.specs.Premises.{KnowsItsTurn, HeirsTakeOver, RunsKeepHeirs, RunsKeepRoom, RunsKeepTurns, AllHold, RunsKeepOwners, SlotsStayQuiet, AllTrusted, Owning, PremisesFollow, Trusts, TrustsIn}
+use Rattle.slots.proofs.Each.{each_access}
+use Rattle.slots.proofs.CountRows.{count_row}
+use Rattle.slots.proofs.CountersKept.{count_at, counter_stays, needs_row, sees_like, slept_else}
+use Rattle.slots.proofs.OthersKeep.{owned_seen, LeavesIt, owning_kept, run_leaves}
+use Rattle.slots.proofs.Owned.{our_cell, our_slot}
+use Rattle.slots.proofs.Free.{reached_queued, reached_kept}
+use Rattle.slots.proofs.Keeping.{all_four}
 use Rattle.slots.proofs.AllRows.{layout_run, one_more, reached_run, runs_are_events}
 use Rattle.slots.proofs.Allowed.{sleeps_later}
-use Rattle.slots.proofs.Free.{reached_kept, reached_queued}
-use Rattle.slots.proofs.Keeping.{all_four}
 use Rattle.slots.proofs.HeldRows.{RoomAt}
 use Rattle.slots.proofs.Leading.{by_test}
 use Rattle.slots.proofs.MachineRuns.{next_is}
-use Rattle.slots.proofs.OthersKeep.{LeavesIt, owning_kept, run_leaves}
 use Rattle.slots.proofs.TurnRows.{Needs, turn_row}
 use Rattle.slots.proofs.TurnsKept.{gives_tell, next_turns, turn_after, turn_like, wake_tells}
 use Rattle.slots.proofs.PlainSlots.{IsPlain, plain_quiet}
@@ -58,7 +47,6 @@ use Rattle.slots.proofs.Watched.{OwnWatched, heirs_of_all, others_watched}
 use Rattle.slots.proofs.Watching.{awake_else}
 use Rattle.slots.proofs.Steady.{Steady, calls, dies, goes, granted, heir_over, interrupts, lapses, lives, may_go, more, small, walks}
 use Rattle.slots.proofs.Rooms.{first_cell}
-use Rattle.slots.proofs.Owned.{our_slot}
 use Rattle.slots.proofs.Others.{events_are_of, others_still}
 
 -- ---- what a thread knows of the turn

@@ -1,4 +1,4 @@
--- What a run keeps at each happening, of the thread of which it is.
+-- What a run keeps at each happening, of the thread to which it happens.
 use Rattle.std.proofs.Common.{◌≡◌, ◌≢◌, ◌⊎◌, inl, inr, ℕ, ◌<◌, ◌≤◌, Bool, true, false, List, [], ◌∷◌, refl, sym, ap, ◌∙◌, subst, arith}
 use Rattle.std.specs.Prelude.{if◌then◌else◌, not, ◌&&◌}
 use Rattle.memorymap.specs.Layouts.{Layout', address_in, cell_place, counter_place, head_place}
@@ -11,14 +11,15 @@ use Rattle.protocol.proofs.Kept.{Kept, last_thread}
 use Rattle.protocol.proofs.Events.{is_known}
 use Rattle.protocol.proofs.Puts.{put-same}
 use Rattle.protocol.proofs.Queued.{in_none}
-use Rattle.slots.specs.Premises.{SeesCount}
 use Rattle.protocol.proofs.Counters.{Counted}
+use Rattle.protocol.proofs.Renewals.{renewed_cell}
+use Rattle.slots.specs.Premises.{SeesCount, KnowsItsTurn, HeirTakesOver, MayOwnMore, SlotsAreQuiet, Owning, Trusts}
 use Rattle.slots.specs.Places.{slot_of}
 use Rattle.slots.specs.Rows.{Choice, Giving, Row}
 use Rattle.slots.specs.Rows.Giving.{OfUnlock, OfWait}
 use Rattle.slots.specs.Shown.{memory, shown, Slots, after}
 use Rattle.slots.specs.Table.{access_of_stage, made}
-use Rattle.slots.specs.Runs.{at_row, is_resting, lapse_events, lapse_row, made_by, may_call, next}
+use Rattle.slots.specs.Runs.{at_row, is_resting, lapse_events, lapse_row, made_by, may_call, next, awake_after}
 use Rattle.slots.specs.Runs.Happening.{Calls, Goes, Interrupts, Lapses, Dies, Walks, Lives}
 use Rattle.slots.specs.Laws.{IsReached}
 use Rattle.slots.specs.Stands.{HasSlot, StandsAs}
@@ -26,9 +27,7 @@ use Rattle.slots.specs.Invariant.{HeirsAnswer}
 use Rattle.slots.specs.Accesses.{IsAboutIt, IsAlongList, IsAtRow}
 use Rattle.slots.specs.Each.{Assumes}
 use Rattle.slots.specs.Goes.{AssumesToo, Grants, IsAtItsRow}
-use Rattle.slots.specs.Runs.{awake_after}
 use Rattle.slots.specs.Fits.{IsOurs, Fits, GivesOurs}
-use Rattle.slots.specs.Premises.{KnowsItsTurn, HeirTakesOver, MayOwnMore, SlotsAreQuiet, Owning, Trusts}
 use Rattle.slots.proofs.Abouts.{about_it, wakes_its_own}
 use Rattle.slots.proofs.Alive.{standing_lives}
 use Rattle.slots.proofs.AllRows.{layout_run, reached_run}
@@ -51,10 +50,9 @@ use Rattle.slots.proofs.Watched.{OwnWatched, called_watched, died_watched, gone_
 use Rattle.slots.proofs.Watching.{alone_row, calm_row, free_row, heir_row}
 use Rattle.slots.proofs.Rooms.{words_sound}
 use Rattle.slots.proofs.Owned.{our_slot}
-use Rattle.protocol.proofs.Renewals.{renewed_cell}
 
--- Each row fits, each living thread is at its row, and a dead one at none. Each owns what its row says. And slots have neither
--- WAITERS nor UNUSABLE, and heirs answer
+-- Each row fits, each living thread is at its row, and a dead thread at none. Each owns what its row says, and so few mutexes
+-- as its row says, and has seen its counter as it is. Slots have neither WAITERS nor UNUSABLE, and heirs answer
 pub record Steady (x : Slots) : Type 0 where
   pub reached : IsReached x.machine
   pub fits : (t : ℕ) → 1 ≤ t → t ≤ x.machine.layout.threads → Fits x.machine.layout t (x.rows t) (x.machine.threads t).stage

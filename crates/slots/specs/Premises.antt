@@ -1,5 +1,5 @@
--- What the laws of runs still take for granted of an access, by what it is about. All else that rows assume is so in every
--- run (`PremisesFollow`).
+-- What rows assume of an access, by what it is about: what is so in every run, and what the laws of runs still take for
+-- granted (`Trusts`).
 use Rattle.std.specs.Prelude.{ℕ, ◌≡◌, ◌≢◌, ◌<◌, ◌≤◌, ◌+◌, ◌*◌, Bool, true, false, List, [], ◌∷◌}
 use Rattle.lockword.specs.Cells.{waiters_alone}
 use Rattle.memorymap.specs.Layouts.{Layout', IsLayout, cell_place, counter_place}
