@@ -101,7 +101,7 @@ static unsigned in_short(const struct pz_short *brief)
     return count;
 }
 
-/* A room around each, so that a struct that is larger there than here is seen: what lies behind it stays. */
+/* A room around each, so that a struct that is larger there than here is seen: what comes after it stays. */
 static struct {
     struct pz_call call;
     uint64_t behind_call;

@@ -57,7 +57,7 @@ static inline pid_t begin(int (*call)(void))
     return child;
 }
 
-/* It sleeps in the kernel, by the state behind its name (proc_pid_stat(5)). */
+/* Whether a process sleeps in the kernel, by the state after its name (proc_pid_stat(5)). */
 static inline bool is_asleep(pid_t child)
 {
     char path[32], state = 0;
@@ -122,7 +122,7 @@ static inline void kill_it(pid_t child)
     waitpid(child, NULL, 0);
 }
 
-/* A row, in a process of its own; behind it no other is left. */
+/* Runs a row in a process of its own, and leaves no other process. */
 static inline void see(void (*row)(void))
 {
     int status;

@@ -55,7 +55,7 @@ static void killed_writer(void)
 static int lock_traced(void) { return be_traced() ?: lock(); }
 static int lock_and_unlock(void) { return lock() ?: unlock(); }
 
-/* Two sleep on the mutex, and an unlock wakes the first, which stands still then. They are begun anew where it looked by itself before. */
+/* Two sleep on the mutex, and an unlock wakes the first, which stands still then. They are started again if it polled before. */
 static void wake_the_first(pid_t *first, pid_t *second)
 {
     do {
@@ -119,7 +119,7 @@ static int lock_again_and_again(void)
     return 1;
 }
 
-/* Others are killed while they lock it, until a lock is told something else: within 5,000 kills, or never. */
+/* Others are killed while they lock it, until a lock returns something else: within 5,000 kills, or never. */
 static void killed_in_a_lock_of_a_spoiled_mutex(void)
 {
     int answer = ENOTRECOVERABLE;

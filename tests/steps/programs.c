@@ -65,7 +65,7 @@ static struct pz_access unlink_access(const struct pz_call *c, unsigned row, uin
     }
 }
 
-/* Before a call is at the cell, and behind it. */
+/* Before a call is at the cell, and after it. */
 static struct pz_access access_around(const struct pz_call *c)
 {
     const struct pz_phase *p = &c->phase.lock;
@@ -100,7 +100,7 @@ static struct pz_access access_at_cell(const struct pz_call *c)
         return sleep_on(c->cell, (uint32_t)p->x);
     case LOCK_WAKE_ALL:
         return wake(c->cell, ALL);
-    case UNLOCK_RELEASE: /* one that was told of a death and declared nothing leaves the mutex unusable */
+    case UNLOCK_RELEASE: /* a thread that learned of a death and declared nothing leaves the mutex unusable */
         return asks(PZ_XOR, c->cell, p->flag ? c->thread | OWNER_DIED | UNUSABLE : c->thread, 0, 0);
     case UNLOCK_WAKE:
         return wake(c->cell, p->flag ? ALL : 1);
@@ -340,7 +340,7 @@ static struct led after_unlink(struct caller who, const struct pz_phase *p, stru
         return goes(UNLINK_LOAD_PREVIOUS, p->flag, a.value, 0);
     case UNLINK_LOAD_PREVIOUS:
         return goes(UNLINK_STORE_NEXT, p->flag, p->x, a.value);
-    case UNLINK_STORE_NEXT: /* behind the last entry comes the head, which has no previous one */
+    case UNLINK_STORE_NEXT: /* after the last entry comes the head, which has no previous one */
         if (p->x != who.head)
             return goes(UNLINK_STORE_PREVIOUS, p->flag, p->x, p->y);
         return goes(UNLOCK_RELEASE, p->flag, 0, 0);
@@ -498,7 +498,7 @@ static struct led after_on_condition(struct caller who, const struct pz_cond_pha
 
 static const struct pz_row walk_ended;
 
-/* The next entry; at the list's end, and behind as many as a thread holds at most, the pending one. */
+/* The next entry; at the list's end, and after as many as a thread holds at most, the pending one. */
 static struct pz_row forward(uint64_t head, const struct pz_row *r)
 {
     if (r->entry != head && r->loaded != HELD)
@@ -765,7 +765,7 @@ uint32_t pz_step(struct pz_call *c, struct pz_access *x, uint32_t answer, uint64
     return told(x, led.at.lock.kind == ENDED, access_on_mutex(c), led.point, led.operation);
 }
 
-/* A lock that sleeps stands at its sleep, or where it goes on from it. It never had the mutex, and its entry, which is
+/* A lock that sleeps is at its sleep, or where it goes on from it. It never had the mutex, and its entry, which is
  * pending, is to be cleared. */
 uint32_t pz_expire(struct pz_call *c, struct pz_access *x)
 {
