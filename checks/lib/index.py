@@ -23,7 +23,7 @@ HEAD = """# Index of laws and definitions
 
 What each crate is; its *laws*, which are public functions with an empty body whose contract is the statement; and its
 *definitions*, which contracts name. A law's words here are the beginning of its comment: the contract says it whole.
-Paths are below the crate. [THEOREM](THEOREM.md) has the laws of the machine together, [TESTED](TESTED.md) what is only tested.
+It is in `src/laws.rt`, unless another file is named; paths are below the crate. [THEOREM](THEOREM.md) has the laws of the machine together, [TESTED](TESTED.md) what is only tested.
 """
 LAW = re.compile(r"((?:^///.*\n)+)(?:#\[.*\n)*pub fn (\w+)(?:<.*>)?\(.*\)\n((?:    .*\n)*?)\{\}", re.MULTILINE)
 DEFINITION = re.compile(r"^\s*-- \*([A-Z][^*]+?)\.?\*", re.MULTILINE)
@@ -64,11 +64,16 @@ def definitions(crate):
             yield path.split(f"{crate}/specs/", 1)[1], names
 
 
+def place(path):
+    """Where a law is, if not in the usual file."""
+    return "" if path == "src/laws.rt" else f" (`{path}`)"
+
+
 def section(crate):
     root = next(it for it in (f"crates/{crate}/src/lib.rt", f"crates/{crate}/src/main.rt") if os.path.exists(it))
     head = re.match(r"(?://!.*\n)+", read(root))
     lines = [f"## {crate}\n", f"{first_sentence(head[0], '//!')}.\n" if head else ""]
-    found = [f"- `{name}` (`{path}`): {words}." for name, path, words in laws(crate)]
+    found = [f"- `{name}`{place(path)}: {words}." for name, path, words in laws(crate)]
     named = [f"{', '.join(names)} (`{path}`)" for path, names in definitions(crate)]
     if found:
         lines += [*found, ""]
