@@ -23,7 +23,8 @@ HEAD = """# Index of laws and definitions
 
 What each crate is; its *laws*, which are public functions with an empty body whose contract is the statement; and its
 *definitions*, which contracts name. A law's words here are the beginning of its comment: the contract says it whole.
-It is in `src/laws.rt`, unless another file is named; paths are below the crate. [THEOREM](THEOREM.md) has the laws of the machine together, [TESTED](TESTED.md) what is only tested.
+It is in `src/laws.rt`, unless another file is named; paths are below the crate. [THEOREM](THEOREM.md) has the laws of the
+machine together, [TESTED](TESTED.md) what is only tested.
 """
 LAW = re.compile(r"((?:^///.*\n)+)(?:#\[.*\n)*pub fn (\w+)(?:<.*>)?\(.*\)\n((?:    .*\n)*?)\{\}", re.MULTILINE)
 DEFINITION = re.compile(r"^\s*-- \*([A-Z][^*]+?)\.?\*", re.MULTILINE)
