@@ -12,7 +12,7 @@ use completing::{Pass, Stop};
 use facts::Fact;
 use histories::{Entry, Head, HistoryLine};
 use lockword::Reply;
-use refuting::refutes;
+use refuting::{refutes, refutes_by_kills};
 use std::alloc::{AllocError, Global};
 
 /// What a history is found to be.
@@ -127,8 +127,8 @@ fn first_without(alloc: Global, head: &Head, lines: &[HistoryLine]) -> Result<us
     Ok(low)
 }
 
-/// Whether the lines up to this place and the one there are refuted: by the mutex of the call that returns there, or by
-/// the thread's own lines.
+/// Whether the lines up to this place and the one there are refuted: by the mutex of the call that returns there, by the
+/// thread's own lines, or by the moments at which a doomed thread may have been killed.
 fn is_refuted(
     alloc: Global,
     head: &Head,
@@ -145,7 +145,8 @@ fn is_refuted(
         Reason::NoOrder { mutex, .. } => mutex,
         Reason::OutOfTurn(_) => 0,
     };
-    let refuted = refutes(alloc, head, &lines[..at + 1], mutex)?;
+    let refuted = refutes(alloc, head, &lines[..at + 1], mutex)?
+        || refutes_by_kills(alloc, head, &lines[..at + 1])?;
     Ok(refuted)
 }
 

@@ -3,7 +3,8 @@
 //! [`judge`] answers that a history is legal, with a certificate: steps that were checked one by one (`certificates`), a
 //! trace that shows the history. So what it finds legal is legal. It answers that a history is illegal at a line; then
 //! the lines before that have a certificate, too, and with it they were refuted (`refuting`): no trace shows them. So
-//! what it finds illegal is illegal. Else it answers that a history isn't decided at a line.
+//! what it finds illegal is illegal. Else it answers that a history isn't decided at a line. If it finds no certificate
+//! for doomed threads, it tries the moments at which they may have been killed (`kills`); so does `refuting`.
 //!
 //! Why a line is illegal is read off its thread's own lines (`specs/Reasons.antt`), not told by the search: it is out
 //! of turn, or a return of the call that is named. A law says that these are so ([`reasons_hold`]), and another one
@@ -28,6 +29,7 @@
 mod certificate;
 mod evidence;
 mod judging;
+mod kills;
 mod laws;
 mod reason;
 mod replies;

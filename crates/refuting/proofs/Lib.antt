@@ -14,3 +14,5 @@ pub mod Beginning
 pub mod Going
 pub mod Counting
 pub mod Tallying
+pub mod Killing
+pub mod Cases

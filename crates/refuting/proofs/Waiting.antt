@@ -23,7 +23,6 @@ use Rattle.verdict.specs.Stages.{May, next, pointed}
 use Rattle.verdict.proofs.Chances.{waited_next}
 use Rattle.histories.specs.Histories.{is_hidden}
 use Rattle.refuting.specs.declared.state.Call.{Call}
-use Rattle.refuting.specs.declared.state.Made.TheVariants.{Nothing}
 use Rattle.refuting.specs.declared.state.State.{State}
 use Rattle.refuting.specs.declared.turn.Turn.{Turn}
 use Rattle.refuting.specs.declared.turn.Turn.TheVariants.{Resting, Calling, Dying}

@@ -6,7 +6,7 @@
 -- its time limit came, it has seen another owner, if there was one since the call began. Each trace that shows the lines
 -- has such a state (`Follows`): so where there is none, no trace shows them. And each thread owns as many mutexes as its
 -- lines say.
-use Rattle.std.specs.Prelude.{ℕ, ◌≡◌, ◌≢◌, ◌+◌, ◌<◌, ◌==◌, ◌⊎◌, Bool, true, Option, Some, List, [], ◌∷◌, length}
+use Rattle.std.specs.Prelude.{ℕ, ◌≡◌, ◌≢◌, ◌<◌, ◌==◌, ◌⊎◌, Bool, true, Option, Some, List, [], ◌∷◌, length}
 use Rattle.std.specs.Prelude.{Contains, MatchBool, slice_set, if◌then◌else◌}
 use Rattle.std.specs.Option.{is_some}
 use Rattle.lockword.specs.declared.reply.Reply.{Reply}

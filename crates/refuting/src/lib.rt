@@ -11,7 +11,8 @@
 //! How many mutexes a thread owns is counted by its own lines: who owns 2,048 gets X_HELD, and nobody else.
 //!
 //! Else it takes mutexes one by one, so it may miss what is wrong with several together: that a doomed thread died in
-//! time for all of them. That it refutes each illegal history isn't proved.
+//! time for all of them. [`refutes_by_kills`] refutes that: it tries each moment at which one of the doomed threads may
+//! have been killed, and has each refuted by some mutex. That each illegal history is refuted isn't proved.
 //!
 //! Depends on `histories`, for a history's lines and what a legal one is, on `verdict`, for the rules of a trace's lines,
 //! on `facts`, for what lines say, on `posixmutex`, for mutexes as objects, and on `lockword`, for thread ids and
@@ -25,6 +26,7 @@
 
 mod closing;
 mod counts;
+mod kills;
 mod refuter;
 mod refuting;
 mod replies;
@@ -32,4 +34,5 @@ mod state;
 mod steps;
 mod turn;
 
+pub use kills::refutes_by_kills;
 pub use refuting::refutes;
