@@ -6,8 +6,8 @@ use Rattle.lockword.specs.declared.reply.Reply.TheVariants.{OK, EPERM, EBUSY, EI
 use Rattle.posixmutex.specs.declared.object.Object.{Object}
 use Rattle.posixmutex.specs.declared.point.Operation.{Operation}
 use Rattle.posixmutex.specs.declared.point.Operation.TheVariants.{Lock, TryLock, TimedLock, Unlock, Consistent, Wait, TimedWait, Signal, Broadcast, Death, Reinit}
-use Rattle.posixmutex.specs.Objects.{Permits, declared_consistent, freed, fresh, owned_by}
-use Rattle.judge.specs.Evidence.{ChangesAreTheObjects, gets, leaves}
+use Rattle.posixmutex.specs.Objects.{Permits, bereaved, declared_consistent, freed, fresh, owned_by}
+use Rattle.judge.specs.Evidence.{ChangesAreTheObjects, declares, gets, leaves}
 
 -- it is so, or it isn't
 so : {P : Type 0} → P → Decides true P
@@ -115,5 +115,48 @@ left_so o t ENOTRECOVERABLE n other p = (so (kept_off o n t other p.1), so (kept
 left_so o t EDEADLK n other p = absurd (other p.0)
 left_so o t x n other p = absurd p
 
+-- it was inconsistent, isn't any more, and is the thread's
+abbrev IsDeclared : Object → Object → ℕ → Type 0
+IsDeclared o n t = (o.inconsistent ≡ true) × (n.inconsistent ≡ false) × (n.owner ≡ Some t)
+
+inconsistent_of : (n o : Object) → n ≡ o → n.inconsistent ≡ o.inconsistent
+inconsistent_of n o is = ap (λ (p : Object). p.inconsistent) is
+
+-- nothing changes, or who owns it alone
+kept_so : (o n : Object) (t : ℕ) → n.inconsistent ≡ o.inconsistent → Decides false (IsDeclared o n t)
+kept_so o n t same = not_so (λ d. let no : true ≡ false = sym d.0 ∙ sym same ∙ d.1 in absurd cc)
+
+-- nobody owns it then
+left_by : (o n : Object) (t : ℕ) → n.owner ≡ None → Decides false (IsDeclared o n t)
+left_by o n t none = not_so (λ d. let no : None ≡ Some t = sym none ∙ d.2 in absurd cc)
+
+declared_so : (o : Object) (t : ℕ) (op : Operation) (x : Reply) (n : Object) → Permits o t op x n → Decides (declares op x) (IsDeclared o n t)
+declared_so o t Lock OK n p = kept_so o n t (inconsistent_of n (owned_by o t) p.3)
+declared_so o t Lock EOWNERDEAD n p = kept_so o n t (inconsistent_of n (owned_by o t) p.3)
+declared_so o t Lock ENOTRECOVERABLE n p = kept_so o n t (inconsistent_of n o p.1)
+declared_so o t Lock EDEADLK n p = kept_so o n t (inconsistent_of n o p.1)
+declared_so o t TryLock OK n p = kept_so o n t (inconsistent_of n (owned_by o t) p.3)
+declared_so o t TryLock EOWNERDEAD n p = kept_so o n t (inconsistent_of n (owned_by o t) p.3)
+declared_so o t TryLock ENOTRECOVERABLE n p = kept_so o n t (inconsistent_of n o p.1)
+declared_so o t TryLock EBUSY n p = kept_so o n t (inconsistent_of n o p.1)
+declared_so o t TryLock XRACED n p = kept_so o n t (inconsistent_of n o p.2)
+declared_so o t TimedLock ETIMEDOUT n p = kept_so o n t (inconsistent_of n o p)
+declared_so o t Unlock OK n p = left_by o n t (owner_of n (freed o) p.1)
+declared_so o t Unlock EPERM n p = kept_so o n t (inconsistent_of n o p.1)
+declared_so o t Consistent OK n p = so (p.1, inconsistent_of n (declared_consistent o) p.2, owner_of n (declared_consistent o) p.2 ∙ p.0)
+declared_so o t Consistent EINVAL n p = kept_so o n t (inconsistent_of n o p.2)
+declared_so o t Consistent EPERM n p = kept_so o n t (inconsistent_of n o p.1)
+declared_so o t Wait XSTATE n p = kept_so o n t (inconsistent_of n o p.2)
+declared_so o t Wait EPERM n p = kept_so o n t (inconsistent_of n o p.1)
+declared_so o t Signal OK n p = kept_so o n t (inconsistent_of n o p.1)
+declared_so o t Signal XFULL n p = kept_so o n t (inconsistent_of n o p.1)
+declared_so o t Signal EPERM n p = kept_so o n t (inconsistent_of n o p.1)
+declared_so o t Broadcast OK n p = kept_so o n t (inconsistent_of n o p.1)
+declared_so o t Broadcast XFULL n p = kept_so o n t (inconsistent_of n o p.1)
+declared_so o t Broadcast EPERM n p = kept_so o n t (inconsistent_of n o p.1)
+declared_so o t Death OK n p = left_by o n t (owner_of n (bereaved o) p.1)
+declared_so o t Reinit OK n p = left_by o n t (owner_of n fresh p.2)
+declared_so o t op x n p = absurd p
+
 pub changes_so : ChangesAreTheObjects
-changes_so = record { gives_it = gets_so; gives_up = leaves_so; remade = remade_so; timed = timed_so; waits = waits_so; left = left_so; late = refl }
+changes_so = record { gives_it = gets_so; gives_up = leaves_so; remade = remade_so; timed = timed_so; waits = waits_so; left = left_so; late = refl; declared = declared_so }

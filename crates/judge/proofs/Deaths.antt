@@ -1,7 +1,6 @@
 -- Deaths that are named, and who may have owned a mutex.
 use Rattle.std.proofs.Common.{◌≡◌, ℕ, ◌+◌, ◌==◌, Bool, true, false, ◌&&◌, List, [], ◌∷◌, ◌++◌, length, if◌then◌else◌, Option, Some, None, refl, sym, ap, ◌∙◌, eq-eqb}
 use Rattle.lockword.specs.declared.reply.Reply.{Reply}
-use Rattle.posixmutex.specs.declared.point.Operation.{Operation}
 use Rattle.facts.specs.declared.fact.Begun.{Begun}
 use Rattle.facts.specs.declared.fact.Fact.TheVariants.{Begin, Return, Renew}
 use Rattle.histories.specs.declared.entry.Entry.{Entry}

@@ -10,9 +10,9 @@ use Rattle.histories.specs.declared.entry.Entry.TheVariants.{Told, Doom}
 use Rattle.judge.specs.declared.reason.Standing.{Standing}
 use Rattle.judge.specs.declared.reason.Standing.TheVariants.{Resting, Calling, Dead, Reaped}
 use Rattle.judge.specs.declared.evidence.Change.{Change}
-use Rattle.judge.specs.declared.evidence.Change.TheVariants.{Gets, Leaves}
+use Rattle.judge.specs.declared.evidence.Change.TheVariants.{Gets, Declares, Leaves}
 use Rattle.judge.specs.declared.evidence.EarlierReply.{EarlierReply}
-use Rattle.judge.specs.Evidence.{EvidenceIsNewest, IsChange, IsNewestChange, IsNewestOrNone, NoChange, changed_by, changes, first_of, left_since, reply_at, reply_behind}
+use Rattle.judge.specs.Evidence.{EvidenceIsNewest, IsChange, IsNewestChange, IsNewestOrNone, NamesSince, NoChange, changed_by, changes, first_of, reply_at, reply_behind, since}
 use Rattle.judge.specs.Reasons.{standing_behind}
 use Rattle.judge.proofs.Truths.{Found, found, says}
 
@@ -128,28 +128,72 @@ newest k m (e ∷ es) = by_line (reply_at k m e es (length es + 1)) refl (newest
     by_line (Some r) is old = record { later = []; line = e; earlier = es; all = refl; is_change = is_change k m e es r is; none_later = none_after k m e es }
     by_line None is old = more k m e es (reply_behind k m es) (unnamed k m e es is) old
 
--- ---- who left it since
+-- there is one newest change
+module _ (k : Change) (m : ℕ) where
+  abbrev NoneIn : List Entry → Entry → List Entry → Type 0
+  NoneIn later line earlier = (last : List Entry) (e : Entry) (between : List Entry) (s : EarlierReply) → later ≡ last ++ e ∷ between → IsChange k m e (between ++ line ∷ earlier) s → ⊥
 
-abbrev IsLeftSince : ℕ → List Entry → Option EarlierReply → EarlierReply → Type 0
-IsLeftSince m es got r = IsNewestChange Leaves m es r × ((g : EarlierReply) → got ≡ Some g → g.place < r.place)
+  -- this one would be later than the other
+  later_yet : (x l1 : Entry) (e1 ys : List Entry) (l2 : Entry) (e2 : List Entry) (r : EarlierReply) → l1 ∷ e1 ≡ x ∷ (ys ++ l2 ∷ e2) → IsChange k m l1 e1 r → NoneIn (x ∷ ys) l2 e2 → ⊥
+  later_yet x l1 e1 ys l2 e2 r is c none =
+      let first : l1 ≡ x = cc in
+      let rest : e1 ≡ ys ++ l2 ∷ e2 = cc in
+      none [] x ys r refl (subst (λ (l : Entry). IsChange k m l (ys ++ l2 ∷ e2) r) first (subst (λ (es : List Entry). IsChange k m l1 es r) rest c))
 
-since : (m : ℕ) (es : List Entry) (got left : Option EarlierReply) (r : EarlierReply) → IsNewestOrNone Leaves m es left → left_since got left ≡ Some r → IsLeftSince m es got r
-since m es None None r n is = let no : None ≡ Some r = is in absurd cc
-since m es None (Some l) r n is =
-    let same : l ≡ r = cc in
-    (subst (IsNewestChange Leaves m es) same n, λ g no. let never : None ≡ Some g = no in absurd cc)
-since m es (Some g) None r n is = let no : None ≡ Some r = is in absurd cc
-since m es (Some g) (Some l) r n is = go (nat_lt g.place l.place) refl is
-  where
-    go : (b : Bool) → nat_lt g.place l.place ≡ b → (if b then Some l else None) ≡ Some r → IsLeftSince m es (Some g) r
-    go false less is = let no : None ≡ Some r = is in absurd cc
-    go true less is =
-        let same : l ≡ r = cc in
-        let first : g.place < l.place = grind (arith, nat_tests) in
-        subst (IsLeftSince m es (Some g)) same (n, λ h it. let one : h ≡ g = cc in subst (λ (q : EarlierReply). q.place < l.place) (sym one) first)
+  same_place : (later1 later2 : List Entry) (l1 l2 : Entry) (e1 e2 : List Entry) (r s : EarlierReply) → later1 ++ l1 ∷ e1 ≡ later2 ++ l2 ∷ e2 → IsChange k m l1 e1 r → IsChange k m l2 e2 s → NoneIn later1 l1 e1 → NoneIn later2 l2 e2 → r.place ≡ s.place
+  same_place [] [] l1 l2 e1 e2 r s is c d none1 none2 =
+      let all : l1 ∷ e1 ≡ l2 ∷ e2 = is in
+      let rest : e1 ≡ e2 = cc in
+      c.place ∙ ap (λ (es : List Entry). length es + 1) rest ∙ sym d.place
+  same_place [] (x ∷ ys) l1 l2 e1 e2 r s is c d none1 none2 = absurd (later_yet x l1 e1 ys l2 e2 r is c none2)
+  same_place (x ∷ xs) [] l1 l2 e1 e2 r s is c d none1 none2 = absurd (later_yet x l2 e2 xs l1 e1 s (sym is) d none1)
+  same_place (x ∷ xs) (y ∷ ys) l1 l2 e1 e2 r s is c d none1 none2 =
+      let all : x ∷ (xs ++ l1 ∷ e1) ≡ y ∷ (ys ++ l2 ∷ e2) = is in
+      let rest : xs ++ l1 ∷ e1 ≡ ys ++ l2 ∷ e2 = cc in
+      same_place xs ys l1 l2 e1 e2 r s rest c d
+      (λ last e between q it. none1 (x ∷ last) e between q (ap (λ (es : List Entry). x ∷ es) it))
+      (λ last e between q it. none2 (y ∷ last) e between q (ap (λ (es : List Entry). y ∷ es) it))
+
+-- ---- what changed it since
+
+module _ (k : Change) (m : ℕ) (es : List Entry) where
+  abbrev IsNewer : Option EarlierReply → EarlierReply → Type 0
+  IsNewer got r = IsNewestChange k m es r × ((g : EarlierReply) → got ≡ Some g → g.place < r.place)
+
+  newer : (got last : Option EarlierReply) (r : EarlierReply) → IsNewestOrNone k m es last → since got last ≡ Some r → IsNewer got r
+  newer None None r n is = let no : None ≡ Some r = is in absurd cc
+  newer None (Some l) r n is =
+      let same : l ≡ r = cc in
+      (subst (IsNewestChange k m es) same n, λ g no. let never : None ≡ Some g = no in absurd cc)
+  newer (Some g) None r n is = let no : None ≡ Some r = is in absurd cc
+  newer (Some g) (Some l) r n is = go (nat_lt g.place l.place) refl is
+    where
+      go : (b : Bool) → nat_lt g.place l.place ≡ b → (if b then Some l else None) ≡ Some r → IsNewer (Some g) r
+      go false less is = let no : None ≡ Some r = is in absurd cc
+      go true less is =
+          let same : l ≡ r = cc in
+          let first : g.place < l.place = grind (arith, nat_tests) in
+          subst (IsNewer (Some g)) same (n, λ h it. let one : h ≡ g = cc in subst (λ (q : EarlierReply). q.place < l.place) (sym one) first)
+
+  -- none is named, so there is none
+  none_newer : (got last : Option EarlierReply) → IsNewestOrNone k m es last → since got last ≡ None → (r : EarlierReply) → IsNewer got r → ⊥
+  none_newer None None n is r it = n it.0.later it.0.line it.0.earlier r it.0.all it.0.is_change
+  none_newer None (Some l) n is r it = let no : Some l ≡ None = is in absurd cc
+  none_newer (Some g) None n is r it = n it.0.later it.0.line it.0.earlier r it.0.all it.0.is_change
+  none_newer (Some g) (Some l) n is r it = go (nat_lt g.place l.place) refl is
+    where
+      go : (b : Bool) → nat_lt g.place l.place ≡ b → (if b then Some l else None) ≡ None → ⊥
+      go true less is = let no : Some l ≡ None = is in absurd cc
+      go false less is =
+          let same : r.place ≡ l.place = same_place k m it.0.later n.later it.0.line n.line it.0.earlier n.earlier r l (sym it.0.all ∙ n.all) it.0.is_change n.is_change it.0.none_later n.none_later in
+          let first : g.place < l.place = subst (λ (p : ℕ). g.place < p) same (it.1 g refl) in
+          grind (arith, nat_tests)
+
+names_so : (k : Change) (m : ℕ) (es : List Entry) → NamesSince k m es (since (reply_behind Gets m es) (reply_behind k m es))
+names_so k m es = record {
+  some = λ r is. newer k m es (reply_behind Gets m es) (reply_behind k m es) r (newest k m es) is;
+  none = λ is r it. none_newer k m es (reply_behind Gets m es) (reply_behind k m es) (newest k m es) is r it;
+}
 
 pub newest_so : EvidenceIsNewest
-newest_so = record {
-  got = λ m es. newest Gets m es;
-  left = λ m es r is. since m es (reply_behind Gets m es) (reply_behind Leaves m es) r (newest Leaves m es) is;
-}
+newest_so = record { got = λ m es. newest Gets m es; declared = names_so Declares; left = names_so Leaves }

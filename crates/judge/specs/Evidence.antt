@@ -1,8 +1,9 @@
--- Which earlier lines say how a mutex stood: who got it, who left it, and who may have owned it and died.
+-- Which earlier lines say how a mutex stood: who got it, who declared it consistent, who left it, and who may have owned
+-- it and died.
 --
 -- *Who gets and who leaves a mutex.* A lock or a wait that returns OK or EOWNERDEAD gives its thread the mutex, and so does
 -- a wait whose time limit came. An unlock that returns OK leaves it, and so do a wait that returns ENOTRECOVERABLE, whose
--- thread had unlocked it, and the call that reinitialises it.
+-- thread had unlocked it, and the call that reinitialises it. A `consistent` that returns OK declares it consistent.
 --
 -- *Who may own a mutex.* A thread in a call on it; or one whose newest reply that changed the mutex gave it the mutex,
 -- in this life.
@@ -14,7 +15,8 @@ use Rattle.std.specs.Prelude.{List, [], ◌∷◌, ◌++◌, length, if◌then�
 use Rattle.lockword.specs.declared.reply.Reply.{Reply}
 use Rattle.lockword.specs.declared.reply.Reply.TheVariants.{OK, ETIMEDOUT, EOWNERDEAD, ENOTRECOVERABLE}
 use Rattle.posixmutex.specs.declared.point.Operation.{Operation}
-use Rattle.posixmutex.specs.declared.point.Operation.TheVariants.{Lock, TryLock, TimedLock, Unlock, Wait, TimedWait, Death, Reinit}
+use Rattle.posixmutex.specs.declared.point.Operation.TheVariants.{Lock, TryLock, TimedLock, Unlock, Consistent, Wait, TimedWait}
+use Rattle.posixmutex.specs.declared.point.Operation.TheVariants.{Death, Reinit}
 use Rattle.posixmutex.specs.declared.object.Object.{Object}
 use Rattle.posixmutex.specs.Objects.{Permits}
 use Rattle.facts.specs.declared.fact.Begun.{Begun}
@@ -25,7 +27,7 @@ use Rattle.certificates.specs.Certificates.{whose}
 use Rattle.judge.specs.declared.reason.Standing.{Standing}
 use Rattle.judge.specs.declared.reason.Standing.TheVariants.{Calling}
 use Rattle.judge.specs.declared.evidence.Change.{Change}
-use Rattle.judge.specs.declared.evidence.Change.TheVariants.{Gets, Leaves}
+use Rattle.judge.specs.declared.evidence.Change.TheVariants.{Gets, Declares, Leaves}
 use Rattle.judge.specs.declared.evidence.EarlierReply.{EarlierReply}
 use Rattle.judge.specs.declared.evidence.Evidence.{Evidence}
 use Rattle.judge.specs.Reasons.{IsNewest, dies, standing_behind}
@@ -66,8 +68,13 @@ leaves Wait x = is_spoilt x
 leaves TimedWait x = is_spoilt x
 leaves op x = false
 
+abbrev pub declares : Operation → Reply → Bool
+declares Consistent x = is_ok x
+declares op x = false
+
 abbrev pub changes : Change → Operation → Reply → Bool
 changes Gets op x = gets op x
+changes Declares op x = declares op x
 changes Leaves op x = leaves op x
 
 -- ---- who may own it
@@ -145,17 +152,18 @@ abbrev pub reply_behind : Change → ℕ → List Entry → Option EarlierReply
 reply_behind k m [] = None
 reply_behind k m (e ∷ es) = first_of (reply_at k m e es (length es + 1)) (reply_behind k m es)
 
--- the reply that left the mutex, where none that gave it is newer
-abbrev pub left_since : Option EarlierReply → Option EarlierReply → Option EarlierReply
-left_since None left = left
-left_since (Some got) None = None
-left_since (Some got) (Some left) = if nat_lt got.place left.place then Some left else None
+-- a reply that changed the mutex otherwise, unless the one that gave it is newer
+abbrev pub since : Option EarlierReply → Option EarlierReply → Option EarlierReply
+since None newest = newest
+since (Some got) None = None
+since (Some got) (Some newest) = if nat_lt got.place newest.place then Some newest else None
 
 abbrev pub evidence_of : ℕ → List Entry → Evidence
 evidence_of m es = record {
   death = death_behind m es;
   got = reply_behind Gets m es;
-  left = left_since (reply_behind Gets m es) (reply_behind Leaves m es);
+  declared = since (reply_behind Gets m es) (reply_behind Declares m es);
+  left = since (reply_behind Gets m es) (reply_behind Leaves m es);
 }
 
 -- ---- what a reply did to the mutex's object
@@ -163,7 +171,8 @@ evidence_of m es = record {
 -- at a call's own step of the object, a reply gives its thread the mutex exactly if the thread owns it then and didn't
 -- before; and an owner's reply leaves the mutex exactly if nobody owns it then. The lock that ends a wait, and that of a
 -- call with a time limit, is a lock; a wait that doesn't own its mutex after that has left it; and a wait whose time limit
--- came has it
+-- came has it. A reply declares the mutex consistent exactly if the mutex was inconsistent and isn't then, and the thread
+-- owns it still
 pub record ChangesAreTheObjects : Type 0 where
   pub gives_it : (o : Object) (t : ℕ) (op : Operation) (x : Reply) (n : Object) → op ≢ Death → o.owner ≢ Some t
       → Permits o t op x n → Decides (gets op x) (n.owner ≡ Some t)
@@ -177,6 +186,8 @@ pub record ChangesAreTheObjects : Type 0 where
   pub left : (o : Object) (t : ℕ) (x : Reply) (n : Object) → o.owner ≢ Some t → Permits o t Lock x n
       → Decides (leaves Wait x) (n.owner ≢ Some t) × Decides (leaves TimedWait x) (n.owner ≢ Some t)
   pub late : gets TimedWait ETIMEDOUT ≡ true
+  pub declared : (o : Object) (t : ℕ) (op : Operation) (x : Reply) (n : Object) → Permits o t op x n
+      → Decides (declares op x) ((o.inconsistent ≡ true) × (n.inconsistent ≡ false) × (n.owner ≡ Some t))
 
 -- ---- the newest lines
 
@@ -208,11 +219,21 @@ abbrev pub IsNewestOrNone : Change → ℕ → List Entry → Option EarlierRepl
 IsNewestOrNone k m es (Some r) = IsNewestChange k m es r
 IsNewestOrNone k m es None = NoChange k m es
 
--- who got the mutex last; and who left it, if that is newer
+-- this reply is the newest one that changed the mutex so, and newer than the one that gave it
+abbrev pub IsSince : Change → ℕ → List Entry → EarlierReply → Type 0
+IsSince k m es r =
+    IsNewestChange k m es r × ((g : EarlierReply) → (evidence_of m es).got ≡ Some g → g.place < r.place)
+
+-- what is named is such a reply; if none is named, there is none
+pub record NamesSince (k : Change) (m : ℕ) (es : List Entry) (named : Option EarlierReply) : Type 0 where
+  pub some : (r : EarlierReply) → named ≡ Some r → IsSince k m es r
+  pub none : named ≡ None → (r : EarlierReply) → IsSince k m es r → ⊥
+
+-- who got the mutex last; and who declared it consistent, and who left it, if that is newer
 pub record EvidenceIsNewest : Type 0 where
   pub got : (m : ℕ) (es : List Entry) → IsNewestOrNone Gets m es (evidence_of m es).got
-  pub left : (m : ℕ) (es : List Entry) (r : EarlierReply) → (evidence_of m es).left ≡ Some r
-      → IsNewestChange Leaves m es r × ((g : EarlierReply) → (evidence_of m es).got ≡ Some g → g.place < r.place)
+  pub declared : (m : ℕ) (es : List Entry) → NamesSince Declares m es (evidence_of m es).declared
+  pub left : (m : ℕ) (es : List Entry) → NamesSince Leaves m es (evidence_of m es).left
 
 -- the line that is named for a death tells of one, of a thread that may have owned the mutex, and is the newest such line;
 -- a thread in a call on a mutex may own it, and so may one whose newest line is a reply of such a call that gave it the mutex

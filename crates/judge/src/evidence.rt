@@ -2,9 +2,9 @@
 
 ghost use Rattle.std.specs.Prelude.{◌≡◌, reverse};
 ghost use Rattle.certificates.specs.Certificates.{entries};
-ghost use Rattle.judge.specs.Evidence.{changed_by, changes, death_behind, evidence_of, gets, gives, is_calling, is_death};
-ghost use Rattle.judge.specs.Evidence.{leaves, left_since, may_own, owned, owned_after, owned_at, owned_by};
-ghost use Rattle.judge.specs.Evidence.{reply_at, reply_behind, reply_by};
+ghost use Rattle.judge.specs.Evidence.{changed_by, changes, death_behind, declares, evidence_of, gets, gives, is_calling};
+ghost use Rattle.judge.specs.Evidence.{is_death, leaves, may_own, owned, owned_after, owned_at, owned_by};
+ghost use Rattle.judge.specs.Evidence.{reply_at, reply_behind, reply_by, since};
 ghost use Rattle.judge.specs.Reasons.{dies};
 
 use crate::reason::{Standing, standing_behind, whose};
@@ -18,6 +18,8 @@ use posixmutex::Operation;
 pub enum Change {
     /// The thread owns the mutex now.
     Gets,
+    /// The mutex is consistent now.
+    Declares,
     /// The thread doesn't own the mutex any more.
     Leaves,
 }
@@ -39,6 +41,8 @@ pub struct Evidence {
     pub death: Option<usize>,
     /// The reply by which a thread got it.
     pub got: Option<EarlierReply>,
+    /// The reply by which a thread declared it consistent, if that is newer.
+    pub declared: Option<EarlierReply>,
     /// The reply by which a thread left it, if that is newer.
     pub left: Option<EarlierReply>,
 }
@@ -74,11 +78,22 @@ fn leaves(operation: Operation, reply: Reply) -> bool
     }
 }
 
+/// Whether the thread declares the mutex consistent by this reply.
+fn declares(operation: Operation, reply: Reply) -> bool
+    ensures { result ≡ declares operation reply }
+{
+    match operation {
+        Operation::Consistent => matches!(reply, Reply::OK),
+        _ => false,
+    }
+}
+
 fn changes(change: Change, operation: Operation, reply: Reply) -> bool
     ensures { result ≡ changes change operation reply }
 {
     match change {
         Change::Gets => gets(operation, reply),
+        Change::Declares => declares(operation, reply),
         Change::Leaves => leaves(operation, reply),
     }
 }
@@ -276,17 +291,17 @@ fn reply_behind(lines: &[HistoryLine], mutex: u16, change: Change) -> Option<Ear
     None
 }
 
-/// The reply that left the mutex, where none that gave it is newer.
-fn left_since(got: &Option<EarlierReply>, left: &Option<EarlierReply>) -> Option<EarlierReply>
-    ensures { result ≡ left_since got.now left.now }
+/// The newest reply that changed the mutex otherwise, unless the one that gave it is newer.
+fn since(got: &Option<EarlierReply>, newest: &Option<EarlierReply>) -> Option<EarlierReply>
+    ensures { result ≡ since got.now newest.now }
 {
     match got {
-        None => *left,
-        Some(got) => match left {
+        None => *newest,
+        Some(got) => match newest {
             None => None,
-            Some(left) => {
-                if got.place < left.place {
-                    Some(*left)
+            Some(newest) => {
+                if got.place < newest.place {
+                    Some(*newest)
                 } else {
                     None
                 }
@@ -296,13 +311,18 @@ fn left_since(got: &Option<EarlierReply>, left: &Option<EarlierReply>) -> Option
 }
 
 /// The newest of these lines that say how the mutex stood: the death of a thread that may have owned it, and the replies
-/// by which one got it and left it since.
+/// by which one got it, and declared it consistent and left it since.
 pub fn evidence_of(lines: &[HistoryLine], mutex: u16) -> Evidence
     ensures { result ≡ evidence_of mutex (reverse (entries lines.now)) }
 {
     let death = death_behind(lines, mutex);
     let got = reply_behind(lines, mutex, Change::Gets);
-    let newest = reply_behind(lines, mutex, Change::Leaves);
-    let left = left_since(&got, &newest);
-    Evidence { death, got, left }
+    let declared = since(&got, &reply_behind(lines, mutex, Change::Declares));
+    let left = since(&got, &reply_behind(lines, mutex, Change::Leaves));
+    Evidence {
+        death,
+        got,
+        declared,
+        left,
+    }
 }

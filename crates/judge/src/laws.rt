@@ -23,13 +23,14 @@ pub fn points_have_these_replies()
 {}
 
 /// The replies that are named for giving a thread a mutex are those after whose step of the mutex's object the thread owns
-/// it, and those that are named for leaving it are those after which nobody does, or a wait's thread doesn't.
+/// it, and those that are named for leaving it are those after which nobody does, or a wait's thread doesn't. Those that are
+/// named for declaring it consistent are those that make an inconsistent mutex consistent, whose thread owns it still.
 pub fn changes_are_the_objects()
     ensures { ChangesAreTheObjects }
 {}
 
-/// The line that is named for giving a thread a mutex is the newest one that did, if any did; and the one that is named for
-/// leaving it is the newest one that did, and newer.
+/// The line that is named for giving a thread a mutex is the newest one that did, if any did. The one that is named for
+/// declaring it consistent is the newest one that did, and newer; so is the one that is named for leaving it.
 pub fn evidence_is_newest()
     ensures { EvidenceIsNewest }
 {}

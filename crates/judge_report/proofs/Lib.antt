@@ -11,3 +11,5 @@ pub mod Naming
 pub mod Turning
 pub mod Quoting
 pub mod Faulty
+pub mod Traced
+pub mod Notes

@@ -1,7 +1,7 @@
 -- What holds of whatever the program says, in the words of who reads it.
-use Rattle.std.specs.Prelude.{ℕ, ◌≡◌, ◌≢◌, ◌<◌, ◌≤◌, ◌+◌, ◌^◌, ◌⊎◌, Bool, true, false, List, [], ◌∷◌, ◌++◌, length, reverse, take}
+use Rattle.std.specs.Prelude.{ℕ, ◌≡◌, ◌≢◌, ◌<◌, ◌≤◌, ◌+◌, ◌-◌, ◌^◌, ◌⊎◌, Bool, true, false, List, [], ◌∷◌, ◌++◌, length, reverse, take}
 use Rattle.std.specs.Prelude.{codes, decimal, Option, Some, None, Result, Ok, Err, Vec}
-use Rattle.std.specs.List.{AllPairs, Contains}
+use Rattle.std.specs.List.{AllPairs, Contains, slice_get}
 use Rattle.std.specs.declared.alloc.Global.{Global}
 use Rattle.std.specs.declared.io.ErrorKind.{ErrorKind}
 use Rattle.std.specs.Io.KnownBytes.{Appends}
@@ -9,7 +9,10 @@ use Rattle.streams.specs.Leaves.{AppendsFront}
 use Rattle.streams.specs.Words.{is_file_word}
 use Rattle.lines.specs.Lines.{lines_of}
 use Rattle.lockword.specs.declared.reply.Reply.{Reply}
+use Rattle.lockword.specs.Replies.{reply_word}
 use Rattle.lockword.specs.Threads.{named_threads}
+use Rattle.posixmutex.specs.declared.point.Operation.{Operation}
+use Rattle.posixmutex.specs.Words.{operation_word}
 use Rattle.facts.specs.declared.fact.Begun.{Begun}
 use Rattle.facts.specs.declared.fact.Fact.{Fact}
 use Rattle.verdict.specs.Earlier.{objects_after}
@@ -25,11 +28,12 @@ use Rattle.histories.specs.Reading.{IsHead, head_read, line_read}
 use Rattle.histories.specs.Written.{IsEntryOf, IsEvent, IsFactOf}
 use Rattle.certificates.specs.Certificates.{is_doomed, trace_of, whose}
 use Rattle.certificates.specs.Laws.{IsStuck}
+use Rattle.judge.specs.declared.evidence.EarlierReply.{EarlierReply}
 use Rattle.judge.specs.declared.judging.Judgement.{Judgement}
 use Rattle.judge.specs.declared.judging.Judgement.TheVariants.{Legal, Illegal}
 use Rattle.judge.specs.declared.reason.OutOfTurn.{OutOfTurn as OutOfTurn'}
 use Rattle.judge.specs.declared.reason.Reason.{Reason}
-use Rattle.judge.specs.declared.reason.Reason.TheVariants.{OutOfTurn}
+use Rattle.judge.specs.declared.reason.Reason.TheVariants.{OutOfTurn, NoOrder}
 use Rattle.judge.specs.Reasons.{Newest, NotNewest, begins, dies, reaps, renews, reason_of, returns}
 use Rattle.texts.specs.Text.{fact_text}
 use Rattle.windows.specs.declared.cutting.Window.{Window}
@@ -44,7 +48,7 @@ use Rattle.judge_report.specs.Messages.{failure_text}
 use Rattle.judge_report.specs.Programs.{RunEnds}
 use Rattle.judge_report.specs.Said.{IsFirstIllegal, IsLegalBefore, IsSaid, told}
 use Rattle.judge_report.specs.Served.{IsRead}
-use Rattle.judge_report.specs.Texts.{legal_text, quote, turn_words}
+use Rattle.judge_report.specs.Texts.{death_note, evidence_notes, illegal_text, illegal_title, legal_text, quote, turn_words}
 
 -- ---- verdicts and exit statuses
 
@@ -251,3 +255,32 @@ pub record QuotesAreReadBack : Type 0 where
       × (line_read h text ≡ Ok (Told l.event (Some l.entry)))
   pub hidden : (h : Head) (i : ℕ) (f : Fact) → IsHead h → IsEvent i → is_hidden f ≡ true → IsFactOf h f
       → (text : List ℕ) × (fact_text i f ≡ text ++ codes "\n") × (line_read h text ≡ Ok (Told i None))
+
+-- ---- what is said of an illegal return
+
+-- what is said begins with the line's title and its quotation
+abbrev pub opening : HistoryLine → Reason → List ℕ
+opening l why = illegal_title l why ++ quote l
+
+-- a note on this line, which is quoted after it
+abbrev pub see_line : HistoryLine → List ℕ → List ℕ
+see_line l words = codes "  = see line " ++ (decimal l.number ++ (codes " (event " ++ (decimal l.event ++ (words ++ quote l))))
+
+-- a note on this reply, which that line tells
+abbrev pub told_so : EarlierReply → ℕ → List ℕ
+told_so r m = codes "): t" ++ (decimal r.thread ++ (codes " was told " ++ (reply_word r.reply ++ (codes " for its "
+    ++ (operation_word r.operation ++ (codes " of m" ++ (decimal m ++ codes "\n")))))))
+
+-- of an illegal return: its own thread is said to get what it could get; and the last note is on the line where its call
+-- began, before which stand those on the mutex, in the order death, who got it, who declared it consistent, who left it
+pub record NotesAreInOrder : Type 0 where
+  pub thread : (ls : List HistoryLine) (l : HistoryLine) (why : Reason) (y : Reply) (ys : List Reply)
+      → (rest : List ℕ) × (illegal_text ls l why (y ∷ ys)
+      ≡ opening l why ++ (codes "  = t" ++ (decimal (whose l.entry) ++ (codes " could be told " ++ (reply_word y ++ rest)))))
+  pub begin : (ls : List HistoryLine) (l b : HistoryLine) (op : Operation) (m n : ℕ) (x : Reply) (ys : List Reply)
+      → slice_get ls (n - 1) ≡ Some b
+      → (front : List ℕ) × (illegal_text ls l (NoOrder op m x n) ys ≡ front ++ see_line b (codes "): the call began\n"))
+  pub replies : (ls : List HistoryLine) (g d a : EarlierReply) (gl dl al : HistoryLine) (m n : ℕ)
+      → slice_get ls (g.place - 1) ≡ Some gl → slice_get ls (d.place - 1) ≡ Some dl → slice_get ls (a.place - 1) ≡ Some al
+      → evidence_notes ls m (record { death = Some n; got = Some g; declared = Some d; left = Some a })
+      ≡ death_note m (slice_get ls (n - 1)) ++ (see_line gl (told_so g m) ++ (see_line dl (told_so d m) ++ see_line al (told_so a m)))

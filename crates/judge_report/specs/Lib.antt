@@ -1,5 +1,6 @@
 pub mod Heard
 pub mod Texts
+pub mod Traces
 pub mod Asked
 pub mod Kept
 pub mod Said

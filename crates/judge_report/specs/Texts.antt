@@ -138,10 +138,11 @@ abbrev pub earlier_note : List HistoryLine → ℕ → Option EarlierReply → L
 earlier_note ls m None = []
 earlier_note ls m (Some r) = reply_note m r (slice_get ls (r.place - 1))
 
--- how the mutex stood: who died that may have owned it, who got it last, and who left it since
+-- how the mutex stood: who died that may have owned it, who got it last, and who declared it consistent and who left it
+-- since
 abbrev pub evidence_notes : List HistoryLine → ℕ → Evidence → List ℕ
-evidence_notes ls m e =
-    death_note m (line_of ls e.death) ++ (earlier_note ls m e.got ++ earlier_note ls m e.left)
+evidence_notes ls m e = death_note m (line_of ls e.death)
+    ++ (earlier_note ls m e.got ++ (earlier_note ls m e.declared ++ earlier_note ls m e.left))
 
 -- what is said of an illegal line, and after its quotation
 abbrev pub illegal_title : HistoryLine → Reason → List ℕ

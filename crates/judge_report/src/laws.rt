@@ -1,8 +1,9 @@
 //! What holds of all that the program says.
 
-ghost use Rattle.judge_report.specs.Laws.{FaultsAreAtLines, LinesAreNumbered, OptionsAreRead, OptionsWrite};
-ghost use Rattle.judge_report.specs.Laws.{QuotesAreReadBack, StatusesAreRight, TurnWordsAreSo};
+ghost use Rattle.judge_report.specs.Laws.{FaultsAreAtLines, LinesAreNumbered, NotesAreInOrder, OptionsAreRead};
+ghost use Rattle.judge_report.specs.Laws.{OptionsWrite, QuotesAreReadBack, StatusesAreRight, TurnWordsAreSo};
 ghost use Rattle.judge_report.specs.Laws.{WaitersAreNamed, WindowsAreInOrder};
+ghost use Rattle.judge_report.specs.Traces.{TracesAreWritten};
 ghost use Rattle.std.specs.Prelude.{◌≡◌};
 
 use crate::making::Maker;
@@ -46,6 +47,12 @@ pub fn options_write<M: Maker>(maker: &M)
     ensures { OptionsWrite (M.makes maker.now) (M.fills maker.now) }
 {}
 
+/// With `--trace OUT` the trace of the history is written to OUT, which [`trace_of`](crate::trace_of) returns too; or the
+/// history isn't decided, and that is reported.
+pub fn traces_are_written<M: Maker>(maker: &M)
+    ensures { TracesAreWritten (M.makes maker.now) (M.fills maker.now) }
+{}
+
 /// A certificate's windows are reported in their order: they are numbered from 1, each has the events after the last of
 /// the one before, and together they have all.
 pub fn windows_are_in_order<M: Maker>(maker: &M)
@@ -61,6 +68,13 @@ pub fn waiters_are_named()
 /// What is said of a line that is out of its thread's turn is so, by the thread's newest line before it.
 pub fn turn_words_are_so()
     ensures { TurnWordsAreSo }
+{}
+
+/// What is said of an illegal return names its own thread as the one that could get another reply, and ends with the line
+/// where its call began. Before that stand the lines on its mutex: a death, who got it, who declared it consistent, who
+/// left it.
+pub fn notes_are_in_order()
+    ensures { NotesAreInOrder }
 {}
 
 /// A line that is quoted is read back as the line that it quotes; and what a trace says that isn't seen from outside is

@@ -8,11 +8,15 @@
 //! that it tells; with each reply that it says could get there they are one. Where it writes `undecided at line L`,
 //! the lines before L are one. A file that is no history is reported by its first fault (`history_read`).
 //!
+//! [`trace_of`] gives the trace of a history to a program that draws it: the one that `--trace` writes
+//! ([`traces_are_written`]). An undecided history has none.
+//!
 //! Laws say so in the words of who reads it: what an exit status means ([`statuses_are_right`]), what each option asks for
 //! and keeps ([`options_are_read`], [`options_write`]), that the L of a line or a fault is a line of the file
 //! ([`lines_are_numbered`], [`faults_are_at_lines`]), that windows are reported in their order ([`windows_are_in_order`]),
-//! which calls are named ([`waiters_are_named`]), and that turns and quotes are as they are said to be
-//! ([`turn_words_are_so`], [`quotes_are_read_back`]).
+//! which calls are named ([`waiters_are_named`]), in which order what is said of an illegal line stands
+//! ([`notes_are_in_order`]), and that turns and quotes are as they are said to be ([`turn_words_are_so`],
+//! [`quotes_are_read_back`]).
 //!
 //! The file is read once, line by line. What its lines tell is kept, 40 bytes a line; so is what the search keeps of
 //! lines that aren't decided, and the certificate.
@@ -30,20 +34,27 @@
 #![tactic(auto)]
 
 mod asking;
+mod evidence;
+mod illegal;
 mod keeping;
 mod laws;
 mod making;
 mod messages;
+mod places;
 mod program;
 mod reading;
 mod serving;
 mod telling;
+mod tracing;
+mod waiting;
 mod writing;
 
 pub use laws::{
-    faults_are_at_lines, lines_are_numbered, options_are_read, options_write, quotes_are_read_back,
-    statuses_are_right, turn_words_are_so, waiters_are_named, windows_are_in_order,
+    faults_are_at_lines, lines_are_numbered, notes_are_in_order, options_are_read, options_write,
+    quotes_are_read_back, statuses_are_right, traces_are_written, turn_words_are_so,
+    waiters_are_named, windows_are_in_order,
 };
 pub use making::Maker;
 pub use messages::OUT_OF_MEMORY;
 pub use program::run;
+pub use tracing::{Untraced, trace_of};

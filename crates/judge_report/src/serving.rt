@@ -9,11 +9,12 @@ ghost use Rattle.judge_report.specs.Said.{AreNamed, Tells, status_of};
 ghost use Rattle.judge_report.specs.Served.{Fails, IsRead, Serves, Unread, failed_by};
 
 use crate::asking::Keeping;
+use crate::illegal::tell_illegal;
 use crate::keeping::{Cut, keep};
 use crate::making::Maker;
 use crate::messages::Failure;
 use crate::reading::{History, ReadFault, read_history};
-use crate::telling::{tell_illegal, tell_legal, tell_undecided};
+use crate::telling::{tell_legal, tell_undecided};
 use certificates::{Waiter, points_of, still_waiting};
 use histories::HistoryLine;
 use judge::{Judgement, judge};

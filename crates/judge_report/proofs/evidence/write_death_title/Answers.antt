@@ -3,7 +3,7 @@ use Rattle.std.specs.Prelude.{decimal}
 use Rattle.std.specs.List.{concat}
 use Rattle.streams.specs.Leaves.{Leaves}
 use Rattle.judge_report.specs.Texts.{entry_thread}
-use Rattle.judge_report.proofs.telling.write_death_title.Goals as goal
+use Rattle.judge_report.proofs.evidence.write_death_title.Goals as goal
 
 pub returns : goal.returns
 returns g c =

@@ -2,7 +2,7 @@ use Rattle.std.proofs.Common.{Option, subst}
 use Rattle.histories.specs.declared.entry.HistoryLine.{HistoryLine}
 use Rattle.streams.specs.Leaves.{Leaves}
 use Rattle.judge_report.specs.Texts.{reply_note}
-use Rattle.judge_report.proofs.telling.write_earlier.Goals as goal
+use Rattle.judge_report.proofs.evidence.write_earlier.Goals as goal
 
 pub returns-in-Some : goal.returns-in-Some
 returns-in-Some g c =

@@ -1,6 +1,6 @@
 use Rattle.streams.proofs.Writers.{ends_at_first, then_leaves}
 use Rattle.judge_report.specs.Texts.{reply_title, quote}
-use Rattle.judge_report.proofs.telling.write_reply.Goals as goal
+use Rattle.judge_report.proofs.evidence.write_reply.Goals as goal
 
 pub returns-in_err-write_reply_title : goal.returns-in_err-write_reply_title
 returns-in_err-write_reply_title g c =

@@ -4,7 +4,7 @@ use Rattle.std.specs.List.{concat}
 use Rattle.lockword.specs.Replies.{reply_word}
 use Rattle.posixmutex.specs.Words.{operation_word}
 use Rattle.streams.specs.Leaves.{Leaves}
-use Rattle.judge_report.proofs.telling.write_reply_title.Goals as goal
+use Rattle.judge_report.proofs.evidence.write_reply_title.Goals as goal
 
 pub returns : goal.returns
 returns g c =

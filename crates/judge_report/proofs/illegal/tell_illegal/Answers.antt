@@ -1,7 +1,7 @@
 use Rattle.std.proofs.Common.{◌++◌}
 use Rattle.streams.proofs.Writers.{ends_at_first, ends_at_second, then_leaves}
 use Rattle.judge_report.specs.Texts.{illegal_notes, illegal_title, quote}
-use Rattle.judge_report.proofs.telling.tell_illegal.Goals as goal
+use Rattle.judge_report.proofs.illegal.tell_illegal.Goals as goal
 
 pub returns-in_err-write_title : goal.returns-in_err-write_title
 returns-in_err-write_title g c =

@@ -1,4 +1,4 @@
-use Rattle.judge_report.proofs.telling.write_begin_at.Goals as goal
+use Rattle.judge_report.proofs.illegal.write_begin_at.Goals as goal
 
 pub returns-in-Some : goal.returns-in-Some
 returns-in-Some g c = rw c.in-Some.is c.write_begin.ensures

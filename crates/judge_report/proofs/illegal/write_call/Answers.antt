@@ -5,7 +5,7 @@ use Rattle.judge.specs.declared.evidence.Evidence.{Evidence}
 use Rattle.streams.specs.Leaves.{Leaves}
 use Rattle.streams.proofs.Writers.{ends_at_first, then_leaves}
 use Rattle.judge_report.specs.Texts.{begin_note, evidence_notes}
-use Rattle.judge_report.proofs.telling.write_call.Goals as goal
+use Rattle.judge_report.proofs.illegal.write_call.Goals as goal
 
 pub returns-in_err-write_evidence : goal.returns-in_err-write_evidence
 returns-in_err-write_evidence g c =

@@ -1,7 +1,7 @@
 use Rattle.std.proofs.Common.{◌++◌}
 use Rattle.streams.proofs.Writers.{ends_at_first, ends_at_second, then_leaves}
 use Rattle.judge_report.specs.Texts.{entry_thread, first_text, here_text, ors_text}
-use Rattle.judge_report.proofs.telling.write_each.Goals as goal
+use Rattle.judge_report.proofs.illegal.write_each.Goals as goal
 
 pub returns-in_err-write_first : goal.returns-in_err-write_first
 returns-in_err-write_first g c =

@@ -1,6 +1,6 @@
 use Rattle.streams.proofs.Writers.{ends_at_first, then_leaves}
 use Rattle.judge_report.specs.Texts.{entry_thread, possible_note, why_note}
-use Rattle.judge_report.proofs.telling.write_notes.Goals as goal
+use Rattle.judge_report.proofs.illegal.write_notes.Goals as goal
 
 pub returns-in_err-write_possible : goal.returns-in_err-write_possible
 returns-in_err-write_possible g c =

@@ -1,6 +1,6 @@
 use Rattle.streams.proofs.Writers.{goes_on, stops_at}
 use Rattle.judge_report.specs.Texts.{or_text}
-use Rattle.judge_report.proofs.telling.write_ors.Goals as goal
+use Rattle.judge_report.proofs.illegal.write_ors.Goals as goal
 
 pub returns-in_err-write_or : goal.returns-in_err-write_or
 returns-in_err-write_or g c =

@@ -2,7 +2,7 @@ use Rattle.std.proofs.Common.{List, subst, sym}
 use Rattle.lockword.specs.declared.reply.Reply.{Reply}
 use Rattle.streams.specs.Leaves.{Leaves}
 use Rattle.judge_report.specs.Texts.{entry_thread, possible_note}
-use Rattle.judge_report.proofs.telling.write_possible.Goals as goal
+use Rattle.judge_report.proofs.illegal.write_possible.Goals as goal
 
 pub returns-in-Some : goal.returns-in-Some
 returns-in-Some g c =

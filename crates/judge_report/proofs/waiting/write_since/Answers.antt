@@ -3,7 +3,7 @@ use Rattle.std.specs.Prelude.{decimal}
 use Rattle.std.specs.List.{concat}
 use Rattle.streams.proofs.Writers.{ends_at_first, then_leaves}
 use Rattle.judge_report.specs.Texts.{quote}
-use Rattle.judge_report.proofs.telling.write_since.Goals as goal
+use Rattle.judge_report.proofs.waiting.write_since.Goals as goal
 
 pub returns-in_err-put_pieces : goal.returns-in_err-put_pieces
 returns-in_err-put_pieces g c =

@@ -1,4 +1,4 @@
-use Rattle.judge_report.proofs.telling.write_since_words.Goals as goal
+use Rattle.judge_report.proofs.waiting.write_since_words.Goals as goal
 
 pub returns-in-Some : goal.returns-in-Some
 returns-in-Some g c = rw c.in-Some.is c.write_left.ensures

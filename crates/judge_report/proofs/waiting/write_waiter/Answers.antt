@@ -2,7 +2,7 @@ use Rattle.std.proofs.Common.{◌≡◌, ◌-◌, ap, subst, ◌∙◌}
 use Rattle.std.specs.List.{slice_get}
 use Rattle.streams.specs.Leaves.{Leaves}
 use Rattle.judge_report.specs.Texts.{waiter_lines, waiter_text}
-use Rattle.judge_report.proofs.telling.write_waiter.Goals as goal
+use Rattle.judge_report.proofs.waiting.write_waiter.Goals as goal
 
 pub returns : goal.returns
 returns g c =

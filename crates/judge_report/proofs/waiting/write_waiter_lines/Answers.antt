@@ -1,7 +1,7 @@
 use Rattle.std.proofs.Common.{◌++◌}
 use Rattle.streams.proofs.Writers.{ends_at_first, ends_at_second, front_after, front_of, leaves_front, then_leaves}
 use Rattle.judge_report.specs.Texts.{quote_of, since_note, since_words, waiter_lines, waiter_title}
-use Rattle.judge_report.proofs.telling.write_waiter_lines.Goals as goal
+use Rattle.judge_report.proofs.waiting.write_waiter_lines.Goals as goal
 
 pub returns-in_err-write_waiter_title : goal.returns-in_err-write_waiter_title
 returns-in_err-write_waiter_title g c =

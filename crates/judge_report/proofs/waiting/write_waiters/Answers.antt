@@ -4,7 +4,7 @@ use Rattle.streams.specs.Leaves.{AppendsFront}
 use Rattle.streams.proofs.Writers.{goes_on, stops_at}
 use Rattle.certificates.specs.declared.waiting.Waiter.{Waiter}
 use Rattle.judge_report.specs.Texts.{waiter_text}
-use Rattle.judge_report.proofs.telling.write_waiters.Goals as goal
+use Rattle.judge_report.proofs.waiting.write_waiters.Goals as goal
 
 pub returns-in_err-write_waiter : goal.returns-in_err-write_waiter
 returns-in_err-write_waiter g c =
