@@ -1,6 +1,7 @@
 -- What is known where a picture was drawn, or wasn't.
 use Rattle.std.proofs.Common.{◌≡◌, ◌≤◌, ℕ, Bool, true, false, IfErr, List, length, Option, Result, Ok, Err, refl, sym, ap, subst, ◌∙◌, arith, inl, inr}
-use Rattle.std.specs.Prelude.{nat_lt}
+use Rattle.std.specs.Prelude.{codes, nat_eq, nat_lt, if◌then◌else◌}
+use Rattle.std.specs.List.{starts_with}
 use Rattle.std.specs.Io.KnownBytes.{Consumes, IsAtEnd, Keeps}
 use Rattle.std.proofs.lemmas.Bool.Decides.{nat_tests}
 use Rattle.streams.specs.Leaves.{AppendsFront, Leaves}
@@ -21,7 +22,8 @@ use Rattle.draw_report.specs.declared.messages.Failure.{Failure}
 use Rattle.draw_report.specs.declared.messages.Failure.TheVariants.{Script}
 use Rattle.draw_report.specs.Names.{called_by}
 use Rattle.draw_report.specs.Scripts.{FailsScript, GivesScript}
-use Rattle.draw_report.specs.Served.{Comes, Draws, FailsDrawing, IsDrawn, IsJudged, IsOf, IsUndrawn, LeavesPicture, Serves, picture, undrawn_by}
+use Rattle.draw_report.specs.Files.{Comes, DrawsAs, DrawsFile, FailsFile, Serves, is_history}
+use Rattle.draw_report.specs.Served.{FailsDrawing, IsDrawn, IsJudged, IsOf, IsUndrawn, LeavesPicture, picture, undrawn_by}
 use Rattle.script.specs.declared.command.Mode.TheVariants.{Run}
 use Rattle.script.specs.declared.fault.Fault.TheVariants as script
 use Rattle.script.specs.declared.fault.ScriptFault.{ScriptFault}
@@ -83,15 +85,27 @@ read_is_short bytes t is = go (nat_lt max_bytes (length bytes)) refl
         let both : Ok t ≡ Err (fault_at 1 TooLong) = sym is ∙ fault in absurd cc
     go false short = grind (arith, nat_tests)
 
--- all that a reader had is a trace, if what was read is one
-pub serves : (kind : Kind) (script : Option Scope) (had left old new : Option (List ℕ)) (bytes seen : List ℕ) → seen ≡ bytes → Consumes had left bytes → (length bytes ≤ max_bytes → IsAtEnd left) → Draws kind script old new seen → Serves kind script had left old new
+-- what was drawn isn't too long: neither a trace nor a history is
+drawn_is_short : (kind : Kind) (script : Option Scope) (old new : Option (List ℕ)) (bytes : List ℕ) → DrawsFile kind script old new bytes → length bytes ≤ max_bytes
+drawn_is_short kind script old new bytes draws = go (is_history bytes) refl draws
+  where
+    few : (b : Bool) → nat_lt max_bytes (length bytes) ≡ b → (if b then false else starts_with nat_eq bytes (codes "history ")) ≡ true → length bytes ≤ max_bytes
+    few true long is = let no : false ≡ true = is in absurd cc
+    few false short is = grind (arith, nat_tests)
+
+    go : (b : Bool) → is_history bytes ≡ b → DrawsAs b kind script old new bytes → length bytes ≤ max_bytes
+    go false is d = read_is_short bytes (trace_of d.0) d.1.reads
+    go true is d = few (nat_lt max_bytes (length bytes)) refl is
+
+-- all that a reader had is a trace or a history, if what was read is one
+pub serves : (kind : Kind) (script : Option Scope) (had left old new : Option (List ℕ)) (bytes seen : List ℕ) → seen ≡ bytes → Consumes had left bytes → (length bytes ≤ max_bytes → IsAtEnd left) → DrawsFile kind script old new seen → Serves kind script had left old new
 serves kind script had left old new bytes seen same taken end draws =
-    let d = subst (λ (bs : List ℕ). Draws kind script old new bs) same draws in
-    (bytes, taken, end (read_is_short bytes (trace_of d.0) d.1.reads), d)
+    let d = subst (DrawsFile kind script old new) same draws in
+    (bytes, taken, end (drawn_is_short kind script old new bytes d), d)
 
 -- what came of its bytes
-pub comes : (kind : Kind) (script : Option Scope) (had left old new : Option (List ℕ)) (bytes seen : List ℕ) (f : Failure) → seen ≡ bytes → Consumes had left bytes → (length bytes ≤ max_bytes → IsAtEnd left) → FailsDrawing kind script seen old new f → Comes kind script had left old new f
-comes kind script had left old new bytes seen f same taken end fails = (bytes, taken, end, subst (λ (bs : List ℕ). FailsDrawing kind script bs old new f) same fails)
+pub comes : (kind : Kind) (script : Option Scope) (had left old new : Option (List ℕ)) (bytes seen : List ℕ) (f : Failure) → seen ≡ bytes → Consumes had left bytes → (length bytes ≤ max_bytes → IsAtEnd left) → FailsFile kind script seen old new f → Comes kind script had left old new f
+comes kind script had left old new bytes seen f same taken end fails = (bytes, taken, end, subst (λ (bs : List ℕ). FailsFile kind script bs old new f) same fails)
 
 -- a script isn't too long
 script_is_short : (bytes : List ℕ) (s : Scope) → script_read Run bytes ≡ Ok s → length bytes ≤ scripts.max_bytes

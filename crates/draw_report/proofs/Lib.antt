@@ -2,3 +2,4 @@ pub mod Ends
 mod Parts
 mod Plain
 mod Sufficing
+mod Histories

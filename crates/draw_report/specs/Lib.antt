@@ -1,4 +1,5 @@
 pub mod Asked
+pub mod Files
 pub mod Legend
 pub mod Messages
 pub mod Names

@@ -1,13 +1,15 @@
 -- What the program says on standard error.
 use Rattle.std.specs.Prelude.{ℕ, List, [], ◌∷◌, codes, decimal}
 use Rattle.std.specs.List.{concat}
+use Rattle.histories.specs.declared.fault.HistoryFault.{HistoryFault}
+use Rattle.histories.specs.Faults as history_faults
 use Rattle.script.specs.declared.fault.ScriptFault.{ScriptFault}
 use Rattle.script.specs.Faults as script_faults
 use Rattle.verdict.specs.declared.fault.TraceFault.{TraceFault}
 use Rattle.verdict.specs.Faults as trace_faults
 use Rattle.draw_report.specs.declared.messages.Failure.{Failure}
 use Rattle.draw_report.specs.declared.messages.Failure.TheVariants.{Usage, CannotRead, CannotWrite}
-use Rattle.draw_report.specs.declared.messages.Failure.TheVariants.{OutOfMemory, Script, Unlike, Trace}
+use Rattle.draw_report.specs.declared.messages.Failure.TheVariants.{OutOfMemory, Script, Unlike, Trace, History, Undecided, Unfit}
 
 -- a fault with its line, its number and its words, after the start of the line
 abbrev pub fault_text : List ℕ → ℕ → ℕ → List ℕ → List ℕ
@@ -23,6 +25,21 @@ abbrev pub trace_text : TraceFault → List ℕ
 trace_text e =
     fault_text (codes "rfx-draw: line ") e.line (trace_faults.number_of e.fault) (trace_faults.words_of e.fault)
 
+-- of a history, as the judge of histories does; and of the trace that it writes of one
+abbrev pub history_text : HistoryFault → List ℕ
+history_text e =
+    fault_text (codes "rfx-draw: line ") e.line (history_faults.number_of e.fault) (history_faults.words_of e.fault)
+
+abbrev pub unfit_text : TraceFault → List ℕ
+unfit_text e = fault_text (codes "rfx-draw: trace of the history: line ") e.line (trace_faults.number_of e.fault)
+    (trace_faults.words_of e.fault)
+
+-- an undecided history has no trace
+abbrev pub undecided_text : ℕ → ℕ → List ℕ
+undecided_text line event = concat
+    (codes "rfx-draw: cannot draw the history: undecided at line " ∷ decimal line ∷ codes " (event " ∷ decimal event
+    ∷ codes ")\n" ∷ [])
+
 -- why a file of this name wasn't drawn
 abbrev pub failure_text : List ℕ → Failure → List ℕ
 failure_text file Usage = concat
@@ -35,6 +52,9 @@ failure_text file Unlike = concat
     (codes "rfx-draw: script: not of this trace, which has other numbers of threads, mutexes or condition variables\n"
     ∷ [])
 failure_text file (Trace e) = trace_text e
+failure_text file (History e) = history_text e
+failure_text file (Undecided line event) = undecided_text line event
+failure_text file (Unfit e) = unfit_text e
 
 -- the exit status after it
 abbrev pub failure_status : Failure → ℕ
@@ -45,3 +65,6 @@ failure_status OutOfMemory = 1
 failure_status (Script e) = 1
 failure_status Unlike = 1
 failure_status (Trace e) = 1
+failure_status (History e) = 1
+failure_status (Undecided line event) = 1
+failure_status (Unfit e) = 1

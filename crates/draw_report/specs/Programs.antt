@@ -1,6 +1,6 @@
 -- What the program does with the words of its command line.
 --
--- *What `rfx-draw` did.* The picture of the trace in the file that the words name, or why not; with the names of the
+-- *What `rfx-draw` did.* The picture of the trace or the history in the file that the words name, or why not; with the names of the
 -- script that they name (`called_by`, `is_like`, `GivesScript`; `Names.antt`, `Scripts.antt`), as `parse` reads it.
 use Rattle.std.specs.Prelude.{ℕ, ◌≡◌, ◌⊎◌, List, [], Option, Some, None}
 use Rattle.std.specs.Prelude.{Result, Ok, Err, Vec, String, map, string_bytes}
@@ -19,7 +19,7 @@ use Rattle.draw_report.specs.Messages.{failure_text, failure_status}
 use Rattle.draw_report.specs.Reading.{asked_of}
 use Rattle.script.specs.Scope.{Scope}
 use Rattle.draw_report.specs.Scripts.{FailsScript, GivesScript}
-use Rattle.draw_report.specs.Served.{Fails, Serves}
+use Rattle.draw_report.specs.Files.{Fails, Serves}
 
 -- what the words ask for: the usage, where they can't be had as text
 abbrev pub asked_in : Result (Vec (String Global) Global) Error → Asked

@@ -8,7 +8,7 @@ use Rattle.script.specs.Reading.{script_read}
 use Rattle.script.specs.Scope.{Scope}
 use Rattle.draw_report.specs.declared.messages.Failure.{Failure}
 use Rattle.draw_report.specs.declared.messages.Failure.TheVariants.{Usage, CannotRead, CannotWrite}
-use Rattle.draw_report.specs.declared.messages.Failure.TheVariants.{OutOfMemory, Script, Unlike, Trace}
+use Rattle.draw_report.specs.declared.messages.Failure.TheVariants.{OutOfMemory, Script, Unlike, Trace, History, Undecided, Unfit}
 use Rattle.draw_report.specs.Served.{IsUnread}
 
 -- all that a reader had, up to its end, is this script
@@ -24,6 +24,9 @@ IsFaultOf bytes OutOfMemory = ⊥
 IsFaultOf bytes (Script e) = TellsAt e e.fault (script_read Run bytes)
 IsFaultOf bytes Unlike = ⊥
 IsFaultOf bytes (Trace e) = ⊥
+IsFaultOf bytes (History e) = ⊥
+IsFaultOf bytes (Undecided line event) = ⊥
+IsFaultOf bytes (Unfit e) = ⊥
 
 -- why there is no script: it couldn't be read, or memory was needed; or its bytes, which are all that the reader had,
 -- or more than there may be, have this fault

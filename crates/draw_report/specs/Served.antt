@@ -1,12 +1,11 @@
--- What the program did with the bytes of its reader.
-use Rattle.std.specs.Prelude.{ℕ, ◌≡◌, ◌≤◌, ◌⊎◌, ⊤, true, false, List, [], ◌∷◌, ◌++◌, codes, decimal, length, Option, Some, None, Result, Ok, Err, MatchResult}
+-- What the program did with the bytes of a trace.
+use Rattle.std.specs.Prelude.{ℕ, ◌≡◌, ◌⊎◌, ⊤, true, false, List, [], ◌∷◌, ◌++◌, codes, decimal, Option, Some, None, Result, Ok, Err, MatchResult}
 use Rattle.std.specs.List.{concat}
-use Rattle.std.specs.Io.KnownBytes.{Appends, Consumes, IsAtEnd}
+use Rattle.std.specs.Io.KnownBytes.{Appends}
 use Rattle.streams.specs.Leaves.{AppendsFront}
 use Rattle.streams.specs.declared.reading.ReadFault.{ReadFault}
 use Rattle.streams.specs.declared.reading.ReadFault.TheVariants as read
 use Rattle.verdict.specs.declared.told.Told.{Told}
-use Rattle.verdict.specs.Limits.{max_bytes}
 use Rattle.verdict.specs.Reading.{trace_read}
 use Rattle.verdict.specs.Told.{Gives, IsWithin, trace_of}
 use Rattle.verdict.specs.declared.checking.Finding.{Finding}
@@ -19,7 +18,7 @@ use Rattle.picture.specs.declared.drawing.Unwritten.{Unwritten}
 use Rattle.picture.specs.declared.drawing.Unwritten.TheVariants as unwritten
 use Rattle.draw_report.specs.declared.messages.Failure.{Failure}
 use Rattle.draw_report.specs.declared.messages.Failure.TheVariants.{Usage, CannotRead, CannotWrite}
-use Rattle.draw_report.specs.declared.messages.Failure.TheVariants.{OutOfMemory, Script, Unlike, Trace}
+use Rattle.draw_report.specs.declared.messages.Failure.TheVariants.{OutOfMemory, Script, Unlike, Trace, History, Undecided, Unfit}
 use Rattle.script.specs.Scope.{Scope}
 use Rattle.picture.specs.Drawn.{drawn}
 use Rattle.picture.specs.Names.{Called}
@@ -44,6 +43,9 @@ IsUnread OutOfMemory = ⊤
 IsUnread (Script e) = ⊥
 IsUnread Unlike = ⊥
 IsUnread (Trace e) = ⊥
+IsUnread (History e) = ⊥
+IsUnread (Undecided line event) = ⊥
+IsUnread (Unfit e) = ⊥
 
 -- below a picture in text: which line doesn't fit, if the judge of traces found one
 abbrev pub misfit_text : Finding → List ℕ
@@ -114,20 +116,6 @@ FailsDrawing kind script bytes old new OutOfMemory = DrawsNot kind script old ne
 FailsDrawing kind script bytes old new (Script e) = ⊥
 FailsDrawing kind script bytes old new Unlike = (new ≡ old) × IsUnlike script bytes
 FailsDrawing kind script bytes old new (Trace e) = (new ≡ old) × Gives (trace_read bytes) (Err e)
-
--- all that the reader had, up to its end, is a trace, and its picture was written
-abbrev pub Serves : Kind → Option Scope → Option (List ℕ) → Option (List ℕ) → Option (List ℕ) → Option (List ℕ) → Type 0
-Serves kind script had left old new =
-    (bytes : List ℕ) × Consumes had left bytes × IsAtEnd left × Draws kind script old new bytes
-
--- what came of a reader's bytes, which are all that it had, or more than there may be
-abbrev pub Comes : Kind → Option Scope → Option (List ℕ) → Option (List ℕ) → Option (List ℕ) → Option (List ℕ) → Failure
-    → Type 0
-Comes kind script had left old new f = (bytes : List ℕ) × Consumes had left bytes
-    × (length bytes ≤ max_bytes → IsAtEnd left) × FailsDrawing kind script bytes old new f
-
--- why a file wasn't drawn, or not all: before the first byte it couldn't be read, or memory was needed; or this came
--- of its bytes
-abbrev pub Fails : Kind → Option Scope → Option (List ℕ) → Option (List ℕ) → Option (List ℕ) → Option (List ℕ) → Failure
-    → Type 0
-Fails kind script had left old new f = (IsUnread f × (new ≡ old)) ⊎ Comes kind script had left old new f
+FailsDrawing kind script bytes old new (History e) = ⊥
+FailsDrawing kind script bytes old new (Undecided line event) = ⊥
+FailsDrawing kind script bytes old new (Unfit e) = ⊥

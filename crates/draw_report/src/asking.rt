@@ -21,8 +21,8 @@ pub enum Kind {
 /// What a command line asks for.
 #[derive(Clone, Copy, Debug, PartialEq, Eq)]
 pub enum Form<'a> {
-    /// `--svg` or `--html`, `--script SCRIPT` and FILE, in any order, each once at most: the trace in this file is
-    /// drawn, or the one on standard input, with the names of the script. No name of a file begins with a hyphen.
+    /// `--svg` or `--html`, `--script SCRIPT` and FILE, in any order, each once at most: the trace or the history in
+    /// this file is drawn, or the one on standard input, with the names of the script. No name of a file begins with a hyphen.
     Picture(Kind, Option<&'a str>, &'a str),
     /// `--legend` alone: what the signs of pictures in text mean.
     Legend,

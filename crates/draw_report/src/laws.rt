@@ -1,5 +1,6 @@
 //! What holds of every picture with the names of a script.
 
+ghost use Rattle.draw_report.specs.Files.{HistoriesAreDrawnAsTraces};
 ghost use Rattle.draw_report.specs.Plain.{NamesArePlain};
 ghost use Rattle.draw_report.specs.Sufficing.{NamesSuffice};
 
@@ -13,4 +14,9 @@ pub fn names_are_plain()
 /// name is left over.
 pub fn names_suffice()
     ensures { NamesSuffice }
+{}
+
+/// What is drawn of a history is what may be drawn of a file that has the trace which the judge of histories writes of it.
+pub fn histories_are_drawn_as_traces()
+    ensures { HistoriesAreDrawnAsTraces }
 {}

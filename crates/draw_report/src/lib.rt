@@ -1,4 +1,4 @@
-//! `rfx-draw` except for opening its file: its command line, reading a trace, drawing it, and the messages.
+//! `rfx-draw` except for opening its file: its command line, reading a trace or a history, drawing it, and the messages.
 //!
 //! [`run`] is given the words of the command line, what opens files, and the two writers. The words ask for a picture
 //! by their parts, in any order (`Asks`). Where it returns 0 it has read its input to the end, that is a trace, and
@@ -8,7 +8,12 @@
 //! ([`names_are_plain`]); each thing in the trace has one ([`names_suffice`]). For `--legend` it reads nothing, and
 //! writes what the signs of pictures mean. Of a page nothing is written where memory is refused (`IsUndrawn`).
 //!
-//! Depends on `verdict`, for reading traces and their faults, on `script` and `lockword`, for names, on `lines`, for which
+//! Of a history it draws the trace that the judge of histories writes of it (`IsTraceOf`,
+//! [`histories_are_drawn_as_traces`]): of an illegal one that ends with the illegal line, which the picture marks. An
+//! undecided one isn't drawn.
+//!
+//! Depends on `verdict`, for reading traces and their faults, on `judge_report` and `histories`, for a history's trace and
+//! its faults, on `script` and `lockword`, for names, on `lines`, for which
 //! characters they have, on `picture` and `page`, for drawing, and on `streams`, for reading, writing and opening.
 //!
 //! ```text
@@ -30,6 +35,6 @@ mod program;
 mod serving;
 
 pub use asking::Kind;
-pub use laws::{names_are_plain, names_suffice};
+pub use laws::{histories_are_drawn_as_traces, names_are_plain, names_suffice};
 pub use messages::OUT_OF_MEMORY;
 pub use program::run;

@@ -2,8 +2,10 @@
 
 ghost use Rattle.std.specs.Prelude.{◌≡◌};
 ghost use Rattle.streams.specs.Leaves.{AppendsFront, Leaves};
-ghost use Rattle.draw_report.specs.Messages.{failure_status, failure_text, fault_text, script_text, trace_text};
+ghost use Rattle.draw_report.specs.Messages.{failure_status, failure_text, fault_text, history_text, script_text};
+ghost use Rattle.draw_report.specs.Messages.{trace_text, undecided_text, unfit_text};
 
+use histories::HistoryFault;
 use script::ScriptFault;
 use std::io::{self, Write};
 use streams::Piece::{Number, Word};
@@ -36,13 +38,19 @@ pub enum Failure {
     Unlike,
     /// The file is no trace.
     Trace(TraceFault),
+    /// The file begins as a history does, but is none.
+    History(HistoryFault),
+    /// The history is undecided at this line, with this event's number, so it has no trace.
+    Undecided { line: u64, event: u64 },
+    /// The history's trace has more of something than a trace may have.
+    Unfit(TraceFault),
 }
 
 /// A fault with its line and its number. `start` is what stands before them.
 fn write_fault<'a, E: Write>(
     err: &mut E,
     start: &'a str,
-    line: usize,
+    line: u64,
     number: u8,
     words: &'a str,
 ) -> io::Result<()>
@@ -52,7 +60,7 @@ fn write_fault<'a, E: Write>(
         err,
         &[
             Word(start),
-            Number(line as u64),
+            Number(line),
             Word(": fault "),
             Number(number.into()),
             Word(": "),
@@ -67,7 +75,13 @@ fn write_script_fault<E: Write>(err: &mut E, at: ScriptFault) -> io::Result<()>
     ensures { Leaves (E.contents err.old) (E.contents err.new) result (script_text at) }
 {
     let start = "rfx-draw: script: line ";
-    write_fault(err, start, at.line, at.fault.number(), at.fault.words())
+    write_fault(
+        err,
+        start,
+        at.line as u64,
+        at.fault.number(),
+        at.fault.words(),
+    )
 }
 
 /// `rfx-draw: line L: fault N: TEXT`.
@@ -75,7 +89,51 @@ fn write_trace_fault<E: Write>(err: &mut E, at: TraceFault) -> io::Result<()>
     ensures { Leaves (E.contents err.old) (E.contents err.new) result (trace_text at) }
 {
     let start = "rfx-draw: line ";
+    write_fault(
+        err,
+        start,
+        at.line as u64,
+        at.fault.number(),
+        at.fault.words(),
+    )
+}
+
+/// `rfx-draw: line L: fault N: TEXT`.
+fn write_history_fault<E: Write>(err: &mut E, at: HistoryFault) -> io::Result<()>
+    ensures { Leaves (E.contents err.old) (E.contents err.new) result (history_text at) }
+{
+    let start = "rfx-draw: line ";
     write_fault(err, start, at.line, at.fault.number(), at.fault.words())
+}
+
+/// `rfx-draw: trace of the history: line L: fault N: TEXT`.
+fn write_unfit<E: Write>(err: &mut E, at: TraceFault) -> io::Result<()>
+    ensures { Leaves (E.contents err.old) (E.contents err.new) result (unfit_text at) }
+{
+    let start = "rfx-draw: trace of the history: line ";
+    write_fault(
+        err,
+        start,
+        at.line as u64,
+        at.fault.number(),
+        at.fault.words(),
+    )
+}
+
+/// `rfx-draw: cannot draw the history: undecided at line L (event E)`.
+fn write_undecided<E: Write>(err: &mut E, line: u64, event: u64) -> io::Result<()>
+    ensures { Leaves (E.contents err.old) (E.contents err.new) result (undecided_text line event) }
+{
+    put_pieces(
+        err,
+        &[
+            Word("rfx-draw: cannot draw the history: undecided at line "),
+            Number(line),
+            Word(" (event "),
+            Number(event),
+            Word(")\n"),
+        ],
+    )
 }
 
 /// The message of a failure to draw this file.
@@ -90,6 +148,9 @@ fn write_failure<E: Write>(err: &mut E, file: &str, failure: Failure) -> io::Res
         Failure::Script(at) => write_script_fault(err, at),
         Failure::Unlike => put(err, &[UNLIKE]),
         Failure::Trace(at) => write_trace_fault(err, at),
+        Failure::History(at) => write_history_fault(err, at),
+        Failure::Undecided { line, event } => write_undecided(err, line, event),
+        Failure::Unfit(at) => write_unfit(err, at),
     }
 }
 
@@ -104,7 +165,10 @@ fn status_after(failure: Failure) -> u8
         | Failure::OutOfMemory
         | Failure::Script(_)
         | Failure::Unlike
-        | Failure::Trace(_) => 1,
+        | Failure::Trace(_)
+        | Failure::History(_)
+        | Failure::Undecided { .. }
+        | Failure::Unfit(_) => 1,
     }
 }
 

@@ -23,7 +23,7 @@ fn unopened_by(error: &io::Error) -> Failure
     }
 }
 
-/// The picture of the trace in this file, with the names of the script, if there is one.
+/// The picture of the trace or the history in this file, with the names of the script, if there is one.
 fn run_picture<F: Opener, W: Output, E: Write>(
     alloc: Global,
     kind: Kind,
@@ -67,7 +67,7 @@ fn open_script<F: Opener, E: Write>(
     }
 }
 
-/// The picture of the trace in this file, with the names of a script in another one, which is read first.
+/// The picture of the trace or the history in this file, with the names of a script in another one, which is read first.
 fn run_named<F: Opener, W: Output, E: Write>(
     alloc: Global,
     kind: Kind,
@@ -98,7 +98,7 @@ fn run_legend<W: Output, E: Write>(out: &mut W, err: &mut E) -> u8
 }
 
 /// What `rfx-draw` does with the words of its command line, the first being its name, and the exit status that it
-/// answers: 0 where the picture of the trace, or what the signs of pictures mean, was written and let go of, and
+/// answers: 0 where the picture of the trace or the history, or what the signs of pictures mean, was written and let go of, and
 /// nothing told on `err`; 1 for a fault, which is reported there; 2 where the command line has no form. Words that can't be
 /// had as text are another command line, unless memory was refused for them.
 pub fn run<F: Opener, W: Output, E: Write>(

@@ -9,8 +9,10 @@ ghost use Rattle.draw_report.specs.Legend.{legend};
 ghost use Rattle.script.specs.Limits as scripts;
 ghost use Rattle.draw_report.specs.Names.{called_by};
 ghost use Rattle.draw_report.specs.Scripts.{FailsScript, GivesScript};
-ghost use Rattle.draw_report.specs.Served.{Draws, Fails, FailsDrawing, IsUnread};
-ghost use Rattle.draw_report.specs.Served.{LeavesPicture, Serves, failed_by, misfit_line, misfit_text, undrawn_by};
+ghost use Rattle.draw_report.specs.Files.{DrawsFile, DrawsHistory, Fails, FailsFile, FailsHistory, Serves};
+ghost use Rattle.draw_report.specs.Files.{is_history, of_history, untraced_by};
+ghost use Rattle.draw_report.specs.Served.{Draws, FailsDrawing, IsUnread};
+ghost use Rattle.draw_report.specs.Served.{LeavesPicture, failed_by, misfit_line, misfit_text, undrawn_by};
 ghost use Rattle.picture.specs.Drawn.{drawn};
 ghost use Rattle.verdict.specs.Told.{IsWithin};
 
@@ -19,6 +21,7 @@ use crate::legend::{lanes_legend, marks_legend};
 use crate::messages::Failure;
 use crate::names::{is_like, names_of};
 use facts::Line;
+use judge_report::{Untraced, trace_of};
 use page::write_page;
 use picture::{Names, Unwritten, draw, draw_svg_marked};
 use script::{Mode, Script, parse};
@@ -278,8 +281,83 @@ fn draw_bytes<W: Output>(
     }
 }
 
-/// Reads a file, and draws the trace that it is, with the names of the script, if there is one. It reads at most one
-/// byte more than a trace may have.
+/// Whether these bytes begin as a history does. More than a trace may have are no history here: they are too long.
+fn is_history(bytes: &[u8]) -> bool
+    ensures { result ≡ is_history bytes.now }
+{
+    if bytes.len() > MAX_BYTES {
+        return false;
+    }
+    bytes.starts_with(b"history ")
+}
+
+/// What a history without a trace is reported as.
+fn untraced_by(why: Untraced) -> Failure
+    ensures { result ≡ untraced_by why }
+{
+    match why {
+        Untraced::OutOfMemory => Failure::OutOfMemory,
+        Untraced::Ill(at) => Failure::History(at),
+        Untraced::Undecided(line) => Failure::Undecided {
+            line: line.number,
+            event: line.event,
+        },
+    }
+}
+
+/// What a failure to draw a history's trace is reported as.
+fn of_history(failure: Failure) -> Failure
+    ensures { result ≡ of_history failure }
+{
+    match failure {
+        Failure::Trace(at) => Failure::Unfit(at),
+        failure => failure,
+    }
+}
+
+/// Draws the trace that the judge of histories writes of the history that these bytes are.
+fn draw_history<W: Output>(
+    alloc: Global,
+    kind: Kind,
+    script: &Option<Script>,
+    bytes: &[u8],
+    out: &mut W,
+) -> Result<(), Failure>
+    ensures draws { OnOk result (DrawsHistory kind script.now (W.contents out.old) (W.contents out.new) bytes.now) }
+    ensures let_go { OnOk result (W.is_let_go out.new) }
+    ensures fails { IfErr result (FailsHistory kind script.now bytes.now (W.contents out.old) (W.contents out.new)) }
+{
+    let trace = match trace_of(alloc, bytes) {
+        Ok(trace) => trace,
+        Err(why) => return Err(untraced_by(why)),
+    };
+    match draw_bytes(alloc, kind, script, &trace, out) {
+        Ok(()) => Ok(()),
+        Err(failure) => Err(of_history(failure)),
+    }
+}
+
+/// Draws what these bytes are: a trace, or a history.
+fn draw_file<W: Output>(
+    alloc: Global,
+    kind: Kind,
+    script: &Option<Script>,
+    bytes: &[u8],
+    out: &mut W,
+) -> Result<(), Failure>
+    ensures draws { OnOk result (DrawsFile kind script.now (W.contents out.old) (W.contents out.new) bytes.now) }
+    ensures let_go { OnOk result (W.is_let_go out.new) }
+    ensures fails { IfErr result (FailsFile kind script.now bytes.now (W.contents out.old) (W.contents out.new)) }
+{
+    if is_history(bytes) {
+        draw_history(alloc, kind, script, bytes, out)
+    } else {
+        draw_bytes(alloc, kind, script, bytes, out)
+    }
+}
+
+/// Reads a file, and draws the trace that it is, or the trace of the history that it is, with the names of the script, if
+/// there is one. It reads at most one byte more than a trace may have.
 pub fn serve<R: Read, W: Output>(
     alloc: Global,
     kind: Kind,
@@ -297,7 +375,7 @@ pub fn serve<R: Read, W: Output>(
     ensures limit { TakesAtMost (max_bytes + 1) (R.remaining input.old) (R.remaining input.new) }
 {
     match read_file(alloc, MAX_BYTES, input) {
-        Ok(bytes) => draw_bytes(alloc, kind, script, &bytes, out),
+        Ok(bytes) => draw_file(alloc, kind, script, &bytes, out),
         Err(failure) => Err(failure),
     }
 }

@@ -110,10 +110,10 @@ fn is_drawn_or_wants_memory(status: u8, out: &Fixed, err: &Fixed, end: &str) -> 
     wants_memory(status, out, err, b"rfx-draw: ")
 }
 
-fn draws_or_wants_memory(alloc: Global, line: &[&str], end: &str) -> bool {
+fn draws_or_wants_memory(alloc: Global, text: &[u8], line: &[&str], end: &str) -> bool {
     let mut out = Fixed::new();
     let mut err = Fixed::new();
-    let files = files_of(TRACE);
+    let files = files_of(text);
     let status = run(alloc, words(alloc, line), &files, &mut out, &mut err);
     is_drawn_or_wants_memory(status, &out, &err, end)
 }
@@ -121,13 +121,13 @@ fn draws_or_wants_memory(alloc: Global, line: &[&str], end: &str) -> bool {
 /// Passes too where any one allocation fails: nothing is printed then, and lack of memory is reported.
 #[test]
 fn memory_for_a_picture(rt: HostRuntime) {
-    assert!(rt; draws_or_wants_memory(rt.alloc(), &["rfx-draw", "f"], TEXT));
+    assert!(rt; draws_or_wants_memory(rt.alloc(), TRACE, &["rfx-draw", "f"], TEXT));
 }
 
 /// Passes too where any one allocation fails: nothing is printed then, and lack of memory is reported.
 #[test]
 fn memory_for_an_svg_picture(rt: HostRuntime) {
-    assert!(rt; draws_or_wants_memory(rt.alloc(), &["rfx-draw", "--svg", "f"], SVG_END));
+    assert!(rt; draws_or_wants_memory(rt.alloc(), TRACE, &["rfx-draw", "--svg", "f"], SVG_END));
 }
 
 /// With the names of the script.
@@ -136,7 +136,26 @@ const NAMED: &str = " event  accounts  alice\n     1  -         ┌ lock account
 /// Passes too where any one allocation fails: nothing is printed then, and lack of memory is reported.
 #[test]
 fn memory_for_a_picture_with_names(rt: HostRuntime) {
-    assert!(rt; draws_or_wants_memory(rt.alloc(), &["rfx-draw", "--script", "s", "f"], NAMED));
+    assert!(rt;
+        draws_or_wants_memory(
+            rt.alloc(),
+            TRACE,
+            &["rfx-draw", "--script", "s", "f"],
+            NAMED
+        )
+    );
+}
+
+const HISTORY: &[u8] = b"history 1 1 0\n1 begin t1 lock m0\n2 return t1 OK\nend 2\n";
+
+/// The history's trace, in which the call takes effect.
+const EXPLAINED: &str =
+    " event  m0   t1\n     1  -    ┌ lock m0\n     2  t1   ● m0 OK\n     3  t1   └ OK\n     3  end\n";
+
+/// Passes too where any one allocation fails: nothing is printed then, and lack of memory is reported.
+#[test]
+fn memory_for_a_history(rt: HostRuntime) {
+    assert!(rt; draws_or_wants_memory(rt.alloc(), HISTORY, &["rfx-draw", "f"], EXPLAINED));
 }
 
 /// A page that a writer can't hold is reported.

@@ -83,7 +83,7 @@ end 11
 ";
 
 const TEXT: &str =
-    "illegal at line 12 (event 11): no order of the calls gives t3 EOWNERDEAD for its lock of m0\n  | 11 return t3 EOWNERDEAD\n  = t3 could be told OK here\n  = see line 4 (event 3): t1 may have owned m0 when it died\n  | 3 doom t1\n  = see line 6 (event 5): t2 was told EOWNERDEAD for its lock of m0\n  | 5 return t2 EOWNERDEAD\n  = see line 10 (event 9): t2 was told OK for its unlock of m0\n  | 9 return t2 OK\n  = see line 11 (event 10): the call began\n  | 10 begin t3 lock m0\n";
+    "illegal at line 12 (event 11): no order of the calls gives t3 EOWNERDEAD for its lock of m0\n  | 11 return t3 EOWNERDEAD\n  = t3 could be told OK here\n  = see line 4 (event 3): t1 may have owned m0 when it died\n  | 3 doom t1\n  = see line 6 (event 5): t2 was told EOWNERDEAD for its lock of m0\n  | 5 return t2 EOWNERDEAD\n  = see line 8 (event 7): t2 was told OK for its consistent of m0\n  | 7 return t2 OK\n  = see line 10 (event 9): t2 was told OK for its unlock of m0\n  | 9 return t2 OK\n  = see line 11 (event 10): the call began\n  | 10 begin t3 lock m0\n";
 
 /// There is one moment for each point; the doomed thread dies before its mutex is handed on.
 const TRACE: &str = "trace 3 1 0

@@ -1,4 +1,5 @@
-//! `rfx-draw`: draws a trace, as `rfx run` prints one, for a terminal or as SVG.
+//! `rfx-draw`: draws a trace, as `rfx run` prints one, or a history, as `pz-record` does, for a terminal, as SVG or as a
+//! page.
 //!
 //! The system's files and words are handed to `draw_report`, whose contracts say what is written.
 #![tactic(auto)]

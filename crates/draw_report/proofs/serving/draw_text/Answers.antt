@@ -1,4 +1,4 @@
-use Rattle.std.proofs.Common.{◌++◌, ap, inl, refl, subst}
+use Rattle.std.proofs.Common.{◌++◌, ap, subst}
 use Rattle.streams.specs.Leaves.{Leaves}
 use Rattle.picture.specs.Drawn.{drawn}
 use Rattle.draw_report.specs.Served.{misfit_text}
