@@ -8,14 +8,14 @@ use Rattle.histories.specs.declared.head.Head.{Head}
 use Rattle.histories.specs.declared.entry.Entry.{Entry}
 use Rattle.judge.specs.declared.judging.Judgement.{Judgement}
 use Rattle.lockword.specs.declared.reply.Reply.{Reply}
-use Rattle.judge.specs.declared.judging.Judgement.TheVariants.{Legal, Illegal}
+use Rattle.judge.specs.declared.judging.Judgement.TheVariants.{Legal, Illegal, Undecided}
 use Rattle.judge.specs.declared.reason.Reason.{Reason}
 use Rattle.windows.specs.declared.cutting.Window.{Window}
 use Rattle.judge_report.specs.declared.asking.Keeping.{Keeping}
 use Rattle.judge_report.specs.declared.keeping.Cut.{Cut}
 use Rattle.judge_report.specs.Asked.{Kept, kept_of}
 use Rattle.judge_report.specs.Heard.{Heard}
-use Rattle.judge_report.specs.Kept.{AreKept, IsFilled, IsIllegalKept, IsKept, IsWindowKept, IsWritten}
+use Rattle.judge_report.specs.Kept.{AreKept, IsFilled, IsIllegalKept, IsKept, IsUndecidedKept, IsWindowKept, IsWritten}
 
 pub written_so : {E : Type 0} (Makes Fills : List ℕ → Option (List ℕ) → Type 0) (name text : List ℕ) (a b : Option (List ℕ)) (r : Result (Unit {0}) E) → Makes name a → Appends a b text → IfOk r (λ _. Fills name b)
     → IfOk r (λ _. IsWritten Makes Fills name text)
@@ -41,6 +41,12 @@ pub filled_illegal : {E : Type 0} (Makes Fills : List ℕ → Option (List ℕ) 
     → IfOk r (λ cuts. IsIllegalKept Makes Fills kept k.head steps.items × (cuts.items ≡ [])) → IfOk r (λ cuts. IsFilled Makes Fills kept k j cuts.items)
 filled_illegal Makes Fills kept k j at why possible steps r illegal holds =
     subst (λ (q : Judgement). IfOk r (λ cuts. IsFilled Makes Fills kept k q cuts.items)) (sym illegal) holds
+
+-- nothing of an undecided one
+pub filled_undecided : {E : Type 0} (Makes Fills : List ℕ → Option (List ℕ) → Type 0) (kept : Kept) (k : Heard) (j : Judgement) (at : ℕ) (r : Result (Vec Cut Global) E) → j ≡ Undecided at
+    → IfOk r (λ cuts. IsUndecidedKept Makes Fills kept × (cuts.items ≡ [])) → IfOk r (λ cuts. IsFilled Makes Fills kept k j cuts.items)
+filled_undecided Makes Fills kept k j at r undecided holds =
+    subst (λ (q : Judgement). IfOk r (λ cuts. IsFilled Makes Fills kept k q cuts.items)) (sym undecided) holds
 
 pub kept_so : (Makes Fills : List ℕ → Option (List ℕ) → Type 0) (keeping is : Keeping) (h : Head) (steps : List Entry) (cs : List Cut) → keeping ≡ is → IsKept Makes Fills (kept_of is) h steps cs → IsKept Makes Fills (kept_of keeping) h steps cs
 kept_so Makes Fills keeping is h steps cs same holds = subst (λ (q : Keeping). IsKept Makes Fills (kept_of q) h steps cs) (sym same) holds

@@ -64,7 +64,7 @@ by_judgement Makes Fills waiting out bytes old new status s (Legal steps) filled
 by_judgement Makes Fills waiting out bytes old new status s (Illegal at why possible steps) filled said =
     inl (certificate_text s.heard.head steps.items, (s.heard, s.read, inr (record { line = said.0; why = why; possible = possible.items; steps = steps.items; illegal = said.1; is = refl })), filled.0)
 by_judgement Makes Fills waiting out bytes old new status s (Undecided at) filled said =
-    inr (said.0, (s.heard, s.read, said.1), subst (Appends old new) said.2 s.written)
+    inr (said.0, (s.heard, s.read, said.1), subst (Appends old new) said.2 s.written, filled.0)
 
 pub written_so : (Makes Fills : List ℕ → Option (List ℕ) → Type 0) → TracesAreWritten Makes Fills
 written_so Makes Fills = record { written = λ waiting out bytes old new status s. by_judgement Makes Fills waiting out bytes old new status s s.judgement s.filled s.said }

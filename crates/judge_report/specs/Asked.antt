@@ -46,11 +46,17 @@ is_number_part (b ∷ bs) = (b == 46) && list_all is_ascii_digit bs
 abbrev pub is_window : List ℕ → List ℕ → Bool
 is_window out file = starts_with nat_eq file out && is_number_part (drop (length out) file)
 
--- the certificate would be written over the file of this name, as names are written
+-- a name without `./` at its beginning, as often as that is there: it names the same file
+unfoldable pub bare : List ℕ → List ℕ
+bare [] = []
+bare (a ∷ []) = a ∷ []
+bare (a ∷ b ∷ name) = if (a == 46) && (b == 47) then bare name else a ∷ b ∷ name
+
+-- the certificate would be written over the file of this name, as names are written but for `./` at their beginning
 abbrev pub is_overwritten : Kept → List ℕ → Bool
 is_overwritten Nowhere file = false
-is_overwritten (Whole out) file = bytes_eq out file
-is_overwritten (Windows out) file = is_window out file
+is_overwritten (Whole out) file = bytes_eq (bare out) (bare file)
+is_overwritten (Windows out) file = is_window (bare out) (bare file)
 
 -- a judgement of the history in the file of this name, if that isn't overwritten
 abbrev pub placed : Bool → Kept → List ℕ → Asked

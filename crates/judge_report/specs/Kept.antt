@@ -67,13 +67,19 @@ IsIllegalKept Makes Fills (Whole name) h steps = IsWritten Makes Fills name (cer
 IsIllegalKept Makes Fills Nowhere h steps = Unit {0}
 IsIllegalKept Makes Fills (Windows out) h steps = Unit {0}
 
+-- of an undecided history there is no trace: a file that is to have it is left empty, so that no older trace stays there
+abbrev pub IsUndecidedKept : (List ℕ → Option (List ℕ) → Type 0) → (List ℕ → Option (List ℕ) → Type 0) → Kept → Type 0
+IsUndecidedKept Makes Fills (Whole name) = IsWritten Makes Fills name []
+IsUndecidedKept Makes Fills Nowhere = Unit {0}
+IsUndecidedKept Makes Fills (Windows out) = Unit {0}
+
 -- so it is where there is one
 abbrev pub IsFilled : (List ℕ → Option (List ℕ) → Type 0) → (List ℕ → Option (List ℕ) → Type 0) → Kept → Heard
     → Judgement → List Cut → Type 0
 IsFilled Makes Fills kept k (Legal steps) cuts = IsKept Makes Fills kept k.head steps.items cuts
 IsFilled Makes Fills kept k (Illegal at why possible steps) cuts =
     IsIllegalKept Makes Fills kept k.head steps.items × (cuts ≡ [])
-IsFilled Makes Fills kept k (Undecided at) cuts = cuts ≡ []
+IsFilled Makes Fills kept k (Undecided at) cuts = IsUndecidedKept Makes Fills kept × (cuts ≡ [])
 
 -- what it returns as that a certificate isn't cut
 abbrev pub uncut_by : Stop → Failure

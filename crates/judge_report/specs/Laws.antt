@@ -41,7 +41,7 @@ use Rattle.windows.specs.Texts.{certificate_text, steps_count}
 use Rattle.windows.specs.Windows.{IsWindow}
 use Rattle.judge_report.specs.declared.keeping.Cut.{Cut}
 use Rattle.judge_report.specs.declared.messages.Failure.{Failure}
-use Rattle.judge_report.specs.Asked.{Asked, Judging, Kept, Nothing, Nowhere, Overwrites, Whole, Windows, asked_of, is_window}
+use Rattle.judge_report.specs.Asked.{Asked, Judging, Kept, Nothing, Nowhere, Overwrites, Whole, Windows, asked_of, is_window, bare}
 use Rattle.judge_report.specs.Heard.{Heard, history_read}
 use Rattle.judge_report.specs.Kept.{IsFilled, IsKept, IsWritten, window_name}
 use Rattle.judge_report.specs.Messages.{failure_text}
@@ -151,17 +151,21 @@ pub record OptionsAreRead : Type 0 where
   pub plain : (p file : List ℕ) → is_file_word file ≡ true → asked_of (p ∷ file ∷ []) ≡ Judging false Nowhere file
   pub waiting : (p file : List ℕ) → is_file_word file ≡ true
       → asked_of (p ∷ codes "--waiting" ∷ file ∷ []) ≡ Judging true Nowhere file
-  pub trace : (p out file : List ℕ) → is_file_word out ≡ true → is_file_word file ≡ true → out ≢ file
+  pub trace : (p out file : List ℕ) → is_file_word out ≡ true → is_file_word file ≡ true → bare out ≢ bare file
       → (asked_of (p ∷ codes "--trace" ∷ out ∷ file ∷ []) ≡ Judging false (Whole out) file)
       × (asked_of (p ∷ codes "--waiting" ∷ codes "--trace" ∷ out ∷ file ∷ []) ≡ Judging true (Whole out) file)
       × (asked_of (p ∷ codes "--trace" ∷ out ∷ codes "--waiting" ∷ file ∷ []) ≡ Judging true (Whole out) file)
-  pub windows : (p out file : List ℕ) → is_file_word out ≡ true → is_file_word file ≡ true → is_window out file ≡ false
+  pub windows : (p out file : List ℕ) → is_file_word out ≡ true → is_file_word file ≡ true
+      → is_window (bare out) (bare file) ≡ false
       → (asked_of (p ∷ codes "--windows" ∷ out ∷ file ∷ []) ≡ Judging false (Windows out) file)
       × (asked_of (p ∷ codes "--waiting" ∷ codes "--windows" ∷ out ∷ file ∷ []) ≡ Judging true (Windows out) file)
       × (asked_of (p ∷ codes "--windows" ∷ out ∷ codes "--waiting" ∷ file ∷ []) ≡ Judging true (Windows out) file)
   -- and the history isn't written over, by a whole certificate or by a window
   pub over : (p file : List ℕ) → is_file_word file ≡ true
       → asked_of (p ∷ codes "--trace" ∷ file ∷ file ∷ []) ≡ Overwrites file
+  pub over_here : (p file : List ℕ) → is_file_word file ≡ true
+      → (asked_of (p ∷ codes "--trace" ∷ (codes "./" ++ file) ∷ file ∷ []) ≡ Overwrites file)
+      × (asked_of (p ∷ codes "--trace" ∷ file ∷ (codes "./" ++ file) ∷ []) ≡ Overwrites (codes "./" ++ file))
   pub over_window : (p out : List ℕ) (n : ℕ) → is_file_word out ≡ true → is_file_word (window_name out n) ≡ true
       → n < 2 ^ 64 → asked_of (p ∷ codes "--windows" ∷ out ∷ window_name out n ∷ []) ≡ Overwrites (window_name out n)
 

@@ -2,7 +2,7 @@
 --
 -- *The trace of a history.* Of a legal one it is that of a certificate. Of an illegal one it is that of a certificate of
 -- the lines before the illegal line, with that line at its end. An undecided one has none.
-use Rattle.std.specs.Prelude.{ℕ, ◌≡◌, ◌⊎◌, Bool, List, Option, Some, Ok, Err}
+use Rattle.std.specs.Prelude.{ℕ, ◌≡◌, ◌⊎◌, Bool, List, [], Option, Some, Ok, Err}
 use Rattle.std.specs.Io.KnownBytes.{Appends}
 use Rattle.lockword.specs.declared.reply.Reply.{Reply}
 use Rattle.histories.specs.declared.entry.Entry.{Entry}
@@ -64,12 +64,13 @@ unread_by (read.Ill at) = Ill at
 -- ---- what `--trace` writes
 
 -- what was written to the file of this name is the trace of the history that the bytes are; or the history isn't decided,
--- and that is reported
+-- which is reported, and the file is left empty
 abbrev pub WritesTrace : (List ℕ → Option (List ℕ) → Type 0) → (List ℕ → Option (List ℕ) → Type 0) → List ℕ → List ℕ
     → Option (List ℕ) → Option (List ℕ) → Type 0
 WritesTrace Makes Fills out bytes old new =
     ((text : List ℕ) × IsTraceOf bytes text × IsWritten Makes Fills out text)
-    ⊎ ((line : HistoryLine) × IsUntraced bytes (Undecided line) × Appends old new (undecided_text line))
+    ⊎ ((line : HistoryLine) × IsUntraced bytes (Undecided line) × Appends old new (undecided_text line)
+    × IsWritten Makes Fills out [])
 
 -- with `--trace OUT` that is written, whatever else is asked for
 pub record TracesAreWritten (Makes Fills : List ℕ → Option (List ℕ) → Type 0) : Type 0 where

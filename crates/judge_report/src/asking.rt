@@ -4,7 +4,7 @@ ghost use Rattle.std.specs.Prelude.{◌≡◌, map, option_map};
 ghost use Rattle.std.specs.Char.{is_ascii_digit};
 ghost use Rattle.std.specs.List.{list_all};
 ghost use Rattle.judge_report.specs.Asked.{asked_by, asked_of, is_number_part, is_waiting_word, is_window, judging};
-ghost use Rattle.judge_report.specs.Asked.{kept_of, place_words, placed, with_place};
+ghost use Rattle.judge_report.specs.Asked.{kept_of, place_words, placed, bare, with_place};
 
 use streams::is_file;
 
@@ -76,6 +76,23 @@ fn is_window(out: &[u8], file: &[u8]) -> bool
     file.starts_with(out) && is_number_part(&file[out.len()..])
 }
 
+/// The name without `./` at its beginning, which names the same file.
+#[tactic(auto, unfolding(crate::specs::Asked::bare))]
+fn bare(name: &[u8]) -> &[u8]
+    ensures { result.now ≡ bare name.now }
+{
+    match name {
+        [a, b, rest @ ..] => {
+            if *a == b'.' && *b == b'/' {
+                bare(rest)
+            } else {
+                name
+            }
+        }
+        _ => name,
+    }
+}
+
 /// A judgement of the history in the file of this name, if the certificate isn't written over it.
 fn placed<'a>(waiting: bool, keeping: Keeping<'a>, file: &'a str) -> Form<'a>
     ensures { asked_by result ≡ placed waiting (kept_of keeping.entry) file.now }
@@ -83,14 +100,14 @@ fn placed<'a>(waiting: bool, keeping: Keeping<'a>, file: &'a str) -> Form<'a>
     match keeping {
         Keeping::Nowhere => Form::History(waiting, Keeping::Nowhere, file),
         Keeping::Whole(out) => {
-            if out == file {
+            if bare(out.as_bytes()) == bare(file.as_bytes()) {
                 Form::Overwriting(file)
             } else {
                 Form::History(waiting, Keeping::Whole(out), file)
             }
         }
         Keeping::Windows(out) => {
-            if is_window(out.as_bytes(), file.as_bytes()) {
+            if is_window(bare(out.as_bytes()), bare(file.as_bytes())) {
                 Form::Overwriting(file)
             } else {
                 Form::History(waiting, Keeping::Windows(out), file)

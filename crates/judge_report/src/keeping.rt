@@ -7,7 +7,7 @@ ghost use Rattle.windows.specs.Windows.{IsWindow};
 ghost use Rattle.judge_report.specs.Asked.{kept_of};
 ghost use Rattle.judge_report.specs.Heard.{heard_of};
 ghost use Rattle.judge_report.specs.Kept.{AreKept, IsCutOf, IsFilled, IsIllegalKept, IsKept, IsUnkept};
-ghost use Rattle.judge_report.specs.Kept.{IsWindowKept, IsWritten};
+ghost use Rattle.judge_report.specs.Kept.{IsUndecidedKept, IsWindowKept, IsWritten};
 ghost use Rattle.judge_report.specs.Kept.{uncut_by, window_name};
 
 use crate::asking::Keeping;
@@ -190,8 +190,28 @@ fn keep_illegal<M: Maker>(
     }
 }
 
+/// Leaves the file empty that is to have the trace of an undecided history, which has none: so no older trace stays there.
+fn keep_undecided<M: Maker>(
+    alloc: Global,
+    maker: &M,
+    keeping: Keeping<'_>,
+) -> Result<Vec<Cut>, Failure>
+    ensures kept { IfOk result (λ cuts. IsUndecidedKept (M.makes maker.now) (M.fills maker.now) (kept_of keeping.entry)
+        × (cuts.items ≡ [])) }
+    ensures fails { IfErr result IsUnkept }
+{
+    match keeping {
+        Keeping::Nowhere => Ok(Vec::new(alloc)),
+        Keeping::Whole(name) => match fill_text(maker, name, &[]) {
+            Ok(()) => Ok(Vec::new(alloc)),
+            Err(_unwritten) => Err(Failure::CannotKeep),
+        },
+        Keeping::Windows(_) => Ok(Vec::new(alloc)),
+    }
+}
+
 /// Keeps the certificate, where there is one, where it is to be kept, or a trace of an illegal history up to its illegal
-/// line; which windows the certificate was cut into.
+/// line; of an undecided one the file is left empty. Returns which windows the certificate was cut into.
 pub fn keep<M: Maker>(
     alloc: Global,
     maker: &M,
@@ -209,6 +229,6 @@ pub fn keep<M: Maker>(
         Judgement::Illegal { steps, .. } => {
             keep_illegal(alloc, maker, keeping, &history.head, steps)
         }
-        Judgement::Undecided(_) => Ok(Vec::new(alloc)),
+        Judgement::Undecided(_) => keep_undecided(alloc, maker, keeping),
     }
 }
