@@ -66,6 +66,14 @@ pub mod Watching
 pub mod Watched
 pub mod CountRows
 pub mod CountersKept
+pub mod NoWaits
+pub mod Slept
+pub mod SleptRows
+pub mod CountedRows
+pub mod ReleasedRows
+pub mod SleptKept
 pub mod TakesOver
 pub mod Steady
+pub mod SleptOn
+pub mod SleptNext
 pub mod Kernels

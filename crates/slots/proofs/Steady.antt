@@ -13,6 +13,10 @@ use Rattle.protocol.proofs.Puts.{put-same}
 use Rattle.protocol.proofs.Queued.{in_none}
 use Rattle.protocol.proofs.Counters.{Counted}
 use Rattle.protocol.proofs.Renewals.{renewed_cell}
+use Rattle.slots.proofs.Slept.{CountsOn, Released, SeesSlept, queue_at}
+use Rattle.slots.proofs.CountersKept.{count_at}
+use Rattle.slots.specs.Premises.{KnowsSlept}
+use Rattle.std.specs.Prelude.{length}
 use Rattle.slots.specs.Premises.{SeesCount, KnowsItsTurn, HeirTakesOver, MayOwnMore, SlotsAreQuiet, Owning, Trusts}
 use Rattle.slots.specs.Places.{slot_of}
 use Rattle.slots.specs.Rows.{Choice, Giving, Row}
@@ -64,6 +68,9 @@ pub record Steady (x : Slots) : Type 0 where
   pub room : (t : ℕ) → 1 ≤ t → t ≤ x.machine.layout.threads → RoomAt (x.machine.threads t).held (x.rows t)
   pub sees : (t : ℕ) → 1 ≤ t → t ≤ x.machine.layout.threads → SeesCount x (x.rows t)
   pub counts : Counted x.machine
+  pub slept : (t : ℕ) → 1 ≤ t → t ≤ x.machine.layout.threads → SeesSlept x (x.rows t)
+  pub empty : (k : ℕ) → k < length x.machine.layout.conditions → x.slept k ≡ false → queue_at x k ≡ []
+  pub later : (v u k n : ℕ) → 1 ≤ v → v ≤ x.machine.layout.threads → 1 ≤ u → u ≤ x.machine.layout.threads → CountsOn (x.rows v) k → Released (x.rows u) k n → n < count_at x k
   pub watched : (t : ℕ) → 1 ≤ t → t ≤ x.machine.layout.threads → OwnWatched x.machine x.awake t (x.rows t)
 
 pub may_go : (a d e : Bool) → (a && d && not e) ≡ true → (d ≡ true) × (e ≡ false)
@@ -133,11 +140,18 @@ module _ (x : Slots) (t : ℕ) (pos : 1 ≤ t) (known : t ≤ x.machine.layout.t
       go true lives = may_own x t s.reached pos known (x.rows t) (here lives) fit room
       go false dead = subst (MayOwnMore x t) (sym (resting dead)) tt
 
+  silent_at : (r : Row) → Fits z.layout t r g → KnowsSlept x r
+  silent_at (Row.Counts m k all n) o = s.empty k o.cell.inside
+  silent_at r o = tt
+
+  pub silent : KnowsSlept x (x.rows t)
+  silent = silent_at (x.rows t) fit
+
   pub granted : (c : Choice) → Trusts x t (x.rows t) → Grants x (Goes t c)
   granted c w = go (is_alive g) refl
     where
       go : (b : Bool) → is_alive g ≡ b → Grants x (Goes t c)
-      go true lives = (about_it z.layout t (x.rows t) g fit (here lives), assume_row x t s.reached pos known (x.rows t) (here lives) fit own quiet knows more (s.sees t pos known) w, assume_too x t s.reached pos known (x.rows t) fit own quiet knows heir_over (s.sees t pos known) s.counts w)
+      go true lives = (about_it z.layout t (x.rows t) g fit (here lives), assume_row x t s.reached pos known (x.rows t) (here lives) fit own quiet knows more (s.sees t pos known) silent w, assume_too x t s.reached pos known (x.rows t) fit own quiet knows heir_over (s.sees t pos known) s.counts w)
       go false dead = (
         subst (λ (r : Row). IsAboutIt z.layout r g) (sym (resting dead)) tt,
         subst (Assumes x t) (sym (resting dead)) tt,

@@ -5,7 +5,7 @@ ghost use Rattle.slots.specs.Accesses.{MissesAreNoEvents, PendingAgainIsNoEvent,
 ghost use Rattle.slots.specs.Accesses.{TakesAreEvents, WakesAreEvents};
 ghost use Rattle.slots.specs.Each.{EachAccessIsEvents};
 ghost use Rattle.slots.specs.Fits.{NextRowsFit};
-ghost use Rattle.slots.specs.Premises.{AllHold, HeirsTakeOver, PremisesFollow, RunsKeepCounts, RunsKeepHeirs, RunsKeepOwners, RunsKeepRoom, RunsKeepTurns, SlotsStayQuiet, WordsStaySound};
+ghost use Rattle.slots.specs.Premises.{AllHold, HeirsTakeOver, PremisesFollow, RunsKeepCounts, RunsKeepHeirs, RunsKeepOwners, RunsKeepRoom, RunsKeepSlept, RunsKeepTurns, SlotsStayQuiet, WordsStaySound};
 ghost use Rattle.slots.specs.Goes.{OthersStandStill, RowsLeadOn, RunsKeepTheirRows};
 ghost use Rattle.slots.specs.Goes.{AccessesOfRunsAreEvents, ThreadsKeepTheirRows};
 ghost use Rattle.slots.specs.Further.{AnnouncedReleasesAreEvents, CountsAreEvents, DecidingLooksAreEvents};
@@ -312,7 +312,7 @@ pub fn next_rows_fit()
 
 /// In any run, what happenings assume follows from less: rows fit, calls are about their rows' mutexes, sleeps with a deadline
 /// are of locks that have been to the slot or have slept, and dead threads are in none of our calls. What is still assumed
-/// of an access is named (`specs/Premises.antt`).
+/// of an access are two bounds (`specs/Premises.antt`: `Trusts`).
 pub fn premises_follow()
     ensures { PremisesFollow }
 {}
@@ -351,6 +351,12 @@ pub fn runs_keep_counts()
     ensures { RunsKeepCounts }
 {}
 
+/// In any run, when a signal or a broadcast is about to count and the counter has no SLEPT, nobody sleeps on the counter. So
+/// if the call makes no wake, there was nobody to wake.
+pub fn runs_keep_slept()
+    ensures { RunsKeepSlept }
+{}
+
 /// In any run, if a slot has AWAKE and an owner, and isn't marked, its owner is the cell's heir: it will look at the cell's
 /// word, or has taken the cell, or was killed, and Linux will look.
 pub fn runs_keep_heirs()
@@ -363,8 +369,8 @@ pub fn heirs_take_over()
     ensures { HeirsTakeOver }
 {}
 
-/// In any run, each access of a thread that lives and is awake is the events that the table has for it. What is still assumed
-/// is named (`specs/Premises.antt`).
+/// In any run, each access of a thread that lives and is awake is the events that the table has for it. Two bounds are still
+/// assumed (`specs/Premises.antt`: `Trusts`).
 pub fn all_hold()
     ensures { AllHold }
 {}

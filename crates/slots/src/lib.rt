@@ -19,9 +19,9 @@
 //! - *Runs of the layer*: `others_stand_still`, `rows_lead_on`, `threads_keep_their_rows`,
 //!   `runs_keep_their_rows`, `accesses_of_runs_are_events`; `next_rows_fit`, and so `premises_follow`: what rows assume of
 //!   their mutexes and of the words that they have seen. `words_stay_sound`: the machine's words of mutexes.
-//!   `slots_stay_quiet`, `runs_keep_owners`, `runs_keep_turns`, `runs_keep_room`, `runs_keep_counts`,
-//!   `runs_keep_heirs`: slots, who owns what, turns, how many mutexes a thread owns, counters, and heirs, to whom wakes are
-//!   left (`heirs_take_over`). So `all_hold`: each access of a run is its events.
+//!   `slots_stay_quiet`, `runs_keep_owners`, `runs_keep_turns`, `runs_keep_room`, `runs_keep_counts`, `runs_keep_slept`,
+//!   `runs_keep_heirs`: slots, who owns what, turns, how many mutexes a thread owns, counters and who sleeps there, and
+//!   heirs, to whom wakes are left (`heirs_take_over`). So `all_hold`: each access of a run is its events.
 //! - *Several events at one moment*: `giving_up_leaves_nothing`, `giving_up_is_a_look`, `takes_are_one_exchange`,
 //!   `takes_are_the_exchange`, `announcing_is_one_store`.
 //! - *Newer kernels*: `wakes_without_waiters_wake_nobody`.
@@ -33,8 +33,8 @@
 //!
 //! So each access is its events, at every row, and whatever it finds: `each_access_is_events`. The laws of rows name what
 //! they assume: where the machine's thread is (`specs/Stands.antt`), what its call knows, and what a word doesn't have
-//! (`specs/Each.antt`). A part of this is so in every run (`premises_follow`); the rest isn't proved
-//! (`specs/Premises.antt`, `UNPROVED.md`).
+//! (`specs/Each.antt`). All of this is so in every run, except for two bounds (`premises_follow`, `all_hold`,
+//! `specs/Premises.antt`; `UNPROVED.md`).
 #![tactic(auto)]
 
 mod laws;
@@ -49,10 +49,11 @@ pub use laws::{
     misses_are_no_events, moves_are_events, next_rows_fit, nobody_joins_a_free_mutex,
     others_answer_still, others_leave_heirs, others_leave_what_is_owned, others_stand_still,
     pending_again_is_no_event, premises_follow, releases_are_events, releases_tell, rows_lead_on,
-    runs_keep_counts, runs_keep_heirs, runs_keep_owners, runs_keep_room, runs_keep_their_rows,
-    runs_keep_turns, sleeps_are_events, slots_run_the_machine, slots_stay_quiet, spares_are_events,
-    standing_heirs_answer, takes_are_events, takes_are_one_exchange, takes_are_the_exchange,
-    threads_keep_their_rows, trims_are_events, trims_are_the_machines, turns_stay_known,
-    turns_stay_known_by_all, wakes_are_events, wakes_of_nobody_tell,
-    wakes_without_waiters_wake_nobody, walks_leave_all, walks_leave_heirs, words_stay_sound,
+    runs_keep_counts, runs_keep_heirs, runs_keep_owners, runs_keep_room, runs_keep_slept,
+    runs_keep_their_rows, runs_keep_turns, sleeps_are_events, slots_run_the_machine,
+    slots_stay_quiet, spares_are_events, standing_heirs_answer, takes_are_events,
+    takes_are_one_exchange, takes_are_the_exchange, threads_keep_their_rows, trims_are_events,
+    trims_are_the_machines, turns_stay_known, turns_stay_known_by_all, wakes_are_events,
+    wakes_of_nobody_tell, wakes_without_waiters_wake_nobody, walks_leave_all, walks_leave_heirs,
+    words_stay_sound,
 };
