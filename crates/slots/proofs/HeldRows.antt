@@ -248,8 +248,8 @@ module _ (x y : Slots) (t : ℕ) (c : Choice) (inv : Kept x.machine) (then_kept 
       sl = W (slot_of k.mutex)
 
   watched_room : (k : Taking) (v : ℕ) (over : Bool) → behind < 2047 → Room (watched_row x t c k v over)
-  watched_room k v over few = either (over && is_free v) (Row.HeirTakes k v) (if over && not (fields_of v).unusable then Row.HeirPends k Again else Row.GivesUp k) few
-      (either (over && not (fields_of v).unusable) (Row.HeirPends k Again) (Row.GivesUp k) few few)
+  watched_room k v over few = either (over && is_free v) (Row.HeirTakes k v) (if over && not (fields_of v).unusable && not (k.timed && c.yes) then Row.HeirPends k Again else Row.GivesUp k) few
+      (either (over && not (fields_of v).unusable && not (k.timed && c.yes)) (Row.HeirPends k Again) (Row.GivesUp k) few few)
 
   out_room : (k : Taking) → behind < 2047 → Room (out_of x t c k)
   out_room k few = either (k.timed && c.yes) (Row.Frees k (Fails ETIMEDOUT)) (Row.Frees k Sleeps) tt few
@@ -279,7 +279,7 @@ module _ (x y : Slots) (t : ℕ) (c : Choice) (inv : Kept x.machine) (then_kept 
   linked_room k true few = few
   linked_room k false few = few
 
-  heir_looks_room : (k : Taking) (v : ℕ) (a b : Bool) → behind < 2047 → Room (if a then Row.HeirPendsOn k v true else if b then Row.HeirSets k else Row.HeirPendsOn k v false)
+  heir_looks_room : (k : Taking) (v : ℕ) (a b : Bool) → behind < 2047 → Room (if a then Row.HeirPendsOn k v true else if b then Row.HeirPends k Again else Row.HeirPendsOn k v false)
   heir_looks_room k v true b few = few
   heir_looks_room k v false true few = few
   heir_looks_room k v false false few = few

@@ -1,4 +1,4 @@
--- Who may sleep on a counter: a wait that has released its mutex, and then only with SLEPT set, or after a count.
+-- Which threads may sleep on a counter: a wait that has released its mutex, and then only with SLEPT set, or after a count.
 use Rattle.std.proofs.Common.{◌≡◌, ℕ, true, [], List}
 use Rattle.memorymap.specs.Layouts.{counter_place}
 use Rattle.slots.specs.Rows.{Row}

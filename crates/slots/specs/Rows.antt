@@ -80,7 +80,7 @@ pub data Row : Type 0 where
   SlotClears : Taking → Row  -- take_slot: set_pending(NULL)
   SlotQuiets : Taking → Row  -- take_slot: fetch_and(slot, ~AWAKE)
   SlotMends : Taking → Row  -- take_slot: fetch_and(slot, ~OWNER_DIED)
-  HeirPends : Taking → Before → Row  -- wait_awake: set_pending(cell_entry)
+  HeirPends : Taking → Before → Row  -- wait_awake, watch: set_pending(cell_entry)
   HeirSets : Taking → Row  -- wait_awake, watch: say_awake, an exchange of the slot
   HeirLooks : Taking → Row  -- wait_awake: load_in_order(cell); watch: load_acquire(cell)
   HeirPendsOn : Taking → ℕ → Bool → Row  -- wait_awake: set_pending(cell_entry) again; whether the watch is over
