@@ -77,3 +77,4 @@ pub mod Steady
 pub mod SleptOn
 pub mod SleptNext
 pub mod Kernels
+pub mod AnyKernel

@@ -13,7 +13,7 @@ ghost use Rattle.slots.specs.Further.{FirstLooksAreEvents, MarksAreEvents, Mends
 ghost use Rattle.slots.specs.Further.{SleepsAreEvents, SparesAreEvents, TrimsAreEvents};
 ghost use Rattle.slots.specs.Heirs.{DeathsLeaveAll, DeathsLeaveHeirs, OthersAnswerStill, OthersLeaveHeirs};
 ghost use Rattle.slots.specs.Heirs.{OthersLeaveWhatIsOwned, WalksLeaveAll, WalksLeaveHeirs};
-ghost use Rattle.slots.specs.Kernels.{WakesWithoutWaitersWakeNobody};
+ghost use Rattle.slots.specs.Kernels.{AnyKernelWillDo, RousesNobody, WakesWithoutWaitersWakeNobody};
 ghost use Rattle.slots.specs.Laws.{HeirsLetSpare, NobodyJoinsAFreeMutex, ReleasesTell, SlotsRunTheMachine};
 ghost use Rattle.slots.specs.Laws.{StandingHeirsAnswer, TrimsAreTheMachines, TurnsStayKnown};
 ghost use Rattle.slots.specs.Laws.{TurnsStayKnownByAll, WakesOfNobodyTell};
@@ -379,4 +379,15 @@ pub fn all_hold()
 /// kernels' walks make such a wake, at the pending word of a mutex that another thread owns.
 pub fn wakes_without_waiters_wake_nobody()
     ensures { WakesWithoutWaitersWakeNobody }
+{}
+
+/// If a kernel wakes one that sleeps on a mutex whose word has no WAITERS, nothing changes in the layer.
+pub fn rouses_nobody()
+    ensures { RousesNobody }
+{}
+
+/// Whatever happens, and whenever a kernel wakes one that sleeps on a mutex: a run without these wakes leads to the same state.
+/// So all laws of runs hold of kernels whose walks make more wakes.
+pub fn any_kernel_will_do()
+    ensures { AnyKernelWillDo }
 {}

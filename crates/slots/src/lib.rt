@@ -24,7 +24,8 @@
 //!   heirs, to whom wakes are left (`heirs_take_over`). So `all_hold`: each access of a run is its events.
 //! - *Several events at one moment*: `giving_up_leaves_nothing`, `giving_up_is_a_look`, `takes_are_one_exchange`,
 //!   `takes_are_the_exchange`, `announcing_is_one_store`.
-//! - *Newer kernels*: `wakes_without_waiters_wake_nobody`.
+//! - *Newer kernels*, whose walks make one more wake: `wakes_without_waiters_wake_nobody`, `rouses_nobody`,
+//!   `any_kernel_will_do`.
 //! - *The turn*: `trims_are_the_machines`, with `releases_tell`, `wakes_of_nobody_tell`, `turns_stay_known`,
 //!   `turns_stay_known_by_all` and `nobody_joins_a_free_mutex`.
 //! - *The heir*: `heirs_let_spare`. `standing_heirs_answer` says which threads are heirs. Heirs stay heirs: `heirs_go_on`,
@@ -41,6 +42,7 @@ mod laws;
 
 pub use laws::{
     accesses_of_runs_are_events, all_hold, announced_releases_are_events, announcing_is_one_store,
+    any_kernel_will_do, rouses_nobody,
     announcing_rows_are_events, awake_is_cleared, awake_is_set, clearing_rows_are_events,
     counts_are_events, deaths_leave_all, deaths_leave_heirs, deciding_looks_are_events,
     each_access_is_events, first_looks_are_events, giving_up_is_a_look, giving_up_leaves_nothing,
