@@ -3,19 +3,17 @@ use mathlib.Core.Path.{fun_ext}
 use Rattle.std.proofs.Common.{◌≡◌, ℕ, ◌<◌, ◌≤◌, Bool, true, false, List, [], ◌∷◌, refl, sym, ap, ◌∙◌, subst, arith}
 use Rattle.std.specs.Prelude.{if◌then◌else◌, ◌&&◌, nat_lt}
 use Rattle.std.proofs.lemmas.Bool.Decides.{nat_tests}
-use Rattle.memorymap.specs.Layouts.{Layout', cell_place}
+use Rattle.memorymap.specs.Layouts.{cell_place}
 use Rattle.buckets.specs.Queues.{without}
-use Rattle.protocol.specs.declared.event.Event.{Event}
 use Rattle.protocol.specs.declared.event.Event.TheVariants.{Leave}
 use Rattle.protocol.specs.Machine.{State, After, departed, happens, has_thread, is_asleep, nothing, put, stands_in}
 use Rattle.protocol.proofs.Events.{is_known}
 use Rattle.protocol.proofs.Puts.{by_put}
 use Rattle.protocol.proofs.Queued.{Queued, asleep_there}
 use Rattle.protocol.proofs.Queues.{Once, first_stands, not_true, without_same}
-use Rattle.slots.specs.Shown.{Slots, after, begin, turned}
+use Rattle.slots.specs.Shown.{Slots, begin, turned}
 use Rattle.slots.specs.Runs.{Happening, events_of, next, reached_from}
 use Rattle.slots.specs.Runs.Happening.{Interrupts}
-use Rattle.slots.specs.Invariant.{fields_at}
 use Rattle.slots.specs.Kernels.{AllTrustedInAny, AnyHappening, AnyKernelWillDo, RousesNobody, next_in_any, reached_in_any, roused, without_one}
 use Rattle.slots.specs.Kernels.AnyHappening.{Happens, Rouses}
 use Rattle.slots.specs.Laws.{IsReached}

@@ -327,7 +327,7 @@ module _ (x : Slots) (t : ℕ) (c : Choice) (g : Stage) where
   fits_row (Row.Marks k v n) was (o, to) apart wakes = marks_fit k v n o to (wakes k.mutex refl)
   fits_row (Row.SleepsOn k v) was (o, sees) apart wakes = asleep_fits k k.how v (word k.mutex) refl o
   fits_row (Row.Asleep k) was (o, later_if) apart wakes = o
-  fits_row (Row.Late k) was f apart wakes = tt
+  fits_row (Row.Late k) was f apart wakes = f
   fits_row (Row.LateSees k) was f apart wakes = tt
   fits_row (Row.WakesAll m r) was f apart wakes = tt
   fits_row (Row.SlotPends k sl) was (o, to, none) apart wakes = (o, none)

@@ -47,6 +47,8 @@ use Rattle.slots.proofs.PlainSlots.{IsPlain, plain_quiet}
 use Rattle.slots.proofs.Watched.{OwnWatched, heirs_of_all, others_watched}
 use Rattle.slots.proofs.Watching.{awake_else}
 use Rattle.slots.proofs.Steady.{Steady, calls, dies, goes, granted, heir_over, interrupts, lapses, lives, may_go, more, silent, small, walks}
+use Rattle.slots.proofs.Deciding.{decides_once}
+use Rattle.slots.specs.Replies.{CallsDecideOnce}
 use Rattle.slots.proofs.Rooms.{first_cell}
 use Rattle.slots.proofs.Others.{events_are_of, others_still}
 
@@ -388,7 +390,7 @@ layout_then : (x : Slots) (hs : List Happening) → Steady x → AllTrusted x hs
 layout_then x [] s trusted = refl
 layout_then x (h ∷ hs) s ((pos, known, w), trusted) = layout_then (next x h) hs (steady_next x h s pos known w) trusted ∙ ap (λ (z : State). z.layout) (next_is x h) ∙ layout_run x.machine (events_of x h) (reached_kept x.machine s.reached)
 
-begins_steady : (l : Layout') → IsLayout l → Steady (begin l)
+pub begins_steady : (l : Layout') → IsLayout l → Steady (begin l)
 begins_steady l is = record {
   reached = record { layout = l; counters = λ c. 0; events = []; is = is; here = refl };
   fits = λ t first last. tt;
@@ -441,3 +443,7 @@ heirs_over l hs t is first last trusted = heir_over (reached l hs) t first (subs
 pub all_hold : AllHold
 all_hold l hs t c is first last trusted w lives awake = runs_are_events l hs t c is first last (premises_follow l hs is trusted)
     (granted (reached l hs) t first (subst (λ (k : Layout'). t ≤ k.threads) (sym (layout_then (begin l) hs (begins_steady l is) trusted)) last) (steady_run (begin l) hs (begins_steady l is) trusted) c w) lives awake
+
+pub decide_once : CallsDecideOnce
+decide_once l hs t c is first last trusted = decides_once (reached l hs) t c ((reached l hs).machine.threads t).stage
+    ((steady_run (begin l) hs (begins_steady l is) trusted).fits t first (subst (λ (k : Layout'). t ≤ k.threads) (sym (layout_then (begin l) hs (begins_steady l is) trusted)) last))

@@ -62,6 +62,8 @@ RoomAt n (Row.SeesAgain k v) = Few k.how n
 RoomAt n (Row.Marks k v to) = Few k.how n
 RoomAt n (Row.SleepsOn k v) = Few k.how n
 RoomAt n (Row.Asleep k) = Few k.how n
+RoomAt n (Row.Late k) = n < 2046
+RoomAt n (Row.LateSees k) = n < 2046
 RoomAt n (Row.SlotPends k g) = n < 2046
 RoomAt n (Row.SlotTakes k g) = n < 2046
 RoomAt n (Row.SlotLeft k) = n < 2046
@@ -418,6 +420,7 @@ module _ (x y : Slots) (t : ℕ) (c : Choice) (inv : Kept x.machine) (then_kept 
   room_row (Row.SlotQuiets k) g o own apart w is none = slot_still (still (none refl)) w
   room_row (Row.SlotMends k) g o own apart w is none = slot_still (by_declaring (slot_of k.mutex) (our_slot l k.mutex o.ours) is) w
   room_row (Row.HeirPends k b) g o own apart w is none = slot_still (by_pending _ is) w
+  room_row (Row.Late k) g o own apart w is none = let e = still (none refl) in omega (arith, e, w)
   room_row (Row.HeirSets k) g o own apart w is none = slot_still (still (none refl)) w
   room_row (Row.HeirLooks k) g o own apart w is none = heir_looks_room k (W (cell_of k.mutex)) ((fields_of (W (cell_of k.mutex))).unusable || (is_free (W (cell_of k.mutex)) && c.yes)) c.again (slot_still (still (none refl)) w)
   room_row (Row.HeirPendsOn k v over) g o own apart w is none = watched_room k v over (slot_still (still (none refl)) w)

@@ -73,8 +73,13 @@ pub mod CountedRows
 pub mod ReleasedRows
 pub mod SleptKept
 pub mod TakesOver
+pub mod Deciding
+pub mod OurObjects
+pub mod ObjectWords
+pub mod Points
 pub mod Steady
 pub mod SleptOn
 pub mod SleptNext
 pub mod Kernels
 pub mod AnyKernel
+pub mod OneHistory

@@ -5,8 +5,13 @@ use Rattle.memorymap.specs.Layouts.{Layout', address_in, cell_place, counter_pla
 use Rattle.protocol.specs.declared.event.Event.{Event}
 use Rattle.protocol.specs.declared.event.Event.TheVariants.{Step, Kill, Leave, Expire}
 use Rattle.protocol.specs.declared.thread.Stage.{Stage}
-use Rattle.protocol.specs.declared.thread.Stage.TheVariants.{Calling, Dying, Reaped}
-use Rattle.protocol.specs.Machine.{State, After, departed, has_thread, is_alive, is_asleep, is_dying, is_exiting, is_gone, nothing, place_met, renewed, run, sleeps, stands_in, words_after}
+use Rattle.protocol.specs.declared.thread.Stage.TheVariants.{AtCondition, Calling, Dying, Idle, Reaped}
+use Rattle.protocol.specs.declared.thread.Thread.{Thread}
+use Rattle.mutex.specs.Whole.{may_expire}
+use Rattle.condvar.specs.Calls.{condition_of}
+use Rattle.condvar.specs.declared.op.Op.TheVariants.{OnMutex, OnCondition}
+use Rattle.slots.specs.Rows.How.{Later}
+use Rattle.protocol.specs.Machine.{After, State, departed, expired, has_thread, is_alive, is_asleep, is_dying, is_exiting, is_gone, is_timed, lapsed, nothing, overslept, place_met, renewed, run, sleeps, stands_in, waits_on, words_after}
 use Rattle.protocol.proofs.Kept.{Kept, last_thread}
 use Rattle.protocol.proofs.Events.{is_known}
 use Rattle.protocol.proofs.Puts.{put-same}
@@ -19,7 +24,7 @@ use Rattle.slots.specs.Premises.{KnowsSlept}
 use Rattle.std.specs.Prelude.{length}
 use Rattle.slots.specs.Premises.{SeesCount, KnowsItsTurn, HeirTakesOver, MayOwnMore, SlotsAreQuiet, Owning, Trusts}
 use Rattle.slots.specs.Places.{slot_of}
-use Rattle.slots.specs.Rows.{Choice, Giving, Row}
+use Rattle.slots.specs.Rows.{Choice, Giving, How, Row, Taking}
 use Rattle.slots.specs.Rows.Giving.{OfUnlock, OfWait}
 use Rattle.slots.specs.Shown.{memory, shown, Slots, after}
 use Rattle.slots.specs.Table.{access_of_stage, made}
@@ -40,7 +45,7 @@ use Rattle.slots.proofs.CallsFit.{calls_fit}
 use Rattle.slots.proofs.FitsOn.{next_rows_fit}
 use Rattle.slots.proofs.Free.{reached_kept, reached_queued}
 use Rattle.slots.proofs.Keeping.{all_four, dying_at, lapses_so, rests_at}
-use Rattle.slots.proofs.HeldRows.{RoomAt, first_room, room_row}
+use Rattle.slots.proofs.HeldRows.{Few, RoomAt, first_room, room_row}
 use Rattle.slots.proofs.Leading.{by_test}
 use Rattle.slots.proofs.LeadsOn.{rows_lead}
 use Rattle.slots.proofs.Each.{each_access}
@@ -287,7 +292,7 @@ module _ (x : Slots) (t : ℕ) (pos : 1 ≤ t) (known : t ≤ x.machine.layout.t
           (λ e. (fit, resting, owning_kept x (record x { machine = (departed z t).state }) t pos refl (record { same = λ k o. refl; none = λ k o. o }) (x.rows t) g fit own, λ m ours. still_plain z (departed z t).state m refl (s.plain m ours), room)) (λ e. (fit, resting, own, s.plain, room))
 
   lapse_fits : (r : Row) → Fits z.layout t r g → Fits z.layout t (lapse_row r) ((run z (lapse_events x t r)).threads t).stage
-  lapse_fits (Row.Asleep k) o = by_test (λ (r : Row). Fits z.layout t r ((run z (lapse_events x t (Row.Asleep k))).threads t).stage) k.timed (Row.Late k) (Row.Asleep k) (λ e. tt) (λ e. o)
+  lapse_fits (Row.Asleep k) o = by_test (λ (r : Row). Fits z.layout t r ((run z (lapse_events x t (Row.Asleep k))).threads t).stage) k.timed (Row.Late k) (Row.Asleep k) (λ e. o.0) (λ e. o)
   lapse_fits (Row.WaitAsleep m k true) o = o
   lapse_fits (Row.WaitAsleep m k false) o = o
   lapse_fits r o = o
@@ -304,15 +309,27 @@ module _ (x : Slots) (t : ℕ) (pos : 1 ≤ t) (known : t ≤ x.machine.layout.t
   lapse_plain (Row.WaitAsleep j k false) m ours = s.plain m ours
   lapse_plain r m ours = s.plain m ours
 
-  lapse_room : (r : Row) → RoomAt (z.threads t).held r → RoomAt ((run z (lapse_events x t r)).threads t).held (lapse_row r)
-  lapse_room (Row.Asleep k) o = go k.timed
+  -- it owns as many after a timeout
+  held_late : (f : Stage) → ((expired z t (z.threads t).held f).state.threads t).held ≡ (z.threads t).held
+  held_late (Calling (OnMutex o) q) = by_test (λ (a : After). (a.state.threads t).held ≡ (z.threads t).held) (is_timed (OnMutex o) && may_expire q.phase && sleeps z t (Calling (OnMutex o) q)) (lapsed z t (z.threads t).held (OnMutex o) q) (nothing z) (λ e. ap (λ (v : Thread). v.held) (put-same z.threads t _)) (λ e. refl)
+  held_late (Calling (OnCondition o) q) = by_test (λ (a : After). (a.state.threads t).held ≡ (z.threads t).held) (is_timed (OnCondition o) && waits_on z t (condition_of o)) (overslept z t (z.threads t).held (condition_of o) q) (nothing z) (λ e. ap (λ (v : Thread). v.held) (put-same z.threads t _)) (λ e. refl)
+  held_late Idle = refl
+  held_late (AtCondition o q) = refl
+  held_late (Dying w) = refl
+  held_late Reaped = refl
+
+  few_late : (k : Taking) → k.how ≡ Later → Few k.how (z.threads t).held → ((run z (Expire t ∷ [])).threads t).held < 2046
+  few_late k how few = subst (λ (n : ℕ). n < 2046) (sym (by_test (λ (a : After). (a.state.threads t).held ≡ (z.threads t).held) (has_thread z t) (expired z t (z.threads t).held g) (nothing z) (λ e. held_late g) (λ e. refl))) (subst (λ (h : How). Few h (z.threads t).held) how few)
+
+  lapse_room : (r : Row) → Fits z.layout t r g → RoomAt (z.threads t).held r → RoomAt ((run z (lapse_events x t r)).threads t).held (lapse_row r)
+  lapse_room (Row.Asleep k) fits o = go k.timed refl
     where
-      go : (b : Bool) → RoomAt ((run z (if b then Expire t ∷ [] else [])).threads t).held (if b then Row.Late k else Row.Asleep k)
-      go true = tt
-      go false = o
-  lapse_room (Row.WaitAsleep m k true) o = tt
-  lapse_room (Row.WaitAsleep m k false) o = tt
-  lapse_room r o = o
+      go : (b : Bool) → k.timed ≡ b → RoomAt ((run z (if b then Expire t ∷ [] else [])).threads t).held (if b then Row.Late k else Row.Asleep k)
+      go true e = few_late k (fits.1 e) o
+      go false e = o
+  lapse_room (Row.WaitAsleep m k true) fits o = tt
+  lapse_room (Row.WaitAsleep m k false) fits o = tt
+  lapse_room r fits o = o
 
   alive_asleep : (f : Stage) → sleeps z t f ≡ true → is_alive f ≡ true
   alive_asleep (Calling o p) e = refl
@@ -334,7 +351,7 @@ module _ (x : Slots) (t : ℕ) (pos : 1 ≤ t) (known : t ≤ x.machine.layout.t
       (λ asleep. at_new (after x (lapse_events x t (x.rows t))) (lapse_row (x.rows t)) (lapse_fits (x.rows t) fit)
       (λ dead. absurd (cc (sym dead ∙ standing_lives ((run z (lapse_events x t (x.rows t))).threads t).stage (lapse_row (x.rows t))
       (lapses_so x t (reached_kept z s.reached) (x.rows t) (here (alive_asleep g asleep)) (sleeps_later z.layout t (x.rows t) g fit) (is_known z t pos known) asleep))))
-      (lapse_owns (x.rows t) own) (lapse_plain (x.rows t)) (lapse_room (x.rows t) room) (lapse_watched (x.rows t) (alive_asleep g asleep) seen_over))
+      (lapse_owns (x.rows t) own) (lapse_plain (x.rows t)) (lapse_room (x.rows t) fit room) (lapse_watched (x.rows t) (alive_asleep g asleep) seen_over))
       (λ e. unchanged)
 
   pub dies : Both (next x (Dies t))

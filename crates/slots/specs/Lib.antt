@@ -10,6 +10,7 @@ pub mod Laws
 pub mod Moments
 pub mod Places
 pub mod Premises
+pub mod Replies
 pub mod Rows
 pub mod Runs
 pub mod Shown

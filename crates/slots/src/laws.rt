@@ -17,6 +17,7 @@ ghost use Rattle.slots.specs.Kernels.{AnyKernelWillDo, RousesNobody, WakesWithou
 ghost use Rattle.slots.specs.Laws.{HeirsLetSpare, NobodyJoinsAFreeMutex, ReleasesTell, SlotsRunTheMachine};
 ghost use Rattle.slots.specs.Laws.{StandingHeirsAnswer, TrimsAreTheMachines, TurnsStayKnown};
 ghost use Rattle.slots.specs.Laws.{TurnsStayKnownByAll, WakesOfNobodyTell};
+ghost use Rattle.slots.specs.Replies.{CallsAreOneHistory, CallsBeginUndecided, CallsDecideOnce};
 ghost use Rattle.slots.specs.Moments.{AnnouncingIsOneStore, GivingUpIsALook, GivingUpLeavesNothing};
 ghost use Rattle.slots.specs.Moments.{HeirTakesAreEvents, HeirsGoOn, LastLooksAreEvents, TakesAreOneExchange};
 ghost use Rattle.slots.specs.Moments.{TakesAreTheExchange};
@@ -390,4 +391,22 @@ pub fn rouses_nobody()
 /// So all laws of runs hold of kernels whose walks make more wakes.
 pub fn any_kernel_will_do()
     ensures { AnyKernelWillDo }
+{}
+
+/// A call begins undecided, and knows its operation.
+pub fn calls_begin_undecided()
+    ensures { CallsBeginUndecided }
+{}
+
+/// In any run, whatever the next access of a call finds, the access is the call's point or does nothing. A call has one point,
+/// of its own operation and mutex, and returns the reply of that point. A wait unlocks its mutex before. A lock whose deadline
+/// isn't a time has no point: it returns EINVAL, if another thread owns the mutex.
+pub fn calls_decide_once()
+    ensures { CallsDecideOnce }
+{}
+
+/// In any run, the points of the C library's calls, with the replies that the calls return, and the deaths that Linux marks are
+/// one legal history from free mutexes. After it, each mutex is as its cell says.
+pub fn calls_are_one_history()
+    ensures { CallsAreOneHistory }
 {}
