@@ -382,11 +382,11 @@ follow : (x : Slots) (hs : List Happening) → Steady x → AllTrusted x hs → 
 follow x [] s trusted = tt
 follow x (h ∷ hs) s ((pos, known, w), trusted) = ((pos, known, grants_then x h s pos known w), follow (next x h) hs (steady_next x h s pos known w) trusted)
 
-steady_run : (x : Slots) (hs : List Happening) → Steady x → AllTrusted x hs → Steady (reached_from x hs)
+pub steady_run : (x : Slots) (hs : List Happening) → Steady x → AllTrusted x hs → Steady (reached_from x hs)
 steady_run x [] s trusted = s
 steady_run x (h ∷ hs) s ((pos, known, w), trusted) = steady_run (next x h) hs (steady_next x h s pos known w) trusted
 
-layout_then : (x : Slots) (hs : List Happening) → Steady x → AllTrusted x hs → (reached_from x hs).machine.layout ≡ x.machine.layout
+pub layout_then : (x : Slots) (hs : List Happening) → Steady x → AllTrusted x hs → (reached_from x hs).machine.layout ≡ x.machine.layout
 layout_then x [] s trusted = refl
 layout_then x (h ∷ hs) s ((pos, known, w), trusted) = layout_then (next x h) hs (steady_next x h s pos known w) trusted ∙ ap (λ (z : State). z.layout) (next_is x h) ∙ layout_run x.machine (events_of x h) (reached_kept x.machine s.reached)
 

@@ -83,3 +83,6 @@ pub mod SleptNext
 pub mod Kernels
 pub mod AnyKernel
 pub mod OneHistory
+pub mod PlainStores
+pub mod OwnStores
+pub mod Buffering

@@ -25,14 +25,6 @@ SeesSlept x (Row.WaitSleeps m k n timed) = IfThere x k n
 SeesSlept x (Row.Unsets m k n) = queue_at x k ≡ []
 SeesSlept x r = Unit {0}
 
--- a wait on condition variable k has released its mutex, and has seen this count
-abbrev pub Released : Row → ℕ → ℕ → Type 0
-Released (Row.HandsOn m (OfWait i c b timed) is) k n = (i ≡ k) × (c ≡ n)
-Released (Row.LooksBack m (OfWait i c b timed) is) k n = (i ≡ k) × (c ≡ n)
-Released (Row.WakesOne m (OfWait i c b timed) is) k n = (i ≡ k) × (c ≡ n)
-Released (Row.WaitSleeps m i c timed) k n = (i ≡ k) × (c ≡ n)
-Released r k n = ⊥
-
 -- a signal or a broadcast has counted on condition variable k, and hasn't returned
 abbrev pub CountsOn : Row → ℕ → Type 0
 CountsOn (Row.CountWakes m i n) k = i ≡ k

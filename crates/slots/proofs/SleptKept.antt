@@ -33,7 +33,8 @@ use Rattle.slots.proofs.NoWaits.{away_row, empty_stays}
 use Rattle.slots.proofs.Owned.{our_cell}
 use Rattle.slots.proofs.Shows.{cell_valid}
 use Rattle.slots.proofs.Sleeping.{counter_shows}
-use Rattle.slots.proofs.Slept.{IfThere, Released, SeesSlept, queue_at}
+use Rattle.slots.specs.Stores.{Released}
+use Rattle.slots.proofs.Slept.{IfThere, SeesSlept, queue_at}
 use Rattle.slots.proofs.SleptRows.{Needs}
 
 nobody_empty : (q : List ℕ) → is_nobody q ≡ true → q ≡ []

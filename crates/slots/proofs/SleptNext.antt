@@ -39,7 +39,8 @@ use Rattle.slots.proofs.Others.{others_still}
 use Rattle.slots.proofs.ReleasedRows.{released_row}
 use Rattle.slots.proofs.ReleasedRows as release
 use Rattle.slots.proofs.Sleeping.{counter_shows}
-use Rattle.slots.proofs.Slept.{CountsOn, IfThere, Released, SeesSlept, queue_at}
+use Rattle.slots.specs.Stores.{Released}
+use Rattle.slots.proofs.Slept.{CountsOn, IfThere, SeesSlept, queue_at}
 use Rattle.slots.proofs.SleptKept.{slept_needs}
 use Rattle.slots.proofs.SleptOn.{below, empty_next, rises_next, run_rises}
 use Rattle.slots.proofs.SleptRows.{slept_row}
@@ -93,7 +94,7 @@ not_both r k j c counts rel = counts
 same_there : (x : Slots) (i c k n : ℕ) → i ≡ k → c ≡ n → IfThere x i c → IfThere x k n
 same_there x i c k n e f s = subst (λ (j : ℕ). IfThere x j n) e (subst (IfThere x i) f s)
 
-if_there : (x : Slots) (r : Row) (k n : ℕ) → SeesSlept x r → Released r k n → IfThere x k n
+pub if_there : (x : Slots) (r : Row) (k n : ℕ) → SeesSlept x r → Released r k n → IfThere x k n
 if_there x (Row.HandsOn m (OfWait i c b timed) is) k n s rel = same_there x i c k n rel.0 rel.1 s
 if_there x (Row.LooksBack m (OfWait i c b timed) is) k n s rel = same_there x i c k n rel.0 rel.1 s
 if_there x (Row.WakesOne m (OfWait i c b timed) is) k n s rel = same_there x i c k n rel.0 rel.1 s

@@ -44,7 +44,8 @@ use Rattle.slots.proofs.Keeping.{dying_at}
 use Rattle.slots.proofs.Leading.{by_test}
 use Rattle.slots.proofs.MachineRuns.{next_is}
 use Rattle.slots.proofs.NoWaits.{SleepsElsewhere, empty_made}
-use Rattle.slots.proofs.Slept.{Released, queue_at}
+use Rattle.slots.specs.Stores.{Released}
+use Rattle.slots.proofs.Slept.{queue_at}
 use Rattle.slots.proofs.SleptKept.{empty_then}
 use Rattle.slots.proofs.Steady.{Steady, granted, may_go}
 

@@ -18,7 +18,8 @@ use Rattle.protocol.proofs.Puts.{put-same}
 use Rattle.protocol.proofs.Queued.{in_none}
 use Rattle.protocol.proofs.Counters.{Counted}
 use Rattle.protocol.proofs.Renewals.{renewed_cell}
-use Rattle.slots.proofs.Slept.{CountsOn, Released, SeesSlept, queue_at}
+use Rattle.slots.specs.Stores.{Released}
+use Rattle.slots.proofs.Slept.{CountsOn, SeesSlept, queue_at}
 use Rattle.slots.proofs.CountersKept.{count_at}
 use Rattle.slots.specs.Premises.{KnowsSlept}
 use Rattle.std.specs.Prelude.{length}

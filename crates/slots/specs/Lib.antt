@@ -15,4 +15,5 @@ pub mod Rows
 pub mod Runs
 pub mod Shown
 pub mod Stands
+pub mod Stores
 pub mod Table

@@ -17,6 +17,7 @@ ghost use Rattle.slots.specs.Kernels.{AnyKernelWillDo, RousesNobody, WakesWithou
 ghost use Rattle.slots.specs.Laws.{HeirsLetSpare, NobodyJoinsAFreeMutex, ReleasesTell, SlotsRunTheMachine};
 ghost use Rattle.slots.specs.Laws.{StandingHeirsAnswer, TrimsAreTheMachines, TurnsStayKnown};
 ghost use Rattle.slots.specs.Laws.{TurnsStayKnownByAll, WakesOfNobodyTell};
+ghost use Rattle.slots.specs.Stores.{AccessesAreMadeSo, PlainStoresAreOwn, RunsMayBuffer};
 ghost use Rattle.slots.specs.Replies.{CallsAreOneHistory, CallsBeginUndecided, CallsDecideOnce};
 ghost use Rattle.slots.specs.Moments.{AnnouncingIsOneStore, GivingUpIsALook, GivingUpLeavesNothing};
 ghost use Rattle.slots.specs.Moments.{HeirTakesAreEvents, HeirsGoOn, LastLooksAreEvents, TakesAreOneExchange};
@@ -409,4 +410,21 @@ pub fn calls_decide_once()
 /// one legal history from free mutexes. After it, each mutex is as its cell says.
 pub fn calls_are_one_history()
     ensures { CallsAreOneHistory }
+{}
+
+/// Each access is a load, a plain store, a locked instruction or a call to Linux, as its row says, whatever it finds.
+pub fn accesses_are_made_so()
+    ensures { AccessesAreMadeSo }
+{}
+
+/// In any run, each plain store is of a word of the thread's own: of its head, or a link of a mutex that it owns. Or it is of a
+/// counter whose mutex the thread owns: then the count stays, or no wait that has released its mutex has seen it.
+pub fn plain_stores_are_own()
+    ensures { PlainStoresAreOwn }
+{}
+
+/// In any run, the machine's stores may wait in buffers, and reach memory at any moment: with all that waits, memory is the
+/// layer's machine. In memory, mutexes and counters are as the layer shows them, and only a thread's own words wait.
+pub fn runs_may_buffer()
+    ensures { RunsMayBuffer }
 {}
