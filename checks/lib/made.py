@@ -1,4 +1,5 @@
-"""The table of crates/slots, row by row: `made` of specs/Table.antt, as antt.py reads it, and what it needs of a state.
+"""The table of crates/slots, row by row: `made` of specs/Table.antt and `reply` of specs/Replies.antt, as antt.py reads
+them, and what they need of a state.
 
 A state has one mutex of the library, whose cell and slot are the machine's mutexes 0 and 1; two entries of the C
 library on the thread's list; and one condition variable. Each address is its place. Thread SELF makes the accesses.
@@ -22,6 +23,7 @@ class Table:
         load = Module.load
         self.layout, self.known = Record(**LAYOUT), {}
         self.made = load("slots", "Table").value("made")
+        self.reply = load("slots", "Replies").value("reply")
         self.lapse_row = load("slots", "Runs").value("lapse_row")
         self.may_call = load("slots", "Runs").value("may_call")
         self.most_threads = load("lockword", "Threads").value("most_threads")
@@ -62,29 +64,20 @@ class Table:
 
         def made(yes, again):
             c = Record(yes=choice("yes", yes), again=choice("again", again), time=time)
-            return self.after(row, stage, state, apply(self.made, [state, SELF, c, row]))
+            return self.after(row, stage, state, c)
 
         results = [made(False, False)]
         for yes, again in ((True, False), (False, True), (True, True)) if asked else ():
             results.append(made(yes, again))
         return list(dict.fromkeys(results))
 
-    def after(self, row, stage, state, made):
+    def after(self, row, stage, state, c):
+        made = apply(self.made, [state, SELF, c, row])
         following = plain(made["next"])
-        reply = self.reply(row, state, made) if following == RESTS else None
+        reply = plain(apply(self.reply, [state, SELF, c, row])) if following == RESTS else ("None",)
         is_along = stage and following[0] == row[0]
-        next_stage = self.stepped(stage, state["machine"])[0] if is_along else self.stage(following)
-        return plain(made["access"]), following, next_stage, reply
-
-    def reply(self, row, state, made):
-        """Of a row, if it has one; else of the machine's call that begins and ends here, if one does; else OK. A reinit
-        without one goes on."""
-        if row[0] == "Clears":
-            return row[2][0]
-        events = items(made["events"])
-        if row[0] in ("AnewLooks", "Anews") and not events:
-            return None
-        return self.run(state["machine"], events)["reply"] or "OK"
+        next_stage = self.stepped(stage, state["machine"]) if is_along else self.stage(following)
+        return plain(made["access"]), following, next_stage, reply[1][0] if reply[0] == "Some" else None
 
     def lapsed(self, row):
         """The row of a call whose deadline passes while it sleeps."""
@@ -138,7 +131,7 @@ class Table:
         return (kind, operation if kind == "Calling" else operation[1], call)
 
     def stepped(self, stage, machine):
-        """Where it is after its next access, and the reply if the call ends."""
+        """Where it is after its next access."""
         kind, call, program = stage
         module, name = self.calls[kind], {"Calling": "whole", "AtCondition": "cond"}[kind]
         access = apply(module.value(f"{name}_access"), [program])
@@ -147,16 +140,16 @@ class Table:
         led = apply(module.value(f"{name}_led"), [program, answer])
         moved = apply(module.value(f"{name}_moved"), [program, led])
         phase = moved["phase"]
-        return (("Idle",), force(phase[1])[0]) if phase[0] == "Ended" else ((kind, call, plain(moved)), None)
+        return ("Idle",) if phase[0] == "Ended" else (kind, call, plain(moved))
 
     def run(self, machine, events):
-        """The machine after these events of the thread, as far as its stage and its last reply go."""
-        stage, reply = force(machine["threads"](SELF))["stage"], None
+        """The machine after these events of the thread, as far as its stage goes."""
+        stage = force(machine["threads"](SELF))["stage"]
         for name, *given in events:
             if name == "Begin":
                 stage = self.begun(plain(given[1]))
             elif name == "Step" and stage[0] in self.calls:
-                stage, reply = self.stepped(stage, machine)
+                stage = self.stepped(stage, machine)
             elif name != "Step":
                 break
-        return Record(threads=lambda t: Record(stage=stage), reply=reply)
+        return Record(threads=lambda t: Record(stage=stage))

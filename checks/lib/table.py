@@ -137,7 +137,7 @@ class Library:
         return Access(self, self.asked[self.drive(asking, path)])
 
 
-# ---- where the C and the table differ, and what the table leaves out. All of it is here
+# ---- what the table leaves out of the C. All of it is here
 
 # Accesses that are no row's, and why the C may make them. They are loads, or store what no promise depends on
 LEFT_OUT = {
@@ -153,22 +153,11 @@ LEFT_OUT = {
     "take_off_list checks that both neighbours lead back: if not, another process has written over the links": (
         lambda a, state: a.kind == LOAD and a.at in LIST and is_unlinking(state)
     ),
-    "watch stores the pending entry again before the heir says that it is awake, which changes no word": (
-        lambda a, state: a.kind == STORE and a.at == "pending" and a.value == state.pending
-    ),
 }
 
 
 def left_out(a, state):
     return next((reason for reason, holds in LEFT_OUT.items() if holds(a, state)), None)
-
-
-def instead(at, state):
-    """The row that the C is at instead of this one, or None."""
-    # wait_awake: another thread was faster, and the deadline has passed. The heir gives up; the table has another round
-    if at.row[0] == "HeirPends" and at.row[2] == ("Again",) and at.row[1]["timed"] and state.is_late:
-        return at._replace(row=("GivesUp", at.row[1]))
-    return None
 
 
 def next_call(call, reply):
@@ -244,11 +233,14 @@ def is_timed(row):
     return row[4] if row[0] == "WaitSleeps" else row[1]["timed"]
 
 
-def demanded(at, following):
-    """What the clock has to say before the next access: after its last look, an heir times out just if it has to."""
-    is_open = at.row[0] in ("LastLooks", "LastMarks") and at.row[1]["timed"] and following[0] == "Frees"
-    ends = {("Fails", ("ETIMEDOUT",)): True, ("Sleeps",): False}
-    return ends.get(following[2]) if is_open else None
+def demanded(at, following, found):
+    """What the clock has to say before the next access: after its last look, an heir times out just if it has to; and
+    if another thread was faster, an heir gives up just if its deadline has passed."""
+    if at.row[0] in ("LastLooks", "LastMarks") and at.row[1]["timed"] and following[0] == "Frees":
+        return {("Fails", ("ETIMEDOUT",)): True, ("Sleeps",): False}.get(following[2])
+    if at.row[0] == "HeirTakes" and at.row[1]["timed"] and not found & FLAG:
+        return {"GivesUp": True, "HeirPends": False}.get(following[0])
+    return None
 
 
 def late_after(at, outcome):
@@ -334,7 +326,7 @@ class Comparison:
         return same[a.kind] == (kind, operands)
 
     def rows_now(self, state):
-        """The rows that the clock leaves, those that the C has instead, and where reinit's next call begins."""
+        """The rows that the clock leaves, and where reinit's next call begins."""
         for it in state.rows:
             if it.demand not in (None, state.is_late):
                 continue
@@ -343,8 +335,6 @@ class Comparison:
                 yield from [At(following)] if following else []
                 continue
             yield it
-            other = instead(it, state)
-            yield from [other] if other else []
 
     def following(self, at, a, outcome, state):
         """The rows after this access, with each choice that there is; none if it isn't the row's."""
@@ -354,7 +344,7 @@ class Comparison:
                 self.rows.add(at.row[0])
                 if outcome.is_late:
                     row = self.table.lapsed(row)
-                yield At(row, stage, demanded(at, row), reply, late_after(at, outcome))
+                yield At(row, stage, demanded(at, row, outcome.found), reply, late_after(at, outcome))
 
     # ---- a step of both
 

@@ -38,7 +38,7 @@ use Rattle.slots.specs.Further.{MayTake, OwnsMarked}
 use Rattle.slots.specs.Each.{Assumes, IsToTake, SlotIsSmall}
 use Rattle.slots.specs.Goes.{AssumesToo, SleepsLater}
 use Rattle.slots.specs.Fits.{Fits, IsApart, IsOurs}
-use Rattle.slots.specs.Premises.{KnowsItsTurn, HeirTakesOver, MayOwnMore, SeesCount, Holds, Owning, SlotsAreQuiet, Trusts, WordsAreSound}
+use Rattle.slots.specs.Premises.{KnowsItsTurn, HeirTakesOver, MayOwnMore, SeesCount, KnowsSlept, Holds, Owning, SlotsAreQuiet, Trusts, WordsAreSound}
 use Rattle.slots.proofs.Free.{reached_kept}
 use Rattle.slots.proofs.HeldRows.{Few, RoomAt, few_says}
 use Rattle.slots.proofs.Meets.{usable_if_owned}
@@ -149,55 +149,55 @@ module _ (x : Slots) (t : ℕ) (from : IsReached x.machine) (first : 1 ≤ t) (l
   free_one : (m v : ℕ) (r : Row) → IsOurs l m → Trusts x t r → is_free v ≡ true → IsToTake x m v
   free_one m v r ours w free = record { free = free; room = words.room (cell_of m) (our_cell l m ours) }
 
-  pub assume_row : (r : Row) → StandsAs r g → Fits l t r g → Owning z t r → SlotsAreQuiet z → KnowsItsTurn x r → MayOwnMore x t r → SeesCount x r → Trusts x t r → Assumes x t r
-  assume_row (Row.Pends k v) there o own quiet knows more sees w = may k.mutex o.0.ours more
-  assume_row (Row.Sees k) there o own quiet knows more sees w = may k.mutex o.ours (looking k k.how there)
-  assume_row (Row.Takes k v) there o own quiet knows more sees w = (may k.mutex o.0.ours (looking k k.how there), free_one k.mutex v _ o.0.ours w o.1)
-  assume_row (Row.SeesAgain k v) there o own quiet knows more sees w = (may k.mutex o.0.ours more, o.1)
-  assume_row (Row.Marks k v ToSleep) there o own quiet knows more sees w = (may k.mutex o.0.ours more, o.1)
-  assume_row (Row.Marks k v (ToSlot sl)) there o own quiet knows more sees w = (may k.mutex o.0.ours more, o.1.0)
-  assume_row (Row.SlotPends k sl) there o own quiet knows more sees w = (our_slot l k.mutex o.0.ours, more)
-  assume_row (Row.SlotTakes k sl) there o own quiet knows more sees w = record { inside = our_slot l k.mutex o.0.ours; nobody = o.1; usable = (quiet k.mutex o.0.ours).usable; room = words.room (slot_of k.mutex) (our_slot l k.mutex o.0.ours) }
-  assume_row (Row.SlotLeft k) there o own quiet knows more sees w = may k.mutex o.ours more
-  assume_row (Row.SeesToSleep k) there o own quiet knows more sees w = may k.mutex o.0.ours (looking k k.how there)
-  assume_row (Row.SlotQuiets k) there o own quiet knows more sees w = slot_small k.mutex o.ours quiet w.few
-  assume_row (Row.SlotMends k) there o own quiet knows more sees w = marked (slot_of k.mutex) _ (our_slot l k.mutex o.ours) w own.0 w.few
-  assume_row (Row.HeirPends k Linked) there o own quiet knows more sees w = may k.mutex o.ours more
-  assume_row (Row.HeirPends k Mended) there o own quiet knows more sees w = may k.mutex o.ours more
-  assume_row (Row.HeirPends k Again) there o own quiet knows more sees w = tt
-  assume_row (Row.HeirSets k) there o own quiet knows more sees w = record {
+  pub assume_row : (r : Row) → StandsAs r g → Fits l t r g → Owning z t r → SlotsAreQuiet z → KnowsItsTurn x r → MayOwnMore x t r → SeesCount x r → KnowsSlept x r → Trusts x t r → Assumes x t r
+  assume_row (Row.Pends k v) there o own quiet knows more sees silent w = may k.mutex o.0.ours more
+  assume_row (Row.Sees k) there o own quiet knows more sees silent w = may k.mutex o.ours (looking k k.how there)
+  assume_row (Row.Takes k v) there o own quiet knows more sees silent w = (may k.mutex o.0.ours (looking k k.how there), free_one k.mutex v _ o.0.ours w o.1)
+  assume_row (Row.SeesAgain k v) there o own quiet knows more sees silent w = (may k.mutex o.0.ours more, o.1)
+  assume_row (Row.Marks k v ToSleep) there o own quiet knows more sees silent w = (may k.mutex o.0.ours more, o.1)
+  assume_row (Row.Marks k v (ToSlot sl)) there o own quiet knows more sees silent w = (may k.mutex o.0.ours more, o.1.0)
+  assume_row (Row.SlotPends k sl) there o own quiet knows more sees silent w = (our_slot l k.mutex o.0.ours, more)
+  assume_row (Row.SlotTakes k sl) there o own quiet knows more sees silent w = record { inside = our_slot l k.mutex o.0.ours; nobody = o.1; usable = (quiet k.mutex o.0.ours).usable; room = words.room (slot_of k.mutex) (our_slot l k.mutex o.0.ours) }
+  assume_row (Row.SlotLeft k) there o own quiet knows more sees silent w = may k.mutex o.ours more
+  assume_row (Row.SeesToSleep k) there o own quiet knows more sees silent w = may k.mutex o.0.ours (looking k k.how there)
+  assume_row (Row.SlotQuiets k) there o own quiet knows more sees silent w = slot_small k.mutex o.ours quiet w.few
+  assume_row (Row.SlotMends k) there o own quiet knows more sees silent w = marked (slot_of k.mutex) _ (our_slot l k.mutex o.ours) w own.0 w.few
+  assume_row (Row.HeirPends k Linked) there o own quiet knows more sees silent w = may k.mutex o.ours more
+  assume_row (Row.HeirPends k Mended) there o own quiet knows more sees silent w = may k.mutex o.ours more
+  assume_row (Row.HeirPends k Again) there o own quiet knows more sees silent w = tt
+  assume_row (Row.HeirSets k) there o own quiet knows more sees silent w = record {
     inside = our_slot l k.mutex o.ours;
     word = owner_alone (z.words (cell_place l (slot_of k.mutex))) t own.0.owner own.0.died (quiet k.mutex o.ours).waiters (quiet k.mutex o.ours).usable (words.room (slot_of k.mutex) (our_slot l k.mutex o.ours));
   }
-  assume_row (Row.HeirTakes k v) there o own quiet knows more sees w = (may k.mutex o.0.ours (in_lock (TimedLock (cell_of k.mutex)) _ refl there), free_one k.mutex v _ o.0.ours w o.1)
-  assume_row (Row.HeirHas k r) there o own quiet knows more sees w = slot_small k.mutex o.ours quiet w.few
-  assume_row (Row.GivesUp k) there o own quiet knows more sees w = slot_small k.mutex o.ours quiet w.few
-  assume_row (Row.LastLooks k) there o own quiet knows more sees w = (may k.mutex o.ours (in_lock (TimedLock (cell_of k.mutex)) _ refl there), own.1)
-  assume_row (Row.LastMarks k v) there o own quiet knows more sees w = (may k.mutex o.0.ours (in_lock (TimedLock (cell_of k.mutex)) _ refl there), o.1)
-  assume_row (Row.TryPends m v) there o own quiet knows more sees w = may m o.0 more
-  assume_row (Row.TryTakes m v) there o own quiet knows more sees w = (may m o.0 (in_lock (TryLock (cell_of m)) _ refl there), free_one m v _ o.0 w o.1)
-  assume_row (Row.Anews m v) there o own quiet knows more sees w = record { inside = our_cell l m o.0; unusable = o.1; died = words.lost (cell_of m) (our_cell l m o.0); room = words.room (cell_of m) (our_cell l m o.0) }
-  assume_row (Row.Mends m) there o own quiet knows more sees w = marked (cell_of m) _ (our_cell l m o) w own w.few
-  assume_row (Row.Looks k) there o own quiet knows more sees w = (our_cell l k.mutex o.0.ours, more)
-  assume_row (Row.TryLooks m) there o own quiet knows more sees w = (our_cell l m o, more)
-  assume_row (Row.GiveLooks m) there o own quiet knows more sees w = our_cell l m o
-  assume_row (Row.MendLooks m) there o own quiet knows more sees w = our_cell l m o
-  assume_row (Row.WaitLooks m k timed) there o own quiet knows more sees w = o.cell.inside
-  assume_row (Row.WaitCounts m k timed died) there o own quiet knows more sees w = o.cell.inside
-  assume_row (Row.CountLooks m k all) there o own quiet knows more sees w = o.cell.inside
-  assume_row (Row.Frees k f) there o own quiet knows more sees w = record { inside = our_slot l k.mutex o.ours; owner = own.0.owner }
-  assume_row (Row.GivePends m (OfUnlock d)) there o own quiet knows more sees w = record { inside = our_cell l m o; owner = own.owner }
-  assume_row (Row.GivePends m (OfWait k n slept timed)) there o own quiet knows more sees w = (o.cell, record { inside = our_cell l m o.ours; owner = own.owner }, own.died)
-  assume_row (Row.FreeGives k f) there o own quiet knows more sees w = owns (slot_of k.mutex) false (our_slot l k.mutex o.ours) own.0
-  assume_row (Row.Gives m (OfUnlock false)) there o own quiet knows more sees w = owns (cell_of m) false (our_cell l m o) own
-  assume_row (Row.Gives m (OfUnlock true)) there o own quiet knows more sees w = (owns (cell_of m) true (our_cell l m o) own, own.died)
-  assume_row (Row.Gives m (OfWait k n slept timed)) there o own quiet knows more sees w = owns (cell_of m) false (our_cell l m o.ours) own
-  assume_row (Row.SleepsOn k v) there o own quiet knows more sees w = (may k.mutex o.0.ours more, o.1)
-  assume_row (Row.Trims m is) there o own quiet knows more sees w = record { inside = our_cell l m o; room = words.room (cell_of m) (our_cell l m o); knows = knows.0; turn = knows.1.0; left = knows.1.1 }
-  assume_row (Row.WaitSets m k n timed) there o own quiet knows more sees w = record { inside = o.cell.inside; says = sees }
-  assume_row (Row.Counts m k all n) there o own quiet knows more sees w = record { inside = o.cell.inside; cell = o.cell.cell; owns = record { inside = our_cell l m o.ours; owner = own }; found = sees; few = w.counts; quiet = w.slept }
-  assume_row (Row.Unsets m k n) there o own quiet knows more sees w = record { inside = o.cell.inside; says = sees }
-  assume_row r there o own quiet knows more sees w = tt
+  assume_row (Row.HeirTakes k v) there o own quiet knows more sees silent w = (may k.mutex o.0.ours (in_lock (TimedLock (cell_of k.mutex)) _ refl there), free_one k.mutex v _ o.0.ours w o.1)
+  assume_row (Row.HeirHas k r) there o own quiet knows more sees silent w = slot_small k.mutex o.ours quiet w.few
+  assume_row (Row.GivesUp k) there o own quiet knows more sees silent w = slot_small k.mutex o.ours quiet w.few
+  assume_row (Row.LastLooks k) there o own quiet knows more sees silent w = (may k.mutex o.ours (in_lock (TimedLock (cell_of k.mutex)) _ refl there), own.1)
+  assume_row (Row.LastMarks k v) there o own quiet knows more sees silent w = (may k.mutex o.0.ours (in_lock (TimedLock (cell_of k.mutex)) _ refl there), o.1)
+  assume_row (Row.TryPends m v) there o own quiet knows more sees silent w = may m o.0 more
+  assume_row (Row.TryTakes m v) there o own quiet knows more sees silent w = (may m o.0 (in_lock (TryLock (cell_of m)) _ refl there), free_one m v _ o.0 w o.1)
+  assume_row (Row.Anews m v) there o own quiet knows more sees silent w = record { inside = our_cell l m o.0; unusable = o.1; died = words.lost (cell_of m) (our_cell l m o.0); room = words.room (cell_of m) (our_cell l m o.0) }
+  assume_row (Row.Mends m) there o own quiet knows more sees silent w = marked (cell_of m) _ (our_cell l m o) w own w.few
+  assume_row (Row.Looks k) there o own quiet knows more sees silent w = (our_cell l k.mutex o.0.ours, more)
+  assume_row (Row.TryLooks m) there o own quiet knows more sees silent w = (our_cell l m o, more)
+  assume_row (Row.GiveLooks m) there o own quiet knows more sees silent w = our_cell l m o
+  assume_row (Row.MendLooks m) there o own quiet knows more sees silent w = our_cell l m o
+  assume_row (Row.WaitLooks m k timed) there o own quiet knows more sees silent w = o.cell.inside
+  assume_row (Row.WaitCounts m k timed died) there o own quiet knows more sees silent w = o.cell.inside
+  assume_row (Row.CountLooks m k all) there o own quiet knows more sees silent w = o.cell.inside
+  assume_row (Row.Frees k f) there o own quiet knows more sees silent w = record { inside = our_slot l k.mutex o.ours; owner = own.0.owner }
+  assume_row (Row.GivePends m (OfUnlock d)) there o own quiet knows more sees silent w = record { inside = our_cell l m o; owner = own.owner }
+  assume_row (Row.GivePends m (OfWait k n slept timed)) there o own quiet knows more sees silent w = (o.cell, record { inside = our_cell l m o.ours; owner = own.owner }, own.died)
+  assume_row (Row.FreeGives k f) there o own quiet knows more sees silent w = owns (slot_of k.mutex) false (our_slot l k.mutex o.ours) own.0
+  assume_row (Row.Gives m (OfUnlock false)) there o own quiet knows more sees silent w = owns (cell_of m) false (our_cell l m o) own
+  assume_row (Row.Gives m (OfUnlock true)) there o own quiet knows more sees silent w = (owns (cell_of m) true (our_cell l m o) own, own.died)
+  assume_row (Row.Gives m (OfWait k n slept timed)) there o own quiet knows more sees silent w = owns (cell_of m) false (our_cell l m o.ours) own
+  assume_row (Row.SleepsOn k v) there o own quiet knows more sees silent w = (may k.mutex o.0.ours more, o.1)
+  assume_row (Row.Trims m is) there o own quiet knows more sees silent w = record { inside = our_cell l m o; room = words.room (cell_of m) (our_cell l m o); knows = knows.0; turn = knows.1.0; left = knows.1.1 }
+  assume_row (Row.WaitSets m k n timed) there o own quiet knows more sees silent w = record { inside = o.cell.inside; says = sees }
+  assume_row (Row.Counts m k all n) there o own quiet knows more sees silent w = record { inside = o.cell.inside; cell = o.cell.cell; owns = record { inside = our_cell l m o.ours; owner = own }; found = sees; few = w.counts; quiet = silent }
+  assume_row (Row.Unsets m k n) there o own quiet knows more sees silent w = record { inside = o.cell.inside; says = sees }
+  assume_row r there o own quiet knows more sees silent w = tt
 
   low : (w : ℕ) → w ≤ 4294967295 → w % 4294967296 ≡ w
   low w most = omega (arith, most)

@@ -77,7 +77,7 @@ module _ (x y : Slots) (t : ℕ) (c : Choice) where
   to_the_slot k (Waited z) v sl = either (fields_of v).waiters (Row.SlotPends k sl) (Row.Marks k v (ToSlot sl)) tt tt
 
   watched : (k : Taking) (v : ℕ) (over : Bool) → Knows (watched_row x t c k v over)
-  watched k v over = either (over && is_free v) (Row.HeirTakes k v) (if over && not (fields_of v).unusable then Row.HeirPends k Again else Row.GivesUp k) tt (either (over && not (fields_of v).unusable) (Row.HeirPends k Again) (Row.GivesUp k) tt tt)
+  watched k v over = either (over && is_free v) (Row.HeirTakes k v) (if over && not (fields_of v).unusable && not (k.timed && c.yes) then Row.HeirPends k Again else Row.GivesUp k) tt (either (over && not (fields_of v).unusable && not (k.timed && c.yes)) (Row.HeirPends k Again) (Row.GivesUp k) tt tt)
 
   out : (k : Taking) → Knows (out_of x t c k)
   out k = either (k.timed && c.yes) (Row.Frees k (Fails ETIMEDOUT)) (Row.Frees k Sleeps) tt tt
@@ -175,7 +175,7 @@ module _ (x y : Slots) (t : ℕ) (c : Choice) where
       (made_either ((fields_of (word (slot_of k.mutex))).owner == 0) (makes (Access.Exchange (address_in l t (cell_place l (slot_of k.mutex))) sl (taken_word sl t)) [] (Row.SlotTakes k (word (slot_of k.mutex)))) (makes (Access.Exchange (address_in l t (cell_place l (slot_of k.mutex))) sl (taken_word sl t)) (Step t ∷ []) (Row.SlotLeft k)) tt tt)
   count_row (Row.SeesToSleep k) needs = to_sleep k (word (cell_of k.mutex))
   count_row (Row.SlotLinks k d) needs = along (Row.SlotLinks k d) (if d then Row.SlotClears k else Row.HeirPends k Linked) tt (either d (Row.SlotClears k) (Row.HeirPends k Linked) tt tt)
-  count_row (Row.HeirLooks k) needs = either ((fields_of (word (cell_of k.mutex))).unusable || (is_free (word (cell_of k.mutex)) && c.yes)) (Row.HeirPendsOn k (word (cell_of k.mutex)) true) (if c.again then Row.HeirSets k else Row.HeirPendsOn k (word (cell_of k.mutex)) false) tt (either c.again (Row.HeirSets k) (Row.HeirPendsOn k (word (cell_of k.mutex)) false) tt tt)
+  count_row (Row.HeirLooks k) needs = either ((fields_of (word (cell_of k.mutex))).unusable || (is_free (word (cell_of k.mutex)) && c.yes)) (Row.HeirPendsOn k (word (cell_of k.mutex)) true) (if c.again then Row.HeirPends k Again else Row.HeirPendsOn k (word (cell_of k.mutex)) false) tt (either c.again (Row.HeirPends k Again) (Row.HeirPendsOn k (word (cell_of k.mutex)) false) tt tt)
   count_row (Row.HeirPendsOn k v over) needs = watched k v over
   count_row (Row.HeirTakes k v) needs = made_either (word (cell_of k.mutex) == v) (makes (Access.Exchange (address_in l t (cell_place l (cell_of k.mutex))) v (taken_word v t)) (Step t ∷ Step t ∷ []) (Row.HeirHas k (acquired (fields_of v)))) (makes (Access.Exchange (address_in l t (cell_place l (cell_of k.mutex))) v (taken_word v t)) [] (watched_row x t c k (word (cell_of k.mutex)) true)) tt (watched k (word (cell_of k.mutex)) true)
   count_row (Row.HeirLinks k r) needs = along (Row.HeirLinks k r) (Row.Frees k (Has r)) tt tt

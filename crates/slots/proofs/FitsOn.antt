@@ -183,9 +183,9 @@ module _ (x : Slots) (t : ℕ) (c : Choice) (g : Stage) where
   -- ---- an heir
 
   watched_fits : (k : Taking) (v : ℕ) (over : Bool) → LocksOurs l k → Fits l t (watched_row x t c k v over) g
-  watched_fits k v over o = by_test (λ (r : Row). Fits l t r g) (over && is_free v) (Row.HeirTakes k v) (if over && not (fields_of v).unusable then Row.HeirPends k Again else Row.GivesUp k)
+  watched_fits k v over o = by_test (λ (r : Row). Fits l t r g) (over && is_free v) (Row.HeirTakes k v) (if over && not (fields_of v).unusable && not (k.timed && c.yes) then Row.HeirPends k Again else Row.GivesUp k)
       (λ e. (o, both over (is_free v) e))
-      (λ e. either (over && not (fields_of v).unusable) (Row.HeirPends k Again) (Row.GivesUp k) o o)
+      (λ e. either (over && not (fields_of v).unusable && not (k.timed && c.yes)) (Row.HeirPends k Again) (Row.GivesUp k) o o)
     where
       both : (a b : Bool) → (a && b) ≡ true → b ≡ true
       both true b e = e
@@ -307,7 +307,7 @@ module _ (x : Slots) (t : ℕ) (c : Choice) (g : Stage) where
       (λ e. tt)
       (λ e. by_test (λ (r : Row). Fits l t r g) (fields_of (word m)).unusable (Row.Anews m (word m)) Row.Rests (λ f. (o, f)) (λ f. tt))
 
-  heir_looks_fit : (k : Taking) (v : ℕ) (a b d : Bool) → LocksOurs l k → Fits l t (if a then Row.HeirPendsOn k v true else if b then Row.HeirSets k else Row.HeirPendsOn k v false) g
+  heir_looks_fit : (k : Taking) (v : ℕ) (a b d : Bool) → LocksOurs l k → Fits l t (if a then Row.HeirPendsOn k v true else if b then Row.HeirPends k Again else Row.HeirPendsOn k v false) g
   heir_looks_fit k v true b d o = o
   heir_looks_fit k v false true d o = o
   heir_looks_fit k v false false d o = o
@@ -327,7 +327,7 @@ module _ (x : Slots) (t : ℕ) (c : Choice) (g : Stage) where
   fits_row (Row.Marks k v n) was (o, to) apart wakes = marks_fit k v n o to (wakes k.mutex refl)
   fits_row (Row.SleepsOn k v) was (o, sees) apart wakes = asleep_fits k k.how v (word k.mutex) refl o
   fits_row (Row.Asleep k) was (o, later_if) apart wakes = o
-  fits_row (Row.Late k) was f apart wakes = tt
+  fits_row (Row.Late k) was f apart wakes = f
   fits_row (Row.LateSees k) was f apart wakes = tt
   fits_row (Row.WakesAll m r) was f apart wakes = tt
   fits_row (Row.SlotPends k sl) was (o, to, none) apart wakes = (o, none)

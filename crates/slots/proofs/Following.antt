@@ -1,5 +1,5 @@
 -- What a run keeps, and what of the premises of its accesses follows from that.
-use Rattle.std.proofs.Common.{◌≡◌, ◌≢◌, ◌<◌, ℕ, ◌≤◌, ◌==◌, Bool, true, false, List, [], ◌∷◌, refl, sym, ap, ◌∙◌, subst, arith, eqb-true, eq-eqb}
+use Rattle.std.proofs.Common.{◌≡◌, ◌≢◌, ◌<◌, ℕ, ◌≤◌, ◌==◌, Bool, true, false, List, [], ◌∷◌, length, refl, sym, ap, ◌∙◌, subst, arith, eqb-true, eq-eqb}
 use Rattle.std.specs.Prelude.{not, ◌&&◌, slice_index}
 use Rattle.lockword.specs.Cells.{fields_of}
 use Rattle.memorymap.specs.Layouts.{IsLayout, Layout', counter_place}
@@ -13,7 +13,7 @@ use Rattle.protocol.proofs.Queued.{in_none}
 use Rattle.protocol.proofs.Counters.{Counted, run_counted, start_counted}
 use Rattle.protocol.proofs.Renewals.{renewed_counter}
 use Rattle.protocol.specs.declared.thread.Stage.TheVariants.{Dying}
-use Rattle.slots.specs.Premises.{SeesCount, RunsKeepCounts, KnowsItsTurn, HeirsTakeOver, RunsKeepHeirs, RunsKeepRoom, RunsKeepTurns, AllHold, RunsKeepOwners, SlotsStayQuiet, AllTrusted, Owning, PremisesFollow, Trusts, TrustsIn}
+use Rattle.slots.specs.Premises.{SeesCount, RunsKeepCounts, RunsKeepSlept, KnowsItsTurn, HeirsTakeOver, RunsKeepHeirs, RunsKeepRoom, RunsKeepTurns, AllHold, RunsKeepOwners, SlotsStayQuiet, AllTrusted, Owning, PremisesFollow, Trusts, TrustsIn}
 use Rattle.slots.specs.Places.{cell_of, slot_of}
 use Rattle.slots.specs.Fits.{AreOfUs, IsOurs, Fits}
 use Rattle.slots.specs.Rows.{Choice, Row}
@@ -30,7 +30,8 @@ use Rattle.slots.specs.Accesses.{IsAtRow}
 use Rattle.slots.specs.Goes.{AllGranted, Grants, IsAtItsRow, StandsStill, who}
 use Rattle.slots.proofs.Each.{each_access}
 use Rattle.slots.proofs.CountRows.{count_row}
-use Rattle.slots.proofs.CountersKept.{count_at, counter_stays, needs_row, sees_like, slept_else}
+use Rattle.slots.proofs.CountersKept.{count_at, counter_stays, needs_row, sees_like}
+use Rattle.slots.proofs.SleptNext.{empty_all, later_all, slept_all, slept_but}
 use Rattle.slots.proofs.OthersKeep.{owned_seen, LeavesIt, owning_kept, run_leaves}
 use Rattle.slots.proofs.Owned.{our_cell, our_slot}
 use Rattle.slots.proofs.Free.{reached_queued, reached_kept}
@@ -45,7 +46,9 @@ use Rattle.slots.proofs.TurnsKept.{gives_tell, next_turns, turn_after, turn_like
 use Rattle.slots.proofs.PlainSlots.{IsPlain, plain_quiet}
 use Rattle.slots.proofs.Watched.{OwnWatched, heirs_of_all, others_watched}
 use Rattle.slots.proofs.Watching.{awake_else}
-use Rattle.slots.proofs.Steady.{Steady, calls, dies, goes, granted, heir_over, interrupts, lapses, lives, may_go, more, small, walks}
+use Rattle.slots.proofs.Steady.{Steady, calls, dies, goes, granted, heir_over, interrupts, lapses, lives, may_go, more, silent, small, walks}
+use Rattle.slots.proofs.Deciding.{decides_once}
+use Rattle.slots.specs.Replies.{CallsDecideOnce}
 use Rattle.slots.proofs.Rooms.{first_cell}
 use Rattle.slots.proofs.Others.{events_are_of, others_still}
 
@@ -296,16 +299,6 @@ awake_but x (Dies t) s pos known m apart = by_test (λ (y : Slots). y.awake m �
 awake_but x (Walks t) s pos known m apart = by_test (λ (y : Slots). y.awake m ≡ x.awake m) (is_dying x.machine t) (after x (Step t ∷ [])) x (λ e. refl) (λ e. refl)
 awake_but x (Lives t) s pos known m apart = refl
 
--- SLEPT of a counter whose mutex it doesn't own stays
-slept_but : (x : Slots) (h : Happening) → Steady x → 1 ≤ who h → who h ≤ x.machine.layout.threads → (k : ℕ) → (fields_at x.machine (slice_index x.machine.layout.conditions k)).owner ≢ who h → (next x h).slept k ≡ x.slept k
-slept_but x (Calls t r) s pos known k apart = by_test (λ (y : Slots). y.slept k ≡ x.slept k) (has_thread x.machine t && is_alive (x.machine.threads t).stage && is_resting (x.rows t) && may_call x.machine.layout (x.machine.threads t).held r) (at_row x t r) x (λ e. refl) (λ e. refl)
-slept_but x (Goes t c) s pos known k apart = by_test (λ (y : Slots). y.slept k ≡ x.slept k) (has_thread x.machine t && is_alive (x.machine.threads t).stage && not (is_asleep x.machine t)) (made_by x t c (made x t c (x.rows t))) x (λ e. slept_else x t (x.rows t) (x.machine.threads t).stage k (s.fits t pos known) (s.owning t pos known) apart) (λ e. refl)
-slept_but x (Interrupts t) s pos known k apart = refl
-slept_but x (Lapses t) s pos known k apart = by_test (λ (y : Slots). y.slept k ≡ x.slept k) (is_asleep x.machine t) (at_row (after x (lapse_events x t (x.rows t))) t (lapse_row (x.rows t))) x (λ e. refl) (λ e. refl)
-slept_but x (Dies t) s pos known k apart = by_test (λ (y : Slots). y.slept k ≡ x.slept k) (has_thread x.machine t && is_alive (x.machine.threads t).stage) (at_row (after x (Kill t ∷ [])) t Row.Rests) x (λ e. refl) (λ e. refl)
-slept_but x (Walks t) s pos known k apart = by_test (λ (y : Slots). y.slept k ≡ x.slept k) (is_dying x.machine t) (after x (Step t ∷ [])) x (λ e. refl) (λ e. refl)
-slept_but x (Lives t) s pos known k apart = refl
-
 -- what another thread has seen
 others_see : (x : Slots) (h : Happening) (u : ℕ) → Steady x → 1 ≤ who h → who h ≤ x.machine.layout.threads → 1 ≤ u → u ≤ x.machine.layout.threads → who h ≢ u → (next x h).machine.layout ≡ x.machine.layout → SeesCount (next x h) (x.rows u)
 others_see x h u s pos known first last apart layout = sees_like x (next x h) u (x.rows u) (x.machine.threads u).stage layout (s.fits u first last) (λ m k o own e. (same m k o e, slept_but x h s pos known k (λ is. apart (sym is ∙ its m k o e)))) (s.owning u first last) (s.sees u first last)
@@ -331,6 +324,9 @@ steady_next x h s pos known w = record {
   room = λ u first last. each_room u first (before u last);
   sees = λ u first last. each_sees u first (before u last);
   counts = subst Counted (sym (next_is x h)) (run_counted x.machine (events_of x h) (reached_kept x.machine s.reached) s.counts);
+  slept = λ u first last. slept_all x h s pos known w u first (before u last);
+  empty = λ k inside off. empty_all x h s pos known w k (subst (λ (l : Layout'). k < length l.conditions) layout inside) off;
+  later = λ v u k n v_first v_last first last on rel. later_all x h s pos known w v u k n v_first (before v v_last) first (before u last) on rel;
   watched = λ u first last. each_watched u first (before u last);
 }
   where
@@ -386,15 +382,15 @@ follow : (x : Slots) (hs : List Happening) → Steady x → AllTrusted x hs → 
 follow x [] s trusted = tt
 follow x (h ∷ hs) s ((pos, known, w), trusted) = ((pos, known, grants_then x h s pos known w), follow (next x h) hs (steady_next x h s pos known w) trusted)
 
-steady_run : (x : Slots) (hs : List Happening) → Steady x → AllTrusted x hs → Steady (reached_from x hs)
+pub steady_run : (x : Slots) (hs : List Happening) → Steady x → AllTrusted x hs → Steady (reached_from x hs)
 steady_run x [] s trusted = s
 steady_run x (h ∷ hs) s ((pos, known, w), trusted) = steady_run (next x h) hs (steady_next x h s pos known w) trusted
 
-layout_then : (x : Slots) (hs : List Happening) → Steady x → AllTrusted x hs → (reached_from x hs).machine.layout ≡ x.machine.layout
+pub layout_then : (x : Slots) (hs : List Happening) → Steady x → AllTrusted x hs → (reached_from x hs).machine.layout ≡ x.machine.layout
 layout_then x [] s trusted = refl
 layout_then x (h ∷ hs) s ((pos, known, w), trusted) = layout_then (next x h) hs (steady_next x h s pos known w) trusted ∙ ap (λ (z : State). z.layout) (next_is x h) ∙ layout_run x.machine (events_of x h) (reached_kept x.machine s.reached)
 
-begins_steady : (l : Layout') → IsLayout l → Steady (begin l)
+pub begins_steady : (l : Layout') → IsLayout l → Steady (begin l)
 begins_steady l is = record {
   reached = record { layout = l; counters = λ c. 0; events = []; is = is; here = refl };
   fits = λ t first last. tt;
@@ -406,6 +402,9 @@ begins_steady l is = record {
   room = λ t first last. tt;
   sees = λ t first last. tt;
   counts = start_counted l (λ c. 0) (λ k. omega arith);
+  slept = λ t first last. tt;
+  empty = λ k inside off. refl;
+  later = λ v u k n v_first v_last first last on rel. absurd on;
   watched = λ t first last. record {
     alone = λ alive m ours mine. absurd (let e : 0 ≡ t = sym (ap (λ (w : ℕ). (fields_of w).owner) (first_cell l (λ c. 0) (slot_of m) (our_slot l m ours))) ∙ mine in omega (arith, e, first));
     calm = λ alive m ours mine on. absurd cc;
@@ -432,6 +431,9 @@ room_kept l hs t is first last trusted = more (reached l hs) t first (subst (λ 
 pub counts_kept : RunsKeepCounts
 counts_kept l hs t is first last trusted = (steady_run (begin l) hs (begins_steady l is) trusted).sees t first (subst (λ (k : Layout'). t ≤ k.threads) (sym (layout_then (begin l) hs (begins_steady l is) trusted)) last)
 
+pub slept_kept : RunsKeepSlept
+slept_kept l hs t is first last trusted = silent (reached l hs) t first (subst (λ (k : Layout'). t ≤ k.threads) (sym (layout_then (begin l) hs (begins_steady l is) trusted)) last) (steady_run (begin l) hs (begins_steady l is) trusted)
+
 pub heirs_kept : RunsKeepHeirs
 heirs_kept l hs is trusted = let s = steady_run (begin l) hs (begins_steady l is) trusted in heirs_of_all (reached l hs) (reached_kept (reached l hs).machine s.reached) s.watched
 
@@ -441,3 +443,7 @@ heirs_over l hs t is first last trusted = heir_over (reached l hs) t first (subs
 pub all_hold : AllHold
 all_hold l hs t c is first last trusted w lives awake = runs_are_events l hs t c is first last (premises_follow l hs is trusted)
     (granted (reached l hs) t first (subst (λ (k : Layout'). t ≤ k.threads) (sym (layout_then (begin l) hs (begins_steady l is) trusted)) last) (steady_run (begin l) hs (begins_steady l is) trusted) c w) lives awake
+
+pub decide_once : CallsDecideOnce
+decide_once l hs t c is first last trusted = decides_once (reached l hs) t c ((reached l hs).machine.threads t).stage
+    ((steady_run (begin l) hs (begins_steady l is) trusted).fits t first (subst (λ (k : Layout'). t ≤ k.threads) (sym (layout_then (begin l) hs (begins_steady l is) trusted)) last))

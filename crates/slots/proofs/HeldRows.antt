@@ -62,6 +62,8 @@ RoomAt n (Row.SeesAgain k v) = Few k.how n
 RoomAt n (Row.Marks k v to) = Few k.how n
 RoomAt n (Row.SleepsOn k v) = Few k.how n
 RoomAt n (Row.Asleep k) = Few k.how n
+RoomAt n (Row.Late k) = n < 2046
+RoomAt n (Row.LateSees k) = n < 2046
 RoomAt n (Row.SlotPends k g) = n < 2046
 RoomAt n (Row.SlotTakes k g) = n < 2046
 RoomAt n (Row.SlotLeft k) = n < 2046
@@ -248,8 +250,8 @@ module _ (x y : Slots) (t : ℕ) (c : Choice) (inv : Kept x.machine) (then_kept 
       sl = W (slot_of k.mutex)
 
   watched_room : (k : Taking) (v : ℕ) (over : Bool) → behind < 2047 → Room (watched_row x t c k v over)
-  watched_room k v over few = either (over && is_free v) (Row.HeirTakes k v) (if over && not (fields_of v).unusable then Row.HeirPends k Again else Row.GivesUp k) few
-      (either (over && not (fields_of v).unusable) (Row.HeirPends k Again) (Row.GivesUp k) few few)
+  watched_room k v over few = either (over && is_free v) (Row.HeirTakes k v) (if over && not (fields_of v).unusable && not (k.timed && c.yes) then Row.HeirPends k Again else Row.GivesUp k) few
+      (either (over && not (fields_of v).unusable && not (k.timed && c.yes)) (Row.HeirPends k Again) (Row.GivesUp k) few few)
 
   out_room : (k : Taking) → behind < 2047 → Room (out_of x t c k)
   out_room k few = either (k.timed && c.yes) (Row.Frees k (Fails ETIMEDOUT)) (Row.Frees k Sleeps) tt few
@@ -279,7 +281,7 @@ module _ (x y : Slots) (t : ℕ) (c : Choice) (inv : Kept x.machine) (then_kept 
   linked_room k true few = few
   linked_room k false few = few
 
-  heir_looks_room : (k : Taking) (v : ℕ) (a b : Bool) → behind < 2047 → Room (if a then Row.HeirPendsOn k v true else if b then Row.HeirSets k else Row.HeirPendsOn k v false)
+  heir_looks_room : (k : Taking) (v : ℕ) (a b : Bool) → behind < 2047 → Room (if a then Row.HeirPendsOn k v true else if b then Row.HeirPends k Again else Row.HeirPendsOn k v false)
   heir_looks_room k v true b few = few
   heir_looks_room k v false true few = few
   heir_looks_room k v false false few = few
@@ -418,6 +420,7 @@ module _ (x y : Slots) (t : ℕ) (c : Choice) (inv : Kept x.machine) (then_kept 
   room_row (Row.SlotQuiets k) g o own apart w is none = slot_still (still (none refl)) w
   room_row (Row.SlotMends k) g o own apart w is none = slot_still (by_declaring (slot_of k.mutex) (our_slot l k.mutex o.ours) is) w
   room_row (Row.HeirPends k b) g o own apart w is none = slot_still (by_pending _ is) w
+  room_row (Row.Late k) g o own apart w is none = let e = still (none refl) in omega (arith, e, w)
   room_row (Row.HeirSets k) g o own apart w is none = slot_still (still (none refl)) w
   room_row (Row.HeirLooks k) g o own apart w is none = heir_looks_room k (W (cell_of k.mutex)) ((fields_of (W (cell_of k.mutex))).unusable || (is_free (W (cell_of k.mutex)) && c.yes)) c.again (slot_still (still (none refl)) w)
   room_row (Row.HeirPendsOn k v over) g o own apart w is none = watched_room k v over (slot_still (still (none refl)) w)

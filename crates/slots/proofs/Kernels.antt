@@ -18,7 +18,7 @@ drop_none : (n : ℕ) → drop n empty ≡ empty
 drop_none zero = refl
 drop_none (suc n) = refl
 
-dropped : (n : ℕ) (q : List ℕ) → q ≡ [] → drop n q ≡ q
+pub dropped : (n : ℕ) (q : List ℕ) → q ≡ [] → drop n q ≡ q
 dropped n q none = ap (drop n) none ∙ drop_none n ∙ sym none
 
 pub wakes_nobody : WakesWithoutWaitersWakeNobody

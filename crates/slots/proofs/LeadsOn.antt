@@ -171,16 +171,17 @@ module _ (x : Slots) (t : ℕ) (c : Choice) (at : IsAtRow x t) where
       ended : IsIn (TimedLock (cell_of k.mutex)) (Clearing ETIMEDOUT) (Calling (OnMutex (TimedLock (cell_of k.mutex))) (call_at z.layout t operation.Lock (cell_of k.mutex) (Clearing ETIMEDOUT)))
       ended = (call_at z.layout t operation.Lock (cell_of k.mutex) (Clearing ETIMEDOUT), refl, refl)
 
-  looked_so : (k : Taking) (v : ℕ) (a b : Bool) → IsIn (TimedLock (cell_of k.mutex)) at_load g → StandsAs (if a then Row.HeirPendsOn k v true else if b then Row.HeirSets k else Row.HeirPendsOn k v false) g
+  looked_so : (k : Taking) (v : ℕ) (a b : Bool) → IsIn (TimedLock (cell_of k.mutex)) at_load g → StandsAs (if a then Row.HeirPendsOn k v true else if b then Row.HeirPends k Again else Row.HeirPendsOn k v false) g
   looked_so k v true b there = there
   looked_so k v false true there = there
   looked_so k v false false there = there
 
-  watched_so : (k : Taking) (v : ℕ) (a b d : Bool) → IsIn (TimedLock (cell_of k.mutex)) at_load g → StandsAs (if a && b then Row.HeirTakes k v else if a && d then Row.HeirPends k Again else Row.GivesUp k) g
-  watched_so k v true true d there = there
-  watched_so k v true false true there = there
-  watched_so k v true false false there = there
-  watched_so k v false b d there = there
+  watched_so : (k : Taking) (v : ℕ) (a b d e : Bool) → IsIn (TimedLock (cell_of k.mutex)) at_load g → StandsAs (if a && b then Row.HeirTakes k v else if a && d && e then Row.HeirPends k Again else Row.GivesUp k) g
+  watched_so k v true true d e there = there
+  watched_so k v true false true true there = there
+  watched_so k v true false true false there = there
+  watched_so k v true false false e there = there
+  watched_so k v false b d e there = there
 
   -- ---- looks
 
@@ -275,7 +276,7 @@ module _ (x : Slots) (t : ℕ) (c : Choice) (at : IsAtRow x t) where
   heir_takes_so k v may to there = by_test (λ (n : Made). StandsAs n.next ((run z n.events).threads t).stage) (word k.mutex == v)
       (makes (Access.Exchange (cell_in z.layout t (cell_of k.mutex)) v (taken_word v t)) (Step t ∷ Step t ∷ []) (Row.HeirHas k (acquired (fields_of v)))) (makes (Access.Exchange (cell_in z.layout t (cell_of k.mutex)) v (taken_word v t)) [] (watched_row x t c k (word k.mutex) true))
       (λ e. heir_taken x t c at k v may (finds x t c at k.mutex v may to (eqb-true (word k.mutex) v e)) there)
-      (λ e. watched_so k (word k.mutex) true (is_free (word k.mutex)) (not (fields_of (word k.mutex)).unusable) there)
+      (λ e. watched_so k (word k.mutex) true (is_free (word k.mutex)) (not (fields_of (word k.mutex)).unusable) (not (k.timed && c.yes)) there)
 
   -- a trylock of the cell, and of the slot
   miss_to : (k : ℕ) (p : Whole) (y : Reply) → g ≡ Calling (OnMutex (TryLock k)) p → p.phase ≡ AtCell (load_of false) → try_sees 0 (fields_at z k) ≡ ends y → from_cell (call_at z.layout t operation.TryLock k (AtCell (load_of false))) (ends y) ≡ record { phase = Clearing y; point = Some y } → held_after h operation.TryLock (Some y) ≡ h
@@ -443,7 +444,7 @@ module _ (x : Slots) (t : ℕ) (c : Choice) (at : IsAtRow x t) where
   lead_row (Row.HeirPends k Again) there about a leading = there
   lead_row (Row.HeirSets k) there about a leading = there
   lead_row (Row.HeirLooks k) there about a leading = looked_so k (shown x (cell_place z.layout (cell_of k.mutex))) ((fields_of (shown x (cell_place z.layout (cell_of k.mutex)))).unusable || (is_free (shown x (cell_place z.layout (cell_of k.mutex))) && c.yes)) c.again there
-  lead_row (Row.HeirPendsOn k v over) there about a leading = watched_so k v over (is_free v) (not (fields_of v).unusable) there
+  lead_row (Row.HeirPendsOn k v over) there about a leading = watched_so k v over (is_free v) (not (fields_of v).unusable) (not (k.timed && c.yes)) there
   lead_row (Row.HeirHas k r) there about a leading = there
   lead_row (Row.GivesUp k) there about a leading = there
   lead_row (Row.LastMarks k v) there about (may, to) leading = last_marks k v there may to

@@ -54,29 +54,29 @@ module _ (s : State) (t : ℕ) (inv : Kept s) (pos : 1 ≤ t) (known : t ≤ s.l
       same = λ i. record { head = (fits.stands.0 ∙ fits.head) i; entry = fits.stands.1 i; row = u.row }
   call_mine c p f along fits listed = absurd along
 
-  call_apart : (c : Op) (p : Whole) (f : Phase) → IsAlong f → (s.threads t).stage ≡ Calling c p → p.phase ≡ f → (k : ℕ) → k < s.layout.mutexes → cell_place s.layout k ≢ place_met s.layout t (whole_access p)
-  call_apart c p f along is phase k inside e = mine_is_no_cell s t (place_met s.layout t (whole_access p)) k pos known inside mine (sym e)
-    where
-      mine : IsMine s t (place_met s.layout t (whole_access p))
-      mine = call_mine c p p.phase (subst IsAlong (sym phase) along) (fits_in s t c p inv pos known is).0 (subst (λ (g : Stage). Listed s t g) is (inv.listed t pos known))
+  call_there : (c : Op) (p : Whole) (f : Phase) → IsAlong f → (s.threads t).stage ≡ Calling c p → p.phase ≡ f → IsMine s t (place_met s.layout t (whole_access p))
+  call_there c p f along is phase = call_mine c p p.phase (subst IsAlong (sym phase) along) (fits_in s t c p inv pos known is).0 (subst (λ (g : Stage). Listed s t g) is (inv.listed t pos known))
 
-  cond_apart : (c : CondCall) (p : CondWhole) (u : UnlinkStanding) (n : ℕ) → (s.threads t).stage ≡ AtCondition c p → p.phase ≡ CondPhase.Unlinking u n → (k : ℕ) → k < s.layout.mutexes → cell_place s.layout k ≢ place_met s.layout t (cond_access p)
-  cond_apart c p u n is phase k inside e = mine_is_no_cell s t (place_met s.layout t (cond_access p)) k pos known inside (by_access s t c inv pos known (λ (q : CondWhole). (v : UnlinkStanding) (m : ℕ) → q.phase ≡ CondPhase.Unlinking v m → IsMine s t (place_met s.layout t (cond_access q)))
-      (λ r fits step v m never. absurd (cc never)) (λ x q near v m there. near.mine) p is u n phase) (sym e)
+  cond_there : (c : CondCall) (p : CondWhole) (u : UnlinkStanding) (n : ℕ) → (s.threads t).stage ≡ AtCondition c p → p.phase ≡ CondPhase.Unlinking u n → IsMine s t (place_met s.layout t (cond_access p))
+  cond_there c p u n is phase = by_access s t c inv pos known (λ (q : CondWhole). (v : UnlinkStanding) (m : ℕ) → q.phase ≡ CondPhase.Unlinking v m → IsMine s t (place_met s.layout t (cond_access q)))
+      (λ r fits step v m never. absurd (cc never)) (λ x q near v m there. near.mine) p is u n phase
 
-  abbrev Apart : Stage → Type 0
-  Apart g = (at k : ℕ) → k < s.layout.mutexes → cell_place s.layout k ≢ place_met s.layout t (access_of_stage g at)
+  abbrev Mine : Stage → Type 0
+  Mine g = (at : ℕ) → IsMine s t (place_met s.layout t (access_of_stage g at))
 
-  there : (g : Stage) → (s.threads t).stage ≡ g → Apart g → Apart (s.threads t).stage
-  there g is apart = subst Apart (sym is) apart
+  there : (g : Stage) → (s.threads t).stage ≡ g → Mine g → Mine (s.threads t).stage
+  there g is mine = subst Mine (sym is) mine
 
-  pub list_apart : (r : Row) → IsAlongList r → StandsAs r (s.threads t).stage → Apart (s.threads t).stage
-  list_apart (Row.Links m r) along (u, inl (p, is, phase)) = there _ is (λ at k inside. call_apart _ p (Linking u r) tt is phase k inside)
-  list_apart (Row.Links m r) along (u, inr (inl (p, is, phase))) = there _ is (λ at k inside. call_apart _ p (Linking u r) tt is phase k inside)
-  list_apart (Row.Links m r) along (u, inr (inr (z, (c, p, is, of, acts, phase)))) = there _ is (λ at k inside. call_apart _ p (Linking u r) tt is phase k inside)
-  list_apart (Row.SlotLinks k d) along (u, (p, is, phase)) = there _ is (λ at j inside. call_apart _ p _ tt is phase j inside)
-  list_apart (Row.HeirLinks k r) along (u, (p, is, phase)) = there _ is (λ at j inside. call_apart _ p (Linking u r) tt is phase j inside)
-  list_apart (Row.FreeUnlinks k f) along (u, (p, is, phase)) = there _ is (λ at j inside. call_apart _ p (Unlinking u false) tt is phase j inside)
-  list_apart (Row.GiveUnlinks m (OfUnlock d)) along (u, (p, is, phase)) = there _ is (λ at j inside. call_apart _ p (Unlinking u d) tt is phase j inside)
-  list_apart (Row.GiveUnlinks m (OfWait k n slept timed)) along (p, u, is, phase) = there _ is (λ at j inside. cond_apart _ p u n is phase j inside)
-  list_apart r along stands = absurd along
+  pub list_mine : (r : Row) → IsAlongList r → StandsAs r (s.threads t).stage → Mine (s.threads t).stage
+  list_mine (Row.Links m r) along (u, inl (p, is, phase)) = there _ is (λ at. call_there _ p (Linking u r) tt is phase)
+  list_mine (Row.Links m r) along (u, inr (inl (p, is, phase))) = there _ is (λ at. call_there _ p (Linking u r) tt is phase)
+  list_mine (Row.Links m r) along (u, inr (inr (z, (c, p, is, of, acts, phase)))) = there _ is (λ at. call_there _ p (Linking u r) tt is phase)
+  list_mine (Row.SlotLinks k d) along (u, (p, is, phase)) = there _ is (λ at. call_there _ p _ tt is phase)
+  list_mine (Row.HeirLinks k r) along (u, (p, is, phase)) = there _ is (λ at. call_there _ p (Linking u r) tt is phase)
+  list_mine (Row.FreeUnlinks k f) along (u, (p, is, phase)) = there _ is (λ at. call_there _ p (Unlinking u false) tt is phase)
+  list_mine (Row.GiveUnlinks m (OfUnlock d)) along (u, (p, is, phase)) = there _ is (λ at. call_there _ p (Unlinking u d) tt is phase)
+  list_mine (Row.GiveUnlinks m (OfWait k n slept timed)) along (p, u, is, phase) = there _ is (λ at. cond_there _ p u n is phase)
+  list_mine r along stands = absurd along
+
+  pub list_apart : (r : Row) → IsAlongList r → StandsAs r (s.threads t).stage → (at k : ℕ) → k < s.layout.mutexes → cell_place s.layout k ≢ place_met s.layout t (access_of_stage (s.threads t).stage at)
+  list_apart r along stands at k inside e = mine_is_no_cell s t (place_met s.layout t (access_of_stage (s.threads t).stage at)) k pos known inside (list_mine r along stands at) (sym e)

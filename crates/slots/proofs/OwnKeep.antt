@@ -202,8 +202,8 @@ module _ (x y : Slots) (t : ℕ) (c : Choice) (inv : Kept x.machine) (pos : 1 �
       sl = W (slot_of k.mutex)
 
   watched_owning : (k : Taking) (v : ℕ) (over : Bool) → Slot k.mutex false → Owns (watched_row x t c k v over)
-  watched_owning k v over n = either (over && is_free v) (Row.HeirTakes k v) (if over && not (fields_of v).unusable then Row.HeirPends k Again else Row.GivesUp k) n
-      (either (over && not (fields_of v).unusable) (Row.HeirPends k Again) (Row.GivesUp k) n n)
+  watched_owning k v over n = either (over && is_free v) (Row.HeirTakes k v) (if over && not (fields_of v).unusable && not (k.timed && c.yes) then Row.HeirPends k Again else Row.GivesUp k) n
+      (either (over && not (fields_of v).unusable && not (k.timed && c.yes)) (Row.HeirPends k Again) (Row.GivesUp k) n n)
 
   out_owning : (k : Taking) → Slot k.mutex false → Owns (out_of x t c k)
   out_owning k n = either (k.timed && c.yes) (Row.Frees k (Fails ETIMEDOUT)) (Row.Frees k Sleeps) (n.0, tt) n
@@ -406,7 +406,7 @@ module _ (x y : Slots) (t : ℕ) (c : Choice) (inv : Kept x.machine) (pos : 1 �
       found : V (slot_of k.mutex) ≡ bit_and (W (slot_of k.mutex)) 18446744072635809791
       found = its_word (Access.FetchAnd (slot_at k.mutex) 18446744072635809791) (slot_of k.mutex) tt inside refl is
 
-  heir_looks_owning : (k : Taking) (v : ℕ) (a b : Bool) → Slot k.mutex false → Owns (if a then Row.HeirPendsOn k v true else if b then Row.HeirSets k else Row.HeirPendsOn k v false)
+  heir_looks_owning : (k : Taking) (v : ℕ) (a b : Bool) → Slot k.mutex false → Owns (if a then Row.HeirPendsOn k v true else if b then Row.HeirPends k Again else Row.HeirPendsOn k v false)
   heir_looks_owning k v true b w = w
   heir_looks_owning k v false true w = w
   heir_looks_owning k v false false w = w

@@ -5,17 +5,27 @@ use Rattle.memorymap.specs.Layouts.{Layout', address_in, cell_place, counter_pla
 use Rattle.protocol.specs.declared.event.Event.{Event}
 use Rattle.protocol.specs.declared.event.Event.TheVariants.{Step, Kill, Leave, Expire}
 use Rattle.protocol.specs.declared.thread.Stage.{Stage}
-use Rattle.protocol.specs.declared.thread.Stage.TheVariants.{Calling, Dying, Reaped}
-use Rattle.protocol.specs.Machine.{State, After, departed, has_thread, is_alive, is_asleep, is_dying, is_exiting, is_gone, nothing, place_met, renewed, run, sleeps, stands_in, words_after}
+use Rattle.protocol.specs.declared.thread.Stage.TheVariants.{AtCondition, Calling, Dying, Idle, Reaped}
+use Rattle.protocol.specs.declared.thread.Thread.{Thread}
+use Rattle.mutex.specs.Whole.{may_expire}
+use Rattle.condvar.specs.Calls.{condition_of}
+use Rattle.condvar.specs.declared.op.Op.TheVariants.{OnMutex, OnCondition}
+use Rattle.slots.specs.Rows.How.{Later}
+use Rattle.protocol.specs.Machine.{After, State, departed, expired, has_thread, is_alive, is_asleep, is_dying, is_exiting, is_gone, is_timed, lapsed, nothing, overslept, place_met, renewed, run, sleeps, stands_in, waits_on, words_after}
 use Rattle.protocol.proofs.Kept.{Kept, last_thread}
 use Rattle.protocol.proofs.Events.{is_known}
 use Rattle.protocol.proofs.Puts.{put-same}
 use Rattle.protocol.proofs.Queued.{in_none}
 use Rattle.protocol.proofs.Counters.{Counted}
 use Rattle.protocol.proofs.Renewals.{renewed_cell}
+use Rattle.slots.specs.Stores.{Released}
+use Rattle.slots.proofs.Slept.{CountsOn, SeesSlept, queue_at}
+use Rattle.slots.proofs.CountersKept.{count_at}
+use Rattle.slots.specs.Premises.{KnowsSlept}
+use Rattle.std.specs.Prelude.{length}
 use Rattle.slots.specs.Premises.{SeesCount, KnowsItsTurn, HeirTakesOver, MayOwnMore, SlotsAreQuiet, Owning, Trusts}
 use Rattle.slots.specs.Places.{slot_of}
-use Rattle.slots.specs.Rows.{Choice, Giving, Row}
+use Rattle.slots.specs.Rows.{Choice, Giving, How, Row, Taking}
 use Rattle.slots.specs.Rows.Giving.{OfUnlock, OfWait}
 use Rattle.slots.specs.Shown.{memory, shown, Slots, after}
 use Rattle.slots.specs.Table.{access_of_stage, made}
@@ -36,7 +46,7 @@ use Rattle.slots.proofs.CallsFit.{calls_fit}
 use Rattle.slots.proofs.FitsOn.{next_rows_fit}
 use Rattle.slots.proofs.Free.{reached_kept, reached_queued}
 use Rattle.slots.proofs.Keeping.{all_four, dying_at, lapses_so, rests_at}
-use Rattle.slots.proofs.HeldRows.{RoomAt, first_room, room_row}
+use Rattle.slots.proofs.HeldRows.{Few, RoomAt, first_room, room_row}
 use Rattle.slots.proofs.Leading.{by_test}
 use Rattle.slots.proofs.LeadsOn.{rows_lead}
 use Rattle.slots.proofs.Each.{each_access}
@@ -64,6 +74,9 @@ pub record Steady (x : Slots) : Type 0 where
   pub room : (t : ℕ) → 1 ≤ t → t ≤ x.machine.layout.threads → RoomAt (x.machine.threads t).held (x.rows t)
   pub sees : (t : ℕ) → 1 ≤ t → t ≤ x.machine.layout.threads → SeesCount x (x.rows t)
   pub counts : Counted x.machine
+  pub slept : (t : ℕ) → 1 ≤ t → t ≤ x.machine.layout.threads → SeesSlept x (x.rows t)
+  pub empty : (k : ℕ) → k < length x.machine.layout.conditions → x.slept k ≡ false → queue_at x k ≡ []
+  pub later : (v u k n : ℕ) → 1 ≤ v → v ≤ x.machine.layout.threads → 1 ≤ u → u ≤ x.machine.layout.threads → CountsOn (x.rows v) k → Released (x.rows u) k n → n < count_at x k
   pub watched : (t : ℕ) → 1 ≤ t → t ≤ x.machine.layout.threads → OwnWatched x.machine x.awake t (x.rows t)
 
 pub may_go : (a d e : Bool) → (a && d && not e) ≡ true → (d ≡ true) × (e ≡ false)
@@ -133,11 +146,18 @@ module _ (x : Slots) (t : ℕ) (pos : 1 ≤ t) (known : t ≤ x.machine.layout.t
       go true lives = may_own x t s.reached pos known (x.rows t) (here lives) fit room
       go false dead = subst (MayOwnMore x t) (sym (resting dead)) tt
 
+  silent_at : (r : Row) → Fits z.layout t r g → KnowsSlept x r
+  silent_at (Row.Counts m k all n) o = s.empty k o.cell.inside
+  silent_at r o = tt
+
+  pub silent : KnowsSlept x (x.rows t)
+  silent = silent_at (x.rows t) fit
+
   pub granted : (c : Choice) → Trusts x t (x.rows t) → Grants x (Goes t c)
   granted c w = go (is_alive g) refl
     where
       go : (b : Bool) → is_alive g ≡ b → Grants x (Goes t c)
-      go true lives = (about_it z.layout t (x.rows t) g fit (here lives), assume_row x t s.reached pos known (x.rows t) (here lives) fit own quiet knows more (s.sees t pos known) w, assume_too x t s.reached pos known (x.rows t) fit own quiet knows heir_over (s.sees t pos known) s.counts w)
+      go true lives = (about_it z.layout t (x.rows t) g fit (here lives), assume_row x t s.reached pos known (x.rows t) (here lives) fit own quiet knows more (s.sees t pos known) silent w, assume_too x t s.reached pos known (x.rows t) fit own quiet knows heir_over (s.sees t pos known) s.counts w)
       go false dead = (
         subst (λ (r : Row). IsAboutIt z.layout r g) (sym (resting dead)) tt,
         subst (Assumes x t) (sym (resting dead)) tt,
@@ -273,7 +293,7 @@ module _ (x : Slots) (t : ℕ) (pos : 1 ≤ t) (known : t ≤ x.machine.layout.t
           (λ e. (fit, resting, owning_kept x (record x { machine = (departed z t).state }) t pos refl (record { same = λ k o. refl; none = λ k o. o }) (x.rows t) g fit own, λ m ours. still_plain z (departed z t).state m refl (s.plain m ours), room)) (λ e. (fit, resting, own, s.plain, room))
 
   lapse_fits : (r : Row) → Fits z.layout t r g → Fits z.layout t (lapse_row r) ((run z (lapse_events x t r)).threads t).stage
-  lapse_fits (Row.Asleep k) o = by_test (λ (r : Row). Fits z.layout t r ((run z (lapse_events x t (Row.Asleep k))).threads t).stage) k.timed (Row.Late k) (Row.Asleep k) (λ e. tt) (λ e. o)
+  lapse_fits (Row.Asleep k) o = by_test (λ (r : Row). Fits z.layout t r ((run z (lapse_events x t (Row.Asleep k))).threads t).stage) k.timed (Row.Late k) (Row.Asleep k) (λ e. o.0) (λ e. o)
   lapse_fits (Row.WaitAsleep m k true) o = o
   lapse_fits (Row.WaitAsleep m k false) o = o
   lapse_fits r o = o
@@ -290,15 +310,27 @@ module _ (x : Slots) (t : ℕ) (pos : 1 ≤ t) (known : t ≤ x.machine.layout.t
   lapse_plain (Row.WaitAsleep j k false) m ours = s.plain m ours
   lapse_plain r m ours = s.plain m ours
 
-  lapse_room : (r : Row) → RoomAt (z.threads t).held r → RoomAt ((run z (lapse_events x t r)).threads t).held (lapse_row r)
-  lapse_room (Row.Asleep k) o = go k.timed
+  -- it owns as many after a timeout
+  held_late : (f : Stage) → ((expired z t (z.threads t).held f).state.threads t).held ≡ (z.threads t).held
+  held_late (Calling (OnMutex o) q) = by_test (λ (a : After). (a.state.threads t).held ≡ (z.threads t).held) (is_timed (OnMutex o) && may_expire q.phase && sleeps z t (Calling (OnMutex o) q)) (lapsed z t (z.threads t).held (OnMutex o) q) (nothing z) (λ e. ap (λ (v : Thread). v.held) (put-same z.threads t _)) (λ e. refl)
+  held_late (Calling (OnCondition o) q) = by_test (λ (a : After). (a.state.threads t).held ≡ (z.threads t).held) (is_timed (OnCondition o) && waits_on z t (condition_of o)) (overslept z t (z.threads t).held (condition_of o) q) (nothing z) (λ e. ap (λ (v : Thread). v.held) (put-same z.threads t _)) (λ e. refl)
+  held_late Idle = refl
+  held_late (AtCondition o q) = refl
+  held_late (Dying w) = refl
+  held_late Reaped = refl
+
+  few_late : (k : Taking) → k.how ≡ Later → Few k.how (z.threads t).held → ((run z (Expire t ∷ [])).threads t).held < 2046
+  few_late k how few = subst (λ (n : ℕ). n < 2046) (sym (by_test (λ (a : After). (a.state.threads t).held ≡ (z.threads t).held) (has_thread z t) (expired z t (z.threads t).held g) (nothing z) (λ e. held_late g) (λ e. refl))) (subst (λ (h : How). Few h (z.threads t).held) how few)
+
+  lapse_room : (r : Row) → Fits z.layout t r g → RoomAt (z.threads t).held r → RoomAt ((run z (lapse_events x t r)).threads t).held (lapse_row r)
+  lapse_room (Row.Asleep k) fits o = go k.timed refl
     where
-      go : (b : Bool) → RoomAt ((run z (if b then Expire t ∷ [] else [])).threads t).held (if b then Row.Late k else Row.Asleep k)
-      go true = tt
-      go false = o
-  lapse_room (Row.WaitAsleep m k true) o = tt
-  lapse_room (Row.WaitAsleep m k false) o = tt
-  lapse_room r o = o
+      go : (b : Bool) → k.timed ≡ b → RoomAt ((run z (if b then Expire t ∷ [] else [])).threads t).held (if b then Row.Late k else Row.Asleep k)
+      go true e = few_late k (fits.1 e) o
+      go false e = o
+  lapse_room (Row.WaitAsleep m k true) fits o = tt
+  lapse_room (Row.WaitAsleep m k false) fits o = tt
+  lapse_room r fits o = o
 
   alive_asleep : (f : Stage) → sleeps z t f ≡ true → is_alive f ≡ true
   alive_asleep (Calling o p) e = refl
@@ -320,7 +352,7 @@ module _ (x : Slots) (t : ℕ) (pos : 1 ≤ t) (known : t ≤ x.machine.layout.t
       (λ asleep. at_new (after x (lapse_events x t (x.rows t))) (lapse_row (x.rows t)) (lapse_fits (x.rows t) fit)
       (λ dead. absurd (cc (sym dead ∙ standing_lives ((run z (lapse_events x t (x.rows t))).threads t).stage (lapse_row (x.rows t))
       (lapses_so x t (reached_kept z s.reached) (x.rows t) (here (alive_asleep g asleep)) (sleeps_later z.layout t (x.rows t) g fit) (is_known z t pos known) asleep))))
-      (lapse_owns (x.rows t) own) (lapse_plain (x.rows t)) (lapse_room (x.rows t) room) (lapse_watched (x.rows t) (alive_asleep g asleep) seen_over))
+      (lapse_owns (x.rows t) own) (lapse_plain (x.rows t)) (lapse_room (x.rows t) fit room) (lapse_watched (x.rows t) (alive_asleep g asleep) seen_over))
       (λ e. unchanged)
 
   pub dies : Both (next x (Dies t))

@@ -198,9 +198,9 @@ module _ (x y : Slots) (t : ℕ) (c : Choice) (inv : Kept x.machine) (pos : 1 �
   along P here next now then_on = either P (is_on_list ((run x.machine (Step t ∷ [])).threads t).stage) here next now then_on
 
   watched : (P : Row → Type 0) (k : Taking) (v : ℕ) (over : Bool) → P (Row.HeirTakes k v) → P (Row.HeirPends k Again) → P (Row.GivesUp k) → P (watched_row x t c k v over)
-  watched P k v over takes pends gives = either P (over && is_free v) (Row.HeirTakes k v) (if over && not (fields_of v).unusable then Row.HeirPends k Again else Row.GivesUp k) takes (either P (over && not (fields_of v).unusable) (Row.HeirPends k Again) (Row.GivesUp k) pends gives)
+  watched P k v over takes pends gives = either P (over && is_free v) (Row.HeirTakes k v) (if over && not (fields_of v).unusable && not (k.timed && c.yes) then Row.HeirPends k Again else Row.GivesUp k) takes (either P (over && not (fields_of v).unusable && not (k.timed && c.yes)) (Row.HeirPends k Again) (Row.GivesUp k) pends gives)
 
-  looks : (P : Row → Type 0) (k : Taking) (v : ℕ) (a b : Bool) → P (Row.HeirPendsOn k v true) → P (Row.HeirSets k) → P (Row.HeirPendsOn k v false) → P (if a then Row.HeirPendsOn k v true else if b then Row.HeirSets k else Row.HeirPendsOn k v false)
+  looks : (P : Row → Type 0) (k : Taking) (v : ℕ) (a b : Bool) → P (Row.HeirPendsOn k v true) → P (Row.HeirPends k Again) → P (Row.HeirPendsOn k v false) → P (if a then Row.HeirPendsOn k v true else if b then Row.HeirPends k Again else Row.HeirPendsOn k v false)
   looks P k v true b over sets on = over
   looks P k v false true over sets on = sets
   looks P k v false false over sets on = on

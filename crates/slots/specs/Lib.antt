@@ -10,8 +10,10 @@ pub mod Laws
 pub mod Moments
 pub mod Places
 pub mod Premises
+pub mod Replies
 pub mod Rows
 pub mod Runs
 pub mod Shown
 pub mod Stands
+pub mod Stores
 pub mod Table

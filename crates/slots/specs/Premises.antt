@@ -1,5 +1,5 @@
--- What rows assume of an access, by what it is about: what is so in every run, and what the laws of runs still take for
--- granted (`Trusts`).
+-- What rows assume of an access, by what it is about: what is so in every run, and the two bounds that the laws of runs take
+-- for granted (`Trusts`).
 use Rattle.std.specs.Prelude.{ℕ, ◌≡◌, ◌≢◌, ◌<◌, ◌≤◌, ◌+◌, ◌*◌, Bool, true, false, List, [], ◌∷◌}
 use Rattle.lockword.specs.Cells.{waiters_alone}
 use Rattle.memorymap.specs.Layouts.{Layout', IsLayout, cell_place, counter_place}
@@ -175,7 +175,6 @@ KnowsSlept x r = Unit {0}
 pub record Trusts (x : Slots) (t : ℕ) (r : Row) : Type 0 where
   pub few : HasFewTurns x r
   pub counts : HasFewCounts x r
-  pub slept : KnowsSlept x r
 
 abbrev pub TrustsIn : Slots → Happening → Type 0
 TrustsIn x (Goes t c) = Trusts x t (x.rows t)
@@ -203,6 +202,11 @@ RunsKeepOwners = (l : Layout') (hs : List Happening) (t : ℕ) → IsLayout l �
 abbrev pub RunsKeepTurns : Type 0
 RunsKeepTurns = (l : Layout') (hs : List Happening) (t : ℕ) → IsLayout l → 1 ≤ t → t ≤ l.threads → AllTrusted (begin l) hs
     → KnowsItsTurn (reached l hs) ((reached l hs).rows t)
+
+-- when a signal or a broadcast counts, and SLEPT isn't set, nobody sleeps on the counter
+abbrev pub RunsKeepSlept : Type 0
+RunsKeepSlept = (l : Layout') (hs : List Happening) (t : ℕ) → IsLayout l → 1 ≤ t → t ≤ l.threads → AllTrusted (begin l) hs
+    → KnowsSlept (reached l hs) ((reached l hs).rows t)
 
 -- a call that has seen a counter's word, to wait or to count, has seen it as it is
 abbrev pub RunsKeepCounts : Type 0

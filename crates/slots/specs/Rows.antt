@@ -80,7 +80,7 @@ pub data Row : Type 0 where
   SlotClears : Taking → Row  -- take_slot: set_pending(NULL)
   SlotQuiets : Taking → Row  -- take_slot: fetch_and(slot, ~AWAKE)
   SlotMends : Taking → Row  -- take_slot: fetch_and(slot, ~OWNER_DIED)
-  HeirPends : Taking → Before → Row  -- wait_awake: set_pending(cell_entry)
+  HeirPends : Taking → Before → Row  -- wait_awake, watch: set_pending(cell_entry)
   HeirSets : Taking → Row  -- wait_awake, watch: say_awake, an exchange of the slot
   HeirLooks : Taking → Row  -- wait_awake: load_in_order(cell); watch: load_acquire(cell)
   HeirPendsOn : Taking → ℕ → Bool → Row  -- wait_awake: set_pending(cell_entry) again; whether the watch is over
@@ -127,3 +127,72 @@ pub data Row : Type 0 where
   AllMarks : ℕ → ℕ → ℕ → Row  -- pz_cond_broadcast: fetch_or(cell, WAITERS)
   AllMoves : ℕ → ℕ → ℕ → Row  -- pz_cond_broadcast: move_sleepers, FUTEX_CMP_REQUEUE
   Unsets : ℕ → ℕ → ℕ → Row  -- pz_cond_signal, pz_cond_broadcast: store_release(counter), without SLEPT
+
+-- which mutex of ours a row is about
+abbrev pub about : Row → ℕ
+about Row.Rests = 0
+about (Row.Looks k) = k.mutex
+about (Row.Pends k v) = k.mutex
+about (Row.Sees k) = k.mutex
+about (Row.Takes k v) = k.mutex
+about (Row.Links m r) = m
+about (Row.Clears m r) = m
+about (Row.Chooses k v) = k.mutex
+about (Row.SeesAgain k v) = k.mutex
+about (Row.Marks k v n) = k.mutex
+about (Row.SleepsOn k v) = k.mutex
+about (Row.Asleep k) = k.mutex
+about (Row.Late k) = k.mutex
+about (Row.LateSees k) = k.mutex
+about (Row.WakesAll m r) = m
+about (Row.SlotPends k g) = k.mutex
+about (Row.SlotTakes k g) = k.mutex
+about (Row.SlotLeft k) = k.mutex
+about (Row.SeesToSleep k) = k.mutex
+about (Row.SlotLinks k d) = k.mutex
+about (Row.SlotClears k) = k.mutex
+about (Row.SlotQuiets k) = k.mutex
+about (Row.SlotMends k) = k.mutex
+about (Row.HeirPends k b) = k.mutex
+about (Row.HeirSets k) = k.mutex
+about (Row.HeirLooks k) = k.mutex
+about (Row.HeirPendsOn k v over) = k.mutex
+about (Row.HeirTakes k v) = k.mutex
+about (Row.HeirHas k r) = k.mutex
+about (Row.HeirLinks k r) = k.mutex
+about (Row.GivesUp k) = k.mutex
+about (Row.LastLooks k) = k.mutex
+about (Row.LastMarks k v) = k.mutex
+about (Row.HeirWakes k) = k.mutex
+about (Row.Frees k f) = k.mutex
+about (Row.FreeUnlinks k f) = k.mutex
+about (Row.FreeGives k f) = k.mutex
+about (Row.TryLooks m) = m
+about (Row.TryPends m v) = m
+about (Row.TryTakes m v) = m
+about (Row.GiveLooks m) = m
+about (Row.GivePends m y) = m
+about (Row.GiveUnlinks m y) = m
+about (Row.GiveFinds m y) = m
+about (Row.Gives m y) = m
+about (Row.HandsOn m y is) = m
+about (Row.LooksBack m y is) = m
+about (Row.WakesOne m y is) = m
+about (Row.Trims m is) = m
+about (Row.MendLooks m) = m
+about (Row.Mends m) = m
+about (Row.AnewLooks m) = m
+about (Row.Anews m v) = m
+about (Row.WaitLooks m k timed) = m
+about (Row.WaitCounts m k timed died) = m
+about (Row.WaitSets m k n timed) = m
+about (Row.WaitSleeps m k n timed) = m
+about (Row.WaitAsleep m k timed) = m
+about (Row.WaitLate m k) = m
+about (Row.CountLooks m k all) = m
+about (Row.CountLoads m k all) = m
+about (Row.Counts m k all n) = m
+about (Row.CountWakes m k n) = m
+about (Row.AllMarks m k n) = m
+about (Row.AllMoves m k n) = m
+about (Row.Unsets m k n) = m

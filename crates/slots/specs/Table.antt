@@ -351,11 +351,12 @@ module _ (x : Slots) (t : ℕ) (c : Choice) where
   heir_begins k Mended = begins t (call.TimedLock (cell_of k.mutex))
   heir_begins k Again = []
 
-  -- an heir has seen a word of the cell, and its watch is over or not
+  -- an heir has seen a word of the cell, and its watch is over or not. If another thread was faster, the heir waits again,
+  -- unless its deadline has passed
   abbrev pub watched_row : Taking → ℕ → Bool → Row
   watched_row k v over =
       if over && is_free v then Row.HeirTakes k v
-      else if over && not (fields_of v).unusable then Row.HeirPends k Again
+      else if over && not (fields_of v).unusable && not (k.timed && c.yes) then Row.HeirPends k Again
       else Row.GivesUp k
 
   abbrev pub wait_begins : ℕ → Bool → List Event
@@ -442,7 +443,7 @@ module _ (x : Slots) (t : ℕ) (c : Choice) where
       makes (access.Load (cell k.mutex)) [] (
       if (fields_of (at_cell k.mutex)).unusable || (is_free (at_cell k.mutex) && c.yes)
       then Row.HeirPendsOn k (at_cell k.mutex) true
-      else if c.again then Row.HeirSets k
+      else if c.again then Row.HeirPends k Again
       else Row.HeirPendsOn k (at_cell k.mutex) false
       )
   made (Row.HeirPendsOn k v over) = makes (pends_cell k.mutex) [] (watched_row k v over)

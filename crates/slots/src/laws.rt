@@ -5,7 +5,7 @@ ghost use Rattle.slots.specs.Accesses.{MissesAreNoEvents, PendingAgainIsNoEvent,
 ghost use Rattle.slots.specs.Accesses.{TakesAreEvents, WakesAreEvents};
 ghost use Rattle.slots.specs.Each.{EachAccessIsEvents};
 ghost use Rattle.slots.specs.Fits.{NextRowsFit};
-ghost use Rattle.slots.specs.Premises.{AllHold, HeirsTakeOver, PremisesFollow, RunsKeepCounts, RunsKeepHeirs, RunsKeepOwners, RunsKeepRoom, RunsKeepTurns, SlotsStayQuiet, WordsStaySound};
+ghost use Rattle.slots.specs.Premises.{AllHold, HeirsTakeOver, PremisesFollow, RunsKeepCounts, RunsKeepHeirs, RunsKeepOwners, RunsKeepRoom, RunsKeepSlept, RunsKeepTurns, SlotsStayQuiet, WordsStaySound};
 ghost use Rattle.slots.specs.Goes.{OthersStandStill, RowsLeadOn, RunsKeepTheirRows};
 ghost use Rattle.slots.specs.Goes.{AccessesOfRunsAreEvents, ThreadsKeepTheirRows};
 ghost use Rattle.slots.specs.Further.{AnnouncedReleasesAreEvents, CountsAreEvents, DecidingLooksAreEvents};
@@ -13,10 +13,12 @@ ghost use Rattle.slots.specs.Further.{FirstLooksAreEvents, MarksAreEvents, Mends
 ghost use Rattle.slots.specs.Further.{SleepsAreEvents, SparesAreEvents, TrimsAreEvents};
 ghost use Rattle.slots.specs.Heirs.{DeathsLeaveAll, DeathsLeaveHeirs, OthersAnswerStill, OthersLeaveHeirs};
 ghost use Rattle.slots.specs.Heirs.{OthersLeaveWhatIsOwned, WalksLeaveAll, WalksLeaveHeirs};
-ghost use Rattle.slots.specs.Kernels.{WakesWithoutWaitersWakeNobody};
+ghost use Rattle.slots.specs.Kernels.{AnyKernelWillDo, RousesNobody, WakesWithoutWaitersWakeNobody};
 ghost use Rattle.slots.specs.Laws.{HeirsLetSpare, NobodyJoinsAFreeMutex, ReleasesTell, SlotsRunTheMachine};
 ghost use Rattle.slots.specs.Laws.{StandingHeirsAnswer, TrimsAreTheMachines, TurnsStayKnown};
 ghost use Rattle.slots.specs.Laws.{TurnsStayKnownByAll, WakesOfNobodyTell};
+ghost use Rattle.slots.specs.Stores.{AccessesAreMadeSo, PlainStoresAreOwn, RunsMayBuffer};
+ghost use Rattle.slots.specs.Replies.{CallsAreOneHistory, CallsBeginUndecided, CallsDecideOnce};
 ghost use Rattle.slots.specs.Moments.{AnnouncingIsOneStore, GivingUpIsALook, GivingUpLeavesNothing};
 ghost use Rattle.slots.specs.Moments.{HeirTakesAreEvents, HeirsGoOn, LastLooksAreEvents, TakesAreOneExchange};
 ghost use Rattle.slots.specs.Moments.{TakesAreTheExchange};
@@ -312,7 +314,7 @@ pub fn next_rows_fit()
 
 /// In any run, what happenings assume follows from less: rows fit, calls are about their rows' mutexes, sleeps with a deadline
 /// are of locks that have been to the slot or have slept, and dead threads are in none of our calls. What is still assumed
-/// of an access is named (`specs/Premises.antt`).
+/// of an access are two bounds (`specs/Premises.antt`: `Trusts`).
 pub fn premises_follow()
     ensures { PremisesFollow }
 {}
@@ -351,6 +353,12 @@ pub fn runs_keep_counts()
     ensures { RunsKeepCounts }
 {}
 
+/// In any run, when a signal or a broadcast is about to count and the counter has no SLEPT, nobody sleeps on the counter. So
+/// if the call makes no wake, there was nobody to wake.
+pub fn runs_keep_slept()
+    ensures { RunsKeepSlept }
+{}
+
 /// In any run, if a slot has AWAKE and an owner, and isn't marked, its owner is the cell's heir: it will look at the cell's
 /// word, or has taken the cell, or was killed, and Linux will look.
 pub fn runs_keep_heirs()
@@ -363,8 +371,8 @@ pub fn heirs_take_over()
     ensures { HeirsTakeOver }
 {}
 
-/// In any run, each access of a thread that lives and is awake is the events that the table has for it. What is still assumed
-/// is named (`specs/Premises.antt`).
+/// In any run, each access of a thread that lives and is awake is the events that the table has for it. Two bounds are still
+/// assumed (`specs/Premises.antt`: `Trusts`).
 pub fn all_hold()
     ensures { AllHold }
 {}
@@ -373,4 +381,50 @@ pub fn all_hold()
 /// kernels' walks make such a wake, at the pending word of a mutex that another thread owns.
 pub fn wakes_without_waiters_wake_nobody()
     ensures { WakesWithoutWaitersWakeNobody }
+{}
+
+/// If a kernel wakes one that sleeps on a mutex whose word has no WAITERS, nothing changes in the layer.
+pub fn rouses_nobody()
+    ensures { RousesNobody }
+{}
+
+/// Whatever happens, and whenever a kernel wakes one that sleeps on a mutex: a run without these wakes leads to the same state.
+/// So all laws of runs hold of kernels whose walks make more wakes.
+pub fn any_kernel_will_do()
+    ensures { AnyKernelWillDo }
+{}
+
+/// A call begins undecided, and knows its operation.
+pub fn calls_begin_undecided()
+    ensures { CallsBeginUndecided }
+{}
+
+/// In any run, whatever the next access of a call finds, the access is the call's point or does nothing. A call has one point,
+/// of its own operation and mutex, and returns the reply of that point. A wait unlocks its mutex before. A lock whose deadline
+/// isn't a time has no point: it returns EINVAL, if another thread owns the mutex.
+pub fn calls_decide_once()
+    ensures { CallsDecideOnce }
+{}
+
+/// In any run, the points of the C library's calls, with the replies that the calls return, and the deaths that Linux marks are
+/// one legal history from free mutexes. After it, each mutex is as its cell says.
+pub fn calls_are_one_history()
+    ensures { CallsAreOneHistory }
+{}
+
+/// Each access is a load, a plain store, a locked instruction or a call to Linux, as its row says, whatever it finds.
+pub fn accesses_are_made_so()
+    ensures { AccessesAreMadeSo }
+{}
+
+/// In any run, each plain store is of a word of the thread's own: of its head, or a link of a mutex that it owns. Or it is of a
+/// counter whose mutex the thread owns: then the count stays, or no wait that has released its mutex has seen it.
+pub fn plain_stores_are_own()
+    ensures { PlainStoresAreOwn }
+{}
+
+/// In any run, the machine's stores may wait in buffers, and reach memory at any moment: with all that waits, memory is the
+/// layer's machine. In memory, mutexes and counters are as the layer shows them, and only a thread's own words wait.
+pub fn runs_may_buffer()
+    ensures { RunsMayBuffer }
 {}

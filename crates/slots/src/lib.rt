@@ -19,12 +19,16 @@
 //! - *Runs of the layer*: `others_stand_still`, `rows_lead_on`, `threads_keep_their_rows`,
 //!   `runs_keep_their_rows`, `accesses_of_runs_are_events`; `next_rows_fit`, and so `premises_follow`: what rows assume of
 //!   their mutexes and of the words that they have seen. `words_stay_sound`: the machine's words of mutexes.
-//!   `slots_stay_quiet`, `runs_keep_owners`, `runs_keep_turns`, `runs_keep_room`, `runs_keep_counts`,
-//!   `runs_keep_heirs`: slots, who owns what, turns, how many mutexes a thread owns, counters, and heirs, to whom wakes are
-//!   left (`heirs_take_over`). So `all_hold`: each access of a run is its events.
+//!   `slots_stay_quiet`, `runs_keep_owners`, `runs_keep_turns`, `runs_keep_room`, `runs_keep_counts`, `runs_keep_slept`,
+//!   `runs_keep_heirs`: slots, who owns what, turns, how many mutexes a thread owns, counters and who sleeps there, and
+//!   heirs, to whom wakes are left (`heirs_take_over`). So `all_hold`: each access of a run is its events.
+//! - *Replies* (`specs/Replies.antt`): `calls_begin_undecided`, `calls_decide_once`: each call takes effect at one access,
+//!   its point, and returns that point's reply. `calls_are_one_history`: the points and the deaths that Linux marks are one
+//!   legal history.
 //! - *Several events at one moment*: `giving_up_leaves_nothing`, `giving_up_is_a_look`, `takes_are_one_exchange`,
 //!   `takes_are_the_exchange`, `announcing_is_one_store`.
-//! - *Newer kernels*: `wakes_without_waiters_wake_nobody`.
+//! - *Newer kernels*, whose walks make one more wake: `wakes_without_waiters_wake_nobody`, `rouses_nobody`,
+//!   `any_kernel_will_do`.
 //! - *The turn*: `trims_are_the_machines`, with `releases_tell`, `wakes_of_nobody_tell`, `turns_stay_known`,
 //!   `turns_stay_known_by_all` and `nobody_joins_a_free_mutex`.
 //! - *The heir*: `heirs_let_spare`. `standing_heirs_answer` says which threads are heirs. Heirs stay heirs: `heirs_go_on`,
@@ -33,26 +37,28 @@
 //!
 //! So each access is its events, at every row, and whatever it finds: `each_access_is_events`. The laws of rows name what
 //! they assume: where the machine's thread is (`specs/Stands.antt`), what its call knows, and what a word doesn't have
-//! (`specs/Each.antt`). A part of this is so in every run (`premises_follow`); the rest isn't proved
-//! (`specs/Premises.antt`, `UNPROVED.md`).
+//! (`specs/Each.antt`). All of this is so in every run, except for two bounds (`premises_follow`, `all_hold`,
+//! `specs/Premises.antt`; `UNPROVED.md`).
 #![tactic(auto)]
 
 mod laws;
 
 pub use laws::{
-    accesses_of_runs_are_events, all_hold, announced_releases_are_events, announcing_is_one_store,
-    announcing_rows_are_events, awake_is_cleared, awake_is_set, clearing_rows_are_events,
-    counts_are_events, deaths_leave_all, deaths_leave_heirs, deciding_looks_are_events,
-    each_access_is_events, first_looks_are_events, giving_up_is_a_look, giving_up_leaves_nothing,
-    heir_takes_are_events, heirs_go_on, heirs_let_spare, heirs_take_over, last_looks_are_events,
-    list_rows_are_events, looks_are_events, marks_are_events, mends_are_events,
-    misses_are_no_events, moves_are_events, next_rows_fit, nobody_joins_a_free_mutex,
-    others_answer_still, others_leave_heirs, others_leave_what_is_owned, others_stand_still,
-    pending_again_is_no_event, premises_follow, releases_are_events, releases_tell, rows_lead_on,
-    runs_keep_counts, runs_keep_heirs, runs_keep_owners, runs_keep_room, runs_keep_their_rows,
-    runs_keep_turns, sleeps_are_events, slots_run_the_machine, slots_stay_quiet, spares_are_events,
-    standing_heirs_answer, takes_are_events, takes_are_one_exchange, takes_are_the_exchange,
-    threads_keep_their_rows, trims_are_events, trims_are_the_machines, turns_stay_known,
-    turns_stay_known_by_all, wakes_are_events, wakes_of_nobody_tell,
+    accesses_are_made_so, accesses_of_runs_are_events, all_hold, announced_releases_are_events,
+    announcing_is_one_store, announcing_rows_are_events, any_kernel_will_do, awake_is_cleared,
+    awake_is_set, calls_are_one_history, calls_begin_undecided, calls_decide_once,
+    clearing_rows_are_events, counts_are_events, deaths_leave_all, deaths_leave_heirs,
+    deciding_looks_are_events, each_access_is_events, first_looks_are_events, giving_up_is_a_look,
+    giving_up_leaves_nothing, heir_takes_are_events, heirs_go_on, heirs_let_spare, heirs_take_over,
+    last_looks_are_events, list_rows_are_events, looks_are_events, marks_are_events,
+    mends_are_events, misses_are_no_events, moves_are_events, next_rows_fit,
+    nobody_joins_a_free_mutex, others_answer_still, others_leave_heirs, others_leave_what_is_owned,
+    others_stand_still, pending_again_is_no_event, plain_stores_are_own, premises_follow,
+    releases_are_events, releases_tell, rouses_nobody, rows_lead_on, runs_keep_counts,
+    runs_keep_heirs, runs_keep_owners, runs_keep_room, runs_keep_slept, runs_keep_their_rows,
+    runs_keep_turns, runs_may_buffer, sleeps_are_events, slots_run_the_machine, slots_stay_quiet,
+    spares_are_events, standing_heirs_answer, takes_are_events, takes_are_one_exchange,
+    takes_are_the_exchange, threads_keep_their_rows, trims_are_events, trims_are_the_machines,
+    turns_stay_known, turns_stay_known_by_all, wakes_are_events, wakes_of_nobody_tell,
     wakes_without_waiters_wake_nobody, walks_leave_all, walks_leave_heirs, words_stay_sound,
 };
