@@ -3,6 +3,8 @@ mod Views
 mod Dying
 pub mod Reaches
 pub mod Runs
+pub mod Saving
+mod Places
 mod Sleeping
 mod Requeues
 mod Trims

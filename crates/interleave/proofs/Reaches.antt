@@ -104,25 +104,27 @@ names s t held (OnMutex c) p fits serves = let inside = fits.inside in grind (ar
 names s t held (OnCondition c) p fits serves = let inside = serves.2 in grind (arith, nat_tests)
 
 -- so each thread may step
-pub may_step : (m : Shown) → IsReached m → (t : ℕ) → 1 ≤ t → t ≤ m.layout.threads → MayStep m.layout (thread_at m.threads t)
-may_step m r t pos known =
-    let inv = reached_kept m r in
+pub kept_step : (s : State) → Kept s → IsLayout s.layout → (t : ℕ) → 1 ≤ t → t ≤ s.layout.threads → MayStep s.layout (s.threads t)
+kept_step s inv is t pos known =
     let held = inv.held t pos known in
-    let bound = few t m.layout.mutexes (seen (state_of m)) in
-    let most = r.layout.mutexes.1 in
-    (on_its_way (thread_at m.threads t).stage (inv.sits t pos known), omega arith)
+    let bound = few t s.layout.mutexes (seen s) in
+    let most = is.mutexes.1 in
+    (on_its_way (s.threads t).stage (inv.sits t pos known), omega arith)
   where
-    on_its_way : (g : Stage) → Sits (state_of m) t (thread_at m.threads t).held g → IsOnItsWay m.layout g
+    on_its_way : (g : Stage) → Sits s t (s.threads t).held g → IsOnItsWay s.layout g
     on_its_way Idle f = tt
     on_its_way (Calling o p) f =
-        let way = on_the_way t (thread_at m.threads t).held p p.phase (seen (state_of m) (mutex_of m.layout o)) f.0.stands in
-        (names (state_of m) t (thread_at m.threads t).held o p f.0 f.1, way.0, way.1)
+        let way = on_the_way t (s.threads t).held p p.phase (seen s (mutex_of s.layout o)) f.0.stands in
+        (names s t (s.threads t).held o p f.0 f.1, way.0, way.1)
     on_its_way (AtCondition c p) f =
         let there = f.there in
-        let way = at_the_words t (thread_at m.threads t).held _ p p.phase _ f.stands in
+        let way = at_the_words t (s.threads t).held _ p p.phase _ f.stands in
         (grind (arith, nat_tests), way.0, way.1)
     on_its_way (Dying w) f = f.going
     on_its_way Reaped f = tt
+
+pub may_step : (m : Shown) → IsReached m → (t : ℕ) → 1 ≤ t → t ≤ m.layout.threads → MayStep m.layout (thread_at m.threads t)
+may_step m r = kept_step (state_of m) (reached_kept m r) r.layout
 
 -- a begin that applies is noted
 begun_noted : (s : State) (t : ℕ) (o : Op) (r : Result Stage Reply) → is_nothing (begun s t o r).note ≡ true → (begun s t o r).state ≡ s
@@ -406,7 +408,7 @@ read_cell m k at x r inside is read =
 -- ---- sleepers
 
 -- in a machine that was reached, each queue is as the law says
-reached_queued : (m : Shown) → IsReached m → Queued (state_of m)
+pub reached_queued : (m : Shown) → IsReached m → Queued (state_of m)
 reached_queued m r = subst Queued (sym r.is) (run_queued m.layout r.counters r.events r.layout)
 
 -- so whoever stands in a queue sleeps in its call

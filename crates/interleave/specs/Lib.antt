@@ -1,4 +1,5 @@
 pub mod Shown
+pub mod Saved
 pub mod Notes
 pub mod Perform
 pub mod Calls

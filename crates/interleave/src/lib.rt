@@ -6,7 +6,7 @@
 //! the kernel then walks their robust lists (get_robust_list(2)): a thread whose walk has ended owns no mutex, and may
 //! be renewed, with the same id. A mutex that has become unusable may be reinitialised. [`Machine::alone`] is what
 //! one thread would do if no other stepped: after each event no sleeper is stranded, and whoever is awake comes to
-//! rest (`runs_alone`).
+//! rest (`runs_alone`). [`Machine::save`] keeps a state, and [`Machine::restore`] comes back to it.
 //!
 //! Depends on `protocol`, for events, notes and the laws, on `syscalls`, for the memory and the kernel, on `mutex`,
 //! `condvar`, `robustlist` and `exitwalk`, for the programs that it runs, on `buckets`, for who is woken, on `facts`,
@@ -37,9 +37,11 @@ mod machine;
 mod ops;
 mod reinits;
 mod renewals;
+mod saved;
 mod spares;
 mod threads;
 mod trace;
 
 pub use machine::Machine;
+pub use saved::{Saved, Sleeper};
 pub use trace::Trace;

@@ -15,6 +15,7 @@ ghost use Rattle.interleave.specs.Reached.{IsFirst};
 ghost use Rattle.interleave.specs.Reapings.{is_reaped};
 
 use crate::copies::same_threads;
+use crate::saved::{Saved, put_sleepers, put_threads, put_words, same_words, sleepers_between};
 use crate::threads::{apply, is_calling, is_dying, is_reaped};
 use crate::trace::{Trace, push_in_room};
 use buckets::Batch;
@@ -95,6 +96,7 @@ fn first_kernel(alloc: Global, layout: &Layout) -> Result<Kernel, NoMem>
 impl Machine {
     ghost use Rattle.interleave.specs.Shown.{state_of};
     ghost use Rattle.interleave.specs.Reached.{IsStart, IsReached, AtEachMoment, TellsAtEachMoment};
+    ghost use Rattle.interleave.specs.Saved.{saved_state, WasReached};
     ghost use Rattle.interleave.specs.Traces.{IsOf};
     ghost use Rattle.protocol.specs.PassedBy.{PassesNobody};
 
@@ -264,6 +266,38 @@ impl Machine {
         ensures { IsReached self.now }
     {
         let _ = &self.fresh;
+    }
+
+    /// The state, to come back to by [`Machine::restore`]. It has no event's number and nothing of the past: machines with
+    /// one layout whose states are the same save the same words, threads and queues.
+    pub fn save(&self, alloc: Global) -> Result<Saved, NoMem>
+        ensures state { IfOk result (λ s. saved_state self.now.layout s ≡ state_of self.now) }
+        ensures reached { IfOk result (WasReached self.now.layout) }
+    {
+        let count = self.layout.words();
+        let words = same_words(alloc, &self.memory, count)?;
+        let threads = same_threads(alloc, &self.threads)?;
+        let first = self.layout.cell(0);
+        let sleepers = sleepers_between(alloc, &self.kernel, first, count as u64)?;
+        Ok(Saved {
+            words,
+            threads,
+            sleepers,
+        })
+    }
+
+    /// Comes back to a state that was saved of a machine with the same layout: this one at another time, or another
+    /// one. It takes no memory. The machine isn't fresh then, whether or not anything had happened when it was saved.
+    pub fn restore(&mut self, saved: &Saved)
+        requires { WasReached self.old.layout saved.now }
+        ensures layout { self.new.layout ≡ self.old.layout }
+        ensures state { state_of self.new ≡ saved_state self.old.layout saved.now }
+        ensures fresh { self.new.fresh ≡ false }
+    {
+        put_words(&mut self.memory, &saved.words);
+        put_threads(&mut self.threads, &saved.threads);
+        put_sleepers(&mut self.kernel, &self.memory, &saved.sleepers);
+        self.fresh = false;
     }
 
     fn copied(&self, alloc: Global) -> Result<Machine, NoMem>

@@ -1,14 +1,13 @@
 use Rattle.std.proofs.Common.{◌≡◌, ◌+◌, ◌-◌, refl, sym, ap, ◌∙◌, arith, slice_index_or, slice_set}
 use Rattle.std.proofs.lemmas.Grind.{common_steps}
 use Rattle.mutex.specs.declared.call.Call.{Call}
-use Rattle.condvar.specs.declared.op.Op.{Op}
 use Rattle.condvar.specs.declared.op.Op.TheVariants.{OnMutex}
 use Rattle.protocol.specs.declared.thread.Thread.{Thread}
 use Rattle.protocol.specs.declared.thread.Stage.TheVariants.{Calling}
 use Rattle.protocol.specs.Machine.{After, idle}
 use Rattle.interleave.specs.Shown.{state_at, thread_at}
 use Rattle.interleave.proofs.Views.{thread_at-index}
-use Rattle.interleave.proofs.Expiring.{untimed_rests, early_rests, stayed_state, stayed_note, lapsed_state, lapsed_note}
+use Rattle.interleave.proofs.Expiring.{early_rests, stayed_state, stayed_note, lapsed_state, lapsed_note}
 use Rattle.interleave.proofs.expiries.expire_lock.Goals as goal
 
 pub returns-in_default-expired : goal.returns-in_default-expired

@@ -8,7 +8,7 @@ use Rattle.syscalls.specs.Kernels.{queue_of}
 use Rattle.protocol.specs.declared.thread.Thread.{Thread}
 use Rattle.protocol.specs.declared.thread.Stage.TheVariants.{Calling}
 use Rattle.protocol.specs.Machine.{idle, stands_in}
-use Rattle.interleave.specs.Shown.{state_at, thread_at}
+use Rattle.interleave.specs.Shown.{state_at}
 use Rattle.interleave.proofs.Views.{thread_at-index}
 use Rattle.interleave.proofs.Expiring.{some_late, overslept_state}
 use Rattle.interleave.proofs.expiries.expire_wait.Goals as goal
