@@ -1,5 +1,5 @@
-"""The table of crates/slots, row by row: `made` of specs/Table.antt and `reply` of specs/Replies.antt, as antt.py reads
-them, and what they need of a state.
+"""The table of crates/slots, row by row: `made` of specs/Table.antt, `reply` of specs/Replies.antt and `manner` of
+specs/Stores.antt, as antt.py reads them, and what they need of a state.
 
 A state has one mutex of the library, whose cell and slot are the machine's mutexes 0 and 1; two entries of the C
 library on the thread's list; and one condition variable. Each address is its place. Thread SELF makes the accesses.
@@ -21,9 +21,10 @@ ON_LIST |= {"GiveUnlinks": (False, "cell"), "FreeUnlinks": (False, "slot")}
 class Table:
     def __init__(self):
         load = Module.load
-        self.layout, self.known = Record(**LAYOUT), {}
+        self.layout, self.known, self.manners = Record(**LAYOUT), {}, {}
         self.made = load("slots", "Table").value("made")
         self.reply = load("slots", "Replies").value("reply")
+        self.manner = load("slots", "Stores").value("manner")
         self.lapse_row = load("slots", "Runs").value("lapse_row")
         self.may_call = load("slots", "Runs").value("may_call")
         self.most_threads = load("lockword", "Threads").value("most_threads")
@@ -78,6 +79,12 @@ class Table:
         is_along = stage and following[0] == row[0]
         next_stage = self.stepped(stage, state["machine"]) if is_along else self.stage(following)
         return plain(made["access"]), following, next_stage, reply[1][0] if reply[0] == "Some" else None
+
+    def made_by(self, row):
+        """How the C makes the access at a row."""
+        if row not in self.manners:
+            self.manners[row] = plain(apply(self.manner, [row]))[0]
+        return self.manners[row]
 
     def lapsed(self, row):
         """The row of a call whose deadline passes while it sleeps."""

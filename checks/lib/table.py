@@ -5,9 +5,10 @@ usage: table.py ASKED.so TOP [CALL..]    the library with tests/steps/asked.c; w
 
 made.py has the table. The C runs access by access. At each access, every result that a guard can tell apart is given:
 the word that it finds, how a sleep ends, how many a wake wakes, what a clock says. The C's access has to be that of the
-row, with its operands. Then both go on by the result, to the next row or to the call's reply. Each state is visited
-once; `State.key` says which states count as the same. Loops that end by a count are gone around until they end. Ends
-with 1 and the results that lead to the first access that differs.
+row, with its operands, and made as the row's manner says: by a load, a plain store, a locked instruction or a call to
+Linux. Then both go on by the result, to the next row or to the call's reply. Each state is visited once; `State.key`
+says which states count as the same. Loops that end by a count are gone around until they end. Ends with 1 and the
+results that lead to the first access that differs.
 """
 
 import bisect
@@ -81,6 +82,8 @@ WORDS = f"{WORDS} one.next one.previous two.next two.previous".split()
 LIST = [name for name in WORDS if "." in name]
 CALLS = ["lock", "trylock", "unlock", "consistent", "reinit", "wait", "signal", "broadcast"]
 MOST_ASKED, ALL_WOKEN = 16000, 2**31 - 1
+MANNERS = {"Loads": {LOAD}, "Stores": {STORE}, "Along": {LOAD, STORE}, "Asks": {SLEEP, WAKE, MOVE}}
+MANNERS["Locks"] = {COMPARE_EXCHANGE, EXCHANGE, ADD, SUB, OR, AND}
 ERRORS = {name: number for name, number in vars(errno).items() if name.startswith("E")}
 ERRORS |= {"OK": 0, "XSTATE": errno.EINVAL}
 
@@ -305,7 +308,7 @@ class Comparison:
 
     def is_same(self, a, access, row, found):
         kind, at, *operands = access
-        if self.table.names.get(at) != a.at:
+        if self.table.names.get(at) != a.at or a.kind not in MANNERS[self.table.made_by(row)]:
             return False
         value = self.table.places.get(a.named, a.value)
         if a.kind in (ADD, SUB):

@@ -273,7 +273,7 @@ grants_then x (Lives t) s pos known w = s.rests t pos known
 lapse_are_of : (x : Slots) (t : ℕ) (r : Row) → AreOf t (lapse_events x t r)
 lapse_are_of x t r = grind (arith)
 
-events_of_it : (x : Slots) (h : Happening) → AreOf (who h) (events_of x h)
+pub events_of_it : (x : Slots) (h : Happening) → AreOf (who h) (events_of x h)
 events_of_it x (Calls t r) = tt
 events_of_it x (Goes t c) = by_test (AreOf t) (has_thread x.machine t && is_alive (x.machine.threads t).stage && not (is_asleep x.machine t)) (made x t c (x.rows t)).events [] (λ e. events_are_of x t c (x.rows t)) (λ e. tt)
 events_of_it x (Interrupts t) = (refl, tt)

@@ -86,3 +86,4 @@ pub mod OneHistory
 pub mod PlainStores
 pub mod OwnStores
 pub mod Buffering
+pub mod Waiting

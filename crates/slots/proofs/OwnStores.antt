@@ -1,6 +1,6 @@
 -- Plain stores change a thread's own words, or a counter whose mutex it owns.
 use Rattle.std.proofs.Common.{◌≡◌, ◌⊎◌, inl, inr, ℕ, ◌+◌, ◌/◌, ◌%◌, ◌<◌, ◌≤◌, ◌==◌, Bool, true, false, length, refl, sym, ap, ◌∙◌, subst, arith}
-use Rattle.std.specs.Prelude.{if◌then◌else◌}
+use Rattle.std.specs.Prelude.{if◌then◌else◌, slice_index}
 use Rattle.lockword.specs.Cells.{bit}
 use Rattle.stepprograms.specs.declared.access.Access.{Access}
 use Rattle.memorymap.specs.Layouts.{Layout', address_in, counter_place, head_place, place_in}
@@ -26,6 +26,8 @@ use Rattle.slots.proofs.CountersKept.{count_at}
 use Rattle.slots.proofs.Following.{begins_steady, layout_then, steady_run}
 use Rattle.slots.proofs.Free.{reached_kept}
 use Rattle.slots.proofs.ListPlaces.{list_mine}
+use Rattle.slots.proofs.OthersKeep.{owned_seen}
+use Rattle.slots.proofs.Owned.{our_cell}
 use Rattle.slots.proofs.Sleeping.{counter_shows}
 use Rattle.slots.proofs.SleptNext.{if_there}
 use Rattle.slots.proofs.Steady.{Steady}
@@ -55,7 +57,7 @@ module _ (x : Slots) (t : ℕ) (c : Choice) (s : Steady x) (pos : 1 ≤ t) (know
     record {
       inside = o.cell.inside;
       place = counter_again l t inv.layout pos known k o.cell.inside;
-      owner = ap (λ (i : ℕ). (fields_at x.machine i).owner) o.cell.cell ∙ own;
+      owner = owned_seen x.machine (slice_index l.conditions k) t (subst (λ (i : ℕ). i < l.mutexes) (sym o.cell.cell) (our_cell l m o.ours)) pos (ap (λ (i : ℕ). (fields_at x.machine i).owner) o.cell.cell ∙ own);
       unseen = unseen;
     },
   )
@@ -87,7 +89,7 @@ module _ (x : Slots) (t : ℕ) (c : Choice) (s : Steady x) (pos : 1 ≤ t) (know
   along : (r : Row) → IsAlongList r → StandsAs r (x.machine.threads t).stage → Own (access_of_stage (x.machine.threads t).stage (address_in l t (head_place t)))
   along r on there = inl (its_own x.machine t (place_met l t (access_of_stage (x.machine.threads t).stage (address_in l t (head_place t)))) (list_mine x.machine t inv pos known r on there (address_in l t (head_place t))))
 
-  own_row : (r : Row) → Fits l t r (x.machine.threads t).stage → Owning x.machine t r → SeesCount x r → StandsAs r (x.machine.threads t).stage → IsPlain (manner r) (made x t c r).access → Own (made x t c r).access
+  pub own_row : (r : Row) → Fits l t r (x.machine.threads t).stage → Owning x.machine t r → SeesCount x r → StandsAs r (x.machine.threads t).stage → IsPlain (manner r) (made x t c r).access → Own (made x t c r).access
   own_row (Row.Pends k v) o w sees there plain = pending _
   own_row (Row.Links m r) o w sees there plain = along (Row.Links m r) tt there
   own_row (Row.Clears m r) o w sees there plain = pending 0

@@ -4,20 +4,21 @@
 -- in `storebuffers`. Cells and slots change by locked instructions alone. A counter is stored plainly by its mutex's owner.
 -- That store leaves the count as it is, or no wait that has released its mutex has seen the count before. So it may wait
 -- until the owner's release, which is a locked instruction: nobody else reads the count meanwhile, but to compare it.
-use Rattle.std.specs.Prelude.{ℕ, ◌≡◌, ◌≢◌, ◌⊎◌, ◌≤◌, ◌<◌, ◌/◌, ◌%◌, ◌^◌, ◌==◌, true, false, List, length, slice_index, if◌then◌else◌}
+use Rattle.std.specs.Prelude.{ℕ, ◌≡◌, ◌≢◌, ◌⊎◌, ◌≤◌, ◌<◌, ◌/◌, ◌%◌, ◌^◌, ◌==◌, true, false, Some, List, length, slice_index, if◌then◌else◌, ◌&&◌, not, [], ◌∷◌}
 use Rattle.stepprograms.specs.declared.access.Access.{Access}
 use Rattle.stepprograms.specs.declared.access.Access.TheVariants as access
 use Rattle.memorymap.specs.Layouts.{Layout', IsLayout, cell_place, counter_place}
 use Rattle.protocol.specs.Changes.{IsItsOwn}
-use Rattle.protocol.specs.Machine.{is_alive, is_asleep, place_met}
+use Rattle.protocol.specs.Headline.{seen}
+use Rattle.protocol.specs.Machine.{State, has_thread, is_alive, is_asleep, place_met, put}
 use Rattle.storebuffers.specs.Buffers as buffers
 use Rattle.storebuffers.specs.Runs as buffered
 use Rattle.slots.specs.Rows.{Choice, Row}
 use Rattle.slots.specs.Rows.Giving.{OfWait}
 use Rattle.slots.specs.Shown.{Slots, begin, shown}
 use Rattle.slots.specs.Table.{made}
-use Rattle.slots.specs.Runs.{Happening, all_events, reached}
-use Rattle.slots.specs.Invariant.{fields_at}
+use Rattle.slots.specs.Runs.{Happening, all_events, next, reached}
+use Rattle.slots.specs.Runs.Happening.{Goes, Dies}
 use Rattle.slots.specs.Accesses.{IsAtRow}
 use Rattle.slots.specs.Premises.{AllTrusted}
 
@@ -130,7 +131,7 @@ NobodyCompares x k = (u n : ℕ) → 1 ≤ u → u ≤ x.machine.layout.threads 
 pub record StoresCount (x : Slots) (t p v k : ℕ) : Type 0 where
   pub inside : k < length x.machine.layout.conditions
   pub place : p ≡ counter_place x.machine.layout k
-  pub owner : (fields_at x.machine (slice_index x.machine.layout.conditions k)).owner ≡ t
+  pub owner : (seen x.machine (slice_index x.machine.layout.conditions k)).owner ≡ Some t
   pub unseen : (v % 2 ^ 32 ≡ x.machine.words (counter_place x.machine.layout k)) ⊎ NobodyCompares x k
 
 -- in any run, each plain store of a thread that lives and is awake is of a word of its head, of a link of a mutex that it
@@ -162,3 +163,54 @@ pub record RunsWithBuffers (l : Layout') (hs : List Happening) (ds : List buffer
 abbrev pub RunsMayBuffer : Type 0
 RunsMayBuffer = (l : Layout') (hs : List Happening) (ds : List buffers.Happening) → IsLayout l
     → buffers.without_drains ds ≡ all_events (begin l) hs → RunsWithBuffers l hs ds
+
+-- ---- plain stores that wait
+
+-- the places of a thread's plain stores since its last locked instruction. On x86, such an instruction waits until they have
+-- reached memory, and so does a death
+abbrev pub waiting_row : Manner → Access → List ℕ → ℕ → List ℕ
+waiting_row Stores a ps p = p ∷ ps
+waiting_row Along (access.Store at v) ps p = p ∷ ps
+waiting_row Locks a ps p = []
+waiting_row m a ps p = ps
+
+abbrev pub waiting_after : Slots → Happening → (ℕ → List ℕ) → ℕ → List ℕ
+waiting_after x (Goes t c) waiting =
+    if has_thread x.machine t && is_alive (x.machine.threads t).stage && not (is_asleep x.machine t)
+    then put waiting t (waiting_row (manner (x.rows t)) (made x t c (x.rows t)).access (waiting t)
+    (place_met x.machine.layout t (made x t c (x.rows t)).access))
+    else waiting
+waiting_after x (Dies t) waiting =
+    if has_thread x.machine t && is_alive (x.machine.threads t).stage then put waiting t [] else waiting
+waiting_after x h waiting = waiting
+
+abbrev pub waiting_from : Slots → List Happening → (ℕ → List ℕ) → ℕ → List ℕ
+waiting_from x [] waiting = waiting
+waiting_from x (h ∷ hs) waiting = waiting_from (next x h) hs (waiting_after x h waiting)
+
+abbrev pub waiting_in : Layout' → List Happening → ℕ → List ℕ
+waiting_in l hs = waiting_from (begin l) hs (λ t. [])
+
+abbrev pub WaitsAt : ℕ → List ℕ → Type 0
+WaitsAt p [] = ⊥
+WaitsAt p (q ∷ ps) = (q ≡ p) ⊎ WaitsAt p ps
+
+-- thread t's own word, or a counter whose mutex it owns
+abbrev pub IsOwnHere : State → ℕ → ℕ → Type 0
+IsOwnHere s t p = IsItsOwn s t p
+    ⊎ (k : ℕ) × (k < length s.layout.conditions) × (p ≡ counter_place s.layout k)
+    × ((seen s (slice_index s.layout.conditions k)).owner ≡ Some t)
+
+-- Whatever stores wait: each is at a place that is still its thread's. So none is at a cell or a slot, and none is at a place
+-- that is another thread's own. A dead thread's stores don't wait
+pub record StoresWaitApart (s : State) (waiting : ℕ → List ℕ) : Type 0 where
+  pub own : (t p : ℕ) → WaitsAt p (waiting t) → (1 ≤ t) × (t ≤ s.layout.threads) × IsOwnHere s t p
+  pub cells : (t p k : ℕ) → WaitsAt p (waiting t) → k < s.layout.mutexes → p ≢ cell_place s.layout k
+  pub apart : (t u p : ℕ) → 1 ≤ u → u ≤ s.layout.threads → t ≢ u → WaitsAt p (waiting t) → IsOwnHere s u p → ⊥
+  pub dead : (t : ℕ) → 1 ≤ t → t ≤ s.layout.threads → is_alive (s.threads t).stage ≡ false → waiting t ≡ []
+
+-- so it is in any run
+
+abbrev pub PlainStoresWaitApart : Type 0
+PlainStoresWaitApart = (l : Layout') (hs : List Happening) → IsLayout l → AllTrusted (begin l) hs
+    → StoresWaitApart (reached l hs).machine (waiting_in l hs)

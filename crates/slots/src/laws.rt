@@ -17,7 +17,7 @@ ghost use Rattle.slots.specs.Kernels.{AnyKernelWillDo, RousesNobody, WakesWithou
 ghost use Rattle.slots.specs.Laws.{HeirsLetSpare, NobodyJoinsAFreeMutex, ReleasesTell, SlotsRunTheMachine};
 ghost use Rattle.slots.specs.Laws.{StandingHeirsAnswer, TrimsAreTheMachines, TurnsStayKnown};
 ghost use Rattle.slots.specs.Laws.{TurnsStayKnownByAll, WakesOfNobodyTell};
-ghost use Rattle.slots.specs.Stores.{AccessesAreMadeSo, PlainStoresAreOwn, RunsMayBuffer};
+ghost use Rattle.slots.specs.Stores.{AccessesAreMadeSo, PlainStoresAreOwn, PlainStoresWaitApart, RunsMayBuffer};
 ghost use Rattle.slots.specs.Replies.{CallsAreOneHistory, CallsBeginUndecided, CallsDecideOnce};
 ghost use Rattle.slots.specs.Moments.{AnnouncingIsOneStore, GivingUpIsALook, GivingUpLeavesNothing};
 ghost use Rattle.slots.specs.Moments.{HeirTakesAreEvents, HeirsGoOn, LastLooksAreEvents, TakesAreOneExchange};
@@ -421,6 +421,12 @@ pub fn accesses_are_made_so()
 /// counter whose mutex the thread owns: then the count stays, or no wait that has released its mutex has seen it.
 pub fn plain_stores_are_own()
     ensures { PlainStoresAreOwn }
+{}
+
+/// In any run, the plain stores of a thread since its last locked instruction are at places that are still the thread's own: none
+/// is at a cell or a slot, or at a place of another thread. A dead thread's stores don't wait.
+pub fn plain_stores_wait_apart()
+    ensures { PlainStoresWaitApart }
 {}
 
 /// In any run, the machine's stores may wait in buffers, and reach memory at any moment: with all that waits, memory is the

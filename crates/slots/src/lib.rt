@@ -29,6 +29,9 @@
 //!   `takes_are_the_exchange`, `announcing_is_one_store`.
 //! - *Newer kernels*, whose walks make one more wake: `wakes_without_waiters_wake_nobody`, `rouses_nobody`,
 //!   `any_kernel_will_do`.
+//! - *Store buffers* (x86-TSO, `specs/Stores.antt`): `accesses_are_made_so`, by loads, plain stores, locked instructions and
+//!   calls to Linux; `plain_stores_are_own`, `plain_stores_wait_apart`: of the thread's own words, and of counters whose
+//!   mutex it owns; `runs_may_buffer`: the machine's stores may wait.
 //! - *The turn*: `trims_are_the_machines`, with `releases_tell`, `wakes_of_nobody_tell`, `turns_stay_known`,
 //!   `turns_stay_known_by_all` and `nobody_joins_a_free_mutex`.
 //! - *The heir*: `heirs_let_spare`. `standing_heirs_answer` says which threads are heirs. Heirs stay heirs: `heirs_go_on`,
@@ -53,12 +56,13 @@ pub use laws::{
     last_looks_are_events, list_rows_are_events, looks_are_events, marks_are_events,
     mends_are_events, misses_are_no_events, moves_are_events, next_rows_fit,
     nobody_joins_a_free_mutex, others_answer_still, others_leave_heirs, others_leave_what_is_owned,
-    others_stand_still, pending_again_is_no_event, plain_stores_are_own, premises_follow,
-    releases_are_events, releases_tell, rouses_nobody, rows_lead_on, runs_keep_counts,
-    runs_keep_heirs, runs_keep_owners, runs_keep_room, runs_keep_slept, runs_keep_their_rows,
-    runs_keep_turns, runs_may_buffer, sleeps_are_events, slots_run_the_machine, slots_stay_quiet,
-    spares_are_events, standing_heirs_answer, takes_are_events, takes_are_one_exchange,
-    takes_are_the_exchange, threads_keep_their_rows, trims_are_events, trims_are_the_machines,
-    turns_stay_known, turns_stay_known_by_all, wakes_are_events, wakes_of_nobody_tell,
-    wakes_without_waiters_wake_nobody, walks_leave_all, walks_leave_heirs, words_stay_sound,
+    others_stand_still, pending_again_is_no_event, plain_stores_are_own, plain_stores_wait_apart,
+    premises_follow, releases_are_events, releases_tell, rouses_nobody, rows_lead_on,
+    runs_keep_counts, runs_keep_heirs, runs_keep_owners, runs_keep_room, runs_keep_slept,
+    runs_keep_their_rows, runs_keep_turns, runs_may_buffer, sleeps_are_events,
+    slots_run_the_machine, slots_stay_quiet, spares_are_events, standing_heirs_answer,
+    takes_are_events, takes_are_one_exchange, takes_are_the_exchange, threads_keep_their_rows,
+    trims_are_events, trims_are_the_machines, turns_stay_known, turns_stay_known_by_all,
+    wakes_are_events, wakes_of_nobody_tell, wakes_without_waiters_wake_nobody, walks_leave_all,
+    walks_leave_heirs, words_stay_sound,
 };
