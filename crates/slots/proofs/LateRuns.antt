@@ -3,7 +3,7 @@ use Rattle.std.proofs.Common.{◌≡◌, ◌≢◌, ◌⊎◌, inl, inr, ℕ, �
 use Rattle.std.specs.Prelude.{if◌then◌else◌, not, ◌&&◌, slice_index}
 use Rattle.lockword.specs.Cells.{bit}
 use Rattle.stepprograms.specs.declared.access.Access.{Access}
-use Rattle.memorymap.specs.Layouts.{Layout', cell_place, counter_place, entry_place, head_place}
+use Rattle.memorymap.specs.Layouts.{IsLayout, Layout', cell_place, counter_place, entry_place, head_place}
 use Rattle.protocol.specs.Changes.{IsItsOwn}
 use Rattle.protocol.specs.Headline.{seen}
 use Rattle.protocol.specs.declared.event.Event.{Event}
@@ -377,12 +377,15 @@ runs_hold g [] h trusted = h
 runs_hold g (Happens q ∷ ms) h ((pos, known, w), trusted) = runs_hold (late_next g (Happens q)) ms (next_holds g q h pos known w) trusted
 runs_hold g (Drains t ∷ ms) h trusted = runs_hold (late_next g (Drains t)) ms (drains_hold g t h (g.buffers t) refl) trusted
 
-pub late_same : LateMemoryTellsTheSame
-late_same l ms is trusted = finds_same (late_from (begin_late l) ms) (runs_hold (begin_late l) ms (record {
+pub late_holds : (l : Layout') (ms : List Moment) → IsLayout l → AllTrustedLate (begin_late l) ms → Holds (late_from (begin_late l) ms)
+late_holds l ms is trusted = runs_hold (begin_late l) ms (record {
   steady = begins_steady l is;
   waiting = λ t. [];
   own = λ t p there. absurd there;
   dead = λ t first last gone. refl;
   within = λ t p there. there;
   finds = λ t p none. refl;
-}) trusted)
+}) trusted
+
+pub late_same : LateMemoryTellsTheSame
+late_same l ms is trusted = finds_same (late_from (begin_late l) ms) (late_holds l ms is trusted)

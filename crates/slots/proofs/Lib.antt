@@ -89,3 +89,4 @@ pub mod Buffering
 pub mod Waiting
 pub mod Lagging
 pub mod LateRuns
+pub mod LateAccesses

@@ -3,12 +3,13 @@
 -- Each thread has a buffer: its plain stores that wait, the oldest first. A load finds the youngest of them at its word, or else
 -- memory. A locked instruction waits until its thread's buffer is empty, and so does a death. The oldest store of a buffer
 -- may reach memory at any moment. All other changes are made in memory: by locked instructions, and by Linux.
-use Rattle.std.specs.Prelude.{ℕ, ◌≡◌, ◌≤◌, ◌<◌, ◌==◌, ◌&&◌, not, List, [], ◌∷◌, ◌++◌, if◌then◌else◌}
+use Rattle.std.specs.Prelude.{ℕ, ◌≡◌, ◌≤◌, ◌<◌, ◌==◌, ◌&&◌, not, true, List, [], ◌∷◌, ◌++◌, if◌then◌else◌}
 use Rattle.stepprograms.specs.declared.access.Access.{Access}
 use Rattle.stepprograms.specs.declared.access.Access.TheVariants as access
 use Rattle.memorymap.specs.Layouts.{Layout', IsLayout, cell_place}
 use Rattle.protocol.specs.Machine.{has_thread, is_alive, is_asleep, place_met, put}
 use Rattle.storebuffers.specs.Buffers.{Store, stored}
+use Rattle.slots.specs.Rows.{Choice, Row}
 use Rattle.slots.specs.Shown.{Slots, begin, shown}
 use Rattle.slots.specs.Table.{made}
 use Rattle.slots.specs.Runs.{Happening, made_by, next}
@@ -104,3 +105,28 @@ pub record FindsTheSame (g : Late) : Type 0 where
 abbrev pub LateMemoryTellsTheSame : Type 0
 LateMemoryTellsTheSame = (l : Layout') (ms : List Moment) → IsLayout l → AllTrustedLate (begin_late l) ms
     → FindsTheSame (late_from (begin_late l) ms)
+
+-- At all rows but these, an access is said to find its word as the layer shows it. Linux compares a count for a wait that has
+-- released its mutex, and a late wait looks at the counter. A wake reads no word. The row of a thread that is in none of our
+-- calls makes no access
+abbrev pub FindsItsWord : Row → Type 0
+FindsItsWord Row.Rests = ⊥
+FindsItsWord (Row.WaitSleeps m k n timed) = ⊥
+FindsItsWord (Row.WaitLate m k) = ⊥
+FindsItsWord (Row.WakesAll m r) = ⊥
+FindsItsWord (Row.HeirWakes k) = ⊥
+FindsItsWord (Row.WakesOne m y is) = ⊥
+FindsItsWord (Row.CountWakes m k n) = ⊥
+FindsItsWord r = Unit {0}
+
+abbrev pub FindsIt : Late → ℕ → Access → Type 0
+FindsIt g t a =
+    found_by g t (place_met g.layer.machine.layout t a) ≡ shown g.layer (place_met g.layer.machine.layout t a)
+
+-- so it is in any run, whatever waits
+abbrev pub AccessesFindTheSame : Type 0
+AccessesFindTheSame = (l : Layout') (ms : List Moment) (t : ℕ) (c : Choice) → IsLayout l → 1 ≤ t
+    → t ≤ (late_from (begin_late l) ms).layer.machine.layout.threads → AllTrustedLate (begin_late l) ms
+    → is_alive ((late_from (begin_late l) ms).layer.machine.threads t).stage ≡ true
+    → FindsItsWord ((late_from (begin_late l) ms).layer.rows t) → FindsIt (late_from (begin_late l) ms) t
+    (made (late_from (begin_late l) ms).layer t c ((late_from (begin_late l) ms).layer.rows t)).access
