@@ -87,3 +87,6 @@ pub mod PlainStores
 pub mod OwnStores
 pub mod Buffering
 pub mod Waiting
+pub mod Lagging
+pub mod LateRuns
+pub mod LateAccesses

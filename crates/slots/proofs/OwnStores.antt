@@ -86,7 +86,7 @@ module _ (x : Slots) (t : ℕ) (c : Choice) (s : Steady x) (pos : 1 ≤ t) (know
   counts m k n v o own found true e plain = absurd plain
   counts m k n v o own found false e plain = count m k v o own (inr (nobody k (clear k n o.cell.inside found e)))
 
-  along : (r : Row) → IsAlongList r → StandsAs r (x.machine.threads t).stage → Own (access_of_stage (x.machine.threads t).stage (address_in l t (head_place t)))
+  pub along : (r : Row) → IsAlongList r → StandsAs r (x.machine.threads t).stage → Own (access_of_stage (x.machine.threads t).stage (address_in l t (head_place t)))
   along r on there = inl (its_own x.machine t (place_met l t (access_of_stage (x.machine.threads t).stage (address_in l t (head_place t)))) (list_mine x.machine t inv pos known r on there (address_in l t (head_place t))))
 
   pub own_row : (r : Row) → Fits l t r (x.machine.threads t).stage → Owning x.machine t r → SeesCount x r → StandsAs r (x.machine.threads t).stage → IsPlain (manner r) (made x t c r).access → Own (made x t c r).access

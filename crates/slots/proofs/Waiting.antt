@@ -49,20 +49,20 @@ use Rattle.slots.proofs.Steady.{Steady, granted, may_go, small}
 
 -- ---- places
 
-own_no_cell : (s : State) (t p k : ℕ) → 1 ≤ t → t ≤ s.layout.threads → k < s.layout.mutexes → IsOwnHere s t p → p ≢ cell_place s.layout k
+pub own_no_cell : (s : State) (t p k : ℕ) → 1 ≤ t → t ≤ s.layout.threads → k < s.layout.mutexes → IsOwnHere s t p → p ≢ cell_place s.layout k
 own_no_cell s t p k pos known inside (inl (inl (i, small, is))) e = let f : head_place t + i ≡ cell_place s.layout k = sym is ∙ e in omega (arith, f, small, known, pos)
 own_no_cell s t p k pos known inside (inl (inr (m, below, own, inl is))) e = let f : entry_place s.layout m ≡ cell_place s.layout k = sym is ∙ e in omega (arith, f)
 own_no_cell s t p k pos known inside (inl (inr (m, below, own, inr is))) e = let f : entry_place s.layout m + 1 ≡ cell_place s.layout k = sym is ∙ e in omega (arith, f)
 own_no_cell s t p k pos known inside (inr (m, below, is, own)) e = let f : counter_place s.layout m ≡ cell_place s.layout k = sym is ∙ e in omega (arith, f, inside)
 
 -- a mutex that is owned is one of the layout
-owned_inside : (s : State) (k u : ℕ) → (seen s k).owner ≡ Some u → k < s.layout.mutexes
+pub owned_inside : (s : State) (k u : ℕ) → (seen s k).owner ≡ Some u → k < s.layout.mutexes
 owned_inside s k u own = grind (arith, nat_tests)
 
 one_owner : (s : State) (k m t u : ℕ) → k ≡ m → t ≢ u → (seen s k).owner ≡ Some t → (seen s m).owner ≡ Some u → ⊥
 one_owner s k m t u e apart own its = apart (let f : Some t ≡ Some u = sym own ∙ ap (λ (i : ℕ). (seen s i).owner) e ∙ its in cc f)
 
-own_apart : (s : State) (t u p : ℕ) → 1 ≤ t → t ≤ s.layout.threads → 1 ≤ u → u ≤ s.layout.threads → t ≢ u → IsOwnHere s t p → IsOwnHere s u p → ⊥
+pub own_apart : (s : State) (t u p : ℕ) → 1 ≤ t → t ≤ s.layout.threads → 1 ≤ u → u ≤ s.layout.threads → t ≢ u → IsOwnHere s t p → IsOwnHere s u p → ⊥
 own_apart s t u p pos known first most apart a b = grind (arith)
 
 -- another state in which the thread owns what it did
@@ -76,10 +76,10 @@ keep_own s s' u p same keeps own = go own
 
 -- ---- one happening
 
-abbrev Own : State → (ℕ → List ℕ) → Type 0
+abbrev pub Own : State → (ℕ → List ℕ) → Type 0
 Own s waiting = (t p : ℕ) → WaitsAt p (waiting t) → (1 ≤ t) × (t ≤ s.layout.threads) × IsOwnHere s t p
 
-abbrev Dead : State → (ℕ → List ℕ) → Type 0
+abbrev pub Dead : State → (ℕ → List ℕ) → Type 0
 Dead s waiting = (t : ℕ) → 1 ≤ t → t ≤ s.layout.threads → is_alive (s.threads t).stage ≡ false → waiting t ≡ []
 
 module _ (x : Slots) (t : ℕ) (c : Choice) (s : Steady x) (pos : 1 ≤ t) (known : t ≤ x.machine.layout.threads) (w : TrustsIn x (Goes t c)) (lives : is_alive (x.machine.threads t).stage ≡ true) (awake : is_asleep x.machine t ≡ false) where
@@ -107,8 +107,8 @@ module _ (x : Slots) (t : ℕ) (c : Choice) (s : Steady x) (pos : 1 ≤ t) (know
   at : IsAtRow x t
   at = record { reached = s.reached; first = pos; last = known; there = s.there t pos known lives; about = grant.0; out = in_none x.machine t (reached_queued x.machine s.reached) awake }
 
-  is : (p : ℕ) → shown y p ≡ words_after (memory x) t a p
-  is = (each_access x t c at grant.1).words
+  pub access_words : (p : ℕ) → shown y p ≡ words_after (memory x) t a p
+  access_words = (each_access x t c at grant.1).words
 
   abbrev AllKeep : Type 0
   AllKeep = (k : ℕ) → k < l.mutexes → shown y (cell_place l k) ≡ shown x (cell_place l k)
@@ -124,10 +124,10 @@ module _ (x : Slots) (t : ℕ) (c : Choice) (s : Steady x) (pos : 1 ≤ t) (know
   own_then all p own = keep_own x.machine y.machine t p same (keeps_owner all) own
 
   reading : IsReading a → AllKeep
-  reading reads = words.by_reading x y t c inv pos known (small x.machine t inv known) same a reads is
+  reading reads = words.by_reading x y t c inv pos known (small x.machine t inv known) same a reads access_words
 
   -- of a plain store
-  own_place : IsPlain (manner r) a → IsOwnHere x.machine t (place_met l t a)
+  pub own_place : IsPlain (manner r) a → IsOwnHere x.machine t (place_met l t a)
   own_place plain = go (own_row x t c s pos known r (s.fits t pos known) (s.owning t pos known) (s.sees t pos known) (s.there t pos known lives) plain)
     where
       go : IsItsOwn x.machine t (place_met l t a) ⊎ (k : ℕ) × StoresCount x t (place_met l t a) (stored_by a) k → IsOwnHere x.machine t (place_met l t a)
@@ -135,7 +135,7 @@ module _ (x : Slots) (t : ℕ) (c : Choice) (s : Steady x) (pos : 1 ≤ t) (know
       go (inr (k, o)) = inr (k, o.inside, o.place, o.owner)
 
   storing : IsPlain (manner r) a → AllKeep
-  storing plain k inside = words.by_place x y t c inv pos known (small x.machine t inv known) same a (place_met l t a) refl (λ j below e. own_no_cell x.machine t (place_met l t a) j pos known below (own_place plain) (sym e)) is k inside
+  storing plain k inside = words.by_place x y t c inv pos known (small x.machine t inv known) same a (place_met l t a) refl (λ j below e. own_no_cell x.machine t (place_met l t a) j pos known below (own_place plain) (sym e)) access_words k inside
 
   -- it lives then
   pub lives_then : is_alive (y.machine.threads t).stage ≡ true
@@ -255,7 +255,7 @@ others_wait x (Dies t) waiting u apart = by_test (λ (f : ℕ → List ℕ). f u
 others_wait x (Walks t) waiting u apart = refl
 others_wait x (Lives t) waiting u apart = refl
 
-next_own : (x : Slots) (h : Happening) → Steady x → 1 ≤ who h → who h ≤ x.machine.layout.threads → TrustsIn x h → (waiting : ℕ → List ℕ) → Own x.machine waiting → Dead x.machine waiting → Own (next x h).machine (waiting_after x h waiting)
+pub next_own : (x : Slots) (h : Happening) → Steady x → 1 ≤ who h → who h ≤ x.machine.layout.threads → TrustsIn x h → (waiting : ℕ → List ℕ) → Own x.machine waiting → Dead x.machine waiting → Own (next x h).machine (waiting_after x h waiting)
 next_own x h s pos known w waiting own dead u p there = go (who h == u) refl
   where
     layout : (next x h).machine.layout ≡ x.machine.layout
@@ -305,7 +305,7 @@ dead_then x (Lives t) s pos known w waiting dead = λ gone. dead t pos known (go
     go gone true e = gone_dead (x.machine.threads t).stage e
     go gone false e = sym (by_test (λ (a : After). (has_thread x.machine t && is_gone (x.machine.threads t).stage) ≡ false → is_alive (a.state.threads t).stage ≡ is_alive (x.machine.threads t).stage) (has_thread x.machine t && is_gone (x.machine.threads t).stage) (renewed x.machine t) (nothing x.machine) (λ f g. absurd (cc (sym f ∙ g))) (λ f g. refl) (and_not (has_thread x.machine t) (is_gone (x.machine.threads t).stage) e)) ∙ gone
 
-next_dead : (x : Slots) (h : Happening) → Steady x → 1 ≤ who h → who h ≤ x.machine.layout.threads → TrustsIn x h → (waiting : ℕ → List ℕ) → Own x.machine waiting → Dead x.machine waiting → Dead (next x h).machine (waiting_after x h waiting)
+pub next_dead : (x : Slots) (h : Happening) → Steady x → 1 ≤ who h → who h ≤ x.machine.layout.threads → TrustsIn x h → (waiting : ℕ → List ℕ) → Own x.machine waiting → Dead x.machine waiting → Dead (next x h).machine (waiting_after x h waiting)
 next_dead x h s pos known w waiting own dead u first last gone = go (who h == u) refl
   where
     go : (b : Bool) → (who h == u) ≡ b → waiting_after x h waiting u ≡ []

@@ -6,6 +6,7 @@ pub mod Goes
 pub mod Heirs
 pub mod Invariant
 pub mod Kernels
+pub mod Late
 pub mod Laws
 pub mod Moments
 pub mod Places

@@ -18,6 +18,7 @@ ghost use Rattle.slots.specs.Laws.{HeirsLetSpare, NobodyJoinsAFreeMutex, Release
 ghost use Rattle.slots.specs.Laws.{StandingHeirsAnswer, TrimsAreTheMachines, TurnsStayKnown};
 ghost use Rattle.slots.specs.Laws.{TurnsStayKnownByAll, WakesOfNobodyTell};
 ghost use Rattle.slots.specs.Stores.{AccessesAreMadeSo, PlainStoresAreOwn, PlainStoresWaitApart, RunsMayBuffer};
+ghost use Rattle.slots.specs.Late.{AccessesFindTheSame, LateMemoryTellsTheSame};
 ghost use Rattle.slots.specs.Replies.{CallsAreOneHistory, CallsBeginUndecided, CallsDecideOnce};
 ghost use Rattle.slots.specs.Moments.{AnnouncingIsOneStore, GivingUpIsALook, GivingUpLeavesNothing};
 ghost use Rattle.slots.specs.Moments.{HeirTakesAreEvents, HeirsGoOn, LastLooksAreEvents, TakesAreOneExchange};
@@ -433,4 +434,16 @@ pub fn plain_stores_wait_apart()
 /// layer's machine. In memory, mutexes and counters are as the layer shows them, and only a thread's own words wait.
 pub fn runs_may_buffer()
     ensures { RunsMayBuffer }
+{}
+
+/// In any run, whenever plain stores reach memory: a load finds what the layer shows, of each cell and slot, of the thread's own
+/// words, and of counters whose mutex it owns. In memory, cells and slots are always as the layer shows them.
+pub fn late_memory_tells_the_same()
+    ensures { LateMemoryTellsTheSame }
+{}
+
+/// In any run, whenever plain stores reach memory: each access that reads a word finds it as the layer shows it. Two are left
+/// out: Linux compares a count for a wait that has released its mutex, and a late wait looks at the counter.
+pub fn accesses_find_the_same()
+    ensures { AccessesFindTheSame }
 {}

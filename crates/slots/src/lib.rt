@@ -31,7 +31,8 @@
 //!   `any_kernel_will_do`.
 //! - *Store buffers* (x86-TSO, `specs/Stores.antt`): `accesses_are_made_so`, by loads, plain stores, locked instructions and
 //!   calls to Linux; `plain_stores_are_own`, `plain_stores_wait_apart`: of the thread's own words, and of counters whose
-//!   mutex it owns; `runs_may_buffer`: the machine's stores may wait.
+//!   mutex it owns; `runs_may_buffer`: the machine's stores may wait. `late_memory_tells_the_same` and
+//!   `accesses_find_the_same` (`specs/Late.antt`): what accesses find while plain stores of the layer wait.
 //! - *The turn*: `trims_are_the_machines`, with `releases_tell`, `wakes_of_nobody_tell`, `turns_stay_known`,
 //!   `turns_stay_known_by_all` and `nobody_joins_a_free_mutex`.
 //! - *The heir*: `heirs_let_spare`. `standing_heirs_answer` says which threads are heirs. Heirs stay heirs: `heirs_go_on`,
@@ -47,13 +48,14 @@
 mod laws;
 
 pub use laws::{
-    accesses_are_made_so, accesses_of_runs_are_events, all_hold, announced_releases_are_events,
-    announcing_is_one_store, announcing_rows_are_events, any_kernel_will_do, awake_is_cleared,
-    awake_is_set, calls_are_one_history, calls_begin_undecided, calls_decide_once,
-    clearing_rows_are_events, counts_are_events, deaths_leave_all, deaths_leave_heirs,
-    deciding_looks_are_events, each_access_is_events, first_looks_are_events, giving_up_is_a_look,
-    giving_up_leaves_nothing, heir_takes_are_events, heirs_go_on, heirs_let_spare, heirs_take_over,
-    last_looks_are_events, list_rows_are_events, looks_are_events, marks_are_events,
+    accesses_are_made_so, accesses_find_the_same, accesses_of_runs_are_events, all_hold,
+    announced_releases_are_events, announcing_is_one_store, announcing_rows_are_events,
+    any_kernel_will_do, awake_is_cleared, awake_is_set, calls_are_one_history,
+    calls_begin_undecided, calls_decide_once, clearing_rows_are_events, counts_are_events,
+    deaths_leave_all, deaths_leave_heirs, deciding_looks_are_events, each_access_is_events,
+    first_looks_are_events, giving_up_is_a_look, giving_up_leaves_nothing, heir_takes_are_events,
+    heirs_go_on, heirs_let_spare, heirs_take_over, last_looks_are_events,
+    late_memory_tells_the_same, list_rows_are_events, looks_are_events, marks_are_events,
     mends_are_events, misses_are_no_events, moves_are_events, next_rows_fit,
     nobody_joins_a_free_mutex, others_answer_still, others_leave_heirs, others_leave_what_is_owned,
     others_stand_still, pending_again_is_no_event, plain_stores_are_own, plain_stores_wait_apart,
