@@ -10,7 +10,7 @@ use Rattle.outcomes.specs.declared.events.Kind.{Kind}
 use Rattle.outcomes.specs.declared.events.Kind.TheVariants as kind
 use Rattle.outcomes.specs.Positions.{Position, next_call, is_turn, may_kill}
 use Rattle.outcomes.specs.Events.{Begins, IsAsked, MayCome}
-use Rattle.outcomes.specs.Searches.{IsOf, thread_of, if_wanted, begin_with, begin_for, event_for}
+use Rattle.outcomes.specs.Searches.{IsOf, thread_of, if_wanted, begin_with, event_for}
 
 wanted_is : (b : Bool) (x e : Event) → if_wanted b x ≡ Some e → (b ≡ true) × (x ≡ e)
 wanted_is true x e h = (refl, cc)

@@ -1,8 +1,8 @@
 -- What was reached is closed under events, so every run of the plan stays in it.
-use Rattle.std.proofs.Common.{◌≡◌, ◌≢◌, ◌⊎◌, inl, inr, ⊎_elim, ℕ, zero, suc, ◌+◌, ◌<◌, ◌≤◌, Bool, true, false, List, [], ◌∷◌, ◌++◌, length, Option, Some, None, refl, sym, ap, ◌∙◌, subst, arith, get_or}
+use Rattle.std.proofs.Common.{◌≡◌, ◌⊎◌, inl, inr, ⊎_elim, ℕ, zero, suc, ◌+◌, ◌<◌, ◌≤◌, Bool, true, false, List, [], ◌∷◌, ◌++◌, length, Some, refl, sym, ap, ◌∙◌, subst, arith}
 use Rattle.std.specs.Prelude.{slice_get, nat_lt}
 use Rattle.std.proofs.lemmas.Bool.Decides.{nat_tests}
-use Rattle.std.proofs.lemmas.Option.{slice_get_within, slice_get-get_or}
+use Rattle.std.proofs.lemmas.Option.{slice_get_within}
 use Rattle.memorymap.specs.Layouts.{Layout'}
 use Rattle.protocol.specs.declared.event.Event.{Event}
 use Rattle.outcomes.specs.declared.plan.Plan.{Plan}
@@ -12,10 +12,9 @@ use Rattle.outcomes.specs.Positions.{Position, first}
 use Rattle.outcomes.specs.Events.{MayCome, after}
 use Rattle.outcomes.specs.Runs.{IsRun, IsOver, GoesOn}
 use Rattle.outcomes.specs.Outcomes.{Outcome', outcome_of, IsListed, HasAll}
-use Rattle.outcomes.specs.Kept.{position_in}
 use Rattle.outcomes.specs.Searches.{IsAt, Has, Grows, AreThreads, thread_of}
 use Rattle.outcomes.proofs.Moves.{of_a_thread}
-use Rattle.outcomes.proofs.Reaching.{at_once, at_grown, has_grown}
+use Rattle.outcomes.proofs.Reaching.{has_grown}
 
 -- each position below a number has where its events lead among what was reached
 abbrev pub IsClosed : Plan → List Reached → ℕ → Type 0

@@ -1,5 +1,5 @@
 -- Values that compare as equal are equal.
-use Rattle.std.proofs.Common.{◌≡◌, ◌<◌, ◌==◌, ◌&&◌, ℕ, Bool, true, false, refl, sym, ap, ◌∙◌, rules, arith, eqb-true}
+use Rattle.std.proofs.Common.{◌≡◌, ◌<◌, ◌&&◌, Bool, true, false, refl, sym, ap, ◌∙◌, arith, eqb-true}
 use Rattle.std.proofs.lemmas.Bool.Decides.{nat_tests}
 use Rattle.lockword.specs.Cells.{Fields, fields_of, word_of}
 use Rattle.lockword.specs.Coding.{fields_of-word_of}
@@ -57,7 +57,6 @@ use Rattle.condvar.specs.declared.phase.CondPhase.{CondPhase}
 use Rattle.condvar.specs.declared.phase.CondPhase.TheVariants as cond
 use Rattle.condvar.specs.contracts.program.CondProgramPartialEq.TheImpl as eq_CondProgram
 use Rattle.condvar.specs.Standings.{CondWhole}
-use Rattle.condvar.specs.declared.op.Op.TheVariants as op
 use Rattle.exitwalk.specs.contracts.row.RestPartialEq.TheImpl as eq_Rest
 use Rattle.exitwalk.specs.declared.row.Rest.{Rest}
 use Rattle.exitwalk.specs.contracts.row.PartPartialEq.TheImpl as eq_Part
@@ -81,7 +80,7 @@ use Rattle.interleave.specs.declared.saved.Sleeper.{Sleeper}
 use Rattle.posixmutex.specs.contracts.object.ObjectPartialEq.TheImpl as eq_Object
 use Rattle.posixmutex.specs.declared.object.Object.{Object}
 use Rattle.std.specs.Bool.{Decides}
-use Rattle.std.specs.Prelude.{MatchBool, ◌≢◌}
+use Rattle.std.specs.Prelude.{MatchBool}
 
 same_Limit : (a b : Limit) → eq_Limit.eq-value.it a b ≡ true → a ≡ b
 same_Limit a b h = grind (arith)

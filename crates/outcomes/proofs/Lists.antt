@@ -1,8 +1,8 @@
 -- Loops over lists and over threads.
-use Rattle.std.proofs.Common.{◌≡◌, ◌≢◌, ℕ, zero, suc, ◌+◌, ◌-◌, ◌<◌, ◌≤◌, ◌==◌, Bool, true, false, ◌&&◌, ◌||◌, List, [], ◌∷◌, ◌++◌, length, take, drop, map, Option, Some, None, refl, sym, ap, ◌∙◌, subst, arith, append_assoc, append-nil, get_or, eqb-true, eq-eqb}
-use Rattle.std.specs.Prelude.{if◌then◌else◌, slice_index, slice_index_or, slice_get, nat_le, nat_lt}
+use Rattle.std.proofs.Common.{◌≡◌, ◌≢◌, ℕ, zero, suc, ◌+◌, ◌<◌, ◌≤◌, ◌==◌, Bool, true, false, ◌&&◌, ◌||◌, List, [], ◌∷◌, ◌++◌, length, take, drop, map, Option, refl, sym, ap, ◌∙◌, arith, get_or, eqb-true}
+use Rattle.std.specs.Prelude.{if◌then◌else◌}
 use Rattle.std.proofs.lemmas.Bool.Decides.{nat_tests}
-use Rattle.std.proofs.lemmas.List.{take-append-drop, take_more, take_all, map_push, get_or-map, length-map}
+use Rattle.std.proofs.lemmas.List.{take_more, take_all, map_push, get_or-map, length-map}
 use Rattle.std.proofs.Math.Seq.{drop-cons}
 use Rattle.lockword.specs.declared.reply.Reply.{Reply}
 use Rattle.protocol.specs.declared.thread.Thread.{Thread}
@@ -13,7 +13,6 @@ use Rattle.interleave.specs.declared.saved.Sleeper.{Sleeper}
 use Rattle.interleave.specs.Saved.{sleepers_at}
 use Rattle.outcomes.specs.declared.plan.Item.{Item}
 use Rattle.outcomes.specs.declared.plan.Plan.{Plan}
-use Rattle.outcomes.specs.declared.next.Next.{Next}
 use Rattle.outcomes.specs.Plans.{comes_after, call_of, next_among}
 use Rattle.outcomes.specs.Positions.{Position, rests, all_rest, some_earlier, is_earlier, killed_among, next_call}
 

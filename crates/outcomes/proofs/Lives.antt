@@ -1,6 +1,6 @@
 -- How far threads have come, in lists.
-use Rattle.std.proofs.Common.{◌≡◌, ◌≢◌, ℕ, zero, suc, ◌+◌, ◌-◌, ◌<◌, ◌≤◌, ◌==◌, List, [], ◌∷◌, ◌++◌, length, take, drop, map, Option, Some, None, refl, sym, ap, ◌∙◌, subst, arith, get_or, Vec, Global}
-use Rattle.std.specs.Prelude.{slice_index, slice_index_or, slice_set, slice_get, replicate}
+use Rattle.std.proofs.Common.{◌≡◌, ℕ, zero, suc, ◌+◌, ◌-◌, ◌<◌, ◌≤◌, List, [], ◌∷◌, ◌++◌, length, take, drop, Option, Some, None, refl, sym, ap, ◌∙◌, arith, get_or, Vec, Global}
+use Rattle.std.specs.Prelude.{slice_index_or, slice_set, slice_get}
 use Rattle.std.proofs.lemmas.List.{take_more, map_push, map-set, get_or-map, length-map, length-set}
 use Rattle.std.proofs.lemmas.Option.{slice_get_past, slice_get_read}
 use Rattle.lockword.specs.declared.reply.Reply.{Reply}

@@ -1,6 +1,6 @@
 -- Events at positions that are kept.
-use Rattle.std.proofs.Common.{◌≡◌, ◌≢◌, ◌⊎◌, ℕ, zero, suc, ◌+◌, ◌-◌, ◌<◌, ◌≤◌, ◌==◌, Bool, true, false, ◌&&◌, List, [], ◌∷◌, length, Option, Some, None, Result, Ok, Err, refl, sym, ap, ◌∙◌, subst, arith, get_or}
-use Rattle.std.specs.Prelude.{if◌then◌else◌, nat_le, nat_lt, slice_index}
+use Rattle.std.proofs.Common.{◌≡◌, ℕ, zero, suc, ◌<◌, ◌≤◌, Bool, true, false, ◌&&◌, List, [], ◌∷◌, length, Option, Some, refl, sym, ap, ◌∙◌, subst, arith}
+use Rattle.std.specs.Prelude.{if◌then◌else◌, slice_index}
 use Rattle.std.proofs.lemmas.Bool.Decides.{nat_tests}
 use Rattle.memorymap.specs.Layouts.{Layout', IsLayout, cell_place}
 use Rattle.posixmutex.specs.declared.point.Operation.{Operation}
@@ -20,24 +20,23 @@ use Rattle.condvar.specs.Ops.{is_in}
 use Rattle.mutex.specs.Standings.{Whole}
 use Rattle.protocol.specs.declared.event.Event.{Event}
 use Rattle.protocol.specs.declared.event.Event.TheVariants.{Begin, Step, Kill, Leave, Expire, Decline, Renew, Remake, Spare}
-use Rattle.protocol.specs.declared.event.LeftTo.TheVariants as left_to
 use Rattle.protocol.specs.declared.note.Note.{Note}
 use Rattle.protocol.specs.declared.thread.Stage.{Stage}
 use Rattle.protocol.specs.declared.thread.Stage.TheVariants.{Idle, Calling, AtCondition, Dying, Reaped}
 use Rattle.protocol.specs.declared.thread.Thread.{Thread}
-use Rattle.protocol.specs.Machine.{State, happens, start, run, nothing, has_thread, is_idle, is_alive, is_asleep, may_begin, begun, first_stage, stepped, killed, departed, expired, sparing}
+use Rattle.protocol.specs.Machine.{State, happens, start, nothing, has_thread, is_idle, is_alive, is_asleep, may_begin, begun, first_stage, stepped, killed, departed, expired, sparing}
 use Rattle.condvar.specs.Ops.{may_call}
 use Rattle.protocol.proofs.Kept.{Kept, Sits, AtPhase}
 use Rattle.protocol.proofs.Runs.{start_kept, run_kept, run_layout}
 use Rattle.interleave.specs.Notes.{is_nothing}
 use Rattle.interleave.specs.Shown.{Shown, state_of, thread_at}
-use Rattle.interleave.specs.Saved.{saved_state, WasReached}
+use Rattle.interleave.specs.Saved.{saved_state}
 use Rattle.interleave.specs.Steps.{IsOnItsWay}
 use Rattle.interleave.proofs.Reaches.{kept_step}
 use Rattle.outcomes.specs.declared.plan.Plan.{Plan}
 use Rattle.outcomes.specs.declared.kept.Kept as kept
 use Rattle.outcomes.specs.Positions.{Position}
-use Rattle.outcomes.specs.Events.{IsAsked, MayCome}
+use Rattle.outcomes.specs.Events.{MayCome}
 use Rattle.outcomes.specs.Comparisons.{IsBefore, IsComparable, AreComparable}
 use Rattle.outcomes.specs.Kept.{position_in, IsKept}
 use Rattle.outcomes.specs.Searches.{thread_of}

@@ -1,5 +1,5 @@
 -- What was reached, as more is.
-use Rattle.std.proofs.Common.{◌≡◌, ◌≢◌, ◌⊎◌, inl, inr, ⊎_elim, ℕ, zero, suc, ◌+◌, ◌-◌, ◌<◌, ◌≤◌, Bool, true, false, List, [], ◌∷◌, ◌++◌, length, Option, Some, None, refl, sym, ap, ◌∙◌, subst, arith, append_assoc, append-nil, length-append}
+use Rattle.std.proofs.Common.{◌≡◌, ◌⊎◌, inl, inr, ⊎_elim, ℕ, zero, suc, ◌<◌, ◌≤◌, List, [], ◌∷◌, ◌++◌, length, Option, Some, None, refl, sym, ap, ◌∙◌, subst, arith, append_assoc, append-nil, length-append}
 use Rattle.std.specs.Prelude.{slice_get, reverse}
 use Rattle.std.proofs.Common.{get_or}
 use Rattle.std.proofs.lemmas.Option.{slice_get_read}
@@ -9,7 +9,7 @@ use Rattle.protocol.specs.declared.event.Event.{Event}
 use Rattle.outcomes.specs.declared.plan.Plan.{Plan}
 use Rattle.outcomes.specs.declared.search.Reached.{Reached}
 use Rattle.outcomes.specs.Positions.{Position, first}
-use Rattle.outcomes.specs.Events.{MayCome, after}
+use Rattle.outcomes.specs.Events.{after}
 use Rattle.outcomes.specs.Runs.{IsRun}
 use Rattle.outcomes.specs.Kept.{position_in, IsKept}
 use Rattle.outcomes.specs.Searches.{IsAt, Has, CameBy, IsOne, AreReached, Grows}

@@ -1,9 +1,9 @@
 -- Events that are tried, one after the other.
-use Rattle.std.proofs.Common.{◌≡◌, ◌≢◌, ◌⊎◌, inl, inr, ⊎_elim, ℕ, zero, suc, ◌+◌, ◌<◌, ◌≤◌, Bool, true, false, ◌&&◌, ◌||◌, List, length, Option, Some, None, Result, Ok, Err, refl, sym, ap, ◌∙◌, subst, arith}
+use Rattle.std.proofs.Common.{◌≡◌, ◌⊎◌, inl, inr, ⊎_elim, ℕ, ◌+◌, ◌<◌, ◌≤◌, Bool, true, false, ◌&&◌, ◌||◌, List, length, Some, Result, Ok, Err, refl, sym, subst, arith}
 use Rattle.std.specs.Prelude.{IfOk, nat_le}
 use Rattle.std.proofs.lemmas.Bool.Decides.{nat_tests}
 use Rattle.protocol.specs.declared.event.Event.{Event}
-use Rattle.protocol.specs.declared.event.Event.TheVariants.{Begin, Step, Kill, Leave, Expire, Decline, Renew, Remake, Spare}
+use Rattle.protocol.specs.declared.event.Event.TheVariants.{Begin, Step, Expire}
 use Rattle.outcomes.specs.declared.plan.Plan.{Plan}
 use Rattle.outcomes.specs.declared.events.Kind.{Kind}
 use Rattle.outcomes.specs.declared.events.Kind.TheVariants as kind
@@ -11,7 +11,7 @@ use Rattle.outcomes.specs.declared.search.Reached.{Reached}
 use Rattle.outcomes.specs.declared.search.Tried.{Tried}
 use Rattle.outcomes.specs.declared.search.Tried.TheVariants.{Never, Found, NoRoom}
 use Rattle.outcomes.specs.Positions.{Position}
-use Rattle.outcomes.specs.Events.{IsAsked, MayCome, after}
+use Rattle.outcomes.specs.Events.{MayCome, after}
 use Rattle.outcomes.specs.Runs.{GoesOn}
 use Rattle.outcomes.specs.Searches.{Has, Grows, IsOf, IsTried, IsTriedOf, IsThread, AreThreads, thread_of, event_for, came, had_room}
 use Rattle.outcomes.proofs.Asking.{found_asked, asked_found, of_a_kind}

@@ -1,5 +1,5 @@
 -- Positions as the search keeps them.
-use Rattle.std.specs.Prelude.{ℕ, ◌≡◌, List, map, length}
+use Rattle.std.specs.Prelude.{◌≡◌, List, map, length}
 use Rattle.memorymap.specs.Layouts.{Layout'}
 use Rattle.interleave.specs.Saved.{saved_state, WasReached}
 use Rattle.outcomes.specs.declared.plan.Plan.{Plan}

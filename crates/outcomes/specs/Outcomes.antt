@@ -3,10 +3,10 @@
 -- *Outcome.* Of each thread what its calls returned, in order, and how it ended: it made its calls; it has calls left,
 -- of a phase that never comes; it was killed; or it sleeps, on a mutex or on a condition variable, and nobody is left to
 -- wake it. Of each mutex what its word says: its owner, and whether it is inconsistent or unusable.
-use Rattle.std.specs.Prelude.{ℕ, ◌-◌, ◌≡◌, ◌⊎◌, Bool, true, false, is_some, List, [], ◌∷◌, map, if◌then◌else◌}
+use Rattle.std.specs.Prelude.{ℕ, ◌≡◌, ◌⊎◌, Bool, true, false, is_some, List, [], ◌∷◌, map, if◌then◌else◌}
 use Rattle.std.specs.List.{range_with_len}
 use Rattle.lockword.specs.declared.reply.Reply.{Reply}
-use Rattle.memorymap.specs.Layouts.{Layout', cell_place}
+use Rattle.memorymap.specs.Layouts.{cell_place}
 use Rattle.posixmutex.specs.declared.object.Object.{Object}
 use Rattle.condvar.specs.declared.op.Op.{Op}
 use Rattle.condvar.specs.declared.op.Op.TheVariants.{OnMutex, OnCondition}

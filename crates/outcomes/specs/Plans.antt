@@ -3,13 +3,12 @@
 -- *Next call.* A thread goes along its items, in order. It skips an item that comes only after a reply which isn't that
 -- of its latest call. The first item that it doesn't skip is its next call; where that item is a stop, or there is none,
 -- the thread makes no call any more.
-use Rattle.std.specs.Prelude.{ℕ, ◌+◌, ◌-◌, ◌==◌, Bool, true, false, List, [], ◌∷◌, length, take, drop, Option, Some, None}
+use Rattle.std.specs.Prelude.{ℕ, ◌+◌, ◌-◌, ◌==◌, Bool, true, false, List, [], ◌∷◌, length, take, Option, Some, None}
 use Rattle.std.specs.Prelude.{slice_get, slice_index, slice_index_or, if◌then◌else◌}
 use Rattle.std.specs.Prelude.{Vec}
 use Rattle.std.specs.declared.alloc.Global.{Global}
 use Rattle.lockword.specs.declared.reply.Reply.{Reply}
 use Rattle.lockword.specs.Replies.{number_of}
-use Rattle.condvar.specs.declared.op.Op.{Op}
 use Rattle.protocol.specs.Machine.{State, start}
 use Rattle.outcomes.specs.declared.plan.Act.{Act}
 use Rattle.outcomes.specs.declared.plan.Act.TheVariants.{Call, Stop}

@@ -2,7 +2,7 @@
 --
 -- *Position.* The machine's state, the phase, and for each thread how many of its items are behind it and what its calls
 -- returned. At first the machine is at its start, the phase is 0, and no thread has begun.
-use Rattle.std.specs.Prelude.{ℕ, zero, suc, ◌+◌, ◌-◌, ◌==◌, Bool, true, false, ◌&&◌, ◌||◌, nat_lt, List, [], length, drop, replicate}
+use Rattle.std.specs.Prelude.{ℕ, zero, suc, ◌+◌, ◌-◌, ◌==◌, Bool, true, false, ◌&&◌, ◌||◌, nat_lt, List, [], drop, replicate}
 use Rattle.std.specs.Prelude.{Option, Some, None, is_some, slice_index_or, if◌then◌else◌}
 use Rattle.lockword.specs.declared.reply.Reply.{Reply}
 use Rattle.protocol.specs.declared.thread.Stage.{Stage}

@@ -44,7 +44,8 @@ impl Table {
 
     /// The slot after a slot: the first one, after the last.
     pub(crate) fn after(&self, slot: usize) -> usize {
-        if slot < self.slots.len() { slot + 1 } else { 0 }
+        let next = slot.saturating_add(1);
+        if next < self.slots.len() { next } else { 0 }
     }
 
     /// The number in a slot; None where nothing is.

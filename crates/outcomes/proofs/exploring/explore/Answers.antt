@@ -1,6 +1,5 @@
-use Rattle.std.proofs.Common.{◌≡◌, ◌≤◌, ◌<◌, ◌∙◌, ap, sym, subst, Bool, true, false, ℕ, refl, arith, length, nat_lt, List, []}
+use Rattle.std.proofs.Common.{◌≡◌, ◌≤◌, ◌<◌, ◌∙◌, sym, subst, true, arith, length}
 use Rattle.std.proofs.lemmas.Bool.Decides.{nat_tests}
-use Rattle.outcomes.specs.declared.exploring.Witnessed.{Witnessed}
 use Rattle.outcomes.specs.Outcomes.{AreWitnessed, AreDifferent}
 use Rattle.outcomes.specs.Positions.{first}
 use Rattle.outcomes.proofs.Reaching.{at_grown, long_grown, some_at}

@@ -1,4 +1,3 @@
-use Rattle.std.proofs.Common.{◌≡◌, arith}
 use Rattle.outcomes.specs.Outcomes.{outcome_in}
 use Rattle.outcomes.proofs.Listing.{listed_at, unlisted_more, unlisted_all}
 use Rattle.outcomes.proofs.exploring.is_listed.Goals as goal

@@ -1,10 +1,9 @@
-use Rattle.std.proofs.Common.{◌≡◌, ap, ◌∙◌, sym, length, List, arith, ℕ, map}
+use Rattle.std.proofs.Common.{◌≡◌, ap, ◌∙◌, sym, length, List, ℕ}
 use Rattle.std.specs.Prelude.{replicate}
 use Rattle.std.proofs.lemmas.List.{length-replicate, length-map}
 use Rattle.memorymap.specs.Layouts.{Layout'}
 use Rattle.protocol.specs.Machine.{State}
 use Rattle.interleave.specs.Saved.{saved_state, WasReached}
-use Rattle.interleave.specs.Shown.{state_of}
 use Rattle.outcomes.specs.Plans.{first_state}
 use Rattle.outcomes.specs.Positions.{Place, first_place}
 use Rattle.outcomes.specs.Kept.{place_in, places_in}

@@ -2,7 +2,6 @@ use Rattle.std.proofs.Common.{◌<◌, ◌≤◌, Option, length, arith, refl, �
 use Rattle.std.specs.Prelude.{slice_index, unwrap_or, option_map}
 use denote.Bor.{Bor}
 use Rattle.interleave.specs.Shown.{state_of}
-use Rattle.outcomes.specs.Plans.{preset_of}
 use Rattle.outcomes.proofs.Presets.{preset_first, preset_next, preset_last, preset_read}
 use Rattle.outcomes.proofs.first.preset_all.Goals as goal
 use Rattle.outcomes.proofs.first.preset_all.Goals.{in-Some, in-None}

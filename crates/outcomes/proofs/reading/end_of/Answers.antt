@@ -1,7 +1,5 @@
-use Rattle.std.proofs.Common.{◌≡◌, ◌<◌, ◌≤◌, ◌∙◌, ap, sym, arith, suc, length, subst, ℕ}
+use Rattle.std.proofs.Common.{◌≡◌, ◌<◌, ◌∙◌, ap, arith, suc, length, subst, ℕ}
 use Rattle.protocol.specs.declared.thread.Thread.{Thread}
-use Rattle.protocol.specs.declared.thread.Stage.{Stage}
-use Rattle.protocol.specs.declared.thread.Stage.TheVariants.{Calling}
 use Rattle.interleave.specs.Shown.{thread_at}
 use Rattle.outcomes.proofs.Lists.{thread_is}
 use Rattle.outcomes.proofs.Moves.{is_inside}

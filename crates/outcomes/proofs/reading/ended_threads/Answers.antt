@@ -1,11 +1,10 @@
-use Rattle.std.proofs.Common.{◌≡◌, ◌<◌, ◌≤◌, ◌+◌, ◌∙◌, ◌++◌, ◌∷◌, [], ℕ, List, ap, sym, arith, length, subst, refl, map, Vec, Global}
+use Rattle.std.proofs.Common.{◌≡◌, ◌<◌, ◌∙◌, ◌++◌, ◌∷◌, [], List, ap, sym, arith, length, map}
 use Rattle.std.proofs.lemmas.List.{map_push}
 use Rattle.std.proofs.lemmas.List.FromFn.{map-range_with_len_more}
-use Rattle.lockword.specs.declared.reply.Reply.{Reply}
 use Rattle.outcomes.specs.declared.outcome.Ended.{Ended}
 use Rattle.outcomes.specs.Positions.{Place, place_of}
-use Rattle.outcomes.specs.Outcomes.{Ended', ended, ended_in}
-use Rattle.outcomes.specs.Kept.{position_in, places_in}
+use Rattle.outcomes.specs.Outcomes.{ended, ended_in}
+use Rattle.outcomes.specs.Kept.{position_in}
 use Rattle.outcomes.proofs.Lives.{place_read}
 use Rattle.outcomes.proofs.reading.ended_threads.Goals as goal
 

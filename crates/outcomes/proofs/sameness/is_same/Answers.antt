@@ -1,12 +1,9 @@
-use Rattle.std.proofs.Common.{◌≡◌, ◌∙◌, ap, sym, List, ℕ, subst}
+use Rattle.std.proofs.Common.{◌≡◌, ◌∙◌, ap, sym, subst}
 use Rattle.std.specs.Prelude.{slice_index}
-use Rattle.protocol.specs.declared.thread.Thread.{Thread}
-use Rattle.interleave.specs.declared.saved.Sleeper.{Sleeper}
 use Rattle.interleave.specs.Shown.{thread_at}
 use Rattle.interleave.specs.Saved.{sleepers_at}
 use Rattle.outcomes.specs.Comparisons.{AreComparable}
 use Rattle.outcomes.specs.Kept.{places_in}
-use Rattle.outcomes.specs.declared.kept.Life.{Life}
 use Rattle.outcomes.proofs.Moves.{comparable}
 use Rattle.outcomes.proofs.sameness.is_same.Goals as goal
 

@@ -1,4 +1,4 @@
-use Rattle.std.proofs.Common.{◌≡◌, ◌≢◌, ◌<◌, Bool, length, arith, subst}
+use Rattle.std.proofs.Common.{◌<◌, length, arith}
 use Rattle.outcomes.specs.Outcomes.{ended_in}
 use Rattle.outcomes.proofs.Lists.{map_differs}
 use Rattle.outcomes.proofs.sameness.same_ends.Goals as goal

@@ -1,4 +1,4 @@
-use Rattle.std.proofs.Common.{arith, ◌∙◌, ap, sym, Option, ◌≡◌}
+use Rattle.std.proofs.Common.{arith, ◌∙◌, ap, sym, Option}
 use Rattle.outcomes.specs.declared.next.Next.{Next}
 use Rattle.outcomes.specs.Events.{begun}
 use Rattle.outcomes.specs.Kept.{places_in}

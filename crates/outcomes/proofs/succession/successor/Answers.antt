@@ -1,8 +1,6 @@
-use Rattle.std.proofs.Common.{◌≡◌, ◌∙◌, ap, sym, subst, true, false, Option, ℕ, List}
+use Rattle.std.proofs.Common.{◌≡◌, ◌∙◌, ap, sym, subst}
 use Rattle.memorymap.specs.Layouts.{Layout'}
-use Rattle.protocol.specs.Machine.{State, happens}
-use Rattle.protocol.specs.declared.note.Note.{Note}
-use Rattle.lockword.specs.declared.reply.Reply.{Reply}
+use Rattle.protocol.specs.Machine.{happens}
 use Rattle.interleave.specs.Notes.{is_nothing}
 use Rattle.interleave.specs.Saved.{saved_state, WasReached}
 use Rattle.outcomes.specs.Events.{reply_in, replied, places_begun}

@@ -1,4 +1,4 @@
-use Rattle.std.proofs.Common.{◌≡◌, ◌<◌, suc, List, false, sym, ap, ◌∙◌, subst, arith, length, get_or}
+use Rattle.std.proofs.Common.{◌≡◌, ◌<◌, suc, List, sym, ap, ◌∙◌, arith, length}
 use Rattle.protocol.specs.declared.thread.Thread.{Thread}
 use Rattle.interleave.specs.Shown.{thread_at}
 use Rattle.outcomes.specs.Positions.{rests}

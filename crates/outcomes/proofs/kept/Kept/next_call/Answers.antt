@@ -1,4 +1,4 @@
-use Rattle.std.proofs.Common.{arith, ◌∙◌, ap, sym, Option, drop, ◌≡◌}
+use Rattle.std.proofs.Common.{arith, ◌∙◌, ap, Option, drop, ◌≡◌}
 use Rattle.lockword.specs.declared.reply.Reply.{Reply}
 use Rattle.outcomes.specs.Plans.{next_among, last_reply}
 use Rattle.outcomes.specs.declared.plan.Item.{Item}

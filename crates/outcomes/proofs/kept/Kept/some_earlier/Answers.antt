@@ -1,4 +1,4 @@
-use Rattle.std.proofs.Common.{◌≡◌, ◌<◌, ◌+◌, ◌&&◌, ℕ, suc, true, sym, ap, ◌∙◌, subst, arith}
+use Rattle.std.proofs.Common.{◌≡◌, ◌&&◌, ℕ, suc, true, sym, ◌∙◌, subst, arith}
 use Rattle.protocol.specs.Machine.{is_idle}
 use Rattle.outcomes.specs.Positions.{is_earlier, next_call}
 use Rattle.outcomes.specs.Kept.{position_in}

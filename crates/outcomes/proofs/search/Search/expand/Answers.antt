@@ -1,4 +1,4 @@
-use Rattle.std.proofs.Common.{◌≡◌, ◌≤◌, ◌+◌, ◌∙◌, ◌&&◌, ◌||◌, ap, sym, subst, Bool, ℕ, refl, arith, length}
+use Rattle.std.proofs.Common.{◌≡◌, ◌+◌, ◌∙◌, ◌||◌, sym, subst, Bool, ℕ, refl, arith}
 use Rattle.outcomes.specs.Searches.{AreThreads, IsThread}
 use Rattle.outcomes.proofs.Reaching.{at_grown, grows_twice, grows_not}
 use Rattle.outcomes.proofs.Trying.{no_threads, more_threads}

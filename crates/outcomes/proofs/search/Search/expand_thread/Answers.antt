@@ -1,4 +1,4 @@
-use Rattle.std.proofs.Common.{◌≡◌, ◌∙◌, ap, sym, subst, Bool, ◌&&◌, ◌||◌, ℕ, refl}
+use Rattle.std.proofs.Common.{◌≡◌, ◌∙◌, sym, subst, Bool, ◌&&◌, ◌||◌, ℕ}
 use Rattle.outcomes.specs.declared.events.Kind.TheVariants as kind
 use Rattle.outcomes.specs.Searches.{Grows, IsThread, IsTriedOf, came, had_room}
 use Rattle.outcomes.proofs.Reaching.{at_grown, grows_twice, grows_not}

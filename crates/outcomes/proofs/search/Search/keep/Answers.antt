@@ -1,4 +1,4 @@
-use Rattle.std.proofs.Common.{◌≡◌, ◌∙◌, ap, Some, Vec, Global, ◌++◌, ◌∷◌, []}
+use Rattle.std.proofs.Common.{◌∙◌, ap, Some, Vec, Global}
 use Rattle.outcomes.specs.declared.search.Reached.{Reached}
 use Rattle.outcomes.proofs.Reaching.{more_reached, last_there}
 use Rattle.outcomes.proofs.search.Search.keep.Goals as goal

@@ -1,4 +1,4 @@
-use Rattle.std.proofs.Common.{◌∙◌, ap, sym, subst, arith, List}
+use Rattle.std.proofs.Common.{sym, subst, arith, List}
 use Rattle.protocol.specs.declared.event.Event.{Event}
 use Rattle.outcomes.specs.Positions.{first}
 use Rattle.outcomes.specs.Runs.{IsRun}

@@ -1,4 +1,4 @@
-use Rattle.std.proofs.Common.{◌≡◌, ◌<◌, ◌≤◌, length, List}
+use Rattle.std.proofs.Common.{◌<◌, length}
 use Rattle.std.specs.Prelude.{reverse}
 use Rattle.outcomes.specs.Positions.{Position}
 use Rattle.outcomes.specs.Runs.{IsRun}

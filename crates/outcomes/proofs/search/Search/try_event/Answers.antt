@@ -1,13 +1,12 @@
-use Rattle.std.proofs.Common.{◌≡◌, ◌<◌, ◌≤◌, ◌∙◌, ap, sym, subst, arith, true, false, length, List, Option, Some, None, ℕ}
-use Rattle.std.specs.Prelude.{MatchOption, IfOk}
+use Rattle.std.proofs.Common.{◌≡◌, ◌∙◌, ap, sym, subst, true, false, Option}
+use Rattle.std.specs.Prelude.{MatchOption}
 use Rattle.protocol.specs.Machine.{happens}
-use Rattle.protocol.specs.declared.event.Event.{Event}
 use Rattle.interleave.specs.Notes.{is_nothing}
 use Rattle.outcomes.specs.declared.kept.Kept as kept
 use Rattle.outcomes.specs.Positions.{Position}
-use Rattle.outcomes.specs.Events.{IsAsked, MayCome, after}
+use Rattle.outcomes.specs.Events.{after}
 use Rattle.outcomes.specs.Kept.{position_in, IsKept}
-use Rattle.outcomes.specs.Searches.{Has, IsAt}
+use Rattle.outcomes.specs.Searches.{Has}
 use Rattle.outcomes.proofs.Reaching.{there_at, is_at, at_once}
 use Rattle.outcomes.proofs.search.Search.try_event.Goals as goal
 

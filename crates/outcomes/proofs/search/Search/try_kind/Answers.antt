@@ -1,16 +1,10 @@
-use Rattle.std.proofs.Common.{◌≡◌, ◌<◌, ◌≤◌, ◌∙◌, ap, sym, subst, arith, true, false, length, List, Option, Some, None, ℕ}
-use Rattle.std.specs.Prelude.{MatchOption, IfOk}
-use Rattle.protocol.specs.Machine.{happens}
-use Rattle.protocol.specs.declared.event.Event.{Event}
-use Rattle.interleave.specs.Notes.{is_nothing}
-use Rattle.outcomes.specs.declared.kept.Kept as kept
+use Rattle.std.proofs.Common.{◌≡◌, ◌∙◌, ap, sym, subst, Some, None, ℕ}
 use Rattle.outcomes.specs.Positions.{Position}
-use Rattle.outcomes.specs.Events.{IsAsked, MayCome, after}
-use Rattle.outcomes.specs.Kept.{position_in, IsKept}
-use Rattle.outcomes.specs.Searches.{Has, IsAt}
-use Rattle.outcomes.specs.declared.events.Kind.{Kind}
+use Rattle.outcomes.specs.Events.{IsAsked}
+use Rattle.outcomes.specs.Kept.{position_in}
+use Rattle.outcomes.specs.Searches.{IsAt}
 use Rattle.outcomes.specs.declared.search.Tried.{Tried}
-use Rattle.outcomes.specs.Searches.{event_for, IsTried, IsTriedOf, thread_of}
+use Rattle.outcomes.specs.Searches.{event_for, IsTried, IsTriedOf}
 use Rattle.outcomes.proofs.Asking.{found_asked, asked_found}
 use Rattle.outcomes.proofs.Trying.{if_ok_map, tried_of}
 use Rattle.outcomes.proofs.Reaching.{there_at, is_at, at_once}

@@ -1,4 +1,4 @@
-use Rattle.std.proofs.Common.{◌≡◌, ◌∙◌, ap, sym, subst, false, List, ◌∷◌, [], ◌++◌}
+use Rattle.std.proofs.Common.{◌≡◌, ◌∙◌, ap, sym, subst, ◌∷◌, []}
 use Rattle.outcomes.specs.declared.exploring.Witnessed.{Witnessed}
 use Rattle.outcomes.specs.Positions.{Position}
 use Rattle.outcomes.specs.Outcomes.{Outcome', outcome_in, outcome_of, IsListed, AreDifferent, AreWitnessed, IsWitnessed}
