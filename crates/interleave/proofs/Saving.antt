@@ -89,7 +89,7 @@ has_item (z ∷ zs) s ys = past (z.thread == s.thread) (has_item zs s ys)
     past true e = refl
     past false e = e
 
--- one of those that come first is none of the others
+-- one of those that come first is not among the others
 pub apart_between : (xs : List Sleeper) (s : Sleeper) (ys : List Sleeper) → AreApart (xs ++ s ∷ ys) → is_one s.thread xs ≡ false
 apart_between [] s ys h = refl
 apart_between (x ∷ xs) s ys h = go (x.thread == s.thread) refl (apart_between xs s ys h.1)

@@ -26,7 +26,7 @@ pub struct Saved {
     pub words: Vec<u64>,
     /// The threads, in the order of their ids.
     pub threads: Vec<Thread>,
-    /// Who sleeps where, those on one word in the order in which they are to be woken.
+    /// The sleepers, those on one word in the order in which they are to be woken.
     pub sleepers: Vec<Sleeper>,
 }
 
@@ -61,7 +61,7 @@ fn add_queue(sleepers: &mut Vec<Sleeper>, place: u64, queue: &Batch) -> Result<(
     Ok(())
 }
 
-/// Who sleeps on the words at the places from one on, and below another.
+/// The sleepers on the words at the places from one on, and below another.
 pub(crate) fn sleepers_between(
     alloc: Global,
     kernel: &Kernel,

@@ -1,8 +1,8 @@
 -- What two positions are compared by.
 --
--- *Comparable.* Threads are compared by what their calls and walks carry. A call that stands where the machine's calls
--- stand is told from each other one by that: the cells that it has seen have an owner that fits its bits, and a call
--- on a condition variable isn't in the lock that ends a wait. So it is in every state that the machine reaches.
+-- *Comparable.* Threads are compared by what their calls and walks carry. If two threads of states that the machine
+-- reaches are the same by that, they are the same: the cells that their calls have seen have an owner that fits its
+-- bits, and a call on a condition variable isn't in the lock that ends a wait.
 use Rattle.std.specs.Prelude.{List, [], ◌∷◌}
 use Rattle.mutex.specs.Whole.{PhaseKnows}
 use Rattle.condvar.specs.declared.phase.CondPhase.{CondPhase}

@@ -45,7 +45,7 @@ reply_in (Began t c (Some x)) = Some (t, x)
 reply_in (Stepped t m point slept woken moved (Some x)) = Some (t, x)
 reply_in n = None
 
--- the reply comes behind those of its thread
+-- the reply is added to those of its thread
 abbrev pub replied : Option (ℕ × Reply) → List Place → List Place
 replied None places = places
 replied (Some r) places =

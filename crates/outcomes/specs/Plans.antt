@@ -31,10 +31,10 @@ abbrev pub comes_after : Option Reply → Option Reply → Bool
 comes_after last None = true
 comes_after last (Some x) = is_same x last
 
--- the call of an item, behind which its thread has this many items
+-- the call of an item, once its thread has passed this many items
 abbrev pub call_of : ℕ → ℕ → Act → Option Next
-call_of behind phase (Call o) = Some (record { op = o; phase = phase; at = behind })
-call_of behind phase Stop = None
+call_of passed phase (Call o) = Some (record { op = o; phase = phase; at = passed })
+call_of passed phase Stop = None
 
 -- the call that comes next among items, of which the first is number i
 abbrev pub next_among : Option Reply → ℕ → List Item → Option Next

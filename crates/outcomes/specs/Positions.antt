@@ -1,6 +1,6 @@
 -- Positions: where a run of a plan is.
 --
--- *Position.* The machine's state, the phase, and for each thread how many of its items are behind it and what its calls
+-- *Position.* The machine's state, the phase, and for each thread how many of its items it has passed and what its calls
 -- returned. At first the machine is at its start, the phase is 0, and no thread has begun.
 use Rattle.std.specs.Prelude.{ℕ, zero, suc, ◌+◌, ◌-◌, ◌==◌, Bool, true, false, ◌&&◌, ◌||◌, nat_lt, List, [], drop, replicate}
 use Rattle.std.specs.Prelude.{Option, Some, None, is_some, slice_index_or, if◌then◌else◌}
@@ -12,7 +12,7 @@ use Rattle.outcomes.specs.declared.plan.Plan.{Plan}
 use Rattle.outcomes.specs.declared.next.Next.{Next}
 use Rattle.outcomes.specs.Plans.{last_reply, next_among, items_of, first_state, is_killable}
 
--- how far a thread has come: how many of its items are behind it, and what its calls returned, in order
+-- how far a thread has come: how many of its items it has passed, and what its calls returned, in order
 pub record Place : Type 0 where
   pub at : ℕ
   pub replies : List Reply

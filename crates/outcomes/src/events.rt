@@ -53,7 +53,7 @@ fn begin_of(plan: &Plan, kept: &Kept, thread: Tid) -> Option<Event>
     }
 }
 
-/// The event, if it is wanted.
+/// The event, if it is asked for.
 fn wanted(wanted: bool, event: Event) -> Option<Event>
     ensures { result ≡ if_wanted wanted event }
 {

@@ -18,7 +18,7 @@ use std::alloc::Global;
 /// How many positions are looked at from one report to the next.
 const REPORTED: usize = 4096;
 
-/// Who is asked now and then how far it is.
+/// A listener that learns now and then how far the search is.
 pub trait Progress {
     /// This many positions were reached.
     fn reached(&mut self, states: usize);
@@ -91,7 +91,7 @@ impl Search {
     }
 }
 
-/// Tells how far it is, now and then.
+/// Reports how far the search is, now and then.
 fn report<P: Progress>(progress: &mut P, done: usize, states: usize) {
     if done % REPORTED == 0 {
         progress.reached(states);

@@ -18,7 +18,7 @@ use std::alloc::Global;
 /// How far a thread has come.
 #[derive(Debug, PartialEq, Eq, Drop)]
 pub(crate) struct Life {
-    /// How many of its items are behind it.
+    /// How many of its items the thread has passed.
     pub at: usize,
     /// What its calls returned, in order.
     pub replies: Vec<Reply>,

@@ -8,8 +8,8 @@
 //! far each thread has come are the same.
 //!
 //! Depends on `interleave` and `protocol`, for the machine and its events, on `mutex`, `condvar` and `exitwalk`, for
-//! calls and for where they stand, on `robustlist` and `stepprograms`, for what proofs say of them, on `memorymap`, for
-//! layouts, and on `posixmutex` and `lockword`, for mutexes, replies and thread ids.
+//! calls and for where they stand, and on `robustlist` and `stepprograms`, for what proofs say of them. Layouts are of
+//! `memorymap`, mutexes of `posixmutex`, replies and thread ids of `lockword`.
 //!
 //! ```text
 //! // Two threads that each lock and unlock mutex 0. At most one of them is killed.

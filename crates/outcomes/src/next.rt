@@ -11,7 +11,7 @@ use lockword::Reply;
 pub(crate) struct Next {
     pub op: Op,
     pub phase: u16,
-    /// How many items are behind the thread, once it has begun the call.
+    /// How many items the thread has passed, once it has begun the call.
     pub at: usize,
 }
 
@@ -26,21 +26,21 @@ fn comes_after(last: Option<Reply>, after: Option<Reply>) -> bool
     }
 }
 
-/// The call of an item, behind which its thread has this many items.
-fn call_of(behind: usize, item: &Item) -> Option<Next>
-    ensures { result ≡ call_of behind item.now.phase item.now.act }
+/// The call of an item. Once its thread has begun it, the thread has passed this many items.
+fn call_of(passed: usize, item: &Item) -> Option<Next>
+    ensures { result ≡ call_of passed item.now.phase item.now.act }
 {
     match item.act {
         Act::Call(op) => Some(Next {
             op,
             phase: item.phase,
-            at: behind,
+            at: passed,
         }),
         Act::Stop => None,
     }
 }
 
-/// The call that comes next of a thread that has this many items behind it.
+/// The call that comes next of a thread that has passed this many items.
 pub(crate) fn next_among(items: &[Item], at: usize, last: Option<Reply>) -> Option<Next>
     ensures { result ≡ next_among last at (drop at items.now) }
 {

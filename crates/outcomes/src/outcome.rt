@@ -6,15 +6,15 @@ use posixmutex::Object;
 /// How a thread ended.
 #[derive(Clone, Copy, Debug, PartialEq, Eq)]
 pub enum End {
-    /// It has made its calls.
+    /// The thread has made its calls.
     Finished,
-    /// It has more calls, of a phase that never comes.
+    /// The thread has more calls, of a phase that never comes.
     Waiting,
-    /// It was killed.
+    /// The thread was killed.
     Dead,
-    /// It sleeps on the mutex with this number.
+    /// The thread sleeps on the mutex with this number.
     OnMutex(u16),
-    /// It sleeps on the condition variable with this number.
+    /// The thread sleeps on the condition variable with this number.
     OnCondition(u16),
 }
 

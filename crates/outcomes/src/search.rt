@@ -34,7 +34,7 @@ pub(crate) struct Reached {
 /// What became of an event at a position.
 #[derive(Clone, Copy, Debug, PartialEq, Eq)]
 pub(crate) enum Tried {
-    /// It doesn't come there.
+    /// The event doesn't come there.
     Never,
     /// Where it leads was reached, now or before.
     Found,

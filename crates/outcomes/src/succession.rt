@@ -87,7 +87,7 @@ fn lives_begun(alloc: Global, plan: &Plan, kept: &Kept, event: &Event) -> Result
     }
 }
 
-/// A reply comes behind those of its thread.
+/// A reply is added to those of its thread.
 fn add_reply(lives: &mut Vec<Life>, said: Option<(Tid, Reply)>) -> Result<(), NoMem>
     ensures { OnOk result (places_in lives.new.items ≡ replied said (places_in lives.old.items)) }
 {
