@@ -12,8 +12,8 @@ use std::alloc::Global;
 /// How many doomed threads are tried at a time: the last ones.
 const MOST_DOOMS: usize = 4;
 
-/// How many lines are looked at in all tries together.
-const MOST_LINES: usize = 100_000;
+/// What all tries together may cost, where a try costs the square of its lines.
+const MOST_COST: usize = 1_000_000;
 
 /// A doomed thread, and the moment of its kill that is tried.
 #[derive(Clone, Copy)]
@@ -78,7 +78,8 @@ pub fn doomed_in(alloc: Global, lines: &[HistoryLine]) -> Result<Vec<Doomed>, St
 
 /// How many tries these lines allow.
 pub fn tries_of(lines: &[HistoryLine]) -> usize {
-    MOST_LINES / lines.len().saturating_add(1)
+    let lines = lines.len().saturating_add(1);
+    MOST_COST / lines.saturating_mul(lines)
 }
 
 /// Continues with the next try; false after the last one.

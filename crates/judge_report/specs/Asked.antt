@@ -46,7 +46,7 @@ is_number_part (b ∷ bs) = (b == 46) && list_all is_ascii_digit bs
 abbrev pub is_window : List ℕ → List ℕ → Bool
 is_window out file = starts_with nat_eq file out && is_number_part (drop (length out) file)
 
--- a name without `./` at its beginning, as often as that is there: it names the same file
+-- a name without `./` at its beginning, as often as that is there
 unfoldable pub bare : List ℕ → List ℕ
 bare [] = []
 bare (a ∷ []) = a ∷ []

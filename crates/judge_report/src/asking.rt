@@ -76,7 +76,7 @@ fn is_window(out: &[u8], file: &[u8]) -> bool
     file.starts_with(out) && is_number_part(&file[out.len()..])
 }
 
-/// The name without `./` at its beginning, which names the same file.
+/// The name without `./` at its beginning, as often as that is there.
 #[tactic(auto, unfolding(crate::specs::Asked::bare))]
 fn bare(name: &[u8]) -> &[u8]
     ensures { result.now ≡ bare name.now }

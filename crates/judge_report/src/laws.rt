@@ -47,7 +47,7 @@ pub fn options_write<M: Maker>(maker: &M)
     ensures { OptionsWrite (M.makes maker.now) (M.fills maker.now) }
 {}
 
-/// With `--trace OUT` the trace of the history is written to OUT, which [`trace_of`](crate::trace_of) returns too; or the
+/// With `--trace OUT` a trace of the history is written to OUT, as [`trace_of`](crate::trace_of) returns one; or the
 /// history isn't decided, which is reported, and OUT is left empty.
 pub fn traces_are_written<M: Maker>(maker: &M)
     ensures { TracesAreWritten (M.makes maker.now) (M.fills maker.now) }

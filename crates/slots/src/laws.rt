@@ -24,8 +24,9 @@ ghost use Rattle.slots.specs.Moments.{AnnouncingIsOneStore, GivingUpIsALook, Giv
 ghost use Rattle.slots.specs.Moments.{HeirTakesAreEvents, HeirsGoOn, LastLooksAreEvents, TakesAreOneExchange};
 ghost use Rattle.slots.specs.Moments.{TakesAreTheExchange};
 
-/// Everything that happens in the layer is events of the machine, in their order. So each law of `protocol` holds of the
-/// layer's states, and of the history that they leave.
+/// Everything that happens in the layer is events of the machine, in their order. So each law of `protocol` about what
+/// states are, and what runs record, holds of the layer. A law about threads that run alone is about the machine's steps:
+/// some accesses are none.
 pub fn slots_run_the_machine()
     ensures { SlotsRunTheMachine }
 {}
@@ -64,8 +65,8 @@ pub fn trims_are_the_machines()
 {}
 
 /// A call is about to wake one sleeper, and finds a slot with AWAKE and an owner, without OWNER_DIED. If heirs are as the
-/// layer's invariant says, the machine lets the call leave its wake to that owner: it will look at the cell's word, or
-/// owns the cell, or was killed, and its walk will look.
+/// layer's invariant says, the machine lets the call leave its wake to that owner: it has still to look at the cell's word,
+/// or owns the cell, or was killed, and its walk has still to look.
 pub fn heirs_let_spare()
     ensures { HeirsLetSpare }
 {}
@@ -225,7 +226,8 @@ pub fn announced_releases_are_events()
     ensures { AnnouncedReleasesAreEvents }
 {}
 
-/// A call's first look changes nothing, whatever it finds. If it refuses the call, it is a whole call of the machine.
+/// A call's first look changes nothing, whatever it finds. If it refuses the call, the machine's thread is in no call
+/// afterwards.
 pub fn first_looks_are_events()
     ensures { FirstLooksAreEvents }
 {}
@@ -360,8 +362,8 @@ pub fn runs_keep_slept()
     ensures { RunsKeepSlept }
 {}
 
-/// In any run, if a slot has AWAKE and an owner, and isn't marked, its owner is the cell's heir: it will look at the cell's
-/// word, or has taken the cell, or was killed, and Linux will look.
+/// In any run, if a slot has AWAKE and an owner, and isn't marked, its owner is the cell's heir: it has still to look at the
+/// cell's word, or has taken the cell, or was killed, and Linux has still to look.
 pub fn runs_keep_heirs()
     ensures { RunsKeepHeirs }
 {}

@@ -1,0 +1,10 @@
+pub mod Lists
+pub mod Presets
+pub mod Equalities
+pub mod Lives
+pub mod Moves
+pub mod Reaching
+pub mod Asking
+pub mod Trying
+pub mod Listing
+pub mod Closing

@@ -1,0 +1,17 @@
+use Rattle.std.proofs.Common.{◌∙◌, ap, Some, Vec, Global}
+use Rattle.outcomes.specs.declared.search.Reached.{Reached}
+use Rattle.outcomes.proofs.Reaching.{more_reached, last_there}
+use Rattle.outcomes.proofs.search.Search.keep.Goals as goal
+
+pub returns-in-Some-clause-there : goal.returns-in-Some-clause-there
+returns-in-Some-clause-there c = λ e plan are kept. (c.in-Some._number, c.in-Some.ensures plan are kept)
+
+pub returns-clause-reached : goal.returns-clause-reached
+returns-clause-reached c = λ plan are kept came.
+    let one : Reached = record { kept = c.args.kept; digest = c.digest_of-digest.result; by = Some (c.args.from, c.args.event) } in
+    more_reached plan c.args.self.now.reached.items c.spread.new.self.reached.items one (ap (λ (v : Vec Reached Global). v.items) c.in_ok-spread.ensures.reached ∙ c.in_ok-add.ensures) are kept came
+
+pub returns-clause-there : goal.returns-clause-there
+returns-clause-there c = λ e plan are kept.
+    let one : Reached = record { kept = c.args.kept; digest = c.digest_of-digest.result; by = Some (c.args.from, c.args.event) } in
+    last_there plan.layout c.args.self.now.reached.items c.spread.new.self.reached.items one (ap (λ (v : Vec Reached Global). v.items) c.in_ok-spread.ensures.reached ∙ c.in_ok-add.ensures)
