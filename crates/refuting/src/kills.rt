@@ -16,6 +16,9 @@ const MOST_LINES: usize = 200;
 /// How many mutexes are tried.
 const MOST_MUTEXES: usize = 8;
 
+/// With how many doomed threads kills are tried: calls of so many on one mutex make a state for each set of them.
+const MOST_DOOMED: usize = 8;
+
 /// The first mutexes that these lines name, no more than are tried.
 fn mutexes_in(alloc: Global, lines: &[HistoryLine]) -> Result<Vec<u16>, AllocError> {
     let mut mutexes: Vec<u16> = Vec::new(alloc);
@@ -27,6 +30,22 @@ fn mutexes_in(alloc: Global, lines: &[HistoryLine]) -> Result<Vec<u16>, AllocErr
         }
     }
     Ok(mutexes)
+}
+
+/// How many dooms are among these lines.
+fn dooms_in(lines: &[HistoryLine]) -> usize {
+    let mut count: usize = 0;
+    for line in lines {
+        if let Entry::Doom(_) = line.entry {
+            count = count.saturating_add(1);
+        }
+    }
+    count
+}
+
+/// Whether to try the kills of these lines would take long.
+fn takes_long(lines: &[HistoryLine]) -> bool {
+    lines.len() > MOST_LINES || dooms_in(lines) > MOST_DOOMED
 }
 
 /// Whether one of these mutexes refutes the lines.
@@ -135,7 +154,7 @@ fn refutes_doom(
 }
 
 /// Whether lines with a doom are refuted at each moment at which the doomed thread may have been killed, by one mutex or
-/// another: then no trace shows them. At most 200 lines are looked at, and eight mutexes.
+/// another: then no trace shows them. At most 200 lines with eight dooms are looked at, and eight mutexes.
 pub fn refutes_by_kills(
     alloc: Global,
     head: &Head,
@@ -143,7 +162,7 @@ pub fn refutes_by_kills(
 ) -> Result<bool, AllocError>
     ensures { IfOk result (λ refuted. refuted ≡ true → IsNever head.now.mutexes lines.now) }
 {
-    if lines.len() > MOST_LINES {
+    if takes_long(lines) {
         return Ok(false);
     }
     let mutexes = mutexes_in(alloc, lines)?;
