@@ -72,7 +72,7 @@ use Rattle.protocol.specs.declared.thread.Stage.{Stage}
 use Rattle.protocol.specs.declared.thread.Stage.TheVariants as stage
 use Rattle.protocol.specs.contracts.thread.ThreadPartialEq.TheImpl as eq_Thread
 use Rattle.protocol.specs.declared.thread.Thread.{Thread}
-use Rattle.outcomes.specs.Comparisons.{IsBefore, IsComparable, AreComparable}
+use Rattle.outcomes.specs.Comparisons.{IsBefore, IsComparable}
 use Rattle.std.specs.Cmp.Lexicographic.{pointwise}
 use Rattle.std.proofs.Common.{List, [], ◌∷◌}
 use Rattle.interleave.specs.contracts.saved.SleeperPartialEq.TheImpl as eq_Sleeper
@@ -246,16 +246,6 @@ pub same_Thread : (a b : Thread) → IsComparable a.stage → IsComparable b.sta
 same_Thread a b ka kb h = let p = both _ _ h in λ i. record { stage = same_Stage a.stage b.stage ka kb p.0 i; held = eqb-true a.held b.held p.1 i }
 
 -- ---- lists of them
-
-pub same_Threads : (xs ys : List Thread) → AreComparable xs → AreComparable ys → pointwise eq_Thread.eq-value.it xs ys ≡ true → xs ≡ ys
-same_Threads [] [] ka kb h = refl
-same_Threads (a ∷ ys) (b ∷ zs) ka kb h =
-    let e = both _ _ h in
-    let x = same_Thread a b ka.0 kb.0 e.0 in
-    let xs = same_Threads ys zs ka.1 kb.1 e.1 in
-    λ i. x i ∷ xs i
-same_Threads [] (b ∷ zs) ka kb h = absurd cc
-same_Threads (a ∷ ys) [] ka kb h = absurd cc
 
 same_Sleeper : (a b : Sleeper) → eq_Sleeper.eq-value.it a b ≡ true → a ≡ b
 same_Sleeper a b h = let p = both _ _ h in λ i. record { place = eqb-true a.place b.place p.0 i; thread = eqb-true a.thread b.thread p.1 i }

@@ -4,6 +4,7 @@ pub mod Equalities
 pub mod Lives
 pub mod Moves
 pub mod Reaching
+pub mod Storing
 pub mod Asking
 pub mod Trying
 pub mod Listing

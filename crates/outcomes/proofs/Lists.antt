@@ -147,3 +147,21 @@ map_longer f xs ys apart = λ e. apart (sym (length-map xs f) ∙ ap (λ zs. len
 
 pub map_all : {X Y : Type 0} (f : X → Y) (xs ys : List X) (i : ℕ) → length xs ≤ i → length xs ≡ length ys → map f (take i xs) ≡ map f (take i ys) → map f xs ≡ map f ys
 map_all f xs ys i past same e = ap (map f) (sym (take_all i xs past)) ∙ e ∙ ap (map f) (take_all i ys (omega arith))
+
+-- a list that has what a function makes of the first items of another one, and of one more
+pub grown : {X Y : Type 0} (f : X → Y) (xs : List X) (ys : List Y) (i : ℕ) (x : X) → i < length xs → x ≡ get_or xs i x → ys ≡ map f (take i xs) → ys ++ f x ∷ [] ≡ map f (take (i + 1) xs)
+grown f xs ys i x lt is before = (λ j. before j ++ f (is j) ∷ []) ∙ sym (map_push f (take i xs) (get_or xs i x)) ∙ ap (map f) (sym (take_more xs i x lt))
+
+pub fit_more : {X Z : Type 0} (f : X → Z) (xs : List X) (zs : List Z) (i : ℕ) (x : X) (z : Z) → i < length xs → i < length zs → x ≡ get_or xs i x → z ≡ get_or zs i z → map f (take i xs) ≡ take i zs → f x ≡ z → map f (take (i + 1) xs) ≡ take (i + 1) zs
+fit_more f xs zs i x z lt below is it before same =
+    ap (map f) (take_more xs i x lt) ∙ map_push f (take i xs) (get_or xs i x) ∙ (λ j. before j ++ (ap f (sym is) ∙ same ∙ it) j ∷ []) ∙ sym (take_more zs i z below)
+
+pub fit_all : {X Z : Type 0} (f : X → Z) (xs : List X) (zs : List Z) (i : ℕ) → length xs ≤ i → length xs ≡ length zs → map f (take i xs) ≡ take i zs → map f xs ≡ zs
+fit_all f xs zs i past same e = ap (map f) (sym (take_all i xs past)) ∙ e ∙ take_all i zs (omega arith)
+
+pub like_more : {X Y Z : Type 0} (f : X → Z) (g : Y → Z) (xs : List X) (ys : List Y) (i : ℕ) (x : X) (y : Y) → i < length xs → i < length ys → x ≡ get_or xs i x → y ≡ get_or ys i y → map f (take i xs) ≡ map g (take i ys) → f x ≡ g y → map f (take (i + 1) xs) ≡ map g (take (i + 1) ys)
+like_more f g xs ys i x y lt below is it before same =
+    ap (map f) (take_more xs i x lt) ∙ map_push f (take i xs) (get_or xs i x) ∙ (λ j. before j ++ (ap f (sym is) ∙ same ∙ ap g it) j ∷ []) ∙ sym (map_push g (take i ys) (get_or ys i y)) ∙ ap (map g) (sym (take_more ys i y below))
+
+pub like_all : {X Y Z : Type 0} (f : X → Z) (g : Y → Z) (xs : List X) (ys : List Y) (i : ℕ) → length xs ≤ i → length xs ≡ length ys → map f (take i xs) ≡ map g (take i ys) → map f xs ≡ map g ys
+like_all f g xs ys i past same e = ap (map f) (sym (take_all i xs past)) ∙ e ∙ ap (map g) (take_all i ys (omega arith))

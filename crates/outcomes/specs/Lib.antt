@@ -4,5 +4,7 @@ pub mod Events
 pub mod Runs
 pub mod Outcomes
 pub mod Kept
+pub mod Standings
+pub mod Stored
 pub mod Searches
 pub mod Comparisons

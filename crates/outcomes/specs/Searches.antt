@@ -17,13 +17,13 @@ use Rattle.outcomes.specs.declared.next.Next.{Next}
 use Rattle.outcomes.specs.Positions.{Position, first, next_call, is_turn, may_kill}
 use Rattle.outcomes.specs.Events.{MayCome, after}
 use Rattle.outcomes.specs.Runs.{GoesOn}
-use Rattle.outcomes.specs.Kept.{position_in, IsKept}
+use Rattle.outcomes.specs.Stored.{stored_position, IsStored}
 
 -- number i of what was reached is this position
 pub record IsAt (l : Layout') (reached : List Reached) (i : ℕ) (p : Position) : Type 0 where
   pub one : Reached
   pub there : slice_get reached i ≡ Some one
-  pub is : position_in l one.kept ≡ p
+  pub is : stored_position l one.stored ≡ p
 
 -- a position was reached
 abbrev pub Has : Layout' → List Reached → Position → Type 0
@@ -36,8 +36,8 @@ CameBy plan reached i (Some by) p =
     (by.0 < i) × (q : Position) × IsAt plan.layout reached by.0 q × MayCome plan q by.1 × (after plan q by.1 ≡ p)
 
 pub record IsOne (plan : Plan) (reached : List Reached) (i : ℕ) (one : Reached) : Type 0 where
-  pub kept : IsKept plan one.kept
-  pub came : CameBy plan reached i one.by (position_in plan.layout one.kept)
+  pub stored : IsStored plan one.stored
+  pub came : CameBy plan reached i one.by (stored_position plan.layout one.stored)
 
 -- each of them was reached
 abbrev pub AreReached : Plan → List Reached → Type 0

@@ -1,10 +1,11 @@
 //! Digests of positions: equal positions have the same, and different ones seldom do. Nothing rests on either.
 
-use crate::kept::Kept;
+use crate::kept::{Kept, Life};
 use condvar::{CodedCondPhase, CondPhase};
 use exitwalk::{CodedRow, Row};
+use interleave::Sleeper;
 use mutex::{CodedPhase, Phase};
-use protocol::Stage;
+use protocol::{Stage, Thread};
 
 const FACTOR: u64 = 0x9e37_79b9_7f4a_7c15;
 
@@ -48,26 +49,52 @@ fn with_stage(digest: u64, stage: &Stage) -> u64 {
     }
 }
 
-/// The digest of a kept.
-pub(crate) fn digest_of(kept: &Kept) -> u64 {
-    let mut digest = u64::from(kept.phase);
-    for word in &kept.saved.words {
+fn with_words(digest: u64, words: &[u64]) -> u64 {
+    let mut digest = digest;
+    for word in words {
         digest = mixed(digest, *word);
     }
-    for thread in &kept.saved.threads {
-        digest = with_stage(digest, &thread.stage);
-    }
-    for sleeper in &kept.saved.sleepers {
+    digest
+}
+
+fn with_sleepers(digest: u64, sleepers: &[Sleeper]) -> u64 {
+    let mut digest = digest;
+    for sleeper in sleepers {
         digest = mixed(
             digest,
             256 * (sleeper.place % 65536) + u64::from(sleeper.thread.get()),
         );
     }
+    digest
+}
+
+fn with_life(digest: u64, life: &Life) -> u64 {
+    let mut digest = mixed(digest, life.at as u64);
+    for reply in &life.replies {
+        digest = mixed(digest, u64::from(reply.number()));
+    }
+    digest
+}
+
+/// The digest of a scene.
+pub(crate) fn digest_of_scene(words: &[u64], sleepers: &[Sleeper]) -> u64 {
+    with_sleepers(with_words(0, words), sleepers)
+}
+
+/// The digest of a standing.
+pub(crate) fn digest_of_standing(thread: &Thread, life: &Life) -> u64 {
+    with_life(with_stage(0, &thread.stage), life)
+}
+
+/// The digest of a position.
+pub(crate) fn digest_of(kept: &Kept) -> u64 {
+    let mut digest = with_words(u64::from(kept.phase), &kept.saved.words);
+    for thread in &kept.saved.threads {
+        digest = with_stage(digest, &thread.stage);
+    }
+    digest = with_sleepers(digest, &kept.saved.sleepers);
     for life in &kept.lives {
-        digest = mixed(digest, life.at as u64);
-        for reply in &life.replies {
-            digest = mixed(digest, u64::from(reply.number()));
-        }
+        digest = with_life(digest, life);
     }
     digest
 }

@@ -1,11 +1,13 @@
 //! What a position leads to, and which events led to it.
 ghost use Rattle.std.specs.Prelude.{◌≡◌, ◌<◌, ◌≤◌, ◌||◌, ◌&&◌, true, false, length, IfOk, OnOk};
 ghost use Rattle.outcomes.specs.Positions.{first, Position};
+ghost use Rattle.outcomes.specs.Kept.{position_in, IsKept};
 ghost use Rattle.outcomes.specs.Runs.{IsRun};
 ghost use Rattle.outcomes.specs.Searches.{AreReached, AreThreads, Grows, IsAt, IsThread, came, had_room};
 
 use crate::adding::add;
 use crate::events::Kind;
+use crate::kept::Kept;
 use crate::plan::Plan;
 use crate::search::{Search, Tried};
 use lockword::Tid;
@@ -77,12 +79,15 @@ impl Search {
         alloc: Global,
         plan: &Plan,
         place: usize,
+        kept: &Kept,
         thread: Tid,
     ) -> Result<Expanded, NoMem>
         requires layout { self.old.machine.layout ≡ plan.now.layout }
         requires reached { AreReached plan.now self.old.reached.items }
         requires few { length self.old.reached.items ≤ self.old.limit }
         requires place { place < length self.old.reached.items }
+        requires kept { IsKept plan.now kept.now }
+        requires at { IsAt plan.now.layout self.old.reached.items place (position_in plan.now.layout kept.now) }
         requires known { thread ≤ plan.now.layout.threads }
         ensures layout { OnOk result (self.new.machine.layout ≡ plan.now.layout) }
         ensures limit { self.new.limit ≡ self.old.limit }
@@ -92,12 +97,12 @@ impl Search {
         ensures tried { IfOk result (λ x. (p : Position) → IsAt plan.now.layout self.old.reached.items place p
             → IsThread plan.now p self.old.limit self.new.reached.items thread x.on x.room) }
     {
-        let begin = self.try_kind(alloc, plan, place, thread, Kind::Begin)?;
-        let step = self.try_kind(alloc, plan, place, thread, Kind::Step)?;
-        let expire = self.try_kind(alloc, plan, place, thread, Kind::Expire)?;
-        let kill = self.try_kind(alloc, plan, place, thread, Kind::Kill)?;
-        let leave = self.try_kind(alloc, plan, place, thread, Kind::Leave)?;
-        let spare = self.try_kind(alloc, plan, place, thread, Kind::Spare)?;
+        let begin = self.try_kind(alloc, plan, place, kept, thread, Kind::Begin)?;
+        let step = self.try_kind(alloc, plan, place, kept, thread, Kind::Step)?;
+        let expire = self.try_kind(alloc, plan, place, kept, thread, Kind::Expire)?;
+        let kill = self.try_kind(alloc, plan, place, kept, thread, Kind::Kill)?;
+        let leave = self.try_kind(alloc, plan, place, kept, thread, Kind::Leave)?;
+        let spare = self.try_kind(alloc, plan, place, kept, thread, Kind::Spare)?;
         let on = goes_on(begin, step, expire);
         let room = both(
             had_room_for(begin, step, expire),
@@ -112,11 +117,14 @@ impl Search {
         alloc: Global,
         plan: &Plan,
         place: usize,
+        kept: &Kept,
     ) -> Result<Expanded, NoMem>
         requires layout { self.old.machine.layout ≡ plan.now.layout }
         requires reached { AreReached plan.now self.old.reached.items }
         requires few { length self.old.reached.items ≤ self.old.limit }
         requires place { place < length self.old.reached.items }
+        requires kept { IsKept plan.now kept.now }
+        requires at { IsAt plan.now.layout self.old.reached.items place (position_in plan.now.layout kept.now) }
         ensures layout { OnOk result (self.new.machine.layout ≡ plan.now.layout) }
         ensures limit { self.new.limit ≡ self.old.limit }
         ensures reached { OnOk result (AreReached plan.now self.new.reached.items) }
@@ -131,7 +139,7 @@ impl Search {
             let Some(thread) = Tid::new(before + 1) else {
                 unreachable!()
             };
-            let expanded = self.expand_thread(alloc, plan, place, thread)?;
+            let expanded = self.expand_thread(alloc, plan, place, kept, thread)?;
             on = either(on, expanded.on);
             room = both(room, expanded.room);
         }

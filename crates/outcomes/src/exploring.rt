@@ -1,11 +1,13 @@
 //! Exploring a plan.
 ghost use Rattle.std.specs.Prelude.{◌≡◌, ◌≤◌, ◌<◌, true, false, IfOk, OnOk, length};
 ghost use Rattle.outcomes.specs.Outcomes.{IsListed, AreWitnessed, AreDifferent, HasAll, Outcome', outcome_in, outcome_of};
+ghost use Rattle.outcomes.specs.Kept.{position_in, IsKept};
 ghost use Rattle.outcomes.specs.Positions.{Position};
 ghost use Rattle.outcomes.specs.Runs.{IsOver};
 ghost use Rattle.outcomes.specs.Searches.{AreReached, IsAt};
 
 use crate::adding::add;
+use crate::kept::Kept;
 use crate::outcome::Outcome;
 use crate::plan::Plan;
 use crate::reading::outcome_of;
@@ -64,11 +66,14 @@ impl Search {
         alloc: Global,
         plan: &Plan,
         place: usize,
+        kept: &Kept,
         on: bool,
         found: &mut Vec<Witnessed>,
     ) -> Result<(), NoMem>
         requires reached { AreReached plan.now self.now.reached.items }
         requires place { place < length self.now.reached.items }
+        requires kept { IsKept plan.now kept.now }
+        requires at { IsAt plan.now.layout self.now.reached.items place (position_in plan.now.layout kept.now) }
         requires over { on ≡ false
             → (p : Position) → IsAt plan.now.layout self.now.reached.items place p → IsOver plan.now p }
         ensures sound { OnOk result (AreWitnessed plan.now found.old.items → AreWitnessed plan.now found.new.items) }
@@ -81,7 +86,7 @@ impl Search {
         if on {
             return Ok(());
         }
-        let outcome = outcome_of(alloc, plan, &self.reached[place].kept)?;
+        let outcome = outcome_of(alloc, plan, kept)?;
         if is_listed(found, &outcome) {
             return Ok(());
         }
@@ -98,13 +103,13 @@ fn report<P: Progress>(progress: &mut P, done: usize, states: usize) {
     }
 }
 
-/// Every outcome of the plan's runs that are over, each with the events of the first run to it that was found, in the
-/// order of their discovery; breadth first, so that no event of a run is looked at before all runs with fewer. At most
-/// `limit` positions are kept; `progress` is asked after each 4,096 that were looked at.
+/// Every outcome of the plan's runs that are over, each with the events of a run to it, in the order of their discovery. At
+/// most `limit` positions are stored; `progress` is asked after each 4,096 that were looked at. The search is breadth first,
+/// so no other run to an outcome has fewer events, but no clause says so.
 ///
 /// If `complete`, then every list of events of the plan that leads from its first position to one that is over has its
-/// outcome in the list. If not, then `limit` positions were reached, and there was no room for another one: what was
-/// found up to there is in the list, and each of it is the outcome of a run. Refused as `NoMem` where no memory is left.
+/// outcome in the list. If not, then `limit` positions were reached, there was no room for another one, and outcomes may be
+/// missing. Refused as `NoMem` if memory is refused.
 pub fn explore<P: Progress>(
     alloc: Global,
     plan: &Plan,
@@ -122,9 +127,10 @@ pub fn explore<P: Progress>(
     let mut done = 0;
     let mut complete = 0 < search.reached.len();
     while complete && done < search.reached.len() {
-        let expanded = search.expand(alloc, plan, done)?;
+        let kept = search.reached[done].stored.kept(alloc)?;
+        let expanded = search.expand(alloc, plan, done, &kept)?;
         complete = expanded.room;
-        search.witness(alloc, plan, done, expanded.on, &mut outcomes)?;
+        search.witness(alloc, plan, done, &kept, expanded.on, &mut outcomes)?;
         done += 1;
         report(progress, done, search.reached.len());
     }

@@ -2,15 +2,20 @@
 ghost use Rattle.std.specs.Prelude.{◌≡◌, ◌≢◌, true, map, MatchBool};
 ghost use Rattle.outcomes.specs.Outcomes.{ended_in, outcome_in};
 ghost use Rattle.outcomes.specs.declared.plan.Plan.{Plan};
-ghost use Rattle.outcomes.specs.Comparisons.{AreComparable};
-ghost use Rattle.outcomes.specs.Kept.{place_in, places_in, position_in, IsKept};
+ghost use Rattle.outcomes.specs.Comparisons.{AreComparable, IsComparable};
+ghost use Rattle.outcomes.specs.Kept.{place_in, places_in, IsKept};
+ghost use Rattle.outcomes.specs.Stored.{places_among, threads_in, Holds};
 
 use crate::kept::{Kept, Life};
 use crate::outcome::{Ended, Outcome};
+use crate::standing::Standing;
+use crate::stored::{Scene, Stored};
 use interleave::Sleeper;
 use lockword::Reply;
 use posixmutex::Object;
 use protocol::Thread;
+use std::alloc::Global;
+use std::rc::Rc;
 
 /// Whether words are the same.
 fn same_words(a: &[u64], b: &[u64]) -> bool
@@ -20,8 +25,8 @@ fn same_words(a: &[u64], b: &[u64]) -> bool
 }
 
 /// Whether threads are the same.
-fn same_threads(a: &[Thread], b: &[Thread]) -> bool
-    ensures { result ≡ true → AreComparable a.now → AreComparable b.now → a.now ≡ b.now }
+fn same_thread(a: &Thread, b: &Thread) -> bool
+    ensures { result ≡ true → IsComparable a.now.stage → IsComparable b.now.stage → a.now ≡ b.now }
 {
     *a == *b
 }
@@ -45,21 +50,6 @@ fn same_life(a: &Life, b: &Life) -> bool
     ensures { result ≡ true → place_in a.now ≡ place_in b.now }
 {
     a.at == b.at && same_replies(&a.replies, &b.replies)
-}
-
-/// Whether threads have come as far.
-fn same_lives(a: &[Life], b: &[Life]) -> bool
-    ensures { result ≡ true → places_in a.now ≡ places_in b.now }
-{
-    if a.len() != b.len() {
-        return false;
-    }
-    for index in 0..a.len() {
-        if !same_life(&a[index], &b[index]) {
-            return false;
-        }
-    }
-    true
 }
 
 /// Whether a thread ended as another one.
@@ -98,23 +88,48 @@ pub(crate) fn same_outcomes(a: &Outcome, b: &Outcome) -> bool
     same_ends(&a.threads, &b.threads) && same_mutexes(&a.mutexes, &b.mutexes)
 }
 
-/// Whether positions are the same: the machine's words, threads and sleepers, the phase, and how far each thread has
-/// come. Only then does the search keep one in the other's place.
-pub(crate) fn is_same(a: &Kept, b: &Kept) -> bool
-    ensures { result ≡ true → (plan : Plan) → IsKept plan a.now → IsKept plan b.now
-        → position_in plan.layout a.now ≡ position_in plan.layout b.now }
+/// Whether a scene has these words and sleepers.
+pub(crate) fn is_scene(scene: &Scene, words: &[u64], sleepers: &[Sleeper]) -> bool
+    ensures { result ≡ true
+        → (scene.now.words.items ≡ words.now) × (scene.now.sleepers.items ≡ sleepers.now) }
 {
-    if a.phase != b.phase {
+    same_words(&scene.words, words) && same_sleepers(&scene.sleepers, sleepers)
+}
+
+/// Whether this thread stands so, and has come so far.
+pub(crate) fn is_standing(standing: &Standing, thread: &Thread, life: &Life) -> bool
+    ensures { result ≡ true → IsComparable thread.now.stage
+        → (standing.now.thread ≡ thread.now) × (standing.now.place ≡ place_in life.now) }
+{
+    same_thread(&standing.thread, thread) && same_life(&standing.life, life)
+}
+
+/// Whether threads stand so, and have come so far.
+fn are_standings(standings: &[Rc<Standing, Global>], threads: &[Thread], lives: &[Life]) -> bool
+    ensures { result ≡ true → AreComparable threads.now
+        → (threads_in standings.now ≡ threads.now) × (places_among standings.now ≡ places_in lives.now) }
+{
+    if standings.len() != threads.len() || standings.len() != lives.len() {
         return false;
     }
-    if !same_words(&a.saved.words, &b.saved.words) {
+    for index in 0..standings.len() {
+        if !is_standing(&standings[index], &threads[index], &lives[index]) {
+            return false;
+        }
+    }
+    true
+}
+
+/// Whether positions are the same: the machine's words, threads and sleepers, the phase, and how far each thread has
+/// come. Only then does the search store one in the other's place.
+pub(crate) fn is_same(stored: &Stored, kept: &Kept) -> bool
+    ensures { result ≡ true → (plan : Plan) → IsKept plan kept.now → Holds stored.now kept.now }
+{
+    if stored.phase != kept.phase {
         return false;
     }
-    if !same_sleepers(&a.saved.sleepers, &b.saved.sleepers) {
+    if !is_scene(&stored.scene, &kept.saved.words, &kept.saved.sleepers) {
         return false;
     }
-    if !same_threads(&a.saved.threads, &b.saved.threads) {
-        return false;
-    }
-    same_lives(&a.lives, &b.lives)
+    are_standings(&stored.standings, &kept.saved.threads, &kept.lives)
 }

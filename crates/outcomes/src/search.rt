@@ -4,6 +4,7 @@ ghost use Rattle.outcomes.specs.declared.plan.Plan.{Plan};
 ghost use Rattle.outcomes.specs.Positions.{first, Position};
 ghost use Rattle.outcomes.specs.Runs.{IsRun};
 ghost use Rattle.outcomes.specs.Events.{IsAsked};
+ghost use Rattle.outcomes.specs.Comparisons.{AreComparable};
 ghost use Rattle.outcomes.specs.Kept.{position_in, IsKept};
 ghost use Rattle.outcomes.specs.Searches.{AreReached, AreThreads, CameBy, Grows, Has, IsAt, IsThread, IsTried, IsTriedOf};
 
@@ -14,6 +15,8 @@ use crate::first::{first_kept, first_machine};
 use crate::kept::Kept;
 use crate::plan::Plan;
 use crate::sameness::is_same;
+use crate::stock::Stock;
+use crate::stored::Stored;
 use crate::succession::successor;
 use crate::table::Table;
 use interleave::Machine;
@@ -25,7 +28,7 @@ use std::alloc::Global;
 /// A position that was reached.
 #[derive(Drop)]
 pub(crate) struct Reached {
-    pub kept: Kept,
+    pub stored: Stored,
     pub digest: u64,
     /// The number of an earlier one, and the event that leads from there; None of the first position.
     pub by: Option<(usize, Event)>,
@@ -47,6 +50,7 @@ pub(crate) enum Tried {
 pub(crate) struct Search {
     pub machine: Machine,
     pub reached: Vec<Reached>,
+    stock: Stock,
     table: Table,
     pub limit: usize,
 }
@@ -65,19 +69,22 @@ impl Search {
         let machine = first_machine(alloc, plan)?;
         let kept = first_kept(alloc, plan, &machine)?;
         let mut reached = Vec::new(alloc);
+        let mut stock = Stock::new(alloc)?;
         let mut table = Table::new(alloc)?;
         if limit == 0 {
             return Ok(Search {
                 machine,
                 reached,
+                stock,
                 table,
                 limit,
             });
         }
         let digest = digest_of(&kept);
         table.put(digest, 0);
+        let stored = stock.store(alloc, kept)?;
         let first = Reached {
-            kept,
+            stored,
             digest,
             by: None,
         };
@@ -85,6 +92,7 @@ impl Search {
         Ok(Search {
             machine,
             reached,
+            stock,
             table,
             limit,
         })
@@ -101,7 +109,7 @@ impl Search {
             let number = self.table.number(slot)?;
             if number < self.reached.len()
                 && self.reached[number].digest == digest
-                && is_same(&self.reached[number].kept, kept)
+                && is_same(&self.reached[number].stored, kept)
             {
                 return Some(number);
             }
@@ -129,6 +137,8 @@ impl Search {
 
     /// Keeps a position, unless it was reached before; false where there is no room for it.
     fn keep(&mut self, alloc: Global, kept: Kept, from: usize, event: Event) -> Result<bool, NoMem>
+        requires comparable { AreComparable kept.saved.threads.items }
+        requires long { length kept.saved.threads.items ≡ length kept.lives.items }
         ensures machine { self.new.machine ≡ self.old.machine }
         ensures limit { self.new.limit ≡ self.old.limit }
         ensures grows { OnOk result (Grows self.old.reached.items self.new.reached.items) }
@@ -150,8 +160,9 @@ impl Search {
         if self.limit <= number {
             return Ok(false);
         }
+        let stored = self.stock.store(alloc, kept)?;
         let one = Reached {
-            kept,
+            stored,
             digest,
             by: Some((from, event)),
         };
@@ -167,12 +178,15 @@ impl Search {
         alloc: Global,
         plan: &Plan,
         place: usize,
+        kept: &Kept,
         event: Event,
     ) -> Result<Tried, NoMem>
         requires layout { self.old.machine.layout ≡ plan.now.layout }
         requires reached { AreReached plan.now self.old.reached.items }
         requires few { length self.old.reached.items ≤ self.old.limit }
         requires place { place < length self.old.reached.items }
+        requires kept { IsKept plan.now kept.now }
+        requires at { IsAt plan.now.layout self.old.reached.items place (position_in plan.now.layout kept.now) }
         requires asked { (p : Position) → IsAt plan.now.layout self.old.reached.items place p → IsAsked plan.now p event }
         ensures layout { OnOk result (self.new.machine.layout ≡ plan.now.layout) }
         ensures limit { self.new.limit ≡ self.old.limit }
@@ -182,17 +196,11 @@ impl Search {
         ensures tried { IfOk result (λ t. (p : Position) → IsAt plan.now.layout self.old.reached.items place p
             → IsTried plan.now p self.old.limit self.new.reached.items event t) }
     {
-        let next = successor(
-            &mut self.machine,
-            alloc,
-            plan,
-            &self.reached[place].kept,
-            &event,
-        )?;
+        let next = successor(&mut self.machine, alloc, plan, kept, &event)?;
         match next {
             None => Ok(Tried::Never),
-            Some(kept) => {
-                if self.keep(alloc, kept, place, event)? {
+            Some(next) => {
+                if self.keep(alloc, next, place, event)? {
                     Ok(Tried::Found)
                 } else {
                     Ok(Tried::NoRoom)
@@ -207,6 +215,7 @@ impl Search {
         alloc: Global,
         plan: &Plan,
         place: usize,
+        kept: &Kept,
         thread: Tid,
         kind: Kind,
     ) -> Result<Tried, NoMem>
@@ -214,6 +223,8 @@ impl Search {
         requires reached { AreReached plan.now self.old.reached.items }
         requires few { length self.old.reached.items ≤ self.old.limit }
         requires place { place < length self.old.reached.items }
+        requires kept { IsKept plan.now kept.now }
+        requires at { IsAt plan.now.layout self.old.reached.items place (position_in plan.now.layout kept.now) }
         requires known { thread ≤ plan.now.layout.threads }
         ensures layout { OnOk result (self.new.machine.layout ≡ plan.now.layout) }
         ensures limit { self.new.limit ≡ self.old.limit }
@@ -223,9 +234,9 @@ impl Search {
         ensures tried { IfOk result (λ t. (p : Position) → IsAt plan.now.layout self.old.reached.items place p
             → IsTriedOf plan.now p self.old.limit self.new.reached.items kind thread t) }
     {
-        match event_of(plan, &self.reached[place].kept, kind, thread) {
+        match event_of(plan, kept, kind, thread) {
             None => Ok(Tried::Never),
-            Some(event) => self.try_event(alloc, plan, place, event),
+            Some(event) => self.try_event(alloc, plan, place, kept, event),
         }
     }
 }

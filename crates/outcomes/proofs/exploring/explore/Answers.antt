@@ -2,6 +2,8 @@ use Rattle.std.proofs.Common.{◌≡◌, ◌≤◌, ◌<◌, ◌∙◌, sym, sub
 use Rattle.std.proofs.lemmas.Bool.Decides.{nat_tests}
 use Rattle.outcomes.specs.Outcomes.{AreWitnessed, AreDifferent}
 use Rattle.outcomes.specs.Positions.{first}
+use Rattle.outcomes.specs.Kept.{position_in}
+use Rattle.outcomes.proofs.Storing.{again_kept, again_there}
 use Rattle.outcomes.proofs.Reaching.{at_grown, long_grown, some_at}
 use Rattle.outcomes.proofs.Closing.{over_there, closed_more, read_more, has_all}
 use Rattle.outcomes.proofs.exploring.explore.Goals as goal
@@ -24,6 +26,19 @@ loop-complete-init g c =
       once = subst AreDifferent (sym c.new-outcomes.ensures.items) tt;
       full = λ e. (let none : c.len-complete.result ≡ 0 = grind (arith, nat_tests) in let empty : length c.in_ok-search.search.reached.items ≡ 0 = omega (arith, none, len) in let no = c.in_ok-search.ensures.empty empty in omega (arith, empty, no));
     }
+
+pub expand-requires-clause-kept : goal.expand-requires-clause-kept
+expand-requires-clause-kept g c = again_kept c.args.plan.now c.loop-complete.search.reached.items c.loop-complete.done c.index.result.now c.in_ok-kept.kept c.loop-complete.invariant.reached (let n = c.len.ensures in let lt = c.if-done-len.true in omega arith) c.index.ensures c.in_ok-kept.ensures
+
+pub expand-requires-clause-at : goal.expand-requires-clause-at
+expand-requires-clause-at g c = again_there c.args.plan.now c.loop-complete.search.reached.items c.loop-complete.done c.index.result.now c.in_ok-kept.kept c.loop-complete.invariant.reached (let n = c.len.ensures in let lt = c.if-done-len.true in omega arith) c.index.ensures c.in_ok-kept.ensures
+
+pub witness-requires-clause-kept : goal.witness-requires-clause-kept
+witness-requires-clause-kept g c = again_kept c.args.plan.now c.loop-complete.search.reached.items c.loop-complete.done c.index.result.now c.in_ok-kept.kept c.loop-complete.invariant.reached (let n = c.len.ensures in let lt = c.if-done-len.true in omega arith) c.index.ensures c.in_ok-kept.ensures
+
+pub witness-requires-clause-at : goal.witness-requires-clause-at
+witness-requires-clause-at g c = at_grown c.loop-complete.search.reached.items c.expand.new.self.reached.items c.in_ok-expanded.ensures.grows c.args.plan.now.layout c.loop-complete.done (position_in c.args.plan.now.layout c.in_ok-kept.kept)
+    (again_there c.args.plan.now c.loop-complete.search.reached.items c.loop-complete.done c.index.result.now c.in_ok-kept.kept c.loop-complete.invariant.reached (let n = c.len.ensures in let lt = c.if-done-len.true in omega arith) c.index.ensures c.in_ok-kept.ensures)
 
 pub witness-requires-clause-over : goal.witness-requires-clause-over
 witness-requires-clause-over g c =

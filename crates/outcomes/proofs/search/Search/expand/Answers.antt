@@ -1,4 +1,5 @@
 use Rattle.std.proofs.Common.{◌≡◌, ◌+◌, ◌∙◌, ◌||◌, sym, subst, Bool, ℕ, refl, arith}
+use Rattle.outcomes.specs.Kept.{position_in}
 use Rattle.outcomes.specs.Searches.{AreThreads, IsThread}
 use Rattle.outcomes.proofs.Reaching.{at_grown, grows_twice, grows_not}
 use Rattle.outcomes.proofs.Trying.{no_threads, more_threads}
@@ -39,6 +40,9 @@ loop-before-preserved c =
           subst (λ (b : Bool). AreThreads plan p limit s2 (c.loop-before.before + 1) b c.both-room.result) (sym c.either-on.ensures)
           (subst (λ (b : Bool). AreThreads plan p limit s2 (c.loop-before.before + 1) (c.loop-before.on || x.on) b) (sym c.both-room.ensures) all);
     }
+
+pub expand_thread-requires-clause-at : goal.expand_thread-requires-clause-at
+expand_thread-requires-clause-at c = at_grown c.args.self.now.reached.items c.loop-before.self.reached.items c.loop-before.invariant.grows c.args.plan.now.layout c.args.place (position_in c.args.plan.now.layout c.args.kept.now) c.requires.at
 
 pub returns-clause-tried : goal.returns-clause-tried
 returns-clause-tried c = λ p at.

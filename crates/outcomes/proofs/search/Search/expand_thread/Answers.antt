@@ -1,9 +1,41 @@
 use Rattle.std.proofs.Common.{◌≡◌, ◌∙◌, sym, subst, Bool, ◌&&◌, ◌||◌, ℕ}
 use Rattle.outcomes.specs.declared.events.Kind.TheVariants as kind
+use Rattle.outcomes.specs.Kept.{position_in}
 use Rattle.outcomes.specs.Searches.{Grows, IsThread, IsTriedOf, came, had_room}
 use Rattle.outcomes.proofs.Reaching.{at_grown, grows_twice, grows_not}
 use Rattle.outcomes.proofs.Trying.{six_tried, tried_grown}
 use Rattle.outcomes.proofs.search.Search.expand_thread.Goals as goal
+
+-- the position stays where it is
+pub try_kind-requires-2-clause-at : goal.try_kind-requires-2-clause-at
+try_kind-requires-2-clause-at c = at_grown c.args.self.now.reached.items c.try_kind.new.self.reached.items c.in_ok-begin.ensures.grows c.args.plan.now.layout c.args.place (position_in c.args.plan.now.layout c.args.kept.now)
+    c.requires.at
+
+pub try_kind-requires-3-clause-at : goal.try_kind-requires-3-clause-at
+try_kind-requires-3-clause-at c = at_grown c.try_kind.new.self.reached.items c.try_kind-2.new.self.reached.items c.in_ok-step.ensures.grows c.args.plan.now.layout c.args.place (position_in c.args.plan.now.layout c.args.kept.now)
+    (at_grown c.args.self.now.reached.items c.try_kind.new.self.reached.items c.in_ok-begin.ensures.grows c.args.plan.now.layout c.args.place (position_in c.args.plan.now.layout c.args.kept.now)
+    c.requires.at)
+
+pub try_kind-requires-4-clause-at : goal.try_kind-requires-4-clause-at
+try_kind-requires-4-clause-at c = at_grown c.try_kind-2.new.self.reached.items c.try_kind-3.new.self.reached.items c.in_ok-expire.ensures.grows c.args.plan.now.layout c.args.place (position_in c.args.plan.now.layout c.args.kept.now)
+    (at_grown c.try_kind.new.self.reached.items c.try_kind-2.new.self.reached.items c.in_ok-step.ensures.grows c.args.plan.now.layout c.args.place (position_in c.args.plan.now.layout c.args.kept.now)
+    (at_grown c.args.self.now.reached.items c.try_kind.new.self.reached.items c.in_ok-begin.ensures.grows c.args.plan.now.layout c.args.place (position_in c.args.plan.now.layout c.args.kept.now)
+    c.requires.at))
+
+pub try_kind-requires-5-clause-at : goal.try_kind-requires-5-clause-at
+try_kind-requires-5-clause-at c = at_grown c.try_kind-3.new.self.reached.items c.try_kind-4.new.self.reached.items c.in_ok-kill.ensures.grows c.args.plan.now.layout c.args.place (position_in c.args.plan.now.layout c.args.kept.now)
+    (at_grown c.try_kind-2.new.self.reached.items c.try_kind-3.new.self.reached.items c.in_ok-expire.ensures.grows c.args.plan.now.layout c.args.place (position_in c.args.plan.now.layout c.args.kept.now)
+    (at_grown c.try_kind.new.self.reached.items c.try_kind-2.new.self.reached.items c.in_ok-step.ensures.grows c.args.plan.now.layout c.args.place (position_in c.args.plan.now.layout c.args.kept.now)
+    (at_grown c.args.self.now.reached.items c.try_kind.new.self.reached.items c.in_ok-begin.ensures.grows c.args.plan.now.layout c.args.place (position_in c.args.plan.now.layout c.args.kept.now)
+    c.requires.at)))
+
+pub try_kind-requires-6-clause-at : goal.try_kind-requires-6-clause-at
+try_kind-requires-6-clause-at c = at_grown c.try_kind-4.new.self.reached.items c.try_kind-5.new.self.reached.items c.in_ok-leave.ensures.grows c.args.plan.now.layout c.args.place (position_in c.args.plan.now.layout c.args.kept.now)
+    (at_grown c.try_kind-3.new.self.reached.items c.try_kind-4.new.self.reached.items c.in_ok-kill.ensures.grows c.args.plan.now.layout c.args.place (position_in c.args.plan.now.layout c.args.kept.now)
+    (at_grown c.try_kind-2.new.self.reached.items c.try_kind-3.new.self.reached.items c.in_ok-expire.ensures.grows c.args.plan.now.layout c.args.place (position_in c.args.plan.now.layout c.args.kept.now)
+    (at_grown c.try_kind.new.self.reached.items c.try_kind-2.new.self.reached.items c.in_ok-step.ensures.grows c.args.plan.now.layout c.args.place (position_in c.args.plan.now.layout c.args.kept.now)
+    (at_grown c.args.self.now.reached.items c.try_kind.new.self.reached.items c.in_ok-begin.ensures.grows c.args.plan.now.layout c.args.place (position_in c.args.plan.now.layout c.args.kept.now)
+    c.requires.at))))
 
 pub returns-clause-tried : goal.returns-clause-tried
 returns-clause-tried c = λ p at.

@@ -7,20 +7,23 @@ use Rattle.outcomes.specs.Positions.{Position}
 use Rattle.outcomes.specs.Events.{after}
 use Rattle.outcomes.specs.Kept.{position_in, IsKept}
 use Rattle.outcomes.specs.Searches.{Has}
-use Rattle.outcomes.proofs.Reaching.{there_at, is_at, at_once}
+use Rattle.outcomes.proofs.Moves.{comparable}
+use Rattle.outcomes.proofs.Reaching.{at_once}
+use Rattle.outcomes.proofs.Storing.{as_many}
 use Rattle.outcomes.proofs.search.Search.try_event.Goals as goal
 
-pub successor-requires-clause-kept : goal.successor-requires-clause-kept
-successor-requires-clause-kept c = (c.requires.reached c.args.place c.index.result.now (there_at c.args.self.now.reached.items c.args.place c.index.result.now c.requires.place c.index.ensures)).kept
+pub keep-requires-clause-comparable : goal.keep-requires-clause-comparable
+keep-requires-clause-comparable c = comparable c.args.plan.now c.in-Some.next (subst (λ (o : Option kept.Kept). MatchOption o (Unit {0}) (IsKept c.args.plan.now)) c.in-Some.is c.in_ok-next.ensures.kept)
+
+pub keep-requires-clause-long : goal.keep-requires-clause-long
+keep-requires-clause-long c = as_many c.args.plan.now c.in-Some.next (subst (λ (o : Option kept.Kept). MatchOption o (Unit {0}) (IsKept c.args.plan.now)) c.in-Some.is c.in_ok-next.ensures.kept)
 
 pub returns-in-None-clause-tried : goal.returns-in-None-clause-tried
 returns-in-None-clause-tried c = λ p at may.
     let plan = c.args.plan.now in
     let rs = c.args.self.now.reached.items in
-    let one = c.index.result.now in
-    let there = there_at rs c.args.place one c.requires.place c.index.ensures in
-    let at0 = is_at plan.layout rs c.args.place one c.requires.place c.index.ensures in
-    let p0 = position_in plan.layout one.kept in
+    let at0 = c.requires.at in
+    let p0 = position_in plan.layout c.args.kept.now in
     let e = c.args.event in
     let true0 = subst (λ (o : Option kept.Kept). MatchOption o (is_nothing (happens p0.state e).note ≡ true) (λ k. is_nothing (happens p0.state e).note ≡ false)) c.in-None.is c.in_ok-next.ensures.nothing in
     let nothing : is_nothing (happens p.state e).note ≡ true = ap (λ (z : Position). is_nothing (happens z.state e).note) (at_once plan.layout rs c.args.place p p0 at at0) ∙ true0 in
@@ -31,10 +34,8 @@ pub returns-then-branch-clause-reached : goal.returns-then-branch-clause-reached
 returns-then-branch-clause-reached c =
     let plan = c.args.plan.now in
     let rs = c.args.self.now.reached.items in
-    let one = c.index.result.now in
-    let there = there_at rs c.args.place one c.requires.place c.index.ensures in
-    let at0 = is_at plan.layout rs c.args.place one c.requires.place c.index.ensures in
-    let p0 = position_in plan.layout one.kept in
+    let at0 = c.requires.at in
+    let p0 = position_in plan.layout c.args.kept.now in
     let e = c.args.event in
     let false0 = subst (λ (o : Option kept.Kept). MatchOption o (is_nothing (happens p0.state e).note ≡ true) (λ k. is_nothing (happens p0.state e).note ≡ false)) c.in-Some.is c.in_ok-next.ensures.nothing in
     let after0 = subst (λ (o : Option kept.Kept). MatchOption o (Unit {0}) (λ k. position_in plan.layout k ≡ after plan p0 e)) c.in-Some.is c.in_ok-next.ensures.after in
@@ -45,10 +46,8 @@ pub returns-else-branch-clause-reached : goal.returns-else-branch-clause-reached
 returns-else-branch-clause-reached c =
     let plan = c.args.plan.now in
     let rs = c.args.self.now.reached.items in
-    let one = c.index.result.now in
-    let there = there_at rs c.args.place one c.requires.place c.index.ensures in
-    let at0 = is_at plan.layout rs c.args.place one c.requires.place c.index.ensures in
-    let p0 = position_in plan.layout one.kept in
+    let at0 = c.requires.at in
+    let p0 = position_in plan.layout c.args.kept.now in
     let e = c.args.event in
     let false0 = subst (λ (o : Option kept.Kept). MatchOption o (is_nothing (happens p0.state e).note ≡ true) (λ k. is_nothing (happens p0.state e).note ≡ false)) c.in-Some.is c.in_ok-next.ensures.nothing in
     let after0 = subst (λ (o : Option kept.Kept). MatchOption o (Unit {0}) (λ k. position_in plan.layout k ≡ after plan p0 e)) c.in-Some.is c.in_ok-next.ensures.after in
@@ -59,10 +58,8 @@ pub returns-then-branch-clause-tried : goal.returns-then-branch-clause-tried
 returns-then-branch-clause-tried c = λ p at.
     let plan = c.args.plan.now in
     let rs = c.args.self.now.reached.items in
-    let one = c.index.result.now in
-    let there = there_at rs c.args.place one c.requires.place c.index.ensures in
-    let at0 = is_at plan.layout rs c.args.place one c.requires.place c.index.ensures in
-    let p0 = position_in plan.layout one.kept in
+    let at0 = c.requires.at in
+    let p0 = position_in plan.layout c.args.kept.now in
     let e = c.args.event in
     let false0 = subst (λ (o : Option kept.Kept). MatchOption o (is_nothing (happens p0.state e).note ≡ true) (λ k. is_nothing (happens p0.state e).note ≡ false)) c.in-Some.is c.in_ok-next.ensures.nothing in
     let after0 = subst (λ (o : Option kept.Kept). MatchOption o (Unit {0}) (λ k. position_in plan.layout k ≡ after plan p0 e)) c.in-Some.is c.in_ok-next.ensures.after in
@@ -75,10 +72,8 @@ pub returns-else-branch-clause-tried : goal.returns-else-branch-clause-tried
 returns-else-branch-clause-tried c = λ p at.
     let plan = c.args.plan.now in
     let rs = c.args.self.now.reached.items in
-    let one = c.index.result.now in
-    let there = there_at rs c.args.place one c.requires.place c.index.ensures in
-    let at0 = is_at plan.layout rs c.args.place one c.requires.place c.index.ensures in
-    let p0 = position_in plan.layout one.kept in
+    let at0 = c.requires.at in
+    let p0 = position_in plan.layout c.args.kept.now in
     let e = c.args.event in
     let false0 = subst (λ (o : Option kept.Kept). MatchOption o (is_nothing (happens p0.state e).note ≡ true) (λ k. is_nothing (happens p0.state e).note ≡ false)) c.in-Some.is c.in_ok-next.ensures.nothing in
     let after0 = subst (λ (o : Option kept.Kept). MatchOption o (Unit {0}) (λ k. position_in plan.layout k ≡ after plan p0 e)) c.in-Some.is c.in_ok-next.ensures.after in
