@@ -1,5 +1,5 @@
-"""The table of crates/slots, row by row: `made` of specs/Table.antt, `reply` of specs/Replies.antt and `manner` of
-specs/Stores.antt, as antt.py reads them, and what they need of a state.
+"""The table of crates/slots, row by row: `made` of specs/Table.antt, `reply` of specs/Replies.antt, `overdue_after` of
+specs/Runs.antt and `manner` of specs/Stores.antt, as antt.py reads them, and what they need of a state.
 
 A state has one mutex of the library, whose cell and slot are the machine's mutexes 0 and 1; two entries of the C
 library on the thread's list; and one condition variable. Each address is its place. Thread SELF makes the accesses.
@@ -26,6 +26,7 @@ class Table:
         self.reply = load("slots", "Replies").value("reply")
         self.manner = load("slots", "Stores").value("manner")
         self.lapse_row = load("slots", "Runs").value("lapse_row")
+        self.overdue_after = load("slots", "Runs").value("overdue_after")
         self.may_call = load("slots", "Runs").value("may_call")
         self.most_threads = load("lockword", "Threads").value("most_threads")
         self.answer = load("stepprograms", "Accesses").value("answer_among")
@@ -49,16 +50,16 @@ class Table:
 
     # ---- rows
 
-    def makes(self, row, stage, at, found, woken, time):
-        """The access at a row, the next row and its stage, and the reply if the call ends: for each choice. The access
-        meets this word at this place, where this many sleep; and an heir says this time."""
-        known = (row, stage, at, found, woken, time if row[0] == "HeirSets" else 0)
+    def makes(self, row, stage, overdue, at, found, woken, time):
+        """The access at a row, the next row and its stage, the reply if the call ends, and whether it is overdue then:
+        for each choice. The access meets this word at this place, where this many sleep; and an heir says this time."""
+        known = (row, stage, overdue, at, found, woken, time if row[0] == "HeirSets" else 0)
         if known not in self.known:
             self.known[known] = self.for_each_choice(*known)
         return self.known[known]
 
-    def for_each_choice(self, row, stage, at, found, woken, time):
-        state, asked = self.state(row, stage, at, found, woken), set()
+    def for_each_choice(self, row, stage, overdue, at, found, woken, time):
+        state, asked = self.state(row, stage, overdue, at, found, woken), set()
 
         def choice(name, value):
             return Later(lambda: asked.add(name) or value)
@@ -78,7 +79,8 @@ class Table:
         reply = plain(apply(self.reply, [state, SELF, c, row])) if following == RESTS else ("None",)
         is_along = stage and following[0] == row[0]
         next_stage = self.stepped(stage, state["machine"]) if is_along else self.stage(following)
-        return plain(made["access"]), following, next_stage, reply[1][0] if reply[0] == "Some" else None
+        overdue = force(apply(self.overdue_after, [state, SELF, row]))
+        return plain(made["access"]), following, next_stage, reply[1][0] if reply[0] == "Some" else None, overdue
 
     def made_by(self, row):
         """How the C makes the access at a row."""
@@ -95,7 +97,7 @@ class Table:
 
     # ---- states
 
-    def state(self, row, stage, at, found, woken):
+    def state(self, row, stage, overdue, at, found, woken):
         """Memory shows this word at this place, where this many sleep. The cell is the thread's own if the access is to
         another word, and marked if a wait has seen that."""
         own = SELF + (DIED if row[0] == "WaitCounts" and row[4] else 0)
@@ -113,6 +115,7 @@ class Table:
             turns=lambda k: found // TURN if at == ("cell", "slot")[force(k)] else 0,
             awake=lambda m: is_flagged and at == "slot",
             slept=lambda c: is_flagged and at == "counter",
+            overdue=lambda t: overdue,
         )
 
     # ---- the machine's thread, by hand: where rows begin to go along the list (specs/Stands.antt), and `run`

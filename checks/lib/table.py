@@ -172,9 +172,8 @@ def next_call(call, reply):
 # ---- where both are
 
 # A row that the call may be at; the machine's stage, along the list; what the clock has to say of the deadline before
-# the next access, or None; the reply, at Rests; and of a wait with a deadline the count that it sleeps on, then whether
-# it is late
-At = collections.namedtuple("At", "row stage demand reply late", defaults=(None, None, None, None))
+# the next access, or None; the reply, at Rests; and whether the call is overdue
+At = collections.namedtuple("At", "row stage demand reply overdue", defaults=(None, None, None, False))
 # What an access gives: to the C, and to the table; how many it wakes; and whether a deadline has ended a sleep
 Outcome = collections.namedtuple("Outcome", "result found woken is_late", defaults=(0, 0, False))
 
@@ -187,7 +186,7 @@ class State(collections.namedtuple("State", "rows pending is_late now since slep
     def key(self, a):
         """States with the same key count as one. Their rows and operands may differ in turns, times and in which other
         thread is the owner, and the C in counts of loops, and in times that are between the same two of INTERVALS."""
-        ends = [(it.demand, it.reply, it.late is True) for it in self.rows]
+        ends = [(it.demand, it.reply, it.overdue) for it in self.rows]
         rows = frozenset(zip(((abstract(it.row), it.stage) for it in self.rows), ends))
         place = a.chain, a.kind, a.at, abstract(a.expected), a.named or abstract(a.value)
         elapsed = bisect.bisect(sorted(INTERVALS), self.now - self.since) if is_heir(self.rows) else 0
@@ -244,15 +243,6 @@ def demanded(at, following, found):
     if at.row[0] == "HeirTakes" and at.row[1]["timed"] and not found & FLAG:
         return {"GivesUp": True, "HeirPends": False}.get(following[0])
     return None
-
-
-def late_after(at, outcome):
-    """Of a wait: the count that it sleeps on; and whether the count is still the same after the deadline."""
-    if at.row[0] == "WaitSleeps":
-        return at.row[3]
-    if at.row[0] == "WaitLate":
-        return outcome.found & LOW == at.late
-    return at.late
 
 
 class Comparison:
@@ -341,13 +331,13 @@ class Comparison:
 
     def following(self, at, a, outcome, state):
         """The rows after this access, with each choice that there is; none if it isn't the row's."""
-        made = self.table.makes(at.row, at.stage, a.at, outcome.found, outcome.woken, ticks(state.now))
-        for access, row, stage, reply in made:
+        made = self.table.makes(at.row, at.stage, at.overdue, a.at, outcome.found, outcome.woken, ticks(state.now))
+        for access, row, stage, reply, overdue in made:
             if self.is_same(a, access, at.row, outcome.found):
                 self.rows.add(at.row[0])
                 if outcome.is_late:
                     row = self.table.lapsed(row)
-                yield At(row, stage, demanded(at, row, outcome.found), reply, late_after(at, outcome))
+                yield At(row, stage, demanded(at, row, outcome.found), reply, overdue)
 
     # ---- a step of both
 
@@ -376,8 +366,7 @@ class Comparison:
 
     def ends(self, a, state, path):
         for it in state.rows:
-            name = "ETIMEDOUT" if it.late is True and it.reply == "OK" else it.reply
-            if it.row == RESTS and it.demand in (None, state.is_late) and a.reply == ERRORS.get(name):
+            if it.row == RESTS and it.demand in (None, state.is_late) and a.reply == ERRORS.get(it.reply):
                 return
         self.differs(a, state, path)
 
@@ -390,7 +379,7 @@ class Comparison:
             if it.row == RESTS:
                 line += f": returns {it.reply}"
             else:
-                kind, at, *operands = self.table.makes(it.row, it.stage, a.at, 0, 0, ticks(state.now))[0][0]
+                kind, at, *operands = self.table.makes(it.row, it.stage, it.overdue, a.at, 0, 0, ticks(state.now))[0][0]
                 operands = [self.table.names.get(x, hex(x)) if kind == "Store" else hex(x) for x in operands]
                 if kind == "Wait":
                     operands.append("with a deadline" if is_timed(it.row) else "without a deadline")

@@ -37,7 +37,9 @@ use Rattle.slots.specs.Rows.How.{Tried, Later, Waited}
 use Rattle.slots.specs.Rows.Giving.{OfUnlock, OfWait}
 use Rattle.slots.specs.Shown.{Slots, shown}
 use Rattle.slots.specs.Stands.{HasChosen, IsAtWords, IsGiving, IsIn, IsRetaking, IsToLook, IsToSleep, IsWaking, StandsAs}
-use Rattle.slots.specs.Table.{Made, again_events, made, makes, marked_events, marked_row, missed, seen_events, seen_row, taken_word, wait_of, waiting_word}
+use Rattle.slots.specs.Words.{taken_word, waiting_word}
+use Rattle.slots.specs.Seen.{again_events, seen_events, seen_row, wait_of}
+use Rattle.slots.specs.Table.{Made, made, makes, marked_events, marked_row, missed}
 use Rattle.slots.specs.Accesses.{IsAbout, IsAboutIt}
 use Rattle.slots.specs.Further.{IsOfCell}
 use Rattle.slots.specs.Fits.{Fits, GivesOurs, LocksOurs, MayWakeAll}
@@ -96,7 +98,7 @@ about_it l t (Row.SeesToSleep k) g o there = to_look l g k k.how (waits l g k o.
 about_it l t (Row.Marks k v n) g o there = chosen l g k k.how false v (waits l g k o.0) there
 about_it l t (Row.SleepsOn k v) g o there = to_sleep l g k k.how v (waits l g k o.0) there
 about_it l t (Row.Asleep k) g o there = to_look l g k k.how (waits l g k o.0) there
-about_it l t (Row.WaitAsleep m k timed) g o there = retaking l m g k _ there o.cell
+about_it l t (Row.WaitAsleep m k n timed) g o there = retaking l m g k _ there o.cell
 about_it l t (Row.WakesAll m r) g o there = o
 about_it l t (Row.HandsOn m y is) g o there = waking l m g y o there
 about_it l t (Row.LooksBack m y is) g o there = waking l m g y o there

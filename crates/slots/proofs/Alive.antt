@@ -86,10 +86,10 @@ module _ (g : Stage) where
   standing_lives (Row.Asleep k) there = to_look k k.how there
   standing_lives (Row.Late k) there = through k.mutex Later there
   standing_lives (Row.LateSees k) there = through k.mutex Later there
-  standing_lives (Row.WakesAll m r) (inl there) = taking m _ there
-  standing_lives (Row.WakesAll m r) (inr there) = in_call _ _ there
+  standing_lives (Row.WakesAll m r) (inl (there, same)) = taking m _ there
+  standing_lives (Row.WakesAll m r) (inr (there, same)) = in_call _ _ there
   standing_lives (Row.Links m r) (u, there) = taking m _ there
-  standing_lives (Row.Clears m r) (c, p, x, is, phase) = ap is_alive is
+  standing_lives (Row.Clears m r) (c, p, x, is, phase, same) = ap is_alive is
   standing_lives (Row.SlotPends k v) there = through k.mutex k.how there
   standing_lives (Row.SlotTakes k v) there = in_call _ _ there
   standing_lives (Row.SlotLeft k) (inl there) = in_call _ _ there
@@ -121,8 +121,8 @@ module _ (g : Stage) where
   standing_lives (Row.Trims m is) there = in_call _ _ there
   standing_lives (Row.WaitSets m k n timed) there = at_words _ _ there
   standing_lives (Row.WaitSleeps m k n timed) there = at_words _ _ there
-  standing_lives (Row.WaitAsleep m k timed) there = retaking k _ there
-  standing_lives (Row.WaitLate m k) there = retaking k _ there
+  standing_lives (Row.WaitAsleep m k n timed) there = retaking k _ there
+  standing_lives (Row.WaitLate m k n) there = retaking k _ there
   standing_lives (Row.CountWakes m k n) there = at_words _ _ there
   standing_lives (Row.AllMarks m k n) (seen, same, there) = at_words _ _ there
   standing_lives (Row.AllMoves m k n) (seen, same, there) = at_words _ _ there

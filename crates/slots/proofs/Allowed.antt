@@ -30,7 +30,7 @@ use Rattle.slots.specs.Rows.Before.{Linked, Mended, Again}
 use Rattle.slots.specs.Rows.Giving.{OfUnlock, OfWait}
 use Rattle.slots.specs.Rows.Then.{ToSleep, ToSlot}
 use Rattle.slots.specs.Shown.{Slots}
-use Rattle.slots.specs.Table.{is_free}
+use Rattle.slots.specs.Words.{is_free}
 use Rattle.slots.specs.Invariant.{fields_at}
 use Rattle.slots.specs.Laws.{IsReached}
 use Rattle.slots.specs.Accesses.{Owns}

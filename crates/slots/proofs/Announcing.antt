@@ -37,7 +37,8 @@ use Rattle.slots.specs.Rows.How.{Tried, Later, Waited}
 use Rattle.slots.specs.Rows.Before.{Linked, Mended}
 use Rattle.slots.specs.Shown.{Slots, after, memory, turned, turned_by}
 use Rattle.slots.specs.Stands.{StandsAs, IsThrough}
-use Rattle.slots.specs.Table.{made, begins, begins_behind}
+use Rattle.slots.specs.Seen.{begins, begins_behind}
+use Rattle.slots.specs.Table.{made}
 use Rattle.slots.specs.Runs.{awake_after, slept_after, turns_after}
 use Rattle.slots.specs.Accesses.{IsAtRow, IsAnnouncing, AnnouncingRowsAreEvents}
 use Rattle.slots.proofs.Free.{reached_kept}

@@ -62,7 +62,7 @@ sees_sleep t c usable other some waits = grind (arith)
 sees_none : (t : ℕ) (c : Fields) → c.unusable ≡ false → (c.owner == t) ≡ false → (c.owner == 0) ≡ false → c.waiters ≡ false → lock_sees t c ≡ goes (Lock (lock.SetWaiters c))
 sees_none t c usable other some waits = grind (arith)
 
-stands_last : (t : ℕ) (q : List ℕ) → stands_in t (q ++ t ∷ []) ≡ true
+pub stands_last : (t : ℕ) (q : List ℕ) → stands_in t (q ++ t ∷ []) ≡ true
 stands_last t [] = first_stands t []
 stands_last t (u ∷ us) = grind (arith, stands_last t us)
 

@@ -44,8 +44,10 @@ use Rattle.slots.specs.Places.{cell_of, slot_of}
 use Rattle.slots.specs.Rows.{Choice, Row}
 use Rattle.slots.specs.Rows.Giving.{OfUnlock}
 use Rattle.slots.specs.Shown.{Slots, shown}
+use Rattle.slots.specs.Stands.RepliesAs.{Same}
 use Rattle.slots.specs.Stands.{IsAtWords, IsIn, IsRetaking, StandsAs, at_load}
-use Rattle.slots.specs.Table.{Made, counted, counted_row, count_begins, frees, giving_begins, makes, wait_of, woke_row}
+use Rattle.slots.specs.Seen.{frees, wait_of}
+use Rattle.slots.specs.Table.{Made, counted, counted_row, count_begins, giving_begins, makes, woke_row}
 use Rattle.slots.specs.Invariant.{fields_at}
 use Rattle.slots.specs.Accesses.{IsAtRow}
 use Rattle.slots.specs.Each.{IsToRemake}
@@ -154,7 +156,7 @@ module _ (x : Slots) (t : ℕ) (c : Choice) (at : IsAtRow x t) where
           refl there tt (put_back z.words spot) (ap (λ (d : Bool). put z.queues spot (if d then z.queues spot ++ t ∷ [] else z.queues spot)) e) (leads (z.words spot % 2 ^ 32 == n)) refl (unmoved (acts_as o) h) (all_still z z.words)
 
       go : (b : Bool) → (z.words spot % 2 ^ 32 == n) ≡ b → IsRetaking k at_load ((run z (Step t ∷ [])).threads t).stage
-      go b e = led (Step t ∷ []) _ _ _ (Row.WaitAsleep m k timed) (slept b e) (o, lock, refl, of, acts, refl)
+      go b e = led (Step t ∷ []) _ _ _ (Row.WaitAsleep m k n timed) (slept b e) (o, lock, refl, of, acts, refl)
 
   pub wait_sleeps_lead : (m k n : ℕ) (timed : Bool) → IsAtWords (wait_of k timed) (cond_row.Wait (wait.Sleep n)) g → LeadsOn x t c (Row.WaitSleeps m k n timed)
   wait_sleeps_lead m k n true (p, is, phase) = wait_sleeps_so m k n true (wait_of k true) refl refl (is_at_word z t (wait_of k true) p _ inv at.first at.last is phase)
@@ -206,4 +208,4 @@ module _ (x : Slots) (t : ℕ) (c : Choice) (at : IsAtRow x t) where
       go [] none = subst (λ (us : List ℕ). StandsAs (if is_nobody us then Row.Trims m is else Row.Clears m OK) ((run z (Step t ∷ [])).threads t).stage) (sym none)
           (led (Step t ∷ []) _ _ _ (Row.Trims m is) (woken (AtCell (mutex_row.Unlock unlock.Trim)) (ap (λ (us : List ℕ). whole_led (call_at z.layout t operation.Unlock (cell_of m) (AtCell (mutex_row.Unlock (unlock.Wake false)))) (Count (length (take 1 us)))) none) refl) (call_at z.layout t operation.Unlock (cell_of m) (AtCell (mutex_row.Unlock unlock.Trim)), refl, refl))
       go (u ∷ us) some = subst (λ (vs : List ℕ). StandsAs (if is_nobody vs then Row.Trims m is else Row.Clears m OK) ((run z (Step t ∷ [])).threads t).stage) (sym some)
-          (led (Step t ∷ []) _ _ _ (Row.Clears m OK) (woken (Clearing OK) (ap (λ (vs : List ℕ). whole_led (call_at z.layout t operation.Unlock (cell_of m) (AtCell (mutex_row.Unlock (unlock.Wake false)))) (Count (length (take 1 vs)))) some) refl) (OnMutex (Unlock (cell_of m)), call_at z.layout t operation.Unlock (cell_of m) (Clearing OK), OK, refl, refl))
+          (led (Step t ∷ []) _ _ _ (Row.Clears m OK) (woken (Clearing OK) (ap (λ (vs : List ℕ). whole_led (call_at z.layout t operation.Unlock (cell_of m) (AtCell (mutex_row.Unlock (unlock.Wake false)))) (Count (length (take 1 vs)))) some) refl) (OnMutex (Unlock (cell_of m)), call_at z.layout t operation.Unlock (cell_of m) (Clearing OK), OK, refl, refl, Same refl))

@@ -20,8 +20,12 @@ use Rattle.slots.specs.Rows.Giving.{OfUnlock, OfWait}
 use Rattle.slots.specs.Rows.Onward.{Has, Fails, Sleeps}
 use Rattle.slots.specs.Rows.Then.{ToSleep, ToSlot}
 use Rattle.slots.specs.Shown.{Slots, shown}
-use Rattle.slots.specs.Table.{Made, begins_behind, freed_row, given_row, heir_of, is_free, is_moving, is_on_list, later, made, makes, marked_events, marked_row, missed, on_cell, out_of, owned_row}
-use Rattle.slots.specs.Table.{refused_count, released, seen_events, seen_row, seen_to_sleep, sets_and_expires, shows_heir, shows_slept, sleep_row, taken_word, to_slot, tries, unlinked_row, wait_begins, waiting_word, watched_row, woke_row}
+use Rattle.slots.specs.Words.{is_free, is_moving}
+use Rattle.slots.specs.Seen.{begins_behind, heir_of, later, owned_row}
+use Rattle.slots.specs.Table.{Made, freed_row, given_row, is_on_list, made, makes, marked_events, marked_row, missed, on_cell, out_of}
+use Rattle.slots.specs.Words.{shows_heir, taken_word, waiting_word}
+use Rattle.slots.specs.Seen.{seen_events, seen_row, seen_to_sleep, sets_and_expires, sleep_row}
+use Rattle.slots.specs.Table.{refused_count, released, shows_slept, to_slot, tries, unlinked_row, wait_begins, watched_row, woke_row}
 use Rattle.slots.proofs.Slept.{CountsOn}
 
 module _ (x : Slots) (t : ℕ) (c : Choice) (j : ℕ) (Goal : Type 0) where

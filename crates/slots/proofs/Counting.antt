@@ -37,7 +37,8 @@ use Rattle.slots.specs.Places.{cell_of, counter_at, is_slot, our_own}
 use Rattle.slots.specs.Rows.{Choice, Row}
 use Rattle.slots.specs.Shown.{Slots, after, memory, shown, shown_as}
 use Rattle.slots.specs.Stands.{StandsAs}
-use Rattle.slots.specs.Table.{counted, counted_row, count_begins, finds_row, made, makes, shows_slept, slept_bit}
+use Rattle.slots.specs.Words.{slept_bit}
+use Rattle.slots.specs.Table.{counted, counted_row, count_begins, finds_row, made, makes, shows_slept}
 use Rattle.slots.specs.Rows.Giving.{OfWait}
 use Rattle.slots.specs.Runs.{awake_after, slept_after, turns_after}
 use Rattle.slots.specs.Invariant.{fields_at}

@@ -23,8 +23,12 @@ use Rattle.slots.specs.Rows.Giving.{OfUnlock, OfWait}
 use Rattle.slots.specs.Rows.Onward.{Has, Fails, Sleeps}
 use Rattle.slots.specs.Rows.Then.{ToSleep, ToSlot}
 use Rattle.slots.specs.Shown.{Slots, shown}
-use Rattle.slots.specs.Table.{Made, begins_behind, counted, counted_row, freed_row, given_row, heir_of, is_free, is_moving, is_on_list, later, made, makes, marked_events, marked_row, missed, on_cell, out_of, owned_row}
-use Rattle.slots.specs.Table.{finds_row, refused_count, released, retakes, seen_events, seen_row, seen_to_sleep, sets_and_expires, shows_heir, shows_slept, sleep_row, taken_word, to_slot, tries, unlinked_row, unusable_row, wait_begins, waiting_word, watched_row, woke_row}
+use Rattle.slots.specs.Words.{is_free, is_moving}
+use Rattle.slots.specs.Seen.{begins_behind, heir_of, later, owned_row}
+use Rattle.slots.specs.Table.{Made, counted, counted_row, freed_row, given_row, is_on_list, made, makes, marked_events, marked_row, missed, on_cell, out_of}
+use Rattle.slots.specs.Words.{shows_heir, taken_word, waiting_word}
+use Rattle.slots.specs.Seen.{retakes, seen_events, seen_row, seen_to_sleep, sets_and_expires, sleep_row, unusable_row}
+use Rattle.slots.specs.Table.{finds_row, refused_count, released, shows_slept, to_slot, tries, unlinked_row, wait_begins, watched_row, woke_row}
 use Rattle.slots.specs.Fits.{Fits}
 use Rattle.slots.specs.Runs.{is_first, is_ours, lapse_row}
 use Rattle.slots.specs.Replies.{CallsBeginUndecided, DecidesOnce, Deed, GoesOn, IsCalled, IsItsOwn, MayDo, Progress, after_deed, counts_as, decided, deed, gave, late, lock_progress, locks, looked, looked_first, looked_to_sleep, progress, refused_or, tried}
@@ -318,9 +322,9 @@ module _ (x : Slots) (t : ℕ) (c : Choice) where
   one_row (Row.WaitCounts m k timed died) g o = two (Row.WaitCounts m k timed died) died (Decides (decided t m op.Wait XSTATE)) Nothing (makes (Access.Load (address_in l t (counter_place l k))) (wait_begins x t c k timed) Row.Rests) (makes (Access.Load (address_in l t (counter_place l k))) [] (Row.GivePends m (OfWait k (shown x (counter_place l k) % 4294967296) (shows_slept x t c (shown x (counter_place l k))) timed)))
       (does (Row.WaitCounts m k timed died) (Decides (decided t m op.Wait XSTATE)) Row.Rests refl (refl, refl) tt) (quiet (Row.WaitCounts m k timed died) (Row.GivePends m (OfWait k (shown x (counter_place l k) % 4294967296) (shows_slept x t c (shown x (counter_place l k))) timed)) (refl, refl))
   one_row (Row.WaitSets m k n timed) g o = finds_one (Row.WaitSets m k n timed) m (OfWait k n true timed) refl refl
-  one_row (Row.WaitSleeps m k n timed) g o = quiet (Row.WaitSleeps m k n timed) (Row.WaitAsleep m k timed) (refl, refl)
-  one_row (Row.WaitAsleep m k timed) g o = quiet (Row.WaitAsleep m k timed) (Row.Sees (retakes m k)) (refl, refl)
-  one_row (Row.WaitLate m k) g o = quiet (Row.WaitLate m k) (Row.WaitAsleep m k false) (refl, refl)
+  one_row (Row.WaitSleeps m k n timed) g o = quiet (Row.WaitSleeps m k n timed) (Row.WaitAsleep m k n timed) (refl, refl)
+  one_row (Row.WaitAsleep m k n timed) g o = quiet (Row.WaitAsleep m k n timed) (Row.Sees (retakes m k)) (refl, refl)
+  one_row (Row.WaitLate m k n) g o = quiet (Row.WaitLate m k n) (Row.WaitAsleep m k n false) (refl, refl)
   one_row (Row.CountLooks m k all) g o = two (Row.CountLooks m k all) ((fields_of (cell m)).owner == t) Nothing (Decides (decided t m (counts_as all) EPERM)) (makes (Access.Load (at (cell_of m))) [] (Row.CountLoads m k all)) (makes (Access.Load (at (cell_of m))) (refused_count x t c k all) Row.Rests)
       (quiet (Row.CountLooks m k all) (Row.CountLoads m k all) (refl, refl)) (does (Row.CountLooks m k all) (Decides (decided t m (counts_as all) EPERM)) Row.Rests (may_count all m EPERM) (refl, refl) tt)
   one_row (Row.CountLoads m k all) g o = quiet (Row.CountLoads m k all) (Row.Counts m k all (shown x (counter_place l k))) (refl, refl)
@@ -336,8 +340,8 @@ module _ (x : Slots) (t : ℕ) (c : Choice) where
       go : (b : Bool) → k.timed ≡ b → (progress (if b then Row.Late k else Row.Asleep k) ≡ lock_progress k.how) × (about (if b then Row.Late k else Row.Asleep k) ≡ k.mutex)
       go true e = (sym (ap lock_progress (o.1 e)), refl)
       go false e = (refl, refl)
-  lapses_one (Row.WaitAsleep m k true) g o = (refl, refl)
-  lapses_one (Row.WaitAsleep m k false) g o = (refl, refl)
+  lapses_one (Row.WaitAsleep m k n true) g o = (refl, refl)
+  lapses_one (Row.WaitAsleep m k n false) g o = (refl, refl)
   lapses_one r g o = (refl, refl)
 
   pub decides_once : (g : Stage) → Fits l t (x.rows t) g → DecidesOnce x t c (x.rows t)

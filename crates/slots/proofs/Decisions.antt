@@ -31,7 +31,9 @@ use Rattle.slots.specs.Rows.Before.{Again}
 use Rattle.slots.specs.Shown.{Slots, shown}
 use Rattle.slots.specs.Rows.{Then}
 use Rattle.slots.specs.Stands.{HasChosen, IsIn, IsThrough, IsToLook, StandsAs, at_load}
-use Rattle.slots.specs.Table.{Made, again_events, begins_behind, expires, is_free, later, made, makes, marked_events, marked_row, missed, out_of, seen_events, seen_row, seen_to_sleep, taken_word, waiting_word}
+use Rattle.slots.specs.Words.{is_free, taken_word, waiting_word}
+use Rattle.slots.specs.Seen.{again_events, begins_behind, expires, later, seen_events, seen_row, seen_to_sleep}
+use Rattle.slots.specs.Table.{Made, made, makes, marked_events, marked_row, missed, out_of}
 use Rattle.slots.specs.Accesses.{IsAbout, IsAboutIt, IsAtRow}
 use Rattle.slots.specs.Further.{FindsOther, GoesToSlot, IsDeciding, MayTake, DecidingLooksAreEvents}
 use Rattle.slots.proofs.Chains.{Comes, again_more, gives_up_more, looks_more}

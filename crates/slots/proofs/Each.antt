@@ -14,7 +14,9 @@ use Rattle.slots.specs.Rows.{Choice, Row}
 use Rattle.slots.specs.Rows.Before.{Linked, Mended, Again}
 use Rattle.slots.specs.Shown.{Slots, shown}
 use Rattle.slots.specs.Stands.{StandsAs}
-use Rattle.slots.specs.Table.{is_free, made, makes, out_of, sets_and_expires, taken_word, waiting_word, watched_row}
+use Rattle.slots.specs.Words.{is_free, taken_word, waiting_word}
+use Rattle.slots.specs.Seen.{sets_and_expires}
+use Rattle.slots.specs.Table.{made, makes, out_of, watched_row}
 use Rattle.slots.specs.Invariant.{fields_at}
 use Rattle.slots.specs.Accesses.{Finds, IsAboutIt, IsAtRow}
 use Rattle.slots.specs.Each.{Assumes, EachAccessIsEvents, IsToMark, IsToTake, IsToTakeSlot}
@@ -174,8 +176,8 @@ module _ (x : Slots) (t : ℕ) (c : Choice) (at : IsAtRow x t) where
   each_row (Row.WaitCounts m k timed died) there about a = first_row x t c at (Row.WaitCounts m k timed died) there a
   each_row (Row.WaitSets m k n timed) there about a = count_row x t c at (Row.WaitSets m k n timed) there a
   each_row (Row.WaitSleeps m k n timed) there about a = sleep_row x t c at (Row.WaitSleeps m k n timed) there about tt
-  each_row (Row.WaitAsleep m k timed) there about a = again_row x t c at (Row.WaitAsleep m k timed) there about tt
-  each_row (Row.WaitLate m k) there about a = load_so (Row.WaitLate m k) (made x t c (Row.WaitLate m k)).next (counter_in z.layout t k) (record { awake = λ a. refl; slept = λ a. refl; turns = λ d a. refl })
+  each_row (Row.WaitAsleep m k n timed) there about a = again_row x t c at (Row.WaitAsleep m k n timed) there about tt
+  each_row (Row.WaitLate m k n) there about a = load_so (Row.WaitLate m k n) (made x t c (Row.WaitLate m k n)).next (counter_in z.layout t k) (record { awake = λ a. refl; slept = λ a. refl; turns = λ d a. refl })
   each_row (Row.CountLooks m k all) there about a = first_row x t c at (Row.CountLooks m k all) there a
   each_row (Row.CountLoads m k all) there about a = load_so (Row.CountLoads m k all) (made x t c (Row.CountLoads m k all)).next (counter_in z.layout t k) (record { awake = λ a. refl; slept = λ a. refl; turns = λ d a. refl })
   each_row (Row.Counts m k all n) there about a = count_row x t c at (Row.Counts m k all n) there a

@@ -55,7 +55,9 @@ use Rattle.slots.specs.Rows.{Choice, Row, Taking}
 use Rattle.slots.specs.Rows.Giving.{OfUnlock, OfWait}
 use Rattle.slots.specs.Shown.{Slots, shown}
 use Rattle.slots.specs.Stands.{StandsAs}
-use Rattle.slots.specs.Table.{Made, begins, is_free, makes, refused_count, wait_begins, wait_of}
+use Rattle.slots.specs.Words.{is_free}
+use Rattle.slots.specs.Seen.{begins, wait_of}
+use Rattle.slots.specs.Table.{Made, makes, refused_count, wait_begins}
 use Rattle.slots.specs.Invariant.{fields_at}
 use Rattle.slots.specs.Accesses.{IsAtRow}
 use Rattle.slots.specs.Further.{IsOfCell, OwnsInside}
@@ -66,25 +68,25 @@ use Rattle.slots.proofs.Meets.{cell_says}
 use Rattle.slots.proofs.Refusals.{no_try, own_lock}
 use Rattle.slots.proofs.Releasing as releasing
 
-other_unlock : (t : ℕ) (c : Fields) → (c.owner == t) ≡ false → unlock_sees t c ≡ ends EPERM
+pub other_unlock : (t : ℕ) (c : Fields) → (c.owner == t) ≡ false → unlock_sees t c ≡ ends EPERM
 other_unlock t c other = grind (arith)
 
-other_mends : (t : ℕ) (c : Fields) → (c.owner == t) ≡ false → consistent_sees t c ≡ ends EPERM
+pub other_mends : (t : ℕ) (c : Fields) → (c.owner == t) ≡ false → consistent_sees t c ≡ ends EPERM
 other_mends t c other = grind (arith)
 
-none_mends : (t : ℕ) (c : Fields) → (c.owner == t) ≡ true → c.died ≡ false → consistent_sees t c ≡ ends EINVAL
+pub none_mends : (t : ℕ) (c : Fields) → (c.owner == t) ≡ true → c.died ≡ false → consistent_sees t c ≡ ends EINVAL
 none_mends t c own well = grind (arith)
 
-other_waits : (t : ℕ) (c : Fields) → (c.owner == t) ≡ false → wait_sees t c ≡ rows.ends operation.Wait EPERM
+pub other_waits : (t : ℕ) (c : Fields) → (c.owner == t) ≡ false → wait_sees t c ≡ rows.ends operation.Wait EPERM
 other_waits t c other = grind (arith)
 
-marked_waits : (t : ℕ) (c : Fields) → (c.owner == t) ≡ true → c.died ≡ true → wait_sees t c ≡ rows.ends operation.Wait XSTATE
+pub marked_waits : (t : ℕ) (c : Fields) → (c.owner == t) ≡ true → c.died ≡ true → wait_sees t c ≡ rows.ends operation.Wait XSTATE
 marked_waits t c own died = grind (arith)
 
-other_signals : (t : ℕ) (c : Fields) → (c.owner == t) ≡ false → signal_sees t c ≡ rows.ends operation.Signal EPERM
+pub other_signals : (t : ℕ) (c : Fields) → (c.owner == t) ≡ false → signal_sees t c ≡ rows.ends operation.Signal EPERM
 other_signals t c other = grind (arith)
 
-other_broadcasts : (t : ℕ) (c : Fields) → (c.owner == t) ≡ false → broadcast_sees t c ≡ rows.ends operation.Broadcast EPERM
+pub other_broadcasts : (t : ℕ) (c : Fields) → (c.owner == t) ≡ false → broadcast_sees t c ≡ rows.ends operation.Broadcast EPERM
 other_broadcasts t c other = grind (arith)
 
 module _ (x : Slots) (t : ℕ) (c : Choice) (at : IsAtRow x t) where
@@ -123,14 +125,14 @@ module _ (x : Slots) (t : ℕ) (c : Choice) (at : IsAtRow x t) where
   pub looks_lead : (k : Taking) → g ≡ Idle → cell_of k.mutex < z.layout.mutexes → h < 2048 → LeadsOn x t c (Row.Looks k)
   looks_lead k is inside room = by_test Lead ((fields_of (word k.mutex)).owner == t)
       (makes (Access.Load (cell_in z.layout t (cell_of k.mutex))) (begins t (call.TimedLock (cell_of k.mutex)) ++ Step t ∷ Step t ∷ []) Row.Rests) (makes (Access.Load (cell_in z.layout t (cell_of k.mutex))) [] (Row.Pends k (word k.mutex)))
-      (λ own. idles _ (own_lock x t c at k.mutex is inside room (sym (cell_says x k.mutex inside).owner ∙ eqb-true (fields_of (word k.mutex)).owner t own)))
+      (λ own. idles _ (own_lock x t c at k.mutex is inside room (sym (cell_says x k.mutex inside).owner ∙ eqb-true (fields_of (word k.mutex)).owner t own)).leads)
       (λ other. is)
 
   pub try_looks_lead : (m : ℕ) → g ≡ Idle → cell_of m < z.layout.mutexes → h < 2048 → LeadsOn x t c (Row.TryLooks m)
   try_looks_lead m is inside room = by_test Lead (is_free (word m))
       (makes (Access.Load (cell_in z.layout t (cell_of m))) [] (Row.TryPends m (word m))) (makes (Access.Load (cell_in z.layout t (cell_of m))) (begins t (call.TryLock (cell_of m)) ++ Step t ∷ Step t ∷ []) Row.Rests)
       (λ free. is)
-      (λ taken. idles _ (no_try x t c at m is inside room ((λ i. (sym (cell_says x m inside).owner i == 0) && not (sym (cell_says x m inside).unusable i)) ∙ taken)))
+      (λ taken. idles _ (no_try x t c at m is inside room ((λ i. (sym (cell_says x m inside).owner i == 0) && not (sym (cell_says x m inside).unusable i)) ∙ taken)).leads)
 
   pub give_looks_lead : (m : ℕ) → g ≡ Idle → cell_of m < z.layout.mutexes → LeadsOn x t c (Row.GiveLooks m)
   give_looks_lead m is inside = by_test Lead ((fields_of (word m)).owner == t)

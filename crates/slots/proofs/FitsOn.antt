@@ -24,8 +24,12 @@ use Rattle.slots.specs.Rows.Onward.{Has, Fails, Sleeps}
 use Rattle.slots.specs.Rows.Then.{ToSleep, ToSlot}
 use Rattle.slots.specs.Rows.Giving.{OfUnlock, OfWait}
 use Rattle.slots.specs.Shown.{Slots, shown}
-use Rattle.slots.specs.Table.{Made, begins_behind, counted, counted_row, freed_row, given_row, goes_along, hands_row, heir_of, is_free, is_moving, is_on_list, later, made, makes, marked_events, marked_row, missed, on_cell, out_of, owned_row}
-use Rattle.slots.specs.Table.{refused_count, released, retakes, seen_events, seen_row, seen_to_sleep, sets_and_expires, shows_heir, shows_slept, sleep_row, taken_word, to_slot, tries, unlinked_row, wait_begins, waiting_word, watched_row, woke_row}
+use Rattle.slots.specs.Words.{is_free, is_moving}
+use Rattle.slots.specs.Seen.{begins_behind, heir_of, later, owned_row}
+use Rattle.slots.specs.Table.{Made, counted, counted_row, freed_row, given_row, goes_along, hands_row, is_on_list, made, makes, marked_events, marked_row, missed, on_cell, out_of}
+use Rattle.slots.specs.Words.{shows_heir, taken_word, waiting_word}
+use Rattle.slots.specs.Seen.{retakes, seen_events, seen_row, seen_to_sleep, sets_and_expires, sleep_row}
+use Rattle.slots.specs.Table.{refused_count, released, shows_slept, to_slot, tries, unlinked_row, wait_begins, watched_row, woke_row}
 use Rattle.slots.specs.Each.{IsToMark}
 use Rattle.slots.specs.Further.{GoesToSlot, SeesAnother}
 use Rattle.slots.specs.Fits.{AreOfUs, Fits, FitsToMark, GivesOurs, IsApart, IsOurs, LocksOurs, MayWakeAll, NextRowsFit, SeesOwned}
@@ -387,8 +391,8 @@ module _ (x : Slots) (t : ℕ) (c : Choice) (g : Stage) where
       (λ e. tt) (λ e. o)
   fits_row (Row.WaitSets m k n timed) was o apart wakes = finds_fits m (OfWait k n true timed) o
   fits_row (Row.WaitSleeps m k n timed) was o apart wakes = o
-  fits_row (Row.WaitAsleep m k timed) was o apart wakes = locks_again l m k o
-  fits_row (Row.WaitLate m k) was o apart wakes = o
+  fits_row (Row.WaitAsleep m k n timed) was o apart wakes = locks_again l m k o
+  fits_row (Row.WaitLate m k n) was o apart wakes = o
   fits_row (Row.CountLooks m k all) was o apart wakes = by_test Then_fits ((fields_of (word m)).owner == t)
       (makes (Access.Load (cell_at m)) [] (Row.CountLoads m k all)) (makes (Access.Load (cell_at m)) (refused_count x t c k all) Row.Rests)
       (λ e. o) (λ e. tt)

@@ -13,7 +13,8 @@ use Rattle.protocol.proofs.Seeing.{cell_in, cell_again}
 use Rattle.slots.specs.Places.{is_slot, our_own, slot_of}
 use Rattle.slots.specs.Rows.{Choice, Row, Taking}
 use Rattle.slots.specs.Shown.{Slots, after, memory, shown, shown_mutex}
-use Rattle.slots.specs.Table.{made, awake_word}
+use Rattle.slots.specs.Words.{awake_word}
+use Rattle.slots.specs.Table.{made}
 use Rattle.slots.specs.Runs.{awake_after, slept_after, turns_after}
 use Rattle.slots.specs.Accesses.{IsInLayout, AwakeIsSet, AwakeIsCleared, IsQuieting}
 use Rattle.slots.proofs.Free.{reached_kept}

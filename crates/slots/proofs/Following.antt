@@ -125,8 +125,8 @@ module _ (x : Slots) (t : ℕ) (pos : 1 ≤ t) (known : t ≤ x.machine.layout.t
     where
       of_row : (r : Row) → Fits z.layout t r g → KnowsItsTurn x r → KnowsItsTurn (at_row (after x (lapse_events x t r)) t (lapse_row r)) (lapse_row r)
       of_row (Row.Asleep k) o h = by_test (KnowsItsTurn (at_row (after x (lapse_events x t (Row.Asleep k))) t (lapse_row (Row.Asleep k)))) k.timed (Row.Late k) (Row.Asleep k) (λ e. tt) (λ e. tt)
-      of_row (Row.WaitAsleep m k true) o h = tt
-      of_row (Row.WaitAsleep m k false) o h = tt
+      of_row (Row.WaitAsleep m k n true) o h = tt
+      of_row (Row.WaitAsleep m k n false) o h = tt
       of_row r o h = turn_like (after x []) (at_row (after x []) t r) refl (λ m. refl) r (turn_after x [] t r g s.reached o h)
 
   die_turns : Turns (next x (Dies t))
@@ -202,8 +202,8 @@ module _ (x : Slots) (t : ℕ) (pos : 1 ≤ t) (known : t ≤ x.machine.layout.t
     where
       of_row : (r : Row) → SeesCount x r → SeesCount (at_row (after x (lapse_events x t r)) t (lapse_row r)) (lapse_row r)
       of_row (Row.Asleep k) h = by_test (SeesCount (at_row (after x (lapse_events x t (Row.Asleep k))) t (lapse_row (Row.Asleep k)))) k.timed (Row.Late k) (Row.Asleep k) (λ e. tt) (λ e. tt)
-      of_row (Row.WaitAsleep m k true) h = tt
-      of_row (Row.WaitAsleep m k false) h = tt
+      of_row (Row.WaitAsleep m k n true) h = tt
+      of_row (Row.WaitAsleep m k n false) h = tt
       of_row r h = h
 
   die_sees : Sees (next x (Dies t))

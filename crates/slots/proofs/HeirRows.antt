@@ -17,7 +17,8 @@ use Rattle.slots.specs.Places.{cell_of, our_own}
 use Rattle.slots.specs.Rows.{Taking, Row}
 use Rattle.slots.specs.Rows.Before.{Again}
 use Rattle.slots.specs.Shown.{shown}
-use Rattle.slots.specs.Table.{is_free, made}
+use Rattle.slots.specs.Words.{is_free}
+use Rattle.slots.specs.Table.{made}
 use Rattle.slots.specs.Invariant.{IsHeir, fields_at}
 use Rattle.slots.specs.Invariant.IsHeir.{Looks, HasTaken}
 use Rattle.slots.specs.Moments.{IsAtLock, HasTakenIt, HeirsGoOn}

@@ -27,9 +27,15 @@ use Rattle.slots.specs.Rows.Giving.{OfUnlock, OfWait}
 use Rattle.slots.specs.Rows.Onward.{Has, Fails, Sleeps}
 use Rattle.slots.specs.Rows.Then.{ToSleep, ToSlot}
 use Rattle.slots.specs.Shown.{Slots, memory, shown}
-use Rattle.slots.specs.Table.{Made, freed_row, is_free, is_moving, is_on_list, later, made, makes, marked_events, marked_row, missed, on_cell, out_of, owned_row}
-use Rattle.slots.specs.Table.{counted, counted_row, given_row, heir_of, refused_count, released, shows_heir, shows_slept, unlinked_row, wait_begins, woke_row}
-use Rattle.slots.specs.Table.{seen_events, seen_row, seen_to_sleep, sets_and_expires, sleep_row, taken_word, to_slot, tries, waiting_word, watched_row}
+use Rattle.slots.specs.Words.{is_free, is_moving}
+use Rattle.slots.specs.Seen.{later, owned_row}
+use Rattle.slots.specs.Table.{Made, freed_row, is_on_list, made, makes, marked_events, marked_row, missed, on_cell, out_of}
+use Rattle.slots.specs.Words.{shows_heir}
+use Rattle.slots.specs.Seen.{heir_of}
+use Rattle.slots.specs.Table.{counted, counted_row, given_row, refused_count, released, shows_slept, unlinked_row, wait_begins, woke_row}
+use Rattle.slots.specs.Words.{taken_word, waiting_word}
+use Rattle.slots.specs.Seen.{seen_events, seen_row, seen_to_sleep, sets_and_expires, sleep_row}
+use Rattle.slots.specs.Table.{to_slot, tries, watched_row}
 use Rattle.slots.specs.Runs.{is_first, is_ours, may_call}
 use Rattle.slots.specs.Fits.{Fits, IsOurs}
 use Rattle.slots.specs.Accesses.{IsAlongList}

@@ -14,7 +14,9 @@ use Rattle.slots.specs.Rows.Onward.{Fails}
 use Rattle.slots.specs.Rows.{Choice, How, Row, Taking}
 use Rattle.slots.specs.Shown.{Slots, shown}
 use Rattle.slots.specs.Stands.{StandsAs}
-use Rattle.slots.specs.Table.{Made, access_of_stage, made, begins_behind, given_row, heir_of, is_free, later, makes, marked_events, marked_row, missed, on_cell, out_of, refused_count, seen_events, seen_row, sets_and_expires, shows_heir, shows_slept, taken_word, wait_begins, waiting_word, watched_row}
+use Rattle.slots.specs.Words.{is_free, shows_heir, taken_word, waiting_word}
+use Rattle.slots.specs.Seen.{begins_behind, heir_of, later, seen_events, seen_row, sets_and_expires}
+use Rattle.slots.specs.Table.{Made, access_of_stage, made, given_row, makes, marked_events, marked_row, missed, on_cell, out_of, refused_count, shows_slept, wait_begins, watched_row}
 use Rattle.std.specs.Prelude.{if◌then◌else◌, ◌&&◌, ◌-◌}
 use Rattle.stepprograms.specs.declared.access.Access.{Access}
 use Rattle.mutex.specs.Rows.{acquired}
@@ -157,7 +159,7 @@ module _ (x : Slots) (t : ℕ) (c : Choice) (s : Steady x) (pos : 1 ≤ t) (know
   met_row (Row.WaitLooks m k timed) o w sees there meets = two ((fields_of (word (cell_of m))).owner == t) (makes (Access.Load (address_in l t (cell_place l (cell_of m)))) [] (Row.WaitCounts m k timed (fields_of (word (cell_of m))).died)) (makes (Access.Load (address_in l t (cell_place l (cell_of m)))) (wait_begins x t c k timed) Row.Rests) (cell_at m o.ours) (cell_at m o.ours)
   met_row (Row.WaitCounts m k timed died) o w sees there meets = two died (makes (Access.Load (address_in l t (counter_place l k))) (wait_begins x t c k timed) Row.Rests) (makes (Access.Load (address_in l t (counter_place l k))) [] (Row.GivePends m (OfWait k (shown x (counter_place l k) % 4294967296) (shows_slept x t c (shown x (counter_place l k))) timed))) (counter_at_it m k o w.owner) (counter_at_it m k o w.owner)
   met_row (Row.WaitSets m k n timed) o w sees there meets = counter_at_it m k o w.owner
-  met_row (Row.WaitAsleep m k timed) o w sees there meets = own (made x t c (Row.WaitAsleep m k timed)).access (own_row x t c s pos known (Row.WaitAsleep m k timed) o w sees there tt)
+  met_row (Row.WaitAsleep m k n timed) o w sees there meets = own (made x t c (Row.WaitAsleep m k n timed)).access (own_row x t c s pos known (Row.WaitAsleep m k n timed) o w sees there tt)
   met_row (Row.CountLooks m k all) o w sees there meets = two ((fields_of (word (cell_of m))).owner == t) (makes (Access.Load (address_in l t (cell_place l (cell_of m)))) [] (Row.CountLoads m k all)) (makes (Access.Load (address_in l t (cell_place l (cell_of m)))) (refused_count x t c k all) Row.Rests) (cell_at m o.ours) (cell_at m o.ours)
   met_row (Row.CountLoads m k all) o w sees there meets = counter_at_it m k o w
   met_row (Row.Counts m k all n) o w sees there meets = counter_at_it m k o w

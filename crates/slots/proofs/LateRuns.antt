@@ -181,8 +181,8 @@ module _ (x : Slots) (t : ℕ) where
 
   lapse_words : (r : Row) → SameWords x (run x.machine (lapse_events x t r))
   lapse_words (Row.Asleep k) = by_test (λ (es : List Event). SameWords x (run x.machine es)) k.timed (Expire t ∷ []) [] (λ e. expire_words) (λ e. ((λ p. refl), (λ k. refl)))
-  lapse_words (Row.WaitAsleep j k true) = by_test (λ (es : List Event). SameWords x (run x.machine es)) (stands_in t (x.machine.queues (counter_place x.machine.layout k))) (Expire t ∷ []) (Leave t ∷ []) (λ e. expire_words) (λ e. leave_words)
-  lapse_words (Row.WaitAsleep j k false) = ((λ p. refl), (λ k. refl))
+  lapse_words (Row.WaitAsleep j k n true) = by_test (λ (es : List Event). SameWords x (run x.machine es)) (stands_in t (x.machine.queues (counter_place x.machine.layout k))) (Expire t ∷ []) (Leave t ∷ []) (λ e. expire_words) (λ e. leave_words)
+  lapse_words (Row.WaitAsleep j k n false) = ((λ p. refl), (λ k. refl))
   lapse_words r = ((λ p. refl), (λ k. refl))
 
   lapses_words : SameWords x (next x (Lapses t)).machine

@@ -44,8 +44,10 @@ use Rattle.slots.specs.Rows.Onward.{Fails, Has, Sleeps}
 use Rattle.slots.specs.Rows.Giving.{OfUnlock, OfWait}
 use Rattle.slots.specs.Rows.Then.{ToSleep, ToSlot}
 use Rattle.slots.specs.Shown.{Slots, shown}
-use Rattle.slots.specs.Stands.{HasChosen, IsIn, IsThrough, IsToLook, IsToSleep, StandsAs, at_load}
-use Rattle.slots.specs.Table.{Made, again_events, begins, begins_behind, is_free, later, is_moving, made, makes, out_of, expires, marked_events, marked_row, missed, on_cell, seen_events, seen_row, seen_to_sleep, sets_and_expires, sleep_row, to_slot, taken_word, tries, waiting_word, watched_row}
+use Rattle.slots.specs.Stands.{RepliesAs, HasChosen, IsIn, IsThrough, IsToLook, IsToSleep, StandsAs, at_load}
+use Rattle.slots.specs.Words.{is_free, is_moving, taken_word, waiting_word}
+use Rattle.slots.specs.Seen.{again_events, begins, begins_behind, later, expires, seen_events, seen_row, seen_to_sleep, sets_and_expires, sleep_row}
+use Rattle.slots.specs.Table.{Made, made, makes, out_of, marked_events, marked_row, missed, on_cell, to_slot, tries, watched_row}
 use Rattle.slots.specs.Accesses.{IsAbout, IsAboutIt, IsAtRow}
 use Rattle.slots.specs.Each.{Assumes, IsToMark, IsToTake, IsToTakeSlot}
 use Rattle.slots.specs.Further.{GoesToSlot, MayTake, SeesAnother, SeesUnmarked}
@@ -286,9 +288,6 @@ module _ (x : Slots) (t : ℕ) (c : Choice) (at : IsAtRow x t) where
       (cell_in z.layout t k) (cell_place z.layout k) (record { phase = Clearing y; point = Some y }) (on (Calling (OnMutex (TryLock k)) (call_at z.layout t operation.TryLock k (Clearing y))) h)
       refl (cell_again z.layout t inv.layout at.first at.last k a.inside) (ap (from_cell (call_at z.layout t operation.TryLock k (AtCell (load_of false)))) sees ∙ leads) refl held
 
-  clears_at : (k : ℕ) (y : Reply) → StandsAs (Row.Clears 0 OK) (Calling (OnMutex (TryLock k)) (call_at z.layout t operation.TryLock k (Clearing y)))
-  clears_at k y = (OnMutex (TryLock k), call_at z.layout t operation.TryLock k (Clearing y), y, refl, refl)
-
   try_takes_so : (m v : ℕ) → MayTake x t m → IsToTake x m v → IsIn (TryLock (cell_of m)) (AtCell (load_of false)) g → LeadsOn x t c (Row.TryTakes m v)
   try_takes_so m v may to (p, is, phase) = by_test (λ (n : Made). StandsAs n.next ((run z n.events).threads t).stage) (word m == v)
       (makes exchange (Step t ∷ Step t ∷ []) (Row.Links m (acquired (fields_of v))))
@@ -308,8 +307,8 @@ module _ (x : Slots) (t : ℕ) (c : Choice) (at : IsAtRow x t) where
       says = cell_says x m may.inside
 
       go : (a : Bool) → (fields_of (word m)).unusable ≡ a → (b : Bool) → ((fields_of (word m)).owner == 0) ≡ b → (b && not a) ≡ false → StandsAs (Row.Clears m reply) ((run z (Step t ∷ [])).threads t).stage
-      go true lost b e all = led (Step t ∷ []) z.words z.queues _ (Row.Clears m reply) (miss_to (cell_of m) p ENOTRECOVERABLE is phase (tries_unusable (fields_at z (cell_of m)) (sym says.unusable ∙ lost)) refl refl) (clears_at (cell_of m) ENOTRECOVERABLE)
-      go false usable false some all = led (Step t ∷ []) z.words z.queues _ (Row.Clears m reply) (miss_to (cell_of m) p EBUSY is phase (tries_owned (fields_at z (cell_of m)) (sym says.unusable ∙ usable) (ap (λ (n : ℕ). n == 0) (sym says.owner) ∙ some)) refl refl) (clears_at (cell_of m) EBUSY)
+      go true lost b e all = led (Step t ∷ []) z.words z.queues _ (Row.Clears m reply) (miss_to (cell_of m) p ENOTRECOVERABLE is phase (tries_unusable (fields_at z (cell_of m)) (sym says.unusable ∙ lost)) refl refl) (OnMutex (TryLock (cell_of m)), call_at z.layout t operation.TryLock (cell_of m) (Clearing ENOTRECOVERABLE), ENOTRECOVERABLE, refl, refl, RepliesAs.Same (ap (λ (b : Bool). if b then ENOTRECOVERABLE else EBUSY) (sym lost)))
+      go false usable false some all = led (Step t ∷ []) z.words z.queues _ (Row.Clears m reply) (miss_to (cell_of m) p EBUSY is phase (tries_owned (fields_at z (cell_of m)) (sym says.unusable ∙ usable) (ap (λ (n : ℕ). n == 0) (sym says.owner) ∙ some)) refl refl) (OnMutex (TryLock (cell_of m)), call_at z.layout t operation.TryLock (cell_of m) (Clearing EBUSY), EBUSY, refl, refl, RepliesAs.Same (ap (λ (b : Bool). if b then ENOTRECOVERABLE else EBUSY) (sym usable)))
       go false usable true none all = absurd cc
 
   slot_takes_so : (k : Taking) (sl : ℕ) → IsToTakeSlot x k.mutex sl → IsIn (TryLock (slot_of k.mutex)) (AtCell (load_of false)) g → LeadsOn x t c (Row.SlotTakes k sl)
@@ -401,8 +400,8 @@ module _ (x : Slots) (t : ℕ) (c : Choice) (at : IsAtRow x t) where
   wakes_to o m f y a access leads = steps_more z t [] z.words z.queues o (call_at z.layout t (op_of o) m f) h at.first at.last (stays z t (Calling o (call_at z.layout t (op_of o) m f)) inv a.there) at.out (Access.Wake (cell_in z.layout t m) most_threads) (cell_place z.layout m) z.words (put z.queues (cell_place z.layout m) (drop most_threads (z.queues (cell_place z.layout m)))) (onward (Clearing y)) (on (Calling o (call_at z.layout t (op_of o) m (Clearing y))) h)
       access (cell_again z.layout t inv.layout at.first at.last m a.inside) tt (put_back z.words (cell_place z.layout m)) refl (leads (length (take most_threads (z.queues (cell_place z.layout m))))) refl (unmoved (op_of o) h) (all_still z z.words)
 
-  woken_clears : (o : Op) (m : ℕ) (f : Phase) (y : Reply) (r : Reply) → IsAt z t o m f → phase_access (call_at z.layout t (op_of o) m f) f ≡ Access.Wake (cell_in z.layout t m) most_threads → ((n : ℕ) → phase_led (call_at z.layout t (op_of o) m f) f (Count n) ≡ onward (Clearing y)) → StandsAs (Row.Clears 0 r) ((run z (Step t ∷ [])).threads t).stage
-  woken_clears o m f y r a access leads = led (Step t ∷ []) _ _ _ (Row.Clears 0 r) (wakes_to o m f y a access leads) (o, call_at z.layout t (op_of o) m (Clearing y), y, refl, refl)
+  woken_clears : (i : ℕ) (o : Op) (m : ℕ) (f : Phase) (y : Reply) (r : Reply) → r ≡ y → IsAt z t o m f → phase_access (call_at z.layout t (op_of o) m f) f ≡ Access.Wake (cell_in z.layout t m) most_threads → ((n : ℕ) → phase_led (call_at z.layout t (op_of o) m f) f (Count n) ≡ onward (Clearing y)) → StandsAs (Row.Clears i r) ((run z (Step t ∷ [])).threads t).stage
+  woken_clears i o m f y r same a access leads = led (Step t ∷ []) _ _ _ (Row.Clears i r) (wakes_to o m f y a access leads) (o, call_at z.layout t (op_of o) m (Clearing y), y, refl, refl, RepliesAs.Same (sym same))
 
   lead_row : (r : Row) → StandsAs r g → IsAboutIt z.layout r g → Assumes x t r → AssumesToo x t r → LeadsOn x t c r
   lead_row Row.Rests there about a leading = there
@@ -413,10 +412,10 @@ module _ (x : Slots) (t : ℕ) (c : Choice) (at : IsAtRow x t) where
   lead_row (Row.Marks k v ToSleep) there about (may, to) leading = marks_so k v ToSleep tt may to there about
   lead_row (Row.Marks k v (ToSlot sl)) there about (may, to) leading = marks_so k v (ToSlot sl) leading may to there about
   lead_row (Row.SleepsOn k v) there about (may, sees) leading = sleeps_on k v k.how refl may sees there about
-  lead_row (Row.WakesAll m r) (inl (inl (p, is, phase))) about a leading = woken_clears (OnMutex (TryLock (cell_of m))) (cell_of m) (AtCell (Lock lock.WakeAll)) ENOTRECOVERABLE r (is_at z t (OnMutex (TryLock (cell_of m))) p (cell_of m) (AtCell (Lock lock.WakeAll)) inv at.first at.last is phase refl) refl (λ n. refl)
-  lead_row (Row.WakesAll m r) (inl (inr (inl (p, is, phase)))) about a leading = woken_clears (OnMutex (TimedLock (cell_of m))) (cell_of m) (AtCell (Lock lock.WakeAll)) ENOTRECOVERABLE r (is_at z t (OnMutex (TimedLock (cell_of m))) p (cell_of m) (AtCell (Lock lock.WakeAll)) inv at.first at.last is phase refl) refl (λ n. refl)
-  lead_row (Row.WakesAll m r) (inl (inr (inr (k, (o, p, is, of, acts, phase))))) about a leading = woken_clears (OnCondition o) (cell_of m) (AtCell (Lock lock.WakeAll)) ENOTRECOVERABLE r (is_at z t (OnCondition o) p (cell_of m) (AtCell (Lock lock.WakeAll)) inv at.first at.last is phase (subst (IsAbout z.layout m) is about)) refl (λ n. refl)
-  lead_row (Row.WakesAll m r) (inr (p, is, phase)) about a leading = woken_clears (OnMutex (Unlock (cell_of m))) (cell_of m) (AtCell (mutex_row.Unlock (unlock.Wake true))) OK r (is_at z t (OnMutex (Unlock (cell_of m))) p (cell_of m) (AtCell (mutex_row.Unlock (unlock.Wake true))) inv at.first at.last is phase refl) refl (λ n. refl)
+  lead_row (Row.WakesAll m r) (inl (inl (p, is, phase), same)) about a leading = woken_clears m (OnMutex (TryLock (cell_of m))) (cell_of m) (AtCell (Lock lock.WakeAll)) ENOTRECOVERABLE r same (is_at z t (OnMutex (TryLock (cell_of m))) p (cell_of m) (AtCell (Lock lock.WakeAll)) inv at.first at.last is phase refl) refl (λ n. refl)
+  lead_row (Row.WakesAll m r) (inl (inr (inl (p, is, phase)), same)) about a leading = woken_clears m (OnMutex (TimedLock (cell_of m))) (cell_of m) (AtCell (Lock lock.WakeAll)) ENOTRECOVERABLE r same (is_at z t (OnMutex (TimedLock (cell_of m))) p (cell_of m) (AtCell (Lock lock.WakeAll)) inv at.first at.last is phase refl) refl (λ n. refl)
+  lead_row (Row.WakesAll m r) (inl (inr (inr (k, (o, p, is, of, acts, phase))), same)) about a leading = woken_clears m (OnCondition o) (cell_of m) (AtCell (Lock lock.WakeAll)) ENOTRECOVERABLE r same (is_at z t (OnCondition o) p (cell_of m) (AtCell (Lock lock.WakeAll)) inv at.first at.last is phase (subst (IsAbout z.layout m) is about)) refl (λ n. refl)
+  lead_row (Row.WakesAll m r) (inr ((p, is, phase), same)) about a leading = woken_clears m (OnMutex (Unlock (cell_of m))) (cell_of m) (AtCell (mutex_row.Unlock (unlock.Wake true))) OK r same (is_at z t (OnMutex (Unlock (cell_of m))) p (cell_of m) (AtCell (mutex_row.Unlock (unlock.Wake true))) inv at.first at.last is phase refl) refl (λ n. refl)
   lead_row (Row.HeirWakes k) (p, is, phase) about a leading = led (Step t ∷ []) _ _ _ (Row.Frees k (Fails ENOTRECOVERABLE))
       (wakes_to (OnMutex (TimedLock (cell_of k.mutex))) (cell_of k.mutex) (AtCell (Lock lock.WakeAll)) ENOTRECOVERABLE (is_at z t (OnMutex (TimedLock (cell_of k.mutex))) p (cell_of k.mutex) (AtCell (Lock lock.WakeAll)) inv at.first at.last is phase refl) refl (λ n. refl))
       (call_at z.layout t operation.Lock (cell_of k.mutex) (Clearing ENOTRECOVERABLE), refl, refl)
@@ -428,11 +427,11 @@ module _ (x : Slots) (t : ℕ) (c : Choice) (at : IsAtRow x t) where
       (reach_to_sleep z t k (word k.mutex) inv at.first at.last at.out may.room (cell_says x k.mutex may.inside) (at_load_later x t c at k.mutex (subst (λ (i : How). IsToLook k i g) same there)) same
       (not_equal (fields_of (word k.mutex)).owner t (λ e. apart (sym (cell_says x k.mutex may.inside).owner ∙ e)))))
   lead_row (Row.LastLooks k) there about (may, apart) leading = last_looks k may apart there
-  lead_row (Row.Clears m r) (o, p, y, is, phase) about a leading = led (Step t ∷ []) _ z.queues _ Row.Rests (clears o p y is phase) refl
+  lead_row (Row.Clears m r) (o, p, y, is, phase, same) about a leading = led (Step t ∷ []) _ z.queues _ Row.Rests (clears o p y is phase) refl
   lead_row (Row.Chooses k v) there about a leading = chosen_so k v 0 there
   lead_row (Row.Asleep k) there about a leading = there
   lead_row (Row.Late k) there about a leading = there
-  lead_row (Row.LateSees k) (p, is, phase) about a leading = (OnMutex (TimedLock (cell_of k.mutex)), p, ETIMEDOUT, is, phase)
+  lead_row (Row.LateSees k) (p, is, phase) about a leading = (OnMutex (TimedLock (cell_of k.mutex)), p, ETIMEDOUT, is, phase, RepliesAs.Same refl)
   lead_row (Row.SlotPends k sl) there about (inside, room) leading = through_slot k sl k.how inside room there
   lead_row (Row.SlotLeft k) (inl (p, is, phase)) about a leading = led (begins_behind t (TimedLock (cell_of k.mutex))) _ z.queues _ (Row.SeesToSleep (later k)) (behind (cell_of k.mutex) true _ _ _ (clearing_at _ p _ is phase) a.inside a.room) (at_cell k.mutex)
   lead_row (Row.SlotLeft k) (inr (p, is, phase)) about a leading = led (begins_behind t (TimedLock (cell_of k.mutex))) _ z.queues _ (Row.SeesToSleep (later k)) (behind (cell_of k.mutex) true _ _ _ (clearing_at _ p _ is phase) a.inside a.room) (at_cell k.mutex)
@@ -453,8 +452,8 @@ module _ (x : Slots) (t : ℕ) (c : Choice) (at : IsAtRow x t) where
   lead_row (Row.Mends m) is about a leading = led (made x t c (Row.Mends m)).events _ z.queues _ Row.Rests (mending.declared x t c at (cell_of m) is a) refl
   lead_row (Row.AnewLooks m) is about a leading = either (fields_of (shown x (cell_place z.layout (cell_of m)))).unusable (Row.Anews m (shown x (cell_place z.layout (cell_of m)))) Row.Rests g is is
   lead_row (Row.WaitSets m k n timed) there about a leading = either c.yes (Row.GiveFinds m (OfWait k n true timed)) (Row.Gives m (OfWait k n true timed)) g there there
-  lead_row (Row.WaitAsleep m k timed) there about a leading = there
-  lead_row (Row.WaitLate m k) there about a leading = there
+  lead_row (Row.WaitAsleep m k n timed) there about a leading = there
+  lead_row (Row.WaitLate m k n) there about a leading = there
   lead_row (Row.CountLoads m k all) there about a leading = there
   lead_row (Row.AllMarks m k n) (seen, same, (p, is, phase)) about a leading = led (Step t ∷ []) _ z.queues _ (Row.AllMoves m k n)
       (marking.sets x t c at m k n seen (is_at_word z t (cond_call.Broadcast k) p (CondPhase.AtWords (cond_row.Broadcast (broadcast.SetWaiters seen))) inv at.first at.last is phase) (subst (IsAbout z.layout m) is about))
@@ -477,9 +476,9 @@ module _ (x : Slots) (t : ℕ) (c : Choice) (at : IsAtRow x t) where
   lead_row (Row.WaitCounts m k timed true) is about a (of, owns, died) = wait_counts_lead x t c at m k timed is of owns died
   lead_row (Row.CountLooks m k all) is about a (of, inside) = count_looks_lead x t c at m k all is of inside
   lead_row (Row.GivePends m (OfWait k n slept timed)) is about (of, owns, well) says = wait_pends_lead x t c at m k n slept timed is of owns well says
-  lead_row (Row.Links m r) (u, inl (p, is, phase)) about a leading = along_leads x t at (OnMutex (TryLock (cell_of m))) p u r is phase (Row.Links m r) (Row.Clears m r) (λ l. (l, inl (record p { phase = Linking l r }, refl, refl))) (OnMutex (TryLock (cell_of m)), record p { phase = Clearing r }, r, refl, refl)
-  lead_row (Row.Links m r) (u, inr (inl (p, is, phase))) about a leading = along_leads x t at (OnMutex (TimedLock (cell_of m))) p u r is phase (Row.Links m r) (Row.Clears m r) (λ l. (l, inr (inl (record p { phase = Linking l r }, refl, refl)))) (OnMutex (TimedLock (cell_of m)), record p { phase = Clearing r }, r, refl, refl)
-  lead_row (Row.Links m r) (u, inr (inr (k, (o, p, is, of, acts, phase)))) about a leading = along_leads x t at (OnCondition o) p u r is phase (Row.Links m r) (Row.Clears m r) (λ l. (l, inr (inr (k, (o, record p { phase = Linking l r }, refl, of, acts, refl))))) (OnCondition o, record p { phase = Clearing r }, r, refl, refl)
+  lead_row (Row.Links m r) (u, inl (p, is, phase)) about a leading = along_leads x t at (OnMutex (TryLock (cell_of m))) p u r is phase (Row.Links m r) (Row.Clears m r) (λ l. (l, inl (record p { phase = Linking l r }, refl, refl))) (OnMutex (TryLock (cell_of m)), record p { phase = Clearing r }, r, refl, refl, RepliesAs.Same refl)
+  lead_row (Row.Links m r) (u, inr (inl (p, is, phase))) about a leading = along_leads x t at (OnMutex (TimedLock (cell_of m))) p u r is phase (Row.Links m r) (Row.Clears m r) (λ l. (l, inr (inl (record p { phase = Linking l r }, refl, refl)))) (OnMutex (TimedLock (cell_of m)), record p { phase = Clearing r }, r, refl, refl, RepliesAs.Same refl)
+  lead_row (Row.Links m r) (u, inr (inr (k, (o, p, is, of, acts, phase)))) about a leading = along_leads x t at (OnCondition o) p u r is phase (Row.Links m r) (Row.Clears m r) (λ l. (l, inr (inr (k, (o, record p { phase = Linking l r }, refl, of, acts, refl))))) (OnCondition o, record p { phase = Clearing r }, r, refl, refl, RepliesAs.Same refl)
   lead_row (Row.SlotLinks k true) (u, (p, is, phase)) about a leading = along_leads x t at (OnMutex (TryLock (slot_of k.mutex))) p u EOWNERDEAD is phase (Row.SlotLinks k true) (Row.SlotClears k) (λ l. (l, (record p { phase = Linking l EOWNERDEAD }, refl, refl))) (record p { phase = Clearing EOWNERDEAD }, refl, refl)
   lead_row (Row.SlotLinks k false) (u, (p, is, phase)) about a leading = along_leads x t at (OnMutex (TryLock (slot_of k.mutex))) p u OK is phase (Row.SlotLinks k false) (Row.HeirPends k Linked) (λ l. (l, (record p { phase = Linking l OK }, refl, refl))) (record p { phase = Clearing OK }, refl, refl)
   lead_row (Row.HeirLinks k r) (u, (p, is, phase)) about a leading = along_leads x t at (OnMutex (TimedLock (cell_of k.mutex))) p u r is phase (Row.HeirLinks k r) (Row.Frees k (Has r)) (λ l. (l, (record p { phase = Linking l r }, refl, refl))) (record p { phase = Clearing r }, refl, refl)

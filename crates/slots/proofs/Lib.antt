@@ -4,6 +4,7 @@ pub mod Trims
 pub mod Heirs
 pub mod HeirsStay
 pub mod Moments
+pub mod MomentsShown
 pub mod Owned
 pub mod Releases
 pub mod HeirRows
@@ -90,3 +91,12 @@ pub mod Waiting
 pub mod Lagging
 pub mod LateRuns
 pub mod LateAccesses
+pub mod DueRows
+pub mod DueOn
+pub mod DueDeeds
+pub mod DueRuns
+pub mod Returns
+pub mod Refused
+pub mod Ranks
+pub mod RankRows
+pub mod LoneCalls

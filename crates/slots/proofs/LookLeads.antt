@@ -35,8 +35,9 @@ use Rattle.slots.specs.Places.{cell_of}
 use Rattle.slots.specs.Rows.{How, Row, Taking}
 use Rattle.slots.specs.Rows.How.{Tried, Later, Waited}
 use Rattle.slots.specs.Rows.Then.{ToSleep}
-use Rattle.slots.specs.Stands.{HasChosen, IsRetaking, IsThrough, IsToLook, IsToSleep, StandsAs}
-use Rattle.slots.specs.Table.{begins_behind, expires, owned_row, seen_events, seen_row, seen_to_sleep}
+use Rattle.slots.specs.Stands.{RepliesAs, HasChosen, IsRetaking, IsThrough, IsToLook, IsToSleep, StandsAs}
+use Rattle.slots.specs.Stands.RepliesAs.{Same}
+use Rattle.slots.specs.Seen.{begins_behind, expires, owned_row, seen_events, seen_row, seen_to_sleep}
 use Rattle.slots.proofs.Chains.{again_more, gives_up_more, sees_sleep_more}
 use Rattle.slots.proofs.Leading.{IsAt, Leads, call_at, loads_more, on, op_of, stays}
 use Rattle.slots.proofs.Meets.{Says, pends_in}
@@ -112,7 +113,7 @@ module _ (s : State) (t : ℕ) (k : Taking) (v : ℕ) (inv : Kept s) (pos : 1 �
     busy = (call_at s.layout t operation.TryLock m (Clearing EBUSY), refl, refl)
 
     chooses_tried : k.how ≡ Tried → (b : Bool) → StandsAs (if b then Row.Clears k.mutex EINVAL else Row.Chooses k v) (Calling (OnMutex (TryLock m)) (call_at s.layout t operation.TryLock m (Clearing EBUSY)))
-    chooses_tried is true = (OnMutex (TryLock m), call_at s.layout t operation.TryLock m (Clearing EBUSY), EBUSY, refl, refl)
+    chooses_tried is true = (OnMutex (TryLock m), call_at s.layout t operation.TryLock m (Clearing EBUSY), EBUSY, refl, refl, RepliesAs.CellsTrylock refl refl (inl refl))
     chooses_tried is false = subst (λ (i : How). HasChosen k i (fields_of v).waiters v (Calling (OnMutex (TryLock m)) (call_at s.layout t operation.TryLock m (Clearing EBUSY)))) (sym is) busy
 
     pub reach_tried : k.how ≡ Tried → Reaches s t (seen_events t k.mutex Tried v) (seen_row t k v)
@@ -121,10 +122,10 @@ module _ (s : State) (t : ℕ) (k : Taking) (v : ℕ) (inv : Kept s) (pos : 1 �
         go : (a1 : Bool) → (fields_of v).unusable ≡ a1 → (b : Bool) → ((fields_of v).owner == 0) ≡ b → (e d : Bool) → (fields_of v).waiters ≡ d
             → Reaches s t (if a1 then (if d then Step t ∷ (begins_behind t (TimedLock m) ++ Step t ∷ []) else Step t ∷ []) else if b then [] else Step t ∷ [])
             (if a1 then (if d then Row.WakesAll k.mutex ENOTRECOVERABLE else Row.Clears k.mutex ENOTRECOVERABLE) else if b then Row.Takes k v else if e then Row.Clears k.mutex EDEADLK else owned_row k k.how v)
-        go true lost b none e true waits = (_, lost_wakes (Step t ∷ begins_behind t (TimedLock m)) (OnMutex (TimedLock m)) refl a.inside (lock_begun lost) lost waits, inl (inr (inl (call_at s.layout t operation.Lock m (AtCell (Lock lock.WakeAll)), refl, refl))))
-        go true lost b none e false alone = (_, tried_lost lost, (OnMutex (TryLock m), call_at s.layout t operation.TryLock m (Clearing ENOTRECOVERABLE), ENOTRECOVERABLE, refl, refl))
+        go true lost b none e true waits = (_, lost_wakes (Step t ∷ begins_behind t (TimedLock m)) (OnMutex (TimedLock m)) refl a.inside (lock_begun lost) lost waits, inl (inr (inl (call_at s.layout t operation.Lock m (AtCell (Lock lock.WakeAll)), refl, refl)), refl))
+        go true lost b none e false alone = (_, tried_lost lost, (OnMutex (TryLock m), call_at s.layout t operation.TryLock m (Clearing ENOTRECOVERABLE), ENOTRECOVERABLE, refl, refl, Same refl))
         go false usable true none e d waits = (_, from (OnMutex (TryLock m)) (AtCell (load_of false)) a, subst (λ (i : How). IsToLook k i (Calling (OnMutex (TryLock m)) tried)) (sym is) (tried, refl, refl))
-        go false usable false some true d waits = (_, tried_owned usable some, (OnMutex (TryLock m), call_at s.layout t operation.TryLock m (Clearing EBUSY), EBUSY, refl, refl))
+        go false usable false some true d waits = (_, tried_owned usable some, (OnMutex (TryLock m), call_at s.layout t operation.TryLock m (Clearing EBUSY), EBUSY, refl, refl, RepliesAs.CellsTrylock refl refl (inr refl)))
         go false usable false some false d waits = (_, tried_owned usable some, subst (λ (i : How). StandsAs (owned_row k i v) (Calling (OnMutex (TryLock m)) (call_at s.layout t operation.TryLock m (Clearing EBUSY)))) (sym is) (chooses_tried is k.wrong))
 
   -- a lock's that has been to the slot, or has slept
@@ -147,10 +148,10 @@ module _ (s : State) (t : ℕ) (k : Taking) (v : ℕ) (inv : Kept s) (pos : 1 �
         go : (a1 : Bool) → (fields_of v).unusable ≡ a1 → (b : Bool) → ((fields_of v).owner == 0) ≡ b → (e : Bool) → ((fields_of v).owner == t) ≡ e → (d : Bool) → (fields_of v).waiters ≡ d
             → Reaches s t (if a1 then Step t ∷ [] else if b then [] else if e then Step t ∷ [] else if d then expires t else [])
             (if a1 then (if d then Row.WakesAll k.mutex ENOTRECOVERABLE else Row.Clears k.mutex ENOTRECOVERABLE) else if b then Row.Takes k v else if e then Row.Clears k.mutex EDEADLK else owned_row k k.how v)
-        go true lost b none e own true waits = (_, lost_wakes [] o' refl a.inside loaded lost waits, inl (inr (inl (call_at s.layout t operation.Lock m (AtCell (Lock lock.WakeAll)), refl, refl))))
-        go true lost b none e own false alone = (_, lost_clears [] o' refl a.inside loaded lost alone, (o', call_at s.layout t operation.Lock m (Clearing ENOTRECOVERABLE), ENOTRECOVERABLE, refl, refl))
+        go true lost b none e own true waits = (_, lost_wakes [] o' refl a.inside loaded lost waits, inl (inr (inl (call_at s.layout t operation.Lock m (AtCell (Lock lock.WakeAll)), refl, refl)), refl))
+        go true lost b none e own false alone = (_, lost_clears [] o' refl a.inside loaded lost alone, (o', call_at s.layout t operation.Lock m (Clearing ENOTRECOVERABLE), ENOTRECOVERABLE, refl, refl, Same refl))
         go false usable true none e own d waits = (_, loaded, subst (λ (i : How). IsToLook k i (Calling o' (call_at s.layout t operation.Lock m (AtCell (load_of true))))) (sym is) (call_at s.layout t operation.Lock m (AtCell (load_of true)), refl, refl))
-        go false usable false some true own d waits = (_, own_clears [] o' refl a.inside loaded usable own, (o', call_at s.layout t operation.Lock m (Clearing EDEADLK), EDEADLK, refl, refl))
+        go false usable false some true own d waits = (_, own_clears [] o' refl a.inside loaded usable own, (o', call_at s.layout t operation.Lock m (Clearing EDEADLK), EDEADLK, refl, refl, Same refl))
         go false usable false some false other true waits = (_, gives_up usable some other waits, chooses_later is true waits _ (call_at s.layout t operation.Lock m (Clearing ETIMEDOUT), refl, refl))
         go false usable false some false other false alone = (_, loaded, chooses_later is false alone _ (call_at s.layout t operation.Lock m (AtCell (load_of true)), refl, refl))
 
@@ -161,8 +162,8 @@ module _ (s : State) (t : ℕ) (k : Taking) (v : ℕ) (inv : Kept s) (pos : 1 �
         go : (a1 : Bool) → (fields_of v).unusable ≡ a1 → (b : Bool) → ((fields_of v).owner == 0) ≡ b → (e : Bool) → e ≡ false → ((fields_of v).owner == t) ≡ e → (d : Bool) → (fields_of v).waiters ≡ d
             → Reaches s t (if a1 then Step t ∷ [] else if b then [] else if e then Step t ∷ [] else if d then expires t else [])
             (if a1 then (if d then Row.WakesAll k.mutex ENOTRECOVERABLE else Row.Clears k.mutex ENOTRECOVERABLE) else if b then Row.Takes k v else if d then Row.SleepsOn k v else Row.Marks k v ToSleep)
-        go true lost b none e off own true waits = (_, lost_wakes [] o' refl a.inside loaded lost waits, inl (inr (inl (call_at s.layout t operation.Lock m (AtCell (Lock lock.WakeAll)), refl, refl))))
-        go true lost b none e off own false alone = (_, lost_clears [] o' refl a.inside loaded lost alone, (o', call_at s.layout t operation.Lock m (Clearing ENOTRECOVERABLE), ENOTRECOVERABLE, refl, refl))
+        go true lost b none e off own true waits = (_, lost_wakes [] o' refl a.inside loaded lost waits, inl (inr (inl (call_at s.layout t operation.Lock m (AtCell (Lock lock.WakeAll)), refl, refl)), refl))
+        go true lost b none e off own false alone = (_, lost_clears [] o' refl a.inside loaded lost alone, (o', call_at s.layout t operation.Lock m (Clearing ENOTRECOVERABLE), ENOTRECOVERABLE, refl, refl, Same refl))
         go false usable true none e off own d waits = (_, loaded, subst (λ (i : How). IsToLook k i (Calling o' (call_at s.layout t operation.Lock m (AtCell (load_of true))))) (sym is) (call_at s.layout t operation.Lock m (AtCell (load_of true)), refl, refl))
         go false usable false some true off own d waits = absurd cc
         go false usable false some false off own true waits = (_, gives_up usable some own waits, subst (λ (i : How). IsToSleep k i v (Calling o' (call_at s.layout t operation.Lock m (Clearing ETIMEDOUT)))) (sym is) (call_at s.layout t operation.Lock m (Clearing ETIMEDOUT), refl, refl))
@@ -191,10 +192,10 @@ module _ (s : State) (t : ℕ) (k : Taking) (v : ℕ) (inv : Kept s) (pos : 1 �
         go : (a1 : Bool) → (fields_of v).unusable ≡ a1 → (b : Bool) → ((fields_of v).owner == 0) ≡ b → (e : Bool) → ((fields_of v).owner == t) ≡ e → (d : Bool) → (fields_of v).waiters ≡ d
             → Reaches s t (if a1 then Step t ∷ [] else if b then [] else if e then Step t ∷ [] else if d then Step t ∷ [] else [])
             (if a1 then (if d then Row.WakesAll k.mutex ENOTRECOVERABLE else Row.Clears k.mutex ENOTRECOVERABLE) else if b then Row.Takes k v else if e then Row.Clears k.mutex EDEADLK else owned_row k k.how v)
-        go true lost b none e own true waits = (_, lost_wakes [] it refl a.inside waiting_load lost waits, inl (inr (inr (y, retakes_at (AtCell (Lock lock.WakeAll))))))
-        go true lost b none e own false alone = (_, lost_clears [] it refl a.inside waiting_load lost alone, (it, call_at s.layout t operation.Lock m (Clearing ENOTRECOVERABLE), ENOTRECOVERABLE, refl, refl))
+        go true lost b none e own true waits = (_, lost_wakes [] it refl a.inside waiting_load lost waits, inl (inr (inr (y, retakes_at (AtCell (Lock lock.WakeAll)))), refl))
+        go true lost b none e own false alone = (_, lost_clears [] it refl a.inside waiting_load lost alone, (it, call_at s.layout t operation.Lock m (Clearing ENOTRECOVERABLE), ENOTRECOVERABLE, refl, refl, Same refl))
         go false usable true none e own d waits = (_, waiting_load, subst (λ (i : How). IsToLook k i (Calling it (call_at s.layout t operation.Lock m (AtCell (load_of true))))) (sym is) (retakes_at (AtCell (load_of true))))
-        go false usable false some true own d waits = (_, own_clears [] it refl a.inside waiting_load usable own, (it, call_at s.layout t operation.Lock m (Clearing EDEADLK), EDEADLK, refl, refl))
+        go false usable false some true own d waits = (_, own_clears [] it refl a.inside waiting_load usable own, (it, call_at s.layout t operation.Lock m (Clearing EDEADLK), EDEADLK, refl, refl, Same refl))
         go false usable false some false other true waits = (
           _,
           sees_sleep_more s t pos known inv.layout [] s.words s.queues h m it operation.Lock out a.inside waiting_load (sym says.unusable ∙ usable) (ap (λ (n : ℕ). n == t) (sym says.owner) ∙ other) (ap (λ (n : ℕ). n == 0) (sym says.owner) ∙ some) (sym says.waiters ∙ waits),

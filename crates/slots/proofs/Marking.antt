@@ -38,7 +38,9 @@ use Rattle.slots.specs.Rows.{Choice, How, Row, Taking, Then}
 use Rattle.slots.specs.Rows.How.{Tried, Later, Waited}
 use Rattle.slots.specs.Shown.{Slots, shown}
 use Rattle.slots.specs.Stands.{HasChosen, StandsAs}
-use Rattle.slots.specs.Table.{begins_behind, made, makes, marked_events, marked_row, missed, out_of, sets_and_expires, waiting_word}
+use Rattle.slots.specs.Words.{waiting_word}
+use Rattle.slots.specs.Seen.{begins_behind, sets_and_expires}
+use Rattle.slots.specs.Table.{made, makes, marked_events, marked_row, missed, out_of}
 use Rattle.slots.specs.Rows.Before.{Again}
 use Rattle.slots.specs.Accesses.{IsAbout, IsAboutIt, IsAtRow}
 use Rattle.slots.specs.Further.{IsMarking, MarksAreEvents, MayTake, SeesUnmarked}

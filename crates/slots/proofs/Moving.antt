@@ -36,7 +36,9 @@ use Rattle.slots.specs.Places.{cell_of, slot_of}
 use Rattle.slots.specs.Rows.{Choice, Row}
 use Rattle.slots.specs.Shown.{Slots, memory, shown}
 use Rattle.slots.specs.Stands.{StandsAs}
-use Rattle.slots.specs.Table.{given_row, heir_of, made, makes, shows_heir}
+use Rattle.slots.specs.Words.{shows_heir}
+use Rattle.slots.specs.Seen.{heir_of}
+use Rattle.slots.specs.Table.{given_row, made, makes}
 use Rattle.slots.specs.Accesses.{IsAbout, IsAboutIt, IsAtRow}
 use Rattle.slots.specs.Further.{IsMoving, MovesAreEvents, IsHanding, SparesAreEvents}
 use Rattle.slots.proofs.Chains.{Comes}

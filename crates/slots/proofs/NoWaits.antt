@@ -17,8 +17,12 @@ use Rattle.slots.specs.Rows.Before.{Again}
 use Rattle.slots.specs.Rows.Giving.{OfUnlock, OfWait}
 use Rattle.slots.specs.Rows.Onward.{Fails}
 use Rattle.slots.specs.Shown.{Slots, shown}
-use Rattle.slots.specs.Table.{Made, begins_behind, given_row, heir_of, is_free, later, made, makes, marked_events, marked_row, missed, on_cell, out_of}
-use Rattle.slots.specs.Table.{refused_count, seen_events, seen_row, sets_and_expires, shows_heir, shows_slept, taken_word, wait_begins, waiting_word, watched_row}
+use Rattle.slots.specs.Words.{is_free}
+use Rattle.slots.specs.Seen.{begins_behind, heir_of, later}
+use Rattle.slots.specs.Table.{Made, given_row, made, makes, marked_events, marked_row, missed, on_cell, out_of}
+use Rattle.slots.specs.Words.{shows_heir, taken_word, waiting_word}
+use Rattle.slots.specs.Seen.{seen_events, seen_row, sets_and_expires}
+use Rattle.slots.specs.Table.{refused_count, shows_slept, wait_begins, watched_row}
 use Rattle.std.proofs.Common.{arith, inl, inr, ◌≡◌, ◌≢◌, ◌≤◌, List, drop, zero, suc, refl, sym, ap, ◌∙◌, subst}
 use Rattle.robustlist.specs.Link.{link_access}
 use Rattle.robustlist.specs.Unlink.{unlink_access}

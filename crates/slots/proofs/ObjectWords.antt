@@ -5,7 +5,7 @@ use Rattle.std.proofs.lemmas.Bool.{eqb-false}
 use Rattle.lockword.specs.Cells.{fields_of}
 use Rattle.lockword.proofs.Bits.{Declares, xor_released, xor_spoiled}
 use Rattle.posixmutex.specs.Objects.{declared_consistent, freed, fresh, object_of, owner_of}
-use Rattle.slots.specs.Table.{is_free, waiting_word}
+use Rattle.slots.specs.Words.{is_free, waiting_word}
 use Rattle.slots.proofs.FitsOn.{waiting_fields}
 use Rattle.slots.proofs.OurObjects.{shows}
 

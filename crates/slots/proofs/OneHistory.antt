@@ -147,8 +147,8 @@ module _ (x : Slots) (t : ℕ) (pos : 1 ≤ t) (known : t ≤ x.machine.layout.t
 
   lapse_told : (r : Row) (m : ℕ) → our_objects (run z (lapse_events x t r)) m ≡ our_objects z m
   lapse_told (Row.Asleep k) m = by_test (λ (es : List Event). our_objects (run z es) m ≡ our_objects z m) k.timed (Expire t ∷ []) [] (λ e. expire_told m) (λ e. refl)
-  lapse_told (Row.WaitAsleep j k true) m = by_test (λ (es : List Event). our_objects (run z es) m ≡ our_objects z m) (stands_in t (z.queues (counter_place z.layout k))) (Expire t ∷ []) (Leave t ∷ []) (λ e. expire_told m) (λ e. leave_told m)
-  lapse_told (Row.WaitAsleep j k false) m = refl
+  lapse_told (Row.WaitAsleep j k n true) m = by_test (λ (es : List Event). our_objects (run z es) m ≡ our_objects z m) (stands_in t (z.queues (counter_place z.layout k))) (Expire t ∷ []) (Leave t ∷ []) (λ e. expire_told m) (λ e. leave_told m)
+  lapse_told (Row.WaitAsleep j k n false) m = refl
   lapse_told r m = refl
 
   first_of : (a b : Bool) → (a && b) ≡ true → a ≡ true

@@ -17,13 +17,15 @@ use Rattle.slots.specs.Rows.{Choice, Taking, Row}
 use Rattle.slots.specs.Rows.Onward.{Fails, Sleeps}
 use Rattle.lockword.specs.declared.reply.Reply.TheVariants.{ETIMEDOUT}
 use Rattle.slots.specs.Shown.{Slots, after, memory, shown}
-use Rattle.slots.specs.Table.{Made, expires, made, is_free, taken_word}
+use Rattle.slots.specs.Words.{is_free, taken_word}
+use Rattle.slots.specs.Seen.{expires}
+use Rattle.slots.specs.Table.{Made, made}
 use Rattle.slots.specs.Runs.{awake_after, slept_after, turns_after}
 use Rattle.slots.specs.Invariant.{fields_at}
 use Rattle.slots.specs.Moments.{IsAtLock, HeirTakesAreEvents, LastLooksAreEvents}
 use Rattle.slots.proofs.Free.{reached_kept}
 use Rattle.slots.proofs.HeirRows.{free_word}
-use Rattle.slots.proofs.Moments.{gives_up_looks, takes_the_exchange}
+use Rattle.slots.proofs.MomentsShown.{gives_up_looks, takes_the_exchange}
 use Rattle.slots.proofs.Trims.{no_slot, shown_at}
 
 -- a cell's place is valid

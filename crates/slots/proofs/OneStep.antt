@@ -187,7 +187,7 @@ module _ (x : Slots) (t : ℕ) (c : Choice) (at : IsAtRow x t) where
       (call_row x t c at r next o p quiet is (subst IsPlain (sym access) tt) (subst (λ (a : Access). IsMine x.machine t (place_met x.machine.layout t a)) (sym access) (inr (inl place))))
 
   pub clearing_row : (r : Row) → StandsAs r (x.machine.threads t).stage → IsClearing r → AreEvents x t c r (made x t c r)
-  clearing_row (Row.Clears m y) (o, p, z, is, phase) clearing = clears (Row.Clears m y) Row.Rests o p z (record { awake = λ a. refl; slept = λ a. refl; turns = λ d a. refl }) is phase
+  clearing_row (Row.Clears m y) (o, p, z, is, phase, same) clearing = clears (Row.Clears m y) Row.Rests o p z (record { awake = λ a. refl; slept = λ a. refl; turns = λ d a. refl }) is phase
   clearing_row (Row.SlotClears k) (p, is, phase) clearing = clears (Row.SlotClears k) (Row.SlotQuiets k) _ p _ (record { awake = λ a. refl; slept = λ a. refl; turns = λ d a. refl }) is phase
   clearing_row r there clearing = absurd clearing
 

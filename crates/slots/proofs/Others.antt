@@ -20,7 +20,9 @@ use Rattle.slots.specs.Rows.Before.{Linked, Mended, Again}
 use Rattle.slots.specs.Rows.Giving.{OfUnlock, OfWait}
 use Rattle.slots.specs.Places.{cell_of}
 use Rattle.slots.specs.Shown.{Slots, after, shown}
-use Rattle.slots.specs.Table.{Made, again_events, made, makes, marked_events, marked_row, missed, on_cell, seen_events, seen_row, taken_word, waiting_word}
+use Rattle.slots.specs.Words.{taken_word, waiting_word}
+use Rattle.slots.specs.Seen.{again_events, seen_events, seen_row}
+use Rattle.slots.specs.Table.{Made, made, makes, marked_events, marked_row, missed, on_cell}
 use Rattle.slots.specs.Runs.{Happening, next, at_row, is_resting, lapse_events, lapse_row, made_by, may_call}
 use Rattle.slots.specs.Runs.Happening.{Calls, Goes, Interrupts, Lapses, Dies, Walks, Lives}
 use Rattle.slots.specs.Goes.{OthersStandStill, StandsStill, who}
@@ -122,8 +124,8 @@ events_are_of x t c (Row.WaitLooks m k timed) = grind (arith)
 events_are_of x t c (Row.WaitCounts m k timed died) = grind (arith)
 events_are_of x t c (Row.WaitSets m k n timed) = tt
 events_are_of x t c (Row.WaitSleeps m k n timed) = (refl, tt)
-events_are_of x t c (Row.WaitAsleep m k timed) = tt
-events_are_of x t c (Row.WaitLate m k) = tt
+events_are_of x t c (Row.WaitAsleep m k n timed) = tt
+events_are_of x t c (Row.WaitLate m k n) = tt
 events_are_of x t c (Row.CountLooks m k all) = grind (arith)
 events_are_of x t c (Row.CountLoads m k all) = tt
 events_are_of x t c (Row.Counts m k all n) = grind (arith)

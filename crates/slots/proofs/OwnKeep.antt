@@ -29,8 +29,12 @@ use Rattle.slots.specs.Rows.Giving.{OfUnlock, OfWait}
 use Rattle.slots.specs.Rows.Onward.{Has, Fails, Sleeps}
 use Rattle.slots.specs.Rows.Then.{ToSleep, ToSlot}
 use Rattle.slots.specs.Shown.{Slots, memory, shown}
-use Rattle.slots.specs.Table.{Made, counted, counted_row, freed_row, given_row, heir_of, is_free, is_moving, is_on_list, later, made, makes, marked_events, marked_row, missed, on_cell, out_of, owned_row}
-use Rattle.slots.specs.Table.{refused_count, released, seen_events, seen_row, seen_to_sleep, sets_and_expires, shows_heir, shows_slept, sleep_row, taken_word, to_slot, tries, unlinked_row, counted_row, wait_begins, waiting_word, watched_row, woke_row}
+use Rattle.slots.specs.Words.{is_free, is_moving}
+use Rattle.slots.specs.Seen.{heir_of, later, owned_row}
+use Rattle.slots.specs.Table.{Made, counted, counted_row, freed_row, given_row, is_on_list, made, makes, marked_events, marked_row, missed, on_cell, out_of}
+use Rattle.slots.specs.Words.{shows_heir, taken_word, waiting_word}
+use Rattle.slots.specs.Seen.{seen_events, seen_row, seen_to_sleep, sets_and_expires, sleep_row}
+use Rattle.slots.specs.Table.{refused_count, released, shows_slept, to_slot, tries, unlinked_row, counted_row, wait_begins, watched_row, woke_row}
 use Rattle.slots.specs.Invariant.{fields_at}
 use Rattle.slots.specs.Fits.{AreOfUs, Fits, GivesOurs, IsOurs}
 use Rattle.slots.specs.Accesses.{IsAlongList}
@@ -483,8 +487,8 @@ module _ (x y : Slots) (t : ℕ) (c : Choice) (inv : Kept x.machine) (pos : 1 �
       (λ e is none. subst (λ (d : Bool). Holds y.machine t (cell_of m) d) e (still (none refl) (Row.WaitCounts m k timed died) w)) is none
   owning_row (Row.WaitSets m k n timed) g o w apart is none = let h = still (none refl) (Row.WaitSets m k n timed) w in either c.yes (Row.GiveFinds m (OfWait k n true timed)) (Row.Gives m (OfWait k n true timed)) h h
   owning_row (Row.WaitSleeps m k n timed) g o w apart is none = tt
-  owning_row (Row.WaitAsleep m k timed) g o w apart is none = tt
-  owning_row (Row.WaitLate m k) g o w apart is none = tt
+  owning_row (Row.WaitAsleep m k n timed) g o w apart is none = tt
+  owning_row (Row.WaitLate m k n) g o w apart is none = tt
   owning_row (Row.CountLooks m k all) g o w apart is none = by_test Leads ((fields_of (W (cell_of m))).owner == t)
       (makes (Access.Load (cell_at m)) [] (Row.CountLoads m k all)) (makes (Access.Load (cell_at m)) (refused_count x t c k all) Row.Rests)
       (λ e is none. owner_y (cell_of m) (W (cell_of m)) (our_cell l m o.ours) (by_reading (Access.Load (cell_at m)) tt is (cell_of m) (our_cell l m o.ours)) ∙ eqb-true (fields_of (W (cell_of m))).owner t e) (λ e is none. tt) is none

@@ -108,7 +108,7 @@ module _ (x : Slots) (t : ℕ) (c : Choice) (s : Steady x) (pos : 1 ≤ t) (know
   own_row (Row.GivePends m y) o w sees there plain = pending _
   own_row (Row.GiveUnlinks m y) o w sees there plain = along (Row.GiveUnlinks m y) tt there
   own_row (Row.WaitSets m k n timed) o w sees there plain = count m k (n + 4294967296) o w.owner (inl (low_slept k n o.cell.inside sees))
-  own_row (Row.WaitAsleep m k timed) o w sees there plain = pending _
+  own_row (Row.WaitAsleep m k n timed) o w sees there plain = pending _
   own_row (Row.Counts m k all n) o w sees there plain = counts m k n (counted x t c n) o w sees (n / 4294967296 == 1) refl plain
   own_row (Row.Unsets m k n) o w sees there plain = count m k n o w (inl (low k n o.cell.inside sees))
   own_row r o w sees there plain = absurd plain

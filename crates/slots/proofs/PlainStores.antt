@@ -30,7 +30,9 @@ use Rattle.slots.specs.Shown.{Slots, shown}
 use Rattle.slots.specs.Stands.{StandsAs}
 use Rattle.slots.specs.Stores.Manner.{Loads, Stores, Locks, Asks, Along}
 use Rattle.slots.specs.Stores.{AccessesAreMadeSo, IsMadeSo, Manner, manner}
-use Rattle.slots.specs.Table.{Made, access_of_stage, counted, made, begins_behind, given_row, heir_of, is_free, later, makes, marked_events, marked_row, missed, on_cell, out_of, refused_count, seen_events, seen_row, sets_and_expires, shows_heir, shows_slept, taken_word, wait_begins, waiting_word, watched_row}
+use Rattle.slots.specs.Words.{is_free, shows_heir, taken_word, waiting_word}
+use Rattle.slots.specs.Seen.{begins_behind, heir_of, later, seen_events, seen_row, sets_and_expires}
+use Rattle.slots.specs.Table.{Made, access_of_stage, counted, made, given_row, makes, marked_events, marked_row, missed, on_cell, out_of, refused_count, shows_slept, wait_begins, watched_row}
 use Rattle.std.proofs.Common.{◌≡◌, inl, inr, ℕ, ◌+◌, ◌/◌, ◌%◌, ◌==◌, Bool, true, false, [], ◌∷◌, sym, subst, arith, ◌++◌}
 use Rattle.std.specs.Prelude.{if◌then◌else◌, ◌&&◌, ◌-◌}
 use Rattle.stepprograms.specs.declared.access.Access.{Access}

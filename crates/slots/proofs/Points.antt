@@ -33,8 +33,12 @@ use Rattle.slots.specs.Rows.Before.{Linked, Mended, Again}
 use Rattle.slots.specs.Rows.Giving.{OfUnlock, OfWait}
 use Rattle.slots.specs.Rows.Onward.{Fails}
 use Rattle.slots.specs.Shown.{Slots, memory, shown}
-use Rattle.slots.specs.Table.{Made, begins_behind, counted, given_row, gives, heir_of, is_free, later, made, makes, marked_events, marked_row, missed, on_cell, out_of}
-use Rattle.slots.specs.Table.{refused_count, seen_events, seen_row, sets_and_expires, shows_heir, shows_slept, taken_word, wait_begins, waiting_word, watched_row}
+use Rattle.slots.specs.Words.{is_free}
+use Rattle.slots.specs.Seen.{begins_behind, heir_of, later}
+use Rattle.slots.specs.Table.{Made, counted, given_row, gives, made, makes, marked_events, marked_row, missed, on_cell, out_of}
+use Rattle.slots.specs.Words.{shows_heir, taken_word, waiting_word}
+use Rattle.slots.specs.Seen.{seen_events, seen_row, sets_and_expires}
+use Rattle.slots.specs.Table.{refused_count, shows_slept, wait_begins, watched_row}
 use Rattle.slots.specs.Invariant.{fields_at}
 use Rattle.slots.specs.Accesses.{IsAlongList}
 use Rattle.slots.specs.Each.{Assumes, IsToRemake}
@@ -450,8 +454,8 @@ module _ (x y : Slots) (t : ℕ) (c : Choice) (inv : Kept x.machine) (pos : 1 �
       (λ e i. refused m op.Wait XSTATE o.ours (λ acq. absurd cc) (reading (Access.Load (address_in l t (counter_place l k))) tt i) (own_word (W (cell_of m)) (says_owner m o.ours w.owner), says_died m true o.ours (w.died ∙ e), refl)) (λ e i. nothing_if (reading (Access.Load (address_in l t (counter_place l k))) tt i)) is
   told_row (Row.WaitSets m k n timed) g o w a room apart none is = none_if (none refl)
   told_row (Row.WaitSleeps m k n timed) g o w a room apart none is = nothing_if (reading (Access.Wait (address_in l t (counter_place l k)) n) tt is)
-  told_row (Row.WaitAsleep m k timed) g o w a room apart none is = none_if (none refl)
-  told_row (Row.WaitLate m k) g o w a room apart none is = none_if (none refl)
+  told_row (Row.WaitAsleep m k n timed) g o w a room apart none is = none_if (none refl)
+  told_row (Row.WaitLate m k n) g o w a room apart none is = none_if (none refl)
   told_row (Row.CountLooks m k all) g o w a room apart none is = two ((fields_of (W (cell_of m))).owner == t) Nothing (Decides (decided t m (counts_as all) EPERM)) (makes (load (cell_of m)) [] (Row.CountLoads m k all)) (makes (load (cell_of m)) (refused_count x t c k all) Row.Rests)
       (λ e i. nothing_if (reading (load (cell_of m)) tt i)) (λ e i. count_refused m all o.ours e (reading (load (cell_of m)) tt i)) is
   told_row (Row.CountLoads m k all) g o w a room apart none is = none_if (none refl)

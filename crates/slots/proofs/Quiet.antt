@@ -16,7 +16,8 @@ use Rattle.protocol.proofs.Seeing.{cell_in}
 use Rattle.slots.specs.Places.{slot_of}
 use Rattle.slots.specs.Rows.{Choice, Row}
 use Rattle.slots.specs.Shown.{Slots, memory, shown}
-use Rattle.slots.specs.Table.{Made, made, makes, taken_word}
+use Rattle.slots.specs.Words.{taken_word}
+use Rattle.slots.specs.Table.{Made, made, makes}
 use Rattle.slots.specs.Accesses.{IsAlongList}
 use Rattle.slots.specs.Fits.{Fits, IsOurs}
 use Rattle.slots.specs.Premises.{Owning}

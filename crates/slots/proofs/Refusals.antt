@@ -1,6 +1,6 @@
 -- A call's first look, whatever it finds: a refused call is a whole call of the machine.
 use Rattle.std.proofs.Common.{◌≡◌, ℕ, ◌+◌, ◌<◌, ◌==◌, Bool, true, false, Some, List, [], ◌∷◌, ◌++◌, length, refl, sym, ap, ◌∙◌, subst, arith, eqb-true, eq-eqb}
-use Rattle.std.specs.Prelude.{nat_lt, not, ◌&&◌, ◌%◌, ◌^◌}
+use Rattle.std.specs.Prelude.{if◌then◌else◌, nat_lt, not, ◌&&◌, ◌%◌, ◌^◌}
 use Rattle.std.proofs.lemmas.Bool.Decides.{nat_tests}
 use Rattle.lockword.specs.Cells.{Fields, fields_of}
 use Rattle.lockword.specs.declared.reply.Reply.{Reply}
@@ -10,13 +10,13 @@ use Rattle.stepprograms.specs.declared.access.Answer.TheVariants.{Value}
 use Rattle.memorymap.specs.Layouts.{cell_place, counter_place, head_place}
 use Rattle.mutex.specs.declared.call.Call.{Call}
 use Rattle.mutex.specs.declared.call.Call.TheVariants as call
-use Rattle.mutex.specs.declared.phase.Phase.TheVariants.{AtCell, Clearing}
+use Rattle.mutex.specs.declared.phase.Phase.TheVariants.{AtCell, Clearing, Ended}
 use Rattle.mutex.specs.Lock.{lock_sees}
 use Rattle.mutex.specs.TryLock.{try_sees}
 use Rattle.mutex.specs.Rows.{ends}
 use Rattle.mutex.specs.Standings.{Whole}
 use Rattle.mutex.specs.Whole as whole
-use Rattle.mutex.specs.Whole.{from_cell, whole_access, whole_led}
+use Rattle.mutex.specs.Whole.{from_cell, onward, pending_place, whole_access, whole_led}
 use Rattle.condvar.specs.declared.call.CondCall.{CondCall}
 use Rattle.condvar.specs.declared.call.CondCall.TheVariants as cond_call
 use Rattle.condvar.specs.declared.op.Op.TheVariants.{OnMutex, OnCondition}
@@ -32,23 +32,27 @@ use Rattle.protocol.specs.Machine.{State, put, held_after}
 use Rattle.protocol.proofs.Kept.{Kept}
 use Rattle.protocol.proofs.Places.{head_is_no_cell}
 use Rattle.protocol.proofs.Puts.{put-other}
-use Rattle.protocol.proofs.Seeing.{cell_in, counter_in, entry_in, cell_again}
+use Rattle.protocol.proofs.Seeing.{cell_in, counter_in, entry_in, head_in, cell_again}
 use Rattle.slots.specs.Places.{cell_of}
 use Rattle.slots.specs.Rows.{Choice, Row}
 use Rattle.slots.specs.Rows.Giving.{OfUnlock, OfWait}
 use Rattle.slots.specs.Shown.{Slots, shown}
 use Rattle.slots.specs.Stands.{StandsAs}
-use Rattle.slots.specs.Table.{begins, is_free, made, makes, refused_count, shows_slept, wait_begins, wait_of}
+use Rattle.slots.specs.Words.{is_free}
+use Rattle.slots.specs.Seen.{begins, wait_of}
+use Rattle.slots.specs.Table.{made, makes, refused_count, shows_slept, wait_begins}
 use Rattle.slots.specs.Invariant.{fields_at}
 use Rattle.slots.specs.Accesses.{IsAtRow}
 use Rattle.slots.specs.Further.{IsFirstLook, FirstLooksAreEvents}
 use Rattle.slots.proofs.Announcing.{call_of}
-use Rattle.slots.proofs.Chains.{Comes, lock_or_try, any_load, any_cond_load, clears_more, locks_more}
+use Rattle.slots.proofs.Chains.{Comes, head_there, lock_or_try, any_load, any_cond_load, clears_more, locks_more}
 use Rattle.slots.proofs.Free.{reached_kept}
 use Rattle.slots.proofs.Leading.{Leads, begins_more, by_test, call_at, loads_more, on, put_back, put_over, stays}
 use Rattle.slots.proofs.Looks.{IsQuiet}
 use Rattle.slots.proofs.Meets.{cell_says, load_idles, nothing_events, pends_none, usable_if_owned}
 use Rattle.slots.proofs.OneStep.{AreEvents}
+use Rattle.slots.proofs.Returns.{call_returns}
+use Rattle.slots.specs.Refused.{last_reply}
 use Rattle.slots.proofs.Takes.{load_of}
 
 pub sees_own : (t : ℕ) (c : Fields) → c.unusable ≡ false → (c.owner == t) ≡ true → lock_sees t c ≡ ends EDEADLK
@@ -125,15 +129,26 @@ module _ (x : Slots) (t : ℕ) (c : Choice) (at : IsAtRow x t) where
     emptied : put announced hp 0 ≡ s.words
     emptied = put_over s.words hp (entry_in s.layout t k) 0 ∙ ap (put s.words hp) (sym (pends_none s t inv at.first at.last is)) ∙ put_back s.words hp
 
-    refused : (y : Reply) → whole_led p (Value (announced pl)) ≡ record { phase = Clearing y; point = Some y } → held_after h (lock_or_try b) (Some y) ≡ h → Leads s t (Begin t (OnMutex (call_of b k)) ∷ Step t ∷ Step t ∷ Step t ∷ []) s.words s.queues (on Idle h)
-    refused y leads held = subst (λ (w : ℕ → ℕ). Leads s t (Begin t (OnMutex (call_of b k)) ∷ Step t ∷ Step t ∷ Step t ∷ []) w s.queues (on Idle h)) emptied
-        (clears_more s t at.first at.last inv.layout (Begin t (OnMutex (call_of b k)) ∷ Step t ∷ Step t ∷ []) announced s.queues h at.out (OnMutex (call_of b k)) (lock_or_try b) k y
-        (loads_more s t (Begin t (OnMutex (call_of b k)) ∷ Step t ∷ []) announced s.queues (OnMutex (call_of b k)) p h at.first at.last
+    looked : (y : Reply) → whole_led p (Value (announced pl)) ≡ record { phase = Clearing y; point = Some y } → held_after h (lock_or_try b) (Some y) ≡ h → Leads s t (Begin t (OnMutex (call_of b k)) ∷ Step t ∷ Step t ∷ []) announced s.queues (on (Calling (OnMutex (call_of b k)) (call_at s.layout t (lock_or_try b) k (Clearing y))) h)
+    looked y leads held = loads_more s t (Begin t (OnMutex (call_of b k)) ∷ Step t ∷ []) announced s.queues (OnMutex (call_of b k)) p h at.first at.last
         (locks_more s t at.first at.last inv.layout [] s.words s.queues h k b at.out (stays s t Idle inv is) inside room) at.out (cell_in s.layout t k) pl
         (record { phase = Clearing y; point = Some y }) (on (Calling (OnMutex (call_of b k)) (call_at s.layout t (lock_or_try b) k (Clearing y))) h)
-        (access_of b) (cell_again s.layout t inv.layout at.first at.last k inside) leads refl held))
+        (access_of b) (cell_again s.layout t inv.layout at.first at.last k inside) leads refl held
 
-  pub own_lock : (m : ℕ) → (s.threads t).stage ≡ Idle → cell_of m < s.layout.mutexes → h < 2048 → (fields_at s (cell_of m)).owner ≡ t → Leads s t (begins t (call.TimedLock (cell_of m)) ++ Step t ∷ Step t ∷ []) s.words s.queues (on Idle h)
+    -- it ends, and returns that reply
+    pub record Refused (y : Reply) : Type 0 where
+      pub leads : Leads s t (Begin t (OnMutex (call_of b k)) ∷ Step t ∷ Step t ∷ Step t ∷ []) s.words s.queues (on Idle h)
+      pub returns : last_reply s (Begin t (OnMutex (call_of b k)) ∷ Step t ∷ Step t ∷ Step t ∷ []) ≡ Some y
+
+    refused : (y : Reply) → whole_led p (Value (announced pl)) ≡ record { phase = Clearing y; point = Some y } → held_after h (lock_or_try b) (Some y) ≡ h → Refused y
+    refused y leads held = record {
+      leads = subst (λ (w : ℕ → ℕ). Leads s t (Begin t (OnMutex (call_of b k)) ∷ Step t ∷ Step t ∷ Step t ∷ []) w s.queues (on Idle h)) emptied
+          (clears_more s t at.first at.last inv.layout (Begin t (OnMutex (call_of b k)) ∷ Step t ∷ Step t ∷ []) announced s.queues h at.out (OnMutex (call_of b k)) (lock_or_try b) k y (looked y leads held));
+      returns = call_returns s t (Begin t (OnMutex (call_of b k)) ∷ Step t ∷ Step t ∷ []) announced s.queues h at.first at.last (OnMutex (call_of b k)) (call_at s.layout t (lock_or_try b) k (Clearing y)) at.out (looked y leads held)
+          (Access.Store (pending_place (head_in s.layout t)) 0) hp (onward (Ended y)) refl (head_there s t at.first at.last inv.layout) refl;
+    }
+
+  pub own_lock : (m : ℕ) (is : (s.threads t).stage ≡ Idle) (inside : cell_of m < s.layout.mutexes) (room : h < 2048) → (fields_at s (cell_of m)).owner ≡ t → Refused (cell_of m) true is inside room EDEADLK
   own_lock m is inside room own = refused (cell_of m) true is inside room EDEADLK
       (ap (λ (v : ℕ). from_cell (p (cell_of m) true is inside room) (lock_sees t (fields_of v))) (cell_stays (cell_of m) true is inside room)
       ∙ ap (from_cell (p (cell_of m) true is inside room)) (sees_own t (fields_at s (cell_of m)) usable (eq-eqb (fields_at s (cell_of m)).owner t own))) refl
@@ -141,15 +156,16 @@ module _ (x : Slots) (t : ℕ) (c : Choice) (at : IsAtRow x t) where
       usable : (fields_at s (cell_of m)).unusable ≡ false
       usable = usable_if_owned s (cell_of m) inv inside (λ e. let pos = at.first in omega (arith, e, own, pos))
 
-  pub no_try : (m : ℕ) → (s.threads t).stage ≡ Idle → cell_of m < s.layout.mutexes → h < 2048 → (((fields_at s (cell_of m)).owner == 0) && not (fields_at s (cell_of m)).unusable) ≡ false → Leads s t (begins t (call.TryLock (cell_of m)) ++ Step t ∷ Step t ∷ []) s.words s.queues (on Idle h)
+  pub no_try : (m : ℕ) (is : (s.threads t).stage ≡ Idle) (inside : cell_of m < s.layout.mutexes) (room : h < 2048) → (((fields_at s (cell_of m)).owner == 0) && not (fields_at s (cell_of m)).unusable) ≡ false
+      → Refused (cell_of m) false is inside room (if (fields_at s (cell_of m)).unusable then ENOTRECOVERABLE else EBUSY)
   no_try m is inside room taken = go (fields_at s (cell_of m)).unusable refl ((fields_at s (cell_of m)).owner == 0) refl taken
     where
-      tried : (y : Reply) → try_sees 0 (fields_at s (cell_of m)) ≡ ends y → from_cell (p (cell_of m) false is inside room) (ends y) ≡ record { phase = Clearing y; point = Some y } → held_after h (lock_or_try false) (Some y) ≡ h → Leads s t (begins t (call.TryLock (cell_of m)) ++ Step t ∷ Step t ∷ []) s.words s.queues (on Idle h)
+      tried : (y : Reply) → try_sees 0 (fields_at s (cell_of m)) ≡ ends y → from_cell (p (cell_of m) false is inside room) (ends y) ≡ record { phase = Clearing y; point = Some y } → held_after h (lock_or_try false) (Some y) ≡ h → Refused (cell_of m) false is inside room y
       tried y sees leads held = refused (cell_of m) false is inside room y
           (ap (λ (v : ℕ). from_cell (p (cell_of m) false is inside room) (try_sees 0 (fields_of v))) (cell_stays (cell_of m) false is inside room)
           ∙ ap (from_cell (p (cell_of m) false is inside room)) sees ∙ leads) held
 
-      go : (a : Bool) → (fields_at s (cell_of m)).unusable ≡ a → (b : Bool) → ((fields_at s (cell_of m)).owner == 0) ≡ b → (b && not a) ≡ false → Leads s t (begins t (call.TryLock (cell_of m)) ++ Step t ∷ Step t ∷ []) s.words s.queues (on Idle h)
+      go : (a : Bool) → (fields_at s (cell_of m)).unusable ≡ a → (b : Bool) → ((fields_at s (cell_of m)).owner == 0) ≡ b → (b && not a) ≡ false → Refused (cell_of m) false is inside room (if a then ENOTRECOVERABLE else EBUSY)
       go true lost b e all = tried ENOTRECOVERABLE (tries_unusable (fields_at s (cell_of m)) lost) refl refl
       go false usable false some all = tried EBUSY (tries_owned (fields_at s (cell_of m)) usable some) refl refl
       go false usable true none all = absurd cc
@@ -160,13 +176,13 @@ module _ (x : Slots) (t : ℕ) (c : Choice) (at : IsAtRow x t) where
   first_row (Row.Looks k) is (inside, room) = by_test (AreEvents x t c (Row.Looks k)) ((fields_of (shown x (cell_place s.layout (cell_of k.mutex)))).owner == t)
       (makes (Access.Load (cell_in s.layout t (cell_of k.mutex))) (begins t (call.TimedLock (cell_of k.mutex)) ++ Step t ∷ Step t ∷ []) Row.Rests) (makes (Access.Load (cell_in s.layout t (cell_of k.mutex))) [] (Row.Pends k (shown x (cell_place s.layout (cell_of k.mutex)))))
       (λ own. by_load (Row.Looks k) Row.Rests _ (cell_in s.layout t (cell_of k.mutex)) (record { awake = λ a. refl; slept = λ a. refl; turns = λ d a. refl })
-      (_, own_lock k.mutex is inside room (sym (cell_says x k.mutex inside).owner ∙ eqb-true (fields_of (shown x (cell_place s.layout (cell_of k.mutex)))).owner t own)))
+      (_, (own_lock k.mutex is inside room (sym (cell_says x k.mutex inside).owner ∙ eqb-true (fields_of (shown x (cell_place s.layout (cell_of k.mutex)))).owner t own)).leads))
       (λ other. by_load (Row.Looks k) (Row.Pends k (shown x (cell_place s.layout (cell_of k.mutex)))) [] (cell_in s.layout t (cell_of k.mutex)) (record { awake = λ a. refl; slept = λ a. refl; turns = λ d a. refl }) (none Idle is))
   first_row (Row.TryLooks m) is (inside, room) = by_test (AreEvents x t c (Row.TryLooks m)) (is_free (shown x (cell_place s.layout (cell_of m))))
       (makes (Access.Load (cell_in s.layout t (cell_of m))) [] (Row.TryPends m (shown x (cell_place s.layout (cell_of m))))) (makes (Access.Load (cell_in s.layout t (cell_of m))) (begins t (call.TryLock (cell_of m)) ++ Step t ∷ Step t ∷ []) Row.Rests)
       (λ free. by_load (Row.TryLooks m) (Row.TryPends m (shown x (cell_place s.layout (cell_of m)))) [] (cell_in s.layout t (cell_of m)) (record { awake = λ a. refl; slept = λ a. refl; turns = λ d a. refl }) (none Idle is))
       (λ taken. by_load (Row.TryLooks m) Row.Rests _ (cell_in s.layout t (cell_of m)) (record { awake = λ a. refl; slept = λ a. refl; turns = λ d a. refl })
-      (_, no_try m is inside room ((λ i. (sym (cell_says x m inside).owner i == 0) && not (sym (cell_says x m inside).unusable i)) ∙ taken)))
+      (_, (no_try m is inside room ((λ i. (sym (cell_says x m inside).owner i == 0) && not (sym (cell_says x m inside).unusable i)) ∙ taken)).leads))
   first_row (Row.GiveLooks m) is inside = by_test (AreEvents x t c (Row.GiveLooks m)) ((fields_of (shown x (cell_place s.layout (cell_of m)))).owner == t)
       (makes (Access.Load (cell_in s.layout t (cell_of m))) [] (Row.GivePends m (OfUnlock (fields_of (shown x (cell_place s.layout (cell_of m)))).died))) (makes (Access.Load (cell_in s.layout t (cell_of m))) (Begin t (OnMutex (call.Unlock (cell_of m))) ∷ Step t ∷ []) Row.Rests)
       (λ own. by_load (Row.GiveLooks m) (Row.GivePends m (OfUnlock (fields_of (shown x (cell_place s.layout (cell_of m)))).died)) [] (cell_in s.layout t (cell_of m)) (record { awake = λ a. refl; slept = λ a. refl; turns = λ d a. refl }) (none Idle is))

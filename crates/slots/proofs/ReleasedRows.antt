@@ -19,8 +19,12 @@ use Rattle.slots.specs.Rows.Giving.{OfUnlock, OfWait}
 use Rattle.slots.specs.Rows.Onward.{Has, Fails, Sleeps}
 use Rattle.slots.specs.Rows.Then.{ToSleep, ToSlot}
 use Rattle.slots.specs.Shown.{Slots, shown}
-use Rattle.slots.specs.Table.{Made, begins_behind, counted, counted_row, freed_row, is_free, is_moving, is_on_list, later, made, makes, marked_events, marked_row, missed, on_cell, out_of, owned_row}
-use Rattle.slots.specs.Table.{refused_count, seen_events, seen_row, seen_to_sleep, sets_and_expires, shows_slept, sleep_row, taken_word, to_slot, tries, unlinked_row, wait_begins, waiting_word, watched_row}
+use Rattle.slots.specs.Words.{is_free, is_moving}
+use Rattle.slots.specs.Seen.{begins_behind, later, owned_row}
+use Rattle.slots.specs.Table.{Made, counted, counted_row, freed_row, is_on_list, made, makes, marked_events, marked_row, missed, on_cell, out_of}
+use Rattle.slots.specs.Words.{taken_word, waiting_word}
+use Rattle.slots.specs.Seen.{seen_events, seen_row, seen_to_sleep, sets_and_expires, sleep_row}
+use Rattle.slots.specs.Table.{refused_count, shows_slept, to_slot, tries, unlinked_row, wait_begins, watched_row}
 use Rattle.slots.specs.Stores.{Released}
 
 module _ (x : Slots) (t : ℕ) (c : Choice) (j seen_count : ℕ) (Goal : Type 0) where

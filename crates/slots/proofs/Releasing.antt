@@ -46,7 +46,8 @@ use Rattle.slots.specs.Rows.Giving.{OfUnlock, OfWait}
 use Rattle.slots.specs.Rows.Onward.{Fails, Has, Sleeps}
 use Rattle.slots.specs.Shown.{Slots}
 use Rattle.slots.specs.Stands.{IsFreeing, StandsAs}
-use Rattle.slots.specs.Table.{frees, giving_begins, made, wait_of}
+use Rattle.slots.specs.Seen.{frees, wait_of}
+use Rattle.slots.specs.Table.{giving_begins, made}
 use Rattle.slots.specs.Invariant.{fields_at}
 use Rattle.slots.specs.Accesses.{IsAtRow}
 use Rattle.slots.specs.Further.{IsOfCell, OwnsInside, IsToRelease, AnnouncedReleasesAreEvents}

@@ -1,5 +1,5 @@
 -- What memory shows of a mutex's owner and flags, and which accesses leave a word as it is.
-use Rattle.slots.specs.Table.{taken_word, waiting_word}
+use Rattle.slots.specs.Words.{taken_word, waiting_word}
 use Rattle.slots.proofs.FitsOn.{waiting_fields}
 use Rattle.lockword.specs.Coding.{fields_of-word_of}
 use Rattle.std.proofs.Common.{◌≡◌, ◌≢◌, ℕ, ◌+◌, ◌*◌, ◌/◌, ◌%◌, ◌<◌, ◌==◌, Bool, true, false, refl, sym, ap, ◌∙◌, subst, arith}

@@ -41,7 +41,8 @@ use Rattle.slots.specs.Rows.{Choice, How, Row, Taking}
 use Rattle.slots.specs.Rows.How.{Tried, Later, Waited}
 use Rattle.slots.specs.Shown.{Slots, memory, shown, shown_as}
 use Rattle.slots.specs.Stands.{IsToSleep, StandsAs}
-use Rattle.slots.specs.Table.{begins_behind, later, made, makes, on_cell, wait_of}
+use Rattle.slots.specs.Seen.{begins_behind, later, wait_of}
+use Rattle.slots.specs.Table.{made, makes, on_cell}
 use Rattle.slots.specs.Accesses.{IsAbout, IsAboutIt, IsAtRow}
 use Rattle.slots.specs.Further.{IsSleeping, MayTake, SeesAnother, SleepsAreEvents}
 use Rattle.slots.proofs.Chains.{again_more, sees_sleep_more, sleeps_more, wakes_more}
@@ -80,7 +81,7 @@ waits_words x t at e p = go (is_valid x.machine.layout (place_in x.machine.layou
     go true = put_there (shown x) (place_in x.machine.layout t at) p
     go false = refl
 
-waits_queues : (x : Slots) (t at e pl : ℕ) → place_in x.machine.layout t at ≡ pl → is_valid x.machine.layout pl ≡ true → (p : ℕ) → queues_after (memory x) t (Access.Wait at e) p ≡ put x.machine.queues pl (if shown x pl % 2 ^ 32 == e then x.machine.queues pl ++ t ∷ [] else x.machine.queues pl) p
+pub waits_queues : (x : Slots) (t at e pl : ℕ) → place_in x.machine.layout t at ≡ pl → is_valid x.machine.layout pl ≡ true → (p : ℕ) → queues_after (memory x) t (Access.Wait at e) p ≡ put x.machine.queues pl (if shown x pl % 2 ^ 32 == e then x.machine.queues pl ++ t ∷ [] else x.machine.queues pl) p
 waits_queues x t at e pl place valid p =
     (λ i. (if is_valid x.machine.layout (place i) then put x.machine.queues (place i) (if shown x (place i) % 2 ^ 32 == e then x.machine.queues (place i) ++ t ∷ [] else x.machine.queues (place i)) else x.machine.queues) p)
     ∙ ap (λ (b : Bool). (if b then put x.machine.queues pl (if shown x pl % 2 ^ 32 == e then x.machine.queues pl ++ t ∷ [] else x.machine.queues pl) else x.machine.queues) p) valid
@@ -181,8 +182,8 @@ module _ (x : Slots) (t : ℕ) (c : Choice) (at : IsAtRow x t) where
   -- ---- on the counter
 
   on_counter : (m k n : ℕ) (timed : Bool) (o : CondCall) → condition_of o ≡ k → IsAtWord z t o (CondPhase.AtWords (cond_row.Wait (wait.Sleep n)))
-      → AreEvents x t c (Row.WaitSleeps m k n timed) (makes (Access.Wait (counter_in z.layout t k) n) (Step t ∷ []) (Row.WaitAsleep m k timed))
-  on_counter m k n timed o of a = subst (λ (j : ℕ). AreEvents x t c (Row.WaitSleeps m k n timed) (makes (Access.Wait (counter_in z.layout t j) n) (Step t ∷ []) (Row.WaitAsleep m k timed))) of (go (z.words spot % 2 ^ 32 == n) refl)
+      → AreEvents x t c (Row.WaitSleeps m k n timed) (makes (Access.Wait (counter_in z.layout t k) n) (Step t ∷ []) (Row.WaitAsleep m k n timed))
+  on_counter m k n timed o of a = subst (λ (j : ℕ). AreEvents x t c (Row.WaitSleeps m k n timed) (makes (Access.Wait (counter_in z.layout t j) n) (Step t ∷ []) (Row.WaitAsleep m k n timed))) of (go (z.words spot % 2 ^ 32 == n) refl)
     where
       spot : ℕ
       spot = counter_place z.layout (condition_of o)
@@ -206,11 +207,11 @@ module _ (x : Slots) (t : ℕ) (c : Choice) (at : IsAtRow x t) where
       low : shown x spot % 2 ^ 32 ≡ z.words spot % 2 ^ 32
       low = counter_low x (condition_of o) a.counter
 
-      go : (b : Bool) → (z.words spot % 2 ^ 32 == n) ≡ b → AreEvents x t c (Row.WaitSleeps m k n timed) (makes (Access.Wait (counter_in z.layout t (condition_of o)) n) (Step t ∷ []) (Row.WaitAsleep m k timed))
-      go true e = asleep_on (Row.WaitSleeps m k n timed) (Row.WaitAsleep m k timed) (Step t ∷ []) (counter_in z.layout t (condition_of o)) n spot (on awake h) (record { awake = λ a. refl; slept = λ a. refl; turns = λ d a. refl }) there (counter_is_valid z.layout (condition_of o) a.counter) (ap (λ (v : ℕ). v == n) low ∙ e)
+      go : (b : Bool) → (z.words spot % 2 ^ 32 == n) ≡ b → AreEvents x t c (Row.WaitSleeps m k n timed) (makes (Access.Wait (counter_in z.layout t (condition_of o)) n) (Step t ∷ []) (Row.WaitAsleep m k n timed))
+      go true e = asleep_on (Row.WaitSleeps m k n timed) (Row.WaitAsleep m k n timed) (Step t ∷ []) (counter_in z.layout t (condition_of o)) n spot (on awake h) (record { awake = λ a. refl; slept = λ a. refl; turns = λ d a. refl }) there (counter_is_valid z.layout (condition_of o) a.counter) (ap (λ (v : ℕ). v == n) low ∙ e)
           (cond_more z t [] z.words z.queues o asleep h at.first at.last l (Access.Wait (counter_in z.layout t (condition_of o)) n) spot z.words (put z.queues spot (z.queues spot ++ t ∷ [])) (condition.onward (CondPhase.Locking (retaking t (head_in z.layout t) (entry_in z.layout t (programs.mutex_of z.layout o)) (cell_in z.layout t (programs.mutex_of z.layout o))))) (on awake h)
           refl there tt (put_back z.words spot) (ap (λ (b : Bool). put z.queues spot (if b then z.queues spot ++ t ∷ [] else z.queues spot)) e) (leads (z.words spot % 2 ^ 32 == n)) refl (unmoved (acts_as o) h) (all_still z z.words))
-      go false e = awake_on (Row.WaitSleeps m k n timed) (Row.WaitAsleep m k timed) (Step t ∷ []) (counter_in z.layout t (condition_of o)) n spot (on awake h) (record { awake = λ a. refl; slept = λ a. refl; turns = λ d a. refl }) there (ap (λ (v : ℕ). v == n) low ∙ e)
+      go false e = awake_on (Row.WaitSleeps m k n timed) (Row.WaitAsleep m k n timed) (Step t ∷ []) (counter_in z.layout t (condition_of o)) n spot (on awake h) (record { awake = λ a. refl; slept = λ a. refl; turns = λ d a. refl }) there (ap (λ (v : ℕ). v == n) low ∙ e)
           (cond_more z t [] z.words z.queues o asleep h at.first at.last l (Access.Wait (counter_in z.layout t (condition_of o)) n) spot z.words z.queues (condition.onward (CondPhase.Locking (retaking t (head_in z.layout t) (entry_in z.layout t (programs.mutex_of z.layout o)) (cell_in z.layout t (programs.mutex_of z.layout o))))) (on awake h)
           refl there tt (put_back z.words spot) (ap (λ (b : Bool). put z.queues spot (if b then z.queues spot ++ t ∷ [] else z.queues spot)) e ∙ put_back z.queues spot) (leads (z.words spot % 2 ^ 32 == n)) refl (unmoved (acts_as o) h) (all_still z z.words))
 

@@ -23,7 +23,9 @@ use Rattle.slots.specs.Rows.{Choice, Row}
 use Rattle.slots.specs.Rows.Giving.{OfUnlock, OfWait}
 use Rattle.slots.specs.Shown.{Slots, memory, shown}
 use Rattle.slots.specs.Stands.{StandsAs}
-use Rattle.slots.specs.Table.{Made, given_row, heir_of, is_on_list, made, makes, released, shows_heir, shows_slept, unlinked_row, wait_begins}
+use Rattle.slots.specs.Words.{shows_heir}
+use Rattle.slots.specs.Seen.{heir_of}
+use Rattle.slots.specs.Table.{Made, given_row, is_on_list, made, makes, released, shows_slept, unlinked_row, wait_begins}
 use Rattle.slots.specs.Runs.{slept_after}
 use Rattle.slots.specs.Fits.{AreOfUs, Fits}
 use Rattle.slots.specs.Premises.{SeesCount}

@@ -19,7 +19,9 @@ use Rattle.slots.specs.Rows.{Choice, Row}
 use Rattle.slots.specs.Rows.Giving.{OfUnlock, OfWait}
 use Rattle.slots.specs.Shown.{Slots, after, memory, shown}
 use Rattle.slots.specs.Stands.{StandsAs}
-use Rattle.slots.specs.Table.{Made, counted, counted_row, heir_of, made, makes, released, shows_heir, shows_slept}
+use Rattle.slots.specs.Words.{shows_heir}
+use Rattle.slots.specs.Seen.{heir_of}
+use Rattle.slots.specs.Table.{Made, counted, counted_row, made, makes, released, shows_slept}
 use Rattle.slots.specs.Runs.{Happening, at_row, is_resting, lapse_events, lapse_row, made_by, may_call, next, slept_after}
 use Rattle.slots.specs.Runs.Happening.{Calls, Goes, Interrupts, Lapses, Dies, Walks, Lives}
 use Rattle.slots.specs.Invariant.{fields_at}
@@ -253,8 +255,8 @@ module _ (x : Slots) (t : ℕ) (pos : 1 ≤ t) (known : t ≤ x.machine.layout.t
     where
       of_row : (r : Row) → SeesSlept x r → SeesSlept (at_row (after x (lapse_events x t r)) t (lapse_row r)) (lapse_row r)
       of_row (Row.Asleep k) h = by_test (SeesSlept (at_row (after x (lapse_events x t (Row.Asleep k))) t (lapse_row (Row.Asleep k)))) k.timed (Row.Late k) (Row.Asleep k) (λ e. tt) (λ e. tt)
-      of_row (Row.WaitAsleep m k true) h = tt
-      of_row (Row.WaitAsleep m k false) h = tt
+      of_row (Row.WaitAsleep m k n true) h = tt
+      of_row (Row.WaitAsleep m k n false) h = tt
       of_row r h = h
 
   die_slept : Sees (next x (Dies t))
@@ -283,14 +285,14 @@ first_gives l held r k n e rel = absurd cc
 
 lapse_counts : (r : Row) (k : ℕ) → CountsOn (lapse_row r) k → CountsOn r k
 lapse_counts (Row.Asleep i) k = by_test (λ (r : Row). CountsOn r k → ⊥) i.timed (Row.Late i) (Row.Asleep i) (λ e on. on) (λ e on. on)
-lapse_counts (Row.WaitAsleep m i true) k = λ on. on
-lapse_counts (Row.WaitAsleep m i false) k = λ on. on
+lapse_counts (Row.WaitAsleep m i n true) k = λ on. on
+lapse_counts (Row.WaitAsleep m i n false) k = λ on. on
 lapse_counts r k = λ on. on
 
 lapse_gives : (r : Row) (k n : ℕ) → Released (lapse_row r) k n → Released r k n
 lapse_gives (Row.Asleep i) k n = by_test (λ (r : Row). Released r k n → ⊥) i.timed (Row.Late i) (Row.Asleep i) (λ e rel. rel) (λ e rel. rel)
-lapse_gives (Row.WaitAsleep m i true) k n = λ rel. rel
-lapse_gives (Row.WaitAsleep m i false) k n = λ rel. rel
+lapse_gives (Row.WaitAsleep m i w true) k n = λ rel. rel
+lapse_gives (Row.WaitAsleep m i w false) k n = λ rel. rel
 lapse_gives r k n = λ rel. rel
 
 -- a call that has counted had counted before, or counts now

@@ -29,7 +29,8 @@ use Rattle.slots.specs.Rows.{Row}
 use Rattle.slots.specs.Rows.Giving.{OfWait}
 use Rattle.slots.specs.Shown.{Slots, after}
 use Rattle.slots.specs.Stands.{StandsAs}
-use Rattle.slots.specs.Table.{made, wait_of}
+use Rattle.slots.specs.Seen.{wait_of}
+use Rattle.slots.specs.Table.{made}
 use Rattle.slots.specs.Runs.{Happening, at_row, events_of, is_resting, lapse_events, lapse_row, made_by, may_call, next}
 use Rattle.slots.specs.Runs.Happening.{Calls, Goes, Interrupts, Lapses, Dies, Walks, Lives}
 use Rattle.slots.specs.Accesses.{IsAtRow}
@@ -146,8 +147,8 @@ empty_next x (Lapses t) s pos known w k inside none away = by_test (λ (y : Slot
   where
     of_row : (r : Row) → (run x.machine (lapse_events x t r)).queues (counter_place (run x.machine (lapse_events x t r)).layout k) ≡ []
     of_row (Row.Asleep j) = by_test (λ (es : List Event). (run x.machine es).queues (counter_place (run x.machine es).layout k) ≡ []) j.timed (Expire t ∷ []) [] (λ e. expire_empty x.machine t k none) (λ e. none)
-    of_row (Row.WaitAsleep m i true) = by_test (λ (es : List Event). (run x.machine es).queues (counter_place (run x.machine es).layout k) ≡ []) (stands_in t (x.machine.queues (counter_place x.machine.layout i))) (Expire t ∷ []) (Leave t ∷ []) (λ e. expire_empty x.machine t k none) (λ e. leave_empty x.machine t k none)
-    of_row (Row.WaitAsleep m i false) = none
+    of_row (Row.WaitAsleep m i n true) = by_test (λ (es : List Event). (run x.machine es).queues (counter_place (run x.machine es).layout k) ≡ []) (stands_in t (x.machine.queues (counter_place x.machine.layout i))) (Expire t ∷ []) (Leave t ∷ []) (λ e. expire_empty x.machine t k none) (λ e. leave_empty x.machine t k none)
+    of_row (Row.WaitAsleep m i n false) = none
     of_row r = none
 empty_next x (Dies t) s pos known w k inside none away = by_test (λ (y : Slots). queue_at y k ≡ []) (has_thread x.machine t && is_alive (x.machine.threads t).stage) (at_row (after x (Kill t ∷ [])) t Row.Rests) x (λ e. kill_empty x.machine t k none) (λ e. none)
 empty_next x (Walks t) s pos known w k inside none away = by_test (λ (y : Slots). queue_at y k ≡ []) (is_dying x.machine t) (after x (Step t ∷ [])) x (λ e. let at = dying_at (x.machine.threads t).stage (second_of (has_thread x.machine t) (is_exiting (x.machine.threads t).stage) e) in walk_empty x.machine t k none at.0 (reached_kept x.machine s.reached) pos known at.1) (λ e. none)

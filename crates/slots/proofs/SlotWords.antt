@@ -25,7 +25,9 @@ use Rattle.slots.specs.Rows.Before.{Linked, Mended, Again}
 use Rattle.slots.specs.Rows.Giving.{OfUnlock, OfWait}
 use Rattle.slots.specs.Rows.Onward.{Fails}
 use Rattle.slots.specs.Shown.{Slots, memory, shown}
-use Rattle.slots.specs.Table.{Made, begins_behind, counted, given_row, gives, heir_of, is_free, later, made, makes, marked_events, marked_row, missed, on_cell, out_of, refused_count, seen_events, seen_row, sets_and_expires, shows_heir, shows_slept, taken_word, wait_begins, waiting_word, watched_row}
+use Rattle.slots.specs.Words.{is_free, shows_heir, taken_word, waiting_word}
+use Rattle.slots.specs.Seen.{begins_behind, heir_of, later, seen_events, seen_row, sets_and_expires}
+use Rattle.slots.specs.Table.{Made, counted, given_row, gives, made, makes, marked_events, marked_row, missed, on_cell, out_of, refused_count, shows_slept, wait_begins, watched_row}
 use Rattle.slots.specs.Accesses.{IsAlongList}
 use Rattle.slots.specs.Fits.{AreOfUs, Fits, GivesOurs, IsOurs}
 use Rattle.slots.specs.Premises.{Owning}
@@ -196,8 +198,8 @@ module _ (x y : Slots) (t : ℕ) (c : Choice) (inv : Kept x.machine) (pos : 1 �
   slots_row (Row.WaitCounts m k timed died) g o w apart never = two died (makes (Access.Load (address_in l t (counter_place l k))) (wait_begins x t c k timed) Row.Rests) (makes (Access.Load (address_in l t (counter_place l k))) [] (Row.GivePends m (OfWait k (shown x (counter_place l k) % 4294967296) (shows_slept x t c (shown x (counter_place l k))) timed))) (λ e. reading (Access.Load (address_in l t (counter_place l k))) _ tt) (λ e is. inl refl)
   slots_row (Row.WaitSets m k n timed) g o w apart never = (λ is. inl refl)
   slots_row (Row.WaitSleeps m k n timed) g o w apart never = reading (Access.Wait (address_in l t (counter_place l k)) n) _ tt
-  slots_row (Row.WaitAsleep m k timed) g o w apart never = (λ is. inl refl)
-  slots_row (Row.WaitLate m k) g o w apart never = (λ is. inl refl)
+  slots_row (Row.WaitAsleep m k n timed) g o w apart never = (λ is. inl refl)
+  slots_row (Row.WaitLate m k n) g o w apart never = (λ is. inl refl)
   slots_row (Row.CountLooks m k all) g o w apart never = two ((fields_of (W (cell_of m))).owner == t) (makes (Access.Load (cell_at m)) [] (Row.CountLoads m k all)) (makes (Access.Load (cell_at m)) (refused_count x t c k all) Row.Rests) (λ e is. inl refl) (λ e. reading (Access.Load (cell_at m)) _ tt)
   slots_row (Row.CountLoads m k all) g o w apart never = (λ is. inl refl)
   slots_row (Row.Counts m k all n) g o w apart never = counter m k (Access.Store (address_in l t (counter_place l k)) (counted x t c n)) _ o refl

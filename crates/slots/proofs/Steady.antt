@@ -294,20 +294,20 @@ module _ (x : Slots) (t : ℕ) (pos : 1 ≤ t) (known : t ≤ x.machine.layout.t
 
   lapse_fits : (r : Row) → Fits z.layout t r g → Fits z.layout t (lapse_row r) ((run z (lapse_events x t r)).threads t).stage
   lapse_fits (Row.Asleep k) o = by_test (λ (r : Row). Fits z.layout t r ((run z (lapse_events x t (Row.Asleep k))).threads t).stage) k.timed (Row.Late k) (Row.Asleep k) (λ e. o.0) (λ e. o)
-  lapse_fits (Row.WaitAsleep m k true) o = o
-  lapse_fits (Row.WaitAsleep m k false) o = o
+  lapse_fits (Row.WaitAsleep m k n true) o = o
+  lapse_fits (Row.WaitAsleep m k n false) o = o
   lapse_fits r o = o
 
   lapse_owns : (r : Row) → Owning z t r → Owning (run z (lapse_events x t r)) t (lapse_row r)
   lapse_owns (Row.Asleep k) o = by_test (λ (r : Row). Owning (run z (lapse_events x t (Row.Asleep k))) t r) k.timed (Row.Late k) (Row.Asleep k) (λ e. tt) (λ e. tt)
-  lapse_owns (Row.WaitAsleep m k true) o = tt
-  lapse_owns (Row.WaitAsleep m k false) o = tt
+  lapse_owns (Row.WaitAsleep m k n true) o = tt
+  lapse_owns (Row.WaitAsleep m k n false) o = tt
   lapse_owns r o = o
 
   lapse_plain : (r : Row) (m : ℕ) → IsOurs z.layout m → IsPlain (run z (lapse_events x t r)) m
   lapse_plain (Row.Asleep k) m ours = by_test (λ (es : List Event). IsPlain (run z es) m) k.timed (Expire t ∷ []) [] (λ e. expire_plain z t m (s.plain m ours)) (λ e. s.plain m ours)
-  lapse_plain (Row.WaitAsleep j k true) m ours = by_test (λ (es : List Event). IsPlain (run z es) m) (stands_in t (z.queues (counter_place z.layout k))) (Expire t ∷ []) (Leave t ∷ []) (λ e. expire_plain z t m (s.plain m ours)) (λ e. leave_plain z t m (s.plain m ours))
-  lapse_plain (Row.WaitAsleep j k false) m ours = s.plain m ours
+  lapse_plain (Row.WaitAsleep j k n true) m ours = by_test (λ (es : List Event). IsPlain (run z es) m) (stands_in t (z.queues (counter_place z.layout k))) (Expire t ∷ []) (Leave t ∷ []) (λ e. expire_plain z t m (s.plain m ours)) (λ e. leave_plain z t m (s.plain m ours))
+  lapse_plain (Row.WaitAsleep j k n false) m ours = s.plain m ours
   lapse_plain r m ours = s.plain m ours
 
   -- it owns as many after a timeout
@@ -328,8 +328,8 @@ module _ (x : Slots) (t : ℕ) (pos : 1 ≤ t) (known : t ≤ x.machine.layout.t
       go : (b : Bool) → k.timed ≡ b → RoomAt ((run z (if b then Expire t ∷ [] else [])).threads t).held (if b then Row.Late k else Row.Asleep k)
       go true e = few_late k (fits.1 e) o
       go false e = o
-  lapse_room (Row.WaitAsleep m k true) fits o = tt
-  lapse_room (Row.WaitAsleep m k false) fits o = tt
+  lapse_room (Row.WaitAsleep m k n true) fits o = tt
+  lapse_room (Row.WaitAsleep m k n false) fits o = tt
   lapse_room r fits o = o
 
   alive_asleep : (f : Stage) → sleeps z t f ≡ true → is_alive f ≡ true
@@ -342,9 +342,9 @@ module _ (x : Slots) (t : ℕ) (pos : 1 ≤ t) (known : t ≤ x.machine.layout.t
       go : (b : Bool) → OwnWatched (run z (if b then Expire t ∷ [] else [])) x.awake t (if b then Row.Late k else Row.Asleep k)
       go true = late_watched z x.awake t (Row.Asleep k) w (Row.Late k) alive (λ m h. h)
       go false = w
-  lapse_watched (Row.WaitAsleep m k true) alive w = by_test (λ (es : List Event). OwnWatched (run z es) x.awake t (Row.WaitLate m k)) (stands_in t (z.queues (counter_place z.layout k))) (Expire t ∷ []) (Leave t ∷ [])
-      (λ e. late_watched z x.awake t (Row.WaitAsleep m k true) w (Row.WaitLate m k) alive (λ j h. h)) (λ e. gone_watched z x.awake t (Row.WaitAsleep m k true) w (Row.WaitLate m k) alive (λ j h. h))
-  lapse_watched (Row.WaitAsleep m k false) alive w = w
+  lapse_watched (Row.WaitAsleep m k n true) alive w = by_test (λ (es : List Event). OwnWatched (run z es) x.awake t (Row.WaitLate m k n)) (stands_in t (z.queues (counter_place z.layout k))) (Expire t ∷ []) (Leave t ∷ [])
+      (λ e. late_watched z x.awake t (Row.WaitAsleep m k n true) w (Row.WaitLate m k n) alive (λ j h. h)) (λ e. gone_watched z x.awake t (Row.WaitAsleep m k n true) w (Row.WaitLate m k n) alive (λ j h. h))
+  lapse_watched (Row.WaitAsleep m k n false) alive w = w
   lapse_watched r alive w = w
 
   pub lapses : Both (next x (Lapses t))

@@ -43,8 +43,10 @@ use Rattle.slots.specs.Rows.{Choice, Onward, Row, Taking}
 use Rattle.slots.specs.Rows.Giving.{OfUnlock, OfWait}
 use Rattle.slots.specs.Rows.Onward.{Fails, Has, Sleeps}
 use Rattle.slots.specs.Shown.{Slots, shown}
+use Rattle.slots.specs.Stands.RepliesAs.{SlotsUnlock, Same}
 use Rattle.slots.specs.Stands.{IsAtWords, IsIn, IsWaking, StandsAs}
-use Rattle.slots.specs.Table.{hands_row, wait_of}
+use Rattle.slots.specs.Seen.{wait_of}
+use Rattle.slots.specs.Table.{hands_row}
 use Rattle.slots.specs.Invariant.{fields_at}
 use Rattle.slots.specs.Accesses.{IsAtRow}
 use Rattle.slots.specs.Goes.{LeadsOn}
@@ -122,8 +124,8 @@ module _ (x : Slots) (t : ℕ) (c : Choice) (at : IsAtRow x t) where
       ends_so = release_ends (slot_of k.mutex) false (is_at z t (OnMutex (Unlock (slot_of k.mutex))) p (slot_of k.mutex) (AtCell (mutex_row.Unlock (unlock.Release false))) inv at.first at.last is phase refl) alone
 
       go : (y : Onward) → LeadsOn x t c (Row.FreeGives k y)
-      go (Has r) = (OnMutex (Unlock (slot_of k.mutex)), _, OK, ends_so, refl)
-      go (Fails r) = (OnMutex (Unlock (slot_of k.mutex)), _, OK, ends_so, refl)
+      go (Has r) = (OnMutex (Unlock (slot_of k.mutex)), _, OK, ends_so, refl, SlotsUnlock refl refl)
+      go (Fails r) = (OnMutex (Unlock (slot_of k.mutex)), _, OK, ends_so, refl, SlotsUnlock refl refl)
       go Sleeps = inr (_, ends_so, refl)
 
   pub gives_cell : (m : ℕ) (d : Bool) → IsIn (Unlock (cell_of m)) (AtCell (mutex_row.Unlock (unlock.Release d))) g → LeadsOn x t c (Row.Gives m (OfUnlock d))
@@ -139,15 +141,15 @@ module _ (x : Slots) (t : ℕ) (c : Choice) (at : IsAtRow x t) where
       says = cell_says x m is_there.inside
 
       go : (e : Bool) → IsAt z t (OnMutex (Unlock (cell_of m))) (cell_of m) (AtCell (mutex_row.Unlock (unlock.Release e))) → (b : Bool) → (fields_of word).waiters ≡ b → LeadsOn x t c (Row.Gives m (OfUnlock e))
-      go true a true waits = subst (λ (b : Bool). StandsAs (if b then Row.WakesAll m OK else Row.Clears m OK) ((run z (Step t ∷ [])).threads t).stage) (sym waits) (inr (_, release_wakes (cell_of m) true a (sym says.waiters ∙ waits), refl))
-      go true a false alone = subst (λ (b : Bool). StandsAs (if b then Row.WakesAll m OK else Row.Clears m OK) ((run z (Step t ∷ [])).threads t).stage) (sym alone) (OnMutex (Unlock (cell_of m)), _, OK, release_ends (cell_of m) true a (sym says.waiters ∙ alone), refl)
+      go true a true waits = subst (λ (b : Bool). StandsAs (if b then Row.WakesAll m OK else Row.Clears m OK) ((run z (Step t ∷ [])).threads t).stage) (sym waits) (inr ((_, release_wakes (cell_of m) true a (sym says.waiters ∙ waits), refl), refl))
+      go true a false alone = subst (λ (b : Bool). StandsAs (if b then Row.WakesAll m OK else Row.Clears m OK) ((run z (Step t ∷ [])).threads t).stage) (sym alone) (OnMutex (Unlock (cell_of m)), _, OK, release_ends (cell_of m) true a (sym says.waiters ∙ alone), refl, Same refl)
       go false a true waits = subst (λ (b : Bool). StandsAs (if b then hands_row x t c m (OfUnlock false) (word - t) else Row.Clears m OK) ((run z (Step t ∷ [])).threads t).stage) (sym waits)
           (hands c.yes (_, release_wakes (cell_of m) false a (sym says.waiters ∙ waits), refl))
         where
           hands : (b : Bool) → IsWaking m (OfUnlock false) ((run z (Step t ∷ [])).threads t).stage → StandsAs (if b then Row.WakesOne m (OfUnlock false) (word - t) else Row.HandsOn m (OfUnlock false) (word - t)) ((run z (Step t ∷ [])).threads t).stage
           hands true there = there
           hands false there = there
-      go false a false alone = subst (λ (b : Bool). StandsAs (if b then hands_row x t c m (OfUnlock false) (word - t) else Row.Clears m OK) ((run z (Step t ∷ [])).threads t).stage) (sym alone) (OnMutex (Unlock (cell_of m)), _, OK, release_ends (cell_of m) false a (sym says.waiters ∙ alone), refl)
+      go false a false alone = subst (λ (b : Bool). StandsAs (if b then hands_row x t c m (OfUnlock false) (word - t) else Row.Clears m OK) ((run z (Step t ∷ [])).threads t).stage) (sym alone) (OnMutex (Unlock (cell_of m)), _, OK, release_ends (cell_of m) false a (sym says.waiters ∙ alone), refl, Same refl)
 
   -- ---- a trim
 
@@ -168,8 +170,8 @@ module _ (x : Slots) (t : ℕ) (c : Choice) (at : IsAtRow x t) where
           ∙ ap (λ (y : Thread). y.stage) (put-same z.threads t _)
 
       go : (b : Bool) → StandsAs (Row.Clears m OK) ((run z (if b then Step t ∷ [] else Decline t ∷ [])).threads t).stage
-      go true = (OnMutex (Unlock (cell_of m)), _, OK, step_at (OnMutex (Unlock (cell_of m))) (cell_of m) (AtCell (mutex_row.Unlock unlock.Trim)) _ a refl (cell_again z.layout t inv.layout at.first at.last (cell_of m) a.inside), refl)
-      go false = (OnMutex (Unlock (cell_of m)), _, OK, declines, refl)
+      go true = (OnMutex (Unlock (cell_of m)), _, OK, step_at (OnMutex (Unlock (cell_of m))) (cell_of m) (AtCell (mutex_row.Unlock unlock.Trim)) _ a refl (cell_again z.layout t inv.layout at.first at.last (cell_of m) a.inside), refl, Same refl)
+      go false = (OnMutex (Unlock (cell_of m)), _, OK, declines, refl, Same refl)
 
   -- ---- a broadcast's move
 

@@ -21,7 +21,8 @@ use Rattle.slots.specs.Rows.{Choice, How, Row, Taking}
 use Rattle.slots.specs.Rows.How.{Tried, Later, Waited}
 use Rattle.slots.specs.Shown.{Slots, after, memory, shown, shown_mutex, turned_by}
 use Rattle.slots.specs.Stands.{StandsAs, IsToLook}
-use Rattle.slots.specs.Table.{Made, made, taken_word}
+use Rattle.slots.specs.Words.{taken_word}
+use Rattle.slots.specs.Table.{Made, made}
 use Rattle.slots.specs.Runs.{awake_after, slept_after, turns_after}
 use Rattle.slots.specs.Invariant.{fields_at}
 use Rattle.slots.specs.Accesses.{IsAbout, IsAboutIt, IsAtRow, Finds, IsFound, TakesAreEvents}

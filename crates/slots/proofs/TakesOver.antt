@@ -18,7 +18,8 @@ use Rattle.slots.specs.Rows.{Giving}
 use Rattle.slots.specs.Rows.Giving.{OfUnlock, OfWait}
 use Rattle.slots.specs.Shown.{Slots, shown}
 use Rattle.slots.specs.Stands.{IsWaking}
-use Rattle.slots.specs.Table.{heir_of, shows_heir, wait_of}
+use Rattle.slots.specs.Words.{shows_heir}
+use Rattle.slots.specs.Seen.{heir_of, wait_of}
 use Rattle.slots.specs.Invariant.{HasRoom, HeirsAnswer, SlotIsQuiet}
 use Rattle.slots.specs.Laws.{IsReached}
 use Rattle.slots.specs.Fits.{GivesOurs}

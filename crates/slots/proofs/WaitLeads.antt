@@ -41,8 +41,11 @@ use Rattle.slots.specs.Places.{cell_of, slot_of}
 use Rattle.slots.specs.Rows.{Choice, Giving, Row}
 use Rattle.slots.specs.Rows.Giving.{OfUnlock, OfWait}
 use Rattle.slots.specs.Shown.{Slots, shown}
+use Rattle.slots.specs.Stands.RepliesAs.{Same}
 use Rattle.slots.specs.Stands.{IsAtWords, IsIn, IsWaking, StandsAs}
-use Rattle.slots.specs.Table.{Made, hands_row, heir_of, is_on_list, is_unlinking_at, makes, shows_heir, wait_of}
+use Rattle.slots.specs.Words.{shows_heir}
+use Rattle.slots.specs.Seen.{heir_of, wait_of}
+use Rattle.slots.specs.Table.{Made, hands_row, is_on_list, is_unlinking_at, makes}
 use Rattle.slots.specs.Accesses.{IsAbout, IsAtRow}
 use Rattle.slots.specs.Goes.{LeadsOn}
 use Rattle.slots.proofs.Free.{reached_kept}
@@ -143,7 +146,7 @@ module _ (x : Slots) (t : ℕ) (c : Choice) (at : IsAtRow x t) where
   -- ---- a look at the slot or at the cell, by which a wake may be spared
 
   spares_unlock : (m : ℕ) (by : LeftTo) → IsIn (Unlock (cell_of m)) (AtCell (mutex_row.Unlock (unlock.Wake false))) g → is_left_to z t (cell_of m) by ≡ true → StandsAs (Row.Clears m OK) ((run z (Spare t by ∷ [])).threads t).stage
-  spares_unlock m by (p, is, phase) left = (OnMutex (Unlock (cell_of m)), call_at z.layout t operation.Unlock (cell_of m) (Clearing OK), OK, to, refl)
+  spares_unlock m by (p, is, phase) left = (OnMutex (Unlock (cell_of m)), call_at z.layout t operation.Unlock (cell_of m) (Clearing OK), OK, to, refl, Same refl)
     where
       here : Whole
       here = call_at z.layout t operation.Unlock (cell_of m) (AtCell (mutex_row.Unlock (unlock.Wake false)))

@@ -205,8 +205,8 @@ module _ (x : Slots) (t : ℕ) where
 
   lapse_alike : (r : Row) → AlikeThen (run x.machine (lapse_events x t r))
   lapse_alike (Row.Asleep k) = by_test (λ (es : List Event). AlikeThen (run x.machine es)) k.timed (Expire t ∷ []) [] (λ e. expire_alike) (λ e. ((λ k. refl), refl))
-  lapse_alike (Row.WaitAsleep j k true) = by_test (λ (es : List Event). AlikeThen (run x.machine es)) (stands_in t (x.machine.queues (counter_place x.machine.layout k))) (Expire t ∷ []) (Leave t ∷ []) (λ e. expire_alike) (λ e. leave_alike)
-  lapse_alike (Row.WaitAsleep j k false) = ((λ k. refl), refl)
+  lapse_alike (Row.WaitAsleep j k n true) = by_test (λ (es : List Event). AlikeThen (run x.machine es)) (stands_in t (x.machine.queues (counter_place x.machine.layout k))) (Expire t ∷ []) (Leave t ∷ []) (λ e. expire_alike) (λ e. leave_alike)
+  lapse_alike (Row.WaitAsleep j k n false) = ((λ k. refl), refl)
   lapse_alike r = ((λ k. refl), refl)
 
   lapses_alike : AlikeThen (next x (Lapses t)).machine

@@ -120,10 +120,10 @@ module _ (x : Slots) (t : ℕ) (c : Choice) (at : IsAtRow x t) where
       (subst (λ (a : Access). is_met x.machine.layout t a ≡ true) access step))
 
   pub wake_row : (r : Row) → StandsAs r (x.machine.threads t).stage → IsAboutIt x.machine.layout r (x.machine.threads t).stage → IsWake r → AreEvents x t c r (made x t c r)
-  wake_row (Row.WakesAll m y) (inl (inl (p, is, phase))) about wake = in_call m most_threads (Row.WakesAll m y) (Row.Clears m y) _ p _ (record { awake = λ a. refl; slept = λ a. refl; turns = λ d a. refl }) is phase refl refl
-  wake_row (Row.WakesAll m y) (inl (inr (inl (p, is, phase)))) about wake = in_call m most_threads (Row.WakesAll m y) (Row.Clears m y) _ p _ (record { awake = λ a. refl; slept = λ a. refl; turns = λ d a. refl }) is phase refl refl
-  wake_row (Row.WakesAll m y) (inl (inr (inr (k, (o, p, is, of, acts, phase))))) about wake = in_call m most_threads (Row.WakesAll m y) (Row.Clears m y) _ p _ (record { awake = λ a. refl; slept = λ a. refl; turns = λ d a. refl }) is phase refl (subst (IsAbout x.machine.layout m) is about)
-  wake_row (Row.WakesAll m y) (inr (p, is, phase)) about wake = in_call m most_threads (Row.WakesAll m y) (Row.Clears m y) _ p _ (record { awake = λ a. refl; slept = λ a. refl; turns = λ d a. refl }) is phase refl refl
+  wake_row (Row.WakesAll m y) (inl (inl (p, is, phase), same)) about wake = in_call m most_threads (Row.WakesAll m y) (Row.Clears m y) _ p _ (record { awake = λ a. refl; slept = λ a. refl; turns = λ d a. refl }) is phase refl refl
+  wake_row (Row.WakesAll m y) (inl (inr (inl (p, is, phase)), same)) about wake = in_call m most_threads (Row.WakesAll m y) (Row.Clears m y) _ p _ (record { awake = λ a. refl; slept = λ a. refl; turns = λ d a. refl }) is phase refl refl
+  wake_row (Row.WakesAll m y) (inl (inr (inr (k, (o, p, is, of, acts, phase))), same)) about wake = in_call m most_threads (Row.WakesAll m y) (Row.Clears m y) _ p _ (record { awake = λ a. refl; slept = λ a. refl; turns = λ d a. refl }) is phase refl (subst (IsAbout x.machine.layout m) is about)
+  wake_row (Row.WakesAll m y) (inr ((p, is, phase), same)) about wake = in_call m most_threads (Row.WakesAll m y) (Row.Clears m y) _ p _ (record { awake = λ a. refl; slept = λ a. refl; turns = λ d a. refl }) is phase refl refl
   wake_row (Row.HeirWakes k) (p, is, phase) about wake = in_call k.mutex most_threads (Row.HeirWakes k) (made x t c (Row.HeirWakes k)).next _ p _ (record { awake = λ a. refl; slept = λ a. refl; turns = λ d a. refl }) is phase refl refl
   wake_row (Row.WakesOne m (OfUnlock d) w) (p, is, phase) about wake = in_call m 1 (Row.WakesOne m (OfUnlock d) w) (made x t c (Row.WakesOne m (OfUnlock d) w)).next _ p _ (record { awake = λ a. refl; slept = λ a. refl; turns = λ d a. refl }) is phase refl refl
   wake_row (Row.WakesOne m (OfWait k n slept timed) w) (p, is, phase) about wake = in_wait m 1 (Row.WakesOne m (OfWait k n slept timed) w) (made x t c (Row.WakesOne m (OfWait k n slept timed) w)).next _ p _ (record { awake = λ a. refl; slept = λ a. refl; turns = λ d a. refl }) is phase refl (subst (IsAbout x.machine.layout m) is about)

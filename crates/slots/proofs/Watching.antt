@@ -23,7 +23,9 @@ use Rattle.slots.specs.Rows.{Choice, Row, Taking}
 use Rattle.slots.specs.Rows.Before.{Linked, Mended, Again}
 use Rattle.slots.specs.Rows.Onward.{Has, Fails, Sleeps}
 use Rattle.slots.specs.Shown.{Slots, memory, shown}
-use Rattle.slots.specs.Table.{Made, is_free, is_on_list, made, makes, out_of, sets_and_expires, taken_word, waiting_word, watched_row}
+use Rattle.slots.specs.Words.{is_free, taken_word, waiting_word}
+use Rattle.slots.specs.Seen.{sets_and_expires}
+use Rattle.slots.specs.Table.{Made, is_on_list, made, makes, out_of, watched_row}
 use Rattle.slots.specs.Runs.{awake_after}
 use Rattle.slots.specs.Stands.{HasSlot, IsIn, MayBeAwake, StandsAs, at_load}
 use Rattle.slots.specs.Moments.{IsAtLock}

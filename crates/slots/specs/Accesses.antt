@@ -33,7 +33,7 @@ IsAboutIt l (Row.SeesToSleep k) g = IsAbout l k.mutex g
 IsAboutIt l (Row.Marks k v n) g = IsAbout l k.mutex g
 IsAboutIt l (Row.SleepsOn k v) g = IsAbout l k.mutex g
 IsAboutIt l (Row.Asleep k) g = IsAbout l k.mutex g
-IsAboutIt l (Row.WaitAsleep m k timed) g = IsAbout l m g
+IsAboutIt l (Row.WaitAsleep m k n timed) g = IsAbout l m g
 IsAboutIt l (Row.WakesAll m r) g = IsAbout l m g
 IsAboutIt l (Row.HandsOn m y is) g = IsAbout l m g
 IsAboutIt l (Row.LooksBack m y is) g = IsAbout l m g
@@ -103,7 +103,7 @@ IsPendingAgain (Row.Asleep k) = Unit {0}
 IsPendingAgain (Row.Late k) = Unit {0}
 IsPendingAgain (Row.HeirPends k Again) = Unit {0}
 IsPendingAgain (Row.HeirPendsOn k v over) = Unit {0}
-IsPendingAgain (Row.WaitAsleep m k timed) = Unit {0}
+IsPendingAgain (Row.WaitAsleep m k n timed) = Unit {0}
 IsPendingAgain r = ⊥
 
 -- a store of the entry that is pending already is no event

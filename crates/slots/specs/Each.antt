@@ -6,7 +6,7 @@ use Rattle.slots.specs.Places.{cell_of, slot_of}
 use Rattle.slots.specs.Rows.{Choice, Row}
 use Rattle.slots.specs.Rows.Before.{Linked, Mended}
 use Rattle.slots.specs.Shown.{Slots}
-use Rattle.slots.specs.Table.{is_free}
+use Rattle.slots.specs.Words.{is_free}
 use Rattle.slots.specs.Invariant.{fields_at, HasRoom}
 use Rattle.slots.specs.Laws.{IsEvents}
 use Rattle.slots.specs.Accesses.{IsAtRow, IsGiven}

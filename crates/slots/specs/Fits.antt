@@ -9,7 +9,8 @@ use Rattle.slots.specs.Rows.How.{Tried, Later, Waited}
 use Rattle.slots.specs.Rows.Then.{ToSleep, ToSlot}
 use Rattle.slots.specs.Rows.Giving.{OfUnlock, OfWait}
 use Rattle.slots.specs.Shown.{Slots}
-use Rattle.slots.specs.Table.{is_free, made}
+use Rattle.slots.specs.Words.{is_free}
+use Rattle.slots.specs.Table.{made}
 use Rattle.slots.specs.Invariant.{fields_at}
 use Rattle.slots.specs.Further.{GoesToSlot, IsOfCell, SeesAnother}
 use Rattle.slots.specs.Accesses.{IsAbout}
@@ -100,8 +101,8 @@ Fits l t (Row.WaitLooks m k timed) g = AreOfUs l m k
 Fits l t (Row.WaitCounts m k timed died) g = AreOfUs l m k
 Fits l t (Row.WaitSets m k n timed) g = AreOfUs l m k
 Fits l t (Row.WaitSleeps m k n timed) g = AreOfUs l m k
-Fits l t (Row.WaitAsleep m k timed) g = AreOfUs l m k
-Fits l t (Row.WaitLate m k) g = AreOfUs l m k
+Fits l t (Row.WaitAsleep m k n timed) g = AreOfUs l m k
+Fits l t (Row.WaitLate m k n) g = AreOfUs l m k
 Fits l t (Row.CountLooks m k all) g = AreOfUs l m k
 Fits l t (Row.CountLoads m k all) g = AreOfUs l m k
 Fits l t (Row.Counts m k all n) g = AreOfUs l m k

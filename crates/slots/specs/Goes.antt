@@ -10,7 +10,9 @@ use Rattle.slots.specs.Places.{cell_of, slot_of}
 use Rattle.slots.specs.Shown.{Slots, begin, shown}
 use Rattle.slots.specs.Invariant.{fields_at}
 use Rattle.slots.specs.Stands.{StandsAs}
-use Rattle.slots.specs.Table.{made, heir_of, shows_heir}
+use Rattle.slots.specs.Words.{shows_heir}
+use Rattle.slots.specs.Seen.{heir_of}
+use Rattle.slots.specs.Table.{made}
 use Rattle.slots.specs.Accesses.{IsAboutIt, IsAtRow}
 use Rattle.slots.specs.Each.{Assumes}
 use Rattle.slots.specs.Further.{IsOfCell, OwnsInside}

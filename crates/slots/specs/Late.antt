@@ -112,7 +112,7 @@ LateMemoryTellsTheSame = (l : Layout') (ms : List Moment) → IsLayout l → All
 abbrev pub FindsItsWord : Row → Type 0
 FindsItsWord Row.Rests = ⊥
 FindsItsWord (Row.WaitSleeps m k n timed) = ⊥
-FindsItsWord (Row.WaitLate m k) = ⊥
+FindsItsWord (Row.WaitLate m k n) = ⊥
 FindsItsWord (Row.WakesAll m r) = ⊥
 FindsItsWord (Row.HeirWakes k) = ⊥
 FindsItsWord (Row.WakesOne m y is) = ⊥

@@ -17,7 +17,9 @@ use Rattle.mutex.specs.declared.unlock.UnlockRow.TheVariants.{Release}
 use Rattle.slots.specs.Rows.{Choice, Giving, Row}
 use Rattle.slots.specs.Rows.Giving.{OfUnlock}
 use Rattle.slots.specs.Shown.{Slots, begin, shown, memory, after}
-use Rattle.slots.specs.Table.{made, shows_heir, heir_of}
+use Rattle.slots.specs.Words.{shows_heir}
+use Rattle.slots.specs.Seen.{heir_of}
+use Rattle.slots.specs.Table.{made}
 use Rattle.slots.specs.Runs.{Happening, made_by, reached, all_events}
 use Rattle.slots.specs.Invariant.{fields_at, IsHeir, KnowsTurn, IsInside, HeirsAnswer, HasRoom, SlotIsQuiet}
 use Rattle.slots.specs.Stands.{IsIn, Stands}
@@ -74,7 +76,8 @@ StandingHeirsAnswer = (x : Slots) (u m : ℕ) → IsReached x.machine → 1 ≤ 
 -- ---- an access
 
 -- thread t's next access is the events that the table has: memory and queues are afterwards what the access makes of
--- them
+-- them. That the events apply shows in that, or in where the thread is then. After a refused first look both are as before:
+-- of these, `RefusalsAreTheMachines` says it
 pub record IsEvents (x : Slots) (t : ℕ) (c : Choice) : Type 0 where
   pub words : (p : ℕ) → shown (made_by x t c (made x t c (x.rows t))) p
       ≡ words_after (memory x) t (made x t c (x.rows t)).access p

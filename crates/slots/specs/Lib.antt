@@ -1,4 +1,6 @@
 pub mod Accesses
+pub mod Alone
+pub mod Deadlines
 pub mod Each
 pub mod Fits
 pub mod Further
@@ -11,10 +13,13 @@ pub mod Laws
 pub mod Moments
 pub mod Places
 pub mod Premises
+pub mod Refused
 pub mod Replies
 pub mod Rows
 pub mod Runs
+pub mod Seen
 pub mod Shown
 pub mod Stands
 pub mod Stores
 pub mod Table
+pub mod Words

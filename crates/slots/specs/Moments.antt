@@ -16,7 +16,9 @@ use Rattle.slots.specs.Places.{cell_of, is_slot}
 use Rattle.slots.specs.Rows.{Choice, Taking, Row}
 use Rattle.slots.specs.Rows.Before.{Again}
 use Rattle.slots.specs.Shown.{Slots, after, shown}
-use Rattle.slots.specs.Table.{begins_behind, expires, is_free, made, taken_word}
+use Rattle.slots.specs.Words.{is_free, taken_word}
+use Rattle.slots.specs.Seen.{begins_behind, expires}
+use Rattle.slots.specs.Table.{made}
 use Rattle.slots.specs.Invariant.{fields_at, IsHeir}
 use Rattle.slots.specs.Laws.{IsEvents, IsReached}
 use Rattle.protocol.specs.declared.event.Event.TheVariants.{Step}

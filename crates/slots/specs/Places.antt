@@ -1,9 +1,8 @@
 -- Our mutexes and the machine's. Each of ours is two of the machine's: the cell, which a call takes and releases; and the
 -- slot, on which nobody sleeps, and whose owner waits awake for the cell. A condition variable is one of the machine's,
 -- with a cell as its mutex.
-use Rattle.std.specs.Prelude.{ℕ, ◌≡◌, ◌+◌, ◌-◌, ◌*◌, ◌/◌, ◌%◌, ◌==◌, ◌&&◌, Bool, nat_le, nat_lt, Option, Some, None, if◌then◌else◌}
-use Rattle.std.specs.Prelude.{All}
-use Rattle.memorymap.specs.Layouts.{Layout', IsLayout, counter_place, words_of}
+use Rattle.std.specs.Prelude.{ℕ, ◌+◌, ◌-◌, ◌*◌, ◌/◌, ◌%◌, ◌==◌, ◌&&◌, Bool, nat_le, nat_lt, Option, Some, None, if◌then◌else◌}
+use Rattle.memorymap.specs.Layouts.{Layout', counter_place, words_of}
 
 abbrev pub cell_of : ℕ → ℕ
 cell_of m = 2 * m
@@ -21,12 +20,6 @@ our_own k = k / 2
 -- the number of our mutexes
 abbrev pub our_mutexes : Layout' → ℕ
 our_mutexes l = l.mutexes / 2
-
--- the layout has a slot for each cell, and the mutex of each condition variable is a cell
-pub record AreOurs (l : Layout') : Type 0 where
-  pub layout : IsLayout l
-  pub pairs : l.mutexes % 2 ≡ 0
-  pub cells : All (λ k. k % 2 ≡ 0) l.conditions
 
 -- the condition variable whose counter is at a place
 abbrev pub counter_at : Layout' → ℕ → Option ℕ

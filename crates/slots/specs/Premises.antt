@@ -9,7 +9,8 @@ use Rattle.slots.specs.Rows.{Choice, Onward, Giving, Row}
 use Rattle.slots.specs.Rows.Onward.{Has, Fails, Sleeps}
 use Rattle.slots.specs.Rows.Giving.{OfUnlock, OfWait}
 use Rattle.slots.specs.Shown.{Slots, begin, shown}
-use Rattle.slots.specs.Table.{heir_of, shows_heir}
+use Rattle.slots.specs.Words.{shows_heir}
+use Rattle.slots.specs.Seen.{heir_of}
 use Rattle.slots.specs.Invariant.{fields_at, HasRoom, HeirsAnswer, KnowsTurn, SlotIsQuiet}
 use Rattle.slots.specs.Fits.{IsOurs}
 use Rattle.slots.specs.Laws.{IsEvents, IsReached}
@@ -127,7 +128,8 @@ KnowsItsTurn x (Row.WakesOne m (OfUnlock d) is) = KnowsTurn x (Row.WakesOne m (O
 KnowsItsTurn x (Row.Trims m is) = KnowsTurn x (Row.Trims m is) × IsOfTurn is
 KnowsItsTurn x r = Unit {0}
 
--- AWAKE is cleared, or OWNER_DIED, in a word of 64 bits: the turn has 31
+-- AWAKE is cleared, or OWNER_DIED, in a word of 64 bits: the turn has 31. No other row asks this, so in a run a turn may have
+-- more bits; but then its word has more than 64, as no word of the C library has
 abbrev pub HasFewTurns : Slots → Row → Type 0
 HasFewTurns x (Row.SlotQuiets k) = x.turns (slot_of k.mutex) < 0x8000_0000
 HasFewTurns x (Row.HeirHas k r) = x.turns (slot_of k.mutex) < 0x8000_0000

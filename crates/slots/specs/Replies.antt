@@ -27,7 +27,8 @@ use Rattle.slots.specs.Rows.How.{Tried, Waited}
 use Rattle.slots.specs.Rows.Onward.{Has, Fails, Sleeps}
 use Rattle.slots.specs.Rows.Giving.{OfUnlock, OfWait}
 use Rattle.slots.specs.Shown.{Slots, begin, shown}
-use Rattle.slots.specs.Table.{is_free, made}
+use Rattle.slots.specs.Words.{is_free}
+use Rattle.slots.specs.Table.{made}
 use Rattle.slots.specs.Runs.{Happening, lapse_row, may_call, next, reached}
 use Rattle.slots.specs.Runs.Happening.{Goes, Walks}
 use Rattle.slots.specs.Premises.{AllTrusted}
@@ -152,8 +153,8 @@ progress (Row.WaitLooks m k timed) = Called op.Wait
 progress (Row.WaitCounts m k timed died) = Called op.Wait
 progress (Row.WaitSets m k n timed) = Called op.Wait
 progress (Row.WaitSleeps m k n timed) = Unlocked
-progress (Row.WaitAsleep m k timed) = Unlocked
-progress (Row.WaitLate m k) = Unlocked
+progress (Row.WaitAsleep m k n timed) = Unlocked
+progress (Row.WaitLate m k n) = Unlocked
 progress (Row.CountLooks m k all) = Called (counts_as all)
 progress (Row.CountLoads m k all) = Called (counts_as all)
 progress (Row.Counts m k all n) = Called (counts_as all)
@@ -182,10 +183,15 @@ after_deed p (Unlocks d) = Unlocked
 after_deed p (Decides d) = Decided d.reply
 after_deed p (Refuses r) = Decided r
 
+-- what a call returns that is decided with this reply: ETIMEDOUT for OK, if it is a wait that is overdue
+abbrev pub returned : Reply → Bool → Reply
+returned OK true = ETIMEDOUT
+returned y overdue = y
+
 -- the reply of a call that is as far as this
-abbrev pub replied : Progress → Option Reply
-replied (Decided y) = Some y
-replied p = None
+abbrev pub replied : Bool → Progress → Option Reply
+replied overdue (Decided y) = Some (returned y overdue)
+replied overdue p = None
 
 -- ---- what each row does
 
@@ -240,9 +246,9 @@ module _ (x : Slots) (t : ℕ) (c : Choice) where
   -- at all others it does nothing
   deed r = Nothing
 
-  -- what the call returns, if it returns after this access. But a wait whose deadline has passed returns ETIMEDOUT for OK
+  -- what the call returns, if it returns after this access
   abbrev pub reply : Row → Option Reply
-  reply r = replied (after_deed (progress r) (deed r))
+  reply r = replied (x.overdue t) (after_deed (progress r) (deed r))
 
 -- ---- one call, one reply
 

@@ -118,8 +118,8 @@ pub data Row : Type 0 where
   WaitCounts : ℕ → ℕ → Bool → Bool → Row  -- wait_until: load_relaxed(counter); whether OWNER_DIED was seen
   WaitSets : ℕ → ℕ → ℕ → Bool → Row  -- release: store_release(counter), with SLEPT
   WaitSleeps : ℕ → ℕ → ℕ → Bool → Row  -- wait_until: sleep_on(counter)
-  WaitAsleep : ℕ → ℕ → Bool → Row  -- in the kernel; then, in lock_again: set_pending(cell_entry)
-  WaitLate : ℕ → ℕ → Row  -- wait_until: load_acquire(counter), after the deadline
+  WaitAsleep : ℕ → ℕ → ℕ → Bool → Row  -- in the kernel, on this count; then, in lock_again: set_pending(cell_entry)
+  WaitLate : ℕ → ℕ → ℕ → Row  -- wait_until: load_acquire(counter), after the deadline; and that count
   CountLooks : ℕ → ℕ → Bool → Row  -- may_signal: load_relaxed(cell); for a broadcast, or for a signal
   CountLoads : ℕ → ℕ → Bool → Row  -- may_signal: load_relaxed(counter)
   Counts : ℕ → ℕ → Bool → ℕ → Row  -- pz_cond_signal, pz_cond_broadcast: store_release(counter); exchange, if SLEPT is set
@@ -187,8 +187,8 @@ about (Row.WaitLooks m k timed) = m
 about (Row.WaitCounts m k timed died) = m
 about (Row.WaitSets m k n timed) = m
 about (Row.WaitSleeps m k n timed) = m
-about (Row.WaitAsleep m k timed) = m
-about (Row.WaitLate m k) = m
+about (Row.WaitAsleep m k n timed) = m
+about (Row.WaitLate m k n) = m
 about (Row.CountLooks m k all) = m
 about (Row.CountLoads m k all) = m
 about (Row.Counts m k all n) = m

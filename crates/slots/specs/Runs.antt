@@ -1,6 +1,6 @@
 -- What can happen: accesses of our calls, in any order; interruptions, timeouts and deaths at any moment; the kernel's
 -- walks; and ids that are used again.
-use Rattle.std.specs.Prelude.{ℕ, ◌==◌, ◌&&◌, not, nat_lt, length, slice_index, Bool, true, false, List, [], ◌∷◌, ◌++◌, if◌then◌else◌}
+use Rattle.std.specs.Prelude.{ℕ, ◌%◌, ◌^◌, ◌==◌, ◌&&◌, not, nat_lt, length, slice_index, Bool, true, false, List, [], ◌∷◌, ◌++◌, if◌then◌else◌}
 use Rattle.memorymap.specs.Layouts.{Layout', counter_place}
 use Rattle.protocol.specs.declared.event.Event.{Event}
 use Rattle.protocol.specs.declared.event.Event.TheVariants.{Step, Kill, Leave, Expire, Renew}
@@ -8,7 +8,7 @@ use Rattle.protocol.specs.Machine.{put, has_thread, is_alive, is_asleep, is_dyin
 use Rattle.slots.specs.Places.{our_mutexes, cell_of, slot_of}
 use Rattle.slots.specs.Rows.{Choice, How, Row}
 use Rattle.slots.specs.Rows.How.{Tried}
-use Rattle.slots.specs.Shown.{Slots, begin, after}
+use Rattle.slots.specs.Shown.{Slots, begin, after, shown}
 use Rattle.slots.specs.Table.{Made, made}
 
 -- A thread begins one of our calls, at this row; it makes its next access, with this choice of what is left open there;
@@ -44,10 +44,28 @@ slept_after (Row.WaitSets m k n timed) slept = put slept k true
 slept_after (Row.Unsets m k n) slept = put slept k false
 slept_after r slept = slept
 
+-- A call begins at one of these rows
+abbrev pub is_first_row : Row → Bool
+is_first_row (Row.Looks k) = true
+is_first_row (Row.TryLooks m) = true
+is_first_row (Row.GiveLooks m) = true
+is_first_row (Row.MendLooks m) = true
+is_first_row (Row.AnewLooks m) = true
+is_first_row (Row.WaitLooks m k timed) = true
+is_first_row (Row.CountLooks m k all) = true
+is_first_row r = false
+
+-- Whether thread t's wait is *overdue*: its deadline passed in its sleep, and after that the count is still the one on which
+-- it slept, so no signal and no broadcast came. No call is overdue when it begins
+abbrev pub overdue_after : Slots → ℕ → Row → Bool
+overdue_after x t (Row.WaitLate m k n) = shown x (counter_place x.machine.layout k) % 2 ^ 32 == n
+overdue_after x t r = x.overdue t && not (is_first_row r)
+
 -- ---- one happening
 
 -- A call is on a mutex and a condition variable that exist. A thread that holds 2,046 of the machine's mutexes doesn't
--- take another, since it may need the cell and the slot: the C library returns EAGAIN then
+-- take another, since it may need the cell and the slot. The C library refuses a lock with EAGAIN before that, when the
+-- thread owns 2,000 of its mutexes
 abbrev pub is_ours : Layout' → ℕ → Bool
 is_ours l m = nat_lt m (our_mutexes l)
 
@@ -83,19 +101,20 @@ made_by x t c g = record (after x g.events) {
   awake = awake_after (x.rows t) x.awake;
   slept = slept_after (x.rows t) x.slept;
   rows = put x.rows t g.next;
+  overdue = put x.overdue t (overdue_after x t (x.rows t));
 }
 
 -- A deadline passes in a lock's sleep on the cell, or in a wait's sleep. If a broadcast has moved a wait to the cell by
 -- then, the machine has no deadline there: this is an interruption
 abbrev pub lapse_events : Slots → ℕ → Row → List Event
 lapse_events x t (Row.Asleep k) = if k.timed then Expire t ∷ [] else []
-lapse_events x t (Row.WaitAsleep m k true) =
+lapse_events x t (Row.WaitAsleep m k n true) =
     if stands_in t (x.machine.queues (counter_place x.machine.layout k)) then Expire t ∷ [] else Leave t ∷ []
 lapse_events x t r = []
 
 abbrev pub lapse_row : Row → Row
 lapse_row (Row.Asleep k) = if k.timed then Row.Late k else Row.Asleep k
-lapse_row (Row.WaitAsleep m k true) = Row.WaitLate m k
+lapse_row (Row.WaitAsleep m k n true) = Row.WaitLate m k n
 lapse_row r = r
 
 -- a happening that isn't possible changes nothing

@@ -10,18 +10,19 @@ use Rattle.slots.specs.Rows.Row.{Rests}
 
 -- the machine; what is above the flags of each of its mutexes: how often it was taken or reinitialised (its turn), but in
 -- a slot, since an heir has said that it is awake, the time of that; AWAKE of each of our slots; SLEPT of each condition
--- variable; and the row of each thread
+-- variable; the row of each thread; and whether its wait is overdue
 pub record Slots : Type 0 where
   pub machine : State
   pub turns : ℕ → ℕ
   pub awake : ℕ → Bool
   pub slept : ℕ → Bool
   pub rows : ℕ → Row
+  pub overdue : ℕ → Bool
 
 -- at first memory is zeros
 abbrev pub begin : Layout' → Slots
 begin l =
-    record { machine = start l (λ c. 0); turns = λ k. 0; awake = λ m. false; slept = λ c. false; rows = λ t. Rests }
+    record { machine = start l (λ c. 0); turns = λ k. 0; awake = λ m. false; slept = λ c. false; rows = λ t. Rests; overdue = λ t. false }
 
 -- ---- what memory shows
 

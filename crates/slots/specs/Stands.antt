@@ -2,7 +2,7 @@
 use Rattle.std.specs.Prelude.{ℕ, ◌≡◌, ◌⊎◌, ◌+◌, ◌%◌, ◌^◌, Bool, true, false, Some, if◌then◌else◌}
 use Rattle.lockword.specs.Cells.{Fields, fields_of, low_of}
 use Rattle.lockword.specs.declared.reply.Reply.{Reply}
-use Rattle.lockword.specs.declared.reply.Reply.TheVariants.{OK, EBUSY, ETIMEDOUT, EOWNERDEAD}
+use Rattle.lockword.specs.declared.reply.Reply.TheVariants.{OK, EBUSY, EDEADLK, EINVAL, ETIMEDOUT, ENOTRECOVERABLE, EOWNERDEAD}
 use Rattle.robustlist.specs.Standings.{LinkStanding, UnlinkStanding}
 use Rattle.mutex.specs.declared.call.Call.{Call}
 use Rattle.mutex.specs.declared.call.Call.TheVariants as call
@@ -37,7 +37,7 @@ use Rattle.slots.specs.Rows.How.{Tried, Later, Waited}
 use Rattle.slots.specs.Rows.Before.{Linked, Mended, Again}
 use Rattle.slots.specs.Rows.Onward.{Has, Fails, Sleeps}
 use Rattle.slots.specs.Rows.Giving.{OfUnlock, OfWait}
-use Rattle.slots.specs.Table.{wait_of}
+use Rattle.slots.specs.Seen.{wait_of}
 use Rattle.slots.specs.Shown.{Slots}
 
 -- in this call on a mutex, in this phase
@@ -120,6 +120,16 @@ IsHeirToBe m Linked g = IsIn (call.TryLock (slot_of m)) (Clearing OK) g
 IsHeirToBe m Mended g = g ≡ Idle
 IsHeirToBe m Again g = IsIn (call.TimedLock (cell_of m)) at_load g
 
+-- ---- a call's end
+
+-- What a call of ours on mutex m returns, y, if its last call of the machine, o, has the reply x: the same. But an heir's
+-- last call is the unlock of its slot; and a lock has only tried the cell, which is owned, if its deadline isn't a time or
+-- the cell is its own
+pub data RepliesAs (m : ℕ) (o : Op) (x y : Reply) : Type 0 where
+  Same : x ≡ y → RepliesAs m o x y
+  SlotsUnlock : o ≡ OnMutex (call.Unlock (slot_of m)) → x ≡ OK → RepliesAs m o x y
+  CellsTrylock : o ≡ OnMutex (call.TryLock (cell_of m)) → x ≡ EBUSY → (y ≡ EINVAL) ⊎ (y ≡ EDEADLK) → RepliesAs m o x y
+
 -- ---- each row
 
 abbrev pub StandsAs : Row → Stage → Type 0
@@ -133,10 +143,11 @@ StandsAs (Row.Asleep k) g = IsToLook k k.how g
 StandsAs (Row.Late k) g = IsThrough k.mutex Later g
 StandsAs (Row.LateSees k) g = IsThrough k.mutex Later g
 StandsAs (Row.WakesAll m r) g =
-    IsTaking m (AtCell (mutex_row.Lock lock.WakeAll)) g
-    ⊎ IsIn (call.Unlock (cell_of m)) (AtCell (mutex_row.Unlock (unlock.Wake true))) g
+    (IsTaking m (AtCell (mutex_row.Lock lock.WakeAll)) g × (r ≡ ENOTRECOVERABLE))
+    ⊎ (IsIn (call.Unlock (cell_of m)) (AtCell (mutex_row.Unlock (unlock.Wake true))) g × (r ≡ OK))
 StandsAs (Row.Links m r) g = (u : LinkStanding) × IsTaking m (Linking u r) g
-StandsAs (Row.Clears m r) g = (c : Op) × (p : Whole) × (x : Reply) × (g ≡ Calling c p) × (p.phase ≡ Clearing x)
+StandsAs (Row.Clears m r) g =
+    (o : Op) × (p : Whole) × (x : Reply) × (g ≡ Calling o p) × (p.phase ≡ Clearing x) × RepliesAs m o x r
 StandsAs (Row.SlotPends k v) g = IsThrough k.mutex k.how g
 StandsAs (Row.SlotTakes k v) g = IsIn (call.TryLock (slot_of k.mutex)) (AtCell (mutex_row.TryLock try.Load)) g
 StandsAs (Row.SlotLeft k) g =
@@ -168,8 +179,8 @@ StandsAs (Row.WakesOne m y is) g = IsWaking m y g
 StandsAs (Row.Trims m is) g = IsIn (call.Unlock (cell_of m)) (AtCell (mutex_row.Unlock unlock.Trim)) g
 StandsAs (Row.WaitSets m k n timed) g = IsAtWords (wait_of k timed) (cond_row.Wait (wait.Release n)) g
 StandsAs (Row.WaitSleeps m k n timed) g = IsAtWords (wait_of k timed) (cond_row.Wait (wait.Sleep n)) g
-StandsAs (Row.WaitAsleep m k timed) g = IsRetaking k at_load g
-StandsAs (Row.WaitLate m k) g = IsRetaking k at_load g
+StandsAs (Row.WaitAsleep m k n timed) g = IsRetaking k at_load g
+StandsAs (Row.WaitLate m k n) g = IsRetaking k at_load g
 StandsAs (Row.CountWakes m k n) g = IsAtWords (cond_call.Signal k) (cond_row.Signal signal.Wake) g
 StandsAs (Row.AllMarks m k n) g =
     (seen : ℕ) × (n ≡ (seen + 1) % 2 ^ 32) × IsAtWords (cond_call.Broadcast k) (cond_row.Broadcast (broadcast.SetWaiters seen)) g

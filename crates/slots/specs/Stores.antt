@@ -73,7 +73,7 @@ manner (Row.Mends m) = Locks
 manner (Row.Anews m v) = Locks
 manner (Row.WaitSets m k n timed) = Stores
 manner (Row.WaitSleeps m k n timed) = Asks
-manner (Row.WaitAsleep m k timed) = Stores
+manner (Row.WaitAsleep m k n timed) = Stores
 -- a count is an exchange if SLEPT is set
 manner (Row.Counts m k all n) = if n / 2 ^ 32 == 1 then Locks else Stores
 manner (Row.CountWakes m k n) = Asks

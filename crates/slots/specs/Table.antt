@@ -16,14 +16,13 @@
 -- Accesses meet the words that memory shows (`memory`), by their addresses in the thread's process. An unconditional
 -- exchange of the C library is a Store here: what it finds isn't used.
 use Rattle.std.specs.Prelude.{ℕ, ◌+◌, ◌-◌, ◌*◌, ◌/◌, ◌%◌, ◌^◌, ◌==◌, ◌&&◌, ◌||◌, not, Bool, true, false, List, [], ◌∷◌, ◌++◌, if◌then◌else◌}
-use Rattle.lockword.specs.Cells.{fields_of, word_of, taken, waiting, waiters_alone}
+use Rattle.lockword.specs.Cells.{fields_of, waiters_alone}
 use Rattle.lockword.specs.Threads.{most_threads}
-use Rattle.lockword.specs.declared.reply.Reply.TheVariants.{OK, EBUSY, EINVAL, EDEADLK, ETIMEDOUT, ENOTRECOVERABLE}
+use Rattle.lockword.specs.declared.reply.Reply.TheVariants.{OK, EBUSY, ETIMEDOUT, ENOTRECOVERABLE}
 use Rattle.stepprograms.specs.declared.access.Access.{Access}
 use Rattle.stepprograms.specs.declared.access.Access.TheVariants as access
 use Rattle.stepprograms.specs.Accesses.{is_nobody}
 use Rattle.memorymap.specs.Layouts.{Layout', head_place, entry_place, cell_place, counter_place, address_in}
-use Rattle.mutex.specs.declared.call.Call.{Call}
 use Rattle.mutex.specs.declared.call.Call.TheVariants as call
 use Rattle.mutex.specs.declared.phase.Phase.{Phase}
 use Rattle.mutex.specs.declared.phase.Phase.TheVariants as phase
@@ -31,19 +30,16 @@ use Rattle.mutex.specs.Rows.{acquired}
 use Rattle.mutex.specs.Unlock.{released_bits}
 use Rattle.mutex.specs.Whole.{whole_access}
 use Rattle.condvar.specs.Whole.{cond_access}
-use Rattle.condvar.specs.declared.call.CondCall.{CondCall}
 use Rattle.condvar.specs.declared.call.CondCall.TheVariants as cond_call
-use Rattle.condvar.specs.declared.call.Limit.TheVariants.{Ahead}
 use Rattle.condvar.specs.declared.phase.CondPhase.{CondPhase}
 use Rattle.condvar.specs.declared.phase.CondPhase.TheVariants as cond
 use Rattle.condvar.specs.declared.op.Op.TheVariants.{OnMutex, OnCondition}
 use Rattle.protocol.specs.declared.event.Event.{Event}
-use Rattle.protocol.specs.declared.event.Event.TheVariants.{Begin, Step, Expire, Decline, Remake, Spare}
-use Rattle.protocol.specs.declared.event.LeftTo.{LeftTo}
+use Rattle.protocol.specs.declared.event.Event.TheVariants.{Begin, Step, Decline, Remake, Spare}
 use Rattle.protocol.specs.declared.event.LeftTo.TheVariants as left_to
 use Rattle.protocol.specs.declared.thread.Stage.{Stage}
 use Rattle.protocol.specs.declared.thread.Stage.TheVariants.{Calling, AtCondition}
-use Rattle.protocol.specs.Machine.{State, run, is_left_to}
+use Rattle.protocol.specs.Machine.{run}
 use Rattle.slots.specs.Places.{cell_of, slot_of}
 use Rattle.slots.specs.Rows.{Choice, How, Taking, Before, Then, Onward, Giving, Row}
 use Rattle.slots.specs.Rows.How.{Tried, Later, Waited}
@@ -52,6 +48,8 @@ use Rattle.slots.specs.Rows.Then.{ToSleep, ToSlot}
 use Rattle.slots.specs.Rows.Onward.{Has, Fails, Sleeps}
 use Rattle.slots.specs.Rows.Giving.{OfUnlock, OfWait}
 use Rattle.slots.specs.Shown.{Slots, shown}
+use Rattle.slots.specs.Words.{awake_bit, slept_bit, all_but, taken_word, waiting_word, is_free, shows_heir, is_moving, awake_word}
+use Rattle.slots.specs.Seen.{begins, begins_behind, frees, expires, sets_and_expires, wait_of, heir_of, later, retakes, sleep_row, seen_row, seen_to_sleep, seen_events, again_events}
 
 -- the access at a row, the events that the access is, and the next row
 pub record Made : Type 0 where
@@ -61,136 +59,6 @@ pub record Made : Type 0 where
 
 abbrev pub makes : Access → List Event → Row → Made
 makes a es r = record { access = a; events = es; next = r }
-
--- ---- words
-
-abbrev pub awake_bit : ℕ
-awake_bit = 0x1_0000_0000
-
--- of a counter: SLEPT
-abbrev pub slept_bit : ℕ
-slept_bit = 0x1_0000_0000
-
-abbrev pub all_but : ℕ → ℕ
-all_but n = 0xffff_ffff_ffff_ffff - n
-
--- taken by thread t, with one turn more
-abbrev pub taken_word : ℕ → ℕ → ℕ
-taken_word v t = word_of (taken (fields_of v) t) + 0x2_0000_0000
-
-abbrev pub waiting_word : ℕ → ℕ
-waiting_word v = word_of (waiting (fields_of v))
-
--- nobody owns it, and it may be taken
-abbrev pub is_free : ℕ → Bool
-is_free w = ((fields_of w).owner == 0) && not (fields_of w).unusable
-
--- after a release of the cell, `is_heir`: there is an heir, or an heir was killed, and Linux hasn't marked its slot yet
-abbrev pub shows_heir : ℕ → Bool
-shows_heir g = (fields_of g).unusable && not ((fields_of g).owner == 0) && not (fields_of g).died
-
--- `is_moving`: the slot's owner is about to free it, or to say that it is awake
-abbrev pub is_moving : ℕ → Bool
-is_moving g = not ((fields_of g).owner == 0) && not (fields_of g).unusable && not (fields_of g).died
-
--- an heir says at this time that it is awake
-abbrev pub awake_word : ℕ → ℕ → ℕ
-awake_word t time = t + awake_bit + time * 0x2_0000_0000
-
--- ---- events
-
--- A call of the machine begins and announces its mutex. If the last call has still to clear what it had pending, it does
--- that first: all this is one store in C
-abbrev pub begins : ℕ → Call → List Event
-begins t c = Begin t (OnMutex c) ∷ Step t ∷ []
-
-abbrev pub begins_behind : ℕ → Call → List Event
-begins_behind t c = Step t ∷ Begin t (OnMutex c) ∷ Step t ∷ []
-
--- an unlock of the slot, which its thread owns, after a call that has still to clear what it had pending
-abbrev pub frees : ℕ → ℕ → List Event
-frees t m = Step t ∷ Begin t (OnMutex (call.Unlock (slot_of m))) ∷ Step t ∷ Step t ∷ []
-
--- the machine's lock sees that the cell is owned, with WAITERS, falls asleep, and times out; or it sets WAITERS first
-abbrev pub expires : ℕ → List Event
-expires t = Step t ∷ Step t ∷ Expire t ∷ []
-
-abbrev pub sets_and_expires : ℕ → List Event
-sets_and_expires t = Step t ∷ expires t
-
-abbrev pub wait_of : ℕ → Bool → CondCall
-wait_of c true = cond_call.TimedWait c Ahead
-wait_of c false = cond_call.Wait c
-
--- the thread to which a wake is left
-abbrev pub heir_of : State → ℕ → ℕ → LeftTo
-heir_of s t k =
-    if is_left_to s t k left_to.Thread then left_to.Thread
-    else if is_left_to s t k left_to.Owner then left_to.Owner
-    else left_to.Walk
-
--- ---- a lock has seen the word w of the cell
-
-abbrev pub later : Taking → Taking
-later k = record { mutex = k.mutex; how = Later; timed = k.timed; wrong = k.wrong }
-
--- the lock that ends a wait: it has no deadline
-abbrev pub retakes : ℕ → ℕ → Taking
-retakes m c = record { mutex = m; how = Waited c; timed = false; wrong = false }
-
-abbrev pub unusable_row : ℕ → ℕ → Row
-unusable_row m w =
-    if (fields_of w).waiters then Row.WakesAll m ENOTRECOVERABLE else Row.Clears m ENOTRECOVERABLE
-
--- a deadline that isn't a time is an error only if the lock has to wait
-abbrev pub owned_row : Taking → How → ℕ → Row
-owned_row k Tried w = if k.wrong then Row.Clears k.mutex EINVAL else Row.Chooses k w
-owned_row k h w = Row.Chooses k w
-
--- it sleeps, whatever the slot is
-abbrev pub sleep_row : Taking → ℕ → Row
-sleep_row k w = if (fields_of w).waiters then Row.SleepsOn k w else Row.Marks k w ToSleep
-
-abbrev pub seen_row : ℕ → Taking → ℕ → Row
-seen_row t k w =
-    if (fields_of w).unusable then unusable_row k.mutex w
-    else if (fields_of w).owner == 0 then Row.Takes k w
-    else if (fields_of w).owner == t then Row.Clears k.mutex EDEADLK
-    else owned_row k k.how w
-
--- it was at the slot, or has given it up
-abbrev pub seen_to_sleep : Taking → ℕ → Row
-seen_to_sleep k w =
-    if (fields_of w).unusable then unusable_row k.mutex w
-    else if (fields_of w).owner == 0 then Row.Takes k w
-    else sleep_row k w
-
--- A trylock is decided. Or a lock is decided, or times out: then its entry is still pending, and another call follows. The
--- lock that ends a wait has no deadline
-abbrev pub seen_events : ℕ → ℕ → How → ℕ → List Event
-seen_events t m Tried w =
-    if (fields_of w).unusable
-    then (if (fields_of w).waiters then Step t ∷ (begins_behind t (call.TimedLock (cell_of m)) ++ Step t ∷ []) else Step t ∷ [])
-    else if (fields_of w).owner == 0 then []
-    else Step t ∷ []
-seen_events t m Later w =
-    if (fields_of w).unusable then Step t ∷ []
-    else if (fields_of w).owner == 0 then []
-    else if (fields_of w).owner == t then Step t ∷ []
-    else if (fields_of w).waiters then expires t
-    else []
-seen_events t m (Waited c) w =
-    if (fields_of w).unusable then Step t ∷ []
-    else if (fields_of w).owner == 0 then []
-    else if (fields_of w).owner == t then Step t ∷ []
-    else if (fields_of w).waiters then Step t ∷ []
-    else []
-
--- it looks again after that: a trylock is made again; a lock that has timed out is made again; another has still to look
-abbrev pub again_events : ℕ → ℕ → How → ℕ → List Event
-again_events t m Tried v = begins_behind t (call.TryLock (cell_of m))
-again_events t m Later v = if (fields_of v).waiters then begins_behind t (call.TimedLock (cell_of m)) else []
-again_events t m (Waited c) v = []
 
 -- ---- accesses of the list, which are the machine's own
 
@@ -531,9 +399,9 @@ module _ (x : Slots) (t : ℕ) (c : Choice) where
       else makes (access.Load (counter k)) [] (Row.GivePends m (OfWait k (at_counter k % 2 ^ 32) (shows_slept (at_counter k)) timed))
   made (Row.WaitSets m k n timed) =
       makes (access.Store (counter k) (n + slept_bit)) [] (finds_row m (OfWait k n true timed))
-  made (Row.WaitSleeps m k n timed) = makes (access.Wait (counter k) n) (Step t ∷ []) (Row.WaitAsleep m k timed)
-  made (Row.WaitAsleep m k timed) = makes (pends_cell m) [] (Row.Sees (retakes m k))
-  made (Row.WaitLate m k) = makes (access.Load (counter k)) [] (Row.WaitAsleep m k false)
+  made (Row.WaitSleeps m k n timed) = makes (access.Wait (counter k) n) (Step t ∷ []) (Row.WaitAsleep m k n timed)
+  made (Row.WaitAsleep m k n timed) = makes (pends_cell m) [] (Row.Sees (retakes m k))
+  made (Row.WaitLate m k n) = makes (access.Load (counter k)) [] (Row.WaitAsleep m k n false)
   made (Row.CountLooks m k all) =
       if (fields_of (at_cell m)).owner == t
       then makes (access.Load (cell m)) [] (Row.CountLoads m k all)

@@ -3,6 +3,8 @@ ghost use Rattle.slots.specs.Accesses.{AnnouncingRowsAreEvents, AwakeIsCleared, 
 ghost use Rattle.slots.specs.Accesses.{ClearingRowsAreEvents, ListRowsAreEvents, LooksAreEvents};
 ghost use Rattle.slots.specs.Accesses.{MissesAreNoEvents, PendingAgainIsNoEvent, ReleasesAreEvents};
 ghost use Rattle.slots.specs.Accesses.{TakesAreEvents, WakesAreEvents};
+ghost use Rattle.slots.specs.Alone.{LoneCallsComeToRest};
+ghost use Rattle.slots.specs.Deadlines.{NoCallTimesOutEarly};
 ghost use Rattle.slots.specs.Each.{EachAccessIsEvents};
 ghost use Rattle.slots.specs.Fits.{NextRowsFit};
 ghost use Rattle.slots.specs.Premises.{AllHold, HeirsTakeOver, PremisesFollow, RunsKeepCounts, RunsKeepHeirs, RunsKeepOwners, RunsKeepRoom, RunsKeepSlept, RunsKeepTurns, SlotsStayQuiet, WordsStaySound};
@@ -19,6 +21,7 @@ ghost use Rattle.slots.specs.Laws.{StandingHeirsAnswer, TrimsAreTheMachines, Tur
 ghost use Rattle.slots.specs.Laws.{TurnsStayKnownByAll, WakesOfNobodyTell};
 ghost use Rattle.slots.specs.Stores.{AccessesAreMadeSo, PlainStoresAreOwn, PlainStoresWaitApart, RunsMayBuffer};
 ghost use Rattle.slots.specs.Late.{AccessesFindTheSame, LateMemoryTellsTheSame};
+ghost use Rattle.slots.specs.Refused.{RefusalsAreTheMachines};
 ghost use Rattle.slots.specs.Replies.{CallsAreOneHistory, CallsBeginUndecided, CallsDecideOnce};
 ghost use Rattle.slots.specs.Moments.{AnnouncingIsOneStore, GivingUpIsALook, GivingUpLeavesNothing};
 ghost use Rattle.slots.specs.Moments.{HeirTakesAreEvents, HeirsGoOn, LastLooksAreEvents, TakesAreOneExchange};
@@ -298,7 +301,8 @@ pub fn threads_keep_their_rows()
     ensures { ThreadsKeepTheirRows }
 {}
 
-/// After any run whose happenings have what they assume, each thread that lives is where its row says.
+/// After any run whose happenings have what they assume, each thread that lives is where its row says. So when a call ends, its
+/// last call of the machine has the same reply, with two exceptions that are named (`specs/Stands.antt`: `RepliesAs`).
 pub fn runs_keep_their_rows()
     ensures { RunsKeepTheirRows }
 {}
@@ -420,8 +424,8 @@ pub fn accesses_are_made_so()
     ensures { AccessesAreMadeSo }
 {}
 
-/// In any run, each plain store is of a word of the thread's own: of its head, or a link of a mutex that it owns. Or it is of a
-/// counter whose mutex the thread owns: then the count stays, or no wait that has released its mutex has seen it.
+/// In any run, each plain store is of the thread's own head, of a link of a mutex that it owns, or of a counter whose mutex it
+/// owns. If it is of a counter, the count stays, or no wait that has released its mutex has seen it.
 pub fn plain_stores_are_own()
     ensures { PlainStoresAreOwn }
 {}
@@ -444,8 +448,26 @@ pub fn late_memory_tells_the_same()
     ensures { LateMemoryTellsTheSame }
 {}
 
-/// In any run, whenever plain stores reach memory: each access that reads a word finds it as the layer shows it. Two are left
-/// out: Linux compares a count for a wait that has released its mutex, and a late wait looks at the counter.
+/// In any run, each access but two finds its word as the layer shows it, whenever plain stores reach memory. The two are of a
+/// wait that has released its mutex: Linux compares the count, and a late wait looks at the counter.
 pub fn accesses_find_the_same()
     ensures { AccessesFindTheSame }
+{}
+
+/// In any run, only calls with a deadline return ETIMEDOUT, and only after it has passed: in a sleep, or as a clock said when
+/// an heir asked. A lock returns ETIMEDOUT only if another thread has owned the mutex since the call began.
+pub fn no_call_times_out_early()
+    ensures { NoCallTimesOutEarly }
+{}
+
+/// In any run, a call that is refused at its first look is a whole call of the machine, which returns the same reply at that
+/// moment. So the machine's history has each refused call.
+pub fn refusals_are_the_machines()
+    ensures { RefusalsAreTheMachines }
+{}
+
+/// After any run, a call that runs alone returns or sleeps after at most 63 accesses, if clocks and hints don't ask for another
+/// look, and let an heir take a free mutex.
+pub fn lone_calls_come_to_rest()
+    ensures { LoneCallsComeToRest }
 {}

@@ -2,9 +2,9 @@
 //!
 //! Each mutex of the library is two of the machine's, a cell and a slot (`specs/Places.antt`). The library's calls are a
 //! table: for each row, it has the access to a shared word that the C library makes, the events of the machine that this
-//! access is, and the next row (`specs/Rows.antt`, `specs/Table.antt`). All these events are of the same thread, and happen
-//! at the moment of the access. Memory shows the machine's words with a turn above them, and AWAKE in a slot
-//! (`specs/Shown.antt`). What can happen between accesses is in `specs/Runs.antt`.
+//! access is, and the next row (`specs/Rows.antt`, `specs/Table.antt`, with `specs/Words.antt` and `specs/Seen.antt`). All
+//! these events are of the same thread, and happen at the moment of the access. Memory shows the machine's words with a turn
+//! above them, and AWAKE in a slot (`specs/Shown.antt`). What can happen between accesses is in `specs/Runs.antt`.
 //!
 //! - *Runs*: `slots_run_the_machine`, so every law of `protocol` holds here.
 //! - *Rows whose access is their events*: loads without events (`looks_are_events`), a call's first look
@@ -24,7 +24,9 @@
 //!   heirs, to whom wakes are left (`heirs_take_over`). So `all_hold`: each access of a run is its events.
 //! - *Replies* (`specs/Replies.antt`): `calls_begin_undecided`, `calls_decide_once`: each call takes effect at one access,
 //!   its point, and returns that point's reply. `calls_are_one_history`: the points and the deaths that Linux marks are one
-//!   legal history.
+//!   legal history. `refusals_are_the_machines` (`specs/Refused.antt`): a refused first look is a whole call of the machine.
+//! - *Deadlines* (`specs/Deadlines.antt`): `no_call_times_out_early`.
+//! - *Progress* (`specs/Alone.antt`): `lone_calls_come_to_rest`.
 //! - *Several events at one moment*: `giving_up_leaves_nothing`, `giving_up_is_a_look`, `takes_are_one_exchange`,
 //!   `takes_are_the_exchange`, `announcing_is_one_store`.
 //! - *Newer kernels*, whose walks make one more wake: `wakes_without_waiters_wake_nobody`, `rouses_nobody`,
@@ -55,16 +57,16 @@ pub use laws::{
     deaths_leave_all, deaths_leave_heirs, deciding_looks_are_events, each_access_is_events,
     first_looks_are_events, giving_up_is_a_look, giving_up_leaves_nothing, heir_takes_are_events,
     heirs_go_on, heirs_let_spare, heirs_take_over, last_looks_are_events,
-    late_memory_tells_the_same, list_rows_are_events, looks_are_events, marks_are_events,
-    mends_are_events, misses_are_no_events, moves_are_events, next_rows_fit,
-    nobody_joins_a_free_mutex, others_answer_still, others_leave_heirs, others_leave_what_is_owned,
-    others_stand_still, pending_again_is_no_event, plain_stores_are_own, plain_stores_wait_apart,
-    premises_follow, releases_are_events, releases_tell, rouses_nobody, rows_lead_on,
-    runs_keep_counts, runs_keep_heirs, runs_keep_owners, runs_keep_room, runs_keep_slept,
-    runs_keep_their_rows, runs_keep_turns, runs_may_buffer, sleeps_are_events,
-    slots_run_the_machine, slots_stay_quiet, spares_are_events, standing_heirs_answer,
-    takes_are_events, takes_are_one_exchange, takes_are_the_exchange, threads_keep_their_rows,
-    trims_are_events, trims_are_the_machines, turns_stay_known, turns_stay_known_by_all,
-    wakes_are_events, wakes_of_nobody_tell, wakes_without_waiters_wake_nobody, walks_leave_all,
-    walks_leave_heirs, words_stay_sound,
+    late_memory_tells_the_same, list_rows_are_events, lone_calls_come_to_rest, looks_are_events,
+    marks_are_events, mends_are_events, misses_are_no_events, moves_are_events, next_rows_fit,
+    no_call_times_out_early, nobody_joins_a_free_mutex, others_answer_still, others_leave_heirs,
+    others_leave_what_is_owned, others_stand_still, pending_again_is_no_event,
+    plain_stores_are_own, plain_stores_wait_apart, premises_follow, refusals_are_the_machines,
+    releases_are_events, releases_tell, rouses_nobody, rows_lead_on, runs_keep_counts,
+    runs_keep_heirs, runs_keep_owners, runs_keep_room, runs_keep_slept, runs_keep_their_rows,
+    runs_keep_turns, runs_may_buffer, sleeps_are_events, slots_run_the_machine, slots_stay_quiet,
+    spares_are_events, standing_heirs_answer, takes_are_events, takes_are_one_exchange,
+    takes_are_the_exchange, threads_keep_their_rows, trims_are_events, trims_are_the_machines,
+    turns_stay_known, turns_stay_known_by_all, wakes_are_events, wakes_of_nobody_tell,
+    wakes_without_waiters_wake_nobody, walks_leave_all, walks_leave_heirs, words_stay_sound,
 };
