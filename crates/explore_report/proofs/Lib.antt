@@ -1,0 +1,10 @@
+mod Loops
+mod Ends
+mod Reading
+mod Played
+mod Sameness
+mod Numbering
+mod Meeting
+mod Demanding
+mod Lawful
+mod Statuses

@@ -1,0 +1,14 @@
+pub mod Asked
+pub mod Spelled
+pub mod Plans
+pub mod Patterns
+pub mod Texts
+pub mod Witnesses
+pub mod Replays
+pub mod Told
+pub mod Kept
+pub mod Messages
+pub mod Served
+pub mod Programs
+pub mod Meets
+pub mod Laws

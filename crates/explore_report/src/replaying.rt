@@ -1,0 +1,203 @@
+//! Playing the script of an outcome: whether its run ends so.
+
+ghost use Rattle.std.specs.Prelude.{◌≡◌, ◌≢◌, ◌<◌, true, false, length, option_to_list, IfOk};
+ghost use Rattle.interleave.specs.Shown.{state_of};
+ghost use Rattle.protocol.specs.Headline.{seen};
+ghost use Rattle.script.specs.declared.fault.Fault.TheVariants.{OutOfMemory};
+ghost use Rattle.explore_report.specs.Replays.{replies_of, returned_to, told_in, AreLeft, HasAsMany, HasEnded};
+ghost use Rattle.explore_report.specs.Replays.{HaveEnded, Plays, Replays, Shows};
+
+use crate::patterns::{is_asleep, is_dead};
+use interleave::Machine;
+use lockword::{Cell, Reply, Tid};
+use memorymap::NoMem;
+use outcomes::{Ended, Outcome};
+use posixmutex::Object;
+use protocol::Note;
+use script::{Fault, Mode, Script, ScriptFault, first_machine, parse, play};
+use std::alloc::{AllocError, Global};
+
+/// The reply that a caller was given, if it is this thread.
+fn reply_to(thread: Tid, caller: Tid, reply: Option<Reply>) -> Option<Reply>
+    ensures { option_to_list result ≡ returned_to thread caller reply }
+{
+    if caller == thread { reply } else { None }
+}
+
+/// The reply with which a thread's call returned, if it did at this event.
+fn reply_in(note: &Note, thread: Tid) -> Option<Reply>
+    ensures { option_to_list result ≡ told_in thread note.now }
+{
+    match *note {
+        Note::Began {
+            thread: caller,
+            refused,
+            ..
+        } => reply_to(thread, caller, refused),
+        Note::Stepped {
+            thread: caller,
+            returned,
+            ..
+        } => reply_to(thread, caller, returned),
+        Note::Nothing | Note::Killed { .. } | Note::Left { .. } | Note::Expired { .. } => None,
+        Note::Walked { .. } | Note::Renewed { .. } | Note::Reinited { .. } => None,
+    }
+}
+
+/// What a thread's calls returned.
+fn replies_of(alloc: Global, notes: &[Note], thread: Tid) -> Result<Vec<Reply>, AllocError>
+    ensures { IfOk result (λ v. v.items ≡ replies_of thread notes.now) }
+{
+    let mut replies = Vec::new(alloc);
+    for note in notes {
+        if let Some(reply) = reply_in(note, thread) {
+            replies.push(reply)?;
+        }
+    }
+    Ok(replies)
+}
+
+/// Whether replies are the same.
+fn same_replies(a: &[Reply], b: &[Reply]) -> bool
+    ensures so { result ≡ true → a.now ≡ b.now }
+    ensures only { a.now ≡ b.now → result ≡ true }
+{
+    *a == *b
+}
+
+/// Whether a thread of the machine ended so.
+fn has_ended(
+    alloc: Global,
+    machine: &Machine,
+    notes: &[Note],
+    thread: Tid,
+    ended: &Ended,
+) -> Result<bool, AllocError>
+    ensures so { IfOk result (λ same. same ≡ true → HasEnded (state_of machine.now) notes.now thread ended.now) }
+    ensures only { IfOk result (λ same. HasEnded (state_of machine.now) notes.now thread ended.now → same ≡ true) }
+{
+    let replies = replies_of(alloc, notes, thread)?;
+    let is_same = same_replies(&replies, &ended.replies);
+    let is_dead = machine.reaped(thread) == is_dead(ended.end);
+    let is_asleep = machine.asleep(thread) == is_asleep(ended.end);
+    Ok(is_same && is_dead && is_asleep)
+}
+
+/// Whether the threads of the machine, which are as many as these, ended so.
+fn have_ended(
+    alloc: Global,
+    machine: &Machine,
+    notes: &[Note],
+    threads: &[Ended],
+) -> Result<bool, AllocError>
+    requires { length threads.now ≡ machine.now.layout.threads }
+    ensures so { IfOk result (λ same. same ≡ true → HaveEnded (state_of machine.now) notes.now threads.now) }
+    ensures only { IfOk result (λ same. HaveEnded (state_of machine.now) notes.now threads.now → same ≡ true) }
+{
+    for before in 0..machine.layout().threads() {
+        let thread = Tid::new(before + 1).unwrap();
+        let ended = &threads[usize::from(before)];
+        if !has_ended(alloc, machine, notes, thread, ended)? {
+            return Ok(false);
+        }
+    }
+    Ok(true)
+}
+
+/// What a mutex of the machine is to POSIX.
+fn object_of(machine: &Machine, mutex: u16) -> Object
+    requires { mutex < machine.now.layout.mutexes }
+    ensures { result ≡ seen (state_of machine.now) mutex }
+{
+    let word = machine.word(machine.layout().cell(mutex)).unwrap_or(0);
+    let cell = Cell::new(word);
+    Object {
+        owner: machine.owner(mutex),
+        inconsistent: cell.owner_died(),
+        unusable: cell.unusable(),
+    }
+}
+
+/// Whether a mutex of the machine is so.
+fn is_left(machine: &Machine, mutex: u16, object: &Object) -> bool
+    requires { mutex < machine.now.layout.mutexes }
+    ensures so { result ≡ true → seen (state_of machine.now) mutex ≡ object.now }
+    ensures only { seen (state_of machine.now) mutex ≡ object.now → result ≡ true }
+{
+    object_of(machine, mutex) == *object
+}
+
+/// Whether the mutexes of the machine, which are as many as these, are so.
+fn are_left(machine: &Machine, mutexes: &[Object]) -> bool
+    requires { length mutexes.now ≡ machine.now.layout.mutexes }
+    ensures so { result ≡ true → AreLeft (state_of machine.now) mutexes.now }
+    ensures only { AreLeft (state_of machine.now) mutexes.now → result ≡ true }
+{
+    for mutex in 0..machine.layout().mutexes() {
+        if !is_left(machine, mutex, &mutexes[usize::from(mutex)]) {
+            return false;
+        }
+    }
+    true
+}
+
+/// Whether the machine has as many threads and mutexes as an outcome.
+fn has_as_many(machine: &Machine, outcome: &Outcome) -> bool
+    ensures so { result ≡ true → HasAsMany (state_of machine.now) outcome.now }
+    ensures only { HasAsMany (state_of machine.now) outcome.now → result ≡ true }
+{
+    let layout = machine.layout();
+    let threads = usize::from(layout.threads());
+    let mutexes = usize::from(layout.mutexes());
+    outcome.threads.len() == threads && outcome.mutexes.len() == mutexes
+}
+
+/// Whether a machine, of whose run this was noted, has an outcome.
+fn shows(
+    alloc: Global,
+    machine: &Machine,
+    notes: &[Note],
+    outcome: &Outcome,
+) -> Result<bool, AllocError>
+    ensures so { IfOk result (λ same. same ≡ true → Shows (state_of machine.now) notes.now outcome.now) }
+    ensures only { IfOk result (λ same. Shows (state_of machine.now) notes.now outcome.now → same ≡ true) }
+{
+    if !has_as_many(machine, outcome) {
+        return Ok(false);
+    }
+    Ok(have_ended(alloc, machine, notes, &outcome.threads)? && are_left(machine, &outcome.mutexes))
+}
+
+/// What a fault says that a script has: that it isn't played, unless memory was refused.
+fn refused_by(at: ScriptFault) -> Result<bool, NoMem>
+    ensures { IfOk result (λ same. (same ≡ false) × (at.fault ≢ OutOfMemory)) }
+{
+    match at.fault {
+        Fault::OutOfMemory => Err(NoMem),
+        Fault::NotUtf8 | Fault::UnknownWord | Fault::OutOfRange => Ok(false),
+        Fault::NoSuchName | Fault::TooLong => Ok(false),
+    }
+}
+
+/// Whether playing a script gives the outcome.
+fn plays(alloc: Global, script: &Script, outcome: &Outcome) -> Result<bool, NoMem>
+    ensures so { IfOk result (λ same. same ≡ true → Plays script.now outcome.now) }
+    ensures only { IfOk result (λ same. Plays script.now outcome.now → same ≡ true) }
+{
+    let machine = first_machine(alloc, script)?;
+    match play(alloc, script, machine) {
+        Ok((trace, machine)) => Ok(shows(alloc, &machine, &trace.notes, outcome)?),
+        Err(at) => refused_by(at),
+    }
+}
+
+/// Whether a text is a script for `rfx run`, and playing it gives the outcome.
+pub fn replays(alloc: Global, text: &[u8], outcome: &Outcome) -> Result<bool, NoMem>
+    ensures so { IfOk result (λ same. same ≡ true → Replays text.now outcome.now) }
+    ensures only { IfOk result (λ same. Replays text.now outcome.now → same ≡ true) }
+{
+    match parse(alloc, text, Mode::Run) {
+        Ok(script) => plays(alloc, &script, outcome),
+        Err(at) => refused_by(at),
+    }
+}
