@@ -15,9 +15,9 @@ Q = $(if $(V),,@)
 IS_SILENT := $(findstring s,$(firstword -$(MAKEFLAGS)))
 say = $(if $(V)$(IS_SILENT),,@printf '  %-4s %s\n' $1 $2)
 
-# rfx, rfx-draw, rfx-explain and rfx-judge are linked from the objects that Rattle's compiler made of the proved crates.
+# rfx and its companions are linked from the objects that Rattle's compiler made of the proved crates.
 MACHINE := $(firstword $(subst -, ,$(shell $(CC) -dumpmachine)))
-PROGRAMS = rfx rfx-draw rfx-explain rfx-judge
+PROGRAMS = rfx rfx-draw rfx-explain rfx-explore rfx-judge
 # programs/launch links others, from objects that it had made, or to another place.
 OBJECTS_IN ?= programs/$(MACHINE)
 LINK_TO ?= bin
