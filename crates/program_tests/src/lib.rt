@@ -1,4 +1,4 @@
-//! Tests of the four programs where memory, readers or writers fail, and of what is written of traces and replies, by
+//! Tests of the programs where memory, readers or writers fail, and of what is written of traces and replies, by
 //! public calls alone. What the programs answer to files is in cases/, and is compared by checks/answers.
 //!
 //! They are above the crates that they test, since a crate with tests of its own is proved a second time for them,
@@ -11,6 +11,8 @@ mod commands;
 mod drawn;
 #[cfg(test)]
 mod explained;
+#[cfg(test)]
+mod explored;
 #[cfg(test)]
 mod judged;
 #[cfg(test)]
