@@ -1,5 +1,5 @@
 -- A call that runs alone comes to rest.
-use Rattle.std.proofs.Common.{◌≡◌, ℕ, ◌+◌, ◌<◌, ◌≤◌, ◌==◌, Bool, true, false, List, [], ◌∷◌, ◌++◌, length, refl, sym, ap, ◌∙◌, subst, arith}
+use Rattle.std.proofs.Common.{◌≡◌, ℕ, ◌+◌, ◌*◌, ◌<◌, ◌≤◌, ◌==◌, Bool, true, false, List, [], ◌∷◌, ◌++◌, length, refl, sym, ap, ◌∙◌, subst, arith}
 use Rattle.std.specs.Prelude.{if◌then◌else◌, ◌%◌, ◌^◌, nat_lt, not, ◌&&◌, ◌||◌, suc}
 use Rattle.std.proofs.lemmas.Bool.Decides.{nat_tests}
 use Rattle.lockword.specs.Cells.{fields_of}
@@ -20,7 +20,7 @@ use Rattle.slots.specs.Runs.Happening.{Goes}
 use Rattle.slots.specs.Goes.{Grants}
 use Rattle.slots.specs.Accesses.{IsAtRow}
 use Rattle.slots.specs.Premises.{AllTrusted, Trusts}
-use Rattle.slots.specs.Alone.{AllGoOn, LoneCallsComeToRest, comes_to_rest, goes_alone, goes_on, has_come_to_rest}
+use Rattle.slots.specs.Alone.{LoneCallsComeToRest, comes_to_rest, goes_alone, goes_on, has_come_to_rest, looks_again}
 use Rattle.stepprograms.specs.declared.access.Access.{Access}
 use Rattle.mutex.specs.Standings.{Whole}
 use Rattle.condvar.specs.Calls.{condition_of}
@@ -91,6 +91,9 @@ rank_few w v s r few = refl
 abbrev rank_at : Slots → ℕ → ℕ
 rank_at x t = rank (shown x (cell_place x.machine.layout (cell_of (about (x.rows t))))) (shown x (cell_place x.machine.layout (slot_of (about (x.rows t))))) (list_rank (x.machine.threads t).stage) (x.rows t)
 
+few_at : (x : Slots) (t : ℕ) → nat_lt (rank_at x t) 63 ≡ true
+few_at x t = rank_few _ _ _ (x.rows t) (few_left (x.machine.threads t).stage)
+
 -- the next row is of the same mutex
 same_rank : (f h : ℕ → ℕ) (s : ℕ) (r q : Row) (p : Progress) → GoesOn r p q → rank (f (about q)) (h (about q)) s q ≡ rank (f (about r)) (h (about r)) s q
 same_rank f h s r Row.Rests p goes = refl
@@ -128,7 +131,7 @@ module _ (x : Slots) (t : ℕ) (st : Steady x) (pos : 1 ≤ t) (known : t ≤ x.
   layout : y.machine.layout ≡ x.machine.layout
   layout = layout_run x.machine (made x t c (x.rows t)).events (reached_kept x.machine st.reached)
 
-  nearer : StaysAwake x y t c inv pos known awake (x.rows t) → goes_on (x.rows t) c ≡ true → nat_lt (rank_at (next x (Goes t c)) t) (rank_at x t) ≡ true
+  nearer : StaysAwake x y t c inv pos known awake (x.rows t) → goes_on x (x.rows t) c ≡ true → nat_lt (rank_at (next x (Goes t c)) t) (rank_at x t) ≡ true
   nearer up goes = subst (λ (b : Bool). nat_lt (rank_at (if b then y else x) t) (rank_at x t) ≡ true) (sym guard)
       (subst (λ (q : Row). nat_lt (rank (shown y (cell_place y.machine.layout (cell_of (about q)))) (shown y (cell_place y.machine.layout (slot_of (about q)))) (list_rank (y.machine.threads t).stage) q) (rank_at x t) ≡ true) (sym (put-same x.rows t (made x t c (x.rows t)).next))
       (subst (λ (l : Layout'). nat_lt (rank (shown y (cell_place l (cell_of (about (made x t c (x.rows t)).next)))) (shown y (cell_place l (slot_of (about (made x t c (x.rows t)).next)))) (list_rank (y.machine.threads t).stage) (made x t c (x.rows t)).next) (rank_at x t) ≡ true) (sym layout)
@@ -213,8 +216,12 @@ or_true : (a : Bool) → (a || true) ≡ true
 or_true true = refl
 or_true false = refl
 
-step : (a b n : ℕ) → nat_lt a b ≡ true → b < suc n → a < n
-step a b n less few = grind (arith, nat_tests)
+-- one access fewer is left; or all are left again
+step : (a b n again : ℕ) → nat_lt a b ≡ true → b + 63 * (0 + again) < suc n → a + 63 * again < n
+step a b n again less few = let e : a < b = grind (arith, nat_tests) in omega (arith, e, few)
+
+step_again : (a b n again : ℕ) → nat_lt a 63 ≡ true → b + 63 * (1 + again) < suc n → a + 63 * again < n
+step_again a b n again less few = let e : a < 63 = grind (arith, nat_tests) in omega (arith, e, few)
 
 none_of : (a b : Bool) → (a || b) ≡ false → (a ≡ false) × (b ≡ false)
 none_of false false e = (refl, refl)
@@ -233,21 +240,26 @@ by_sleep : (b : Bool) → (e : Bool) → (b ≡ true → e ≡ true) → (b ≡ 
 by_sleep true e first second = first refl
 by_sleep false e first second = second refl
 
-comes : (x : Slots) (t : ℕ) (cs : List Choice) → Steady x → 1 ≤ t → t ≤ x.machine.layout.threads → AllTrusted x (goes_alone t cs) → AllGoOn x t cs → rank_at x t < length cs → comes_to_rest x t cs ≡ true
-comes x t [] st pos known trusted goes few = absurd (let e : rank_at x t < 0 = few in omega (arith, e))
-comes x t (c ∷ cs) st pos known ((first, last, w), trusted) (goes, more) few = rest_or (has_come_to_rest x t) (comes_to_rest (next x (Goes t c)) t cs)
+comes : (x : Slots) (t : ℕ) (cs : List Choice) → Steady x → 1 ≤ t → t ≤ x.machine.layout.threads → AllTrusted x (goes_alone t cs) → rank_at x t + 63 * looks_again x t cs < length cs → comes_to_rest x t cs ≡ true
+comes x t [] st pos known trusted few = absurd (let e : rank_at x t + 63 * 0 < 0 = few in omega (arith, e))
+comes x t (c ∷ cs) st pos known ((first, last, w), trusted) few = rest_or (has_come_to_rest x t) (comes_to_rest (next x (Goes t c)) t cs)
     (λ e. let none = none_of (is_resting (x.rows t)) (is_asleep x.machine t) e in
     by_sleep (falls_asleep x t st pos known c w none.0 none.1 (x.rows t)) (comes_to_rest (next x (Goes t c)) t cs)
     (λ sleeps. rests_now (next x (Goes t c)) t cs (asleep_next x t st pos known c w none.0 none.1 (x.rows t) refl sleeps))
     (λ stays_up. comes (next x (Goes t c)) t cs (steady_next x (Goes t c) st first last w) pos
-    (subst (λ (l : Layout'). t ≤ l.threads) (sym (layout_then x (Goes t c ∷ []) st ((first, last, w), tt))) known) trusted more
-    (step (rank_at (next x (Goes t c)) t) (rank_at x t) (length cs) (nearer x t st pos known c w none.0 none.1 (stays x t st pos known c w none.0 none.1 (x.rows t) stays_up) goes) few)))
+    (subst (λ (l : Layout'). t ≤ l.threads) (sym (layout_then x (Goes t c ∷ []) st ((first, last, w), tt))) known) trusted
+    (go (goes_on x (x.rows t) c) refl (λ goes. nearer x t st pos known c w none.0 none.1 (stays x t st pos known c w none.0 none.1 (x.rows t) stays_up) goes) few)))
+  where
+    go : (b : Bool) → goes_on x (x.rows t) c ≡ b → (goes_on x (x.rows t) c ≡ true → nat_lt (rank_at (next x (Goes t c)) t) (rank_at x t) ≡ true)
+        → rank_at x t + 63 * ((if b then 0 else 1) + looks_again (next x (Goes t c)) t cs) < suc (length cs) → rank_at (next x (Goes t c)) t + 63 * looks_again (next x (Goes t c)) t cs < length cs
+    go true e near few = step (rank_at (next x (Goes t c)) t) (rank_at x t) (length cs) (looks_again (next x (Goes t c)) t cs) (near e) few
+    go false e near few = step_again (rank_at (next x (Goes t c)) t) (rank_at x t) (length cs) (looks_again (next x (Goes t c)) t cs) (few_at (next x (Goes t c)) t) few
 
-at_most : (a n : ℕ) → nat_lt a 63 ≡ true → 63 ≤ n → a < n
-at_most a n less most = grind (arith, nat_tests)
+at_most : (a again n : ℕ) → nat_lt a 63 ≡ true → 63 * (1 + again) ≤ n → a + 63 * again < n
+at_most a again n less most = let e : a < 63 = grind (arith, nat_tests) in omega (arith, e, most)
 
 pub lone_calls : LoneCallsComeToRest
-lone_calls l hs t cs is pos known trusted alone goes most =
+lone_calls l hs t cs is pos known trusted alone most =
     let st : Steady (reached l hs) = steady_run (begin l) hs (begins_steady l is) trusted in
     let here : t ≤ (reached l hs).machine.layout.threads = subst (λ (k : Layout'). t ≤ k.threads) (sym (layout_then (begin l) hs (begins_steady l is) trusted)) known in
-    comes (reached l hs) t cs st pos here alone goes (at_most (rank_at (reached l hs) t) (length cs) (rank_few _ _ _ ((reached l hs).rows t) (few_left ((reached l hs).machine.threads t).stage)) most)
+    comes (reached l hs) t cs st pos here alone (at_most (rank_at (reached l hs) t) (looks_again (reached l hs) t cs) (length cs) (few_at (reached l hs) t) most)

@@ -111,21 +111,20 @@ looks_on true true sure same e f = refl
 looks_on false true sure same e f = refl
 looks_on false false sure same e f = absurd cc
 
-looks_off : (none lost sure same : Bool) → sure ≡ true → (lost || ((none && not lost) && sure)) ≡ false → nat_lt (on_rank (none && not lost) false (none && not lost) same lost) (if none && not lost then 28 else 23) ≡ true
-looks_off true false true same e f = absurd cc
-looks_off true false false same e f = absurd cc
-looks_off true true sure same e f = absurd cc
-looks_off false true sure same e f = absurd cc
-looks_off false false sure same e f = refl
+looks_off : (none lost same : Bool) → none ≡ false → nat_lt (on_rank (none && not lost) false (none && not lost) same lost) (if none && not lost then 28 else 23) ≡ true
+looks_off false lost same e = refl
+looks_off true lost same e = absurd cc
+
+not_free_now : (lost none sure again : Bool) → (lost || (if none then sure else not again)) ≡ true → (lost || ((none && not lost) && sure)) ≡ false → (none ≡ false) × (again ≡ false)
+not_free_now false false sure false e f = (refl, refl)
+not_free_now false false sure true e f = absurd cc
+not_free_now false true true again e f = absurd cc
+not_free_now false true false again e f = absurd cc
+not_free_now true none sure again e f = absurd cc
 
 not_free : (free : Bool) (m n a : ℕ) → (true && free) ≡ false → nat_lt n a ≡ true → nat_lt (if free then m else n) a ≡ true
 not_free true m n a e less = absurd cc
 not_free false m n a e less = less
-
-and_both : (a b : Bool) → (a && b) ≡ true → (a ≡ true) × (b ≡ true)
-and_both true true e = (refl, refl)
-and_both true false e = absurd cc
-and_both false b e = absurd cc
 
 and_no : (a : Bool) → (a && false) ≡ false
 and_no true = refl
@@ -288,14 +287,15 @@ module _ (x y : Slots) (t : ℕ) (c : Choice) (inv : Kept x.machine) (pos : 1 �
       (subst (λ (u : ℕ). nat_lt (if is_free u then 30 else 25) 27 ≡ true) (sym kept) (not_free (is_free (cell k.mutex)) 30 25 27 e refl))
       (subst (λ (u : ℕ). nat_lt (if is_free u then 32 else 21) 27 ≡ true) (sym kept) (not_free (is_free (cell k.mutex)) 32 21 27 e refl)))
 
-  heir_looks_lt : (k : Taking) → c.yes ≡ true → c.again ≡ false → then_word (cell_of k.mutex) ≡ cell k.mutex
+  heir_looks_lt : (k : Taking) → goes_on x (Row.HeirLooks k) c ≡ true → then_word (cell_of k.mutex) ≡ cell k.mutex
       → Lt k.mutex (now (Row.HeirLooks k)) (if (fields_of (cell k.mutex)).unusable || (is_free (cell k.mutex) && c.yes) then Row.HeirPendsOn k (cell k.mutex) true else if c.again then Row.HeirPends k Again else Row.HeirPendsOn k (cell k.mutex) false)
-  heir_looks_lt k sure once kept = by_test (Lt k.mutex (now (Row.HeirLooks k))) ((fields_of (cell k.mutex)).unusable || (is_free (cell k.mutex) && c.yes)) (Row.HeirPendsOn k (cell k.mutex) true) (if c.again then Row.HeirPends k Again else Row.HeirPendsOn k (cell k.mutex) false)
+  heir_looks_lt k goes kept = by_test (Lt k.mutex (now (Row.HeirLooks k))) ((fields_of (cell k.mutex)).unusable || (is_free (cell k.mutex) && c.yes)) (Row.HeirPendsOn k (cell k.mutex) true) (if c.again then Row.HeirPends k Again else Row.HeirPendsOn k (cell k.mutex) false)
       (λ e. subst (λ (u : ℕ). nat_lt (on_rank (is_free u) true (is_free (cell k.mutex)) (u == cell k.mutex) (fields_of (cell k.mutex)).unusable) (now (Row.HeirLooks k)) ≡ true) (sym kept)
       (looks_on ((fields_of (cell k.mutex)).owner == 0) (fields_of (cell k.mutex)).unusable c.yes (cell k.mutex == cell k.mutex) (eq-eqb (cell k.mutex) (cell k.mutex) refl) e))
-      (λ e. subst (λ (b : Bool). Lt k.mutex (now (Row.HeirLooks k)) (if b then Row.HeirPends k Again else Row.HeirPendsOn k (cell k.mutex) false)) (sym once)
+      (λ e. let owned = not_free_now (fields_of (cell k.mutex)).unusable ((fields_of (cell k.mutex)).owner == 0) c.yes c.again goes e in
+      subst (λ (b : Bool). Lt k.mutex (now (Row.HeirLooks k)) (if b then Row.HeirPends k Again else Row.HeirPendsOn k (cell k.mutex) false)) (sym owned.1)
       (subst (λ (u : ℕ). nat_lt (on_rank (is_free u) false (is_free (cell k.mutex)) (u == cell k.mutex) (fields_of (cell k.mutex)).unusable) (now (Row.HeirLooks k)) ≡ true) (sym kept)
-      (looks_off ((fields_of (cell k.mutex)).owner == 0) (fields_of (cell k.mutex)).unusable c.yes (cell k.mutex == cell k.mutex) sure e)))
+      (looks_off ((fields_of (cell k.mutex)).owner == 0) (fields_of (cell k.mutex)).unusable (cell k.mutex == cell k.mutex) owned.0)))
 
   out_lt : (k : Taking) (n : ℕ) → nat_lt 18 n ≡ true → Lt k.mutex n (out_of x t c k)
   out_lt k n less = either k.mutex n (k.timed && c.yes) (Row.Frees k (Fails ETIMEDOUT)) (Row.Frees k Sleeps) less less
@@ -424,7 +424,7 @@ module _ (x y : Slots) (t : ℕ) (c : Choice) (inv : Kept x.machine) (pos : 1 �
   awake_lt k v Later w e = under (w % 2 ^ 32 == v % 2 ^ 32) false _ 1 47 e (by_test (λ (n : Made). Lt k.mutex 47 n.next) (w % 2 ^ 32 == v % 2 ^ 32) _ _ (λ f. refl) (λ f. refl))
   awake_lt k v (Waited z) w e = under (w % 2 ^ 32 == v % 2 ^ 32) false 46 1 47 e refl
 
-  pub nearer_row : (r : Row) → Fits l t r g → StandsAs r g → is_resting r ≡ false → StaysAwake r → goes_on r c ≡ true → Goal r
+  pub nearer_row : (r : Row) → Fits l t r g → StandsAs r g → is_resting r ≡ false → StaysAwake r → goes_on x r c ≡ true → Goal r
   nearer_row (Row.Looks k) o there busy up goes = two (Row.Looks k) ((fields_of (cell k.mutex)).owner == t) _ _ (λ e w m. refl) (λ e w m. refl)
   nearer_row (Row.Pends k v) o there busy up goes = λ w m. either k.mutex 46 (is_free v) (Row.Takes k v) (Row.Sees k) (max_lt (then_word (cell_of k.mutex) == v) 8 45 46 refl refl) refl
   nearer_row (Row.Sees k) o there busy up goes = λ w m. seen_lt k (load_keeps _ (cell_place l (cell_of k.mutex)) w)
@@ -451,7 +451,7 @@ module _ (x y : Slots) (t : ℕ) (c : Choice) (inv : Kept x.machine) (pos : 1 �
   nearer_row (Row.SlotMends k) o there busy up goes = λ w m. max_lt (is_free (then_word (cell_of k.mutex))) 30 25 31 refl refl
   nearer_row (Row.HeirPends k b) o there busy up goes = λ w m. free_step k.mutex 29 24 30 25 (pend_keeps (cell_of k.mutex) _ (our_cell l k.mutex o.ours) w) refl refl
   nearer_row (Row.HeirSets k) o there busy up goes = λ w m. free_step k.mutex 28 23 29 24 (slot_keeps k.mutex (Access.Store (address_in l t (cell_place l (slot_of k.mutex))) (awake_word t c.time)) o.ours tt refl w) refl refl
-  nearer_row (Row.HeirLooks k) o there busy up goes = λ w m. let both_so = and_both c.yes (not c.again) goes in heir_looks_lt k both_so.0 (not_it c.again both_so.1) (load_keeps _ (cell_place l (cell_of k.mutex)) w)
+  nearer_row (Row.HeirLooks k) o there busy up goes = λ w m. heir_looks_lt k goes (load_keeps _ (cell_place l (cell_of k.mutex)) w)
   nearer_row (Row.HeirPendsOn k v over) o there busy up goes = λ w m. watched_lt k v over (pend_keeps (cell_of k.mutex) _ (our_cell l k.mutex o.ours) w)
   nearer_row (Row.HeirTakes k v) o there busy up goes = two (Row.HeirTakes k v) (cell k.mutex == v) _ _ (λ e w m. under (cell k.mutex == v) true 25 26 27 e refl) (λ e w m. under (cell k.mutex == v) false _ 26 27 e (beaten_lt k (miss_keeps (cell_of k.mutex) v _ (cell_place l (cell_of k.mutex)) (our_cell l k.mutex o.0.ours) e w)))
   nearer_row (Row.HeirHas k y) o there busy up goes = λ w m. fits_19 then_left few

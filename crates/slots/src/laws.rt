@@ -466,8 +466,8 @@ pub fn refusals_are_the_machines()
     ensures { RefusalsAreTheMachines }
 {}
 
-/// After any run, a call that runs alone returns or sleeps after at most 63 accesses, if clocks and hints don't ask for another
-/// look, and let an heir take a free mutex.
+/// After any run, a call that runs alone returns or sleeps after at most 63 accesses. It may make 63 more each time that a clock
+/// or a hint asks for another look, or keeps an heir from a free mutex.
 pub fn lone_calls_come_to_rest()
     ensures { LoneCallsComeToRest }
 {}
