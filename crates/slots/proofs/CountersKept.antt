@@ -52,7 +52,7 @@ use Rattle.slots.proofs.Sleeping.{counter_shows}
 abbrev pub count_at : Slots → ℕ → ℕ
 count_at x k = x.machine.words (counter_place x.machine.layout k)
 
-shown_alike : (x y : Slots) (k n : ℕ) → y.machine.layout ≡ x.machine.layout → k < length x.machine.layout.conditions → count_at y k ≡ count_at x k → y.slept k ≡ x.slept k → shown x (counter_place x.machine.layout k) ≡ n → shown y (counter_place y.machine.layout k) ≡ n
+pub shown_alike : (x y : Slots) (k n : ℕ) → y.machine.layout ≡ x.machine.layout → k < length x.machine.layout.conditions → count_at y k ≡ count_at x k → y.slept k ≡ x.slept k → shown x (counter_place x.machine.layout k) ≡ n → shown y (counter_place y.machine.layout k) ≡ n
 shown_alike x y k n layout inside words slept is =
     counter_shows y k (subst (λ (l : Layout'). k < length l.conditions) (sym layout) inside)
     ∙ (λ i. words i + bit (slept i) 4294967296)

@@ -10,6 +10,7 @@ use Rattle.memorymap.specs.Layouts.{Layout', address_in, cell_place, counter_pla
 use Rattle.mutex.specs.Rows.{acquired}
 use Rattle.mutex.specs.declared.call.Call.TheVariants.{Consistent, TimedLock, TryLock, Unlock}
 use Rattle.condvar.specs.declared.op.Op.TheVariants.{OnMutex}
+use Rattle.posixmutex.specs.declared.point.Decision.{Decision}
 use Rattle.posixmutex.specs.declared.point.Operation.TheVariants as op
 use Rattle.protocol.specs.declared.event.Event.TheVariants.{Begin, Expire, Remake, Spare, Step}
 use Rattle.protocol.specs.declared.event.LeftTo.TheVariants as left_to
@@ -31,7 +32,7 @@ use Rattle.slots.specs.Seen.{retakes, seen_events, seen_row, seen_to_sleep, sets
 use Rattle.slots.specs.Table.{finds_row, refused_count, released, shows_slept, to_slot, tries, unlinked_row, wait_begins, watched_row, woke_row}
 use Rattle.slots.specs.Fits.{Fits}
 use Rattle.slots.specs.Runs.{is_first, is_ours, lapse_row}
-use Rattle.slots.specs.Replies.{CallsBeginUndecided, DecidesOnce, Deed, GoesOn, IsCalled, IsItsOwn, MayDo, Progress, after_deed, counts_as, decided, deed, gave, late, lock_progress, locks, looked, looked_first, looked_to_sleep, progress, refused_or, tried}
+use Rattle.slots.specs.Replies.{CallsBeginUndecided, DecidesOnce, Deed, GoesOn, IsCalled, IsItsOwn, IsOfLock, MayDo, Progress, after_deed, counts_as, decided, deed, gave, late, lock_progress, locking, locks, looked, looked_first, looked_to_sleep, progress, refused_or, tried}
 use Rattle.slots.specs.Replies.Deed.{Nothing, Decides, Refuses}
 
 module _ (x : Slots) (t : ℕ) (c : Choice) where
@@ -56,16 +57,20 @@ module _ (x : Slots) (t : ℕ) (c : Choice) where
   either r e false p q first second = second
 
   -- a lock is decided
-  may_lock : (h : How) (m : ℕ) (y : Reply) → MayDo (lock_progress h) (locks t m y)
-  may_lock Tried m y = inl refl
-  may_lock Later m y = inl refl
-  may_lock (Waited z) m y = refl
+  may_lock_on : (wrong : Bool) (d : Decision) → IsOfLock d → MayDo (locking wrong) (Decides d)
+  may_lock_on true d is = is
+  may_lock_on false d is = is
 
-  locked : (r q : Row) (h : How) (y : Reply) → progress r ≡ lock_progress h → GoesOn r (Progress.Decided y) q → One r (locks t (about r) y) q
-  locked r q h y is goes = record { may = subst (λ (p : Progress). MayDo p (locks t (about r) y)) (sym is) (may_lock h (about r) y); own = (refl, refl); goes = goes }
+  may_lock : (h : How) (wrong : Bool) (m : ℕ) (y : Reply) → MayDo (lock_progress h wrong) (locks t m y)
+  may_lock Tried wrong m y = may_lock_on wrong (decided t m op.Lock y) (inl refl)
+  may_lock Later wrong m y = may_lock_on wrong (decided t m op.Lock y) (inl refl)
+  may_lock (Waited z) wrong m y = refl
 
-  lost : (r : Row) (h : How) (m w : ℕ) → about r ≡ m → progress r ≡ lock_progress h → One r (locks t (about r) ENOTRECOVERABLE) (unusable_row m w)
-  lost r h m w same is = locked r (unusable_row m w) h ENOTRECOVERABLE is (go (fields_of w).waiters)
+  locked : (r q : Row) (h : How) (wrong : Bool) (y : Reply) → progress r ≡ lock_progress h wrong → GoesOn r (Progress.Decided y) q → One r (locks t (about r) y) q
+  locked r q h wrong y is goes = record { may = subst (λ (p : Progress). MayDo p (locks t (about r) y)) (sym is) (may_lock h wrong (about r) y); own = (refl, refl); goes = goes }
+
+  lost : (r : Row) (h : How) (wrong : Bool) (m w : ℕ) → about r ≡ m → progress r ≡ lock_progress h wrong → One r (locks t (about r) ENOTRECOVERABLE) (unusable_row m w)
+  lost r h wrong m w same is = locked r (unusable_row m w) h wrong ENOTRECOVERABLE is (go (fields_of w).waiters)
     where
       go : (b : Bool) → GoesOn r (Progress.Decided ENOTRECOVERABLE) (if b then Row.WakesAll m ENOTRECOVERABLE else Row.Clears m ENOTRECOVERABLE)
       go true = (refl, sym same)
@@ -73,49 +78,53 @@ module _ (x : Slots) (t : ℕ) (c : Choice) where
 
   -- ---- a lock has seen the word w
 
-  refuses : (r : Row) (k : Taking) (h : How) (w : ℕ) → k.how ≡ h → about r ≡ k.mutex → progress r ≡ lock_progress h → One r (refused_or k h) (owned_row k h w)
-  refuses r k Tried w how same is = go k.wrong
+  refuses : (r : Row) (k : Taking) (h : How) (w : ℕ) → k.how ≡ h → about r ≡ k.mutex → progress r ≡ lock_progress h k.wrong → One r (refused_or k h) (owned_row k h w)
+  refuses r k Tried w how same is = go k.wrong refl
     where
-      go : (b : Bool) → One r (if b then Refuses EINVAL else Nothing) (if b then Row.Clears k.mutex EINVAL else Row.Chooses k w)
-      go true = record { may = subst (λ (p : Progress). MayDo p (Refuses EINVAL)) (sym is) refl; own = tt; goes = (refl, sym same) }
-      go false = quiet r (Row.Chooses k w) (ap lock_progress how ∙ sym is, sym same)
-  refuses r k Later w how same is = quiet r (Row.Chooses k w) (ap lock_progress how ∙ sym is, sym same)
-  refuses r k (Waited z) w how same is = quiet r (Row.Chooses k w) (ap lock_progress how ∙ sym is, sym same)
+      go : (b : Bool) → k.wrong ≡ b → One r (if b then Refuses EINVAL else Nothing) (if b then Row.Clears k.mutex EINVAL else Row.Chooses k w)
+      go true wrong = record { may = subst (λ (p : Progress). MayDo p (Refuses EINVAL)) (sym (is ∙ ap locking wrong)) refl; own = tt; goes = (refl, sym same) }
+      go false wrong = quiet r (Row.Chooses k w) (ap (λ (i : How). lock_progress i k.wrong) how ∙ sym is, sym same)
+  refuses r k Later w how same is = quiet r (Row.Chooses k w) (ap (λ (i : How). lock_progress i k.wrong) how ∙ sym is, sym same)
+  refuses r k (Waited z) w how same is = quiet r (Row.Chooses k w) (ap (λ (i : How). lock_progress i k.wrong) how ∙ sym is, sym same)
 
-  seen_first : (r : Row) (k : Taking) (w : ℕ) → about r ≡ k.mutex → progress r ≡ lock_progress k.how → One r (looked_first t k w) (seen_row t k w)
+  seen_first : (r : Row) (k : Taking) (w : ℕ) → about r ≡ k.mutex → progress r ≡ lock_progress k.how k.wrong → One r (looked_first t k w) (seen_row t k w)
   seen_first r k w same is = go (fields_of w).unusable ((fields_of w).owner == 0) ((fields_of w).owner == t)
     where
       go : (a b d : Bool) → One r (if a then locks t k.mutex ENOTRECOVERABLE else if b then Nothing else if d then locks t k.mutex EDEADLK else refused_or k k.how)
           (if a then unusable_row k.mutex w else if b then Row.Takes k w else if d then Row.Clears k.mutex EDEADLK else owned_row k k.how w)
-      go true b d = subst (λ (m : ℕ). One r (locks t m ENOTRECOVERABLE) (unusable_row k.mutex w)) same (lost r k.how k.mutex w same is)
+      go true b d = subst (λ (m : ℕ). One r (locks t m ENOTRECOVERABLE) (unusable_row k.mutex w)) same (lost r k.how k.wrong k.mutex w same is)
       go false true d = quiet r (Row.Takes k w) (sym is, sym same)
-      go false false true = subst (λ (m : ℕ). One r (locks t m EDEADLK) (Row.Clears k.mutex EDEADLK)) same (locked r (Row.Clears k.mutex EDEADLK) k.how EDEADLK is (refl, sym same))
+      go false false true = subst (λ (m : ℕ). One r (locks t m EDEADLK) (Row.Clears k.mutex EDEADLK)) same (locked r (Row.Clears k.mutex EDEADLK) k.how k.wrong EDEADLK is (refl, sym same))
       go false false false = refuses r k k.how w refl same is
 
   -- its deadline is known to be a time
-  seen_again : (r : Row) (k : Taking) (w : ℕ) → about r ≡ k.mutex → progress r ≡ lock_progress k.how → ((refused_or k k.how ≡ Nothing) × (owned_row k k.how w ≡ Row.Chooses k w)) → One r (looked t k.mutex w) (seen_row t k w)
+  seen_again : (r : Row) (k : Taking) (w : ℕ) → about r ≡ k.mutex → progress r ≡ lock_progress k.how k.wrong → ((refused_or k k.how ≡ Nothing) × (owned_row k k.how w ≡ Row.Chooses k w)) → One r (looked t k.mutex w) (seen_row t k w)
   seen_again r k w same is (none, chooses) = subst (λ (e : Deed). One r (if (fields_of w).unusable then locks t k.mutex ENOTRECOVERABLE else if (fields_of w).owner == 0 then Nothing else if (fields_of w).owner == t then locks t k.mutex EDEADLK else e) (seen_row t k w)) none (seen_first r k w same is)
 
   missed_one : (a : Access) (k : Taking) (v : ℕ) (n : Then) (h : How) (w : ℕ) → k.how ≡ h → One (Row.Marks k v n) (looked t k.mutex w) (missed x t c a k h w).next
-  missed_one a k v n Tried w how = seen_again (Row.Marks k v n) (later k) w refl (ap lock_progress how) (refl, refl)
+  missed_one a k v n Tried w how = seen_again (Row.Marks k v n) (later k) w refl (ap (λ (i : How). lock_progress i k.wrong) how) (refl, refl)
   missed_one a k v n Later w how = seen_again (Row.Marks k v n) k w refl refl (ap (refused_or k) how, ap (λ (h : How). owned_row k h w) how)
   missed_one a k v n (Waited z) w how = seen_again (Row.Marks k v n) k w refl refl (ap (refused_or k) how, ap (λ (h : How). owned_row k h w) how)
 
-  sleeps : (r : Row) (k : Taking) (w : ℕ) → about r ≡ k.mutex → progress r ≡ lock_progress k.how → One r Nothing (sleep_row k w)
+  sleeps : (r : Row) (k : Taking) (w : ℕ) → about r ≡ k.mutex → progress r ≡ lock_progress k.how k.wrong → One r Nothing (sleep_row k w)
   sleeps r k w same is = either r Nothing (fields_of w).waiters (Row.SleepsOn k w) (Row.Marks k w ToSleep) (quiet r (Row.SleepsOn k w) (sym is, sym same)) (quiet r (Row.Marks k w ToSleep) (sym is, sym same))
 
-  to_sleep : (r : Row) (k : Taking) (w : ℕ) → about r ≡ k.mutex → progress r ≡ lock_progress k.how → One r (looked_to_sleep t k.mutex w) (seen_to_sleep k w)
+  to_sleep : (r : Row) (k : Taking) (w : ℕ) → about r ≡ k.mutex → progress r ≡ lock_progress k.how k.wrong → One r (looked_to_sleep t k.mutex w) (seen_to_sleep k w)
   to_sleep r k w same is = go (fields_of w).unusable ((fields_of w).owner == 0)
     where
       go : (a b : Bool) → One r (if a then locks t k.mutex ENOTRECOVERABLE else Nothing) (if a then unusable_row k.mutex w else if b then Row.Takes k w else sleep_row k w)
-      go true b = subst (λ (m : ℕ). One r (locks t m ENOTRECOVERABLE) (unusable_row k.mutex w)) same (lost r k.how k.mutex w same is)
+      go true b = subst (λ (m : ℕ). One r (locks t m ENOTRECOVERABLE) (unusable_row k.mutex w)) same (lost r k.how k.wrong k.mutex w same is)
       go false true = quiet r (Row.Takes k w) (sym is, sym same)
       go false false = sleeps r k w same is
 
-  to_the_slot : (k : Taking) (h : How) (v sl : ℕ) → k.how ≡ h → lock_progress h ≡ Progress.Called op.Lock → One (Row.Chooses k v) Nothing (to_slot x t c k h v sl)
-  to_the_slot k Tried v sl how is = quiet (Row.Chooses k v) (Row.SlotPends k sl) (sym (ap lock_progress how), refl)
-  to_the_slot k Later v sl how is = either (Row.Chooses k v) Nothing (fields_of v).waiters (Row.SlotPends k sl) (Row.Marks k v (ToSlot sl)) (quiet (Row.Chooses k v) (Row.SlotPends k sl) (sym (ap lock_progress how), refl)) (quiet (Row.Chooses k v) (Row.Marks k v (ToSlot sl)) (refl, refl))
-  to_the_slot k (Waited z) v sl how is = absurd cc
+  to_the_slot : (k : Taking) (h : How) (v sl : ℕ) → k.how ≡ h → lock_progress h k.wrong ≡ locking k.wrong → One (Row.Chooses k v) Nothing (to_slot x t c k h v sl)
+  to_the_slot k Tried v sl how is = quiet (Row.Chooses k v) (Row.SlotPends k sl) (sym (ap (λ (i : How). lock_progress i k.wrong) how), refl)
+  to_the_slot k Later v sl how is = either (Row.Chooses k v) Nothing (fields_of v).waiters (Row.SlotPends k sl) (Row.Marks k v (ToSlot sl)) (quiet (Row.Chooses k v) (Row.SlotPends k sl) (sym (ap (λ (i : How). lock_progress i k.wrong) how), refl)) (quiet (Row.Chooses k v) (Row.Marks k v (ToSlot sl)) (refl, refl))
+  to_the_slot k (Waited z) v sl how is = absurd (never k.wrong is)
+    where
+      never : (wrong : Bool) → Progress.Unlocked ≡ locking wrong → ⊥
+      never true e = cc e
+      never false e = cc e
 
   chooses : (k : Taking) (h : How) (v sl : ℕ) → k.how ≡ h → One (Row.Chooses k v) Nothing (
       if tries x t c h && is_moving sl && c.again then Row.SeesAgain k v
@@ -129,9 +138,9 @@ module _ (x : Slots) (t : ℕ) (c : Choice) where
   chooses k (Waited z) v sl how = sleeps (Row.Chooses k v) k v refl refl
 
   marked_one : (k : Taking) (v : ℕ) (n : Then) (h : How) → k.how ≡ h → ((sl : ℕ) → n ≡ ToSlot sl → h ≡ Later) → One (Row.Marks k v n) Nothing (marked_row x t c k h v n)
-  marked_one k v (ToSlot sl) h how later_is = quiet (Row.Marks k v (ToSlot sl)) (Row.SlotPends k sl) (sym (ap lock_progress (how ∙ later_is sl refl)), refl)
-  marked_one k v ToSleep Tried how later_is = quiet (Row.Marks k v ToSleep) (Row.SleepsOn (later k) (waiting_word v)) (sym (ap lock_progress how), refl)
-  marked_one k v ToSleep Later how later_is = quiet (Row.Marks k v ToSleep) (Row.SleepsOn (later k) (waiting_word v)) (sym (ap lock_progress how), refl)
+  marked_one k v (ToSlot sl) h how later_is = quiet (Row.Marks k v (ToSlot sl)) (Row.SlotPends k sl) (sym (ap (λ (i : How). lock_progress i k.wrong) (how ∙ later_is sl refl)), refl)
+  marked_one k v ToSleep Tried how later_is = quiet (Row.Marks k v ToSleep) (Row.SleepsOn (later k) (waiting_word v)) (sym (ap (λ (i : How). lock_progress i k.wrong) how), refl)
+  marked_one k v ToSleep Later how later_is = quiet (Row.Marks k v ToSleep) (Row.SleepsOn (later k) (waiting_word v)) (sym (ap (λ (i : How). lock_progress i k.wrong) how), refl)
   marked_one k v ToSleep (Waited z) how later_is = quiet (Row.Marks k v ToSleep) (Row.SleepsOn k (waiting_word v)) (refl, refl)
 
   asleep_one : (k : Taking) (v : ℕ) (h : How) (w : ℕ) → k.how ≡ h → One (Row.SleepsOn k v) Nothing (on_cell x t c k h v w).next
@@ -139,25 +148,25 @@ module _ (x : Slots) (t : ℕ) (c : Choice) where
   asleep_one k v Tried w how = go (w % 4294967296 == v % 4294967296)
     where
       go : (b : Bool) → One (Row.SleepsOn k v) Nothing (if b then makes (Access.Wait (address_in l t (cell_place l (cell_of k.mutex))) (v % 4294967296)) (begins_behind t (TimedLock (cell_of k.mutex)) ++ Step t ∷ Step t ∷ []) (Row.Asleep (later k)) else makes (Access.Wait (address_in l t (cell_place l (cell_of k.mutex))) (v % 4294967296)) (begins_behind t (TimedLock (cell_of k.mutex))) (Row.Asleep (later k))).next
-      go true = quiet (Row.SleepsOn k v) (Row.Asleep (later k)) (sym (ap lock_progress how), refl)
-      go false = quiet (Row.SleepsOn k v) (Row.Asleep (later k)) (sym (ap lock_progress how), refl)
+      go true = quiet (Row.SleepsOn k v) (Row.Asleep (later k)) (sym (ap (λ (i : How). lock_progress i k.wrong) how), refl)
+      go false = quiet (Row.SleepsOn k v) (Row.Asleep (later k)) (sym (ap (λ (i : How). lock_progress i k.wrong) how), refl)
   asleep_one k v Later w how = go (w % 4294967296 == v % 4294967296)
     where
       go : (b : Bool) → One (Row.SleepsOn k v) Nothing (if b then makes (Access.Wait (address_in l t (cell_place l (cell_of k.mutex))) (v % 4294967296)) (begins_behind t (TimedLock (cell_of k.mutex)) ++ Step t ∷ Step t ∷ []) (Row.Asleep (later k)) else makes (Access.Wait (address_in l t (cell_place l (cell_of k.mutex))) (v % 4294967296)) (begins_behind t (TimedLock (cell_of k.mutex))) (Row.Asleep (later k))).next
-      go true = quiet (Row.SleepsOn k v) (Row.Asleep (later k)) (sym (ap lock_progress how), refl)
-      go false = quiet (Row.SleepsOn k v) (Row.Asleep (later k)) (sym (ap lock_progress how), refl)
+      go true = quiet (Row.SleepsOn k v) (Row.Asleep (later k)) (sym (ap (λ (i : How). lock_progress i k.wrong) how), refl)
+      go false = quiet (Row.SleepsOn k v) (Row.Asleep (later k)) (sym (ap (λ (i : How). lock_progress i k.wrong) how), refl)
 
   -- ---- the slot
 
-  watched : (r : Row) (k : Taking) (v : ℕ) (over : Bool) → about r ≡ k.mutex → progress r ≡ Progress.Called op.Lock → One r Nothing (watched_row x t c k v over)
+  watched : (r : Row) (k : Taking) (v : ℕ) (over : Bool) → about r ≡ k.mutex → progress r ≡ locking k.wrong → One r Nothing (watched_row x t c k v over)
   watched r k v over same is = either r Nothing (over && is_free v) (Row.HeirTakes k v) (if over && not (fields_of v).unusable && not (k.timed && c.yes) then Row.HeirPends k Again else Row.GivesUp k) (quiet r (Row.HeirTakes k v) (sym is, sym same))
       (either r Nothing (over && not (fields_of v).unusable && not (k.timed && c.yes)) (Row.HeirPends k Again) (Row.GivesUp k) (quiet r (Row.HeirPends k Again) (sym is, sym same)) (quiet r (Row.GivesUp k) (sym is, sym same)))
 
-  out : (r : Row) (k : Taking) → about r ≡ k.mutex → progress r ≡ Progress.Called op.Lock → One r (late x t c k) (out_of x t c k)
+  out : (r : Row) (k : Taking) → about r ≡ k.mutex → progress r ≡ locking k.wrong → One r (late x t c k) (out_of x t c k)
   out r k same is = go (k.timed && c.yes)
     where
       go : (b : Bool) → One r (if b then Decides (decided t k.mutex op.TimedLock ETIMEDOUT) else Nothing) (if b then Row.Frees k (Fails ETIMEDOUT) else Row.Frees k Sleeps)
-      go true = record { may = subst (λ (p : Progress). MayDo p (Decides (decided t k.mutex op.TimedLock ETIMEDOUT))) (sym is) (inr (refl, refl)); own = (refl, sym same); goes = (refl, sym same) }
+      go true = record { may = subst (λ (p : Progress). MayDo p (Decides (decided t k.mutex op.TimedLock ETIMEDOUT))) (sym is) (may_lock_on k.wrong (decided t k.mutex op.TimedLock ETIMEDOUT) (inr (refl, refl))); own = (refl, sym same); goes = (refl, sym same) }
       go false = quiet r (Row.Frees k Sleeps) (sym is, sym same)
 
   last_one : (k : Taking) (w : ℕ) (look : Access) (a b d : Bool) → One (Row.LastLooks k)
@@ -167,8 +176,8 @@ module _ (x : Slots) (t : ℕ) (c : Choice) where
       else if d then makes look (Step t ∷ (Step t ∷ (Expire t ∷ []))) (out_of x t c k)
       else makes look [] (Row.LastMarks k w)
       ).next
-  last_one k w look true b true = record { may = inl refl; own = (refl, refl); goes = (refl, refl) }
-  last_one k w look true b false = record { may = inl refl; own = (refl, refl); goes = (refl, refl) }
+  last_one k w look true b true = record { may = may_lock_on k.wrong (decided t k.mutex op.Lock ENOTRECOVERABLE) (inl refl); own = (refl, refl); goes = (refl, refl) }
+  last_one k w look true b false = record { may = may_lock_on k.wrong (decided t k.mutex op.Lock ENOTRECOVERABLE) (inl refl); own = (refl, refl); goes = (refl, refl) }
   last_one k w look false true d = quiet (Row.LastLooks k) (Row.HeirPends k Again) (refl, refl)
   last_one k w look false false true = out (Row.LastLooks k) k refl refl
   last_one k w look false false false = quiet (Row.LastLooks k) (Row.LastMarks k w) (refl, refl)
@@ -239,11 +248,11 @@ module _ (x : Slots) (t : ℕ) (c : Choice) where
   pub one_row : (r : Row) (g : Stage) → Fits l t r g → One r (deed x t c r) (made x t c r).next
   one_row Row.Rests g o = quiet Row.Rests Row.Rests refl
   one_row (Row.Looks k) g o = two (Row.Looks k) ((fields_of (cell k.mutex)).owner == t) (locks t k.mutex EDEADLK) Nothing (makes (Access.Load (at (cell_of k.mutex))) (Begin t (OnMutex (TimedLock (cell_of k.mutex))) ∷ Step t ∷ Step t ∷ Step t ∷ []) Row.Rests) (makes (Access.Load (at (cell_of k.mutex))) [] (Row.Pends k (cell k.mutex)))
-      (locked (Row.Looks k) Row.Rests k.how EDEADLK refl tt) (quiet (Row.Looks k) (Row.Pends k (cell k.mutex)) (refl, refl))
+      (locked (Row.Looks k) Row.Rests k.how k.wrong EDEADLK refl tt) (quiet (Row.Looks k) (Row.Pends k (cell k.mutex)) (refl, refl))
   one_row (Row.Pends k v) g o = either (Row.Pends k v) Nothing (is_free v) (Row.Takes k v) (Row.Sees k) (quiet (Row.Pends k v) (Row.Takes k v) (refl, refl)) (quiet (Row.Pends k v) (Row.Sees k) (refl, refl))
   one_row (Row.Sees k) g o = seen_first (Row.Sees k) k (cell k.mutex) refl refl
   one_row (Row.Takes k v) g o = two (Row.Takes k v) (cell k.mutex == v) (locks t k.mutex (acquired (fields_of v))) (looked_first t k (cell k.mutex)) (makes (Access.Exchange (at (cell_of k.mutex)) v (taken_word v t)) (Step t ∷ Step t ∷ []) (Row.Links k.mutex (acquired (fields_of v)))) (makes (Access.Exchange (at (cell_of k.mutex)) v (taken_word v t)) (seen_events t k.mutex k.how (cell k.mutex)) (seen_row t k (cell k.mutex)))
-      (locked (Row.Takes k v) (Row.Links k.mutex (acquired (fields_of v))) k.how (acquired (fields_of v)) refl (refl, refl)) (seen_first (Row.Takes k v) k (cell k.mutex) refl refl)
+      (locked (Row.Takes k v) (Row.Links k.mutex (acquired (fields_of v))) k.how k.wrong (acquired (fields_of v)) refl (refl, refl)) (seen_first (Row.Takes k v) k (cell k.mutex) refl refl)
   one_row (Row.Links m y) g o = along (Row.Links m y) (Row.Links m y) (Row.Clears m y) (quiet (Row.Links m y) (Row.Links m y) (refl, refl)) (quiet (Row.Links m y) (Row.Clears m y) (refl, refl))
   one_row (Row.Clears m y) g o = quiet (Row.Clears m y) Row.Rests tt
   one_row (Row.Chooses k v) g o = chooses k k.how v (word (slot_of k.mutex)) refl
@@ -253,7 +262,7 @@ module _ (x : Slots) (t : ℕ) (c : Choice) where
   one_row (Row.SleepsOn k v) g o = asleep_one k v k.how (cell k.mutex) refl
   one_row (Row.Asleep k) g o = quiet (Row.Asleep k) (Row.Sees k) (refl, refl)
   one_row (Row.Late k) g o = quiet (Row.Late k) (Row.LateSees k) (refl, refl)
-  one_row (Row.LateSees k) g o = does (Row.LateSees k) _ (Row.Clears k.mutex ETIMEDOUT) (inr (refl, refl)) (refl, refl) (refl, refl)
+  one_row (Row.LateSees k) g o = does (Row.LateSees k) _ (Row.Clears k.mutex ETIMEDOUT) (may_lock_on k.wrong (decided t k.mutex op.TimedLock ETIMEDOUT) (inr (refl, refl))) (refl, refl) (refl, refl)
   one_row (Row.WakesAll m y) g o = quiet (Row.WakesAll m y) (Row.Clears m y) (refl, refl)
   one_row (Row.SlotPends k sl) g o = quiet (Row.SlotPends k sl) (Row.SlotTakes k sl) (refl, refl)
   one_row (Row.SlotTakes k sl) g o = slot_takes (word (slot_of k.mutex) == sl) ((fields_of (word (slot_of k.mutex))).owner == 0)
@@ -274,7 +283,7 @@ module _ (x : Slots) (t : ℕ) (c : Choice) where
       (either (Row.HeirLooks k) Nothing c.again (Row.HeirPends k Again) (Row.HeirPendsOn k (cell k.mutex) false) (quiet (Row.HeirLooks k) (Row.HeirPends k Again) (refl, refl)) (quiet (Row.HeirLooks k) (Row.HeirPendsOn k (cell k.mutex) false) (refl, refl)))
   one_row (Row.HeirPendsOn k v over) g o = watched (Row.HeirPendsOn k v over) k v over refl refl
   one_row (Row.HeirTakes k v) g o = two (Row.HeirTakes k v) (cell k.mutex == v) (locks t k.mutex (acquired (fields_of v))) Nothing (makes (Access.Exchange (at (cell_of k.mutex)) v (taken_word v t)) (Step t ∷ Step t ∷ []) (Row.HeirHas k (acquired (fields_of v)))) (makes (Access.Exchange (at (cell_of k.mutex)) v (taken_word v t)) [] (watched_row x t c k (cell k.mutex) true))
-      (does (Row.HeirTakes k v) _ (Row.HeirHas k (acquired (fields_of v))) (inl refl) (refl, refl) (refl, refl)) (watched (Row.HeirTakes k v) k (cell k.mutex) true refl refl)
+      (does (Row.HeirTakes k v) _ (Row.HeirHas k (acquired (fields_of v))) (may_lock_on k.wrong (decided t k.mutex op.Lock (acquired (fields_of v))) (inl refl)) (refl, refl) (refl, refl)) (watched (Row.HeirTakes k v) k (cell k.mutex) true refl refl)
   one_row (Row.HeirHas k y) g o = quiet (Row.HeirHas k y) (Row.HeirLinks k y) (refl, refl)
   one_row (Row.HeirLinks k y) g o = along (Row.HeirLinks k y) (Row.HeirLinks k y) (Row.Frees k (Has y)) (quiet (Row.HeirLinks k y) (Row.HeirLinks k y) (refl, refl)) (quiet (Row.HeirLinks k y) (Row.Frees k (Has y)) (refl, refl))
   one_row (Row.GivesUp k) g o = quiet (Row.GivesUp k) (Row.LastLooks k) (refl, refl)
@@ -337,8 +346,8 @@ module _ (x : Slots) (t : ℕ) (c : Choice) where
   lapses_one : (r : Row) (g : Stage) → Fits l t r g → (progress (lapse_row r) ≡ progress r) × (about (lapse_row r) ≡ about r)
   lapses_one (Row.Asleep k) g o = go k.timed refl
     where
-      go : (b : Bool) → k.timed ≡ b → (progress (if b then Row.Late k else Row.Asleep k) ≡ lock_progress k.how) × (about (if b then Row.Late k else Row.Asleep k) ≡ k.mutex)
-      go true e = (sym (ap lock_progress (o.1 e)), refl)
+      go : (b : Bool) → k.timed ≡ b → (progress (if b then Row.Late k else Row.Asleep k) ≡ lock_progress k.how k.wrong) × (about (if b then Row.Late k else Row.Asleep k) ≡ k.mutex)
+      go true e = (sym (ap (λ (i : How). lock_progress i k.wrong) (o.1 e)), refl)
       go false e = (refl, refl)
   lapses_one (Row.WaitAsleep m k n true) g o = (refl, refl)
   lapses_one (Row.WaitAsleep m k n false) g o = (refl, refl)
@@ -350,12 +359,13 @@ module _ (x : Slots) (t : ℕ) (c : Choice) where
 -- ---- a call begins
 
 pub begins_called : CallsBeginUndecided
-begins_called l held (Row.Looks k) e = go k.how (is_ours l k.mutex) (nat_lt held 2046) e
+begins_called l held (Row.Looks k) e = go k.how k.wrong (is_ours l k.mutex) (nat_lt held 2046) e
   where
-    go : (h : How) (b d : Bool) → (is_first h && b && d) ≡ true → IsCalled (lock_progress h)
-    go Tried b d f = tt
-    go Later b d f = absurd cc
-    go (Waited z) b d f = absurd cc
+    go : (h : How) (wrong b d : Bool) → (is_first h && b && d) ≡ true → IsCalled (lock_progress h wrong)
+    go Tried true b d f = tt
+    go Tried false b d f = tt
+    go Later wrong b d f = absurd cc
+    go (Waited z) wrong b d f = absurd cc
 begins_called l held (Row.TryLooks m) e = tt
 begins_called l held (Row.GiveLooks m) e = tt
 begins_called l held (Row.MendLooks m) e = tt

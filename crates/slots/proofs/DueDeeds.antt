@@ -17,7 +17,8 @@ use Rattle.slots.specs.Runs.{is_first_row}
 use Rattle.slots.specs.Deadlines.{asks_clock}
 use Rattle.slots.specs.Replies.{Deed, GoesOn, Progress, after_deed, counts_as, decided, deed, gave, late, lock_progress, locks, looked, looked_first, progress, refused_or, replied, returned, tried}
 use Rattle.slots.specs.Replies.Deed.{Nothing, Decides, Refuses}
-use Rattle.slots.proofs.DueRows.{due, has_met, is_late, is_out, is_over, times_out}
+use Rattle.slots.specs.Outcomes.{has_met}
+use Rattle.slots.proofs.DueRows.{due, is_late, is_out, is_over, times_out}
 
 module _ (x : Slots) (t : ℕ) (c : Choice) where
   abbrev cell : ℕ → ℕ
@@ -155,12 +156,14 @@ module _ (x : Slots) (t : ℕ) (c : Choice) where
   pick false p e f first second = second
 
   first_ok : (r : Row) → is_first_row r ≡ true → says_ok (after_deed (progress r) (deed x t c r)) ≡ false
-  first_ok (Row.Looks k) is = pick ((fields_of (cell k.mutex)).owner == t) _ (locks t k.mutex EDEADLK) Nothing refl (undecided k.how)
+  first_ok (Row.Looks k) is = pick ((fields_of (cell k.mutex)).owner == t) _ (locks t k.mutex EDEADLK) Nothing refl (undecided k.how k.wrong)
     where
-      undecided : (h : How) → says_ok (lock_progress h) ≡ false
-      undecided Tried = refl
-      undecided Later = refl
-      undecided (Waited z) = refl
+      undecided : (h : How) (wrong : Bool) → says_ok (lock_progress h wrong) ≡ false
+      undecided Tried true = refl
+      undecided Tried false = refl
+      undecided Later true = refl
+      undecided Later false = refl
+      undecided (Waited z) wrong = refl
   first_ok (Row.TryLooks m) is = pick (is_free (cell m)) _ Nothing (tried t m (cell m)) refl (go (fields_of (cell m)).unusable)
     where
       go : (b : Bool) → is_ok (if b then ENOTRECOVERABLE else EBUSY) ≡ false

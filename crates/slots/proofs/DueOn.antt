@@ -1,5 +1,5 @@
 -- From row to row, a call keeps its deadline, and what it has seen.
-use Rattle.std.proofs.Common.{◌≡◌, inl, inr, ℕ, ◌==◌, Bool, true, false, [], ◌∷◌, refl, sym, ap, ◌∙◌}
+use Rattle.std.proofs.Common.{◌≡◌, ◌⊎◌, inl, inr, ℕ, ◌==◌, Bool, true, false, [], ◌∷◌, refl, sym, ap, ◌∙◌}
 use Rattle.std.specs.Prelude.{if◌then◌else◌, not, ◌&&◌, ◌||◌, ◌-◌, ◌%◌, ◌^◌}
 use Rattle.lockword.specs.Cells.{fields_of}
 use Rattle.lockword.specs.declared.reply.Reply.TheVariants.{OK, EBUSY, EDEADLK, EINVAL, ETIMEDOUT, ENOTRECOVERABLE}
@@ -23,7 +23,10 @@ use Rattle.slots.specs.Seen.{expires, later, owned_row, retakes, seen_row, seen_
 use Rattle.slots.specs.Table.{Made, chosen, counted, counted_row, finds_row, freed_row, given_row, is_on_list, made, makes, marked_row, missed, on_cell, out_of, released, shows_slept, to_slot, tries, unlinked_row, watched_row, woke_row}
 use Rattle.slots.specs.Fits.{Fits, IsOurs}
 use Rattle.slots.specs.Deadlines.{is_anothers}
-use Rattle.slots.proofs.DueRows.{Keeps, due, has_met, in_wait, is_late}
+use Rattle.slots.specs.Outcomes.{has_met, is_later}
+use Rattle.slots.specs.Replies.{lock_progress, progress}
+use Rattle.slots.proofs.DueRows.{Keeps, due, in_wait, is_late, may_wait}
+use Rattle.slots.proofs.Leading.{by_test}
 use Rattle.slots.proofs.Meets.{Says, cell_says}
 use Rattle.slots.proofs.Owned.{our_cell}
 
@@ -66,8 +69,8 @@ module _ (x : Slots) (t : ℕ) (c : Choice) where
   lost : (r : Row) (m w : ℕ) → Goes_on r (unusable_row m w)
   lost r m w = either r (fields_of w).waiters (Row.WakesAll m ENOTRECOVERABLE) (Row.Clears m ENOTRECOVERABLE) (nothing r (Row.WakesAll m ENOTRECOVERABLE) refl refl refl refl) (nothing r (Row.Clears m ENOTRECOVERABLE) refl refl refl refl)
 
-  seen_on : (r : Row) (k : Taking) → IsOurs l k.mutex → about r ≡ k.mutex → due r ≡ k.timed → Goes_on r (seen_row t k (cell k.mutex))
-  seen_on r k ours same timed = go (fields_of (cell k.mutex)).unusable ((fields_of (cell k.mutex)).owner == 0) refl ((fields_of (cell k.mutex)).owner == t) refl
+  seen_on : (r : Row) (k : Taking) → IsOurs l k.mutex → about r ≡ k.mutex → due r ≡ k.timed → (is_later k.how ≡ true → has_met r ≡ true) → progress r ≡ lock_progress k.how k.wrong → Goes_on r (seen_row t k (cell k.mutex))
+  seen_on r k ours same timed slept undecided = go (fields_of (cell k.mutex)).unusable ((fields_of (cell k.mutex)).owner == 0) refl ((fields_of (cell k.mutex)).owner == t) refl
     where
       says : Says (x.machine.words (cell_place l (cell_of k.mutex))) (cell k.mutex)
       says = cell_says x k.mutex (our_cell l k.mutex ours)
@@ -75,20 +78,21 @@ module _ (x : Slots) (t : ℕ) (c : Choice) where
       met : ((fields_of (cell k.mutex)).owner == 0) ≡ false → ((fields_of (cell k.mutex)).owner == t) ≡ false → is_anothers x.machine t (about r) ≡ true
       met some other = ap (λ (m : ℕ). is_anothers x.machine t m) same ∙ (λ i. not (sym says.owner i == 0) && not (sym says.owner i == t)) ∙ (λ i. not (some i) && not (other i))
 
-      chooses : is_anothers x.machine t (about r) ≡ true → Goes_on r (Row.Chooses k (cell k.mutex))
-      chooses others = (λ e. timed ∙ e, λ e. absurd cc, λ e. inr others, λ e. absurd cc)
+      chooses : (has_met r ≡ true) ⊎ ((is_anothers x.machine t (about r) ≡ true) × (may_wait (progress r) ≡ true)) → Goes_on r (Row.Chooses k (cell k.mutex))
+      chooses meets = (λ e. timed ∙ e, λ e. absurd cc, λ e. meets, λ e. absurd cc)
 
-      owned : (h : How) → is_anothers x.machine t (about r) ≡ true → Goes_on r (owned_row k h (cell k.mutex))
-      owned Tried others = either r k.wrong (Row.Clears k.mutex EINVAL) (Row.Chooses k (cell k.mutex)) (nothing r (Row.Clears k.mutex EINVAL) refl refl refl refl) (chooses others)
-      owned Later others = chooses others
-      owned (Waited z) others = chooses others
+      owned : (h : How) → k.how ≡ h → is_anothers x.machine t (about r) ≡ true → Goes_on r (owned_row k h (cell k.mutex))
+      owned Tried how others = by_test (Goes_on r) k.wrong (Row.Clears k.mutex EINVAL) (Row.Chooses k (cell k.mutex)) (λ e. nothing r (Row.Clears k.mutex EINVAL) refl refl refl refl)
+          (λ timely. chooses (inr (others, ap may_wait (undecided ∙ (λ i. lock_progress (how i) (timely i))))))
+      owned Later how others = chooses (inl (slept (ap is_later how)))
+      owned (Waited z) how others = chooses (inr (others, ap may_wait (undecided ∙ ap (λ (h : How). lock_progress h k.wrong) how)))
 
       go : (a b : Bool) → ((fields_of (cell k.mutex)).owner == 0) ≡ b → (d : Bool) → ((fields_of (cell k.mutex)).owner == t) ≡ d
           → Goes_on r (if a then unusable_row k.mutex (cell k.mutex) else if b then Row.Takes k (cell k.mutex) else if d then Row.Clears k.mutex EDEADLK else owned_row k k.how (cell k.mutex))
       go true b some d other = lost r k.mutex (cell k.mutex)
-      go false true none d other = (λ e. timed ∙ e, λ e. absurd cc, λ e. absurd cc, λ e. absurd cc)
+      go false true none d other = (λ e. timed ∙ e, λ e. absurd cc, λ e. inl (slept e), λ e. absurd cc)
       go false false some true other = nothing r (Row.Clears k.mutex EDEADLK) refl refl refl refl
-      go false false some false other = owned k.how (met some other)
+      go false false some false other = owned k.how refl (met some other)
 
   sleeps : (r : Row) (k : Taking) (w : ℕ) → due r ≡ k.timed → has_met r ≡ true → Goes_on r (sleep_row k w)
   sleeps r k w timed met = either r (fields_of w).waiters (Row.SleepsOn k w) (Row.Marks k w ToSleep) (again r (Row.SleepsOn k w) (sym timed) refl met refl) (again r (Row.Marks k w ToSleep) (sym timed) refl met refl)
@@ -112,10 +116,10 @@ module _ (x : Slots) (t : ℕ) (c : Choice) where
   marked_on k v ToSleep Later = again (Row.Marks k v ToSleep) (Row.SleepsOn (later k) (waiting_word v)) refl refl refl refl
   marked_on k v ToSleep (Waited z) = again (Row.Marks k v ToSleep) (Row.SleepsOn k (waiting_word v)) refl refl refl refl
 
-  missed_on : (a : Access) (k : Taking) (v : ℕ) (n : Then) (h : How) → IsOurs l k.mutex → Goes_on (Row.Marks k v n) (missed x t c a k h (cell k.mutex)).next
-  missed_on a k v n Tried ours = seen_on (Row.Marks k v n) (later k) ours refl refl
-  missed_on a k v n Later ours = seen_on (Row.Marks k v n) k ours refl refl
-  missed_on a k v n (Waited z) ours = seen_on (Row.Marks k v n) k ours refl refl
+  missed_on : (a : Access) (k : Taking) (v : ℕ) (n : Then) (h : How) → k.how ≡ h → IsOurs l k.mutex → Goes_on (Row.Marks k v n) (missed x t c a k h (cell k.mutex)).next
+  missed_on a k v n Tried how ours = seen_on (Row.Marks k v n) (later k) ours refl refl (λ e. refl) (ap (λ (h : How). lock_progress h k.wrong) how)
+  missed_on a k v n Later how ours = seen_on (Row.Marks k v n) k ours refl refl (λ e. refl) refl
+  missed_on a k v n (Waited z) how ours = seen_on (Row.Marks k v n) k ours refl refl (λ e. refl) refl
 
   asleep_on : (k : Taking) (v : ℕ) (h : How) (w : ℕ) → Goes_on (Row.SleepsOn k v) (on_cell x t c k h v w).next
   asleep_on k v (Waited z) w = again (Row.SleepsOn k v) (Row.Asleep k) refl refl refl refl
@@ -185,14 +189,14 @@ module _ (x : Slots) (t : ℕ) (c : Choice) where
   pub due_row : (r : Row) (g : Stage) → Fits l t r g → Goes_on r (made x t c r).next
   due_row Row.Rests g o = nothing Row.Rests Row.Rests refl refl refl refl
   due_row (Row.Looks k) g o = two (Row.Looks k) ((fields_of (cell k.mutex)).owner == t) _ _ (nothing (Row.Looks k) Row.Rests refl refl refl refl) (alike (Row.Looks k) (Row.Pends k (cell k.mutex)) refl refl refl refl)
-  due_row (Row.Pends k v) g o = either (Row.Pends k v) (is_free v) (Row.Takes k v) (Row.Sees k) (alike (Row.Pends k v) (Row.Takes k v) refl refl refl refl) (alike (Row.Pends k v) (Row.Sees k) refl refl refl refl)
-  due_row (Row.Sees k) g o = seen_on (Row.Sees k) k o.ours refl refl
-  due_row (Row.Takes k v) g o = two (Row.Takes k v) (cell k.mutex == v) _ _ (nothing (Row.Takes k v) (Row.Links k.mutex (acquired (fields_of v))) refl refl refl refl) (seen_on (Row.Takes k v) k o.0.ours refl refl)
+  due_row (Row.Pends k v) g o = either (Row.Pends k v) (is_free v) (Row.Takes k v) (Row.Sees k) (alike (Row.Pends k v) (Row.Takes k v) refl refl (ap is_later o.1) refl) (alike (Row.Pends k v) (Row.Sees k) refl refl (ap is_later o.1) refl)
+  due_row (Row.Sees k) g o = seen_on (Row.Sees k) k o.ours refl refl (λ e. e) refl
+  due_row (Row.Takes k v) g o = two (Row.Takes k v) (cell k.mutex == v) _ _ (nothing (Row.Takes k v) (Row.Links k.mutex (acquired (fields_of v))) refl refl refl refl) (seen_on (Row.Takes k v) k o.0.ours refl refl (λ e. e) refl)
   due_row (Row.Links m y) g o = along (Row.Links m y) (Row.Links m y) (Row.Clears m y) (nothing (Row.Links m y) (Row.Links m y) refl refl refl refl) (nothing (Row.Links m y) (Row.Clears m y) refl refl refl refl)
   due_row (Row.Clears m y) g o = nothing (Row.Clears m y) Row.Rests refl refl refl refl
   due_row (Row.Chooses k v) g o = chooses_on k v (word (slot_of k.mutex))
-  due_row (Row.SeesAgain k v) g o = seen_on (Row.SeesAgain k v) k o.0.ours refl refl
-  due_row (Row.Marks k v n) g o = two (Row.Marks k v n) (cell k.mutex == v) _ _ (marked_on k v n k.how) (missed_on _ k v n k.how o.0.ours)
+  due_row (Row.SeesAgain k v) g o = seen_on (Row.SeesAgain k v) k o.0.ours refl refl (λ e. refl) refl
+  due_row (Row.Marks k v n) g o = two (Row.Marks k v n) (cell k.mutex == v) _ _ (marked_on k v n k.how) (missed_on _ k v n k.how refl o.0.ours)
   due_row (Row.SleepsOn k v) g o = asleep_on k v k.how (cell k.mutex)
   due_row (Row.Asleep k) g o = again (Row.Asleep k) (Row.Sees k) refl refl refl refl
   due_row (Row.Late k) g o = (λ e. refl, λ e. refl, λ e. inl refl, λ e. absurd cc)

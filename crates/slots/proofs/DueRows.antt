@@ -6,7 +6,8 @@ use Rattle.slots.specs.Rows.{Giving, Row}
 use Rattle.slots.specs.Rows.Giving.{OfUnlock, OfWait}
 use Rattle.slots.specs.Shown.{Slots}
 use Rattle.slots.specs.Deadlines.{is_anothers}
-use Rattle.slots.specs.Replies.{Deed, Progress}
+use Rattle.slots.specs.Outcomes.{has_met}
+use Rattle.slots.specs.Replies.{Deed, Progress, progress}
 use Rattle.slots.specs.Rows.{about}
 
 -- a wait's release: whether the wait has a deadline
@@ -75,39 +76,6 @@ is_late (Row.LateSees k) = true
 is_late (Row.WaitLate m k n) = true
 is_late r = false
 
--- it has seen that another thread owned the mutex
-abbrev pub has_met : Row → Bool
-has_met (Row.Chooses k v) = true
-has_met (Row.SeesAgain k v) = true
-has_met (Row.Marks k v n) = true
-has_met (Row.SleepsOn k v) = true
-has_met (Row.Asleep k) = true
-has_met (Row.Late k) = true
-has_met (Row.LateSees k) = true
-has_met (Row.SlotPends k v) = true
-has_met (Row.SlotTakes k v) = true
-has_met (Row.SlotLeft k) = true
-has_met (Row.SeesToSleep k) = true
-has_met (Row.SlotLinks k d) = true
-has_met (Row.SlotClears k) = true
-has_met (Row.SlotQuiets k) = true
-has_met (Row.SlotMends k) = true
-has_met (Row.HeirPends k b) = true
-has_met (Row.HeirSets k) = true
-has_met (Row.HeirLooks k) = true
-has_met (Row.HeirPendsOn k v over) = true
-has_met (Row.HeirTakes k v) = true
-has_met (Row.HeirHas k y) = true
-has_met (Row.HeirLinks k y) = true
-has_met (Row.GivesUp k) = true
-has_met (Row.LastLooks k) = true
-has_met (Row.LastMarks k v) = true
-has_met (Row.HeirWakes k) = true
-has_met (Row.Frees k f) = true
-has_met (Row.FreeUnlinks k f) = true
-has_met (Row.FreeGives k f) = true
-has_met r = false
-
 -- it is a wait, and not yet the lock that ends it
 abbrev pub in_wait : Row → Bool
 in_wait (Row.GivePends m y) = gives_wait y
@@ -125,11 +93,17 @@ in_wait (Row.WaitAsleep m k n timed) = true
 in_wait (Row.WaitLate m k n) = true
 in_wait r = false
 
+-- in a call that isn't decided, whose deadline is a time if it has one
+abbrev pub may_wait : Progress → Bool
+may_wait (Progress.Called o) = true
+may_wait Progress.Unlocked = true
+may_wait p = false
+
 -- from row r to row q
 abbrev pub Keeps : Slots → ℕ → Row → Row → Type 0
 Keeps x t r q = (due q ≡ true → due r ≡ true)
     × (is_late q ≡ true → is_late r ≡ true)
-    × (has_met q ≡ true → (has_met r ≡ true) ⊎ (is_anothers x.machine t (about r) ≡ true))
+    × (has_met q ≡ true → (has_met r ≡ true) ⊎ ((is_anothers x.machine t (about r) ≡ true) × (may_wait (progress r) ≡ true)))
     × (in_wait q ≡ true → in_wait r ≡ true)
 
 -- ---- ETIMEDOUT

@@ -5,7 +5,7 @@ use Rattle.memorymap.specs.Layouts.{Layout'}
 use Rattle.lockword.specs.declared.reply.Reply.TheVariants.{OK, ETIMEDOUT}
 use Rattle.protocol.specs.declared.event.Event.TheVariants.{Kill, Step}
 use Rattle.protocol.specs.Machine.{has_thread, is_alive, is_asleep, is_dying, put}
-use Rattle.protocol.proofs.Puts.{put-same, put-other}
+use Rattle.protocol.proofs.Puts.{put-same}
 use Rattle.slots.specs.Rows.{Choice, How, Row, about}
 use Rattle.slots.specs.Rows.How.{Tried, Later, Waited}
 use Rattle.slots.specs.Shown.{Slots, after, begin}
@@ -20,8 +20,10 @@ use Rattle.slots.specs.Deadlines.{MayTimeOut, NoCallTimesOutEarly, SoFar, asks_c
 use Rattle.slots.proofs.Deciding.{One, one_row}
 use Rattle.slots.proofs.DueDeeds.{begins_not_ok, decides_out, over_by, over_then, replied_by}
 use Rattle.slots.proofs.DueOn.{due_row}
-use Rattle.slots.proofs.DueRows.{Keeps, due, has_met, in_wait, is_late, is_over, times_out}
+use Rattle.slots.specs.Outcomes.{has_met}
+use Rattle.slots.proofs.DueRows.{Keeps, due, in_wait, is_late, is_over, may_wait, times_out}
 use Rattle.slots.proofs.Following.{begins_steady, layout_then, steady_next, steady_run}
+use Rattle.slots.proofs.HappensTo.{leaves_overdue}
 use Rattle.slots.proofs.Keeping.{rests_at}
 use Rattle.slots.proofs.Leading.{by_test}
 use Rattle.slots.proofs.Others.{others_still}
@@ -58,14 +60,16 @@ resting s overdue = record {
   late = λ on inside. absurd cc;
 }
 
-undecided : (h : How) → is_over (lock_progress h) ≡ true → ⊥
-undecided Tried d = absurd cc
-undecided Later d = absurd cc
-undecided (Waited z) d = absurd cc
+undecided : (h : How) (wrong : Bool) → is_over (lock_progress h wrong) ≡ true → ⊥
+undecided Tried true d = absurd cc
+undecided Tried false d = absurd cc
+undecided Later true d = absurd cc
+undecided Later false d = absurd cc
+undecided (Waited z) wrong d = absurd cc
 
 -- of a call that begins
 begins : (l : Layout') (held : ℕ) (r : Row) (overdue : Bool) → may_call l held r ≡ true → Known r overdue (record { began = r; passed = false; met = false })
-begins l held (Row.Looks k) overdue e = record { deadline = λ d. d; passed = λ d. absurd cc; met = λ d. absurd cc; wait = λ d. absurd cc; over = λ d. absurd (undecided k.how d); late = λ on inside. absurd cc }
+begins l held (Row.Looks k) overdue e = record { deadline = λ d. d; passed = λ d. absurd cc; met = λ d. absurd cc; wait = λ d. absurd cc; over = λ d. absurd (undecided k.how k.wrong d); late = λ on inside. absurd cc }
 begins l held (Row.TryLooks m) overdue e = record { deadline = λ d. absurd cc; passed = λ d. absurd cc; met = λ d. absurd cc; wait = λ d. absurd cc; over = λ d. absurd cc; late = λ on inside. absurd cc }
 begins l held (Row.GiveLooks m) overdue e = record { deadline = λ d. absurd cc; passed = λ d. absurd cc; met = λ d. absurd cc; wait = λ d. absurd cc; over = λ d. absurd cc; late = λ on inside. absurd cc }
 begins l held (Row.MendLooks m) overdue e = record { deadline = λ d. absurd cc; passed = λ d. absurd cc; met = λ d. absurd cc; wait = λ d. absurd cc; over = λ d. absurd cc; late = λ on inside. absurd cc }
@@ -121,9 +125,9 @@ module _ (x : Slots) (t : ℕ) (c : Choice) (s : SoFar) (r : Row) (fit : Fits x.
   met_then : has_met q ≡ true → has_met_one ≡ true
   met_then e = go (keeps.2 e)
     where
-      go : (has_met r ≡ true) ⊎ (is_anothers x.machine t (about r) ≡ true) → has_met_one ≡ true
+      go : (has_met r ≡ true) ⊎ ((is_anothers x.machine t (about r) ≡ true) × (may_wait (progress r) ≡ true)) → has_met_one ≡ true
       go (inl was) = or_first s.met (is_anothers x.machine t (about r)) (k.met was)
-      go (inr is) = or_second s.met (is_anothers x.machine t (about r)) is
+      go (inr is) = or_second s.met (is_anothers x.machine t (about r)) is.0
 
   goes_known : is_resting r ≡ false → Known q (overdue_after x t r) (record { began = s.began; passed = has_passed; met = has_met_one })
   goes_known busy = record {
@@ -214,7 +218,7 @@ module _ (x : Slots) (t : ℕ) (s : SoFar) (st : Steady x) (pos : 1 ≤ t) (know
             passed = λ d. or_second s.passed true refl;
             met = λ d. or_first s.met meets (j.met refl);
             wait = λ d. absurd cc;
-            over = λ d. absurd cc;
+            over = λ d. absurd (undecided Tried i.wrong d);
             late = λ on inside. let (d, f, g) = j.late on refl in (d, or_first s.passed true f, g);
           }
       lapses (Row.WaitAsleep m i n true) j = record {
@@ -233,16 +237,6 @@ module _ (x : Slots) (t : ℕ) (s : SoFar) (st : Steady x) (pos : 1 ≤ t) (know
       (λ e. still false))
   going (Walks u) is busy = by_test (λ (y : Slots). Then y false meets) (is_dying x.machine u) (after x (Step u ∷ [])) x (λ e. still false) (λ e. still false)
   going (Lives u) is busy = still false
-
-  -- another thread's happening leaves whether the call is overdue
-  leaves_overdue : (h : Happening) → who h ≢ t → (next x h).overdue t ≡ x.overdue t
-  leaves_overdue (Calls u r) apart = by_test (λ (y : Slots). y.overdue t ≡ x.overdue t) (has_thread x.machine u && is_alive (x.machine.threads u).stage && is_resting (x.rows u) && may_call x.machine.layout (x.machine.threads u).held r) (at_row x u r) x (λ e. refl) (λ e. refl)
-  leaves_overdue (Goes u c) apart = by_test (λ (y : Slots). y.overdue t ≡ x.overdue t) (has_thread x.machine u && is_alive (x.machine.threads u).stage && not (is_asleep x.machine u)) (made_by x u c (made x u c (x.rows u))) x (λ e. put-other x.overdue u (overdue_after x u (x.rows u)) t (λ i. apart (sym i))) (λ e. refl)
-  leaves_overdue (Interrupts u) apart = refl
-  leaves_overdue (Lapses u) apart = by_test (λ (y : Slots). y.overdue t ≡ x.overdue t) (is_asleep x.machine u) (at_row (after x (lapse_events x u (x.rows u))) u (lapse_row (x.rows u))) x (λ e. refl) (λ e. refl)
-  leaves_overdue (Dies u) apart = by_test (λ (y : Slots). y.overdue t ≡ x.overdue t) (has_thread x.machine u && is_alive (x.machine.threads u).stage) (at_row (after x (Kill u ∷ [])) u Row.Rests) x (λ e. refl) (λ e. refl)
-  leaves_overdue (Walks u) apart = by_test (λ (y : Slots). y.overdue t ≡ x.overdue t) (is_dying x.machine u) (after x (Step u ∷ [])) x (λ e. refl) (λ e. refl)
-  leaves_overdue (Lives u) apart = refl
 
   -- in no call: it stays so, or a call begins
   abbrev New : Slots → Type 0
@@ -296,7 +290,7 @@ module _ (x : Slots) (t : ℕ) (s : SoFar) (st : Steady x) (pos : 1 ≤ t) (know
       old : (b : Bool) → (who h == t) ≡ b → is_resting (x.rows t) ≡ false → Then (next x h) (passes x t h) meets
       old true is busy = going h (eqb-true (who h) t is) busy
       old false is busy = subst (λ (q : Row). Known q ((next x h).overdue t) (record { began = s.began; passed = s.passed || passes x t h; met = s.met || meets })) (sym (others_still x h t st.reached (apart is)).row)
-          (subst (λ (o : Bool). Known (x.rows t) o (record { began = s.began; passed = s.passed || passes x t h; met = s.met || meets })) (sym (leaves_overdue h (apart is))) (still (passes x t h)))
+          (subst (λ (o : Bool). Known (x.rows t) o (record { began = s.began; passed = s.passed || passes x t h; met = s.met || meets })) (sym (leaves_overdue x t h (apart is))) (still (passes x t h)))
 
 -- ---- runs
 

@@ -116,7 +116,7 @@ are_others t u (e ∷ es) (mine, of) off = ((λ is. off (sym mine ∙ is)), are_
 its_no_cell : (s : State) (t p k : ℕ) → 1 ≤ t → t ≤ s.layout.threads → k < s.layout.mutexes → IsItsOwn s t p → p ≢ cell_place s.layout k
 its_no_cell s t p k first last inside own = own_no_cell s t p k first last inside (inl own)
 
-its_no_counter : (s : State) (t p k : ℕ) → 1 ≤ t → t ≤ s.layout.threads → IsItsOwn s t p → p ≢ counter_place s.layout k
+pub its_no_counter : (s : State) (t p k : ℕ) → 1 ≤ t → t ≤ s.layout.threads → IsItsOwn s t p → p ≢ counter_place s.layout k
 its_no_counter s t p k first last (inl (i, small, is)) e = let f : head_place t + i ≡ counter_place s.layout k = sym is ∙ e in omega (arith, f, small, last, first)
 its_no_counter s t p k first last (inr (m, below, own, inl is)) e = let f : entry_place s.layout m ≡ counter_place s.layout k = sym is ∙ e in omega (arith, f, below)
 its_no_counter s t p k first last (inr (m, below, own, inr is)) e = let f : entry_place s.layout m + 1 ≡ counter_place s.layout k = sym is ∙ e in omega (arith, f, below)
@@ -176,10 +176,10 @@ module _ (x : Slots) (t : ℕ) where
   expire_words : SameWords x (happens x.machine (Expire t)).state
   expire_words = by_test (λ (a : After). SameWords x a.state) (has_thread x.machine t) (expired x.machine t (x.machine.threads t).held (x.machine.threads t).stage) (nothing x.machine) (λ e. expired_words (x.machine.threads t).stage) (λ e. ((λ p. refl), (λ k. refl)))
 
-  leave_words : SameWords x (happens x.machine (Leave t)).state
+  pub leave_words : SameWords x (happens x.machine (Leave t)).state
   leave_words = by_test (λ (a : After). SameWords x a.state) (has_thread x.machine t && is_asleep x.machine t) (departed x.machine t) (nothing x.machine) (λ e. ((λ p. refl), (λ k. refl))) (λ e. ((λ p. refl), (λ k. refl)))
 
-  lapse_words : (r : Row) → SameWords x (run x.machine (lapse_events x t r))
+  pub lapse_words : (r : Row) → SameWords x (run x.machine (lapse_events x t r))
   lapse_words (Row.Asleep k) = by_test (λ (es : List Event). SameWords x (run x.machine es)) k.timed (Expire t ∷ []) [] (λ e. expire_words) (λ e. ((λ p. refl), (λ k. refl)))
   lapse_words (Row.WaitAsleep j k n true) = by_test (λ (es : List Event). SameWords x (run x.machine es)) (stands_in t (x.machine.queues (counter_place x.machine.layout k))) (Expire t ∷ []) (Leave t ∷ []) (λ e. expire_words) (λ e. leave_words)
   lapse_words (Row.WaitAsleep j k n false) = ((λ p. refl), (λ k. refl))

@@ -95,6 +95,9 @@ pub mod DueRows
 pub mod DueOn
 pub mod DueDeeds
 pub mod DueRuns
+pub mod HappensTo
+pub mod Outcomes
+pub mod Signals
 pub mod Returns
 pub mod Refused
 pub mod Ranks

@@ -32,7 +32,7 @@ use Rattle.slots.proofs.Sleeping.{counter_shows}
 use Rattle.slots.proofs.SleptNext.{if_there}
 use Rattle.slots.proofs.Steady.{Steady}
 
-its_own : (s : State) (t p : ℕ) → IsMine s t p → IsItsOwn s t p
+pub its_own : (s : State) (t p : ℕ) → IsMine s t p → IsItsOwn s t p
 its_own s t p (inl e) = inl (0, omega arith, let f : p ≡ head_place t = e in omega (arith, f))
 its_own s t p (inr (inl e)) = inl (2, omega arith, e)
 its_own s t p (inr (inr (k, inside, place, own))) = inr (k, inside, own, place)

@@ -30,8 +30,9 @@ use Rattle.condvar.specs.Programs as programs
 use Rattle.condvar.specs.Rows as rows
 use Rattle.condvar.specs.Wait.{wait_sees}
 use Rattle.condvar.specs.Whole.{cond_access, cond_led, from_words}
+use Rattle.condvar.specs.declared.op.Op.{Op}
 use Rattle.condvar.specs.declared.op.Op.TheVariants.{OnMutex, OnCondition}
-use Rattle.condvar.specs.Ops.{may_call, operation_of}
+use Rattle.condvar.specs.Ops.{acts_as, may_call, mutex_of, operation_of}
 use Rattle.protocol.specs.declared.event.Event.{Event}
 use Rattle.protocol.specs.declared.event.Event.TheVariants.{Begin, Step}
 use Rattle.protocol.specs.declared.thread.Stage.{Stage}
@@ -42,7 +43,7 @@ use Rattle.protocol.proofs.CondSteps.{cond_of}
 use Rattle.protocol.proofs.Queued.{in_none}
 use Rattle.protocol.proofs.Seeing.{cell_in, cell_again}
 use Rattle.slots.specs.Places.{cell_of}
-use Rattle.slots.specs.Rows.{Choice, How, Row}
+use Rattle.slots.specs.Rows.{Choice, How, Row, about}
 use Rattle.slots.specs.Rows.How.{Tried, Later, Waited}
 use Rattle.slots.specs.Rows.Giving.{OfUnlock}
 use Rattle.slots.specs.Shown.{Slots, begin, shown}
@@ -60,7 +61,7 @@ use Rattle.slots.specs.Goes.{AssumesToo, Grants}
 use Rattle.slots.specs.Replies.{Deed, Progress, after_deed, counts_as, decided, lock_progress, locks, replied, reply, returned, tried}
 use Rattle.slots.specs.Replies.Deed.{Nothing, Decides}
 use Rattle.slots.specs.Premises.{Trusts}
-use Rattle.slots.specs.Refused.{RefusalsAreTheMachines, last_reply, may_refuse}
+use Rattle.slots.specs.Refused.{IsWholeCall, RefusalsAreTheMachines, last_reply, may_refuse, operation_at}
 use Rattle.slots.proofs.FirstLeads.{marked_waits, none_mends, other_broadcasts, other_mends, other_signals, other_unlock, other_waits}
 use Rattle.slots.proofs.Following.{begins_steady, layout_then, steady_run}
 use Rattle.slots.proofs.Free.{reached_kept, reached_queued}
@@ -90,19 +91,33 @@ module _ (x : Slots) (t : ℕ) (c : Choice) (at : IsAtRow x t) (y : Reply) where
   abbrev word : ℕ → ℕ
   word m = shown x (cell_place z.layout (cell_of m))
 
-  abbrev Returns : List Event → Type 0
-  Returns es = last_reply z es ≡ Some y
+  abbrev Whole : Operation → ℕ → List Event → Type 0
+  Whole o m es = IsWholeCall z t es o m y
 
   -- a look that refuses the call, or doesn't decide it
-  two : (b : Bool) (p : Progress) (e f : Deed) (n o : Made) → (b ≡ true → replied late (after_deed p e) ≡ Some y → Returns n.events) → (b ≡ false → replied late (after_deed p f) ≡ Some y → Returns o.events)
-      → replied late (after_deed p (if b then e else f)) ≡ Some y → Returns (if b then n else o).events
-  two true p e f n o first second = first refl
-  two false p e f n o first second = second refl
+  two : (w : Operation) (m : ℕ) (b : Bool) (p : Progress) (e f : Deed) (n o : Made) → (b ≡ true → replied late (after_deed p e) ≡ Some y → Whole w m n.events) → (b ≡ false → replied late (after_deed p f) ≡ Some y → Whole w m o.events)
+      → replied late (after_deed p (if b then e else f)) ≡ Some y → Whole w m (if b then n else o).events
+  two w m true p e f n o first second = first refl
+  two w m false p e f n o first second = second refl
 
-  undecided : (i : How) → replied late (lock_progress i) ≡ Some y → ⊥
-  undecided Tried e = absurd cc
-  undecided Later e = absurd cc
-  undecided (Waited k) e = absurd cc
+  -- a whole call, which returns that
+  whole_call : (o : Op) (m : ℕ) (es : List Event) → mutex_of z.layout o ≡ cell_of m → last_reply z (Begin t o ∷ es) ≡ Some y → Whole (acts_as o) m (Begin t o ∷ es)
+  whole_call o m es of returns = record { call = o; steps = es; begins = refl; acts = refl; mutex = of; returns = returns }
+
+  whole_wait : (m k : ℕ) (timed : Bool) → IsOfCell z.layout m k → last_reply z (wait_begins x t c k timed) ≡ Some y → Whole op.Wait m (wait_begins x t c k timed)
+  whole_wait m k true of returns = whole_call (OnCondition (wait_of k true)) m (Step t ∷ []) of.cell returns
+  whole_wait m k false of returns = whole_call (OnCondition (wait_of k false)) m (Step t ∷ []) of.cell returns
+
+  whole_count : (m k : ℕ) (all : Bool) → IsOfCell z.layout m k → last_reply z (refused_count x t c k all) ≡ Some y → Whole (counts_as all) m (refused_count x t c k all)
+  whole_count m k true of returns = whole_call (OnCondition (cond_call.Broadcast k)) m (Step t ∷ []) of.cell returns
+  whole_count m k false of returns = whole_call (OnCondition (cond_call.Signal k)) m (Step t ∷ []) of.cell returns
+
+  undecided : (i : How) (wrong : Bool) → replied late (lock_progress i wrong) ≡ Some y → ⊥
+  undecided Tried true e = absurd cc
+  undecided Tried false e = absurd cc
+  undecided Later true e = absurd cc
+  undecided Later false e = absurd cc
+  undecided (Waited k) wrong e = absurd cc
 
   -- ---- calls on a mutex
 
@@ -163,32 +178,32 @@ module _ (x : Slots) (t : ℕ) (c : Choice) (at : IsAtRow x t) (y : Reply) where
   other_owns : (m : ℕ) → cell_of m < z.layout.mutexes → ((fields_of (word m)).owner == t) ≡ false → ((fields_at z (cell_of m)).owner == t) ≡ false
   other_owns m inside other = ap (λ (n : ℕ). n == t) (sym (cell_says x m inside).owner) ∙ other
 
-  refused_row : (r : Row) → StandsAs r g → Assumes x t r → AssumesToo x t r → may_refuse r ≡ true → reply x t c r ≡ Some y → Returns (made x t c r).events
-  refused_row (Row.Looks k) is (inside, room) too may = two ((fields_of (word k.mutex)).owner == t) (lock_progress k.how) (locks t k.mutex EDEADLK) Nothing
+  refused_row : (r : Row) → StandsAs r g → Assumes x t r → AssumesToo x t r → may_refuse r ≡ true → reply x t c r ≡ Some y → Whole (operation_at r) (about r) (made x t c r).events
+  refused_row (Row.Looks k) is (inside, room) too may = two op.Lock k.mutex ((fields_of (word k.mutex)).owner == t) (lock_progress k.how k.wrong) (locks t k.mutex EDEADLK) Nothing
       (makes (Access.Load (cell_in z.layout t (cell_of k.mutex))) (begins t (call.TimedLock (cell_of k.mutex)) ++ Step t ∷ Step t ∷ []) Row.Rests) (makes (Access.Load (cell_in z.layout t (cell_of k.mutex))) [] (Row.Pends k (word k.mutex)))
-      (λ own e. (own_lock x t c at k.mutex is inside room (sym (cell_says x k.mutex inside).owner ∙ eqb-true (fields_of (word k.mutex)).owner t own)).returns ∙ e) (λ other e. absurd (undecided k.how e))
-  refused_row (Row.TryLooks m) is (inside, room) too may = two (is_free (word m)) (Progress.Called op.TryLock) Nothing (tried t m (word m))
+      (λ own e. whole_call (OnMutex (call.TimedLock (cell_of k.mutex))) k.mutex (Step t ∷ Step t ∷ Step t ∷ []) refl ((own_lock x t c at k.mutex is inside room (sym (cell_says x k.mutex inside).owner ∙ eqb-true (fields_of (word k.mutex)).owner t own)).returns ∙ e)) (λ other e. absurd (undecided k.how k.wrong e))
+  refused_row (Row.TryLooks m) is (inside, room) too may = two op.TryLock m (is_free (word m)) (Progress.Called op.TryLock) Nothing (tried t m (word m))
       (makes (Access.Load (cell_in z.layout t (cell_of m))) [] (Row.TryPends m (word m))) (makes (Access.Load (cell_in z.layout t (cell_of m))) (begins t (call.TryLock (cell_of m)) ++ Step t ∷ Step t ∷ []) Row.Rests)
       (λ free e. absurd cc)
-      (λ taken e. (no_try x t c at m is inside room ((λ i. (sym (cell_says x m inside).owner i == 0) && not (sym (cell_says x m inside).unusable i)) ∙ taken)).returns
-      ∙ (λ i. Some (if sym (cell_says x m inside).unusable i then ENOTRECOVERABLE else EBUSY)) ∙ ap Some (sym (tries_same (fields_of (word m)).unusable)) ∙ e)
-  refused_row (Row.GiveLooks m) is inside too may = two ((fields_of (word m)).owner == t) (Progress.Called op.Unlock) Nothing (Decides (decided t m op.Unlock EPERM))
+      (λ taken e. whole_call (OnMutex (call.TryLock (cell_of m))) m (Step t ∷ Step t ∷ Step t ∷ []) refl ((no_try x t c at m is inside room ((λ i. (sym (cell_says x m inside).owner i == 0) && not (sym (cell_says x m inside).unusable i)) ∙ taken)).returns
+      ∙ (λ i. Some (if sym (cell_says x m inside).unusable i then ENOTRECOVERABLE else EBUSY)) ∙ ap Some (sym (tries_same (fields_of (word m)).unusable)) ∙ e))
+  refused_row (Row.GiveLooks m) is inside too may = two op.Unlock m ((fields_of (word m)).owner == t) (Progress.Called op.Unlock) Nothing (Decides (decided t m op.Unlock EPERM))
       (makes (Access.Load (cell_in z.layout t (cell_of m))) [] (Row.GivePends m (OfUnlock (fields_of (word m)).died))) (makes (Access.Load (cell_in z.layout t (cell_of m))) (Begin t (OnMutex (call.Unlock (cell_of m))) ∷ Step t ∷ []) Row.Rests)
       (λ own e. absurd cc)
-      (λ other e. ends_first (call.Unlock (cell_of m)) (cell_of m) EPERM is inside (below (cell_of m) inside) refl refl
-      (ap (from_cell (whole.begins z.layout t (call.Unlock (cell_of m)))) (other_unlock t (fields_at z (cell_of m)) (other_owns m inside other))) ∙ e)
-  refused_row (Row.MendLooks m) is inside too may = two (((fields_of (word m)).owner == t) && (fields_of (word m)).died) (Progress.Called op.Consistent) Nothing (Decides (decided t m op.Consistent (if (fields_of (word m)).owner == t then EINVAL else EPERM)))
+      (λ other e. whole_call (OnMutex (call.Unlock (cell_of m))) m (Step t ∷ []) refl (ends_first (call.Unlock (cell_of m)) (cell_of m) EPERM is inside (below (cell_of m) inside) refl refl
+      (ap (from_cell (whole.begins z.layout t (call.Unlock (cell_of m)))) (other_unlock t (fields_at z (cell_of m)) (other_owns m inside other))) ∙ e))
+  refused_row (Row.MendLooks m) is inside too may = two op.Consistent m (((fields_of (word m)).owner == t) && (fields_of (word m)).died) (Progress.Called op.Consistent) Nothing (Decides (decided t m op.Consistent (if (fields_of (word m)).owner == t then EINVAL else EPERM)))
       (makes (Access.Load (cell_in z.layout t (cell_of m))) [] (Row.Mends m)) (makes (Access.Load (cell_in z.layout t (cell_of m))) (Begin t (OnMutex (call.Consistent (cell_of m))) ∷ Step t ∷ []) Row.Rests)
-      (λ own e. absurd cc) (λ refused e. mends m is inside refused ∙ ap Some (sym (mends_same ((fields_of (word m)).owner == t))) ∙ e)
+      (λ own e. absurd cc) (λ refused e. whole_call (OnMutex (call.Consistent (cell_of m))) m (Step t ∷ []) refl (mends m is inside refused ∙ ap Some (sym (mends_same ((fields_of (word m)).owner == t))) ∙ e))
   refused_row (Row.AnewLooks m) is a too may = λ e. absurd cc
-  refused_row (Row.WaitLooks m k timed) is a (of, inside) may = two ((fields_of (word m)).owner == t) (Progress.Called op.Wait) Nothing (Decides (decided t m op.Wait EPERM))
+  refused_row (Row.WaitLooks m k timed) is a (of, inside) may = two op.Wait m ((fields_of (word m)).owner == t) (Progress.Called op.Wait) Nothing (Decides (decided t m op.Wait EPERM))
       (makes (Access.Load (cell_in z.layout t (cell_of m))) [] (Row.WaitCounts m k timed (fields_of (word m)).died)) (makes (Access.Load (cell_in z.layout t (cell_of m))) (wait_begins x t c k timed) Row.Rests)
-      (λ own e. absurd cc) (λ other e. waits m k timed EPERM is of inside (other_waits t (fields_at z (cell_of m)) (other_owns m inside other)) ∙ e)
-  refused_row (Row.WaitCounts m k timed true) is a (of, owns, died) may = λ e. waits m k timed XSTATE is of owns.inside (marked_waits t (fields_at z (cell_of m)) (eq-eqb (fields_at z (cell_of m)).owner t owns.owner) died) ∙ e
+      (λ own e. absurd cc) (λ other e. whole_wait m k timed of (waits m k timed EPERM is of inside (other_waits t (fields_at z (cell_of m)) (other_owns m inside other)) ∙ e))
+  refused_row (Row.WaitCounts m k timed true) is a (of, owns, died) may = λ e. whole_wait m k timed of (waits m k timed XSTATE is of owns.inside (marked_waits t (fields_at z (cell_of m)) (eq-eqb (fields_at z (cell_of m)).owner t owns.owner) died) ∙ e)
   refused_row (Row.WaitCounts m k timed false) is a too may = λ e. absurd cc
-  refused_row (Row.CountLooks m k all) is a (of, inside) may = two ((fields_of (word m)).owner == t) (Progress.Called (counts_as all)) Nothing (Decides (decided t m (counts_as all) EPERM))
+  refused_row (Row.CountLooks m k all) is a (of, inside) may = two (counts_as all) m ((fields_of (word m)).owner == t) (Progress.Called (counts_as all)) Nothing (Decides (decided t m (counts_as all) EPERM))
       (makes (Access.Load (cell_in z.layout t (cell_of m))) [] (Row.CountLoads m k all)) (makes (Access.Load (cell_in z.layout t (cell_of m))) (refused_count x t c k all) Row.Rests)
-      (λ own e. absurd cc) (λ other e. counts m k all is of inside (other_owns m inside other) ∙ e)
+      (λ own e. absurd cc) (λ other e. whole_count m k all of (counts m k all is of inside (other_owns m inside other) ∙ e))
   refused_row r is a too may = absurd cc
 
 -- neither bound is asked of these rows

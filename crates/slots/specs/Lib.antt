@@ -11,6 +11,7 @@ pub mod Kernels
 pub mod Late
 pub mod Laws
 pub mod Moments
+pub mod Outcomes
 pub mod Places
 pub mod Premises
 pub mod Refused

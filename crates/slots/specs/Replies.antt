@@ -87,17 +87,23 @@ gave t m (OfWait k n slept timed) = Unlocks (decided t m op.Unlock OK)
 
 -- ---- how far a call is
 
--- in no call; in a call of this operation, which isn't decided; in a wait that has unlocked its mutex; in a call that
--- returns this
+-- in no call; in a call of this operation, which isn't decided; in such a lock, whose deadline isn't a time; in a wait that
+-- has unlocked its mutex; in a call that returns this
 pub data Progress : Type 0 where
   Idle : Progress
   Called : Operation → Progress
+  Mistimed : Progress
   Unlocked : Progress
   Decided : Reply → Progress
 
-abbrev pub lock_progress : How → Progress
-lock_progress (Waited z) = Unlocked
-lock_progress h = Called op.Lock
+-- in a lock, and whether its deadline isn't a time
+abbrev pub locking : Bool → Progress
+locking true = Mistimed
+locking false = Called op.Lock
+
+abbrev pub lock_progress : How → Bool → Progress
+lock_progress (Waited z) wrong = Unlocked
+lock_progress h wrong = locking wrong
 
 abbrev pub giving_progress : Giving → Progress
 giving_progress (OfUnlock d) = Called op.Unlock
@@ -107,32 +113,32 @@ abbrev pub given_progress : Giving → Progress
 given_progress (OfUnlock d) = Decided OK
 given_progress (OfWait k n slept timed) = Unlocked
 
-abbrev pub freeing_progress : Onward → Progress
-freeing_progress (Has r) = Decided r
-freeing_progress (Fails r) = Decided r
-freeing_progress Sleeps = Called op.Lock
+abbrev pub freeing_progress : Onward → Bool → Progress
+freeing_progress (Has r) wrong = Decided r
+freeing_progress (Fails r) wrong = Decided r
+freeing_progress Sleeps wrong = locking wrong
 
 abbrev pub progress : Row → Progress
 progress Row.Rests = Idle
-progress (Row.Looks k) = lock_progress k.how
-progress (Row.Pends k v) = lock_progress k.how
-progress (Row.Sees k) = lock_progress k.how
-progress (Row.Takes k v) = lock_progress k.how
+progress (Row.Looks k) = lock_progress k.how k.wrong
+progress (Row.Pends k v) = lock_progress k.how k.wrong
+progress (Row.Sees k) = lock_progress k.how k.wrong
+progress (Row.Takes k v) = lock_progress k.how k.wrong
 progress (Row.Links m r) = Decided r
 progress (Row.Clears m r) = Decided r
-progress (Row.Chooses k v) = lock_progress k.how
-progress (Row.SeesAgain k v) = lock_progress k.how
-progress (Row.Marks k v n) = lock_progress k.how
-progress (Row.SleepsOn k v) = lock_progress k.how
-progress (Row.Asleep k) = lock_progress k.how
+progress (Row.Chooses k v) = lock_progress k.how k.wrong
+progress (Row.SeesAgain k v) = lock_progress k.how k.wrong
+progress (Row.Marks k v n) = lock_progress k.how k.wrong
+progress (Row.SleepsOn k v) = lock_progress k.how k.wrong
+progress (Row.Asleep k) = lock_progress k.how k.wrong
 progress (Row.WakesAll m r) = Decided r
-progress (Row.SeesToSleep k) = lock_progress k.how
+progress (Row.SeesToSleep k) = lock_progress k.how k.wrong
 progress (Row.HeirHas k r) = Decided r
 progress (Row.HeirLinks k r) = Decided r
 progress (Row.HeirWakes k) = Decided ENOTRECOVERABLE
-progress (Row.Frees k f) = freeing_progress f
-progress (Row.FreeUnlinks k f) = freeing_progress f
-progress (Row.FreeGives k f) = freeing_progress f
+progress (Row.Frees k f) = freeing_progress f k.wrong
+progress (Row.FreeUnlinks k f) = freeing_progress f k.wrong
+progress (Row.FreeGives k f) = freeing_progress f k.wrong
 progress (Row.TryLooks m) = Called op.TryLock
 progress (Row.TryPends m v) = Called op.TryLock
 progress (Row.TryTakes m v) = Called op.TryLock
@@ -163,16 +169,37 @@ progress (Row.AllMarks m k n) = Decided OK
 progress (Row.AllMoves m k n) = Decided OK
 progress (Row.Unsets m k n) = Decided OK
 -- at the slot, and as the heir: only a lock
-progress r = Called op.Lock
+progress (Row.Late k) = locking k.wrong
+progress (Row.LateSees k) = locking k.wrong
+progress (Row.SlotPends k g) = locking k.wrong
+progress (Row.SlotTakes k g) = locking k.wrong
+progress (Row.SlotLeft k) = locking k.wrong
+progress (Row.SlotLinks k d) = locking k.wrong
+progress (Row.SlotClears k) = locking k.wrong
+progress (Row.SlotQuiets k) = locking k.wrong
+progress (Row.SlotMends k) = locking k.wrong
+progress (Row.HeirPends k b) = locking k.wrong
+progress (Row.HeirSets k) = locking k.wrong
+progress (Row.HeirLooks k) = locking k.wrong
+progress (Row.HeirPendsOn k v over) = locking k.wrong
+progress (Row.HeirTakes k v) = locking k.wrong
+progress (Row.GivesUp k) = locking k.wrong
+progress (Row.LastLooks k) = locking k.wrong
+progress (Row.LastMarks k v) = locking k.wrong
 
--- what such a call may do: have its point, of its own operation. A lock with a deadline may be out of time, and the lock
--- that ends a wait is a lock
+-- a lock's point: a lock with a deadline may be out of time
+abbrev pub IsOfLock : Decision → Type 0
+IsOfLock d = (d.operation ≡ op.Lock) ⊎ ((d.operation ≡ op.TimedLock) × (d.reply ≡ ETIMEDOUT))
+
+-- what such a call may do: have its point, of its own operation. The lock that ends a wait is a lock. A lock whose deadline
+-- isn't a time may be refused
 abbrev pub MayDo : Progress → Deed → Type 0
 MayDo p Nothing = Unit {0}
-MayDo (Called op.Lock) (Decides d) = (d.operation ≡ op.Lock) ⊎ ((d.operation ≡ op.TimedLock) × (d.reply ≡ ETIMEDOUT))
+MayDo (Called op.Lock) (Decides d) = IsOfLock d
 MayDo (Called o) (Decides d) = d.operation ≡ o
 MayDo (Called op.Wait) (Unlocks d) = (d.operation ≡ op.Unlock) × (d.reply ≡ OK)
-MayDo (Called op.Lock) (Refuses r) = r ≡ EINVAL
+MayDo Mistimed (Decides d) = IsOfLock d
+MayDo Mistimed (Refuses r) = r ≡ EINVAL
 MayDo Unlocked (Decides d) = d.operation ≡ op.Lock
 MayDo p e = ⊥
 
@@ -287,6 +314,7 @@ CallsDecideOnce = (l : Layout') (hs : List Happening) (t : ℕ) (c : Choice) →
 -- a call begins undecided
 abbrev pub IsCalled : Progress → Type 0
 IsCalled (Called o) = Unit {0}
+IsCalled Mistimed = Unit {0}
 IsCalled p = ⊥
 
 abbrev pub CallsBeginUndecided : Type 0

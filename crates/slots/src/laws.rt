@@ -20,6 +20,7 @@ ghost use Rattle.slots.specs.Laws.{HeirsLetSpare, NobodyJoinsAFreeMutex, Release
 ghost use Rattle.slots.specs.Laws.{StandingHeirsAnswer, TrimsAreTheMachines, TurnsStayKnown};
 ghost use Rattle.slots.specs.Laws.{TurnsStayKnownByAll, WakesOfNobodyTell};
 ghost use Rattle.slots.specs.Stores.{AccessesAreMadeSo, PlainStoresAreOwn, PlainStoresWaitApart, RunsMayBuffer};
+ghost use Rattle.slots.specs.Outcomes.{CallsReturnTheirPoints, CountsAreSignals, WrongDeadlinesAreRefused};
 ghost use Rattle.slots.specs.Late.{AccessesFindTheSame, LateMemoryTellsTheSame};
 ghost use Rattle.slots.specs.Refused.{RefusalsAreTheMachines};
 ghost use Rattle.slots.specs.Replies.{CallsAreOneHistory, CallsBeginUndecided, CallsDecideOnce};
@@ -407,8 +408,8 @@ pub fn calls_begin_undecided()
 {}
 
 /// In any run, whatever the next access of a call finds, the access is the call's point or does nothing. A call has one point,
-/// of its own operation and mutex, and returns the reply of that point. A wait unlocks its mutex before. A lock whose deadline
-/// isn't a time has no point: it returns EINVAL, if another thread owns the mutex.
+/// of its own operation and mutex, and is decided from then on. A wait unlocks its mutex before. A lock whose deadline isn't a
+/// time may be refused without a point.
 pub fn calls_decide_once()
     ensures { CallsDecideOnce }
 {}
@@ -460,8 +461,30 @@ pub fn no_call_times_out_early()
     ensures { NoCallTimesOutEarly }
 {}
 
-/// In any run, a call that is refused at its first look is a whole call of the machine, which returns the same reply at that
-/// moment. So the machine's history has each refused call.
+/// In any run, a call returns the reply of its point, which is of its own operation, and the only one. A wait that isn't refused
+/// has two: it unlocks its mutex, and later locks it again. It returns what that lock got, or ETIMEDOUT for OK, if its deadline
+/// passed in its sleep and the count was still the same then. A lock whose deadline isn't a time may return EINVAL without one.
+#[tactic(auto, using(crate::proofs::Outcomes::return_points))]
+pub fn calls_return_their_points()
+    ensures { CallsReturnTheirPoints }
+{}
+
+/// In any run, a count rises by one at a signal and at a broadcast of its condition variable, and stays at everything else. So a
+/// wait whose deadline passed in its sleep returns ETIMEDOUT for OK just if neither came before it looked.
+#[tactic(auto, using(crate::proofs::Signals::counts_signals))]
+pub fn counts_are_signals()
+    ensures { CountsAreSignals }
+{}
+
+/// In any run, a lock whose deadline isn't a time never waits. If an access refuses a call that then has no point, the call is
+/// such a lock, another thread owns the mutex, and the call returns EINVAL.
+#[tactic(auto, using(crate::proofs::Outcomes::wrong_refused))]
+pub fn wrong_deadlines_are_refused()
+    ensures { WrongDeadlinesAreRefused }
+{}
+
+/// In any run, a call that is refused at its first look is a whole call of the machine, of the same operation on the mutex's
+/// cell, which returns the same reply at that moment. So the machine's history has each refused call.
 pub fn refusals_are_the_machines()
     ensures { RefusalsAreTheMachines }
 {}
