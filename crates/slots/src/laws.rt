@@ -31,28 +31,33 @@ ghost use Rattle.slots.specs.Moments.{TakesAreTheExchange};
 /// Everything that happens in the layer is events of the machine, in their order. So each law of `protocol` about what
 /// states are, and what runs record, holds of the layer. A law about threads that run alone is about the machine's steps:
 /// some accesses are none.
+#[tactic(auto, using(crate::proofs::MachineRuns::runs_are))]
 pub fn slots_run_the_machine()
     ensures { SlotsRunTheMachine }
 {}
 
 /// Whatever happened before, and whatever happens next: a thread that sleeps afterwards on a mutex that nobody owned slept
 /// there before.
+#[tactic(auto, using(crate::proofs::Free::nobody_joins))]
 pub fn nobody_joins_a_free_mutex()
     ensures { NobodyJoinsAFreeMutex }
 {}
 
 /// A call that has released a mutex knows the mutex's turn after every event. Either the mutex was taken or reinitialised
 /// since, and its turn is higher. Or nobody owns it, and nobody sleeps there if the call's wake woke nobody.
+#[tactic(auto, using(crate::proofs::Free::turns_stay))]
 pub fn turns_stay_known()
     ensures { TurnsStayKnown }
 {}
 
 /// What a call knows of a turn stays known after any number of events.
+#[tactic(auto, using(crate::proofs::Free::turns_stay_all))]
 pub fn turns_stay_known_by_all()
     ensures { TurnsStayKnownByAll }
 {}
 
 /// After a release, nobody owns the mutex, and the word that the release left has the mutex's current turn.
+#[tactic(auto, using(crate::proofs::Releases::releases_tell))]
 pub fn releases_tell()
     ensures { ReleasesTell }
 {}
@@ -64,6 +69,7 @@ pub fn wakes_of_nobody_tell()
 
 /// If the exchange that is to clear WAITERS finds the word that the call's release left, then nobody owns the mutex and
 /// nobody sleeps on it. So this exchange is the machine's trim, which clears the word.
+#[tactic(auto, using(crate::proofs::Trims::trims_are))]
 pub fn trims_are_the_machines()
     ensures { TrimsAreTheMachines }
 {}
@@ -154,71 +160,84 @@ pub fn announcing_is_one_store()
 
 /// An heir's exchange that takes the cell is the events that the table has: they leave memory, as it is shown, and the queues
 /// as that access does.
+#[tactic(auto, using(crate::proofs::OneRow::heir_takes))]
 pub fn heir_takes_are_events()
     ensures { HeirTakesAreEvents }
 {}
 
 /// An heir's last look is the events that the table has, if it finds that another thread owns the cell, with WAITERS.
+#[tactic(auto, using(crate::proofs::OneRow::last_looks))]
 pub fn last_looks_are_events()
     ensures { LastLooksAreEvents }
 {}
 
 /// A load for which the table has no events changes nothing, whatever it finds and wherever the call continues.
+#[tactic(auto, using(crate::proofs::Looks::looks_are))]
 pub fn looks_are_events()
     ensures { LooksAreEvents }
 {}
 
 /// An exchange that finds another word than it expects, and for which the table has no events, changes nothing.
+#[tactic(auto, using(crate::proofs::Looks::misses_are))]
 pub fn misses_are_no_events()
     ensures { MissesAreNoEvents }
 {}
 
 /// Each load and each store by which a call puts an entry on its thread's list, or takes it off, is one Step of the machine.
+#[tactic(auto, using(crate::proofs::OneStep::list_rows))]
 pub fn list_rows_are_events()
     ensures { ListRowsAreEvents }
 {}
 
 /// The store that clears the pending word at the end of a call is one Step of the machine.
+#[tactic(auto, using(crate::proofs::OneStep::clearing_rows))]
 pub fn clearing_rows_are_events()
     ensures { ClearingRowsAreEvents }
 {}
 
 /// A store of the entry that is pending already changes nothing: after a sleep, and while an heir waits awake.
+#[tactic(auto, using(crate::proofs::Again::pending_again))]
 pub fn pending_again_is_no_event()
     ensures { PendingAgainIsNoEvent }
 {}
 
 /// A wake of one or of all that sleep on a cell is one Step of the machine: by an unlock, by a wait's release, and by a call
 /// that has found the mutex unusable. So is a signal's wake of one that sleeps on a counter.
+#[tactic(auto, using(crate::proofs::Wakes::wakes_are))]
 pub fn wakes_are_events()
     ensures { WakesAreEvents }
 {}
 
 /// An heir's exchange that says when it is awake sets AWAKE, and is no event of the machine.
+#[tactic(auto, using(crate::proofs::Flags::awake_set))]
 pub fn awake_is_set()
     ensures { AwakeIsSet }
 {}
 
 /// Clearing AWAKE is no event of the machine: by an heir that has taken the cell or gives up, and by a thread that has taken
 /// a marked slot.
+#[tactic(auto, using(crate::proofs::Flags::awake_cleared))]
 pub fn awake_is_cleared()
     ensures { AwakeIsCleared }
 {}
 
 /// An exchange that finds the word that it expects, of a free mutex, is load and exchange of the machine's trylock or lock.
 /// So the cell is taken by a lock, a trylock, an heir or the lock that ends a wait, and the slot by a lock.
+#[tactic(auto, using(crate::proofs::TakeRows::takes_are))]
 pub fn takes_are_events()
     ensures { TakesAreEvents }
 {}
 
 /// The release of a cell or of a slot is one Step of the machine: it changes the word that memory shows, with its turn and
 /// AWAKE, as it changes the machine's word. So does a release that makes the mutex unusable, and that of a wait.
+#[tactic(auto, using(crate::proofs::GiveRows::releases_are))]
 pub fn releases_are_events()
     ensures { ReleasesAreEvents }
 {}
 
 /// The store that makes an entry pending is the beginning of a trylock or of a lock of the machine, which announces its mutex;
 /// and before that the end of the last call, if that has still to clear what it had pending.
+#[tactic(auto, using(crate::proofs::Announcing::announcing_rows))]
 pub fn announcing_rows_are_events()
     ensures { AnnouncingRowsAreEvents }
 {}
@@ -226,62 +245,73 @@ pub fn announcing_rows_are_events()
 /// A store by which an unlock of a cell or of a slot makes its entry pending is several events of the machine: the unlock
 /// begins, looks at the mutex's word, finds that its thread is the owner, and announces the mutex. A wait looks at its
 /// counter, too.
+#[tactic(auto, using(crate::proofs::Releasing::announced_releases))]
 pub fn announced_releases_are_events()
     ensures { AnnouncedReleasesAreEvents }
 {}
 
 /// A call's first look changes nothing, whatever it finds. If it refuses the call, the machine's thread is in no call
 /// afterwards.
+#[tactic(auto, using(crate::proofs::Refusals::first_looks))]
 pub fn first_looks_are_events()
     ensures { FirstLooksAreEvents }
 {}
 
 /// A look of a lock that decides changes nothing, whatever it finds: by a load, or by an exchange that finds another word
 /// than it expects. The machine's call looks too; or it sleeps and times out; or it ends, and another begins and looks.
+#[tactic(auto, using(crate::proofs::Decisions::deciding_looks))]
 pub fn deciding_looks_are_events()
     ensures { DecidingLooksAreEvents }
 {}
 
 /// An exchange of a lock that finds the word that it expects, of a mutex that another thread owns, sets WAITERS as the
 /// machine's lock does. That lock then sleeps and times out, or is about to sleep. A broadcast sets WAITERS by one Step.
+#[tactic(auto, using(crate::proofs::Marking::marks_are))]
 pub fn marks_are_events()
     ensures { MarksAreEvents }
 {}
 
 /// A sleep on a cell or on a counter is the machine's, whether the word is as expected or not.
+#[tactic(auto, using(crate::proofs::Sleeping::sleeps_are))]
 pub fn sleeps_are_events()
     ensures { SleepsAreEvents }
 {}
 
 /// A broadcast's move of all that sleep on a counter is one Step of the machine.
+#[tactic(auto, using(crate::proofs::Moving::moves_are))]
 pub fn moves_are_events()
     ensures { MovesAreEvents }
 {}
 
 /// After a release, a look at the slot changes nothing, whether it leaves the wake to the heir or not.
+#[tactic(auto, using(crate::proofs::Moving::spares_are))]
 pub fn spares_are_events()
     ensures { SparesAreEvents }
 {}
 
 /// Clearing OWNER_DIED of a cell or of a slot is the machine's consistent, and the exchange that makes a cell usable is its
 /// remake.
+#[tactic(auto, using(crate::proofs::Mending::mends_are))]
 pub fn mends_are_events()
     ensures { MendsAreEvents }
 {}
 
 /// The exchange that is to clear WAITERS after a release is the machine's trim, if it finds the word that the release left;
 /// if not, the machine declines its trim.
+#[tactic(auto, using(crate::proofs::Mending::trims_are_events))]
 pub fn trims_are_events()
     ensures { TrimsAreEvents }
 {}
 
 /// A store of a counter's word is a count of the machine's signal or broadcast, or sets or clears SLEPT.
+#[tactic(auto, using(crate::proofs::Counting::counts_are))]
 pub fn counts_are_events()
     ensures { CountsAreEvents }
 {}
 
 /// Each access of the C library is the events that the table has for it, at every row, and whatever it finds: memory, as it
 /// is shown, and the queues are afterwards what that access makes of them. The row's premises are named.
+#[tactic(auto, using(crate::proofs::Each::each_access))]
 pub fn each_access_is_events()
     ensures { EachAccessIsEvents }
 {}
@@ -292,30 +322,35 @@ pub fn others_stand_still()
 {}
 
 /// After each access, whatever it finds, the machine's thread is where the next row says. The row's premises are named.
+#[tactic(auto, using(crate::proofs::LeadsOn::rows_lead))]
 pub fn rows_lead_on()
     ensures { RowsLeadOn }
 {}
 
 /// A thread that is at its row is at its row after whatever happens to it, if it lives then: a call, an access, an
 /// interruption, a timeout, or a new life. What an access and a timeout assume is named.
+#[tactic(auto, using(crate::proofs::Keeping::threads_keep))]
 pub fn threads_keep_their_rows()
     ensures { ThreadsKeepTheirRows }
 {}
 
 /// After any run whose happenings have what they assume, each thread that lives is where its row says. So when a call ends, its
 /// last call of the machine has the same reply, with two exceptions that are named (`specs/Stands.antt`: `RepliesAs`).
+#[tactic(auto, using(crate::proofs::AllRows::runs_keep))]
 pub fn runs_keep_their_rows()
     ensures { RunsKeepTheirRows }
 {}
 
 /// In any run whose happenings have what they assume, each access of a thread that lives and is awake is the events that the
 /// table has for it.
+#[tactic(auto, using(crate::proofs::AllRows::runs_are_events))]
 pub fn accesses_of_runs_are_events()
     ensures { AccessesOfRunsAreEvents }
 {}
 
 /// A row's mutex and condition variable are the layout's, and the words that its call has seen say what led the call there.
 /// After each access, whatever it finds, this holds of the next row.
+#[tactic(auto, using(crate::proofs::FitsOn::next_rows_fit))]
 pub fn next_rows_fit()
     ensures { NextRowsFit }
 {}
@@ -323,11 +358,13 @@ pub fn next_rows_fit()
 /// In any run, what happenings assume follows from less: rows fit, calls are about their rows' mutexes, sleeps with a deadline
 /// are of locks that have been to the slot or have slept, and dead threads are in none of our calls. What is still assumed
 /// of an access are two bounds (`specs/Premises.antt`: `Trusts`).
+#[tactic(auto, using(crate::proofs::Following::premises_follow))]
 pub fn premises_follow()
     ensures { PremisesFollow }
 {}
 
 /// In every state of the machine, nothing is above UNUSABLE in the word of a mutex, and an unusable mutex has no OWNER_DIED.
+#[tactic(auto, using(crate::proofs::Rooms::words_sound))]
 pub fn words_stay_sound()
     ensures { WordsStaySound }
 {}
@@ -339,30 +376,35 @@ pub fn slots_stay_quiet()
 
 /// In any run, each thread owns the slot and the cell that its row says, marked or not. A lock that has been to the slot
 /// doesn't own the cell.
+#[tactic(auto, using(crate::proofs::Following::owners_kept))]
 pub fn runs_keep_owners()
     ensures { RunsKeepOwners }
 {}
 
 /// In any run, a call that has released its mutex in an unlock knows the mutex's turn, up to its trim: the mutex was taken or
 /// reinitialised since, or nobody owns it.
+#[tactic(auto, using(crate::proofs::Following::turns_kept))]
 pub fn runs_keep_turns()
     ensures { RunsKeepTurns }
 {}
 
 /// In any run, a thread may own one mutex more when its next access begins a call of the machine that takes one: the cell or
 /// the slot, which are two of the machine's.
+#[tactic(auto, using(crate::proofs::Following::room_kept))]
 pub fn runs_keep_room()
     ensures { RunsKeepRoom }
 {}
 
 /// In any run, a call that has seen a counter's word, to wait or to count, has seen it as it is until the call stores it or
 /// releases the mutex: a counter changes only by the owner of its mutex.
+#[tactic(auto, using(crate::proofs::Following::counts_kept))]
 pub fn runs_keep_counts()
     ensures { RunsKeepCounts }
 {}
 
 /// In any run, when a signal or a broadcast is about to count and the counter has no SLEPT, nobody sleeps on the counter. So
 /// if the call makes no wake, there was nobody to wake.
+#[tactic(auto, using(crate::proofs::Following::slept_kept))]
 pub fn runs_keep_slept()
     ensures { RunsKeepSlept }
 {}
@@ -375,12 +417,14 @@ pub fn runs_keep_heirs()
 
 /// In any run, if a call that has released its mutex finds a slot that shows an heir, the machine lets it leave its wake to
 /// that heir.
+#[tactic(auto, using(crate::proofs::Following::heirs_over))]
 pub fn heirs_take_over()
     ensures { HeirsTakeOver }
 {}
 
 /// In any run, each access of a thread that lives and is awake is the events that the table has for it. Two bounds are still
 /// assumed (`specs/Premises.antt`: `Trusts`).
+#[tactic(auto, using(crate::proofs::Following::all_hold))]
 pub fn all_hold()
     ensures { AllHold }
 {}
@@ -392,17 +436,20 @@ pub fn wakes_without_waiters_wake_nobody()
 {}
 
 /// If a kernel wakes one that sleeps on a mutex whose word has no WAITERS, nothing changes in the layer.
+#[tactic(auto, using(crate::proofs::AnyKernel::rouses_nobody))]
 pub fn rouses_nobody()
     ensures { RousesNobody }
 {}
 
 /// Whatever happens, and whenever a kernel wakes one that sleeps on a mutex: a run without these wakes leads to the same state.
 /// So all laws of runs hold of kernels whose walks make more wakes.
+#[tactic(auto, using(crate::proofs::AnyKernel::any_kernel))]
 pub fn any_kernel_will_do()
     ensures { AnyKernelWillDo }
 {}
 
 /// A call begins undecided, and knows its operation.
+#[tactic(auto, using(crate::proofs::Deciding::begins_called))]
 pub fn calls_begin_undecided()
     ensures { CallsBeginUndecided }
 {}
@@ -416,23 +463,27 @@ pub fn calls_decide_once()
 
 /// In any run, the points of the C library's calls, with the replies that the calls return, and the deaths that Linux marks are
 /// one legal history from free mutexes. After it, each mutex is as its cell says.
+#[tactic(auto, using(crate::proofs::OneHistory::one_history))]
 pub fn calls_are_one_history()
     ensures { CallsAreOneHistory }
 {}
 
 /// Each access is a load, a plain store, a locked instruction or a call to Linux, as its row says, whatever it finds.
+#[tactic(auto, using(crate::proofs::PlainStores::accesses_made_so))]
 pub fn accesses_are_made_so()
     ensures { AccessesAreMadeSo }
 {}
 
 /// In any run, each plain store is of the thread's own head, of a link of a mutex that it owns, or of a counter whose mutex it
 /// owns. If it is of a counter, the count stays, or no wait that has released its mutex has seen it.
+#[tactic(auto, using(crate::proofs::OwnStores::own_stores))]
 pub fn plain_stores_are_own()
     ensures { PlainStoresAreOwn }
 {}
 
 /// In any run, the plain stores of a thread since its last locked instruction are at places that are still the thread's own: none
 /// is at a cell or a slot, or at a place of another thread. A dead thread's stores don't wait.
+#[tactic(auto, using(crate::proofs::Waiting::wait_apart))]
 pub fn plain_stores_wait_apart()
     ensures { PlainStoresWaitApart }
 {}
@@ -445,12 +496,14 @@ pub fn runs_may_buffer()
 
 /// In any run, whenever plain stores reach memory: a load finds what the layer shows, of each cell and slot, of the thread's own
 /// words, and of counters whose mutex it owns. In memory, cells and slots are always as the layer shows them.
+#[tactic(auto, using(crate::proofs::LateRuns::late_same))]
 pub fn late_memory_tells_the_same()
     ensures { LateMemoryTellsTheSame }
 {}
 
 /// In any run, each access but two finds its word as the layer shows it, whenever plain stores reach memory. The two are of a
 /// wait that has released its mutex: Linux compares the count, and a late wait looks at the counter.
+#[tactic(auto, using(crate::proofs::LateAccesses::find_the_same))]
 pub fn accesses_find_the_same()
     ensures { AccessesFindTheSame }
 {}
@@ -485,12 +538,14 @@ pub fn wrong_deadlines_are_refused()
 
 /// In any run, a call that is refused at its first look is a whole call of the machine, of the same operation on the mutex's
 /// cell, which returns the same reply at that moment. So the machine's history has each refused call.
+#[tactic(auto, using(crate::proofs::Refused::refusals_are))]
 pub fn refusals_are_the_machines()
     ensures { RefusalsAreTheMachines }
 {}
 
 /// After any run, a call that runs alone returns or sleeps after at most 63 accesses. It may make 63 more each time that a clock
 /// or a hint asks for another look, or keeps an heir from a free mutex.
+#[tactic(auto, using(crate::proofs::LoneCalls::lone_calls))]
 pub fn lone_calls_come_to_rest()
     ensures { LoneCallsComeToRest }
 {}
