@@ -39,7 +39,7 @@ def first_sentence(comment, mark):
     """The first sentence of a comment's first paragraph."""
     lines = [re.sub(rf"^\s*{mark} ?", "", it) for it in comment.strip().split("\n")]
     paragraph = " ".join(lines).split("  ")[0] if "" not in lines else " ".join(lines[: lines.index("")])
-    found = re.match(r"(.*?[.:])(?= [A-Z`*\[]|$)", paragraph)
+    found = re.match(r"(.*?[.:])(?= [A-Z`*\[(]|$)", paragraph)
     sentence = re.sub(r"\[`(.+?)`\](\(.*?\))?", r"`\1`", (found[1] if found else paragraph).rstrip(":."))
     # what follows a colon or a semicolon says it in detail
     return sentence if len(sentence.split()) <= LONG else re.match(r".{30}.*?(?=[:;] |$)|.*", sentence)[0]
