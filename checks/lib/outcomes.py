@@ -178,13 +178,19 @@ class Search:
                 after = (stage[0], 'wait_sleep', stage[2]) if stage[1] == 'wait_wake' else (stage[0], 'clear', 'OK', False)
                 yield self.replaced(state, Memory(self.script, state), t, after)
 
+    def bed(self, place):
+        """How it is said that a thread sleeps on the word at a place."""
+        names = {self.script.cell(m): name for m, name in enumerate(self.script.mutexes)}
+        names |= {self.script.counter(k): f'cond {name}' for k, name in enumerate(self.script.conditions)}
+        return f'asleep on {names[place]}'
+
     def outcome(self, state):
         asleep, cells = sleeping(state), []
         threads = []
         for t, thread in enumerate(state.threads, 1):
             waits = thread.stage is None and next_call(self.script, t - 1, thread)
-            end = ('dead',) if thread.stage == 'reaped' else ('asleep',) if t in asleep else ('waiting',) if waits else ()
-            threads.append((self.script.threads[t - 1],) + thread.replies + end)
+            end = 'dead' if thread.stage == 'reaped' else self.bed(asleep[t]) if t in asleep else 'waiting' if waits else ''
+            threads.append((self.script.threads[t - 1],) + thread.replies + ((end,) if end else ()))
         for m, name in enumerate(self.script.mutexes):
             word = state.words[self.script.cell(m)]
             owner = [f'owned by {self.script.threads[(word & OWNER) - 1]}'] if word & OWNER else []
@@ -221,11 +227,12 @@ def asked_of(words):
         if word == '--kills':
             kills = int(words.pop(0))
         elif word == '--kill':
-            named.append(words.pop(0))
+            name = words.pop(0)
+            named += [name] if name not in named else []
         else:
             flags[word.lstrip('-')] = True
     killable = [not named or name in named for name in script.threads]
-    return script, Asked(len(named) if kills is None else kills, killable, **flags)
+    return script, Asked(min(len(named), 4) if kills is None else kills, killable, **flags)
 
 
 if __name__ == '__main__':

@@ -11,7 +11,7 @@ use Rattle.outcomes.specs.declared.plan.Plan.{Plan}
 use Rattle.script.specs.Scope.{Scope}
 use Rattle.explore_report.specs.Asked.{Choices, Kept, states_of}
 use Rattle.explore_report.specs.Kept.{IsFilled, IsWritten}
-use Rattle.explore_report.specs.Laws.{AlwaysIsTrue, IsBrokenByOne, IsPartOf, IsPossible, IsPrinted, IsTrueOfAll, NeverIsTrue, NoOutcomeIsMissing, PrintedOutcomesArePossible, ScriptsPlayTheirOutcome}
+use Rattle.explore_report.specs.Laws.{AlwaysIsTrue, IsBrokenByOne, IsCutOff, IsPartOf, IsPossible, IsPrinted, IsTrueOfAll, NeverIsTrue, NoOutcomeIsMissing, PrintedOutcomesArePossible, ScriptsPlayTheirOutcome}
 use Rattle.explore_report.specs.Meets.{Breaks, Holds, Meets}
 use Rattle.explore_report.specs.Replays.{Replays}
 use Rattle.explore_report.specs.Texts.{Demanded, are_met, count_text, demand_text, head_text, in_order, row_text, rows_text, widths_of}
@@ -105,6 +105,9 @@ module _ (bytes : List ℕ) (c : Choices) (text : List ℕ) (script : Option (Li
     λ i d at o p. let r = there o complete p in subst (Holds d.always d.pattern) r.3 (all_hold listed t.question.demands met i d at r.0 r.1 r.2),
   )
 
+  pub cut_off : are_met listed t.question.demands ≡ true → t.found.complete ≡ false → IsCutOff c t.question t.found
+  cut_off met cut = (cut, t.explored.stopped cut, all_hold listed t.question.demands met)
+
   pub broken_by_one : are_met listed t.question.demands ≡ false → IsBrokenByOne c t.question t.found
   broken_by_one unmet =
       let r = one_breaks listed t.question.demands unmet in
@@ -121,9 +124,9 @@ module _ (bytes : List ℕ) (c : Choices) (text : List ℕ) (script : Option (Li
   plays Makes Fills k (Some j) None is has filled = absurd has
   plays Makes Fills k (Some j) (Some played) is has filled =
       let same : j ≡ k = cc in
-      let at : slice_get listed (k.number - 1) ≡ Some has.0 = ap (λ (x : Kept). slice_get listed (x.number - 1)) (sym same) ∙ has.1 in
+      let at : slice_get listed (k.number - 1) ≡ Some has.witnessed = ap (λ (x : Kept). slice_get listed (x.number - 1)) (sym same) ∙ has.there in
       let written : IsWritten Makes Fills k.out played = subst (λ (x : Kept). IsWritten Makes Fills x.out played) same filled in
-      (has.0, at, (played, written, subst (λ (s : List ℕ). Replays s has.0.outcome) (sym has.2) (t.answer.played (k.number - 1) has.0 at)))
+      (has.witnessed, at, (played, written, subst (λ (s : List ℕ). Replays s has.witnessed.outcome) (sym has.is) has.played))
 
   pub script_plays : (Makes Fills : List ℕ → Option (List ℕ) → Type 0) (k : Kept) → c.script ≡ Some k → IsFilled Makes Fills c.script script
       → (w : Witnessed) × (slice_get listed (k.number - 1) ≡ Some w) × ((played : List ℕ) × IsWritten Makes Fills k.out played × Replays played w.outcome)

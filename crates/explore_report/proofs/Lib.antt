@@ -2,7 +2,6 @@ mod Loops
 mod Ends
 mod Reading
 mod Played
-mod Sameness
 mod Numbering
 mod Meeting
 mod Demanding

@@ -86,6 +86,9 @@ id_is (Some y) P v x so is = cc (so.1, is)
 
 -- ---- names of threads that may be killed
 
+pub named_there : (named : List (Bor (List ℕ))) (name : List ℕ) → list_any (λ w. bytes_eq w.now name) named ≡ list_any (λ w. bytes_eq w name) (map (λ w. w.now) named)
+named_there named name = sym (list_any-map (λ w. w.now) (λ x. bytes_eq x name) named)
+
 pub one_may_die : (named : List (Bor (List ℕ))) (name : List ℕ) → nat_eq (length named) 0 ≡ false → list_any (λ w. bytes_eq w.now name) named ≡ may_die (map (λ w. w.now) named) name
 one_may_die [] name some = absurd (cc some)
 one_may_die (n ∷ ns) name some = sym (list_any-map (λ w. w.now) (λ x. bytes_eq x name) (n ∷ ns))

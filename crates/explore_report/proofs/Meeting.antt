@@ -13,9 +13,9 @@ use Rattle.outcomes.specs.declared.outcome.End.TheVariants as end
 use Rattle.outcomes.specs.declared.outcome.Ended.{Ended}
 use Rattle.outcomes.specs.declared.outcome.Outcome.{Outcome}
 use Rattle.explore_report.specs.Meets.{HasGot, IsLeft as IsLeft', Meets, Sleeps}
-use Rattle.explore_report.specs.Patterns.{at_some, is_asleep, is_dead, is_left, is_met, is_owned, same_reply}
+use Rattle.explore_report.specs.Patterns.{at_some, is_asleep, is_dead, is_waiting, is_left, is_met, is_owned, same_reply}
 use Rattle.explore_report.specs.declared.patterns.Pattern.{Pattern}
-use Rattle.explore_report.specs.declared.patterns.Pattern.TheVariants.{Got, Dead, Asleep, SomeAsleep, Left}
+use Rattle.explore_report.specs.declared.patterns.Pattern.TheVariants.{Got, Dead, Asleep, Waiting, SomeAsleep, Left}
 use Rattle.explore_report.specs.declared.patterns.State.{State}
 use Rattle.explore_report.specs.declared.patterns.State.TheVariants.{Free, Owned, Inconsistent, Unusable}
 
@@ -68,6 +68,13 @@ dead_so (end.OnMutex m) h = absurd cc
 dead_so (end.OnCondition k) h = absurd cc
 dead_so end.Finished h = absurd cc
 dead_so end.Waiting h = absurd cc
+
+waiting_so : (e : End) → is_waiting e ≡ true → e ≡ end.Waiting
+waiting_so end.Waiting h = refl
+waiting_so end.Dead h = absurd cc
+waiting_so (end.OnMutex m) h = absurd cc
+waiting_so (end.OnCondition k) h = absurd cc
+waiting_so end.Finished h = absurd cc
 
 -- ---- replies
 
@@ -155,6 +162,7 @@ pub met_so : (o : Outcome) (p : Pattern) → is_met o p ≡ true → Meets (outc
 met_so o (Got t x) h = at_so ended_in (λ e. list_any (λ y. same_reply y x) e.replies.items) (λ e. HasGot e x) (λ e k. got_so e x k) o.threads.items (t - 1) h
 met_so o (Dead t) h = at_so ended_in (λ e. is_dead e.end) (λ e. e.end ≡ end.Dead) (λ e k. dead_so e.end k) o.threads.items (t - 1) h
 met_so o (Asleep t) h = at_so ended_in (λ e. is_asleep e.end) (λ e. Sleeps e.end) (λ e k. sleeps_so e.end k) o.threads.items (t - 1) h
+met_so o (Waiting t) h = at_so ended_in (λ e. is_waiting e.end) (λ e. e.end ≡ end.Waiting) (λ e k. waiting_so e.end k) o.threads.items (t - 1) h
 met_so o SomeAsleep h = any_so ended_in (λ e. is_asleep e.end) (λ e. Sleeps e.end) (λ e k. sleeps_so e.end k) o.threads.items h
 met_so o (Left m state) h = go (slice_get o.mutexes.items m) refl h
   where
@@ -166,5 +174,6 @@ pub met_only : (o : Outcome) (p : Pattern) → Meets (outcome_in o) p → is_met
 met_only o (Got t x) h = at_only ended_in (λ e. list_any (λ y. same_reply y x) e.replies.items) (λ e. HasGot e x) (λ e k. got_only e x k) o.threads.items (t - 1) h.0 h.1 h.2
 met_only o (Dead t) h = at_only ended_in (λ e. is_dead e.end) (λ e. e.end ≡ end.Dead) (λ e k. ap is_dead k) o.threads.items (t - 1) h.0 h.1 h.2
 met_only o (Asleep t) h = at_only ended_in (λ e. is_asleep e.end) (λ e. Sleeps e.end) (λ e k. sleeps_only e.end k) o.threads.items (t - 1) h.0 h.1 h.2
+met_only o (Waiting t) h = at_only ended_in (λ e. is_waiting e.end) (λ e. e.end ≡ end.Waiting) (λ e k. ap is_waiting k) o.threads.items (t - 1) h.0 h.1 h.2
 met_only o SomeAsleep h = any_only ended_in (λ e. is_asleep e.end) (λ e. Sleeps e.end) (λ e k. sleeps_only e.end k) o.threads.items h.0 h.1 h.2 h.3
 met_only o (Left m state) h = ap (λ (r : Option Object). at_some r (λ x. is_left x state)) h.1 ∙ left_only h.0 state h.2

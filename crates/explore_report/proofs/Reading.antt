@@ -12,7 +12,7 @@ use Rattle.outcomes.specs.declared.exploring.Found.{Found}
 use Rattle.outcomes.specs.declared.plan.Plan.{Plan}
 use Rattle.explore_report.specs.declared.exploring.Told.{Told}
 use Rattle.explore_report.specs.declared.exploring.Untold.{Untold}
-use Rattle.explore_report.specs.declared.exploring.Untold.TheVariants.{OutOfMemory, Ill, NoThread, NoPattern, NoOutcome, Unplayed}
+use Rattle.explore_report.specs.declared.exploring.Untold.TheVariants.{OutOfMemory, Ill, NoThread, NoPattern, NoOutcome, TooLong, Unplayed}
 use Rattle.explore_report.specs.Asked.{Choices, states_of}
 use Rattle.explore_report.specs.Plans.{Said, said_read}
 use Rattle.explore_report.specs.Told.{Answers, Demands, IsAsked, IsFound, Question', Tells, Unanswered, Unasked, Untells, both, demand_read, demands_read, first_unknown}
@@ -101,6 +101,7 @@ unasked_by bytes c said (Ill e) read h = absurd h
 unasked_by bytes c said (NoThread name) read h = absurd h
 unasked_by bytes c said (NoPattern words) read h = (said, read, h)
 unasked_by bytes c said (NoOutcome n) read h = absurd h
+unasked_by bytes c said (TooLong n) read h = absurd h
 unasked_by bytes c said (Unplayed n) read h = absurd h
 
 -- ---- what is said

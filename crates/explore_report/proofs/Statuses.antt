@@ -23,7 +23,7 @@ use Rattle.explore_report.specs.Programs.{AskedEnds, FileEnds, IsReported, RunEn
 use Rattle.explore_report.specs.Served.{Fails, FailsBytes, IsRead, IsUnread, Serves, ServesBytes}
 use Rattle.explore_report.specs.Texts.{are_met}
 use Rattle.explore_report.specs.Told.{IsTold, Question', printed, status_of}
-use Rattle.explore_report.proofs.Lawful.{broken_by_one, true_of_all}
+use Rattle.explore_report.proofs.Lawful.{broken_by_one, cut_off, true_of_all}
 
 -- a script that was read isn't too long
 pub is_short : (bytes : List ℕ) (said : Said) → said_read bytes ≡ Ok said → length bytes ≤ max_bytes
@@ -108,7 +108,7 @@ module _ (Opens : List ℕ → Result (Option (List ℕ)) ErrorKind → Type 0) 
 
     by_status : (met complete : Bool) → are_met (printed s.told.question s.told.found) s.told.question.demands ≡ met → s.told.found.complete ≡ complete → status ≡ status_of met complete → Means
     by_status false complete met whole is = as_one is (inl (done IsBrokenByOne (broken_by_one bytes c s.text s.script status s.told met)))
-    by_status true false met whole is = as_three is (done IsCutOff (whole, s.told.explored.stopped whole))
+    by_status true false met whole is = as_three is (done IsCutOff (cut_off bytes c s.text s.script status s.told met whole))
     by_status true true met whole is = as_zero is (done IsTrueOfAll (true_of_all bytes c s.text s.script status s.told met whole))
 
     served : Means

@@ -4,6 +4,7 @@
 -- times, each other option once.
 use Rattle.std.specs.Prelude.{ℕ, ◌==◌, ◌&&◌, zero, suc, Bool, true, false, List, [], ◌∷◌, ◌++◌, codes, Option, Some, None, map, length}
 use Rattle.std.specs.Prelude.{min, option_map, if◌then◌else◌}
+use Rattle.std.specs.List.{list_any}
 use Rattle.std.specs.Str.{bytes_eq}
 use Rattle.std.specs.Str.Parse.{digits_value}
 use Rattle.lines.specs.Numbers.{is_number, within}
@@ -20,8 +21,8 @@ pub record Kept : Type 0 where
   pub number : ℕ
   pub out : List ℕ
 
--- the options of a command line: how many threads may be killed at most, and which, if not all; which events are
--- explored besides; how many states there may be; what is asked of every outcome; and whose script is written
+-- the options of a command line: how many threads may be killed at most, and which, if not all; which other events
+-- are explored; how many states there may be; what is asked of every outcome; and whose script is written
 pub record Choices : Type 0 where
   pub kills : Option ℕ
   pub named : List (List ℕ)
@@ -109,10 +110,15 @@ abbrev pub unless : Bool → Choices → Option Choices
 unless true c = None
 unless false c = Some c
 
+-- with one more thread that may be killed; if it is named already, nothing changes
+abbrev pub with_named : Choices → List ℕ → Choices
+with_named c name =
+    if list_any (λ w. bytes_eq w name) c.named then c else record c { named = c.named ++ name ∷ [] }
+
 -- the options with one more, which hasn't been given, if it may be given once
 abbrev pub added : Choices → Choice → Option Choices
 added c (Kills n) = once c.kills (record c { kills = Some n })
-added c (Kill name) = Some (record c { named = c.named ++ name ∷ [] })
+added c (Kill name) = Some (with_named c name)
 added c Expire = unless c.expire (record c { expire = true })
 added c Leave = unless c.leave (record c { leave = true })
 added c Spare = unless c.spare (record c { spare = true })

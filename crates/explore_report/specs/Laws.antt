@@ -110,9 +110,11 @@ abbrev pub IsBrokenByOne : Choices → Question' → Found → Type 0
 IsBrokenByOne c q f = (i : ℕ) × (d : Demanded) × (slice_get q.demands i ≡ Some d)
     × ((o : Outcome') × IsPossible q.plan o × Breaks d.always d.pattern o)
 
--- the limit of states was reached
+-- the limit of states was reached, and all that is asked holds of each outcome that was found
 abbrev pub IsCutOff : Choices → Question' → Found → Type 0
 IsCutOff c q f = (f.complete ≡ false) × (f.states ≡ states_of c)
+    × ((i : ℕ) (d : Demanded) → slice_get q.demands i ≡ Some d
+    → (place : ℕ) (w : Witnessed) → slice_get (printed q f) place ≡ Some w → Holds d.always d.pattern (outcome_in w.outcome))
 
 -- the command line asks for a file's script to be explored, which was read to its end; all that is said of it was
 -- written, to the file of the script that is wanted, too, and this was found
@@ -146,7 +148,7 @@ AsksForNothing a = (a ≡ Nothing) ⊎ ((file : List ℕ) × (a ≡ Overwrites f
 
 -- what an exit status means: 0 that no outcome is missing and all that is asked holds of each; 1 that something that is
 -- asked is broken by an outcome that a run has, or a failure; 2 that the command line is none; 3 that the limit of
--- states was reached. There is no other
+-- states was reached, and nothing that was found breaks what is asked. There is no other
 pub record StatusMeans (Opens : List ℕ → Result (Option (List ℕ)) ErrorKind → Type 0)
     (Makes Fills : List ℕ → Option (List ℕ) → Type 0) (a : Asked) (old new : Option (List ℕ)) (LetGo : Type 0)
     (told told' : Option (List ℕ)) (status : ℕ) : Type 0 where

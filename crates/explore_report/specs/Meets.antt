@@ -7,7 +7,7 @@ use Rattle.outcomes.specs.Outcomes.{Ended', Outcome'}
 use Rattle.outcomes.specs.declared.outcome.End.{End}
 use Rattle.outcomes.specs.declared.outcome.End.TheVariants as end
 use Rattle.explore_report.specs.declared.patterns.Pattern.{Pattern}
-use Rattle.explore_report.specs.declared.patterns.Pattern.TheVariants.{Got, Dead, Asleep, SomeAsleep, Left}
+use Rattle.explore_report.specs.declared.patterns.Pattern.TheVariants.{Got, Dead, Asleep, Waiting, SomeAsleep, Left}
 use Rattle.explore_report.specs.declared.patterns.State.{State}
 use Rattle.explore_report.specs.declared.patterns.State.TheVariants.{Free, Owned, Inconsistent, Unusable}
 
@@ -34,6 +34,7 @@ abbrev pub Meets : Outcome' → Pattern → Type 0
 Meets o (Got t x) = (e : Ended') × IsThread o t e × HasGot e x
 Meets o (Dead t) = (e : Ended') × IsThread o t e × (e.end ≡ end.Dead)
 Meets o (Asleep t) = (e : Ended') × IsThread o t e × Sleeps e.end
+Meets o (Waiting t) = (e : Ended') × IsThread o t e × (e.end ≡ end.Waiting)
 Meets o SomeAsleep = (i : ℕ) × (e : Ended') × (slice_get o.threads i ≡ Some e) × Sleeps e.end
 Meets o (Left m state) = (x : Object) × (slice_get o.mutexes m ≡ Some x) × IsLeft x state
 

@@ -4,7 +4,7 @@ use Rattle.std.specs.List.{concat}
 use Rattle.script.specs.Faults.{number_of, words_of}
 use Rattle.script.specs.declared.fault.ScriptFault.{ScriptFault}
 use Rattle.explore_report.specs.declared.exploring.Untold.{Untold}
-use Rattle.explore_report.specs.declared.exploring.Untold.TheVariants.{OutOfMemory, Ill, NoThread, NoPattern, NoOutcome, Unplayed}
+use Rattle.explore_report.specs.declared.exploring.Untold.TheVariants.{OutOfMemory, Ill, NoThread, NoPattern, NoOutcome, TooLong, Unplayed}
 use Rattle.explore_report.specs.declared.messages.Failure.{Failure}
 use Rattle.explore_report.specs.declared.messages.Failure.TheVariants.{Usage, Overwriting, CannotRead, CannotWrite, CannotKeep}
 use Rattle.explore_report.specs.declared.messages.Failure.TheVariants as failure
@@ -27,7 +27,8 @@ untold_text (Ill at) = script_fault_text at
 untold_text (NoThread name) = concat (codes "rfx-explore: no thread is called " ∷ name.now ∷ codes "\n" ∷ [])
 untold_text (NoPattern words) = concat (codes "rfx-explore: not a pattern: " ∷ words.now ∷ codes "\n" ∷ [])
 untold_text (NoOutcome n) = numbered (codes "rfx-explore: no outcome has the number ") n (codes "\n")
-untold_text (Unplayed n) = numbered (codes "rfx-explore: the script of outcome ") n (codes " is too long\n")
+untold_text (TooLong n) = numbered (codes "rfx-explore: the script of outcome ") n (codes " is too long\n")
+untold_text (Unplayed n) = numbered (codes "rfx-explore: the script of outcome ") n (codes " has another outcome\n")
 
 -- why the script in a file of this name wasn't explored, or that wasn't told
 abbrev pub failure_text : List ℕ → Failure → List ℕ

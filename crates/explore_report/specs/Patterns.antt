@@ -1,7 +1,7 @@
 -- What an outcome may have.
 --
--- *Pattern.* The words of `--never` and `--always`: a thread and a reply that it got, or that it is dead, or sleeps
--- forever; that some thread sleeps forever; or a mutex and how it is left.
+-- *Pattern.* The words of `--never` and `--always`: a thread and a reply that it got, or that it is dead, sleeps forever,
+-- or waits for a phase that never comes; that some thread sleeps forever; or a mutex and how it is left.
 use Rattle.std.specs.Prelude.{ℕ, ◌+◌, ◌-◌, ◌==◌, ◌&&◌, ◌||◌, not, Bool, true, false, List, [], ◌∷◌, codes}
 use Rattle.std.specs.Prelude.{Option, Some, None, option_map, slice_get, if◌then◌else◌}
 use Rattle.std.specs.List.{list_any, slice_split}
@@ -15,7 +15,7 @@ use Rattle.outcomes.specs.declared.outcome.End.TheVariants as end
 use Rattle.outcomes.specs.declared.outcome.Ended.{Ended}
 use Rattle.outcomes.specs.declared.outcome.Outcome.{Outcome}
 use Rattle.explore_report.specs.declared.patterns.Pattern.{Pattern}
-use Rattle.explore_report.specs.declared.patterns.Pattern.TheVariants.{Got, Dead, Asleep, SomeAsleep, Left}
+use Rattle.explore_report.specs.declared.patterns.Pattern.TheVariants.{Got, Dead, Asleep, Waiting, SomeAsleep, Left}
 use Rattle.explore_report.specs.declared.patterns.State.{State}
 use Rattle.explore_report.specs.declared.patterns.State.TheVariants.{Free, Owned, Inconsistent, Unusable}
 
@@ -42,7 +42,8 @@ abbrev pub of_thread : ℕ → List ℕ → Option Pattern
 of_thread t word =
     if bytes_eq word (codes "dead") then Some (Dead t)
     else (if bytes_eq word (codes "asleep") then Some (Asleep t)
-    else option_map (λ x. Got t x) (reply_of word))
+    else (if bytes_eq word (codes "waiting") then Some (Waiting t)
+    else option_map (λ x. Got t x) (reply_of word)))
 
 abbrev pub and_then : {A B : Type 0} → Option A → (A → Option B) → Option B
 and_then None f = None
@@ -70,6 +71,10 @@ abbrev pub is_dead : End → Bool
 is_dead end.Dead = true
 is_dead e = false
 
+abbrev pub is_waiting : End → Bool
+is_waiting end.Waiting = true
+is_waiting e = false
+
 abbrev pub is_owned : Option ℕ → Bool
 is_owned None = false
 is_owned (Some t) = true
@@ -92,5 +97,6 @@ abbrev pub is_met : Outcome → Pattern → Bool
 is_met o (Got t x) = at_some (slice_get o.threads.items (t - 1)) (λ e. list_any (λ y. same_reply y x) e.replies.items)
 is_met o (Dead t) = at_some (slice_get o.threads.items (t - 1)) (λ e. is_dead e.end)
 is_met o (Asleep t) = at_some (slice_get o.threads.items (t - 1)) (λ e. is_asleep e.end)
+is_met o (Waiting t) = at_some (slice_get o.threads.items (t - 1)) (λ e. is_waiting e.end)
 is_met o SomeAsleep = list_any (λ e. is_asleep e.end) o.threads.items
 is_met o (Left m state) = at_some (slice_get o.mutexes.items m) (λ x. is_left x state)

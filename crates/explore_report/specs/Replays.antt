@@ -2,7 +2,9 @@
 --
 -- *Replayed.* A text is a script for `rfx run`, it isn't too long to be played, and its run ends so: as many threads as
 -- the outcome has, each with these replies, and dead or asleep or neither; and as many mutexes, each left so.
-use Rattle.std.specs.Prelude.{ℕ, ◌≡◌, ◌+◌, ◌==◌, List, [], ◌∷◌, Ok, Option, Some, None, length, slice_get, if◌then◌else◌}
+--
+-- *Too long.* A text passes a limit of scripts: in bytes, lines or events.
+use Rattle.std.specs.Prelude.{ℕ, ◌≡◌, ◌+◌, ◌==◌, ◌≢◌, ◌⊎◌, Bool, true, false, List, [], ◌∷◌, Ok, Err, Option, Some, None, length, slice_get, if◌then◌else◌}
 use Rattle.std.specs.List.{flat_map}
 use Rattle.interleave.specs.Reapings.{is_reaped}
 use Rattle.lockword.specs.declared.reply.Reply.{Reply}
@@ -16,9 +18,14 @@ use Rattle.script.specs.Playing.{events_in, first_state, overlong}
 use Rattle.script.specs.Reading.{script_read}
 use Rattle.script.specs.Scope.{Scope}
 use Rattle.script.specs.declared.command.Mode.TheVariants.{Run}
+use Rattle.script.specs.declared.fault.Fault.{Fault}
+use Rattle.script.specs.declared.fault.Fault.TheVariants as fault
+use Rattle.script.specs.declared.fault.ScriptFault.{ScriptFault}
 use Rattle.outcomes.specs.declared.outcome.Ended.{Ended}
 use Rattle.outcomes.specs.declared.outcome.Outcome.{Outcome}
 use Rattle.explore_report.specs.Patterns.{is_asleep, is_dead}
+use Rattle.explore_report.specs.declared.replaying.Replay.{Replay}
+use Rattle.explore_report.specs.declared.replaying.Replay.TheVariants.{Same, TooLong, Other}
 
 -- what a call of thread u returned, if that is thread t
 abbrev pub returned_to : ℕ → ℕ → Option Reply → List Reply
@@ -69,3 +76,48 @@ pub record Replays (text : List ℕ) (o : Outcome) : Type 0 where
   pub scope : Scope
   pub read : script_read Run text ≡ Ok scope
   pub plays : Plays scope o
+
+-- a text isn't read as a script, as it passes a limit
+pub record IsExcessive (text : List ℕ) : Type 0 where
+  pub at : ScriptFault
+  pub read : script_read Run text ≡ Err at
+  pub kind : at.fault ≡ fault.TooLong
+
+-- it is a script, with more events than may be played
+pub record IsOverlong (text : List ℕ) : Type 0 where
+  pub scope : Scope
+  pub read : script_read Run text ≡ Ok scope
+  pub line : ℕ
+  pub over : overlong scope ≡ Some line
+
+-- `rfx run` refuses it, as it is too long
+abbrev pub IsTooLong : List ℕ → Type 0
+IsTooLong text = IsExcessive text ⊎ IsOverlong text
+
+-- what came of playing a script that was read: its run has the outcome; or it is too long; or neither
+abbrev pub PlayCame : Scope → Outcome → Replay → Type 0
+PlayCame scope o Same = Plays scope o
+PlayCame scope o TooLong = (line : ℕ) × (overlong scope ≡ Some line)
+PlayCame scope o Other = (Plays scope o → ⊥) × ((line : ℕ) → overlong scope ≡ Some line → ⊥)
+
+abbrev pub replay_of : Bool → Replay
+replay_of true = Same
+replay_of false = Other
+
+-- its run has the outcome, or it is too long to be played
+abbrev pub is_settled : Replay → Bool
+is_settled Same = true
+is_settled TooLong = true
+is_settled Other = false
+
+-- what a fault says of a script: that it is too long, or that it isn't played, if memory wasn't refused
+abbrev pub Refuses : Fault → Replay → Type 0
+Refuses f Same = ⊥
+Refuses f TooLong = f ≡ fault.TooLong
+Refuses f Other = (f ≢ fault.TooLong) × (f ≢ fault.OutOfMemory)
+
+-- what came of a text: its run has the outcome; or it is too long; or neither
+abbrev pub Came : List ℕ → Outcome → Replay → Type 0
+Came text o Same = Replays text o
+Came text o TooLong = IsTooLong text
+Came text o Other = (Replays text o → ⊥) × (IsTooLong text → ⊥)

@@ -23,36 +23,45 @@ use Rattle.explore_report.specs.declared.judging.Demand.{Demand}
 
 -- ---- cells
 
--- how a thread's end is said, after its replies
-abbrev pub end_words : End → List ℕ
-end_words end.Finished = []
-end_words end.Waiting = codes " waiting"
-end_words end.Dead = codes " dead"
-end_words (end.OnMutex m) = codes " asleep"
-end_words (end.OnCondition k) = codes " asleep"
+abbrev pub name_at : List (List ℕ) → ℕ → List ℕ
+name_at names i = get_or names i []
+
+abbrev pub condition_name : Scope → ℕ → List ℕ
+condition_name s k = name_at (map (λ c. c.0) s.conditions) k
+
+-- how a thread's end is said, after its replies. A mutex and a condition variable may have the same name
+abbrev pub end_text : Scope → End → List ℕ
+end_text s end.Finished = []
+end_text s end.Waiting = codes " waiting"
+end_text s end.Dead = codes " dead"
+end_text s (end.OnMutex m) = concat (codes " asleep on " ∷ name_at s.mutexes m ∷ [])
+end_text s (end.OnCondition k) = concat (codes " asleep on cond " ∷ condition_name s k ∷ [])
 
 abbrev pub reply_text : Reply → List ℕ
 reply_text x = concat (codes " " ∷ reply_word x ∷ [])
 
 -- a thread, what its calls returned, and how it ended
-abbrev pub thread_cell : List ℕ → Ended → List ℕ
-thread_cell name e = name ++ (flat_map reply_text e.replies.items ++ end_words e.end)
+abbrev pub thread_cell : Scope → List ℕ → Ended → List ℕ
+thread_cell s name e = name ++ (flat_map reply_text e.replies.items ++ end_text s e.end)
 
--- how a mutex is said that nobody owns
-abbrev pub left_words : Object → List ℕ
-left_words o = if o.unusable then codes " unusable" else (if o.inconsistent then codes " inconsistent" else codes " free")
+-- how a mutex is left that nobody owns
+abbrev pub left_words : Bool → Bool → List ℕ
+left_words false false = codes " free"
+left_words true false = codes " inconsistent"
+left_words false true = codes " unusable"
+left_words true true = codes " inconsistent, unusable"
 
-abbrev pub inconsistent_words : Bool → List ℕ
-inconsistent_words true = codes ", inconsistent"
-inconsistent_words false = []
-
-abbrev pub name_at : List (List ℕ) → ℕ → List ℕ
-name_at names i = get_or names i []
+-- and what is said of one after its owner
+abbrev pub flag_words : Bool → Bool → List ℕ
+flag_words false false = []
+flag_words true false = codes ", inconsistent"
+flag_words false true = codes ", unusable"
+flag_words true true = codes ", inconsistent, unusable"
 
 abbrev pub owner_text : Scope → Object → Option ℕ → List ℕ
-owner_text s o None = left_words o
+owner_text s o None = left_words o.inconsistent o.unusable
 owner_text s o (Some t) =
-    concat (codes " owned by " ∷ name_at s.threads (t - 1) ∷ []) ++ inconsistent_words o.inconsistent
+    concat (codes " owned by " ∷ name_at s.threads (t - 1) ∷ []) ++ flag_words o.inconsistent o.unusable
 
 -- a mutex, and how it is left
 abbrev pub mutex_cell : Scope → List ℕ → Object → List ℕ
@@ -66,7 +75,7 @@ text_at f (Some x) = f x
 abbrev pub cell_at : Scope → Outcome → ℕ → List ℕ
 cell_at s o i =
     if nat_lt i (length s.threads)
-    then text_at (thread_cell (name_at s.threads i)) (slice_get o.threads.items i)
+    then text_at (thread_cell s (name_at s.threads i)) (slice_get o.threads.items i)
     else text_at (mutex_cell s (name_at s.mutexes (i - length s.threads)))
     (slice_get o.mutexes.items (i - length s.threads))
 

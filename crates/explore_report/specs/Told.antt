@@ -2,7 +2,7 @@
 --
 -- *Told.* The script is read, each thread that may be killed and each pattern has its names from it, and its plan is
 -- explored: each outcome that was found is that of a run, and if the search was complete, then no run has another one.
--- Each outcome's script is played before anything is said. Then the text has all outcomes in their order, and whether
+-- Each outcome's script is played before anything is said, unless it is too long for that. Then the text has all outcomes in their order, and whether
 -- each demand is met. The exit status is 1 if one is broken; else 3 if the search wasn't complete; else 0.
 use Rattle.std.specs.Prelude.{ℕ, ◌≡◌, ◌≤◌, ◌-◌, ◌⊎◌, Bool, true, false, List, [], ◌∷◌, ◌++◌, map, length, slice_get}
 use Rattle.std.specs.Prelude.{Option, Some, None, option_map, is_some, Result, Ok, Err, Vec, if◌then◌else◌}
@@ -18,13 +18,13 @@ use Rattle.script.specs.declared.fault.Fault.TheVariants as fault
 use Rattle.explore_report.specs.declared.exploring.Question.{Question}
 use Rattle.explore_report.specs.declared.exploring.Told.{Told}
 use Rattle.explore_report.specs.declared.exploring.Untold.{Untold}
-use Rattle.explore_report.specs.declared.exploring.Untold.TheVariants.{OutOfMemory, Ill, NoThread, NoPattern, NoOutcome, Unplayed}
+use Rattle.explore_report.specs.declared.exploring.Untold.TheVariants.{OutOfMemory, Ill, NoThread, NoPattern, NoOutcome, TooLong, Unplayed}
 use Rattle.explore_report.specs.declared.judging.Demand.{Demand}
 use Rattle.explore_report.specs.declared.patterns.Pattern.{Pattern}
 use Rattle.explore_report.specs.Asked.{Choices, Kept, states_of}
 use Rattle.explore_report.specs.Patterns.{pattern_words, place_of}
 use Rattle.explore_report.specs.Plans.{IsPlanOf, Said, said_by, said_read}
-use Rattle.explore_report.specs.Replays.{Replays}
+use Rattle.explore_report.specs.Replays.{IsTooLong, Replays}
 use Rattle.explore_report.specs.Texts.{Demanded, are_met, demand_text, demanded, found_text, in_order}
 use Rattle.explore_report.specs.Witnesses.{script_text}
 
@@ -94,12 +94,20 @@ printed q f = in_order (length q.said.scope.threads) f.outcomes.items
 abbrev pub IsReplayed : Scope → Witnessed → Type 0
 IsReplayed s w = Replays (script_text s w.events.items) w.outcome
 
-abbrev pub AreReplayed : Scope → List Witnessed → Type 0
-AreReplayed s ws = (i : ℕ) (w : Witnessed) → slice_get ws i ≡ Some w → IsReplayed s w
+-- or it is too long to be played
+abbrev pub IsUnplayable : Scope → Witnessed → Type 0
+IsUnplayable s w = IsTooLong (script_text s w.events.items)
 
--- the script of the outcome with this number, from 1
-abbrev pub HasScript : Scope → List Witnessed → ℕ → List ℕ → Type 0
-HasScript s ws n text = (w : Witnessed) × (slice_get ws (n - 1) ≡ Some w) × (text ≡ script_text s w.events.items)
+-- each script that isn't too long was played, and has its outcome
+abbrev pub AreReplayed : Scope → List Witnessed → Type 0
+AreReplayed s ws = (i : ℕ) (w : Witnessed) → slice_get ws i ≡ Some w → IsReplayed s w ⊎ IsUnplayable s w
+
+-- the script of the outcome with this number, from 1, which was played
+pub record HasScript (s : Scope) (ws : List Witnessed) (n : ℕ) (text : List ℕ) : Type 0 where
+  pub witnessed : Witnessed
+  pub there : slice_get ws (n - 1) ≡ Some witnessed
+  pub is : text ≡ script_text s witnessed.events.items
+  pub played : IsReplayed s witnessed
 
 -- the script that is wanted, if one is
 abbrev pub IsWanted : Scope → List Witnessed → Option Kept → Option (List ℕ) → Type 0
@@ -154,6 +162,7 @@ Demands s c (Err (Ill e)) = ⊥
 Demands s c (Err (NoThread name)) = ⊥
 Demands s c (Err (NoPattern words)) = demands_of s c ≡ Err words.now
 Demands s c (Err (NoOutcome n)) = ⊥
+Demands s c (Err (TooLong n)) = ⊥
 Demands s c (Err (Unplayed n)) = ⊥
 
 -- these patterns are added to demands; or one of them is none, or memory was needed
@@ -164,6 +173,7 @@ AddsDemands s always words old new (Err (Ill e)) = ⊥
 AddsDemands s always words old new (Err (NoThread name)) = ⊥
 AddsDemands s always words old new (Err (NoPattern w)) = demands_read s always words ≡ Err w.now
 AddsDemands s always words old new (Err (NoOutcome n)) = ⊥
+AddsDemands s always words old new (Err (TooLong n)) = ⊥
 AddsDemands s always words old new (Err (Unplayed n)) = ⊥
 
 -- the bytes have this fault; or the options name what the script doesn't declare; or memory was needed
@@ -175,32 +185,48 @@ Unasked bytes c (NoThread name) =
 Unasked bytes c (NoPattern words) =
     (said : Said) × (said_read bytes ≡ Ok said) × (demands_of said.scope c ≡ Err words.now)
 Unasked bytes c (NoOutcome n) = ⊥
+Unasked bytes c (TooLong n) = ⊥
 Unasked bytes c (Unplayed n) = ⊥
 
--- the script of the outcome with this number doesn't have the outcome, as it is too long; or memory was needed
+-- the script of the outcome with this number was played, and doesn't have the outcome
+pub record HasAnother (s : Scope) (ws : List Witnessed) (n : ℕ) : Type 0 where
+  pub witnessed : Witnessed
+  pub there : slice_get ws (n - 1) ≡ Some witnessed
+  pub another : IsReplayed s witnessed → ⊥
+  pub short : IsUnplayable s witnessed → ⊥
+
+-- or it is too long to be played
+pub record HasLong (s : Scope) (ws : List Witnessed) (n : ℕ) : Type 0 where
+  pub witnessed : Witnessed
+  pub there : slice_get ws (n - 1) ≡ Some witnessed
+  pub long : IsUnplayable s witnessed
+
+-- the script of one of the outcomes has another outcome; or memory was needed
 abbrev pub IsUnplayed : Scope → List Witnessed → Untold → Type 0
 IsUnplayed s ws OutOfMemory = Unit {0}
 IsUnplayed s ws (Ill e) = ⊥
 IsUnplayed s ws (NoThread name) = ⊥
 IsUnplayed s ws (NoPattern words) = ⊥
 IsUnplayed s ws (NoOutcome n) = ⊥
-IsUnplayed s ws (Unplayed n) = (w : Witnessed) × (slice_get ws (n - 1) ≡ Some w) × (IsReplayed s w → ⊥)
+IsUnplayed s ws (TooLong n) = ⊥
+IsUnplayed s ws (Unplayed n) = HasAnother s ws n
 
--- no outcome has this number; or memory was needed
-abbrev pub IsUnkept : List Witnessed → ℕ → Untold → Type 0
-IsUnkept ws n OutOfMemory = Unit {0}
-IsUnkept ws n (Ill e) = ⊥
-IsUnkept ws n (NoThread name) = ⊥
-IsUnkept ws n (NoPattern words) = ⊥
-IsUnkept ws n (NoOutcome m) = (m ≡ n) × (slice_get ws (n - 1) ≡ None)
-IsUnkept ws n (Unplayed m) = ⊥
+-- no outcome has this number; or its script can't be played, or has another outcome; or memory was needed
+abbrev pub IsUnkept : Scope → List Witnessed → ℕ → Untold → Type 0
+IsUnkept s ws n OutOfMemory = Unit {0}
+IsUnkept s ws n (Ill e) = ⊥
+IsUnkept s ws n (NoThread name) = ⊥
+IsUnkept s ws n (NoPattern words) = ⊥
+IsUnkept s ws n (NoOutcome m) = (m ≡ n) × (slice_get ws (n - 1) ≡ None)
+IsUnkept s ws n (TooLong m) = (m ≡ n) × HasLong s ws n
+IsUnkept s ws n (Unplayed m) = (m ≡ n) × HasAnother s ws n
 
-abbrev pub IsUnwanted : List Witnessed → Option Kept → Untold → Type 0
-IsUnwanted ws None why = ⊥
-IsUnwanted ws (Some k) why = IsUnkept ws k.number why
+abbrev pub IsUnwanted : Scope → List Witnessed → Option Kept → Untold → Type 0
+IsUnwanted s ws None why = ⊥
+IsUnwanted s ws (Some k) why = IsUnkept s ws k.number why
 
 abbrev pub Unanswered : Question' → Choices → Found → Untold → Type 0
-Unanswered q c f why = IsUnplayed q.said.scope (printed q f) why ⊎ IsUnwanted (printed q f) c.script why ⊎ (why ≡ OutOfMemory)
+Unanswered q c f why = IsUnplayed q.said.scope (printed q f) why ⊎ IsUnwanted q.said.scope (printed q f) c.script why ⊎ (why ≡ OutOfMemory)
 
 -- nothing is asked; or what was found can't be said
 abbrev pub Untells : List ℕ → Choices → Untold → Type 0

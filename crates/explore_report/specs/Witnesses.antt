@@ -1,6 +1,6 @@
 -- The script of an outcome: a run that has it, for `rfx run`.
 use Rattle.std.specs.Prelude.{ℕ, ◌+◌, ◌-◌, ◌==◌, ◌&&◌, Bool, true, false, List, [], ◌∷◌, ◌++◌, codes, decimal, length}
-use Rattle.std.specs.Prelude.{map, nat_lt, get_or, slice_get, Option, Some, None, if◌then◌else◌}
+use Rattle.std.specs.Prelude.{nat_lt, get_or, slice_get, Option, Some, None, if◌then◌else◌}
 use Rattle.std.specs.List.{concat, flat_map, range_with_len}
 use Rattle.condvar.specs.declared.call.CondCall.{CondCall}
 use Rattle.condvar.specs.declared.call.CondCall.TheVariants as cond
@@ -14,7 +14,7 @@ use Rattle.script.specs.declared.command.Condition.{Condition}
 use Rattle.script.specs.Limits.{max_steps}
 use Rattle.script.specs.Scope.{Scope}
 use Rattle.explore_report.specs.declared.witness.Steps.{Steps}
-use Rattle.explore_report.specs.Texts.{name_at, text_at}
+use Rattle.explore_report.specs.Texts.{condition_name, name_at, text_at}
 
 -- ---- declarations
 
@@ -53,9 +53,6 @@ declarations s =
     ++ flat_map (condition_at s) (range_with_len 0 (length s.conditions))))
 
 -- ---- events
-
-abbrev pub condition_name : Scope → ℕ → List ℕ
-condition_name s k = name_at (map (λ c. c.0) s.conditions) k
 
 abbrev pub mutex_call : Scope → Call → List ℕ
 mutex_call s (call.Lock m) = concat (codes " lock " ∷ name_at s.mutexes m ∷ codes "\n" ∷ [])

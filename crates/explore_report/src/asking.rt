@@ -1,10 +1,13 @@
 //! What the words of a command line ask for.
 
-ghost use Rattle.std.specs.Prelude.{◌≡◌, map, option_map, is_some, not, true, Some, None, IfOk, if◌then◌else◌};
+ghost use Rattle.std.specs.Prelude.{◌≡◌, map, option_map, is_some, not, true, Some, None, IfOk, OnOk, if◌then◌else◌};
+ghost use Rattle.std.specs.List.{list_any};
+ghost use Rattle.std.specs.Str.{bytes_eq};
 ghost use Rattle.explore_report.specs.Asked.{added, asked_after, asked_by, asked_of, asked_with, bare, choice_of, choices_of, explored};
 ghost use Rattle.explore_report.specs.Asked.{first_option, is_over, kept_of, kills_of, lone, no_choices};
-ghost use Rattle.explore_report.specs.Asked.{number_in, options_read, script_option, states_of, with_value};
+ghost use Rattle.explore_report.specs.Asked.{number_in, options_read, script_option, states_of, with_named, with_value};
 
+use crate::names::is_among;
 use lines::{is_number_word, number_in as number_within};
 use std::alloc::{AllocError, Global};
 use streams::is_file;
@@ -29,7 +32,7 @@ pub struct Wanted<'a> {
 pub struct Options<'a> {
     /// `--kills N`: how many threads may be killed at most.
     pub kills: Option<u32>,
-    /// `--kill T`, each time that it is given: only these threads may be killed.
+    /// `--kill T`, each T once: only these threads may be killed.
     pub named: Vec<&'a str>,
     /// `--expire`: deadlines may pass.
     pub expire: bool,
@@ -207,6 +210,24 @@ impl<'a> Options<'a> {
         }
     }
 
+    /// Whether a thread is named.
+    fn is_named(&self, name: &str) -> bool
+        ensures { result ≡ list_any (λ w. bytes_eq w name.now) (choices_of self.entry.now).named }
+    {
+        is_among(&self.named, name)
+    }
+
+    /// Adds the name of a thread that may be killed, unless it is there.
+    fn add_named(&mut self, name: &'a str) -> Result<(), AllocError>
+        ensures { OnOk result (choices_of self.new ≡ with_named (choices_of self.old) name.now) }
+    {
+        if self.is_named(name) {
+            return Ok(());
+        }
+        self.named.push(name)?;
+        Ok(())
+    }
+
     /// Adds an option. False: it was given before, and may be given once.
     fn add(&mut self, flag: Flag<'a>) -> Result<bool, AllocError>
         ensures { IfOk result (λ fits. added (choices_of self.old) (choice_of flag.entry)
@@ -215,7 +236,7 @@ impl<'a> Options<'a> {
         match flag {
             Flag::Kills(number) => Ok(put(&mut self.kills, &number)),
             Flag::Kill(name) => {
-                self.named.push(name)?;
+                self.add_named(name)?;
                 Ok(true)
             }
             Flag::Expire => Ok(set(&mut self.expire)),

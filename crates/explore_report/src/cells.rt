@@ -2,11 +2,11 @@
 
 ghost use Rattle.std.specs.Prelude.{◌≡◌, ◌++◌, ◌<◌, ◌+◌, ◌-◌, length, map, slice_get, OnOk, IfOk};
 ghost use Rattle.std.specs.List.{flat_map};
-ghost use Rattle.explore_report.specs.Texts.{cell_at, end_words, inconsistent_words, left_words, mutex_cell};
+ghost use Rattle.explore_report.specs.Texts.{cell_at, end_text, flag_words, left_words, mutex_cell};
 ghost use Rattle.explore_report.specs.Texts.{name_at, owner_text, text_at};
 ghost use Rattle.explore_report.specs.Texts.{reply_text, thread_cell, widest};
 
-use crate::names::{thread_name, thread_name_at};
+use crate::names::{condition_name, mutex_name, thread_name, thread_name_at};
 use lockword::Reply;
 use outcomes::{End, Ended, Outcome, Witnessed};
 use posixmutex::Object;
@@ -15,15 +15,18 @@ use script::Script;
 use std::alloc::{AllocError, Global};
 
 /// How a thread's end is said, after its replies.
-fn end_words(end: End) -> &'static str
-    ensures { result.now ≡ end_words end }
+fn add_end(text: &mut Vec<u8>, script: &Script, end: End) -> Result<(), AllocError>
+    ensures { OnOk result (text.new.items ≡ text.old.items ++ end_text script.now end) }
 {
     match end {
-        End::Finished => "",
-        End::Waiting => " waiting",
-        End::Dead => " dead",
-        End::OnMutex(_) => " asleep",
-        End::OnCondition(_) => " asleep",
+        End::Finished => Ok(()),
+        End::Waiting => text.extend_from_slice(b" waiting"),
+        End::Dead => text.extend_from_slice(b" dead"),
+        End::OnMutex(mutex) => add(text, &[" asleep on ", mutex_name(script, mutex)]),
+        End::OnCondition(condition) => {
+            let name = condition_name(script, condition);
+            add(text, &[" asleep on cond ", name])
+        }
     }
 }
 
@@ -45,43 +48,63 @@ fn add_replies(text: &mut Vec<u8>, replies: &[Reply]) -> Result<(), AllocError>
 }
 
 /// `NAME REPLY..`, and how the thread ended, if it hasn't made all of its calls.
-fn add_thread(text: &mut Vec<u8>, name: &str, ended: &Ended) -> Result<(), AllocError>
-    ensures { OnOk result (text.new.items ≡ text.old.items ++ thread_cell name.now ended.now) }
+fn add_thread(
+    text: &mut Vec<u8>,
+    script: &Script,
+    name: &str,
+    ended: &Ended,
+) -> Result<(), AllocError>
+    ensures { OnOk result (text.new.items ≡ text.old.items ++ thread_cell script.now name.now ended.now) }
 {
     text.extend_from_slice(name.as_bytes())?;
     add_replies(text, &ended.replies)?;
-    text.extend_from_slice(end_words(ended.end).as_bytes())
+    add_end(text, script, ended.end)
 }
 
-/// How a mutex is said that nobody owns.
-fn left_words(object: &Object) -> &'static str
-    ensures { result.now ≡ left_words object.now }
+/// How a mutex is left that nobody owns.
+fn left_words(inconsistent: bool, unusable: bool) -> &'static str
+    ensures { result.now ≡ left_words inconsistent unusable }
 {
-    if object.unusable {
+    if inconsistent {
+        if unusable {
+            " inconsistent, unusable"
+        } else {
+            " inconsistent"
+        }
+    } else if unusable {
         " unusable"
-    } else if object.inconsistent {
-        " inconsistent"
     } else {
         " free"
     }
 }
 
 /// What is said of a mutex, after its owner.
-fn inconsistent_words(inconsistent: bool) -> &'static str
-    ensures { result.now ≡ inconsistent_words inconsistent }
+fn flag_words(inconsistent: bool, unusable: bool) -> &'static str
+    ensures { result.now ≡ flag_words inconsistent unusable }
 {
-    if inconsistent { ", inconsistent" } else { "" }
+    if inconsistent {
+        if unusable {
+            ", inconsistent, unusable"
+        } else {
+            ", inconsistent"
+        }
+    } else if unusable {
+        ", unusable"
+    } else {
+        ""
+    }
 }
 
 /// Whose a mutex is, or how it is left.
 fn add_owner(text: &mut Vec<u8>, script: &Script, object: &Object) -> Result<(), AllocError>
     ensures { OnOk result (text.new.items ≡ text.old.items ++ owner_text script.now object.now object.now.owner) }
 {
+    let (inconsistent, unusable) = (object.inconsistent, object.unusable);
     match object.owner {
-        None => text.extend_from_slice(left_words(object).as_bytes()),
+        None => text.extend_from_slice(left_words(inconsistent, unusable).as_bytes()),
         Some(owner) => {
             add(text, &[" owned by ", thread_name(script, owner)])?;
-            text.extend_from_slice(inconsistent_words(object.inconsistent).as_bytes())
+            text.extend_from_slice(flag_words(inconsistent, unusable).as_bytes())
         }
     }
 }
@@ -107,11 +130,11 @@ fn add_thread_at(
     index: u8,
 ) -> Result<(), AllocError>
     requires { index < length script.now.threads }
-    ensures { OnOk result (text.new.items ≡ text.old.items ++ text_at (thread_cell (name_at script.now.threads index))
+    ensures { OnOk result (text.new.items ≡ text.old.items ++ text_at (thread_cell script.now (name_at script.now.threads index))
         (slice_get outcome.now.threads.items index)) }
 {
     match outcome.threads.get(usize::from(index)) {
-        Some(ended) => add_thread(text, thread_name_at(script, index), ended),
+        Some(ended) => add_thread(text, script, thread_name_at(script, index), ended),
         None => Ok(()),
     }
 }

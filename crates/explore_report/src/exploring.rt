@@ -1,11 +1,13 @@
 //! From a script's bytes to what is printed of it.
 
-ghost use Rattle.std.specs.Prelude.{◌≡◌, true, map, option_map, IfOk, IfErr, OnOk};
+ghost use Rattle.std.specs.Prelude.{◌≡◌, ◌⊎◌, true, map, option_map, IfOk, IfErr, OnOk};
 ghost use Rattle.explore_report.specs.Asked.{choices_of, kept_of};
-ghost use Rattle.explore_report.specs.Told.{AddsDemands, Answers, AreReplayed, Asks, Demands, HasScript, IsReplayed};
+ghost use Rattle.explore_report.specs.Told.{AddsDemands, Answers, AreReplayed, Asks, Demands, HasScript, IsReplayed, IsUnplayable};
 ghost use Rattle.explore_report.specs.Told.{IsUnkept, IsUnplayed, IsUnwanted, IsWanted, Tells, Unanswered, Unasked, Untells};
 ghost use Rattle.explore_report.specs.Told.{first_unknown, question_in, status_of, told_text};
 ghost use Rattle.explore_report.specs.Texts.{demanded};
+ghost use Rattle.explore_report.specs.Replays.{Came};
+ghost use Rattle.explore_report.specs.Witnesses.{script_text};
 
 use crate::asking::{Options, Wanted};
 use crate::judging::{Demand, add_demands, are_met};
@@ -13,7 +15,7 @@ use crate::names::thread_named;
 use crate::ordering::in_order;
 use crate::patterns::read_pattern;
 use crate::planning::{Explored, plan_of, read_script};
-use crate::replaying::replays;
+use crate::replaying::{Replay, is_settled, replays};
 use crate::telling::add_found;
 use crate::witness::script_of;
 use memorymap::NoMem;
@@ -35,6 +37,8 @@ pub enum Untold<'a> {
     /// No outcome has this number.
     NoOutcome(u32),
     /// The script of the outcome with this number is too long to be played.
+    TooLong(u32),
+    /// The script of the outcome with this number was played, and has another outcome.
     Unplayed(usize),
 }
 
@@ -144,16 +148,24 @@ fn question_of<'a>(
     }
 }
 
-/// Writes the script of an outcome, and plays it: whether it has the outcome.
-fn is_played(alloc: Global, script: &Script, witnessed: &Witnessed) -> Result<bool, NoMem>
-    ensures so { IfOk result (λ played. played ≡ true → IsReplayed script.now witnessed.now) }
-    ensures only { IfOk result (λ played. IsReplayed script.now witnessed.now → played ≡ true) }
+/// What came of playing the script of an outcome.
+fn came_of(alloc: Global, script: &Script, witnessed: &Witnessed) -> Result<Replay, NoMem>
+    ensures { IfOk result (Came (script_text script.now witnessed.now.events.items) witnessed.now.outcome) }
 {
     let text = script_of(alloc, script, &witnessed.events)?;
     replays(alloc, &text, &witnessed.outcome)
 }
 
-/// Plays the script of each outcome.
+/// Plays the script of an outcome: whether it has the outcome, or is too long to be played.
+fn is_replayed(alloc: Global, script: &Script, witnessed: &Witnessed) -> Result<bool, NoMem>
+    ensures so { IfOk result (λ so. so ≡ true → IsReplayed script.now witnessed.now ⊎ IsUnplayable script.now witnessed.now) }
+    ensures only { IfOk result (λ so. IsReplayed script.now witnessed.now ⊎ IsUnplayable script.now witnessed.now → so ≡ true) }
+{
+    let replay = came_of(alloc, script, witnessed)?;
+    Ok(is_settled(replay))
+}
+
+/// Plays the script of each outcome, unless it is too long for that.
 fn play_scripts<'a>(
     alloc: Global,
     script: &Script,
@@ -165,7 +177,7 @@ fn play_scripts<'a>(
     let mut number = 0;
     for witnessed in outcomes {
         number += 1;
-        match is_played(alloc, script, witnessed) {
+        match is_replayed(alloc, script, witnessed) {
             Ok(true) => {}
             Ok(false) => return Err(Untold::Unplayed(number)),
             Err(_refused) => return Err(Untold::OutOfMemory),
@@ -182,13 +194,18 @@ fn script_at<'a>(
     number: u32,
 ) -> Result<Vec<u8>, Untold<'a>>
     ensures script { IfOk result (λ v. HasScript script.now (map (λ w. w.now) outcomes.now) number v.items) }
-    ensures fails { IfErr result (IsUnkept (map (λ w. w.now) outcomes.now) number) }
+    ensures fails { IfErr result (IsUnkept script.now (map (λ w. w.now) outcomes.now) number) }
 {
     let Some(witnessed) = outcomes.get((number as usize).saturating_sub(1)) else {
         return Err(Untold::NoOutcome(number));
     };
-    match script_of(alloc, script, &witnessed.events) {
-        Ok(text) => Ok(text),
+    let Ok(text) = script_of(alloc, script, &witnessed.events) else {
+        return Err(Untold::OutOfMemory);
+    };
+    match replays(alloc, &text, &witnessed.outcome) {
+        Ok(Replay::Same) => Ok(text),
+        Ok(Replay::TooLong) => Err(Untold::TooLong(number)),
+        Ok(Replay::Other) => Err(Untold::Unplayed(number as usize)),
         Err(_refused) => Err(Untold::OutOfMemory),
     }
 }
@@ -202,7 +219,7 @@ fn script_wanted<'a>(
 ) -> Result<Option<Vec<u8>>, Untold<'a>>
     ensures script { IfOk result (λ kept. IsWanted script.now (map (λ w. w.now) outcomes.now)
         (option_map kept_of wanted.entry) (option_map (λ v. v.items) kept)) }
-    ensures fails { IfErr result (IsUnwanted (map (λ w. w.now) outcomes.now) (option_map kept_of wanted.entry)) }
+    ensures fails { IfErr result (IsUnwanted script.now (map (λ w. w.now) outcomes.now) (option_map kept_of wanted.entry)) }
 {
     match wanted {
         Some(wanted) => match script_at(alloc, script, outcomes, wanted.number) {

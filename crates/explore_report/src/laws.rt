@@ -37,7 +37,8 @@ pub fn scripts_play_their_outcome<M: Maker>(maker: &M)
 
 /// The exit status is 0 only if no outcome is missing, and each has what is asked of it; 1 only if a run has an outcome
 /// that hasn't, or a failure was reported; 2 only if the command line asks for no exploring; 3 only if the limit of states
-/// was reached. There is no other. Except after a failure, the whole text was written, of the whole file.
+/// was reached, and each outcome that was found has what is asked. There is no other. Except after a failure, the whole
+/// text was written, of the whole file.
 pub fn statuses_are_right<F: Opener, M: Maker, W: Output, E: Write>(
     files: &F,
     maker: &M,

@@ -6,15 +6,15 @@
 //! ([`printed_outcomes_are_possible`]), and where `complete` is printed, no run has another one
 //! ([`no_outcome_is_missing`]). The exit status says whether that is so, and whether the outcomes have what the command
 //! line asks of them ([`statuses_are_right`], [`never_is_true`], [`always_is_true`]). The script of an outcome is for
-//! `rfx run`. Each is played before anything is printed, and the one that is asked for is written to a file
-//! ([`scripts_play_their_outcome`]).
+//! `rfx run`. Each is played before anything is printed, unless it is too long, and the one that is asked for is written
+//! to a file ([`scripts_play_their_outcome`]).
 //!
 //! A script that is explored is read as one for `rfx run` (`Spelled`): what depends on a reply is kept beside it
 //! (`Plans`). The machine explores as many states as the command line says, 5,000,000 at most.
 //!
-//! Depends on `outcomes`, for exploring, on `script` and `interleave`, for reading scripts and playing them, on `lines`,
-//! `streams`, `reasons` and `itoa`, for words, files, texts and numbers, and on `condvar`, `mutex`, `posixmutex`,
-//! `lockword`, `memorymap` and `protocol`, for calls, mutexes, replies and events.
+//! Depends on `outcomes`, for exploring, and on `script` and `interleave`, for reading scripts and playing them. Words,
+//! files, texts and numbers are of `lines`, `streams`, `reasons` and `itoa`. Calls, mutexes, replies and events are of
+//! `condvar`, `mutex`, `posixmutex`, `lockword`, `memorymap` and `protocol`.
 //!
 //! ```text
 //! // The words of `rfx-explore --kills 1 handover.rfx`, the program's name first.

@@ -86,9 +86,13 @@ fn write_untold<E: Write>(err: &mut E, why: Untold<'_>) -> io::Result<()>
             let start = "rfx-explore: no outcome has the number ";
             write_number(err, start, number.into(), "\n")
         }
+        Untold::TooLong(number) => {
+            let start = "rfx-explore: the script of outcome ";
+            write_number(err, start, number.into(), " is too long\n")
+        }
         Untold::Unplayed(number) => {
             let start = "rfx-explore: the script of outcome ";
-            write_number(err, start, number as u64, " is too long\n")
+            write_number(err, start, number as u64, " has another outcome\n")
         }
     }
 }

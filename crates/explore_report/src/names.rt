@@ -1,8 +1,10 @@
 //! The names of threads, mutexes and condition variables.
 
 ghost use Rattle.std.specs.Prelude.{◌≡◌, ◌+◌, ◌-◌, ◌<◌, Some, length, map, option_map, slice_get};
+ghost use Rattle.std.specs.List.{list_any};
+ghost use Rattle.std.specs.Str.{bytes_eq};
 ghost use Rattle.explore_report.specs.Patterns.{place_of};
-ghost use Rattle.explore_report.specs.Texts.{name_at};
+ghost use Rattle.explore_report.specs.Texts.{condition_name, name_at};
 
 use lockword::Tid;
 use script::Script;
@@ -12,7 +14,7 @@ pub fn thread_name_at(script: &Script, before: u8) -> &str
     requires { before < length script.now.threads }
     ensures { slice_get script.now.threads before ≡ Some result.now }
 {
-    // That there are few threads is known once they are counted.
+    // Counting the threads shows that there are few.
     let _count = script.threads();
     script.thread_name(Tid::new(before + 1).unwrap())
 }
@@ -41,7 +43,7 @@ pub fn mutex_name(script: &Script, mutex: u16) -> &str
 
 /// The name of a condition variable; none if there is no such condition variable.
 pub fn condition_name(script: &Script, condition: u16) -> &str
-    ensures { result.now ≡ name_at (map (λ c. c.0) script.now.conditions) condition }
+    ensures { result.now ≡ condition_name script.now condition }
 {
     if condition < script.conditions() {
         script.condition_name(condition)
@@ -73,4 +75,11 @@ pub fn mutex_named(script: &Script, name: &str) -> Option<u16>
         }
     }
     None
+}
+
+/// Whether a name is one of these.
+pub fn is_among(names: &[&str], name: &str) -> bool
+    ensures { result ≡ list_any (λ w. bytes_eq w.now name.now) names.now }
+{
+    names.iter().any(|it| *it == name)
 }

@@ -4,8 +4,8 @@ ghost use Rattle.std.specs.Prelude.{◌≡◌};
 ghost use Rattle.std.specs.List.{list_any};
 ghost use Rattle.lines.specs.Lines.{words_of};
 ghost use Rattle.lockword.specs.Replies.{reply_of};
-ghost use Rattle.explore_report.specs.Patterns.{is_asleep, is_dead, is_left, is_met, of_thread, of_two, pattern_words};
-ghost use Rattle.explore_report.specs.Patterns.{same_reply, state_of};
+ghost use Rattle.explore_report.specs.Patterns.{is_asleep, is_dead, is_left, is_met, is_waiting, of_thread};
+ghost use Rattle.explore_report.specs.Patterns.{of_two, pattern_words, same_reply, state_of};
 
 use crate::names::{mutex_named, thread_named};
 use lines::{Words, words_in};
@@ -35,6 +35,8 @@ pub enum Pattern {
     Dead(Tid),
     /// `THREAD asleep`: the thread sleeps forever.
     Asleep(Tid),
+    /// `THREAD waiting`: the phase of the thread's next call never comes.
+    Waiting(Tid),
     /// `asleep`: some thread sleeps forever.
     SomeAsleep,
     /// `MUTEX free` and so on.
@@ -73,6 +75,8 @@ fn of_thread(thread: Tid, word: &str) -> Option<Pattern>
         Some(Pattern::Dead(thread))
     } else if word == "asleep" {
         Some(Pattern::Asleep(thread))
+    } else if word == "waiting" {
+        Some(Pattern::Waiting(thread))
     } else {
         Some(Pattern::Got(thread, reply(word)?))
     }
@@ -119,6 +123,13 @@ pub fn is_dead(end: End) -> bool
     matches!(end, End::Dead)
 }
 
+/// Whether the next call of a thread that ended so is in a phase that never comes.
+fn is_waiting(end: End) -> bool
+    ensures { result ≡ is_waiting end }
+{
+    matches!(end, End::Waiting)
+}
+
 /// Whether a mutex is left so.
 fn is_left(object: &Object, state: State) -> bool
     ensures { result ≡ is_left object.now state }
@@ -163,6 +174,10 @@ pub fn is_met(outcome: &Outcome, pattern: Pattern) -> bool
         },
         Pattern::Asleep(thread) => match outcome.threads.get(thread.as_index()) {
             Some(ended) => is_asleep(ended.end),
+            None => false,
+        },
+        Pattern::Waiting(thread) => match outcome.threads.get(thread.as_index()) {
+            Some(ended) => is_waiting(ended.end),
             None => false,
         },
         Pattern::SomeAsleep => some_asleep(outcome),

@@ -1,14 +1,13 @@
 //! From a script to a plan: what each thread calls, in order.
 
 ghost use Rattle.std.specs.Prelude.{◌≡◌, ◌+◌, ◌≤◌, ◌<◌, ◌-◌, map, length, option_to_list, slice_get, IfOk};
-ghost use Rattle.std.specs.List.{flat_map, list_any, range_with_len};
-ghost use Rattle.std.specs.Str.{bytes_eq};
+ghost use Rattle.std.specs.List.{flat_map, range_with_len};
 ghost use Rattle.explore_report.specs.Asked.{choices_of};
 ghost use Rattle.explore_report.specs.Plans.{depends_on, item_at, items_in, items_of, may_die, phase_at, said_by, ends_phase};
 ghost use Rattle.explore_report.specs.Plans.{said_read, text_said, Gives, IsPlanOf};
 
 use crate::asking::Options;
-use crate::names::thread_name_at;
+use crate::names::{is_among, thread_name_at};
 use crate::spelling::{Kind, spell};
 use lines::text_of;
 use lockword::{Reply, Tid};
@@ -16,7 +15,7 @@ use outcomes::{Act, Asked, Item, Plan};
 use script::{Action, Command, Fault, MAX_BYTES, Mode, Script, ScriptFault, parse};
 use std::alloc::{AllocError, Global};
 
-/// A script that is explored: its names and commands, and what each of its lines says besides.
+/// A script that is explored: its names and commands, and what else each of its lines says.
 #[derive(Drop)]
 pub struct Explored {
     pub script: Script,
@@ -154,13 +153,6 @@ fn presets_of(alloc: Global, script: &Script) -> Result<Vec<u32>, AllocError>
         presets.push(script.condition(condition).counter)?;
     }
     Ok(presets)
-}
-
-/// Whether a name is one of these.
-fn is_among(named: &[&str], name: &str) -> bool
-    ensures { result ≡ list_any (λ w. bytes_eq w.now name.now) named.now }
-{
-    named.iter().any(|it| *it == name)
 }
 
 /// Whether a thread of this name may be killed: it is named, or none is.

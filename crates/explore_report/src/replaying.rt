@@ -1,11 +1,10 @@
 //! Playing the script of an outcome: whether its run ends so.
 
-ghost use Rattle.std.specs.Prelude.{◌≡◌, ◌≢◌, ◌<◌, true, false, length, option_to_list, IfOk};
+ghost use Rattle.std.specs.Prelude.{◌≡◌, ◌<◌, true, length, option_to_list, IfOk};
 ghost use Rattle.interleave.specs.Shown.{state_of};
 ghost use Rattle.protocol.specs.Headline.{seen};
-ghost use Rattle.script.specs.declared.fault.Fault.TheVariants.{OutOfMemory};
-ghost use Rattle.explore_report.specs.Replays.{replies_of, returned_to, told_in, AreLeft, HasAsMany, HasEnded};
-ghost use Rattle.explore_report.specs.Replays.{HaveEnded, Plays, Replays, Shows};
+ghost use Rattle.explore_report.specs.Replays.{replies_of, returned_to, told_in, AreLeft, Came, HasAsMany, HasEnded};
+ghost use Rattle.explore_report.specs.Replays.{HaveEnded, PlayCame, Refuses, Shows, is_settled, replay_of};
 
 use crate::patterns::{is_asleep, is_dead};
 use interleave::Machine;
@@ -14,8 +13,19 @@ use memorymap::NoMem;
 use outcomes::{Ended, Outcome};
 use posixmutex::Object;
 use protocol::Note;
-use script::{Fault, Mode, Script, ScriptFault, first_machine, parse, play};
+use script::{Fault, Mode, Script, first_machine, parse, play};
 use std::alloc::{AllocError, Global};
+
+/// What came of playing the script of an outcome.
+#[derive(Clone, Copy)]
+pub enum Replay {
+    /// The script's run has the outcome.
+    Same,
+    /// The script passes a limit of scripts, so it isn't played.
+    TooLong,
+    /// The script's run has another outcome, or there is a fault.
+    Other,
+}
 
 /// The reply that a caller was given, if it is this thread.
 fn reply_to(thread: Tid, caller: Tid, reply: Option<Reply>) -> Option<Reply>
@@ -168,36 +178,57 @@ fn shows(
     Ok(have_ended(alloc, machine, notes, &outcome.threads)? && are_left(machine, &outcome.mutexes))
 }
 
-/// What a fault says that a script has: that it isn't played, unless memory was refused.
-fn refused_by(at: ScriptFault) -> Result<bool, NoMem>
-    ensures { IfOk result (λ same. (same ≡ false) × (at.fault ≢ OutOfMemory)) }
+/// What a fault says of a script: that it is too long, or that it isn't played, unless memory was refused.
+fn refused_by(fault: Fault) -> Result<Replay, NoMem>
+    ensures { IfOk result (Refuses fault) }
 {
-    match at.fault {
+    match fault {
         Fault::OutOfMemory => Err(NoMem),
-        Fault::NotUtf8 | Fault::UnknownWord | Fault::OutOfRange => Ok(false),
-        Fault::NoSuchName | Fault::TooLong => Ok(false),
+        Fault::TooLong => Ok(Replay::TooLong),
+        Fault::NotUtf8 | Fault::UnknownWord | Fault::OutOfRange | Fault::NoSuchName => {
+            Ok(Replay::Other)
+        }
     }
 }
 
-/// Whether playing a script gives the outcome.
-fn plays(alloc: Global, script: &Script, outcome: &Outcome) -> Result<bool, NoMem>
-    ensures so { IfOk result (λ same. same ≡ true → Plays script.now outcome.now) }
-    ensures only { IfOk result (λ same. Plays script.now outcome.now → same ≡ true) }
+/// Whether the script's run has the outcome, or the script is too long to be played.
+pub fn is_settled(replay: Replay) -> bool
+    ensures { result ≡ is_settled replay }
+{
+    match replay {
+        Replay::Same => true,
+        Replay::TooLong => true,
+        Replay::Other => false,
+    }
+}
+
+/// What came of playing a script whose run shows an outcome, or doesn't.
+fn replay_of(same: bool) -> Replay
+    ensures { result ≡ replay_of same }
+{
+    if same { Replay::Same } else { Replay::Other }
+}
+
+/// Plays a script, whose run may have the outcome.
+fn plays(alloc: Global, script: &Script, outcome: &Outcome) -> Result<Replay, NoMem>
+    ensures { IfOk result (PlayCame script.now outcome.now) }
 {
     let machine = first_machine(alloc, script)?;
     match play(alloc, script, machine) {
-        Ok((trace, machine)) => Ok(shows(alloc, &machine, &trace.notes, outcome)?),
-        Err(at) => refused_by(at),
+        Ok((trace, machine)) => {
+            let same = shows(alloc, &machine, &trace.notes, outcome)?;
+            Ok(replay_of(same))
+        }
+        Err(at) => refused_by(at.fault),
     }
 }
 
-/// Whether a text is a script for `rfx run`, and playing it gives the outcome.
-pub fn replays(alloc: Global, text: &[u8], outcome: &Outcome) -> Result<bool, NoMem>
-    ensures so { IfOk result (λ same. same ≡ true → Replays text.now outcome.now) }
-    ensures only { IfOk result (λ same. Replays text.now outcome.now → same ≡ true) }
+/// Plays a text as a script for `rfx run`, whose run may have the outcome.
+pub fn replays(alloc: Global, text: &[u8], outcome: &Outcome) -> Result<Replay, NoMem>
+    ensures { IfOk result (Came text.now outcome.now) }
 {
     match parse(alloc, text, Mode::Run) {
         Ok(script) => plays(alloc, &script, outcome),
-        Err(at) => refused_by(at),
+        Err(at) => refused_by(at.fault),
     }
 }

@@ -23,7 +23,7 @@ fn add_process(text: &mut Vec<u8>, script: &Script, before: u8) -> Result<(), Al
     requires { before < length script.now.processes }
     ensures { OnOk result (text.new.items ≡ text.old.items ++ process_at script.now before) }
 {
-    // That there are few processes is known once they are counted.
+    // Counting the processes shows that there are few.
     let _count = script.processes();
     let process = before + 1;
     let mut numbers = Buffer::new();

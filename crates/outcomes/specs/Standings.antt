@@ -1,4 +1,4 @@
--- How a thread stands at a position: what it is doing, and how far it has come.
+-- The standing of a thread at a position: what it is doing, and how far it has come.
 use Rattle.protocol.specs.declared.thread.Thread.{Thread}
 use Rattle.outcomes.specs.Positions.{Place}
 

@@ -24,6 +24,9 @@ const REPORTED: usize = 4096;
 pub trait Progress {
     /// This many positions were reached.
     fn reached(&mut self, states: usize);
+
+    /// The search has ended, or memory was refused.
+    fn ended(&mut self) {}
 }
 
 /// An outcome, and a run to it.
@@ -103,14 +106,8 @@ fn report<P: Progress>(progress: &mut P, done: usize, states: usize) {
     }
 }
 
-/// Every outcome of the plan's runs that are over, each with the events of a run to it, in the order of their discovery. At
-/// most `limit` positions are stored; `progress` is asked after each 4,096 that were looked at. The search is breadth first,
-/// so no other run to an outcome has fewer events, but no clause says so.
-///
-/// If `complete`, then every list of events of the plan that leads from its first position to one that is over has its
-/// outcome in the list. If not, then `limit` positions were reached, there was no room for another one, and outcomes may be
-/// missing. Refused as `NoMem` if memory is refused.
-pub fn explore<P: Progress>(
+/// Searches through a plan.
+fn search_through<P: Progress>(
     alloc: Global,
     plan: &Plan,
     limit: usize,
@@ -139,4 +136,29 @@ pub fn explore<P: Progress>(
         states: search.reached.len(),
         outcomes,
     })
+}
+
+/// Every outcome of the plan's runs that are over, each with the events of a run to it, in the order of their discovery. At
+/// most `limit` positions are stored. `progress` learns how many there are after each 4,096 that were looked at, and that
+/// the search has ended. The search is breadth first, so no other run to an outcome has fewer events, but no clause says
+/// so.
+///
+/// If `complete`, then every list of events of the plan that leads from its first position to one that is over has its
+/// outcome in the list. If not, then `limit` positions were reached, there was no room for another one, and outcomes may be
+/// missing. Refused as `NoMem` if memory is refused.
+pub fn explore<P: Progress>(
+    alloc: Global,
+    plan: &Plan,
+    limit: usize,
+    progress: &mut P,
+) -> Result<Found, NoMem>
+    ensures sound { IfOk result (λ f. AreWitnessed plan.now f.outcomes.items) }
+    ensures complete { IfOk result (λ f. f.complete ≡ true → HasAll plan.now f.outcomes.items) }
+    ensures once { IfOk result (λ f. AreDifferent f.outcomes.items) }
+    ensures few { IfOk result (λ f. f.states ≤ limit) }
+    ensures stopped { IfOk result (λ f. f.complete ≡ false → f.states ≡ limit) }
+{
+    let found = search_through(alloc, plan, limit, progress);
+    progress.ended();
+    found
 }

@@ -1,4 +1,4 @@
-//! How a thread stands at a position.
+//! The standing of a thread at a position.
 
 use crate::kept::Life;
 use protocol::Thread;

@@ -16,6 +16,8 @@ mod explored;
 #[cfg(test)]
 mod judged;
 #[cfg(test)]
+mod plans;
+#[cfg(test)]
 mod program;
 #[cfg(test)]
 mod served;

@@ -10,3 +10,7 @@ returns-in-NoOutcome g c =
 
 pub returns-in-Unplayed : goal.returns-in-Unplayed
 returns-in-Unplayed g c = rw c.in-Unplayed.is c.write_number-in-Unplayed.ensures
+
+pub returns-in-TooLong : goal.returns-in-TooLong
+returns-in-TooLong g c =
+    rw c.in-TooLong.is (subst (λ (n : ℕ). Leaves (g.E.Write.contents c.args.err.now) (g.E.Write.contents c.write_number-in-TooLong.new.err) c.write_number-in-TooLong.result (numbered (codes "rfx-explore: the script of outcome ") n (codes " is too long\n"))) c.into-in-TooLong.ensures c.write_number-in-TooLong.ensures)

@@ -1,5 +1,5 @@
 use Rattle.std.proofs.Common.{sym, ◌∙◌}
-use Rattle.explore_report.proofs.Sameness.{object_Decides}
+use Rattle.outcomes.proofs.Equalities.{object_Decides}
 use Rattle.explore_report.proofs.replaying.is_left.Goals as goal
 
 pub returns-clause-so : goal.returns-clause-so

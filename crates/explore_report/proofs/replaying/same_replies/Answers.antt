@@ -1,5 +1,5 @@
 use Rattle.std.proofs.lemmas.Slice.Eq.{slice_eq-Decides}
-use Rattle.explore_report.proofs.Sameness.{reply_Decides}
+use Rattle.outcomes.proofs.Equalities.{reply_Decides}
 use Rattle.explore_report.proofs.replaying.same_replies.Goals as goal
 
 pub returns-clause-so : goal.returns-clause-so

@@ -3,7 +3,7 @@ use Rattle.outcomes.specs.Positions.{first}
 use Rattle.outcomes.specs.Outcomes.{AreWitnessed, AreDifferent}
 use Rattle.outcomes.specs.Searches.{AreReached, IsAt}
 use Rattle.outcomes.proofs.Closing.{IsClosed, IsRead}
-use Rattle.outcomes.proofs.exploring.explore.Given as goal
+use Rattle.outcomes.proofs.exploring.search_through.Given as goal
 
 abbrev pub invariant-loop-complete : goal.invariant-loop-complete
 invariant-loop-complete g l = record {

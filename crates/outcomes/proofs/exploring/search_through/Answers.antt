@@ -6,8 +6,8 @@ use Rattle.outcomes.specs.Kept.{position_in}
 use Rattle.outcomes.proofs.Storing.{again_kept, again_there}
 use Rattle.outcomes.proofs.Reaching.{at_grown, long_grown, some_at}
 use Rattle.outcomes.proofs.Closing.{over_there, closed_more, read_more, has_all}
-use Rattle.outcomes.proofs.exploring.explore.Goals as goal
-use Rattle.outcomes.proofs.exploring.explore.Goals.{then-loop-complete-test+else-done-len, else-loop-complete-test}
+use Rattle.outcomes.proofs.exploring.search_through.Goals as goal
+use Rattle.outcomes.proofs.exploring.search_through.Goals.{then-loop-complete-test+else-done-len, else-loop-complete-test}
 
 pub loop-complete-init : goal.loop-complete-init
 loop-complete-init g c =
