@@ -2,12 +2,11 @@
 use Rattle.std.proofs.Common.{◌≡◌, ◌≤◌, ℕ, Bool, true, false, IfErr, List, length, Option, Result, Ok, Err, refl, sym, ap, subst, ◌∙◌, arith, inl, inr}
 use Rattle.std.specs.Prelude.{codes, nat_eq, nat_lt, if◌then◌else◌}
 use Rattle.std.specs.List.{starts_with}
-use Rattle.std.specs.Io.KnownBytes.{Consumes, IsAtEnd, Keeps}
+use Rattle.std.specs.Io.KnownBytes.{Appends, Consumes, IsAtEnd, Keeps}
 use Rattle.std.proofs.lemmas.Bool.Decides.{nat_tests}
 use Rattle.streams.specs.Leaves.{AppendsFront, Leaves}
 use Rattle.streams.proofs.Writers.{Appends-kept, whole_is_front}
 use Rattle.verdict.specs.declared.fault.Fault.TheVariants.{TooLong}
-use Rattle.verdict.specs.declared.told.Told.{Told}
 use Rattle.verdict.specs.Limits.{max_bytes}
 use Rattle.verdict.specs.Reading.{Trace, fault_at, trace_read}
 use Rattle.verdict.specs.Told.{trace_of}
@@ -15,15 +14,13 @@ use Rattle.picture.specs.declared.drawing.Unwritten.{Unwritten}
 use Rattle.picture.specs.declared.drawing.Unwritten.TheVariants as unwritten
 use Rattle.draw_report.specs.declared.asking.Kind.{Kind}
 use Rattle.draw_report.specs.declared.asking.Kind.TheVariants.{Text, Svg, Html}
-use Rattle.verdict.specs.declared.checking.Finding.{Finding}
-use Rattle.page.specs.Pages.{LeavesPage, page_text}
-use Rattle.picture.specs.Names.{Called}
+use Rattle.page.specs.Pages.{LeavesPage}
 use Rattle.draw_report.specs.declared.messages.Failure.{Failure}
 use Rattle.draw_report.specs.declared.messages.Failure.TheVariants.{Script}
-use Rattle.draw_report.specs.Names.{called_by}
 use Rattle.draw_report.specs.Scripts.{FailsScript, GivesScript}
 use Rattle.draw_report.specs.Files.{Comes, DrawsAs, DrawsFile, FailsFile, Serves, is_history}
-use Rattle.draw_report.specs.Served.{FailsDrawing, IsDrawn, IsJudged, IsOf, IsUndrawn, LeavesPicture, picture, undrawn_by}
+use Rattle.draw_report.specs.Histories.{FailsHistory, IsHistoryPicture}
+use Rattle.draw_report.specs.Served.{FailsDrawing, IsPictureOf, IsUndrawn, LeavesPicture, undrawn_by}
 use Rattle.script.specs.declared.command.Mode.TheVariants.{Run}
 use Rattle.script.specs.declared.fault.Fault.TheVariants as script
 use Rattle.script.specs.declared.fault.ScriptFault.{ScriptFault}
@@ -43,37 +40,42 @@ err_weaker (Ok x) weaker h = h
 err_weaker (Err e) weaker h = weaker e h
 
 -- a picture that wasn't written, or not all of it
-pub draws_not : (kind : Kind) (script : Option Scope) (old new : Option (List ℕ)) (bytes : List ℕ) (t : Told) (u : Unwritten) → IsOf script bytes t → IsUndrawn kind (called_by script) bytes t old new u → FailsDrawing kind script bytes old new (undrawn_by u)
-draws_not kind script old new bytes t unwritten.OutOfMemory of front = (t, of, front)
-draws_not kind script old new bytes t unwritten.Failed of front = (t, of, front)
+pub draws_not : (kind : Kind) (script : Option Scope) (old new : Option (List ℕ)) (bytes p : List ℕ) (u : Unwritten) → IsPictureOf kind script bytes p → IsUndrawn kind p old new u → FailsDrawing kind script bytes old new (undrawn_by u)
+draws_not kind script old new bytes p unwritten.OutOfMemory of front = inr (p, of, front)
+draws_not kind script old new bytes p unwritten.Failed of front = (p, of, front)
+
+-- that of a history
+pub history_not : (kind : Kind) (script : Option Scope) (old new : Option (List ℕ)) (bytes p : List ℕ) (u : Unwritten) → IsHistoryPicture kind script bytes p → IsUndrawn kind p old new u → FailsHistory kind script bytes old new (undrawn_by u)
+history_not kind script old new bytes p unwritten.OutOfMemory of front = inr (p, of, front)
+history_not kind script old new bytes p unwritten.Failed of front = (p, of, front)
 
 -- memory was refused before it began
-pub nothing_drawn : (kind : Kind) (n : Called) (bytes : List ℕ) (t : Told) (old new : Option (List ℕ)) → new ≡ old → IsUndrawn kind n bytes t old new unwritten.OutOfMemory
-nothing_drawn Text n bytes t old new same = inl same
-nothing_drawn Svg n bytes t old new same = inl same
-nothing_drawn Html n bytes t old new same = same
+pub nothing_drawn : (kind : Kind) (p : List ℕ) (old new : Option (List ℕ)) → new ≡ old → IsUndrawn kind p old new unwritten.OutOfMemory
+nothing_drawn Text p old new same = inl same
+nothing_drawn Svg p old new same = inl same
+nothing_drawn Html p old new same = same
 
--- a picture in text, of a trace that is so judged
-pub leaves_text : {X : Type 0} (n : Called) (bytes : List ℕ) (t : Told) (f : Finding) (old new : Option (List ℕ)) (r : Result X Unwritten) → IsJudged bytes f → Leaves old new r (picture Text n t f) → LeavesPicture Text n bytes t old new r
-leaves_text n bytes t f old new (Ok x) j h = (f, j, h)
-leaves_text n bytes t f old new (Err e) j h = inr (f, j, h)
+-- a picture in text, or a beginning of it
+pub leaves_text : {X : Type 0} (p : List ℕ) (old new : Option (List ℕ)) (r : Result X Unwritten) → Leaves old new r p → LeavesPicture Text p old new r
+leaves_text p old new (Ok x) h = h
+leaves_text p old new (Err e) h = inr h
 
 -- the same as SVG
-pub leaves_svg : {X : Type 0} (n : Called) (bytes : List ℕ) (t : Told) (f : Finding) (old new : Option (List ℕ)) (r : Result X Unwritten) → IsJudged bytes f → Leaves old new r (picture Svg n t f) → LeavesPicture Svg n bytes t old new r
-leaves_svg n bytes t f old new (Ok x) j h = (f, j, h)
-leaves_svg n bytes t f old new (Err e) j h = inr (f, j, h)
+pub leaves_svg : {X : Type 0} (p : List ℕ) (old new : Option (List ℕ)) (r : Result X Unwritten) → Leaves old new r p → LeavesPicture Svg p old new r
+leaves_svg p old new (Ok x) h = h
+leaves_svg p old new (Err e) h = inr h
 
--- a page, of a trace that is so judged
-pub leaves_page : {X : Type 0} (n : Called) (bytes : List ℕ) (t : Told) (f : Finding) (old new : Option (List ℕ)) (r : Result X Unwritten) → IsJudged bytes f → LeavesPage old new r (page_text n t f) → LeavesPicture Html n bytes t old new r
-leaves_page n bytes t f old new (Ok x) j h = (f, j, h)
-leaves_page n bytes t f old new (Err unwritten.OutOfMemory) j h = h
-leaves_page n bytes t f old new (Err unwritten.Failed) j h = inr (f, j, h)
+-- a page
+pub leaves_page : {X : Type 0} (p : List ℕ) (old new : Option (List ℕ)) (r : Result X Unwritten) → LeavesPage old new r p → LeavesPicture Html p old new r
+leaves_page p old new (Ok x) h = h
+leaves_page p old new (Err unwritten.OutOfMemory) h = h
+leaves_page p old new (Err unwritten.Failed) h = inr h
 
 -- what was drawn stays, as a beginning of it
-pub begun_kept : (kind : Kind) (n : Called) (bytes : List ℕ) (t : Told) (old drawn new : Option (List ℕ)) → IsDrawn kind n bytes t old drawn → Keeps drawn new → IsUndrawn kind n bytes t old new unwritten.Failed
-begun_kept Text n bytes t old drawn new d k = inr (d.0, d.1, whole_is_front old new (picture Text n t d.0) (Appends-kept old drawn new (picture Text n t d.0) d.2 k))
-begun_kept Svg n bytes t old drawn new d k = inr (d.0, d.1, whole_is_front old new (picture Svg n t d.0) (Appends-kept old drawn new (picture Svg n t d.0) d.2 k))
-begun_kept Html n bytes t old drawn new d k = inr (d.0, d.1, whole_is_front old new (picture Html n t d.0) (Appends-kept old drawn new (picture Html n t d.0) d.2 k))
+pub begun_kept : (kind : Kind) (p : List ℕ) (old drawn new : Option (List ℕ)) → Appends old drawn p → Keeps drawn new → IsUndrawn kind p old new unwritten.Failed
+begun_kept Text p old drawn new d k = inr (whole_is_front old new p (Appends-kept old drawn new p d k))
+begun_kept Svg p old drawn new d k = inr (whole_is_front old new p (Appends-kept old drawn new p d k))
+begun_kept Html p old drawn new d k = inr (whole_is_front old new p (Appends-kept old drawn new p d k))
 
 -- a trace isn't too long
 read_is_short : (bytes : List ℕ) (t : Trace) → trace_read bytes ≡ Ok t → length bytes ≤ max_bytes
@@ -94,7 +96,7 @@ drawn_is_short kind script old new bytes draws = go (is_history bytes) refl draw
     few false short is = grind (arith, nat_tests)
 
     go : (b : Bool) → is_history bytes ≡ b → DrawsAs b kind script old new bytes → length bytes ≤ max_bytes
-    go false is d = read_is_short bytes (trace_of d.0) d.1.reads
+    go false is d = read_is_short bytes (trace_of d.1.trace) d.1.of.reads
     go true is d = few (nat_lt max_bytes (length bytes)) refl is
 
 -- all that a reader had is a trace or a history, if what was read is one

@@ -3,3 +3,4 @@ mod Parts
 mod Plain
 mod Sufficing
 mod Histories
+mod Success

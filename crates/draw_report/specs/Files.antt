@@ -1,47 +1,32 @@
 -- What the program did with the bytes of a file: those of a trace, or of a history.
 --
--- *Histories.* A file that begins with `history ` is one. What is drawn of it is its trace, as the judge of histories
--- writes it (`IsTraceOf`): of an illegal history it ends with the illegal line, which doesn't fit there.
-use Rattle.std.specs.Prelude.{ℕ, ◌≡◌, ◌≤◌, ◌⊎◌, Bool, true, false, List, codes, length, nat_eq, nat_lt, Option}
-use Rattle.std.specs.Prelude.{if◌then◌else◌}
+-- *Histories.* A file that begins with `history ` is one.
+use Rattle.std.specs.Prelude.{ℕ, ◌≡◌, ◌≤◌, ◌⊎◌, Bool, true, false, List, ◌++◌, codes, length, nat_eq, nat_lt, Option}
+use Rattle.std.specs.Prelude.{Ok, if◌then◌else◌}
 use Rattle.std.specs.List.{starts_with}
-use Rattle.std.specs.Io.KnownBytes.{Consumes, IsAtEnd}
+use Rattle.std.specs.Io.KnownBytes.{Appends, Consumes, IsAtEnd}
+use Rattle.histories.specs.declared.entry.Entry.{Entry}
+use Rattle.histories.specs.declared.entry.HistoryLine.{HistoryLine}
+use Rattle.histories.specs.declared.head.Head.{Head}
+use Rattle.histories.specs.Written.{head_line}
+use Rattle.verdict.specs.declared.told.Told.{Told}
 use Rattle.verdict.specs.Limits.{max_bytes}
-use Rattle.judge_report.specs.declared.tracing.Untraced.{Untraced}
+use Rattle.windows.specs.Texts.{certificate_text}
 use Rattle.judge_report.specs.declared.tracing.Untraced.TheVariants as untraced
-use Rattle.judge_report.specs.Traces.{IsTraceOf, IsUntraced}
+use Rattle.judge_report.specs.Heard.{Heard, history_read}
+use Rattle.judge_report.specs.Texts.{undecided_text}
+use Rattle.judge_report.specs.Traces.{IsExplained, IsTrace, lines_of}
 use Rattle.script.specs.Scope.{Scope}
 use Rattle.draw_report.specs.declared.asking.Kind.{Kind}
 use Rattle.draw_report.specs.declared.messages.Failure.{Failure}
-use Rattle.draw_report.specs.declared.messages.Failure.TheVariants.{OutOfMemory, Trace, History, Undecided, Unfit}
-use Rattle.draw_report.specs.Served.{Draws, FailsDrawing, IsUnread}
+use Rattle.draw_report.specs.Histories.{DrawsHistory, FailsHistory, untraced_by}
+use Rattle.draw_report.specs.Messages.{failure_text}
+use Rattle.draw_report.specs.Names.{called_by}
+use Rattle.draw_report.specs.Served.{Draws, FailsDrawing, IsUnread, OfHistory, picture}
 
 -- the bytes begin as a history does; more than a trace may have are read as a trace, and found too long
 abbrev pub is_history : List ℕ → Bool
 is_history bytes = if nat_lt max_bytes (length bytes) then false else starts_with nat_eq bytes (codes "history ")
-
--- ---- histories
-
--- the trace of the history that these bytes are was drawn
-abbrev pub DrawsHistory : Kind → Option Scope → Option (List ℕ) → Option (List ℕ) → List ℕ → Type 0
-DrawsHistory kind script old new bytes = (trace : List ℕ) × IsTraceOf bytes trace × Draws kind script old new trace
-
--- the failure that is reported of a history without a trace, and of one whose trace failed so
-abbrev pub untraced_by : Untraced → Failure
-untraced_by untraced.OutOfMemory = OutOfMemory
-untraced_by (untraced.Ill at) = History at
-untraced_by (untraced.Undecided line) = Undecided line.number line.event
-
-abbrev pub of_history : Failure → Failure
-of_history (Trace e) = Unfit e
-of_history f = f
-
--- why it wasn't drawn, or not all: it has no trace; or that failed
-abbrev pub FailsHistory : Kind → Option Scope → List ℕ → Option (List ℕ) → Option (List ℕ) → Failure → Type 0
-FailsHistory kind script bytes old new f =
-    ((why : Untraced) × IsUntraced bytes why × (f ≡ untraced_by why) × (new ≡ old))
-    ⊎ ((trace : List ℕ) × IsTraceOf bytes trace × (g : Failure) × FailsDrawing kind script trace old new g
-    × (f ≡ of_history g))
 
 -- ---- files
 
@@ -77,10 +62,31 @@ abbrev pub Fails : Kind → Option Scope → Option (List ℕ) → Option (List 
     → Type 0
 Fails kind script had left old new f = (IsUnread f × (new ≡ old)) ⊎ Comes kind script had left old new f
 
--- ---- the law
+-- ---- the laws
 
--- a picture of a history is one of its trace: a file that has just that trace may be drawn so
+-- what is drawn of a history are the lines of a trace that shows it, as the judge of histories writes one, under these
+-- names, and what that judge says of the history
+pub record IsDrawnAsTrace (kind : Kind) (script : Option Scope) (old new : Option (List ℕ)) (bytes : List ℕ) : Type 0 where
+  pub heard : Heard
+  pub read : history_read bytes ≡ Ok heard
+  pub steps : List Entry
+  pub trace : IsTrace heard (certificate_text heard.head steps)
+  pub told : Told
+  pub lines : told.lines.items ≡ lines_of steps
+  pub said : Option (List ℕ)
+  pub explained : IsExplained heard steps said
+  pub shown : Appends old new (picture kind (called_by script) told (OfHistory said))
+
 abbrev pub HistoriesAreDrawnAsTraces : Type 0
 HistoriesAreDrawnAsTraces = (kind : Kind) (script : Option Scope) (bytes : List ℕ) (old new : Option (List ℕ))
-    → is_history bytes ≡ true → DrawsFile kind script old new bytes
-    → (trace : List ℕ) × IsTraceOf bytes trace × DrawsFile kind script old new trace
+    → is_history bytes ≡ true → DrawsFile kind script old new bytes → IsDrawnAsTrace kind script old new bytes
+
+-- a history's first line says that it is one, so each is drawn as one that isn't too long
+abbrev pub HistoriesAreKnown : Type 0
+HistoriesAreKnown = (h : Head) (more : List ℕ) → length (head_line (codes "history") h ++ more) ≤ max_bytes
+    → is_history (head_line (codes "history") h ++ more) ≡ true
+
+-- of an undecided history is said, besides that it can't be drawn, what the judge of histories says in its first line
+abbrev pub UndecidedIsSaid : Type 0
+UndecidedIsSaid = (file : List ℕ) (l : HistoryLine) → (said rest : List ℕ) × (undecided_text l ≡ said ++ rest)
+    × (failure_text file (untraced_by (untraced.Undecided l)) ≡ codes "rfx-draw: cannot draw the history: " ++ said)

@@ -1,5 +1,6 @@
 pub mod Asked
 pub mod Files
+pub mod Histories
 pub mod Legend
 pub mod Messages
 pub mod Names

@@ -9,7 +9,7 @@ use Rattle.verdict.specs.declared.fault.TraceFault.{TraceFault}
 use Rattle.verdict.specs.Faults as trace_faults
 use Rattle.draw_report.specs.declared.messages.Failure.{Failure}
 use Rattle.draw_report.specs.declared.messages.Failure.TheVariants.{Usage, CannotRead, CannotWrite}
-use Rattle.draw_report.specs.declared.messages.Failure.TheVariants.{OutOfMemory, Script, Unlike, Trace, History, Undecided, Unfit}
+use Rattle.draw_report.specs.declared.messages.Failure.TheVariants.{OutOfMemory, Script, Unlike, UnlikeHistory, Trace, History, Undecided, Unfit}
 
 -- a fault with its line, its number and its words, after the start of the line
 abbrev pub fault_text : List ℕ → ℕ → ℕ → List ℕ → List ℕ
@@ -51,6 +51,9 @@ failure_text file (Script e) = script_text e
 failure_text file Unlike = concat
     (codes "rfx-draw: script: not of this trace, which has other numbers of threads, mutexes or condition variables\n"
     ∷ [])
+failure_text file UnlikeHistory = concat
+    (codes "rfx-draw: script: not of this history, which has other numbers of threads, mutexes or condition variables\n"
+    ∷ [])
 failure_text file (Trace e) = trace_text e
 failure_text file (History e) = history_text e
 failure_text file (Undecided line event) = undecided_text line event
@@ -64,6 +67,7 @@ failure_status CannotWrite = 1
 failure_status OutOfMemory = 1
 failure_status (Script e) = 1
 failure_status Unlike = 1
+failure_status UnlikeHistory = 1
 failure_status (Trace e) = 1
 failure_status (History e) = 1
 failure_status (Undecided line event) = 1

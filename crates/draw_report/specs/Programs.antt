@@ -2,7 +2,7 @@
 --
 -- *What `rfx-draw` did.* The picture of the trace or the history in the file that the words name, or why not; with the names of the
 -- script that they name (`called_by`, `is_like`, `GivesScript`; `Names.antt`, `Scripts.antt`), as `parse` reads it.
-use Rattle.std.specs.Prelude.{ℕ, ◌≡◌, ◌⊎◌, List, [], Option, Some, None}
+use Rattle.std.specs.Prelude.{ℕ, ◌≡◌, ◌≢◌, ◌⊎◌, List, [], Option, Some, None}
 use Rattle.std.specs.Prelude.{Result, Ok, Err, Vec, String, map, string_bytes}
 use Rattle.std.specs.declared.io.Error.{Error}
 use Rattle.std.specs.declared.alloc.Global.{Global}
@@ -88,3 +88,16 @@ abbrev pub RunEnds : (List ℕ → Result (Option (List ℕ)) ErrorKind → Type
     → Type 0 → Type 0 → Option (List ℕ) → Option (List ℕ) → ℕ → Type 0
 RunEnds Opens a old new LetGo Quiet told told' status =
     AskedEnds Opens a old new LetGo Quiet told told' status ⊎ ((new ≡ old) × IsTold [] OutOfMemory told told' status)
+
+-- ---- the law
+
+-- it ended with status 0 only after all that was asked for was written, and let go of, and nothing was reported: a picture,
+-- or what the signs mean
+pub record IsWhole (a : Asked) (LetGo Quiet : Type 0) : Type 0 where
+  pub asked : a ≢ Nothing
+  pub let_go : LetGo
+  pub quiet : Quiet
+
+pub record SuccessIsWhole (Opens : List ℕ → Result (Option (List ℕ)) ErrorKind → Type 0) (LetGo Quiet : Type 0) : Type 0 where
+  pub whole : (a : Asked) (old new told told' : Option (List ℕ)) (status : ℕ)
+      → RunEnds Opens a old new LetGo Quiet told told' status → status ≡ 0 → IsWhole a LetGo Quiet

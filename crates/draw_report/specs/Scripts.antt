@@ -8,7 +8,7 @@ use Rattle.script.specs.Reading.{script_read}
 use Rattle.script.specs.Scope.{Scope}
 use Rattle.draw_report.specs.declared.messages.Failure.{Failure}
 use Rattle.draw_report.specs.declared.messages.Failure.TheVariants.{Usage, CannotRead, CannotWrite}
-use Rattle.draw_report.specs.declared.messages.Failure.TheVariants.{OutOfMemory, Script, Unlike, Trace, History, Undecided, Unfit}
+use Rattle.draw_report.specs.declared.messages.Failure.TheVariants.{OutOfMemory, Script, Unlike, UnlikeHistory, Trace, History, Undecided, Unfit}
 use Rattle.draw_report.specs.Served.{IsUnread}
 
 -- all that a reader had, up to its end, is this script
@@ -23,6 +23,7 @@ IsFaultOf bytes CannotWrite = ⊥
 IsFaultOf bytes OutOfMemory = ⊥
 IsFaultOf bytes (Script e) = TellsAt e e.fault (script_read Run bytes)
 IsFaultOf bytes Unlike = ⊥
+IsFaultOf bytes UnlikeHistory = ⊥
 IsFaultOf bytes (Trace e) = ⊥
 IsFaultOf bytes (History e) = ⊥
 IsFaultOf bytes (Undecided line event) = ⊥

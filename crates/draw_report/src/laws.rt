@@ -1,8 +1,13 @@
-//! What holds of every picture with the names of a script.
+//! What holds of every picture.
 
-ghost use Rattle.draw_report.specs.Files.{HistoriesAreDrawnAsTraces};
+ghost use Rattle.std.specs.Prelude.{◌≡◌};
+ghost use Rattle.draw_report.specs.Files.{HistoriesAreDrawnAsTraces, HistoriesAreKnown, UndecidedIsSaid};
 ghost use Rattle.draw_report.specs.Plain.{NamesArePlain};
+ghost use Rattle.draw_report.specs.Programs.{SuccessIsWhole};
 ghost use Rattle.draw_report.specs.Sufficing.{NamesSuffice};
+
+use std::io::Write;
+use streams::{Opener, Output};
 
 /// Whatever a script that is read calls threads, mutexes and condition variables, the names have no character that ends
 /// a text or begins markup. So they stand as they are in a picture, in a page too.
@@ -16,7 +21,24 @@ pub fn names_suffice()
     ensures { NamesSuffice }
 {}
 
-/// What is drawn of a history is what may be drawn of a file that has the trace which the judge of histories writes of it.
+/// What is drawn of a history are the lines of a trace that shows it, as the judge of histories writes one, and of an
+/// illegal history what that judge says: the line and the reason.
 pub fn histories_are_drawn_as_traces()
     ensures { HistoriesAreDrawnAsTraces }
+{}
+
+/// A file with a history's first line is drawn as a history, if it isn't too long.
+pub fn histories_are_known()
+    ensures { HistoriesAreKnown }
+{}
+
+/// The message of an undecided history has the line and the event that the judge of histories names.
+pub fn undecided_is_said()
+    ensures { UndecidedIsSaid }
+{}
+
+/// The exit status is 0 only if all of what was asked for was written, the writer has let go of it, and nothing was
+/// reported.
+pub fn success_is_whole<F: Opener, W: Output, E: Write>(files: &F, out: &W, before: &E, after: &E)
+    ensures { SuccessIsWhole (F.opens files.now) (W.is_let_go out.now) (after.now ≡ before.now) }
 {}

@@ -18,6 +18,9 @@ const USAGE: &str =
 const UNLIKE: &str =
     "rfx-draw: script: not of this trace, which has other numbers of threads, mutexes or condition variables\n";
 
+const UNLIKE_HISTORY: &str =
+    "rfx-draw: script: not of this history, which has other numbers of threads, mutexes or condition variables\n";
+
 /// Memory was refused.
 pub const OUT_OF_MEMORY: &str = "rfx-draw: out of memory\n";
 
@@ -36,6 +39,8 @@ pub enum Failure {
     Script(ScriptFault),
     /// A run of the script has another first line than the trace.
     Unlike,
+    /// A run of the script has another first line than the history.
+    UnlikeHistory,
     /// The file is no trace.
     Trace(TraceFault),
     /// The file begins as a history does, but is none.
@@ -147,6 +152,7 @@ fn write_failure<E: Write>(err: &mut E, file: &str, failure: Failure) -> io::Res
         Failure::OutOfMemory => put(err, &[OUT_OF_MEMORY]),
         Failure::Script(at) => write_script_fault(err, at),
         Failure::Unlike => put(err, &[UNLIKE]),
+        Failure::UnlikeHistory => put(err, &[UNLIKE_HISTORY]),
         Failure::Trace(at) => write_trace_fault(err, at),
         Failure::History(at) => write_history_fault(err, at),
         Failure::Undecided { line, event } => write_undecided(err, line, event),
@@ -165,6 +171,7 @@ fn status_after(failure: Failure) -> u8
         | Failure::OutOfMemory
         | Failure::Script(_)
         | Failure::Unlike
+        | Failure::UnlikeHistory
         | Failure::Trace(_)
         | Failure::History(_)
         | Failure::Undecided { .. }

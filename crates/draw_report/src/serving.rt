@@ -1,35 +1,27 @@
 //! The program, except for opening its file.
 
-ghost use Rattle.std.specs.Prelude.{◌≡◌, ◌++◌, ◌≤◌, ◌<◌, ◌^◌, ◌+◌, vec_len, IfOk, IfErr, OnOk};
+ghost use Rattle.std.specs.Prelude.{◌≡◌, ◌≤◌, ◌<◌, ◌^◌, ◌+◌, vec_len, IfOk, IfErr, OnOk};
 ghost use Rattle.std.specs.Io.KnownBytes.{Consumes, IsAtEnd};
 ghost use Rattle.streams.specs.Leaves.{Leaves};
 ghost use Rattle.streams.specs.Taken.{TakesAtMost};
 ghost use Rattle.verdict.specs.Limits.{max_bytes};
 ghost use Rattle.draw_report.specs.Legend.{legend};
 ghost use Rattle.script.specs.Limits as scripts;
-ghost use Rattle.draw_report.specs.Names.{called_by};
 ghost use Rattle.draw_report.specs.Scripts.{FailsScript, GivesScript};
-ghost use Rattle.draw_report.specs.Files.{DrawsFile, DrawsHistory, Fails, FailsFile, FailsHistory, Serves};
-ghost use Rattle.draw_report.specs.Files.{is_history, of_history, untraced_by};
-ghost use Rattle.draw_report.specs.Served.{Draws, FailsDrawing, IsUnread};
-ghost use Rattle.draw_report.specs.Served.{LeavesPicture, failed_by, misfit_line, misfit_text, undrawn_by};
-ghost use Rattle.picture.specs.Drawn.{drawn};
-ghost use Rattle.verdict.specs.Told.{IsWithin};
+ghost use Rattle.draw_report.specs.Files.{DrawsFile, Fails, FailsFile, Serves, is_history};
+ghost use Rattle.draw_report.specs.Served.{Draws, FailsDrawing, IsUnread, failed_by};
 
 use crate::asking::Kind;
+use crate::drawing::{Outcome, draw_named, undrawn_by};
+use crate::history::draw_history;
 use crate::legend::{lanes_legend, marks_legend};
 use crate::messages::Failure;
-use crate::names::{is_like, names_of};
-use facts::Line;
-use judge_report::{Untraced, trace_of};
-use page::write_page;
-use picture::{Names, Unwritten, draw, draw_svg_marked};
+use crate::names::is_like;
 use script::{Mode, Script, parse};
 use std::alloc::Global;
-use std::io::{self, Read, Write};
-use streams::Piece::{Number, Word};
-use streams::{Output, ReadFault, put, put_pieces, read_below};
-use verdict::{Finding, MAX_BYTES, Told, explain, read_trace};
+use std::io::{self, Read};
+use streams::{Output, ReadFault, put, read_below};
+use verdict::{MAX_BYTES, explain, read_trace};
 
 /// What a fault of reading is reported as.
 fn failed_by(fault: ReadFault) -> Failure
@@ -38,16 +30,6 @@ fn failed_by(fault: ReadFault) -> Failure
     match fault {
         ReadFault::Memory => Failure::OutOfMemory,
         ReadFault::Failed => Failure::CannotRead,
-    }
-}
-
-/// What a picture that wasn't written is reported as.
-fn undrawn_by(unwritten: Unwritten) -> Failure
-    ensures { result ≡ undrawn_by unwritten }
-{
-    match unwritten {
-        Unwritten::OutOfMemory => Failure::OutOfMemory,
-        Unwritten::Failed => Failure::CannotWrite,
     }
 }
 
@@ -81,181 +63,6 @@ pub fn read_script<R: Read>(alloc: Global, input: &mut R) -> Result<Script, Fail
     }
 }
 
-/// A page of a trace, with how it is judged.
-fn draw_page<W: Output>(
-    alloc: Global,
-    names: &Names,
-    bytes: &[u8],
-    trace: &Told,
-    out: &mut W,
-) -> Result<(), Unwritten>
-    requires { IsWithin trace.now }
-    ensures { LeavesPicture Kind.Html names.now bytes.now trace.now (W.contents out.old) (W.contents out.new) result }
-{
-    match explain(alloc, bytes) {
-        Ok(finding) => write_page(alloc, names, trace, &finding, out),
-        // the bytes are a trace: it has no fault
-        Err(_wanted) => Err(Unwritten::OutOfMemory),
-    }
-}
-
-/// Which line of a trace doesn't fit, if one doesn't.
-fn write_misfit<W: Write>(out: &mut W, finding: &Finding) -> Result<(), Unwritten>
-    ensures { Leaves (W.contents out.old) (W.contents out.new) result (misfit_text finding.now) }
-{
-    match *finding {
-        Finding::Legal { .. } => Ok(()),
-        Finding::Illegal(why) => {
-            let line = Number(why.line as u64);
-            match put_pieces(
-                out,
-                &[
-                    Word("        line "),
-                    line,
-                    Word(" doesn't fit those before it\n"),
-                ],
-            ) {
-                Ok(()) => Ok(()),
-                Err(_unwritten) => Err(Unwritten::Failed),
-            }
-        }
-    }
-}
-
-/// A picture in text of a trace with these lines, and which of them doesn't fit.
-fn write_judged<W: Write>(
-    alloc: Global,
-    names: &Names,
-    trace: &Told,
-    lines: &[Line],
-    finding: &Finding,
-    out: &mut W,
-) -> Result<(), Unwritten>
-    ensures { Leaves (W.contents out.old) (W.contents out.new) result
-        (drawn names.now trace.now.head.threads trace.now.head.mutexes lines.now trace.now.last ++ misfit_text finding.now) }
-{
-    let (threads, mutexes) = (trace.head.threads, trace.head.mutexes);
-    draw(alloc, names, threads, mutexes, lines, trace.last, out)?;
-    write_misfit(out, finding)
-}
-
-/// A picture in text of a trace, with how it is judged.
-fn draw_text<W: Output>(
-    alloc: Global,
-    names: &Names,
-    bytes: &[u8],
-    trace: &Told,
-    out: &mut W,
-) -> Result<(), Unwritten>
-    ensures { LeavesPicture Kind.Text names.now bytes.now trace.now (W.contents out.old) (W.contents out.new) result }
-{
-    let lines = trace.lines.as_slice();
-    match explain(alloc, bytes) {
-        Ok(finding) => write_judged(alloc, names, trace, lines, &finding, out),
-        // the bytes are a trace: it has no fault
-        Err(_wanted) => Err(Unwritten::OutOfMemory),
-    }
-}
-
-/// The line of a trace that doesn't fit, if one doesn't.
-fn misfit_line(finding: &Finding) -> Option<usize>
-    ensures { result ≡ misfit_line finding.now }
-{
-    match *finding {
-        Finding::Legal { .. } => None,
-        Finding::Illegal(why) => Some(why.line),
-    }
-}
-
-/// A picture of a trace as SVG, in which the line that doesn't fit is marked.
-fn draw_marked<W: Output>(
-    alloc: Global,
-    names: &Names,
-    bytes: &[u8],
-    trace: &Told,
-    out: &mut W,
-) -> Result<(), Unwritten>
-    ensures { LeavesPicture Kind.Svg names.now bytes.now trace.now (W.contents out.old) (W.contents out.new) result }
-{
-    let lines = trace.lines.as_slice();
-    let (threads, mutexes) = (trace.head.threads, trace.head.mutexes);
-    match explain(alloc, bytes) {
-        Ok(finding) => draw_svg_marked(
-            alloc,
-            names,
-            threads,
-            mutexes,
-            lines,
-            trace.last,
-            misfit_line(&finding),
-            out,
-        ),
-        // the bytes are a trace: it has no fault
-        Err(_wanted) => Err(Unwritten::OutOfMemory),
-    }
-}
-
-fn draw_as<W: Output>(
-    alloc: Global,
-    kind: Kind,
-    names: &Names,
-    bytes: &[u8],
-    trace: &Told,
-    out: &mut W,
-) -> Result<(), Unwritten>
-    requires { IsWithin trace.now }
-    ensures { LeavesPicture kind names.now bytes.now trace.now (W.contents out.old) (W.contents out.new) result }
-{
-    match kind {
-        Kind::Text => draw_text(alloc, names, bytes, trace, out),
-        Kind::Svg => draw_marked(alloc, names, bytes, trace, out),
-        Kind::Html => draw_page(alloc, names, bytes, trace, out),
-    }
-}
-
-/// Draws a trace, and lets go of what the writer kept back.
-fn draw_out<W: Output>(
-    alloc: Global,
-    kind: Kind,
-    names: &Names,
-    bytes: &[u8],
-    trace: &Told,
-    out: &mut W,
-) -> Result<(), Unwritten>
-    requires { IsWithin trace.now }
-    ensures text { LeavesPicture kind names.now bytes.now trace.now (W.contents out.old) (W.contents out.new) result }
-    ensures let_go { OnOk result (W.is_let_go out.new) }
-{
-    match draw_as(alloc, kind, names, bytes, trace, out) {
-        Ok(()) => {}
-        Err(unwritten) => return Err(unwritten),
-    }
-    match out.let_go() {
-        Ok(()) => Ok(()),
-        Err(_kept) => Err(Unwritten::Failed),
-    }
-}
-
-/// Draws a trace with the names of the script, if there is one.
-fn draw_named<W: Output>(
-    alloc: Global,
-    kind: Kind,
-    script: &Option<Script>,
-    bytes: &[u8],
-    trace: &Told,
-    out: &mut W,
-) -> Result<(), Unwritten>
-    requires { IsWithin trace.now }
-    ensures text { LeavesPicture kind (called_by script.now) bytes.now trace.now (W.contents out.old)
-        (W.contents out.new) result }
-    ensures let_go { OnOk result (W.is_let_go out.new) }
-{
-    match names_of(alloc, script) {
-        Ok(names) => draw_out(alloc, kind, &names, bytes, trace, out),
-        Err(_refused) => Err(Unwritten::OutOfMemory),
-    }
-}
-
 /// Reads a trace's bytes, and draws it with the names of the script, if there is one.
 fn draw_bytes<W: Output>(
     alloc: Global,
@@ -275,7 +82,11 @@ fn draw_bytes<W: Output>(
     if !is_like(script, &trace.head) {
         return Err(Failure::Unlike);
     }
-    match draw_named(alloc, kind, script, bytes, &trace, out) {
+    let Ok(finding) = explain(alloc, bytes) else {
+        return Err(Failure::OutOfMemory);
+    };
+    let outcome = Outcome::Trace(&finding);
+    match draw_named(alloc, kind, script, &trace, &outcome, out) {
         Ok(()) => Ok(()),
         Err(unwritten) => Err(undrawn_by(unwritten)),
     }
@@ -289,52 +100,6 @@ fn is_history(bytes: &[u8]) -> bool
         return false;
     }
     bytes.starts_with(b"history ")
-}
-
-/// What a history without a trace is reported as.
-fn untraced_by(why: Untraced) -> Failure
-    ensures { result ≡ untraced_by why }
-{
-    match why {
-        Untraced::OutOfMemory => Failure::OutOfMemory,
-        Untraced::Ill(at) => Failure::History(at),
-        Untraced::Undecided(line) => Failure::Undecided {
-            line: line.number,
-            event: line.event,
-        },
-    }
-}
-
-/// What a failure to draw a history's trace is reported as.
-fn of_history(failure: Failure) -> Failure
-    ensures { result ≡ of_history failure }
-{
-    match failure {
-        Failure::Trace(at) => Failure::Unfit(at),
-        failure => failure,
-    }
-}
-
-/// Draws the trace that the judge of histories writes of the history that these bytes are.
-fn draw_history<W: Output>(
-    alloc: Global,
-    kind: Kind,
-    script: &Option<Script>,
-    bytes: &[u8],
-    out: &mut W,
-) -> Result<(), Failure>
-    ensures draws { OnOk result (DrawsHistory kind script.now (W.contents out.old) (W.contents out.new) bytes.now) }
-    ensures let_go { OnOk result (W.is_let_go out.new) }
-    ensures fails { IfErr result (FailsHistory kind script.now bytes.now (W.contents out.old) (W.contents out.new)) }
-{
-    let trace = match trace_of(alloc, bytes) {
-        Ok(trace) => trace,
-        Err(why) => return Err(untraced_by(why)),
-    };
-    match draw_bytes(alloc, kind, script, &trace, out) {
-        Ok(()) => Ok(()),
-        Err(failure) => Err(of_history(failure)),
-    }
 }
 
 /// Draws what these bytes are: a trace, or a history.

@@ -5,7 +5,7 @@ use Rattle.explain.specs.declared.explanation.Things.{Things}
 use Rattle.explain.specs.declared.explanation.Note.{Note}
 use Rattle.explain.specs.declared.explanation.Note.TheVariants.{NoLineFeed, CarriageReturn, LeadingBlank, TwoBlanks}
 use Rattle.explain.specs.declared.explanation.Note.TheVariants.{TrailingBlank, Tab, Remark, EmptyLine, NoRemarks}
-use Rattle.explain.specs.declared.explanation.Note.TheVariants.{OtherMode, OfTrace, OfScript}
+use Rattle.explain.specs.declared.explanation.Note.TheVariants.{OtherMode, OfTrace, OfHistory, OfScript}
 use Rattle.explain.specs.declared.explanation.Note.TheVariants.{BehindCommand, Range, TooMany, PastLast}
 use Rattle.explain.specs.declared.explanation.Note.TheVariants.{NothingDeclared, Undeclared, OtherThing}
 use Rattle.explain.specs.declared.explanation.Note.TheVariants.{DeclaredTwice, DiesTwice, Allowed, SpoilingWait}
@@ -52,6 +52,7 @@ said_text EmptyLine = codes "a trace has no empty lines"
 said_text NoRemarks = codes "a trace has no remarks"
 said_text CallWord = codes "a call is written with its thread: `call T CALL`, such as `call a lock m`"
 said_text OfTrace = codes "this is a line of a trace, which begins with `trace T M C`"
+said_text OfHistory = codes "this is the first line of a history: `rfx-judge` judges it, and `rfx-draw` draws it"
 said_text OfScript = codes "this is a line of a script, which doesn't begin with `trace `"
 said_text BehindCommand = codes "declarations stand before the first command"
 said_text PastLast = codes "there aren't so many mutexes from this one on"
@@ -108,6 +109,7 @@ one_note EmptyLine = said EmptyLine
 one_note NoRemarks = said NoRemarks
 one_note CallWord = said CallWord
 one_note OfTrace = said OfTrace
+one_note OfHistory = said OfHistory
 one_note OfScript = said OfScript
 one_note BehindCommand = said BehindCommand
 one_note PastLast = said PastLast

@@ -4,7 +4,7 @@ use Rattle.std.specs.Prelude.{List, [], ◌∷◌, length, codes}
 use Rattle.std.specs.Prelude.{take, slice_get, Option, Some, None, option_map, unwrap_or, if◌then◌else◌}
 use Rattle.std.specs.Option.{is_some}
 use Rattle.std.specs.List.{list_any, starts_with}
-use Rattle.std.specs.Str.{is_utf8}
+use Rattle.std.specs.Str.{bytes_eq, is_utf8}
 use Rattle.lines.specs.Lines.{lines_of, words_of}
 use Rattle.script.specs.declared.command.Mode.TheVariants.{Run, Threads}
 use Rattle.script.specs.declared.command.Mode.{Mode}
@@ -19,7 +19,7 @@ use Rattle.explain.specs.declared.explanation.Mark.{Mark}
 use Rattle.explain.specs.declared.explanation.Note.{Note}
 use Rattle.explain.specs.declared.explanation.Note.TheVariants.{CarriageReturn, LeadingBlank, TwoBlanks}
 use Rattle.explain.specs.declared.explanation.Note.TheVariants.{TrailingBlank, Tab, Remark, EmptyLine, NoRemarks}
-use Rattle.explain.specs.declared.explanation.Note.TheVariants.{OtherMode, OfTrace, OfScript, ByteOrderMark}
+use Rattle.explain.specs.declared.explanation.Note.TheVariants.{OtherMode, OfTrace, OfHistory, OfScript, ByteOrderMark}
 use Rattle.explain.specs.declared.explanation.Note.TheVariants.{Capitals, Slashes, CallWord}
 
 -- ---- what is said
@@ -71,10 +71,11 @@ abbrev pub mode_note : Option Mode → Option Note → Option Note
 mode_note (Some k) n = Some (OtherMode k)
 mode_note None n = n
 
--- the line is one of the other mode, or of a trace, or begins with a call; or it is one of scripts
+-- the line is one of the other mode, or of a trace, or begins as a history or with a call; or it is one of scripts
 abbrev pub kind_note : Kind → List (List ℕ) → List ℕ → Option Note
 kind_note (Script k) ws w = mode_note (mode_of_word w)
-    (if is_line Trace ws || is_line Head ws then Some OfTrace else (if is_scripted w then Some CallWord else None))
+    (if is_line Trace ws || is_line Head ws then Some OfTrace
+    else (if bytes_eq w (codes "history") then Some OfHistory else (if is_scripted w then Some CallWord else None)))
 kind_note Head ws w = if is_line (Script Run) ws || is_line (Script Threads) ws then Some OfScript else None
 kind_note Trace ws w = if is_line (Script Run) ws || is_line (Script Threads) ws then Some OfScript else None
 

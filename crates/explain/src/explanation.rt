@@ -66,6 +66,8 @@ pub enum Note {
     CallWord,
     /// The line is one of traces.
     OfTrace,
+    /// The line begins as a history's first one does.
+    OfHistory,
     /// The line is one of scripts.
     OfScript,
     /// A word is missing.

@@ -114,6 +114,9 @@ fn said_of(note: &Note) -> &'static str
             "a call is written with its thread: `call T CALL`, such as `call a lock m`"
         }
         Note::OfTrace => "this is a line of a trace, which begins with `trace T M C`",
+        Note::OfHistory => {
+            "this is the first line of a history: `rfx-judge` judges it, and `rfx-draw` draws it"
+        }
         Note::OfScript => "this is a line of a script, which doesn't begin with `trace `",
         Note::BehindCommand => "declarations stand before the first command",
         Note::PastLast => "there aren't so many mutexes from this one on",

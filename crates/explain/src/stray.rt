@@ -102,7 +102,7 @@ fn slashes_note(kind: Kind) -> Note
     }
 }
 
-/// What is said of a line that is of another kind, or that begins with a call.
+/// What is said of a line that is of another kind of file, or that begins with a call.
 fn kind_note(kind: Kind, text: &str, word: &str) -> Option<Note>
     ensures { result ≡ kind_note kind (words_of text.now) word.now }
 {
@@ -113,6 +113,9 @@ fn kind_note(kind: Kind, text: &str, word: &str) -> Option<Note>
             }
             if is_line(Kind::Trace, text) || is_line(Kind::Head, text) {
                 return Some(Note::OfTrace);
+            }
+            if word == "history" {
+                return Some(Note::OfHistory);
             }
             if is_scripted(word) {
                 return Some(Note::CallWord);

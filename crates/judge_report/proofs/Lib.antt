@@ -2,10 +2,12 @@ pub mod Cutting
 pub mod Lines
 pub mod Taking
 pub mod Saying
+pub mod Shown
 pub mod Ends
 pub mod Filing
 pub mod Statuses
 pub mod Numbered
+pub mod Parts
 pub mod Options
 pub mod Naming
 pub mod Turning

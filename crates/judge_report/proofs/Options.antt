@@ -22,7 +22,9 @@ use Rattle.windows.specs.declared.cutting.Window.{Window}
 use Rattle.windows.specs.Texts.{steps_count}
 use Rattle.windows.specs.Windows.{IsWindow}
 use Rattle.judge_report.specs.declared.keeping.Cut.{Cut}
-use Rattle.judge_report.specs.Asked.{Judging, Kept, Nothing, Nowhere, Overwrites, Whole, Windows, is_number_part, is_window, judging, place_words, placed, bare, with_place}
+use Rattle.judge_report.specs.Asked.{Judging, Kept, Nothing, Nowhere, Overwrites, Whole, Windows, is_number_part, is_window, is_window_at, judging, place_words, placed, with_place}
+use Rattle.judge_report.specs.Paths.{name_one_file, own_name}
+use Rattle.judge_report.proofs.Parts.{at_window, number_slashless, one_file_dotted, one_file_here, one_file_itself, one_file_twice, still_file}
 use Rattle.judge_report.specs.Heard.{Heard}
 use Rattle.judge_report.specs.Kept.{AreKept, IsFilled, IsKept, IsWritten, window_name}
 use Rattle.judge_report.specs.Laws.{AreJoined, OptionsAreKept, OptionsAreRead, OptionsWrite}
@@ -33,23 +35,20 @@ use Rattle.judge_report.specs.Laws.{AreJoined, OptionsAreKept, OptionsAreRead, O
 named_file : (w : Bool) (kept : Kept) (file : List ℕ) → is_file_word file ≡ true → judging w kept file ≡ placed w kept file
 named_file w kept file is = ap (λ (b : Bool). if b then placed w kept file else Nothing) is
 
-unequal : (out file : List ℕ) → out ≢ file → bytes_eq out file ≡ false
-unequal out file other = false_from_ne_true (bytes_eq out file) (λ same. other ((bytes_eq-Decides out file).0 same))
-
-whole : (w : Bool) (out file : List ℕ) → is_file_word out ≡ true → is_file_word file ≡ true → bare out ≢ bare file → with_place w (place_words (codes "--trace") out) file ≡ Judging w (Whole out) file
+whole : (w : Bool) (out file : List ℕ) → is_file_word out ≡ true → is_file_word file ≡ true → name_one_file out file ≡ false → with_place w (place_words (codes "--trace") out) file ≡ Judging w (Whole out) file
 whole w out file is_out is_file other =
     ap (λ (b : Bool). with_place w (if b then Some (Whole out) else None) file) is_out
-    ∙ named_file w (Whole out) file is_file ∙ ap (λ (b : Bool). if b then Overwrites file else Judging w (Whole out) file) (unequal (bare out) (bare file) other)
+    ∙ named_file w (Whole out) file is_file ∙ ap (λ (b : Bool). if b then Overwrites file else Judging w (Whole out) file) other
 
-cut : (w : Bool) (out file : List ℕ) → is_file_word out ≡ true → is_file_word file ≡ true → is_window (bare out) (bare file) ≡ false → with_place w (place_words (codes "--windows") out) file ≡ Judging w (Windows out) file
+cut : (w : Bool) (out file : List ℕ) → is_file_word out ≡ true → is_file_word file ≡ true → is_window_at out file ≡ false → with_place w (place_words (codes "--windows") out) file ≡ Judging w (Windows out) file
 cut w out file is_out is_file apart =
     ap (λ (b : Bool). with_place w (if b then Some (Windows out) else None) file) is_out
     ∙ named_file w (Windows out) file is_file ∙ ap (λ (b : Bool). if b then Overwrites file else Judging w (Windows out) file) apart
 
-overwritten : (out file : List ℕ) → is_file_word out ≡ true → is_file_word file ≡ true → bare out ≡ bare file → with_place false (place_words (codes "--trace") out) file ≡ Overwrites file
+overwritten : (out file : List ℕ) → is_file_word out ≡ true → is_file_word file ≡ true → name_one_file out file ≡ true → with_place false (place_words (codes "--trace") out) file ≡ Overwrites file
 overwritten out file is_out is_file same =
     ap (λ (b : Bool). with_place false (if b then Some (Whole out) else None) file) is_out
-    ∙ named_file false (Whole out) file is_file ∙ ap (λ (b : Bool). if b then Overwrites file else Judging false (Whole out) file) ((bytes_eq-Decides (bare out) (bare file)).1 same)
+    ∙ named_file false (Whole out) file is_file ∙ ap (λ (b : Bool). if b then Overwrites file else Judging false (Whole out) file) same
 
 -- a window's name
 number_digits : (w : List ℕ) → is_number w ≡ true → list_all is_ascii_digit w ≡ true
@@ -76,46 +75,11 @@ of_window out n small =
     ap (λ (t : Bool). t && is_number_part (drop (length out) (window_name out n))) (begins out (codes "." ++ decimal n))
     ∙ ap is_number_part (rests out (codes "." ++ decimal n)) ∙ number_digits (decimal n) (written n small)
 
--- a window's name begins with `./` as often as the name that it is made of
-digit_first : (w : List ℕ) → is_number w ≡ true → bare (46 ∷ w) ≡ 46 ∷ w
-unfolding bare
-digit_first [] e = refl
-digit_first (b ∷ bs) e = ap (λ (t : Bool). if t then bare bs else 46 ∷ b ∷ bs) (no_slash b bs (number_digits (b ∷ bs) e))
-  where
-    no_slash : (b : ℕ) (bs : List ℕ) → list_all is_ascii_digit (b ∷ bs) ≡ true → (b == 47) ≡ false
-    no_slash b bs e = go (b == 47) refl
-      where
-        go : (t : Bool) → (b == 47) ≡ t → t ≡ false
-        go false is = refl
-        go true is =
-            let same : b ≡ 47 = grind (arith, nat_tests) in
-            let no : false ≡ true = ap (λ (c : ℕ). list_all is_ascii_digit (c ∷ bs)) (sym same) ∙ e in
-            absurd cc
-
-bare_window : (out w : List ℕ) → is_number w ≡ true → bare (out ++ 46 ∷ w) ≡ bare out ++ 46 ∷ w
-unfolding bare
-bare_window [] w e = digit_first w e
-bare_window (a ∷ []) w e = ap (λ (t : Bool). if t then bare w else a ∷ 46 ∷ w) (and_false (a == 46))
-  where
-    and_false : (t : Bool) → (t && false) ≡ false
-    and_false true = refl
-    and_false false = refl
-bare_window (a ∷ b ∷ out) w e = go ((a == 46) && (b == 47)) (bare_window out w e)
-  where
-    go : (t : Bool) → bare (out ++ 46 ∷ w) ≡ bare out ++ 46 ∷ w → (if t then bare (out ++ 46 ∷ w) else a ∷ b ∷ (out ++ 46 ∷ w)) ≡ (if t then bare out else a ∷ b ∷ out) ++ 46 ∷ w
-    go true so = so
-    go false so = refl
-
--- `./` before a name changes nothing
-here : (file : List ℕ) → bare (codes "./" ++ file) ≡ bare file
-unfolding bare
-here file = refl
-
 over : (out : List ℕ) (n : ℕ) → is_file_word out ≡ true → is_file_word (window_name out n) ≡ true → n < 2 ^ 64 → with_place false (place_words (codes "--windows") out) (window_name out n) ≡ Overwrites (window_name out n)
 over out n is_out is_file small =
     ap (λ (b : Bool). with_place false (if b then Some (Windows out) else None) (window_name out n)) is_out
     ∙ named_file false (Windows out) (window_name out n) is_file
-    ∙ ap (λ (b : Bool). if b then Overwrites (window_name out n) else Judging false (Windows out) (window_name out n)) (ap (is_window (bare out)) (bare_window out (decimal n) (written n small)) ∙ of_window (bare out) n small)
+    ∙ ap (λ (b : Bool). if b then Overwrites (window_name out n) else Judging false (Windows out) (window_name out n)) (at_window out (decimal n) (number_slashless (decimal n) (number_digits (decimal n) (written n small))) ∙ of_window (own_name out) n small)
 
 pub options_read : OptionsAreRead
 options_read = record {
@@ -123,8 +87,12 @@ options_read = record {
   waiting = λ p file is. named_file true Nowhere file is;
   trace = λ p out file is_out is_file other. (whole false out file is_out is_file other, whole true out file is_out is_file other, whole true out file is_out is_file other);
   windows = λ p out file is_out is_file apart. (cut false out file is_out is_file apart, cut true out file is_out is_file apart, cut true out file is_out is_file apart);
-  over = λ p file is. overwritten file file is is refl;
-  over_here = λ p file is. (overwritten (codes "./" ++ file) file refl is (here file), overwritten file (codes "./" ++ file) is refl (sym (here file)));
+  over = λ p file is. overwritten file file is is (one_file_itself file);
+  over_here = λ p file is rootless. (overwritten (codes "./" ++ file) file refl is (one_file_here file rootless).0, overwritten file (codes "./" ++ file) is refl (one_file_here file rootless).1);
+  over_spelled = λ p front back is. (
+    overwritten (front ++ (codes "//" ++ back)) (front ++ (codes "/" ++ back)) (still_file front (codes "/" ++ back) back is) is (one_file_twice front back),
+    overwritten (front ++ (codes "/./" ++ back)) (front ++ (codes "/" ++ back)) (still_file front (codes "./" ++ back) back is) is (one_file_dotted front back),
+  );
   over_window = λ p out n is_out is_file small. over out n is_out is_file small;
 }
 

@@ -3,57 +3,23 @@ use Rattle.std.proofs.Common.{◌≡◌, ℕ, Bool, List, Option, Some, Result, 
 use Rattle.std.specs.Prelude.{Vec}
 use Rattle.std.specs.declared.alloc.Global.{Global}
 use Rattle.std.specs.Io.KnownBytes.{Appends}
-use Rattle.std.proofs.lemmas.Option.{get_or_from_slice_get}
-use Rattle.lockword.specs.declared.reply.Reply.{Reply}
 use Rattle.histories.specs.declared.entry.Entry.{Entry}
 use Rattle.judge.specs.declared.judging.Judgement.{Judgement}
 use Rattle.judge.specs.declared.judging.Judgement.TheVariants.{Legal, Illegal, Undecided}
-use Rattle.judge.specs.declared.reason.Reason.{Reason}
-use Rattle.judge.specs.Judgements.{IsJudged}
 use Rattle.windows.specs.Texts.{certificate_text}
-use Rattle.judge_report.specs.declared.reading.History.{History}
 use Rattle.judge_report.specs.declared.reading.ReadFault.{ReadFault}
 use Rattle.judge_report.specs.declared.reading.ReadFault.TheVariants as read
-use Rattle.judge_report.specs.declared.tracing.Untraced.{Untraced}
-use Rattle.judge_report.specs.declared.tracing.Untraced.TheVariants as why
 use Rattle.judge_report.specs.Asked.{Whole}
 use Rattle.judge_report.specs.Heard.{Gives, heard_of, history_read}
 use Rattle.judge_report.specs.Kept.{IsFilled}
 use Rattle.judge_report.specs.Said.{IsSaid}
 use Rattle.judge_report.specs.Served.{Serves}
-use Rattle.judge_report.specs.Traces.{IsTrace, IsUndecided, IsUntraced, TracesAreWritten, WritesTrace, unread_by}
-use Rattle.judge_report.proofs.Saying.{is_illegal, is_legal}
-
--- what a value is known to be, said otherwise
-pub if_ok_so : {X E : Type 0} {P Q : X → Type 0} (r : Result X E) → ((x : X) → P x → Q x) → IfOk r P → IfOk r Q
-if_ok_so (Ok x) so p = so x p
-if_ok_so (Err e) so p = p
+use Rattle.judge_report.specs.Traces.{IsUntraced, TracesAreWritten, WritesTrace, unread_by}
 
 pub unread : (bytes : List ℕ) (e : ReadFault) → Gives (history_read bytes) (Err e) → IsUntraced bytes (unread_by e)
 unread bytes read.Failed gives = tt
 unread bytes read.Memory gives = tt
 unread bytes (read.Ill f) gives = gives
-
-pub whole : (h : History) (j : Judgement) (steps : Vec Entry Global) (text : List ℕ) → j ≡ Legal steps → IsJudged h.head h.lines.items j → text ≡ certificate_text h.head steps.items → IsTrace (heard_of h) text
-whole h j steps text is judged same = inl (record { steps = steps.items; legal = is_legal h steps.items (subst (IsJudged h.head h.lines.items) is judged); is = same })
-
-pub up_to : (h : History) (j : Judgement) (at : ℕ) (why : Reason) (possible : Vec Reply Global) (steps : Vec Entry Global) (text : List ℕ) → j ≡ Illegal at why possible steps → IsJudged h.head h.lines.items j → text ≡ certificate_text h.head steps.items
-    → IsTrace (heard_of h) text
-up_to h j at why possible steps text is judged same =
-    let so = subst (IsJudged h.head h.lines.items) is judged in
-    inr (record {
-      line = so.line;
-      why = why;
-      possible = possible.items;
-      steps = steps.items;
-      illegal = is_illegal h at so.line why possible.items steps.items so (sym (get_or_from_slice_get h.lines.items at so.line so.line so.stands));
-      is = same;
-    })
-
-pub undecided : (h : History) (bytes : List ℕ) (e : Untraced) → history_read bytes ≡ Ok (heard_of h) → IsUndecided (heard_of h) e → IsUntraced bytes e
-undecided h bytes why.OutOfMemory read so = tt
-undecided h bytes (why.Ill f) read so = absurd so
-undecided h bytes (why.Undecided line) read so = (heard_of h, read, so)
 
 -- ---- what is written
 

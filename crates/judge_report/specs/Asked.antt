@@ -10,6 +10,7 @@ use Rattle.judge_report.specs.declared.asking.Form.TheVariants as form
 use Rattle.judge_report.specs.declared.asking.Keeping.{Keeping}
 use Rattle.judge_report.specs.declared.asking.Keeping.TheVariants as keeping
 use Rattle.streams.specs.Words.{is_file_word}
+use Rattle.judge_report.specs.Paths.{in_one_directory, name_one_file, own_name}
 
 -- where the certificate of a legal history is kept: nowhere; whole, in the file of this name; or in windows, each in a
 -- file whose name begins so
@@ -42,21 +43,20 @@ abbrev pub is_number_part : List ℕ → Bool
 is_number_part [] = false
 is_number_part (b ∷ bs) = (b == 46) && list_all is_ascii_digit bs
 
--- a window that is kept in OUT.1, OUT.2 and so on could be in the file of this name: after OUT and a point it has digits
+-- a window that is kept in OUT.1, OUT.2 and so on could be in the file of this own name: after OUT and a point it has
+-- digits
 abbrev pub is_window : List ℕ → List ℕ → Bool
 is_window out file = starts_with nat_eq file out && is_number_part (drop (length out) file)
 
--- a name without `./` at its beginning, as often as that is there
-unfoldable pub bare : List ℕ → List ℕ
-bare [] = []
-bare (a ∷ []) = a ∷ []
-bare (a ∷ b ∷ name) = if (a == 46) && (b == 47) then bare name else a ∷ b ∷ name
+-- in the same directory a window could be in it
+abbrev pub is_window_at : List ℕ → List ℕ → Bool
+is_window_at out file = in_one_directory out file && is_window (own_name out) (own_name file)
 
--- the certificate would be written over the file of this name, as names are written but for `./` at their beginning
+-- the certificate would be written over the file of this name, as far as names tell
 abbrev pub is_overwritten : Kept → List ℕ → Bool
 is_overwritten Nowhere file = false
-is_overwritten (Whole out) file = bytes_eq (bare out) (bare file)
-is_overwritten (Windows out) file = is_window (bare out) (bare file)
+is_overwritten (Whole out) file = name_one_file out file
+is_overwritten (Windows out) file = is_window_at out file
 
 -- a judgement of the history in the file of this name, if that isn't overwritten
 abbrev pub placed : Bool → Kept → List ℕ → Asked

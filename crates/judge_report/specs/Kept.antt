@@ -73,6 +73,12 @@ IsUndecidedKept Makes Fills (Whole name) = IsWritten Makes Fills name []
 IsUndecidedKept Makes Fills Nowhere = Unit {0}
 IsUndecidedKept Makes Fills (Windows out) = Unit {0}
 
+-- the file of the window after these isn't there
+abbrev pub IsCleared : (List ℕ → Type 0) → Kept → List Cut → Type 0
+IsCleared Lacks Nowhere cuts = Unit {0}
+IsCleared Lacks (Whole name) cuts = Unit {0}
+IsCleared Lacks (Windows out) cuts = Lacks (window_name out (length cuts + 1))
+
 -- so it is where there is one
 abbrev pub IsFilled : (List ℕ → Option (List ℕ) → Type 0) → (List ℕ → Option (List ℕ) → Type 0) → Kept → Heard
     → Judgement → List Cut → Type 0

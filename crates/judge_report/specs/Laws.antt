@@ -41,10 +41,11 @@ use Rattle.windows.specs.Texts.{certificate_text, steps_count}
 use Rattle.windows.specs.Windows.{IsWindow}
 use Rattle.judge_report.specs.declared.keeping.Cut.{Cut}
 use Rattle.judge_report.specs.declared.messages.Failure.{Failure}
-use Rattle.judge_report.specs.Asked.{Asked, Judging, Kept, Nothing, Nowhere, Overwrites, Whole, Windows, asked_of, is_window, bare}
+use Rattle.judge_report.specs.Asked.{Asked, Judging, Kept, Nothing, Nowhere, Overwrites, Whole, Windows, asked_of, is_window_at}
 use Rattle.judge_report.specs.Heard.{Heard, history_read}
 use Rattle.judge_report.specs.Kept.{IsFilled, IsKept, IsWritten, window_name}
 use Rattle.judge_report.specs.Messages.{failure_text}
+use Rattle.judge_report.specs.Paths.{is_from_root, name_one_file}
 use Rattle.judge_report.specs.Programs.{RunEnds}
 use Rattle.judge_report.specs.Said.{IsFirstIllegal, IsLegalBefore, IsSaid, told}
 use Rattle.judge_report.specs.Served.{IsRead}
@@ -146,26 +147,35 @@ LinesAreNumbered = (bytes : List ℕ) (k : Heard) → history_read bytes ≡ Ok 
 
 -- ---- options
 
+-- the whole certificate of the history in this file would be written over it
+abbrev pub Overwritten : List ℕ → List ℕ → List ℕ → Type 0
+Overwritten p out file = asked_of (p ∷ codes "--trace" ∷ out ∷ file ∷ []) ≡ Overwrites file
+
 -- what is asked for by the words of a command line, whose first is any; file and out are names of files
 pub record OptionsAreRead : Type 0 where
   pub plain : (p file : List ℕ) → is_file_word file ≡ true → asked_of (p ∷ file ∷ []) ≡ Judging false Nowhere file
   pub waiting : (p file : List ℕ) → is_file_word file ≡ true
       → asked_of (p ∷ codes "--waiting" ∷ file ∷ []) ≡ Judging true Nowhere file
-  pub trace : (p out file : List ℕ) → is_file_word out ≡ true → is_file_word file ≡ true → bare out ≢ bare file
+  pub trace : (p out file : List ℕ) → is_file_word out ≡ true → is_file_word file ≡ true
+      → name_one_file out file ≡ false
       → (asked_of (p ∷ codes "--trace" ∷ out ∷ file ∷ []) ≡ Judging false (Whole out) file)
       × (asked_of (p ∷ codes "--waiting" ∷ codes "--trace" ∷ out ∷ file ∷ []) ≡ Judging true (Whole out) file)
       × (asked_of (p ∷ codes "--trace" ∷ out ∷ codes "--waiting" ∷ file ∷ []) ≡ Judging true (Whole out) file)
   pub windows : (p out file : List ℕ) → is_file_word out ≡ true → is_file_word file ≡ true
-      → is_window (bare out) (bare file) ≡ false
+      → is_window_at out file ≡ false
       → (asked_of (p ∷ codes "--windows" ∷ out ∷ file ∷ []) ≡ Judging false (Windows out) file)
       × (asked_of (p ∷ codes "--waiting" ∷ codes "--windows" ∷ out ∷ file ∷ []) ≡ Judging true (Windows out) file)
       × (asked_of (p ∷ codes "--windows" ∷ out ∷ codes "--waiting" ∷ file ∷ []) ≡ Judging true (Windows out) file)
   -- and the history isn't written over, by a whole certificate or by a window
   pub over : (p file : List ℕ) → is_file_word file ≡ true
       → asked_of (p ∷ codes "--trace" ∷ file ∷ file ∷ []) ≡ Overwrites file
-  pub over_here : (p file : List ℕ) → is_file_word file ≡ true
+  pub over_here : (p file : List ℕ) → is_file_word file ≡ true → is_from_root file ≡ false
       → (asked_of (p ∷ codes "--trace" ∷ (codes "./" ++ file) ∷ file ∷ []) ≡ Overwrites file)
       × (asked_of (p ∷ codes "--trace" ∷ file ∷ (codes "./" ++ file) ∷ []) ≡ Overwrites (codes "./" ++ file))
+  -- nor where a name has a slash twice, or `.` between two, wherever that is
+  pub over_spelled : (p front back : List ℕ) → is_file_word (front ++ (codes "/" ++ back)) ≡ true
+      → Overwritten p (front ++ (codes "//" ++ back)) (front ++ (codes "/" ++ back))
+      × Overwritten p (front ++ (codes "/./" ++ back)) (front ++ (codes "/" ++ back))
   pub over_window : (p out : List ℕ) (n : ℕ) → is_file_word out ≡ true → is_file_word (window_name out n) ≡ true
       → n < 2 ^ 64 → asked_of (p ∷ codes "--windows" ∷ out ∷ window_name out n ∷ []) ≡ Overwrites (window_name out n)
 

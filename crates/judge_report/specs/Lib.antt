@@ -5,6 +5,7 @@ pub mod Asked
 pub mod Kept
 pub mod Said
 pub mod Messages
+pub mod Paths
 pub mod Served
 pub mod Programs
 pub mod Laws

@@ -2,15 +2,23 @@
 --
 -- *The trace of a history.* Of a legal one it is that of a certificate. Of an illegal one it is that of a certificate of
 -- the lines before the illegal line, with that line at its end. An undecided one has none.
-use Rattle.std.specs.Prelude.{ℕ, ◌≡◌, ◌⊎◌, Bool, List, [], Option, Some, Ok, Err}
+use Rattle.std.specs.Prelude.{ℕ, ◌≡◌, ◌+◌, ◌⊎◌, Bool, List, [], ◌∷◌, ◌++◌, length, reverse}
+use Rattle.std.specs.Prelude.{Option, Some, None, option_map, Ok, Err}
 use Rattle.std.specs.Io.KnownBytes.{Appends}
 use Rattle.lockword.specs.declared.reply.Reply.{Reply}
 use Rattle.histories.specs.declared.entry.Entry.{Entry}
 use Rattle.histories.specs.declared.entry.HistoryLine.{HistoryLine}
+use Rattle.facts.specs.declared.fact.Line.{Line}
+use Rattle.histories.specs.declared.entry.Entry.TheVariants.{Told, Doom}
+use Rattle.certificates.specs.Certificates.{trace_of}
+use Rattle.judge.specs.declared.judging.Judgement.{Judgement}
+use Rattle.judge.specs.declared.judging.Judgement.TheVariants.{Legal, Illegal}
+use Rattle.judge.specs.declared.judging.Judgement.TheVariants as judged
 use Rattle.judge.specs.declared.reason.Reason.{Reason}
 use Rattle.windows.specs.Texts.{certificate_text}
 use Rattle.judge_report.specs.declared.reading.ReadFault.{ReadFault}
 use Rattle.judge_report.specs.declared.reading.ReadFault.TheVariants as read
+use Rattle.judge_report.specs.declared.tracing.Explained.{Explained}
 use Rattle.judge_report.specs.declared.tracing.Untraced.{Untraced}
 use Rattle.judge_report.specs.declared.tracing.Untraced.TheVariants.{OutOfMemory, Ill, Undecided}
 use Rattle.judge_report.specs.Asked.{Whole}
@@ -18,7 +26,7 @@ use Rattle.judge_report.specs.Heard.{Heard, history_read}
 use Rattle.judge_report.specs.Kept.{IsWritten}
 use Rattle.judge_report.specs.Said.{IsIllegal, IsLegal, IsLegalBefore}
 use Rattle.judge_report.specs.Served.{Serves}
-use Rattle.judge_report.specs.Texts.{undecided_text}
+use Rattle.judge_report.specs.Texts.{illegal_text, undecided_text}
 
 -- the text is that of a certificate of the whole history
 pub record IsWholeTrace (k : Heard) (text : List ℕ) : Type 0 where
@@ -42,14 +50,44 @@ IsTrace k text = IsWholeTrace k text ⊎ IsTraceUpTo k text
 abbrev pub IsTraceOf : List ℕ → List ℕ → Type 0
 IsTraceOf bytes text = (k : Heard) × (history_read bytes ≡ Ok k) × IsTrace k text
 
--- why there is none of a history that was read: memory was needed; or it isn't decided at this line, before which it is
--- legal
-abbrev pub IsUndecided : Heard → Untraced → Type 0
-IsUndecided k OutOfMemory = Unit {0}
-IsUndecided k (Ill f) = ⊥
-IsUndecided k (Undecided line) = IsLegalBefore k line
+-- ---- the trace that is drawn
 
--- and of these bytes: they may have a fault, too
+-- the lines of the trace that steps are, in their order
+abbrev pub lines_of : List Entry → List Line
+lines_of steps = reverse (trace_of (reverse steps))
+
+-- these and the line that a step tells, if it tells one
+abbrev pub with_step : List Line → Entry → List Line
+with_step ls (Told f) = ls ++ (record { event = length ls + 1; fact = f }) ∷ []
+with_step ls (Doom t) = ls
+
+-- these steps are a certificate of a legal history; or they show an illegal one up to its illegal line, which is the last,
+-- and this is what the program says of it
+abbrev pub IsExplained : Heard → List Entry → Option (List ℕ) → Type 0
+IsExplained k steps None = IsLegal k steps
+IsExplained k steps (Some said) = (line : HistoryLine) × (why : Reason) × (possible : List Reply)
+    × (is : IsIllegal k line why possible steps)
+    × (said ≡ illegal_text (reverse is.first.before.earlier) line why possible)
+
+-- a trace shows a history so, and this is said of it
+pub record IsShown (k : Heard) (x : Explained) : Type 0 where
+  pub head : x.head ≡ k.head
+  pub steps : List Entry
+  pub lines : x.lines.items ≡ lines_of steps
+  pub explained : IsExplained k steps (option_map (λ v. v.items) x.said)
+
+-- the bytes are a history, which is shown so
+abbrev pub IsShownOf : List ℕ → Explained → Type 0
+IsShownOf bytes x = (k : Heard) × (history_read bytes ≡ Ok k) × IsShown k x
+
+-- why a history that was judged so isn't shown: memory was needed; or it isn't decided at this line, before which it is
+-- legal
+abbrev pub IsUnshown : Heard → Judgement → Untraced → Type 0
+IsUnshown k (Legal steps) e = e ≡ OutOfMemory
+IsUnshown k (Illegal at why possible steps) e = e ≡ OutOfMemory
+IsUnshown k (judged.Undecided at) e = (line : HistoryLine) × (e ≡ Undecided line) × IsLegalBefore k line
+
+-- and why these bytes aren't: they may have a fault, too
 abbrev pub IsUntraced : List ℕ → Untraced → Type 0
 IsUntraced bytes OutOfMemory = Unit {0}
 IsUntraced bytes (Ill f) = history_read bytes ≡ Err f

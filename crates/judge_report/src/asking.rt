@@ -3,9 +3,11 @@
 ghost use Rattle.std.specs.Prelude.{◌≡◌, map, option_map};
 ghost use Rattle.std.specs.Char.{is_ascii_digit};
 ghost use Rattle.std.specs.List.{list_all};
-ghost use Rattle.judge_report.specs.Asked.{asked_by, asked_of, is_number_part, is_waiting_word, is_window, judging};
-ghost use Rattle.judge_report.specs.Asked.{kept_of, place_words, placed, bare, with_place};
+ghost use Rattle.judge_report.specs.Asked.{asked_by, asked_of, is_number_part, is_waiting_word, is_window, is_window_at};
+ghost use Rattle.judge_report.specs.Asked.{judging, kept_of, place_words, placed, with_place};
+ghost use Rattle.judge_report.specs.Paths.{name_one_file};
 
+use crate::paths::own_names;
 use streams::is_file;
 
 /// Where the certificate of a legal history is kept.
@@ -68,28 +70,31 @@ fn is_number_part(bytes: &[u8]) -> bool
     }
 }
 
-/// Whether a window of a certificate that is kept in OUT.1, OUT.2 and so on could be written to this file: after OUT and
-/// a point its name has a number.
+/// Whether a window of a certificate that is kept in OUT.1, OUT.2 and so on could have this own name: after OUT and a
+/// point it has a number.
 fn is_window(out: &[u8], file: &[u8]) -> bool
     ensures { result ≡ is_window out.now file.now }
 {
     file.starts_with(out) && is_number_part(&file[out.len()..])
 }
 
-/// The name without `./` at its beginning, as often as that is there.
-#[tactic(auto, unfolding(crate::specs::Asked::bare))]
-fn bare(name: &[u8]) -> &[u8]
-    ensures { result.now ≡ bare name.now }
+/// Whether both names are of one file.
+fn name_one_file(out: &str, file: &str) -> bool
+    ensures { result ≡ name_one_file out.now file.now }
 {
-    match name {
-        [a, b, rest @ ..] => {
-            if *a == b'.' && *b == b'/' {
-                bare(rest)
-            } else {
-                name
-            }
-        }
-        _ => name,
+    match own_names(out, file) {
+        Some((own, other)) => own == other,
+        None => false,
+    }
+}
+
+/// Whether a window of a certificate that is kept in OUT.1, OUT.2 and so on could be written over this file.
+fn is_window_at(out: &str, file: &str) -> bool
+    ensures { result ≡ is_window_at out.now file.now }
+{
+    match own_names(out, file) {
+        Some((own, other)) => is_window(own.as_bytes(), other.as_bytes()),
+        None => false,
     }
 }
 
@@ -100,14 +105,14 @@ fn placed<'a>(waiting: bool, keeping: Keeping<'a>, file: &'a str) -> Form<'a>
     match keeping {
         Keeping::Nowhere => Form::History(waiting, Keeping::Nowhere, file),
         Keeping::Whole(out) => {
-            if bare(out.as_bytes()) == bare(file.as_bytes()) {
+            if name_one_file(out, file) {
                 Form::Overwriting(file)
             } else {
                 Form::History(waiting, Keeping::Whole(out), file)
             }
         }
         Keeping::Windows(out) => {
-            if is_window(bare(out.as_bytes()), bare(file.as_bytes())) {
+            if is_window_at(out, file) {
                 Form::Overwriting(file)
             } else {
                 Form::History(waiting, Keeping::Windows(out), file)

@@ -131,7 +131,7 @@ fn write_earlier<W: Write>(
     }
 }
 
-/// Who left the mutex since somebody got it.
+/// Writes who left the mutex since somebody got it.
 fn write_left_since<W: Write>(
     out: &mut W,
     lines: &[HistoryLine],
@@ -143,7 +143,7 @@ fn write_left_since<W: Write>(
     write_earlier(out, lines, mutex, &evidence.left)
 }
 
-/// Who declared the mutex consistent, and who left it, since somebody got it.
+/// Writes who declared the mutex consistent, and who left it, since somebody got it.
 fn write_changes_since<W: Write>(
     out: &mut W,
     lines: &[HistoryLine],
@@ -157,7 +157,7 @@ fn write_changes_since<W: Write>(
     write_left_since(out, lines, mutex, evidence)
 }
 
-/// Who got the mutex last, and who changed it since.
+/// Writes who got the mutex last, and who changed it since.
 fn write_replies<W: Write>(
     out: &mut W,
     lines: &[HistoryLine],

@@ -1,12 +1,12 @@
 //! Keeping a certificate: in one file, or in a file for each of its windows.
 
-ghost use Rattle.std.specs.Prelude.{◌≡◌, ◌≤◌, [], length, reverse, string_bytes, IfOk, IfErr};
+ghost use Rattle.std.specs.Prelude.{◌≡◌, ◌≤◌, ◌+◌, [], length, reverse, string_bytes, IfOk, IfErr};
 ghost use Rattle.histories.specs.Reading.{IsHead};
 ghost use Rattle.windows.specs.Texts.{certificate_text, steps_count};
 ghost use Rattle.windows.specs.Windows.{IsWindow};
 ghost use Rattle.judge_report.specs.Asked.{kept_of};
 ghost use Rattle.judge_report.specs.Heard.{heard_of};
-ghost use Rattle.judge_report.specs.Kept.{AreKept, IsCutOf, IsFilled, IsIllegalKept, IsKept, IsUnkept};
+ghost use Rattle.judge_report.specs.Kept.{AreKept, IsCleared, IsCutOf, IsFilled, IsIllegalKept, IsKept, IsUnkept};
 ghost use Rattle.judge_report.specs.Kept.{IsUndecidedKept, IsWindowKept, IsWritten};
 ghost use Rattle.judge_report.specs.Kept.{uncut_by, window_name};
 
@@ -112,7 +112,50 @@ fn keep_window<M: Maker>(
     }
 }
 
-/// Cuts a certificate, and fills a file for each window; what they have of it.
+/// Removes the file of the window with this number; false if there is none.
+fn remove_window<M: Maker>(
+    alloc: Global,
+    maker: &M,
+    out: &str,
+    number: usize,
+) -> Result<bool, Failure>
+    ensures removed { IfOk result (λ _. M.lacks maker.now (window_name out.now number)) }
+    ensures fails { IfErr result IsUnkept }
+{
+    let Ok(name) = window_name(alloc, out, number) else {
+        return Err(Failure::OutOfMemory);
+    };
+    match maker.remove(&name) {
+        Ok(removed) => Ok(removed),
+        Err(_kept) => Err(Failure::CannotKeep),
+    }
+}
+
+/// Removes the files of windows after this many, which another history left, up to the first that isn't there. Returns
+/// these windows.
+fn without_older<M: Maker>(
+    alloc: Global,
+    maker: &M,
+    out: &str,
+    cuts: Vec<Cut>,
+) -> Result<Vec<Cut>, Failure>
+    ensures same { IfOk result (λ kept. kept.items ≡ cuts.items) }
+    ensures removed { IfOk result (λ kept. M.lacks maker.now (window_name out.now (length kept.items + 1))) }
+    ensures fails { IfErr result IsUnkept }
+{
+    let first = cuts.len() + 1;
+    let mut removed = remove_window(alloc, maker, out, first)?;
+    for number in first.saturating_add(1)..usize::MAX {
+        if !removed {
+            break;
+        }
+        removed = remove_window(alloc, maker, out, number)?;
+    }
+    Ok(cuts)
+}
+
+/// Cuts a certificate, fills a file for each window, and removes those of later windows. Returns what the windows have of
+/// it.
 fn keep_windows<M: Maker>(
     alloc: Global,
     maker: &M,
@@ -123,6 +166,7 @@ fn keep_windows<M: Maker>(
     requires { IsHead head.now }
     ensures kept { IfOk result (λ cuts. AreKept (M.makes maker.now) (M.fills maker.now) out.now head.now steps.now
         (length steps.now) (reverse cuts.items)) }
+    ensures removed { IfOk result (λ cuts. M.lacks maker.now (window_name out.now (length cuts.items + 1))) }
     ensures fails { IfErr result IsUnkept }
 {
     let mut cutter = match Cutter::new(alloc, head) {
@@ -133,7 +177,7 @@ fn keep_windows<M: Maker>(
     loop {
         let window = match cutter.next(alloc, head, steps) {
             Ok(Some(window)) => window,
-            Ok(None) => return Ok(cuts),
+            Ok(None) => return without_older(alloc, maker, out, cuts),
             Err(why) => return Err(uncut_by(why)),
         };
         let number = cuts.len() + 1;
@@ -156,6 +200,7 @@ fn keep_steps<M: Maker>(
     requires { IsHead head.now }
     ensures kept { IfOk result (λ cuts. IsKept (M.makes maker.now) (M.fills maker.now) (kept_of keeping.entry) head.now
         steps.now cuts.items) }
+    ensures removed { IfOk result (λ cuts. IsCleared (M.lacks maker.now) (kept_of keeping.entry) cuts.items) }
     ensures fails { IfErr result IsUnkept }
 {
     match keeping {
@@ -168,6 +213,15 @@ fn keep_steps<M: Maker>(
     }
 }
 
+/// Removes the files of windows, as the history has none.
+fn keep_no_window<M: Maker>(alloc: Global, maker: &M, out: &str) -> Result<Vec<Cut>, Failure>
+    ensures none { IfOk result (λ cuts. cuts.items ≡ []) }
+    ensures removed { IfOk result (λ cuts. M.lacks maker.now (window_name out.now (length cuts.items + 1))) }
+    ensures fails { IfErr result IsUnkept }
+{
+    without_older(alloc, maker, out, Vec::new(alloc))
+}
+
 /// Keeps the trace of an illegal history up to its illegal line, if it is to be kept whole; windows it has none.
 fn keep_illegal<M: Maker>(
     alloc: Global,
@@ -178,6 +232,7 @@ fn keep_illegal<M: Maker>(
 ) -> Result<Vec<Cut>, Failure>
     ensures kept { IfOk result (λ cuts. IsIllegalKept (M.makes maker.now) (M.fills maker.now) (kept_of keeping.entry)
         head.now steps.now × (cuts.items ≡ [])) }
+    ensures removed { IfOk result (λ cuts. IsCleared (M.lacks maker.now) (kept_of keeping.entry) cuts.items) }
     ensures fails { IfErr result IsUnkept }
 {
     match keeping {
@@ -186,7 +241,7 @@ fn keep_illegal<M: Maker>(
             Ok(()) => Ok(Vec::new(alloc)),
             Err(_unwritten) => Err(Failure::CannotKeep),
         },
-        Keeping::Windows(_) => Ok(Vec::new(alloc)),
+        Keeping::Windows(out) => keep_no_window(alloc, maker, out),
     }
 }
 
@@ -198,6 +253,7 @@ fn keep_undecided<M: Maker>(
 ) -> Result<Vec<Cut>, Failure>
     ensures kept { IfOk result (λ cuts. IsUndecidedKept (M.makes maker.now) (M.fills maker.now) (kept_of keeping.entry)
         × (cuts.items ≡ [])) }
+    ensures removed { IfOk result (λ cuts. IsCleared (M.lacks maker.now) (kept_of keeping.entry) cuts.items) }
     ensures fails { IfErr result IsUnkept }
 {
     match keeping {
@@ -206,12 +262,13 @@ fn keep_undecided<M: Maker>(
             Ok(()) => Ok(Vec::new(alloc)),
             Err(_unwritten) => Err(Failure::CannotKeep),
         },
-        Keeping::Windows(_) => Ok(Vec::new(alloc)),
+        Keeping::Windows(out) => keep_no_window(alloc, maker, out),
     }
 }
 
 /// Keeps the certificate, where there is one, where it is to be kept, or a trace of an illegal history up to its illegal
-/// line; of an undecided one the file is left empty. Returns which windows the certificate was cut into.
+/// line; of an undecided one the file is left empty. The files of windows after these are removed, up to the first number
+/// that no file has. Returns which windows the certificate was cut into.
 pub fn keep<M: Maker>(
     alloc: Global,
     maker: &M,
@@ -222,6 +279,7 @@ pub fn keep<M: Maker>(
     requires { IsHead history.now.head }
     ensures filled { IfOk result (λ cuts. IsFilled (M.makes maker.now) (M.fills maker.now) (kept_of keeping.entry)
         (heard_of history.now) judgement.now cuts.items) }
+    ensures removed { IfOk result (λ cuts. IsCleared (M.lacks maker.now) (kept_of keeping.entry) cuts.items) }
     ensures fails { IfErr result IsUnkept }
 {
     match judgement {

@@ -24,8 +24,8 @@ pub fn statuses_are_right<F: Opener, M: Maker, W: Output, E: Write>(
         (after.now ≡ before.now) }
 {}
 
-/// Of a history that was read, each line that is kept is what its line of the bytes says, counted from 1, and no line that
-/// says something is left out. So the L in `illegal at line L` is a line of the file.
+/// In a history that was read, each line that is kept is what its line of the bytes says, counted from 1, and no line
+/// that says something is left out. So the L in `illegal at line L` is a line of the file.
 pub fn lines_are_numbered()
     ensures { LinesAreNumbered }
 {}
@@ -41,14 +41,14 @@ pub fn options_are_read()
     ensures { OptionsAreRead }
 {}
 
-/// And that is what is kept: nothing without an option, one file with the whole certificate or with the trace up to the
-/// illegal line, or a file for each window, which has the certificate's events that its line says.
+/// Each option keeps what it asks for: nothing without an option, one file with the whole certificate or with the trace
+/// up to the illegal line, or a file for each window, which has the certificate's events that its line says.
 pub fn options_write<M: Maker>(maker: &M)
     ensures { OptionsWrite (M.makes maker.now) (M.fills maker.now) }
 {}
 
-/// With `--trace OUT` a trace of the history is written to OUT, as [`trace_of`](crate::trace_of) returns one; or the
-/// history isn't decided, which is reported, and OUT is left empty.
+/// With `--trace OUT` a trace that shows the history is written to OUT, as [`explain_history`](crate::explain_history)
+/// returns its lines; or the history is undecided, which is reported, and OUT is left empty.
 pub fn traces_are_written<M: Maker>(maker: &M)
     ensures { TracesAreWritten (M.makes maker.now) (M.fills maker.now) }
 {}

@@ -65,7 +65,7 @@ fn named(alloc: Global, waiting: bool, judgement: &Judgement) -> Result<Vec<Wait
 }
 
 /// The line at this place, counted from 0.
-fn line_of(history: &History, at: usize) -> HistoryLine
+pub fn line_of(history: &History, at: usize) -> HistoryLine
     requires { at < length history.now.lines.items }
     ensures { result ≡ get_or history.now.lines.items at result }
 {
@@ -73,7 +73,7 @@ fn line_of(history: &History, at: usize) -> HistoryLine
 }
 
 /// The lines before this place, counted from 0.
-fn lines_before(history: &History, at: usize) -> &[HistoryLine]
+pub fn lines_before(history: &History, at: usize) -> &[HistoryLine]
     requires { at < length history.now.lines.items }
     ensures { result.now ≡ take at history.now.lines.items }
 {
@@ -145,9 +145,9 @@ fn tell_out<W: Output>(
     }
 }
 
-/// Judges the history that the reader has, keeps its certificate where it is to be kept, tells what the history was found
-/// to be, with the windows that its certificate was cut into, and with the calls that still wait and shouldn't, if they
-/// are asked for, and answers the exit status.
+/// Judges the history that the reader has, keeps its certificate if it is to be kept, and writes what the history was
+/// found to be. Then come the windows that its certificate was cut into, and the calls that still wait and shouldn't, if
+/// these are asked for. Returns the exit status.
 pub fn serve<R: Read + Drop, M: Maker, W: Output>(
     alloc: Global,
     waiting: bool,

@@ -1,5 +1,5 @@
 -- The script reads what is written.
-use Rattle.std.proofs.Common.{◌≡◌, ◌≢◌, ◌∙◌, ◌==◌, ◌∷◌, ◌++◌, Bool, true, false, ℕ, Option, Some, None, List, [], append-nil, append_assoc, ap, length, map, not, option_map, refl, subst, sym, arith}
+use Rattle.std.proofs.Common.{◌≡◌, ◌+◌, ◌≢◌, ◌∙◌, ◌==◌, ◌∷◌, ◌++◌, Bool, true, false, ℕ, Option, Some, None, List, [], append-nil, append_assoc, ap, length, map, not, option_map, refl, subst, sym, arith}
 use Rattle.std.specs.Prelude.{codes, decimal, if◌then◌else◌}
 use Rattle.std.specs.List.{concat}
 use Rattle.std.proofs.lemmas.Bool.Decides.{nat_tests}
@@ -18,8 +18,8 @@ use Rattle.facts.specs.declared.fact.Queue.TheVariants as queue
 use Rattle.reasons.specs.Reasons.{reason_text}
 use Rattle.verdict.specs.declared.checking.Finding.{Finding}
 use Rattle.verdict.specs.declared.checking.Finding.TheVariants.{Illegal, Legal}
-use Rattle.page.specs.Data.{end_text, misfit_line, misfit_text}
-use Rattle.page.specs.Decoding.{Array, Begins, CallRead, IsEnd, IsLine, IsMisfitLine, IsObject, IsStatus, IsWhole, Json, Nothing, Number, PointRead, Reads, Say, ScriptReadsStates, StatusRead, Word, at, bed_read, call_read, call_shown, fact_read, fact_shown, has, is_there, number, point_read, point_shown, writes}
+use Rattle.page.specs.Data.{end_text, history_end, illegal_end, illegal_start, misfit_line, misfit_text}
+use Rattle.page.specs.Decoding.{Array, Begins, CallRead, IsEnd, IsHistoryEnd, IsLine, IsMisfitLine, IsObject, IsStatus, IsWhole, Json, Nothing, Number, PointRead, Reads, Say, ScriptReadsStates, StatusRead, Word, at, bed_read, call_read, call_shown, fact_read, fact_shown, has, is_there, number, point_read, point_shown, writes}
 use Rattle.page.specs.Escapes.{escaped}
 use Rattle.page.specs.Shows.{Turn, Whole}
 use Rattle.page.specs.States.{Change, Mutex, Shown, change_of, mutex_behind}
@@ -340,6 +340,23 @@ misfit_back : (o : Option Line) → IsMisfitLine o (misfit_value o)
 misfit_back None = refl
 misfit_back (Some e) = (refl, refl, fact_back e.fact)
 
+illegal_end_is : (w : List ℕ) (last line : ℕ) (why : List ℕ) (ls : List Line) (o : Option Line) → illegal_start w last (length ls) line ++ (escaped why ++ illegal_end o) ≡ writes true (Array (Word w) (Array (Number last) (Array (Number (length ls)) (Array (Number line) (Array (Word (escaped why)) (Array (misfit_value o) Nothing)))))) (codes "\n]\n")
+illegal_end_is w last line why ls o =
+    spread (codes "[\"" ∷ w ∷ codes "\"," ∷ decimal last ∷ codes "," ∷ decimal (length ls) ∷ codes "," ∷ decimal line ∷ codes ",\"" ∷ []) _
+    ∙ ap (λ l. codes "[\"" ++ (w ++ (codes "\"," ++ (decimal last ++ (codes "," ++ (decimal (length ls) ++ (codes "," ++ (decimal line ++ (codes ",\"" ++ (escaped why ++ (codes "\"," ++ l))))))))))) (misfit_is o (codes "]\n]\n"))
+
+reads_history : (why : Option (List ℕ)) (last : ℕ) (ls : List Line) → Reads (history_end why last ls) (codes "\n]\n") (IsHistoryEnd why last ls)
+reads_history None last ls = record {
+  value = Array (Word (codes "legal history")) (Array (Number last) (Array (Number (length ls)) Nothing));
+  is = refl;
+  says = (refl, refl, refl);
+}
+reads_history (Some why) last ls = record {
+  value = Array (Word (codes "illegal history")) (Array (Number last) (Array (Number (length ls)) (Array (Number (length ls + 1)) (Array (Word (escaped why)) (Array (misfit_value (misfit_line ls (length ls + 1))) Nothing)))));
+  is = illegal_end_is (codes "illegal history") last (length ls + 1) why ls (misfit_line ls (length ls + 1));
+  says = (refl, refl, refl, refl, refl, misfit_back (misfit_line ls (length ls + 1)));
+}
+
 reads_end : (f : Finding) (last : ℕ) (ls : List Line) → Reads (end_text f last ls) (codes "\n]\n") (IsEnd f last ls)
 reads_end (Legal points) last ls = record {
   value = Array (Word (codes "legal")) (Array (Number last) (Array (Number (length ls)) Nothing));
@@ -348,9 +365,7 @@ reads_end (Legal points) last ls = record {
 }
 reads_end (Illegal found) last ls = record {
   value = Array (Word (codes "illegal")) (Array (Number last) (Array (Number (length ls)) (Array (Number found.line) (Array (Word (escaped (reason_text found.misfit))) (Array (misfit_value (misfit_line ls found.line)) Nothing)))));
-  is =
-      spread (codes "[\"illegal\"," ∷ decimal last ∷ codes "," ∷ decimal (length ls) ∷ codes "," ∷ decimal found.line ∷ codes ",\"" ∷ []) _
-      ∙ ap (λ l. codes "[\"illegal\"," ++ (decimal last ++ (codes "," ++ (decimal (length ls) ++ (codes "," ++ (decimal found.line ++ (codes ",\"" ++ (escaped (reason_text found.misfit) ++ (codes "\"," ++ l))))))))) (misfit_is (misfit_line ls found.line) (codes "]\n]\n"));
+  is = illegal_end_is (codes "illegal") last found.line (reason_text found.misfit) ls (misfit_line ls found.line);
   says = (refl, refl, refl, refl, refl, misfit_back (misfit_line ls found.line));
 }
 
@@ -360,5 +375,6 @@ script_reads_states = record {
   objects = λ o. record { value = object_value o; is = sym (append-nil (object_text o)) ∙ object_is o []; says = object_back o };
   lines = reads_line;
   wholes = reads_whole;
+  histories = reads_history;
   ends = reads_end;
 }

@@ -1,6 +1,6 @@
 -- The items of a trace's lines, one line after the other.
 use Rattle.std.proofs.Common.{◌≡◌, ℕ, suc, ◌+◌, ◌<◌, ◌≤◌, List, [], ◌∷◌, ◌++◌, length, map, take, drop, get_or, sym, ap, subst, ◌∙◌, add-one, append-nil, append_assoc, arith, drop-cons}
-use Rattle.std.specs.Prelude.{All, reverse}
+use Rattle.std.specs.Prelude.{All, Option, reverse}
 use Rattle.std.proofs.Math.Seq.{drop-length}
 use Rattle.std.proofs.lemmas.List.{length-take, map-append, reverse-append, take_more}
 use Rattle.std.specs.List.{concat}
@@ -9,7 +9,7 @@ use Rattle.std.proofs.lemmas.List.Elements.{All-get_or}
 use Rattle.facts.specs.declared.fact.Line.{Line}
 use Rattle.verdict.specs.declared.checking.Finding.{Finding}
 use Rattle.verdict.specs.declared.told.Told.{Told}
-use Rattle.page.specs.Data.{lines_shown, shown_lines}
+use Rattle.page.specs.Data.{history_lines, history_shown, lines_shown, shown_lines}
 use Rattle.page.specs.Shows.{Item, items_behind, turn}
 use Rattle.page.specs.Texts.{item_text, items_text}
 
@@ -41,6 +41,9 @@ few_taken ls n few = let h = length-take n ls in omega (arith, few, h)
 -- the lines that are shown
 pub shown_so : (t : Told) (f : Finding) (ls : List Line) (n : ℕ) → ls ≡ t.lines.items → n ≡ shown_lines f (length ls) → take n ls ≡ lines_shown t f
 shown_so t f ls n is so = ap (take n) is ∙ ap (λ (k : ℕ). take k t.lines.items) (so ∙ ap (λ (us : List Line). shown_lines f (length us)) is)
+
+pub history_so : (t : Told) (why : Option (List ℕ)) (ls : List Line) (n : ℕ) → ls ≡ t.lines.items → n ≡ history_lines why (length ls) → take n ls ≡ history_shown t why
+history_so t why ls n is so = ap (take n) is ∙ ap (λ (k : ℕ). take k t.lines.items) (so ∙ ap (λ (us : List Line). history_lines why (length us)) is)
 
 -- ---- a text that grows by what is still to come
 

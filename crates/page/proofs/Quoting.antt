@@ -32,7 +32,7 @@ use Rattle.picture.specs.Names.{Called, condition_head, condition_tail, mutex_he
 use Rattle.picture.specs.Pieces.{each}
 use Rattle.page.specs.declared.status.Bed.{Bed}
 use Rattle.page.specs.declared.status.Status.{Status}
-use Rattle.page.specs.Data.{data_text, end_text, lines_shown, misfit_text, start_text}
+use Rattle.page.specs.Data.{data_text, end_text, history_data, history_end, history_shown, lines_shown, misfit_text, start_text}
 use Rattle.page.specs.Escapes.{IsPlain, escaped}
 use Rattle.page.specs.Names.{condition_called, label_text, mutex_called, names_text, thread_called}
 use Rattle.page.specs.Quoting.{IsOfData, NamesStandInQuotes, Reading, condition_name, inside, mutex_name, names_of, outside, read_byte, thread_name}
@@ -235,6 +235,16 @@ end_fine : (f : Finding) (last : ℕ) (ls : List Line) → Fine (end_text f last
 end_fine (Legal points) last ls = simp (list_all-append, number_fine)
 end_fine (Illegal found) last ls = simp (list_all-append, number_fine, escaped_fine, misfit_fine)
 
+history_end_fine : (why : Option (List ℕ)) (last : ℕ) (ls : List Line) → Fine (history_end why last ls)
+history_end_fine None last ls = simp (list_all-append, number_fine)
+history_end_fine (Some why) last ls = simp (list_all-append, number_fine, escaped_fine, misfit_fine)
+
+history_fine : (n : Called) (t : Told) (why : Option (List ℕ)) → Fine (history_data n t why)
+history_fine n t why =
+    let items = items_behind t.head.threads t.head.mutexes [] (history_shown t why) in
+    both (start_text n t.head) _ (names_fine n t.head.threads t.head.mutexes t.head.conditions)
+    (both (items_text items) _ (all_fine item_text item_fine items) (history_end_fine why t.last _))
+
 data_fine : (n : Called) (t : Told) (f : Finding) → Fine (data_text n t f)
 data_fine n t f =
     let items = items_behind t.head.threads t.head.mutexes [] (lines_shown t f) in
@@ -299,9 +309,17 @@ read_names n h =
     read_parts (each (thread_called n) h.threads) (each (mutex_called n) h.mutexes) (each (condition_called n) h.conditions) (listed (thread_name n) h.threads) (listed (mutex_name n) h.mutexes) (listed (condition_name n) h.conditions) ts ms cs
 
 pub names_stand_in_quotes : NamesStandInQuotes
-names_stand_in_quotes t f = record {
-  names = λ n. read_names n t.head [];
-  rest = items_text (items_behind t.head.threads t.head.mutexes [] (lines_shown t f)) ++ end_text f t.last _;
-  all = λ n. refl;
-  bytes = λ n. All-weaker (λ b. is_of_data b ≡ true) IsOfData of_data (data_text n t f) (AllPass-from_list_all is_of_data (data_text n t f) (data_fine n t f));
+names_stand_in_quotes = record {
+  trace = λ t f. record {
+    names = λ n. read_names n t.head [];
+    rest = items_text (items_behind t.head.threads t.head.mutexes [] (lines_shown t f)) ++ end_text f t.last _;
+    all = λ n. refl;
+    bytes = λ n. All-weaker (λ b. is_of_data b ≡ true) IsOfData of_data (data_text n t f) (AllPass-from_list_all is_of_data (data_text n t f) (data_fine n t f));
+  };
+  history = λ t why. record {
+    names = λ n. read_names n t.head [];
+    rest = items_text (items_behind t.head.threads t.head.mutexes [] (history_shown t why)) ++ history_end why t.last _;
+    all = λ n. refl;
+    bytes = λ n. All-weaker (λ b. is_of_data b ≡ true) IsOfData of_data (history_data n t why) (AllPass-from_list_all is_of_data (history_data n t why) (history_fine n t why));
+  };
 }

@@ -1,7 +1,7 @@
 -- The data of a page.
 --
 -- *Which lines a page shows.* Those after the head that fit, up to the first that doesn't; of these the first 100,000.
-use Rattle.std.specs.Prelude.{ℕ, ◌-◌, min, Option, Some, None, List, [], ◌∷◌, ◌++◌, length, take, codes, decimal}
+use Rattle.std.specs.Prelude.{ℕ, ◌+◌, ◌-◌, min, Option, Some, None, List, [], ◌∷◌, ◌++◌, length, take, codes, decimal}
 use Rattle.std.specs.Prelude.{slice_get, slice_index_or}
 use Rattle.std.specs.List.{concat}
 use Rattle.posixmutex.specs.declared.object.Object.{Object}
@@ -44,18 +44,20 @@ lines_shown t f = take (shown_lines f (length t.lines.items)) t.lines.items
 abbrev pub start_text : Called → Head → List ℕ
 start_text n h = codes "[\n" ++ names_text n h.threads h.mutexes h.conditions
 
--- of a legal trace: the number on its last line, and how many lines it has between the first and the last
-abbrev pub legal_text : ℕ → ℕ → List ℕ
-legal_text last lines =
-    concat (codes "[\"legal\"," ∷ decimal last ∷ codes "," ∷ decimal lines ∷ codes "]\n]\n" ∷ [])
+-- of a legal trace: a word for that, the number on its last line, and how many lines it has between the first and the last
+abbrev pub legal_with : List ℕ → List ℕ → List ℕ → List ℕ
+legal_with word last lines = concat (codes "[\"" ∷ word ∷ codes "\"," ∷ last ∷ codes "," ∷ lines ∷ codes "]\n]\n" ∷ [])
+
+abbrev pub legal_text : List ℕ → ℕ → ℕ → List ℕ
+legal_text word last lines = legal_with word (decimal last) (decimal lines)
 
 -- of one that isn't legal: these, its first line that doesn't fit, whether the page shows it or not, and why
-abbrev pub illegal_with : List ℕ → List ℕ → List ℕ → List ℕ
-illegal_with last lines line =
-    concat (codes "[\"illegal\"," ∷ last ∷ codes "," ∷ lines ∷ codes "," ∷ line ∷ codes ",\"" ∷ [])
+abbrev pub illegal_with : List ℕ → List ℕ → List ℕ → List ℕ → List ℕ
+illegal_with word last lines line =
+    concat (codes "[\"" ∷ word ∷ codes "\"," ∷ last ∷ codes "," ∷ lines ∷ codes "," ∷ line ∷ codes ",\"" ∷ [])
 
-abbrev pub illegal_start : ℕ → ℕ → ℕ → List ℕ
-illegal_start last lines line = illegal_with (decimal last) (decimal lines) (decimal line)
+abbrev pub illegal_start : List ℕ → ℕ → ℕ → ℕ → List ℕ
+illegal_start word last lines line = illegal_with word (decimal last) (decimal lines) (decimal line)
 
 -- and what that line tells; nothing where it is the trace's last line, which isn't among these
 abbrev pub misfit_line : List Line → ℕ → Option Line
@@ -69,14 +71,40 @@ abbrev pub illegal_end : Option Line → List ℕ
 illegal_end e = codes "\"," ++ (misfit_text e ++ codes "]\n]\n")
 
 abbrev pub illegal_text : ℕ → List Line → TraceMisfit → List ℕ
-illegal_text last ls found = illegal_start last (length ls) found.line
+illegal_text last ls found = illegal_start (codes "illegal") last (length ls) found.line
     ++ (escaped (reason_text found.misfit) ++ illegal_end (misfit_line ls found.line))
 
 abbrev pub end_text : Finding → ℕ → List Line → List ℕ
-end_text (Legal points) last ls = legal_text last (length ls)
+end_text (Legal points) last ls = legal_text (codes "legal") last (length ls)
 end_text (Illegal found) last ls = illegal_text last ls found
 
+-- the states after these lines of a trace
+abbrev pub states_text : Head → List Line → List ℕ
+states_text h ls = items_text (items_behind h.threads h.mutexes [] ls)
+
 abbrev pub data_text : Called → Told → Finding → List ℕ
-data_text n t f = start_text n t.head
-    ++ (items_text (items_behind t.head.threads t.head.mutexes [] (lines_shown t f))
-    ++ end_text f t.last t.lines.items)
+data_text n t f = start_text n t.head ++ (states_text t.head (lines_shown t f) ++ end_text f t.last t.lines.items)
+
+-- ---- of a history
+
+-- how many of that many lines are shown: of an illegal history, of which something is said, not the illegal line, which
+-- is the last
+abbrev pub history_lines : Option (List ℕ) → ℕ → ℕ
+history_lines None count = min count most_lines
+history_lines (Some why) count = min (count - 1) most_lines
+
+abbrev pub history_shown : Told → Option (List ℕ) → List Line
+history_shown t why = take (history_lines why (length t.lines.items)) t.lines.items
+
+-- the last of the trace's lines is the illegal one; the head is line 1
+abbrev pub history_illegal : List ℕ → ℕ → List Line → List ℕ
+history_illegal why last ls = illegal_start (codes "illegal history") last (length ls) (length ls + 1)
+    ++ (escaped why ++ illegal_end (misfit_line ls (length ls + 1)))
+
+abbrev pub history_end : Option (List ℕ) → ℕ → List Line → List ℕ
+history_end None last ls = legal_text (codes "legal history") last (length ls)
+history_end (Some why) last ls = history_illegal why last ls
+
+abbrev pub history_data : Called → Told → Option (List ℕ) → List ℕ
+history_data n t why =
+    start_text n t.head ++ (states_text t.head (history_shown t why) ++ history_end why t.last t.lines.items)

@@ -6,7 +6,7 @@
 -- *The script.* What a thread does, what a mutex is, what a line tells and how the trace ends, by the places of the
 -- arrays, as the page's script takes them; 0 is what isn't there. `checks/page` compares the script with these rows, value
 -- by value.
-use Rattle.std.specs.Prelude.{ℕ, zero, suc, ◌≡◌, ◌≢◌, ◌-◌, ◌==◌, not, Bool, true, false, Option, Some, None, option_map, List, []}
+use Rattle.std.specs.Prelude.{ℕ, zero, suc, ◌≡◌, ◌≢◌, ◌+◌, ◌-◌, ◌==◌, not, Bool, true, false, Option, Some, None, option_map, List, []}
 use Rattle.std.specs.Prelude.{◌∷◌, ◌++◌, codes, decimal, if◌then◌else◌, length, slice_get}
 use Rattle.std.specs.Str.{bytes_eq}
 use Rattle.lockword.specs.Replies.{reply_word}
@@ -22,7 +22,7 @@ use Rattle.facts.specs.declared.fact.Queue.TheVariants as queue
 use Rattle.reasons.specs.Reasons.{reason_text}
 use Rattle.verdict.specs.declared.checking.Finding.{Finding}
 use Rattle.verdict.specs.declared.checking.Finding.TheVariants.{Illegal, Legal}
-use Rattle.page.specs.Data.{end_text}
+use Rattle.page.specs.Data.{end_text, history_end}
 use Rattle.page.specs.Escapes.{escaped}
 use Rattle.page.specs.Shows.{Turn, Whole}
 use Rattle.page.specs.States.{Mutex, Shown, change_of}
@@ -261,9 +261,20 @@ IsEnd (Illegal found) last ls v = (word (at 0 v) ≡ codes "illegal") × (number
     × (number (at 2 v) ≡ length ls) × (number (at 3 v) ≡ found.line)
     × (word (at 4 v) ≡ escaped (reason_text found.misfit)) × IsMisfitLine (slice_get ls (found.line - 2)) (at 5 v)
 
+-- of a trace that shows a history: the same, but for the first word; of an illegal history what is said of it, and the line
+-- that is its illegal one, the last of the trace's
+abbrev pub IsHistoryEnd : Option (List ℕ) → ℕ → List Line → Json → Type 0
+IsHistoryEnd None last ls v =
+    (word (at 0 v) ≡ codes "legal history") × (number (at 1 v) ≡ last) × (number (at 2 v) ≡ length ls)
+IsHistoryEnd (Some why) last ls v = (word (at 0 v) ≡ codes "illegal history") × (number (at 1 v) ≡ last)
+    × (number (at 2 v) ≡ length ls) × (number (at 3 v) ≡ length ls + 1)
+    × (word (at 4 v) ≡ escaped why) × IsMisfitLine (slice_get ls (length ls + 1 - 2)) (at 5 v)
+
 pub record ScriptReadsStates : Type 0 where
   pub statuses : (s : Status) → Reads (status_text s) [] (λ v. IsStatus v s)
   pub objects : (o : Object) → Reads (object_text o) [] (λ v. IsObject v o)
   pub lines : (e : Line) (es : List Line) → Reads (item_text (Turn e (change_of e es))) (codes ",\n") (IsLine e es)
   pub wholes : (s : Shown) → Reads (item_text (Whole s)) (codes ",\n") (IsWhole s)
+  pub histories : (why : Option (List ℕ)) (last : ℕ) (ls : List Line)
+      → Reads (history_end why last ls) (codes "\n]\n") (IsHistoryEnd why last ls)
   pub ends : (f : Finding) (last : ℕ) (ls : List Line) → Reads (end_text f last ls) (codes "\n]\n") (IsEnd f last ls)

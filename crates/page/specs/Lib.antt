@@ -8,5 +8,6 @@ pub mod Pages
 pub mod Quoting
 pub mod Shows
 pub mod States
+pub mod Stories
 pub mod Statuses
 pub mod Texts

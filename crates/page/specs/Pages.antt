@@ -1,7 +1,7 @@
 -- A page of HTML to step through a trace (the HTML Standard).
 --
--- *The page.* Its data, which a script shows, and its picture, each once; what comes before, between and after them
--- is the same in every page.
+-- *The page.* Its title, which is its heading too; its data, which a script shows, and its picture, each once. What comes
+-- before, between and after them is the same in every page.
 use Rattle.std.specs.Prelude.{ℕ, ◌≡◌, List, [], ◌∷◌, ◌++◌, Option, Result, Ok, Err}
 use Rattle.std.specs.List.{concat}
 use Rattle.std.specs.Io.KnownBytes.{Appends}
@@ -12,23 +12,34 @@ use Rattle.picture.specs.declared.drawing.Unwritten.{Unwritten}
 use Rattle.picture.specs.declared.drawing.Unwritten.TheVariants.{OutOfMemory, Failed}
 use Rattle.picture.specs.Names.{Called}
 use Rattle.picture.specs.Svg.{svg_drawn}
-use Rattle.page.specs.declared.frame.TheConstants.{BEHIND, BETWEEN, BOTTOM, TOP}
+use Rattle.page.specs.declared.frame.TheConstants.{BEHIND, BETWEEN, BOTTOM, STATE, STYLE, TOP}
 use Rattle.page.specs.declared.script.TheConstants.{SCRIPT}
-use Rattle.page.specs.Data.{data_text}
+use Rattle.page.specs.declared.stories.Source.TheVariants.{Trace, History}
+use Rattle.page.specs.Data.{data_text, history_data}
+use Rattle.page.specs.Stories.{title_text}
 
--- up to the picture, with these data
-abbrev pub before_picture : List ℕ → List ℕ
-before_picture states = concat (TOP.now ∷ states ∷ BETWEEN.now ∷ SCRIPT.now ∷ BEHIND.now ∷ [])
+-- up to the picture, with this title and these data
+abbrev pub before_picture : List ℕ → List ℕ → List ℕ
+before_picture title states = concat
+    (TOP.now ∷ title ∷ STYLE.now ∷ title ∷ STATE.now ∷ states ∷ BETWEEN.now ∷ SCRIPT.now ∷ BEHIND.now ∷ [])
 
 abbrev pub behind_picture : List ℕ
 behind_picture = concat (BOTTOM.now ∷ [])
 
-abbrev pub page_of : List ℕ → List ℕ → List ℕ
-page_of states picture = before_picture states ++ (picture ++ behind_picture)
+abbrev pub page_of : List ℕ → List ℕ → List ℕ → List ℕ
+page_of title states picture = before_picture title states ++ (picture ++ behind_picture)
+
+-- with the picture of this trace
+abbrev pub page_with : Called → Told → List ℕ → List ℕ → List ℕ
+page_with n t title states =
+    page_of title states (svg_drawn n t.head.threads t.head.mutexes t.lines.items t.last)
 
 abbrev pub page_text : Called → Told → Finding → List ℕ
-page_text n t f =
-    page_of (data_text n t f) (svg_drawn n t.head.threads t.head.mutexes t.lines.items t.last)
+page_text n t f = page_with n t (title_text n Trace t.lines.items) (data_text n t f)
+
+-- of a trace that shows a history, of which this is said, if it is illegal
+abbrev pub history_page_text : Called → Told → Option (List ℕ) → List ℕ
+history_page_text n t why = page_with n t (title_text n History t.lines.items) (history_data n t why)
 
 -- the page was written; or memory was refused for it, before its first byte; or a write failed after a beginning of it
 abbrev pub LeavesPage : {X : Type 0} → Option (List ℕ) → Option (List ℕ) → Result X Unwritten → List ℕ → Type 0

@@ -11,7 +11,7 @@ use Rattle.verdict.specs.declared.head.Head.{Head}
 use Rattle.verdict.specs.declared.told.Told.{Told}
 use Rattle.picture.specs.Names.{Called, condition_head, condition_tail, mutex_head, mutex_tail}
 use Rattle.picture.specs.Names.{thread_head, thread_tail}
-use Rattle.page.specs.Data.{data_text, start_text}
+use Rattle.page.specs.Data.{data_text, history_data, start_text}
 use Rattle.page.specs.Escapes.{IsPlain, escaped}
 use Rattle.page.specs.States.{listed}
 
@@ -67,12 +67,14 @@ names_of n h = codes "threads" ∷ (listed (thread_name n) h.threads
 abbrev pub IsOfData : ℕ → Type 0
 IsOfData b = (b ≡ 34) ⊎ IsPlain b
 
--- the data of this trace, so judged, by whatever names
-pub record HasNamesInQuotes (t : Told) (f : Finding) : Type 0 where
-  pub names : (n : Called) → read (start_text n t.head) ≡ outside (names_of n t.head)
+-- these data of a trace, by whatever names
+pub record HasNamesInQuotes (h : Head) (text : Called → List ℕ) : Type 0 where
+  pub names : (n : Called) → read (start_text n h) ≡ outside (names_of n h)
   pub rest : List ℕ
-  pub all : (n : Called) → data_text n t f ≡ start_text n t.head ++ rest
-  pub bytes : (n : Called) → All IsOfData (data_text n t f)
+  pub all : (n : Called) → text n ≡ start_text n h ++ rest
+  pub bytes : (n : Called) → All IsOfData (text n)
 
-abbrev pub NamesStandInQuotes : Type 0
-NamesStandInQuotes = (t : Told) (f : Finding) → HasNamesInQuotes t f
+-- those of a trace, so judged; and those of one that shows a history, of which this is said
+pub record NamesStandInQuotes : Type 0 where
+  pub trace : (t : Told) (f : Finding) → HasNamesInQuotes t.head (λ n. data_text n t f)
+  pub history : (t : Told) (why : Option (List ℕ)) → HasNamesInQuotes t.head (λ n. history_data n t why)

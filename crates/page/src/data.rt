@@ -1,13 +1,14 @@
 //! The data of a page, line by line: all of it is put together before the page is written.
 
-ghost use Rattle.std.specs.Prelude.{◌≡◌, ◌+◌, ◌++◌, ◌≤◌, ◌<◌, ◌==◌, ◌%◌, [], ◌∷◌, All, length, min, reverse, IfOk};
+ghost use Rattle.std.specs.Prelude.{◌≡◌, ◌+◌, ◌++◌, ◌≤◌, ◌<◌, ◌^◌, ◌==◌, ◌%◌, [], ◌∷◌, All, length, min, reverse, IfOk};
 ghost use Rattle.std.specs.Prelude.{option_map, slice_index_or, string_bytes, if◌then◌else◌};
 ghost use Rattle.facts.specs.Facts.{decision_of, thread_of};
 ghost use Rattle.reasons.specs.Reasons.{reason_text};
 ghost use Rattle.verdict.specs.Judges.{IsInside};
 ghost use Rattle.verdict.specs.Told.{IsOf, IsWithin};
 ghost use Rattle.page.specs.Data.{data_text, end_text, illegal_end, illegal_start, illegal_text, legal_text};
-ghost use Rattle.page.specs.Data.{misfit_line, misfit_text, mutex_in, shown_lines, start_text};
+ghost use Rattle.page.specs.Data.{history_data, history_end, history_illegal, history_lines, misfit_line};
+ghost use Rattle.page.specs.Data.{misfit_text, mutex_in, shown_lines, start_text, states_text};
 ghost use Rattle.page.specs.Escapes.{escaped};
 ghost use Rattle.page.specs.Shows.{items_behind, turn};
 ghost use Rattle.page.specs.States.{seen, state_behind};
@@ -130,23 +131,25 @@ fn add_items(
     Ok(())
 }
 
-fn add_legal(text: &mut String, last: u32, lines: usize) -> Result<(), AllocError>
-    ensures { IfOk result (λ _. string_bytes text.new ≡ string_bytes text.old ++ legal_text last lines) }
+fn add_legal(text: &mut String, word: &str, last: u32, lines: usize) -> Result<(), AllocError>
+    ensures { IfOk result (λ _. string_bytes text.new ≡ string_bytes text.old ++ legal_text word.now last lines) }
 {
     let mut lasts = Buffer::new();
     let mut counts = Buffer::new();
     let last = lasts.format(last);
     let count = counts.format(lines);
-    add(text, &["[\"legal\",", last, ",", count, "]\n]\n"])
+    add(text, &["[\"", word, "\",", last, ",", count, "]\n]\n"])
 }
 
 fn add_illegal_start(
     text: &mut String,
+    word: &str,
     last: u32,
     lines: usize,
     line: usize,
 ) -> Result<(), AllocError>
-    ensures { IfOk result (λ _. string_bytes text.new ≡ string_bytes text.old ++ illegal_start last lines line) }
+    ensures { IfOk result
+        (λ _. string_bytes text.new ≡ string_bytes text.old ++ illegal_start word.now last lines line) }
 {
     let mut lasts = Buffer::new();
     let mut counts = Buffer::new();
@@ -156,7 +159,7 @@ fn add_illegal_start(
     let number = numbers.format(line);
     add(
         text,
-        &["[\"illegal\",", last, ",", count, ",", number, ",\""],
+        &["[\"", word, "\",", last, ",", count, ",", number, ",\""],
     )
 }
 
@@ -209,7 +212,7 @@ fn add_illegal(
         (λ _. string_bytes text.new ≡ string_bytes text.old ++ illegal_text last lines.now found.now) }
 {
     let line = misfit_line(lines, found.line);
-    add_illegal_start(text, last, lines.len(), found.line)?;
+    add_illegal_start(text, "illegal", last, lines.len(), found.line)?;
     add_why(alloc, text, &found.misfit)?;
     add_illegal_end(text, line)
 }
@@ -225,7 +228,7 @@ fn add_end(
     ensures { IfOk result (λ _. string_bytes text.new ≡ string_bytes text.old ++ end_text finding.now last lines.now) }
 {
     match finding {
-        Finding::Legal { .. } => add_legal(text, last, lines.len()),
+        Finding::Legal { .. } => add_legal(text, "legal", last, lines.len()),
         Finding::Illegal(found) => add_illegal(alloc, text, last, lines, found),
     }
 }
@@ -235,6 +238,74 @@ fn add_start(text: &mut String, names: &Names, head: &Head) -> Result<(), AllocE
 {
     add_word(text, "[\n")?;
     add_names(text, names, head.threads, head.mutexes, head.conditions)
+}
+
+/// How many lines of a trace that shows a history are shown, of that many: of an illegal history not the last, which is
+/// the illegal one.
+fn history_lines(why: Option<&[u8]>, count: usize) -> usize
+    ensures value { result ≡ history_lines (option_map (λ s. s.now) why.entry) count }
+    ensures few { result ≤ count }
+    ensures most { result ≤ 100000 }
+{
+    match why {
+        None => count.min(MOST),
+        Some(_) => count.saturating_sub(1).min(MOST),
+    }
+}
+
+/// Why a history is illegal, whose illegal line is the last of these.
+fn add_history_illegal(
+    text: &mut String,
+    why: &[u8],
+    last: u32,
+    lines: &[Line],
+) -> Result<(), AllocError>
+    requires { length lines.now < 2 ^ 63 }
+    ensures { IfOk result
+        (λ _. string_bytes text.new ≡ string_bytes text.old ++ history_illegal why.now last lines.now) }
+{
+    let number = lines.len() + 1;
+    let line = misfit_line(lines, number);
+    add_illegal_start(text, "illegal history", last, lines.len(), number)?;
+    add_escaped(text, why)?;
+    add_illegal_end(text, line)
+}
+
+/// How a history was judged.
+fn add_history_end(
+    text: &mut String,
+    why: Option<&[u8]>,
+    last: u32,
+    lines: &[Line],
+) -> Result<(), AllocError>
+    requires { length lines.now < 2 ^ 63 }
+    ensures { IfOk result
+        (λ _. string_bytes text.new
+        ≡ string_bytes text.old ++ history_end (option_map (λ s. s.now) why.entry) last lines.now) }
+{
+    match why {
+        None => add_legal(text, "legal history", last, lines.len()),
+        Some(why) => add_history_illegal(text, why, last, lines),
+    }
+}
+
+/// The names, and the states after these lines of a trace, `state` being that before them.
+fn add_states(
+    text: &mut String,
+    state: &mut State,
+    names: &Names,
+    head: &Head,
+    lines: &[Line],
+) -> Result<(), AllocError>
+    requires inside { All (IsOf head.now) lines.now }
+    requires few { length lines.now ≤ 100000 }
+    requires new { seen state.old ≡ state_behind head.now.threads head.now.mutexes [] }
+    ensures { IfOk result
+        (λ _. string_bytes text.new
+        ≡ string_bytes text.old ++ (start_text names.now head.now ++ states_text head.now lines.now)) }
+{
+    add_start(text, names, head)?;
+    add_items(text, state, head, lines)
 }
 
 /// The data of a trace, `state` being that before its first line: what things are called, the states after its lines,
@@ -254,7 +325,27 @@ pub fn add_data(
 {
     let lines = trace.lines.as_slice();
     let shown = shown_lines(finding, lines.len());
-    add_start(text, names, &trace.head)?;
-    add_items(text, state, &trace.head, &lines[..shown])?;
+    add_states(text, state, names, &trace.head, &lines[..shown])?;
     add_end(alloc, text, finding, trace.last, lines)
+}
+
+/// The data of a trace that shows a history, `state` being that before its first line: what things are called, the states
+/// after its lines, and why it is illegal, if it is.
+pub fn add_history_data(
+    text: &mut String,
+    state: &mut State,
+    names: &Names,
+    trace: &Told,
+    why: Option<&[u8]>,
+) -> Result<(), AllocError>
+    requires within { IsWithin trace.now }
+    requires new { seen state.old ≡ state_behind trace.now.head.threads trace.now.head.mutexes [] }
+    ensures { IfOk result
+        (λ _. string_bytes text.new
+        ≡ string_bytes text.old ++ history_data names.now trace.now (option_map (λ s. s.now) why.entry)) }
+{
+    let lines = trace.lines.as_slice();
+    let shown = history_lines(why, lines.len());
+    add_states(text, state, names, &trace.head, &lines[..shown])?;
+    add_history_end(text, why, trace.last, lines)
 }

@@ -1,13 +1,16 @@
 //! What comes before and after the data and the picture of a page.
 
-/// Up to the data.
+/// Up to the title.
 pub const TOP: &str = r##"<!DOCTYPE html>
 <html lang="en">
 <head>
 <meta charset="utf-8">
 <meta name="viewport" content="width=device-width, initial-scale=1">
 <meta http-equiv="Content-Security-Policy" content="default-src 'none'; style-src 'unsafe-inline'; script-src 'unsafe-inline'">
-<title>A trace of robust mutexes</title>
+<title>"##;
+
+/// After the title, up to the heading, which says the same.
+pub const STYLE: &str = r##"</title>
 <style>
 :root { color-scheme: light dark; }
 body { margin: 0; font: 1rem/1.4 system-ui, sans-serif; }
@@ -24,7 +27,8 @@ h1 { font-size: 1.1rem; margin: .6rem 0; }
 #bar { display: flex; flex-wrap: wrap; gap: .4rem; align-items: center; }
 #bar button { font: inherit; min-width: 2.5rem; min-height: 2.2rem; }
 #slider { flex: 1 0 8rem; }
-#line { font-weight: bold; min-height: 2.8em; margin: .6rem 0 .2rem; }
+#line { font-weight: bold; min-height: 2.8em; margin: .6rem 0 .2rem; white-space: pre-line; }
+#cut { white-space: pre-line; }
 #cut:empty { display: none; }
 .misfit { color: #c00; }
 #next { min-height: 2.8em; margin: 0 0 .6rem; }
@@ -59,7 +63,10 @@ th, td { text-align: left; vertical-align: top; padding: .1rem .4rem .1rem 0; bo
 <body>
 <main>
 <section id="beside" aria-label="The state">
-<h1>A trace, event by event</h1>
+<h1>"##;
+
+/// After the heading, up to the data.
+pub const STATE: &str = r##"</h1>
 <div id="bar" role="toolbar" aria-label="Steps">
 <button id="first" aria-label="To the beginning">|◀</button>
 <button id="back" aria-label="One line back">◀</button>

@@ -10,11 +10,16 @@ const end = data[data.length - 1];
 const wholes = [];
 const lines = [];
 for (let i = 1; i < data.length - 1; i++) (typeof data[i][0] === "number" ? lines : wholes).push(data[i]);
-const illegal = end[0] === "illegal";
+const ofHistory = end[0].endsWith("history");
+const illegal = end[0].startsWith("illegal");
 const why = illegal ? decodeURIComponent(end[4]) : "";
-const misfit = () => (end[5] ? "It is " + words(end[5]) + "." : "");
+// what is said of the line that doesn't fit: of a history, in the words of its judge
+const verdict = ofHistory ? why : "Line " + end[3] + " doesn't fit: " + why + ".";
+const misfit = () => (end[5] ? (ofHistory ? "In the picture it is " : "It is ") + words(end[5]) + "." : "");
 // the line that doesn't fit stands right behind those that are shown, unless these are cut before it
 const stops = illegal && end[3] - 2 === lines.length;
+// where a line is: by its number in the trace, whose head is line 1; of a history by its row, as its lines have other numbers
+const placed = n => (ofHistory ? "row " + n : "line " + (n + 1));
 const isCut = end[2] > lines.length && !stops;
 const last = lines.length + (stops ? 1 : 0);
 const rowHeight = 18, firstRow = 30;
@@ -165,11 +170,11 @@ function show(to) {
 
 function tell() {
   const stopped = at > lines.length;
-  element("place").textContent = stopped || at === lines.length ? "line " + (at + 1) : at === 0 ? "before the first line" : "line " + (at + 1);
-  element("line").textContent = stopped ? "Line " + end[3] + " doesn't fit: " + why + "." : at === 0 ? "Nothing has happened yet." : words(lines[at - 1]) + ".";
+  element("place").textContent = stopped || at === lines.length ? placed(at) : at === 0 ? "before the first line" : placed(at);
+  element("line").textContent = stopped ? verdict : at === 0 ? "Nothing has happened yet." : words(lines[at - 1]) + ".";
   element("line").className = stopped ? "misfit" : "";
   const next = lines[at];
-  const behind = stops ? "Line " + end[3] + " comes next, and doesn't fit." : isCut ? "The lines behind it aren't shown here." : "The end: " + end[1] + " events.";
+  const behind = stops ? (ofHistory ? "The illegal line comes next." : "Line " + end[3] + " comes next, and doesn't fit.") : isCut ? "The lines behind it aren't shown here." : "The end: " + end[1] + " events.";
   element("next").textContent = next ? "Next, " + words(next) + ", as " + because[next[1][0]](next[1]) + "." : stopped ? misfit() : behind;
   element("slider").value = at;
   element("slider").setAttribute("aria-valuetext", element("line").textContent);
@@ -278,22 +283,9 @@ element("sheet").addEventListener("click", event => {
   step(Math.round((y - firstRow) / rowHeight));
 });
 if (isCut) {
-  const judged = illegal ? " The trace is illegal at line " + end[3] + ", which isn't shown: " + why + ". " + misfit() : "";
+  const judged = !illegal ? "" : ofHistory ? " The illegal line isn't shown: " + why : " The trace is illegal at line " + end[3] + ", which isn't shown: " + why + ". " + misfit();
   element("cut").textContent = "Of " + end[2] + " lines the first " + lines.length + " are shown here; the picture has all." + judged;
   element("cut").className = illegal ? "misfit" : "";
-}
-// the title: whose death is told first, of which mutex, and what its next owner is told
-function story() {
-  const first = lines.findIndex(line => line[1][0] === "death");
-  if (first < 0) return "";
-  const [, dead, m] = lines[first][1];
-  const next = lines.find((line, i) => i > first && line[1][0] === "point" && line[1][2] === m && line[3][0] === line[1][1]);
-  return thread(dead) + " dies owning " + mutex(m) + (next ? "; " + thread(next[1][1]) + " gets " + next[1][4] : "");
-}
-const title = story();
-if (title) {
-  document.title = title;
-  document.querySelector("h1").textContent = title;
 }
 window.addEventListener("hashchange", () => step(Number(location.hash.slice(1))));
 show(location.hash.length > 1 ? Number(location.hash.slice(1)) : stops ? last : 0);

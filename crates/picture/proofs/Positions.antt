@@ -29,7 +29,7 @@ use Rattle.picture.specs.Rows.{from_at, is_from_right, words_at}
 use Rattle.picture.specs.Scenes.{behind, first_scene}
 use Rattle.picture.specs.Shapes.{band_box, lane_box, mark_class, mark_path, number_label, rectangle, words_label}
 use Rattle.picture.specs.States.{scene_after}
-use Rattle.picture.specs.Svg.{band_from, band_part, band_rest, ends_lane, lane_from, lane_part, lane_rest, lane_rests, part_at, svg_height, svg_width, begins_at, end_text, first_since, line_marks, line_parts, mark_of, marks, parts, rests, svg_band, svg_bands, svg_extent, svg_heads, svg_lane, svg_lane_behind, svg_lanes, svg_open, svg_with}
+use Rattle.picture.specs.Svg.{Marked, band_from, band_part, band_rest, ends_lane, lane_from, lane_part, lane_rest, lane_rests, part_at, svg_height, svg_width, begins_at, end_text, first_since, line_marks, line_parts, mark_of, marks, misfit_row, misfit_shape, note_of, parts, rests, svg_band, svg_bands, svg_extent, svg_heads, svg_lane, svg_lane_behind, svg_lanes, svg_open, svg_with}
 use Rattle.picture.specs.declared.bands.Extent.{Extent}
 use Rattle.picture.specs.declared.scene.Scene.{Scene}
 use Rattle.picture.specs.declared.svg.Since.{Since}
@@ -129,6 +129,18 @@ band_at_place n x i = record {
   owned = λ o t class from to some is. ap (λ (c : Option (List ℕ)). band_box n x c o.owner i from to) is ∙ ap (λ (w : Option ℕ). band_box n x (Some class) w i from to) some;
 }
 
+-- below the end stands what is said of a line that doesn't fit
+noted : (top y : ℕ) (note : List ℕ) → Contains (misfit_shape (decimal top) (decimal y) ++ (note ++ codes "</text>\n")) (codes "y=\"" ++ (decimal y ++ (codes "\" fill=\"#c00\">" ++ note)))
+noted top y note =
+    let first = codes "<rect class=\"m\" y=\"" in
+    let middle = codes "\" width=\"100%\" height=\"18\" fill=\"#c00\" fill-opacity=\".2\"/>\n<text class=\"m\" x=\"54\" y=\"" in
+    let fill = codes "\" fill=\"#c00\">" in
+    let rest = note ++ codes "</text>\n" in
+    let same : first ++ (decimal top ++ (middle ++ (decimal y ++ (fill ++ rest)))) ≡ misfit_shape (decimal top) (decimal y) ++ rest = sym (ap (λ l. first ++ l) (append_assoc (decimal top) (middle ++ (decimal y ++ fill)) rest ∙ ap (λ l. decimal top ++ (middle ++ l)) (append_assoc (decimal y) fill rest))) in
+    subst (λ l. Contains l (codes "y=\"" ++ (decimal y ++ (fill ++ note)))) same
+    (right first _ _ (right (decimal top) _ _ (right (codes "\" width=\"100%\" height=\"18\" fill=\"#c00\" fill-opacity=\".2\"/>\n<text class=\"m\" x=\"54\" ") _ _
+    (four (codes "y=\"") (decimal y) fill note (codes "</text>\n")))))
+
 rows_have_room : RowsHaveRoom
 rows_have_room = record {
   first = omega arith;
@@ -140,13 +152,11 @@ rows_have_room = record {
     omega arith,
     omega arith,
   );
-  misfit = λ line lines. (
-    two (codes "<rect class=\"m\" y=\"") (decimal (row_y (line - 1) - 9)) _,
+  misfit = λ m lines. (
+    left (misfit_row m.line lines) _ _ (two (codes "<rect class=\"m\" y=\"") (decimal (row_y (m.line - 1) - 9)) _),
     (
       row_y lines + 33,
-      right (codes "<rect class=\"m\" y=\"") _ _ (right (decimal (row_y (line - 1) - 9)) _ _
-          (right (codes "\" width=\"100%\" height=\"18\" fill=\"#c00\" fill-opacity=\".2\"/>\n<text class=\"m\" x=\"54\" ") _ _
-          (four (codes "y=\"") (decimal (row_y lines + 33)) (codes "\" fill=\"#c00\">line ") (decimal line) (codes " doesn't fit those before it</text>\n")))),
+      noted (row_y (m.line - 1) - 9) (row_y lines + 33) (note_of m.line m.note),
       omega arith,
       omega arith,
     ),
@@ -283,7 +293,7 @@ bands_go x i s k found (l ∷ ls) lt is =
 
 -- ---- the picture
 
-module _ (n : Called) (x : Extent) (ls : List Line) (last : ℕ) (misfit : Option ℕ) where
+module _ (n : Called) (x : Extent) (ls : List Line) (last : ℕ) (misfit : Option Marked) where
   heads_rest : List ℕ
   heads_rest = parts n x first_scene first_since 1 ls ++ (marks n x first_scene 1 ls ++ end_text misfit last (length ls))
 

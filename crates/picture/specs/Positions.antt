@@ -28,7 +28,7 @@ use Rattle.picture.specs.Rows.{from_at, row_text}
 use Rattle.picture.specs.Scenes.{first_scene, lane_at, most_bands}
 use Rattle.picture.specs.Shapes.{band_class, lane_class, lane_shape, band_shape}
 use Rattle.picture.specs.States.{scene_after}
-use Rattle.picture.specs.Svg.{begins_at, first_since, foot_text, line_marks, misfit_at, svg_band, svg_extent}
+use Rattle.picture.specs.Svg.{Marked, begins_at, first_since, foot_text, line_marks, misfit_at, note_of, svg_band, svg_extent}
 use Rattle.picture.specs.Svg.{svg_height, svg_lane, svg_marked, svg_width}
 
 -- a text is part of another one
@@ -99,16 +99,16 @@ pub record BandIsAtItsPlace (n : Called) (x : Extent) (i : ℕ) : Type 0 where
       ++ (name_at (thread_head n t) (thread_tail n t) middle (row_y from + 4) ++ codes "\n")
 
 -- rows are one below the other, the first one below all names; below the last one, and within the picture, stand the
--- number of events and, lower, which line doesn't fit. A letter is 11 high, and what is written at a row is at most 4 below
+-- number of events and, lower, what is said of a line that doesn't fit. A letter is 11 high, and what is written at a row is at most 4 below
 -- its middle
 pub record RowsHaveRoom : Type 0 where
   pub first : 20 + 11 < row_y 1
   pub next : (k : ℕ) → row_y (k + 1) ≡ row_y k + 18
   pub foot : (last lines : ℕ) → (y : ℕ) × Contains (foot_text last lines) (codes "y=\"" ++ (decimal y ++ codes "\">end"))
       × (row_y lines + 4 + 11 ≤ y) × (y < svg_height lines)
-  pub misfit : (line lines : ℕ)
-      → Contains (misfit_at line lines) (codes "<rect class=\"m\" y=\"" ++ decimal (row_y (line - 1) - 9))
-      × ((y : ℕ) × Contains (misfit_at line lines) (codes "y=\"" ++ (decimal y ++ (codes "\" fill=\"#c00\">line " ++ decimal line)))
+  pub misfit : (m : Marked) (lines : ℕ)
+      → Contains (misfit_at m lines) (codes "<rect class=\"m\" y=\"" ++ decimal (row_y (m.line - 1) - 9))
+      × ((y : ℕ) × Contains (misfit_at m lines) (codes "y=\"" ++ (decimal y ++ (codes "\" fill=\"#c00\">" ++ note_of m.line m.note)))
       × (row_y lines + 4 + 11 ≤ y) × (y < svg_height lines))
 
 -- ---- the picture
@@ -184,7 +184,7 @@ pub record SvgDrawsInPlace : Type 0 where
   -- the last band ends 20 before the middle of the first lane, and each lane is within the picture
   pub apart : (x : Extent) (u : ℕ) → 1 ≤ u → u ≤ x.threads
       → (band_x x x.bands.count + 20 ≤ lane_x x u) × (lane_x x u < svg_width x)
-  pub all : (n : Called) (threads mutexes : ℕ) (ls : List Line) (last : ℕ) (misfit : Option ℕ)
+  pub all : (n : Called) (threads mutexes : ℕ) (ls : List Line) (last : ℕ) (misfit : Option Marked)
       → IsDrawnInPlace n (svg_extent n threads mutexes ls) ls (svg_marked n threads mutexes ls last misfit)
   pub since : (x : Extent) (ls : List Line) → SinceIsTheNewest x ls
 

@@ -4,7 +4,7 @@
 -- *The picture as SVG.* What lanes and bands show from line to line, and over that each line's number, its mark in the
 -- middle of its thread's lane or an arrow to it, and its words. Source: Scalable Vector Graphics 1.1.
 use Rattle.std.specs.Prelude.{ℕ, ◌+◌, ◌-◌, Bool, true, false, Option, Some, None, List, [], ◌∷◌, ◌++◌, length}
-use Rattle.std.specs.Prelude.{codes, decimal, replicate, slice_index_or, slice_set, if◌then◌else◌}
+use Rattle.std.specs.Prelude.{codes, decimal, option_map, replicate, slice_index_or, slice_set, if◌then◌else◌}
 use Rattle.std.specs.List.{concat}
 use Rattle.lockword.specs.Threads.{most_threads}
 use Rattle.posixmutex.specs.declared.object.Object.{Object}
@@ -16,6 +16,7 @@ use Rattle.facts.specs.declared.fact.Line.{Line}
 use Rattle.facts.specs.Facts.{thread_of, decision_of}
 use Rattle.picture.specs.declared.lane.Lane.{Lane}
 use Rattle.picture.specs.declared.scene.Scene.{Scene}
+use Rattle.picture.specs.declared.svg.Misfit.{Misfit}
 use Rattle.picture.specs.declared.svg.Since.{Since}
 use Rattle.picture.specs.declared.bands.Bands.{Bands}
 use Rattle.picture.specs.declared.bands.Extent.{Extent}
@@ -173,32 +174,52 @@ foot_text last lines = concat
     (codes "<text class=\"n\" x=\"48\" y=\"" ∷ decimal (row_y lines + 22) ∷ codes "\">" ∷ decimal last
     ∷ codes "</text><text x=\"54\" y=\"" ∷ decimal (row_y lines + 22) ∷ codes "\">end</text>\n</svg>\n" ∷ [])
 
--- the row of a line that doesn't fit those before it, and below the end which line it is. Line 1 is the trace's head
-abbrev pub misfit_shape : List ℕ → List ℕ → List ℕ → List ℕ
-misfit_shape top foot line = concat
+-- the row of a line that doesn't fit those before it, and where below the end something is said of it
+abbrev pub misfit_shape : List ℕ → List ℕ → List ℕ
+misfit_shape top foot = concat
     (codes "<rect class=\"m\" y=\"" ∷ top
     ∷ codes "\" width=\"100%\" height=\"18\" fill=\"#c00\" fill-opacity=\".2\"/>\n<text class=\"m\" x=\"54\" y=\""
-    ∷ foot ∷ codes "\" fill=\"#c00\">line " ∷ line ∷ codes " doesn't fit those before it</text>\n" ∷ [])
+    ∷ foot ∷ codes "\" fill=\"#c00\">" ∷ [])
 
-abbrev pub misfit_at : ℕ → ℕ → List ℕ
-misfit_at line lines =
-    misfit_shape (decimal (row_y (line - 1) - 9)) (decimal (row_y lines + 33)) (decimal line)
+-- line 1 is the trace's head
+abbrev pub misfit_row : ℕ → ℕ → List ℕ
+misfit_row line lines = misfit_shape (decimal (row_y (line - 1) - 9)) (decimal (row_y lines + 33))
 
-abbrev pub misfit_mark : Option ℕ → ℕ → List ℕ
+-- what is said of it: this, or which line it is
+abbrev pub note_of : ℕ → Option (List ℕ) → List ℕ
+note_of line (Some note) = note
+note_of line None = concat (codes "line " ∷ decimal line ∷ codes " doesn't fit those before it" ∷ [])
+
+-- a line that is marked, and what is said of it, if it is to be this
+pub record Marked : Type 0 where
+  pub line : ℕ
+  pub note : Option (List ℕ)
+
+abbrev pub misfit_at : Marked → ℕ → List ℕ
+misfit_at m lines = misfit_row m.line lines ++ (note_of m.line m.note ++ codes "</text>\n")
+
+abbrev pub misfit_mark : Option Marked → ℕ → List ℕ
 misfit_mark None lines = []
-misfit_mark (Some line) lines = misfit_at line lines
+misfit_mark (Some m) lines = misfit_at m lines
 
-abbrev pub end_text : Option ℕ → ℕ → ℕ → List ℕ
+-- what a program marks
+abbrev pub marked_by : Misfit → Marked
+marked_by m = record { line = m.line; note = option_map (λ s. s.now) m.note }
+
+abbrev pub marked_of : Option Misfit → Option Marked
+marked_of m = option_map marked_by m
+
+abbrev pub end_text : Option Marked → ℕ → ℕ → List ℕ
 end_text misfit last lines = misfit_mark misfit lines ++ foot_text last lines
 
 -- ---- all of it
 
-abbrev pub svg_with : Called → Extent → List Line → ℕ → Option ℕ → List ℕ
+abbrev pub svg_with : Called → Extent → List Line → ℕ → Option Marked → List ℕ
 svg_with n x ls last misfit = svg_heads n x (length ls)
     ++ (parts n x first_scene first_since 1 ls ++ (marks n x first_scene 1 ls ++ end_text misfit last (length ls)))
 
 -- with this line marked, if there is one
-abbrev pub svg_marked : Called → ℕ → ℕ → List Line → ℕ → Option ℕ → List ℕ
+abbrev pub svg_marked : Called → ℕ → ℕ → List Line → ℕ → Option Marked → List ℕ
 svg_marked n threads mutexes ls last misfit = svg_with n (svg_extent n threads mutexes ls) ls last misfit
 
 abbrev pub svg_drawn : Called → ℕ → ℕ → List Line → ℕ → List ℕ

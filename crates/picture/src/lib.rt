@@ -48,4 +48,5 @@ pub use laws::{
     svg_draws_in_place, text_draws_in_order, texts_have_room, used_mutexes_have_bands,
 };
 pub use names::Names;
+pub use svg::Misfit;
 pub use svg_drawing::{draw_svg, draw_svg_marked};

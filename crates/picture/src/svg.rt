@@ -1,11 +1,11 @@
 //! The parts of an SVG picture: what lanes and bands show from line to line, and over that the lines' marks.
 
-ghost use Rattle.std.specs.Prelude.{◌≡◌, ◌++◌, ◌≤◌, ◌<◌, decimal, map, string_bytes, IfOk};
+ghost use Rattle.std.specs.Prelude.{◌≡◌, ◌++◌, ◌≤◌, ◌<◌, decimal, map, option_map, string_bytes, IfOk};
 ghost use Rattle.lockword.specs.Threads.{named_threads};
 ghost use Rattle.facts.specs.Facts.{decision_of};
 ghost use Rattle.picture.specs.Svg.{band_part, band_rests, begins_at, end_text, ends_lane, first_since, foot_text};
 ghost use Rattle.picture.specs.Svg.{lane_line, lane_part, lane_rests, line_marks, line_parts, mark_of, marks_of};
-ghost use Rattle.picture.specs.Svg.{misfit_at, misfit_mark, rests, since_band, since_lane, svg_band, svg_bands};
+ghost use Rattle.picture.specs.Svg.{marked_by, marked_of, misfit_at, misfit_mark, misfit_row, note_of, rests, since_band, since_lane, svg_band, svg_bands};
 ghost use Rattle.picture.specs.Svg.{svg_heads, svg_lane, svg_lanes, svg_open};
 
 use crate::bands::{Bands, Extent, IDS, Sheet};
@@ -23,6 +23,15 @@ use std::alloc::AllocError;
 
 /// Where the names of bands and lanes stand.
 const NAME_Y: u128 = 20;
+
+/// A line of a trace that is marked as one that doesn't fit, and what is said of it below the picture.
+#[derive(Clone, Copy, Debug, PartialEq, Eq)]
+pub struct Misfit<'a> {
+    /// Its place; line 1 is the trace's head.
+    pub line: usize,
+    /// What is said, in which nothing is markup. If this is none, which line it is.
+    pub note: Option<&'a str>,
+}
 
 /// Since which line, from 1, each lane and each band shows what it shows; 0 before the first line.
 #[derive(Clone, Copy)]
@@ -444,16 +453,14 @@ fn add_foot(text: &mut String, last: u32, lines: usize) -> Result<(), AllocError
     )
 }
 
-/// The row of a line that doesn't fit, and below the end which line it is.
-fn add_misfit_at(text: &mut String, line: usize, lines: usize) -> Result<(), AllocError>
-    ensures { IfOk result (λ _. string_bytes text.new ≡ string_bytes text.old ++ misfit_at line lines) }
+/// The row of a line that doesn't fit, and below the end where something is said of it.
+fn add_misfit_row(text: &mut String, line: usize, lines: usize) -> Result<(), AllocError>
+    ensures { IfOk result (λ _. string_bytes text.new ≡ string_bytes text.old ++ misfit_row line lines) }
 {
     let mut tops = Buffer::new();
     let mut rows = Buffer::new();
-    let mut numbers = Buffer::new();
     let top = tops.format(row_y(line.saturating_sub(1)) - 9);
     let row = rows.format(row_y(lines) + 33);
-    let number = numbers.format(line);
     add(
         text,
         &[
@@ -461,18 +468,40 @@ fn add_misfit_at(text: &mut String, line: usize, lines: usize) -> Result<(), All
             top,
             "\" width=\"100%\" height=\"18\" fill=\"#c00\" fill-opacity=\".2\"/>\n<text class=\"m\" x=\"54\" y=\"",
             row,
-            "\" fill=\"#c00\">line ",
-            number,
-            " doesn't fit those before it</text>\n",
+            "\" fill=\"#c00\">",
         ],
     )
 }
 
-fn add_misfit(text: &mut String, misfit: Option<usize>, lines: usize) -> Result<(), AllocError>
-    ensures { IfOk result (λ _. string_bytes text.new ≡ string_bytes text.old ++ misfit_mark misfit lines) }
+/// What is said of a line that doesn't fit: this, or which line it is.
+fn add_note(text: &mut String, line: usize, note: Option<&str>) -> Result<(), AllocError>
+    ensures { IfOk result
+        (λ _. string_bytes text.new ≡ string_bytes text.old ++ note_of line (option_map (λ s. s.now) note.entry)) }
+{
+    let mut numbers = Buffer::new();
+    let number = numbers.format(line);
+    match note {
+        Some(note) => Ok(text.push_str(note)?),
+        None => add(text, &["line ", number, " doesn't fit those before it"]),
+    }
+}
+
+/// The row of a line that doesn't fit, and below the end what is said of it.
+fn add_misfit_at(text: &mut String, misfit: Misfit<'_>, lines: usize) -> Result<(), AllocError>
+    ensures { IfOk result
+        (λ _. string_bytes text.new ≡ string_bytes text.old ++ misfit_at (marked_by misfit.entry) lines) }
+{
+    add_misfit_row(text, misfit.line, lines)?;
+    add_note(text, misfit.line, misfit.note)?;
+    Ok(text.push_str("</text>\n")?)
+}
+
+fn add_misfit(text: &mut String, misfit: Option<Misfit<'_>>, lines: usize) -> Result<(), AllocError>
+    ensures { IfOk result
+        (λ _. string_bytes text.new ≡ string_bytes text.old ++ misfit_mark (marked_of misfit.entry) lines) }
 {
     match misfit {
-        Some(line) => add_misfit_at(text, line, lines),
+        Some(misfit) => add_misfit_at(text, misfit, lines),
         None => Ok(()),
     }
 }
@@ -480,11 +509,12 @@ fn add_misfit(text: &mut String, misfit: Option<usize>, lines: usize) -> Result<
 /// What comes after all lines: which of them doesn't fit, and the number of events.
 pub fn add_end(
     text: &mut String,
-    misfit: Option<usize>,
+    misfit: Option<Misfit<'_>>,
     last: u32,
     lines: usize,
 ) -> Result<(), AllocError>
-    ensures { IfOk result (λ _. string_bytes text.new ≡ string_bytes text.old ++ end_text misfit last lines) }
+    ensures { IfOk result
+        (λ _. string_bytes text.new ≡ string_bytes text.old ++ end_text (marked_of misfit.entry) last lines) }
 {
     add_misfit(text, misfit, lines)?;
     add_foot(text, last, lines)

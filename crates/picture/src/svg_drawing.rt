@@ -5,13 +5,13 @@ ghost use Rattle.lockword.specs.Threads.{named_threads};
 ghost use Rattle.streams.specs.Leaves.{Leaves};
 ghost use Rattle.picture.specs.Scenes.{first_scene};
 ghost use Rattle.picture.specs.Svg.{end_text, first_since, line_marks, line_parts};
-ghost use Rattle.picture.specs.Svg.{marks, parts, rests, svg_drawn, svg_heads, svg_marked};
+ghost use Rattle.picture.specs.Svg.{marked_of, marks, parts, rests, svg_drawn, svg_heads, svg_marked};
 
 use crate::bands::{BANDS, Extent, Sheet};
 use crate::drawing::{Unwritten, write_text};
 use crate::names::Names;
 use crate::scene::Scene;
-use crate::svg::{Since, add_end, add_line, add_parts, add_rests, add_svg_heads};
+use crate::svg::{Misfit, Since, add_end, add_line, add_parts, add_rests, add_svg_heads};
 use facts::{Fact, Line};
 use std::alloc::Global;
 use std::io::Write;
@@ -133,12 +133,12 @@ fn write_marks<W: Write>(
 
 fn write_end<W: Write>(
     part: &mut String,
-    misfit: Option<usize>,
+    misfit: Option<Misfit<'_>>,
     last: u32,
     lines: usize,
     out: &mut W,
 ) -> Result<(), Unwritten>
-    ensures { Leaves (W.contents out.old) (W.contents out.new) result (end_text misfit last lines) }
+    ensures { Leaves (W.contents out.old) (W.contents out.new) result (end_text (marked_of misfit.entry) last lines) }
 {
     part.clear();
     add_end(part, misfit, last, lines)?;
@@ -147,8 +147,8 @@ fn write_end<W: Write>(
 
 /// Draws a trace with `threads` threads and `mutexes` mutexes as SVG, time running downwards: each of its lines once, in the order of
 /// the trace, with the number of its event, and its mark in the lane of its thread. Things are called by these names.
-/// `last` is the number of events. Line `misfit` of the trace, if one is named, is marked as one that doesn't fit; line 1
-/// is the trace's head. At an error a beginning of the picture is written.
+/// `last` is the number of events. Line `misfit` of the trace, if one is named, is marked as one that doesn't fit, and
+/// what is said of it comes last. At an error a beginning of the picture is written.
 pub fn draw_svg_marked<W: Write>(
     alloc: Global,
     names: &Names,
@@ -156,11 +156,11 @@ pub fn draw_svg_marked<W: Write>(
     mutexes: u16,
     lines: &[Line],
     last: u32,
-    misfit: Option<usize>,
+    misfit: Option<Misfit<'_>>,
     out: &mut W,
 ) -> Result<(), Unwritten>
     ensures { Leaves (W.contents out.old) (W.contents out.new) result
-        (svg_marked names.now threads mutexes lines.now last misfit) }
+        (svg_marked names.now threads mutexes lines.now last (marked_of misfit.entry)) }
 {
     let mut part = String::with_capacity(alloc, PART)?;
     let extent = Extent::of(BANDS, names, threads, mutexes, lines);

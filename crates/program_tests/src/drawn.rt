@@ -158,6 +158,26 @@ fn memory_for_a_history(rt: HostRuntime) {
     assert!(rt; draws_or_wants_memory(rt.alloc(), HISTORY, &["rfx-draw", "f"], EXPLAINED));
 }
 
+const ILLEGAL: &[u8] =
+    b"history 1 1 0\n1 begin t1 lock m0\n2 return t1 OK\n3 return t1 OK\nend 3\n";
+
+/// The history's trace up to its illegal line, and what the judge of histories says of that.
+const ILLEGAL_EXPLAINED: &str = " event  m0   t1
+     1  -    ┌ lock m0
+     2  t1   ● m0 OK
+     3  t1   └ OK
+     4  t1   └ OK
+     4  end
+illegal at line 4 (event 3): t1 is in no call there
+  | 3 return t1 OK
+";
+
+/// Passes too where any one allocation fails: nothing is printed then, and lack of memory is reported.
+#[test]
+fn memory_for_an_illegal_history(rt: HostRuntime) {
+    assert!(rt; draws_or_wants_memory(rt.alloc(), ILLEGAL, &["rfx-draw", "f"], ILLEGAL_EXPLAINED));
+}
+
 /// A page that a writer can't hold is reported.
 #[test]
 fn a_page_that_cannot_be_written_is_told(rt: HostRuntime) {

@@ -6,14 +6,15 @@ use std::cell::Cell;
 use std::io::{self, ErrorKind};
 use text_fixtures::{Answered, Faulty, Folder, words};
 
-/// A place for files, where only `out` and `out.1` can be made, and only with one text filled. It counts what was asked
-/// for, and what was filled.
+/// A place for files, where only `out` and `out.1` can be made, and only with one text filled. `old.1` and `old.2` are
+/// there, and `kept.1`, which can't be removed. It counts what was asked for, what was filled, and what was removed.
 #[derive(Drop)]
 struct Shelf<'a> {
     alloc: Global,
     text: &'a str,
     made: Cell<usize>,
     filled: Cell<usize>,
+    removed: Cell<usize>,
 }
 
 impl<'a> Shelf<'a> {
@@ -23,6 +24,7 @@ impl<'a> Shelf<'a> {
             text,
             made: Cell::new(0),
             filled: Cell::new(0),
+            removed: Cell::new(0),
         }
     }
 }
@@ -44,6 +46,17 @@ impl Maker for Shelf<'_> {
         }
         self.filled.set(self.filled.get().saturating_add(1));
         Ok(())
+    }
+
+    fn remove(&self, name: &str) -> io::Result<bool> {
+        match name {
+            "old.1" | "old.2" => {
+                self.removed.set(self.removed.get().saturating_add(1));
+                Ok(true)
+            }
+            "kept.1" => Err(io::Error::from(ErrorKind::PermissionDenied)),
+            _ => Ok(false),
+        }
     }
 }
 
@@ -115,6 +128,18 @@ fn a_trace_of_an_illegal_history_is_written(rt: HostRuntime) {
     let line = words(rt.alloc(), &["rfx-judge", "--trace", "out", "f"]);
     let answered = answer_of(rt.alloc(), line, HISTORY, &shelf);
     assert!(rt; answered.is(1, TEXT, "") && shelf.filled.get() == 1);
+}
+
+/// An illegal history has no window: those of another run are removed, and one that can't be is reported.
+#[test]
+fn older_windows_are_removed(rt: HostRuntime) {
+    let shelf = Shelf::new(rt.alloc(), "");
+    let line = words(rt.alloc(), &["rfx-judge", "--windows", "old", "f"]);
+    let answered = answer_of(rt.alloc(), line, HISTORY, &shelf);
+    assert!(rt; answered.is(1, TEXT, "") && shelf.removed.get() == 2);
+    let line = words(rt.alloc(), &["rfx-judge", "--windows", "kept", "f"]);
+    let answered = answer_of(rt.alloc(), line, HISTORY, &shelf);
+    assert!(rt; answered.is(1, "", "rfx-judge: cannot write the certificate\n"));
 }
 
 /// Nothing is written by another command line, nor over the history.

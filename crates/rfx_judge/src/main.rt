@@ -9,11 +9,11 @@ mod progress;
 use crate::progress::WatchedFiles;
 use judge_report::{Maker, OUT_OF_MEMORY, run};
 use std::fs::{self, File};
-use std::io::{self, BufWriter};
+use std::io::{self, BufWriter, ErrorKind};
 use std::process::ExitCode;
 use streams::{Output, system_words};
 
-/// Makes the system's files.
+/// Makes and removes the system's files.
 #[derive(Drop)]
 struct SystemMaker<'a>(&'a HostRuntime);
 
@@ -26,6 +26,14 @@ impl Maker for SystemMaker<'_> {
 
     fn fill(&self, _name: &str, mut file: BufWriter<File>) -> io::Result<()> {
         file.let_go()
+    }
+
+    fn remove(&self, name: &str) -> io::Result<bool> {
+        match fs::remove_file(self.0, name) {
+            Ok(()) => Ok(true),
+            Err(error) if error.kind() == ErrorKind::NotFound => Ok(false),
+            Err(error) => Err(error),
+        }
     }
 }
 

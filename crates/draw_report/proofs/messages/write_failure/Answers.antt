@@ -14,3 +14,6 @@ returns-in-OutOfMemory g c = rw c.in-OutOfMemory.is c.put-in-OutOfMemory.ensures
 
 pub returns-in-Unlike : goal.returns-in-Unlike
 returns-in-Unlike g c = rw c.in-Unlike.is c.put-in-Unlike.ensures
+
+pub returns-in-UnlikeHistory : goal.returns-in-UnlikeHistory
+returns-in-UnlikeHistory g c = rw c.in-UnlikeHistory.is c.put-in-UnlikeHistory.ensures

@@ -1,17 +1,15 @@
-use Rattle.std.proofs.Common.{◌++◌, List, [], take, sym, ap, subst, ◌∙◌, append_assoc}
+use Rattle.std.proofs.Common.{◌++◌, List, take, sym, ap, subst, ◌∙◌, append_assoc}
 use Rattle.std.specs.Prelude.{All, string_bytes}
 use Rattle.std.proofs.lemmas.List.Elements.{All-take}
 use Rattle.facts.specs.declared.fact.Line.{Line}
 use Rattle.verdict.specs.Told.{IsOf}
-use Rattle.picture.proofs.Columns.{both, then_text, told_as}
-use Rattle.page.specs.Data.{data_text, end_text, lines_shown, start_text}
-use Rattle.page.specs.Shows.{items_behind}
-use Rattle.page.specs.Texts.{items_text}
+use Rattle.picture.proofs.Columns.{then_text, told_as}
+use Rattle.page.specs.Data.{data_text, end_text, lines_shown, start_text, states_text}
 use Rattle.page.proofs.Lines.{few_taken, shown_so}
 use Rattle.page.proofs.data.add_data.Goals as goal
 
-pub add_items-requires : goal.add_items-requires
-add_items-requires c =
+pub add_states-requires : goal.add_states-requires
+add_states-requires c =
     let t = c.args.trace.now in
     record {
       inside = subst (λ (ls : List Line). All (IsOf t.head) (take c.shown_lines-shown.result ls)) (sym c.as_slice-lines.ensures.value) (All-take (IsOf t.head) c.shown_lines-shown.result t.lines.items c.requires.within.lines);
@@ -24,16 +22,14 @@ returns c =
     let t = c.args.trace.now in
     let f = c.args.finding.now in
     let a = string_bytes c.args.text.now in
-    let one = string_bytes c.add_start.new.text in
-    let two = string_bytes c.add_items.new.text in
-    let three = string_bytes c.add_end.new.text in
+    let one = string_bytes c.add_states.new.text in
+    let two = string_bytes c.add_end.new.text in
     let start = start_text c.args.names.now t.head in
     let ls = c.as_slice-lines.result.now in
-    let items = items_text (items_behind t.head.threads t.head.mutexes [] (take c.shown_lines-shown.result ls)) in
+    let items = states_text t.head (take c.shown_lines-shown.result ls) in
     let last = end_text f t.last ls in
-    let shown = items_text (items_behind t.head.threads t.head.mutexes [] (lines_shown t f)) in
-    told_as c.add_end.result a three ((start ++ items) ++ last) (data_text c.args.names.now t f)
+    told_as c.add_end.result a two ((start ++ items) ++ last) (data_text c.args.names.now t f)
     (append_assoc start items last
-    ∙ ap (λ (us : List Line). start ++ (items_text (items_behind t.head.threads t.head.mutexes [] us) ++ last)) (shown_so t f ls c.shown_lines-shown.result c.as_slice-lines.ensures.value c.shown_lines-shown.ensures.value)
-    ∙ ap (λ (us : List Line). start ++ (shown ++ end_text f t.last us)) c.as_slice-lines.ensures.value)
-    (then_text c.add_end.result a two three (start ++ items) last (both a one two start items c.in_ok-add_start.ensures c.in_ok-add_items.ensures) c.add_end.ensures)
+    ∙ ap (λ (us : List Line). start ++ (states_text t.head us ++ last)) (shown_so t f ls c.shown_lines-shown.result c.as_slice-lines.ensures.value c.shown_lines-shown.ensures.value)
+    ∙ ap (λ (us : List Line). start ++ (states_text t.head (lines_shown t f) ++ end_text f t.last us)) c.as_slice-lines.ensures.value)
+    (then_text c.add_end.result a one two (start ++ items) last c.in_ok-add_states.ensures c.add_end.ensures)

@@ -1,22 +1,14 @@
-use Rattle.std.proofs.Common.{◌≡◌, ap, subst, ◌∙◌}
-use Rattle.std.specs.Io.KnownBytes.{Appends}
-use Rattle.streams.specs.Leaves.{AppendsFront}
-use Rattle.page.specs.Data.{data_text}
-use Rattle.page.specs.Pages.{page_of, page_text}
+use Rattle.std.proofs.Common.{◌≡◌, List, ℕ, ap, subst, ◌∙◌}
+use Rattle.page.specs.declared.stories.Source.TheVariants.{Trace}
+use Rattle.page.specs.Pages.{LeavesPage, page_text, page_with}
+use Rattle.page.specs.Stories.{title_text}
 use Rattle.page.proofs.html.write_page.Goals as goal
-
-pub returns-in-Ok-write_parts : goal.returns-in-Ok-write_parts
-returns-in-Ok-write_parts g c =
-    let n = c.args.names.now in
-    let t = c.args.trace.now in
-    let f = c.args.finding.now in
-    let same : page_of c.as_str.result.now c.as_slice.result.now ≡ page_text n t f = ap (λ l. page_of l c.as_slice.result.now) (c.as_str.ensures.value ∙ c.in-Ok.ensures) ∙ ap (page_of (data_text n t f)) (c.as_slice.ensures.value ∙ c.in-Ok-picture_of.ensures) in
-    subst (Appends (g.W.Write.contents c.args.out.now) (g.W.Write.contents c.write_parts.new.out)) same c.in-Ok-write_parts.ensures
 
 pub returns : goal.returns
 returns g c =
     let n = c.args.names.now in
     let t = c.args.trace.now in
-    let f = c.args.finding.now in
-    let same : page_of c.as_str.result.now c.as_slice.result.now ≡ page_text n t f = ap (λ l. page_of l c.as_slice.result.now) (c.as_str.ensures.value ∙ c.in-Ok.ensures) ∙ ap (page_of (data_text n t f)) (c.as_slice.ensures.value ∙ c.in-Ok-picture_of.ensures) in
-    subst (AppendsFront (g.W.Write.contents c.args.out.now) (g.W.Write.contents c.write_parts.new.out)) same c.in-Err.ensures
+    let same : page_with n t c.as_str.result.now c.as_str-2.result.now ≡ page_text n t c.args.finding.now =
+    ap (λ l. page_with n t l c.as_str-2.result.now) (c.as_str.ensures.value ∙ c.in-Ok-title_of.ensures ∙ ap (title_text n Trace) c.deref.ensures.value)
+    ∙ ap (page_with n t (title_text n Trace t.lines.items)) (c.as_str-2.ensures.value ∙ c.in-Ok.ensures) in
+    subst (LeavesPage (g.W.Write.contents c.args.out.now) (g.W.Write.contents c.write_with.new.out) c.write_with.result) same c.write_with.ensures

@@ -1,7 +1,0 @@
-use Rattle.std.proofs.Common.{subst}
-use Rattle.picture.specs.Names.{Called}
-use Rattle.draw_report.specs.Served.{LeavesPicture}
-use Rattle.draw_report.proofs.serving.draw_named.Goals as goal
-
-pub returns-in-Ok-clause-text : goal.returns-in-Ok-clause-text
-returns-in-Ok-clause-text g c = subst (λ (n : Called). LeavesPicture c.args.kind n c.args.bytes.now c.args.trace.now (g.W.Write.contents c.args.out.now) (g.W.Write.contents c.draw_out.new.out) c.draw_out.result) c.in-Ok.ensures c.draw_out.ensures.text

@@ -1,5 +1,0 @@
-use Rattle.std.proofs.Common.{length}
-use Rattle.judge_report.proofs.asking.+bare.Given as goal
-
-abbrev pub decreases-bare : goal.decreases-bare
-decreases-bare l = length l.name.now
