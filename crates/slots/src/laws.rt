@@ -494,8 +494,9 @@ pub fn runs_may_buffer()
     ensures { RunsMayBuffer }
 {}
 
-/// In any run, whenever plain stores reach memory: a load finds what the layer shows, of each cell and slot, of the thread's own
-/// words, and of counters whose mutex it owns. In memory, cells and slots are always as the layer shows them.
+/// In any run, whenever plain stores reach memory, a load finds what the layer shows, of each cell and slot, of the
+/// thread's own words, and of counters whose mutex it owns. In memory, cells and slots are always as the layer shows
+/// them.
 #[tactic(auto, using(crate::proofs::LateRuns::late_same))]
 pub fn late_memory_tells_the_same()
     ensures { LateMemoryTellsTheSame }
@@ -514,16 +515,18 @@ pub fn no_call_times_out_early()
     ensures { NoCallTimesOutEarly }
 {}
 
-/// In any run, a call returns the reply of its point, which is of its own operation, and the only one. A wait that isn't refused
-/// has two: it unlocks its mutex, and later locks it again. It returns what that lock got, or ETIMEDOUT for OK, if its deadline
-/// passed in its sleep and the count was still the same then. A lock whose deadline isn't a time may return EINVAL without one.
+/// In any run, a call returns the reply of its only point, except for waits, wrong deadlines and reinits of usable
+/// mutexes. The point is of the call's own operation. A wait that isn't refused has two: it unlocks its mutex, and
+/// later locks it again. It returns what that lock got, or ETIMEDOUT for OK, if its deadline passed in its sleep and
+/// the count that its row carries was still the same then. A lock whose deadline isn't a time may return EINVAL without
+/// a point. A reinit of a usable mutex has neither a point nor a reply.
 #[tactic(auto, using(crate::proofs::Outcomes::return_points))]
 pub fn calls_return_their_points()
     ensures { CallsReturnTheirPoints }
 {}
 
-/// In any run, a count rises by one at a signal and at a broadcast of its condition variable, and stays at everything else. So a
-/// wait whose deadline passed in its sleep returns ETIMEDOUT for OK just if neither came before it looked.
+/// In any run, a count rises by one at a signal and at a broadcast of its condition variable, and stays at everything
+/// else.
 #[tactic(auto, using(crate::proofs::Signals::counts_signals))]
 pub fn counts_are_signals()
     ensures { CountsAreSignals }
@@ -543,8 +546,8 @@ pub fn refusals_are_the_machines()
     ensures { RefusalsAreTheMachines }
 {}
 
-/// After any run, a call that runs alone returns or sleeps after at most 63 accesses. It may make 63 more each time that a clock
-/// or a hint asks for another look, or keeps an heir from a free mutex.
+/// After any run, a lone call returns or sleeps after at most 63 accesses, and 63 more for each look again. A clock or
+/// a hint asks for these looks, or keeps an heir from a free mutex.
 #[tactic(auto, using(crate::proofs::LoneCalls::lone_calls))]
 pub fn lone_calls_come_to_rest()
     ensures { LoneCallsComeToRest }
