@@ -26,7 +26,7 @@ What each crate is; its *laws*, which are public functions with an empty body wh
 It is in `src/laws.rt`, unless another file is named; paths are below the crate. [THEOREM](THEOREM.md) has the laws of the
 machine together, [TESTED](TESTED.md) what is only tested.
 """
-LAW = re.compile(r"((?:^///.*\n)+)(?:#\[.*\n)*pub fn (\w+)(?:<.*>)?\(.*\)\n((?:    .*\n)*?)\{\}", re.MULTILINE)
+LAW = re.compile(r"((?:^///.*\n)+)(?:#\[.*\n)*pub fn (\w+)(?:<.*>)?\([^{]*?\)\n((?:    .*\n)*?)\{\}", re.MULTILINE)
 DEFINITION = re.compile(r"^\s*-- \*([A-Z][^*]+?)\.?\*", re.MULTILINE)
 
 
