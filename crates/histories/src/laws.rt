@@ -5,14 +5,13 @@ ghost use Rattle.histories.specs.Histories.{HistoriesAreExplained, TracesAreHist
 ghost use Rattle.histories.specs.Written.{FaultsAreTheTraces, LinesAreInRange, LinesAreReadBack};
 ghost use Rattle.histories.specs.Written.{OnlyTheseAreRead};
 
-/// Where a history is legal, so is each of its beginnings: so there is a first line that no order of the calls explains,
-/// or none.
+/// If a history is legal, so is each of its beginnings. So either there is a first line that no order of the calls
+/// explains, or there is none.
 pub fn beginnings_are_legal()
     ensures { BeginningsAreLegal }
 {}
 
-/// Whoever has a trace that is judged legal, in which waits release consistent mutexes only, and which shows a history,
-/// knows that history to be legal.
+/// A history is legal if a trace shows it that is judged legal and in which waits release only consistent mutexes.
 pub fn certificates_suffice()
     ensures { CertificatesSuffice }
 {}
@@ -22,26 +21,26 @@ pub fn traces_are_histories()
     ensures { TracesAreHistories }
 {}
 
-/// A legal history has a trace that explains itself: its points and deaths are a legal history of robust mutexes, each
-/// call that returned has exactly its points and the last one's reply, and a killed thread's death is recorded of
-/// what it owned then and of nothing else (`Explains` of the judge of traces).
+/// A legal history has a trace that explains itself. Its points and deaths are a legal history of robust mutexes. Each
+/// call that returned has exactly its points and the last one's reply. A killed thread's death is recorded for what it
+/// owned then and for nothing else (`Explains` of the judge of traces).
 pub fn histories_are_explained()
     ensures { HistoriesAreExplained }
 {}
 
-/// Each line that a history with this head may have is read as it was written: the head, each entry, what a trace says that
-/// isn't seen from outside, and the last line.
+/// Each line that a history with this head may have is read as it was written: the head, each entry, the entries of a
+/// trace that can't be seen from outside, and the last line.
 pub fn lines_are_read_back()
     ensures { LinesAreReadBack }
 {}
 
-/// Whatever is read is one of these: the numbers of a head are in their ranges, events are counted from 1, and an entry's
-/// thread, mutex and condition variable are among the head's, its operation one that calls have.
+/// All that is read is in range: the numbers of a head, events, which are counted from 1, and the thread, mutex,
+/// condition variable and operation of an entry.
 pub fn lines_are_in_range()
     ensures { LinesAreInRange }
 {}
 
-/// No text but an entry's own line is read as the entry, and none but the last line's as that.
+/// No text except an entry's own line is read as the entry, and none except the last line's as the last line.
 pub fn only_these_are_read()
     ensures { OnlyTheseAreRead }
 {}

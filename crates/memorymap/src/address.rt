@@ -22,15 +22,15 @@ pub fn addresses_are_seen()
     ensures { AddressesAreSeen }
 {}
 
-/// What is written at a place is seen, from each base, at its address there and at no other: chains and walks are over
-/// the words as their thread's process sees them.
+/// What is written at a place is seen, from each base, at its address there and at no other. So chains and walks are
+/// over the words as their thread's process sees them.
 pub fn writes_are_seen()
     ensures { WritesAreSeen }
 {}
 
-/// A process that maps the words at a base has the word at a place at base + place, modulo 2^64: at the place itself
-/// where the base is 0, each next word at the next address, and as far from where another process has it as their bases
-/// are apart.
+/// A process that maps the words at a base has the word at a place at base + place, modulo 2^64. If the base is 0, that
+/// is the place itself. Each next word is at the next address, and as far from its address in another process as their
+/// bases are apart.
 pub fn addresses_are_sums()
     ensures { AddressesAreSums }
 {}

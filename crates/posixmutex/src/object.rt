@@ -204,40 +204,40 @@ impl Object {
     }
 }
 
-/// A step leaves no choice: its operation and its reply say what the object becomes.
+/// An operation and its reply determine what the object becomes.
 pub fn steps_are_determined()
     ensures { StepsAreDetermined }
 {}
 
-/// Whoever doesn't own a mutex changes it in two ways only: it takes one that is free and usable, told of the last
-/// owner's death where the mutex is inconsistent; or it reinitialises an unusable one. Its owner releases it,
-/// declares it consistent, or dies. And who is told that it took the mutex, or released it, did so.
+/// A thread that doesn't own a mutex can only take one that is free and usable, or reinitialise an unusable one. If the
+/// mutex it takes is inconsistent, its reply says that the last owner died. The owner releases the mutex, declares it
+/// consistent, or dies. A thread whose reply says that it took the mutex, or released it, did so.
 pub fn changes_have_reasons()
     ensures { ChangesHaveReasons }
 {}
 
-/// A reply comes only for its reason, whatever becomes of the mutex: a lock's OK where it is free, usable and
-/// consistent, EBUSY where somebody owns it, EPERM where its thread doesn't, X_HELD where that holds as many mutexes as
-/// it may, and so on.
+/// Each reply comes only for its reason, whatever becomes of the mutex. A lock gets OK if the mutex is free, usable and
+/// consistent; a call gets EBUSY if somebody owns it, EPERM if its thread doesn't, X_HELD if its thread holds as many
+/// mutexes as it may, and so on.
 pub fn replies_have_reasons()
     ensures { RepliesHaveReasons }
 {}
 
-/// Each reply that has its reason may come, but that a lock or trylock at the limit has X_HELD alone: so X_RACED and
-/// X_FULL come beside others.
+/// Each reply that has its reason may come, except that a lock or trylock at the limit has X_HELD alone. So X_RACED and
+/// X_FULL are possible next to others.
 pub fn reasons_suffice()
     ensures { ReasonsSuffice }
 {}
 
-/// X_HELD is the reply of a lock or trylock whose thread holds 2,048 mutexes or more, and of no other call: the kernel
+/// X_HELD is the reply of a lock or trylock whose thread holds 2,048 mutexes or more, and of no other call. The kernel
 /// walks this many entries of a dead thread's list (robust-futexes).
 pub fn limit_is_exact()
     ensures { LimitIsExact }
 {}
 
-/// Every call has a reply, but a lock of a mutex that another thread owns, which sleeps, and a wait that isn't refused,
-/// which is an unlock first. (Nor has the death of a thread that doesn't own the mutex one, or the reinit of a mutex
-/// that is usable.)
+/// Every call has a reply, except for a lock of a mutex that another thread owns, which sleeps, and a wait that isn't
+/// refused, which first unlocks. (The death of a thread that doesn't own the mutex has no reply either, nor has the
+/// reinit of a usable mutex.)
 pub fn calls_are_answered()
     ensures { CallsAreAnswered }
 {}

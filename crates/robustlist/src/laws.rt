@@ -13,26 +13,26 @@ pub fn heads_begin_empty()
     ensures { HeadsBeginEmpty }
 {}
 
-/// From a chain both ways a link goes to one with its entry in front. Wherever it stops, the words are a chain of the
-/// old list or of the new one; what others write elsewhere doesn't matter.
+/// From a list that is chained both ways, a link goes to one with its entry in front. After each access the words are a
+/// chain of the old list or of the new one, whatever others write elsewhere.
 pub fn links_are_right()
     ensures { LinksAreRight }
 {}
 
-/// Where nobody else writes, a link makes 4 accesses into an empty list and 5 into another, and writes no word but the
-/// list's and the entry's.
+/// If nobody else writes, a link makes 4 accesses into an empty list and 5 into another, and writes only the list's and
+/// the entry's words.
 pub fn links_alone()
     ensures { LinksAlone }
 {}
 
-/// From a chain both ways an unlink goes to one without its entry. Wherever it stops, the words are a chain of the old
-/// list or of the new one; what others write elsewhere doesn't matter.
+/// From a list that is chained both ways, an unlink goes to one without its entry. After each access the words are a
+/// chain of the old list or of the new one, whatever others write elsewhere.
 pub fn unlinks_are_right()
     ensures { UnlinksAreRight }
 {}
 
-/// Where nobody else writes, an unlink makes 3 accesses for the last entry and 4 for another, and leaves the entry's
-/// own words.
+/// If nobody else writes, an unlink makes 3 accesses for the last entry and 4 for another, and leaves the entry's own
+/// words.
 pub fn unlinks_alone()
     ensures { UnlinksAlone }
 {}

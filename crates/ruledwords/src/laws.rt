@@ -2,15 +2,15 @@
 ghost use Rattle.ruledwords.specs.Apart.{HeadsAndMutexesLieApart};
 ghost use Rattle.ruledwords.specs.Meetings.{MeetingsOrderCalls};
 
-/// A call that ended before another thread's call began, where the two met between
-/// ([`Words::meet`](crate::Words::meet)), stands before it: after all that the one had seen at the meeting stand all
-/// points of the other's call.
+/// If two threads met ([`Words::meet`](crate::Words::meet)) after a call of one had ended and before a call of the
+/// other began, the first call comes before the second. All points of the second come after all that the first thread
+/// had seen at the meeting.
 pub fn meetings_order_calls()
     ensures { MeetingsOrderCalls }
 {}
 
 /// No two threads' heads have words in one cache line of 64 bytes, nor two mutexes, each with its cell and its two
-/// links, nor a head and a mutex: so threads at work on mutexes apart take no line from one another.
+/// links, nor a head and a mutex. So threads that work on different mutexes take no line from one another.
 pub fn heads_and_mutexes_lie_apart()
     ensures { HeadsAndMutexesLieApart }
 {}
