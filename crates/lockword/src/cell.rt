@@ -59,6 +59,7 @@ impl Cell {
     }
 
     /// Somebody may sleep on it.
+    #[tactic(auto, using(crate::proofs::Bits::and_waiters))]
     pub fn waiters(self) -> bool
         ensures { result ≡ self.waiters }
     {
@@ -66,6 +67,7 @@ impl Cell {
     }
 
     /// An owner died holding it, and nobody has declared it consistent.
+    #[tactic(auto, using(crate::proofs::Bits::and_died))]
     pub fn owner_died(self) -> bool
         ensures { result ≡ self.died }
     {
@@ -73,6 +75,7 @@ impl Cell {
     }
 
     /// The mutex can't be locked any more.
+    #[tactic(auto, using(crate::proofs::Bits::and_unusable))]
     pub fn unusable(self) -> bool
         ensures { result ≡ self.unusable }
     {
@@ -95,6 +98,7 @@ impl Cell {
     }
 
     /// WAITERS is set.
+    #[tactic(auto, using(crate::proofs::Bits::or_waiting))]
     pub fn waiting(self) -> Cell
         ensures { result ≡ waiting self }
     {
@@ -110,6 +114,7 @@ impl Cell {
     }
 
     /// The owner is dead: OWNER_DIED takes its place.
+    #[tactic(auto, using(crate::proofs::Bits::and_or_marked))]
     pub fn marked(self) -> Cell
         ensures { result ≡ marked self }
     {

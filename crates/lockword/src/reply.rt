@@ -132,6 +132,7 @@ impl FromStr for Reply {
 }
 
 /// A reply's name is read as that reply, and no other text is.
+#[tactic(auto, using(crate::proofs::Names::replies_read_back))]
 pub fn replies_are_read_back()
     ensures { RepliesAreReadBack }
 {}
