@@ -24,6 +24,7 @@ pub fn addresses_are_seen()
 
 /// What is written at a place is seen, from each base, at its address there and at no other. So chains and walks are
 /// over the words as their thread's process sees them.
+#[tactic(auto, using(crate::proofs::Processes::writes_seen))]
 pub fn writes_are_seen()
     ensures { WritesAreSeen }
 {}
@@ -31,6 +32,7 @@ pub fn writes_are_seen()
 /// A process that maps the words at a base has the word at a place at base + place, modulo 2^64. If the base is 0, that
 /// is the place itself. Each next word is at the next address, and as far from its address in another process as their
 /// bases are apart.
+#[tactic(auto, using(crate::proofs::Mappings::sums))]
 pub fn addresses_are_sums()
     ensures { AddressesAreSums }
 {}
