@@ -205,6 +205,7 @@ impl Object {
 }
 
 /// An operation and its reply determine what the object becomes.
+#[tactic(auto, using(crate::proofs::Steps::determined))]
 pub fn steps_are_determined()
     ensures { StepsAreDetermined }
 {}
@@ -212,6 +213,7 @@ pub fn steps_are_determined()
 /// A thread that doesn't own a mutex can only take one that is free and usable, or reinitialise an unusable one. If the
 /// mutex it takes is inconsistent, its reply says that the last owner died. The owner releases the mutex, declares it
 /// consistent, or dies. A thread whose reply says that it took the mutex, or released it, did so.
+#[tactic(auto, using(crate::proofs::Reasons::reasons))]
 pub fn changes_have_reasons()
     ensures { ChangesHaveReasons }
 {}
@@ -219,18 +221,21 @@ pub fn changes_have_reasons()
 /// Each reply comes only for its reason, whatever becomes of the mutex. A lock gets OK if the mutex is free, usable and
 /// consistent; a call gets EBUSY if somebody owns it, EPERM if its thread doesn't, X_HELD if its thread holds as many
 /// mutexes as it may, and so on.
+#[tactic(auto, using(crate::proofs::Replies::replies))]
 pub fn replies_have_reasons()
     ensures { RepliesHaveReasons }
 {}
 
 /// Each reply that has its reason may come, except that a lock or trylock at the limit has X_HELD alone. So X_RACED and
 /// X_FULL are possible next to others.
+#[tactic(auto, using(crate::proofs::Replies::suffice))]
 pub fn reasons_suffice()
     ensures { ReasonsSuffice }
 {}
 
 /// X_HELD is the reply of a lock or trylock whose thread holds 2,048 mutexes or more, and of no other call. The kernel
 /// walks this many entries of a dead thread's list (robust-futexes).
+#[tactic(auto, using(crate::proofs::Replies::limit))]
 pub fn limit_is_exact()
     ensures { LimitIsExact }
 {}

@@ -94,6 +94,7 @@ impl FromStr for Operation {
 }
 
 /// An operation's word is read as that operation, and no other text is.
+#[tactic(auto, using(crate::proofs::Words::operations_read_back))]
 pub fn operations_are_read_back()
     ensures { OperationsAreReadBack }
 {}
