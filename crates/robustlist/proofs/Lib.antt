@@ -3,6 +3,4 @@ pub mod Chains
 pub mod Agreement
 pub mod Links
 pub mod Unlinks
-pub mod LinkRuns
-pub mod UnlinkRuns
 pub mod Lists

@@ -4,17 +4,20 @@ ghost use Rattle.robustlist.specs.LinkLaws.{LinksAreRight, LinksAlone};
 ghost use Rattle.robustlist.specs.UnlinkLaws.{UnlinksAreRight, UnlinksAlone};
 
 /// A head leads over one list at most.
+#[tactic(auto, using(crate::proofs::Lists::unique))]
 pub fn chains_are_unique()
     ensures { ChainsAreUnique }
 {}
 
 /// A head whose first word is its own address has an empty list.
+#[tactic(auto, using(crate::proofs::Lists::begins_empty))]
 pub fn heads_begin_empty()
     ensures { HeadsBeginEmpty }
 {}
 
 /// From a list that is chained both ways, a link goes to one with its entry in front. After each access the words are a
 /// chain of the old list or of the new one, whatever others write elsewhere.
+#[tactic(auto, using(crate::proofs::Links::right))]
 pub fn links_are_right()
     ensures { LinksAreRight }
 {}
@@ -27,6 +30,7 @@ pub fn links_alone()
 
 /// From a list that is chained both ways, an unlink goes to one without its entry. After each access the words are a
 /// chain of the old list or of the new one, whatever others write elsewhere.
+#[tactic(auto, using(crate::proofs::Unlinks::right))]
 pub fn unlinks_are_right()
     ensures { UnlinksAreRight }
 {}
