@@ -12,5 +12,4 @@ pub mod WholeLists
 pub mod Steps
 pub mod Alone
 pub mod Once
-pub mod Deciding
 pub mod Expiries

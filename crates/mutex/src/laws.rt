@@ -39,11 +39,13 @@ pub fn whole_calls_wake()
 {}
 
 /// Whatever its accesses return, a trylock gives up only after four exchanges that each found a changed cell.
+#[tactic(auto, using(crate::proofs::Races::raced))]
 pub fn raced_after_four()
     ensures { RacedAfterFour }
 {}
 
 /// A trylock that hasn't given up has met at most three changed cells: after the fourth it gives up.
+#[tactic(auto, using(crate::proofs::Races::gives_up))]
 pub fn gives_up_after_four()
     ensures { GivesUpAfterFour }
 {}
@@ -77,6 +79,7 @@ pub fn whole_calls_keep_lists()
 
 /// A lock that is out of time has had no point, so it never owned the mutex. The one access that is left clears its
 /// pending entry, and it returns `ETIMEDOUT`. Its thread's list is as between calls.
+#[tactic(auto, using(crate::proofs::Expiries::right))]
 pub fn expiries_are_right()
     ensures { ExpiriesAreRight }
 {}
