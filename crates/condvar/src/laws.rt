@@ -13,12 +13,14 @@ pub fn calls_are_right()
 
 /// Except for its thread's robust list, a call's accesses are at its mutex's cell and at its condition variable's
 /// counter.
+#[tactic(auto, using(crate::proofs::Rights::there))]
 pub fn accesses_are_there()
     ensures { AccessesAreThere }
 {}
 
 /// A broadcast moves sleepers only to a cell that its thread owns and that has WAITERS, and it compares the counter
 /// with its current value, so the move never fails for it.
+#[tactic(auto, using(crate::proofs::Rights::moves))]
 pub fn moves_are_right()
     ensures { MovesAreRight }
 {}
@@ -26,6 +28,7 @@ pub fn moves_are_right()
 /// Whatever its accesses return, a call wakes one sleeper of its mutex after a wait's release that found `WAITERS`, and
 /// one of its condition variable if a signal counted. Otherwise it wakes nobody. A broadcast moves sleepers instead.
 /// (The lock that ends a wait is a call of `mutex`.)
+#[tactic(auto, using(crate::proofs::Wakes::woken_right))]
 pub fn wakes_are_right()
     ensures { WakesAreRight }
 {}
@@ -33,18 +36,21 @@ pub fn wakes_are_right()
 /// A whole call begins a wake exactly after an access at the cell or the counter whose point asks for that wake, of one
 /// sleeper on that word. In the lock that ends a wait, it does so exactly when a call of `mutex` does. Whatever the
 /// call's accesses return, it doesn't begin with a wake, and no wake follows an access of its thread's robust list.
+#[tactic(auto, using(crate::proofs::WholeWakes::whole_wakes))]
 pub fn whole_calls_wake()
     ensures { WholeCallsWake }
 {}
 
 /// What a call needs of the words stays while its thread owns the mutex, whatever other threads do that leave an owned
 /// mutex alone.
+#[tactic(auto, using(crate::proofs::Rights::owned))]
 pub fn needs_are_owned()
     ensures { NeedsAreOwned }
 {}
 
 /// Whatever a call's accesses return, a reply that its first load decides is one that POSIX permits for the cell met
 /// there. The call goes on from that load only as the mutex's owner.
+#[tactic(auto, using(crate::proofs::Replies::permitted))]
 pub fn points_are_permitted()
     ensures { PointsArePermitted }
 {}
@@ -53,11 +59,13 @@ pub fn points_are_permitted()
 /// with the reply that it returned. A wait was refused, or it unlocked its mutex and later locked it again. Each point
 /// except that of a lock has a reply that POSIX permits for the cell that the call's first load met. When a wait takes
 /// its mutex again, it is a call of lock, and all holds that `mutex` says of whole calls.
+#[tactic(auto, using(crate::proofs::Wholes::whole))]
 pub fn whole_calls_are_right()
     ensures { WholeCallsAreRight }
 {}
 
 /// Whatever its accesses return, a whole call returns `EFAULT` exactly after an answer that its access doesn't have.
+#[tactic(auto, using(crate::proofs::Faults::told))]
 pub fn faults_are_told()
     ensures { FaultsAreTold }
 {}
@@ -65,6 +73,7 @@ pub fn faults_are_told()
 /// A wait with a deadline is a wait, access by access. When it sleeps, it has unlocked its mutex and had no other
 /// point, so its deadline passes after that. Then it continues like a wait that is woken, by locking its mutex. It
 /// returns a wait's reply, except that it is `ETIMEDOUT` instead of `OK` if the wait is out of time.
+#[tactic(auto, using(crate::proofs::Expiries::timed))]
 pub fn timed_waits_are_right()
     ensures { TimedWaitsAreRight }
 {}
