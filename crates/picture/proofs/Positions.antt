@@ -15,7 +15,7 @@ use Rattle.picture.specs.Positions.{decides_band, is_band, turns_band}
 use Rattle.picture.specs.Scenes.{most_bands}
 use Rattle.picture.specs.Svg.{since_at, since_band}
 use Rattle.picture.specs.declared.bands.Bands.{Bands}
-use Rattle.std.proofs.Common.{eqb-true, ◌≡◌, ◌∙◌, ◌+◌, ◌-◌, ◌*◌, ◌<◌, ◌≤◌, ◌∷◌, ◌++◌, Bool, true, false, ℕ, zero, suc, Option, Some, None, List, [], append-nil, append_assoc, ap, length, refl, subst, suc-mul, sym, arith}
+use Rattle.std.proofs.Common.{eqb-true, ◌≡◌, ◌∙◌, ◌+◌, ◌-◌, ◌*◌, ◌<◌, ◌≤◌, ◌∷◌, ◌++◌, Bool, true, false, ℕ, zero, suc, Option, Some, None, List, [], append-nil, append_assoc, ap, length, max, refl, subst, suc-mul, sym, arith}
 use Rattle.std.specs.Prelude.{not, slice_index_or, slice_set, ◌==◌, ◌&&◌, ◌≢◌, codes, decimal, if◌then◌else◌, nat_lt}
 use Rattle.std.proofs.lemmas.Bool.Decides.{nat_tests}
 use Rattle.facts.specs.Facts.{thread_of}
@@ -23,13 +23,13 @@ use Rattle.facts.specs.declared.fact.Fact.{Fact}
 use Rattle.facts.specs.declared.fact.Line.{Line}
 use Rattle.picture.specs.Names.{Called}
 use Rattle.picture.specs.Pieces.{each}
-use Rattle.picture.specs.Places.{band_apart, band_middle, band_wide, band_x, lane_x, row_y}
+use Rattle.picture.specs.Places.{band_apart, band_middle, band_wide, band_x, lane_x, margin, row_y}
 use Rattle.picture.specs.Positions.{BandIsAtItsPlace, Contains, IsDrawnInPlace, LaneIsAtItsPlace, LineIsAtItsPlace, RowsHaveRoom, SvgDrawsInPlace, is_move, newest_that, turns_lane, path_at, rectangle_at, since_after}
 use Rattle.picture.specs.Rows.{from_at, is_from_right, words_at}
 use Rattle.picture.specs.Scenes.{behind, first_scene}
 use Rattle.picture.specs.Shapes.{band_box, lane_box, mark_class, mark_path, number_label, rectangle, words_label}
 use Rattle.picture.specs.States.{scene_after}
-use Rattle.picture.specs.Svg.{Marked, band_from, band_part, band_rest, ends_lane, lane_from, lane_part, lane_rest, lane_rests, part_at, svg_height, svg_width, begins_at, end_text, first_since, line_marks, line_parts, mark_of, marks, misfit_row, misfit_shape, note_of, parts, rests, svg_band, svg_bands, svg_extent, svg_heads, svg_lane, svg_lane_behind, svg_lanes, svg_open, svg_with}
+use Rattle.picture.specs.Svg.{Marked, band_from, band_part, band_rest, ends_lane, lane_from, lane_part, lane_rest, lane_rests, part_at, svg_height, svg_width, begins_at, end_text, first_since, line_marks, line_parts, mark_of, marks, misfit_row, misfit_shape, note_end, note_of, parts, rests, svg_band, svg_bands, svg_extent, svg_heads, svg_lane, svg_lane_behind, svg_lanes, svg_open, svg_with}
 use Rattle.picture.specs.declared.bands.Extent.{Extent}
 use Rattle.picture.specs.declared.scene.Scene.{Scene}
 use Rattle.picture.specs.declared.svg.Since.{Since}
@@ -130,16 +130,16 @@ band_at_place n x i = record {
 }
 
 -- below the end stands what is said of a line that doesn't fit
-noted : (top y : ℕ) (note : List ℕ) → Contains (misfit_shape (decimal top) (decimal y) ++ (note ++ codes "</text>\n")) (codes "y=\"" ++ (decimal y ++ (codes "\" fill=\"#c00\">" ++ note)))
+noted : (top y : ℕ) (note : List ℕ) → Contains (misfit_shape (decimal top) (decimal y) ++ (note ++ codes "</text>\n")) (codes "x=\"54\" y=\"" ++ (decimal y ++ (codes "\" fill=\"#c00\">" ++ note)))
 noted top y note =
     let first = codes "<rect class=\"m\" y=\"" in
     let middle = codes "\" width=\"100%\" height=\"18\" fill=\"#c00\" fill-opacity=\".2\"/>\n<text class=\"m\" x=\"54\" y=\"" in
     let fill = codes "\" fill=\"#c00\">" in
     let rest = note ++ codes "</text>\n" in
     let same : first ++ (decimal top ++ (middle ++ (decimal y ++ (fill ++ rest)))) ≡ misfit_shape (decimal top) (decimal y) ++ rest = sym (ap (λ l. first ++ l) (append_assoc (decimal top) (middle ++ (decimal y ++ fill)) rest ∙ ap (λ l. decimal top ++ (middle ++ l)) (append_assoc (decimal y) fill rest))) in
-    subst (λ l. Contains l (codes "y=\"" ++ (decimal y ++ (fill ++ note)))) same
-    (right first _ _ (right (decimal top) _ _ (right (codes "\" width=\"100%\" height=\"18\" fill=\"#c00\" fill-opacity=\".2\"/>\n<text class=\"m\" x=\"54\" ") _ _
-    (four (codes "y=\"") (decimal y) fill note (codes "</text>\n")))))
+    subst (λ l. Contains l (codes "x=\"54\" y=\"" ++ (decimal y ++ (fill ++ note)))) same
+    (right first _ _ (right (decimal top) _ _ (right (codes "\" width=\"100%\" height=\"18\" fill=\"#c00\" fill-opacity=\".2\"/>\n<text class=\"m\" ") _ _
+    (four (codes "x=\"54\" y=\"") (decimal y) fill note (codes "</text>\n")))))
 
 rows_have_room : RowsHaveRoom
 rows_have_room = record {
@@ -298,13 +298,13 @@ module _ (n : Called) (x : Extent) (ls : List Line) (last : ℕ) (misfit : Optio
   heads_rest = parts n x first_scene first_since 1 ls ++ (marks n x first_scene 1 ls ++ end_text misfit last (length ls))
 
   of_heads : (part : List ℕ) → Contains (svg_bands n x ++ svg_lanes n x (row_y (length ls) + 18)) part → Contains (svg_with n x ls last misfit) part
-  of_heads part h = left (svg_heads n x (length ls)) _ part (right (svg_open x (length ls)) _ part h)
+  of_heads part h = left (svg_heads n x misfit (length ls)) _ part (right (svg_open x misfit (length ls)) _ part h)
 
   of_parts : (part : List ℕ) → Contains (parts n x first_scene first_since 1 ls) part → Contains (svg_with n x ls last misfit) part
-  of_parts part h = right (svg_heads n x (length ls)) _ part (left (parts n x first_scene first_since 1 ls) _ part h)
+  of_parts part h = right (svg_heads n x misfit (length ls)) _ part (left (parts n x first_scene first_since 1 ls) _ part h)
 
   of_marks : (part : List ℕ) → Contains (marks n x first_scene 1 ls) part → Contains (svg_with n x ls last misfit) part
-  of_marks part h = right (svg_heads n x (length ls)) _ part (right (parts n x first_scene first_since 1 ls) _ part (left (marks n x first_scene 1 ls) _ part h))
+  of_marks part h = right (svg_heads n x misfit (length ls)) _ part (right (parts n x first_scene first_since 1 ls) _ part (left (marks n x first_scene 1 ls) _ part h))
 
   lane_is : (u : ℕ) → 1 ≤ u → u ≤ x.threads → Contains (svg_with n x ls last misfit) (svg_lane n x (row_y (length ls) + 18) u)
   lane_is u some few =
@@ -325,10 +325,10 @@ module _ (n : Called) (x : Extent) (ls : List Line) (last : ℕ) (misfit : Optio
       let since = (since_after x first_since 1 ls).lanes in
       of_rests _ (left (lane_rests x lanes since (length ls + 1)) _ _ (subst (λ (v : ℕ). Contains (lane_rests x lanes since (length ls + 1)) (lane_from x lanes since v (length ls + 1))) is (one_of (lane_rest x lanes since (length ls + 1)) x.threads (u - 1) (omega (arith, some, few)))))
 
-  size_is : Contains (svg_with n x ls last misfit) (codes "width=\"" ++ (decimal (svg_width x) ++ (codes "\" height=\"" ++ (decimal (svg_height (length ls)) ++ codes "\""))))
-  size_is = left (svg_heads n x (length ls)) _ _ (left (svg_open x (length ls)) _ _ (right (codes "<svg xmlns=\"http://www.w3.org/2000/svg\" ") _ _ (five (codes "width=\"") (decimal (svg_width x)) (codes "\" height=\"") (decimal (svg_height (length ls))) (codes "\"") _)))
+  size_is : Contains (svg_with n x ls last misfit) (codes "width=\"" ++ (decimal (svg_width x misfit) ++ (codes "\" height=\"" ++ (decimal (svg_height (length ls)) ++ codes "\""))))
+  size_is = left (svg_heads n x misfit (length ls)) _ _ (left (svg_open x misfit (length ls)) _ _ (right (codes "<svg xmlns=\"http://www.w3.org/2000/svg\" ") _ _ (five (codes "width=\"") (decimal (svg_width x misfit)) (codes "\" height=\"") (decimal (svg_height (length ls))) (codes "\"") _)))
 
-  drawn_in_place : IsDrawnInPlace n x ls (svg_with n x ls last misfit)
+  drawn_in_place : IsDrawnInPlace n x ls misfit (svg_with n x ls last misfit)
   drawn_in_place = record {
     lanes = lane_is;
     bands = λ i lt. of_heads _ (left (svg_bands n x) _ _ (one_of (svg_band n x) x.bands.count i lt));
@@ -340,13 +340,16 @@ module _ (n : Called) (x : Extent) (ls : List Line) (last : ℕ) (misfit : Optio
     last_bands = λ i lt. of_rests _ (right (lane_rests x (scene_after x.bands first_scene ls []).lanes (since_after x first_since 1 ls).lanes (length ls + 1)) _ _ (one_of (band_rest n x (scene_after x.bands first_scene ls []).objects (since_after x first_since 1 ls).bands (length ls + 1)) x.bands.count i lt));
   }
 
+below_max : (k a b : ℕ) → k < a → k < max a b
+below_max k a b lt = omega (arith, lt)
+
 pub svg_draws_in_place : SvgDrawsInPlace
 svg_draws_in_place = record {
   line = line_at;
   lane = lane_at_place;
   band = band_at_place;
   rows = rows_have_room;
-  apart = λ x u some few. (omega arith, (let last = along_last x u few in omega (arith, last)));
+  apart = λ x misfit u some few. (omega arith, (let last = along_last x u few in below_max (lane_x x u) (lane_x x x.threads + margin x) (note_end misfit) (omega (arith, last))));
   all = λ n threads mutexes ls last misfit. drawn_in_place n (svg_extent n threads mutexes ls) ls last misfit;
   since = λ x ls. record {
     bands = λ i lt. bands_go x i first_since 1 0 ls (let long = length-replicate {A = ℕ} most_bands 0 in omega (arith, long, lt)) (get_or-replicate {A = ℕ} most_bands i 0 0 lt);

@@ -9,12 +9,12 @@ use Rattle.facts.specs.Facts.{thread_of}
 use Rattle.picture.specs.declared.bands.Extent.{Extent}
 use Rattle.picture.specs.declared.scene.Scene.{Scene}
 use Rattle.picture.specs.Bands.{mutex_at}
-use Rattle.picture.specs.Laws.{AreNames, HasNumbersOfATrace, HasRoom, HasRoomForNames, TextsHaveRoom, pixels}
+use Rattle.picture.specs.Laws.{AreNames, HasNumbersOfATrace, HasRoom, HasRoomForNames, TextsHaveRoom, pixels, words_end}
 use Rattle.picture.specs.Names.{Called, mutex_head, mutex_tail, thread_head, thread_tail}
-use Rattle.picture.specs.Places.{along, apart, band_apart, band_x, lane_x, name_room, words_room}
+use Rattle.picture.specs.Places.{along, apart, band_apart, band_x, lane_x, margin, name_room, words_room}
 use Rattle.picture.specs.Rows.{from_at, is_from_right, words_at}
 use Rattle.picture.specs.Scenes.{lane_at}
-use Rattle.picture.specs.Svg.{mark_of}
+use Rattle.picture.specs.Svg.{mark_of, note_end, note_of}
 use Rattle.picture.proofs.Letters.{both_letters, number_letters, thread_pieces, words_letters}
 use Rattle.picture.proofs.Shown.{mutex_letters}
 
@@ -45,6 +45,14 @@ along_next x u some = ap (λ k. apart x * k) (let e : u + 1 - 1 ≡ u - 1 + 1 = 
 words_fit : (m n : ℕ) → 5 ≤ m → m ≤ 16 → n ≤ max (12 + 2 * m) (27 + m) → 17 + pixels n ≤ 220 + 8 * m
 words_fit m n low high le = omega (arith, le, low, high)
 
+-- a marked line makes a picture no narrower
+up_to_max : (k a b : ℕ) → k ≤ a → k ≤ max a b
+up_to_max k a b le = omega (arith, le)
+
+-- what is said of one has 8 pixels for a letter
+note_fits : (n a : ℕ) → 54 + pixels n ≤ max a (54 + 8 * n)
+note_fits n a = omega arith
+
 room_of : (n : Called) (x : Extent) (s : Scene) (l : Line) → AreNames n → HasRoomForNames n x → HasNumbersOfATrace s l → 1 ≤ thread_of l.fact → thread_of l.fact ≤ x.threads → HasRoom n x s l
 room_of n x s l names room numbers some few =
     let t = thread_of l.fact in
@@ -54,7 +62,7 @@ room_of n x s l names room numbers some few =
     let next = along_next x t some in
     let digits = number_letters l.event 6 (omega arith) numbers.event (omega (arith, numbers.event)) in
     record {
-      inside = omega (arith, wide, last);
+      inside = λ misfit. up_to_max (words_end n x s l) (lane_x x x.threads + margin x) (note_end misfit) (omega (arith, wide, last));
       apart = λ five.
           let lanes : apart x ≡ words_room x = grind (arith, nat_tests, five) in
           omega (arith, wide, next, lanes);
@@ -90,5 +98,6 @@ have_room = record {
   drawn = λ n x s l k. record { mark = mark_of x l.fact (from_at s l) k; above = is_from_right (thread_of l.fact) (from_at s l); whole = refl };
   lines = room_of;
   bands = bands_apart;
+  note = λ x m. note_fits (length (note_of m.line m.note)) (lane_x x x.threads + margin x);
   lanes = lanes_apart;
 }

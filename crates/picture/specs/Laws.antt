@@ -11,8 +11,8 @@
 --
 -- *Texts have room.* A letter is taken to be 7.5 pixels wide at most, which is more than one of a monospaced font at 11
 -- pixels takes: then the words of a line end within the picture, up to five threads before the next lane's marks, and
--- neither the names of two bands touch nor those of two lanes.
-use Rattle.std.specs.Prelude.{All, Any, IsSomeAnd, Some, None, ℕ, ◌≡◌, ◌≢◌, ◌≤◌, ◌<◌, ◌+◌, ◌-◌}
+-- neither the names of two bands touch nor those of two lanes. What is said of a marked line ends within the picture, too.
+use Rattle.std.specs.Prelude.{All, Any, IsSomeAnd, Option, Some, None, ℕ, ◌≡◌, ◌≢◌, ◌≤◌, ◌<◌, ◌+◌, ◌-◌}
 use Rattle.std.specs.Prelude.{◌*◌, ◌/◌, ◌^◌, ◌==◌, nat_lt, Bool, true, false, List, [], ◌∷◌, ◌++◌}
 use Rattle.std.specs.Prelude.{length, codes, decimal, slice_index_or, IfSome, if◌then◌else◌}
 use Rattle.std.specs.List.{concat, repeat}
@@ -34,7 +34,7 @@ use Rattle.picture.specs.Rows.{mark, part_of, row_text, sign, words_at}
 use Rattle.picture.specs.Shapes.{words_y}
 use Rattle.picture.specs.Signs.{dash}
 use Rattle.picture.specs.Style.{shapes_style, style}
-use Rattle.picture.specs.Svg.{line_marks, svg_width}
+use Rattle.picture.specs.Svg.{Marked, line_marks, note_of, svg_width}
 use Rattle.picture.specs.Words.{first_number, second_number}
 
 -- ---- in text: a line's mark
@@ -155,7 +155,7 @@ words_end n x s l = words_x (lane_x x (thread_of l.fact)) + pixels (length (conc
 -- the words of a line end within the picture; up to five lanes have room for them, up to the next lane's marks, which
 -- begin 7 before its middle; and the number of its event begins within the picture
 pub record HasRoom (n : Called) (x : Extent) (s : Scene) (l : Line) : Type 0 where
-  pub inside : words_end n x s l ≤ svg_width x
+  pub inside : (misfit : Option Marked) → words_end n x s l ≤ svg_width x misfit
   pub apart : x.threads ≤ 5 → words_end n x s l ≤ lane_x x (thread_of l.fact + 1) - 7
   pub event : pixels (length (decimal l.event)) ≤ number_x
 
@@ -192,7 +192,7 @@ pub record HasOneFont : Type 0 where
   pub anchors : mentions (codes "text-anchor") shapes_style ≡ false
 
 -- so it is of every line of one of a picture's threads where there is room for the names, and neither the names of two
--- bands touch nor those of two lanes
+-- bands touch nor those of two lanes; and what is said of a marked line, which begins at 54 (`SvgDrawsInPlace`), has room
 pub record TextsHaveRoom : Type 0 where
   pub font : HasOneFont
   pub drawn : (n : Called) (x : Extent) (s : Scene) (l : Line) (k : ℕ) → IsDrawnSo n x s l k
@@ -202,6 +202,7 @@ pub record TextsHaveRoom : Type 0 where
       → mutex_at x.bands i < 10 ^ 4
       → band_x x i + pixels (length (mutex_head n (mutex_at x.bands i) ++ mutex_tail n (mutex_at x.bands i)))
       < band_x x (i + 1)
+  pub note : (x : Extent) (m : Marked) → 54 + pixels (length (note_of m.line m.note)) ≤ svg_width x (Some m)
   pub lanes : (n : Called) (x : Extent) → AreNames n → HasRoomForNames n x → (u : ℕ) → 1 ≤ u → u < 10 ^ 2
       → lane_x x u + pixels (length (thread_head n u ++ thread_tail n u)) < lane_x x (u + 1)
 

@@ -108,7 +108,8 @@ pub record RowsHaveRoom : Type 0 where
       × (row_y lines + 4 + 11 ≤ y) × (y < svg_height lines)
   pub misfit : (m : Marked) (lines : ℕ)
       → Contains (misfit_at m lines) (codes "<rect class=\"m\" y=\"" ++ decimal (row_y (m.line - 1) - 9))
-      × ((y : ℕ) × Contains (misfit_at m lines) (codes "y=\"" ++ (decimal y ++ (codes "\" fill=\"#c00\">" ++ note_of m.line m.note)))
+      × ((y : ℕ)
+      × Contains (misfit_at m lines) (codes "x=\"54\" y=\"" ++ (decimal y ++ (codes "\" fill=\"#c00\">" ++ note_of m.line m.note)))
       × (row_y lines + 4 + 11 ≤ y) × (y < svg_height lines))
 
 -- ---- the picture
@@ -134,9 +135,9 @@ turns_lane t l = thread_of l.fact == t && not (is_some (decision_of l.fact)) && 
 -- each thread has its lane, and each mutex with a band its band. Each line is drawn at the row of its number, with the state
 -- after it. If a line changes a lane or a band, what this lane or band showed before it is drawn from the line that began
 -- it down to this one; what goes on after the last line is drawn to the row after it
-pub record IsDrawnInPlace (n : Called) (x : Extent) (ls : List Line) (picture : List ℕ) : Type 0 where
+pub record IsDrawnInPlace (n : Called) (x : Extent) (ls : List Line) (misfit : Option Marked) (picture : List ℕ) : Type 0 where
   pub size : Contains picture
-      (codes "width=\"" ++ (decimal (svg_width x) ++ (codes "\" height=\"" ++ (decimal (svg_height (length ls)) ++ codes "\""))))
+      (codes "width=\"" ++ (decimal (svg_width x misfit) ++ (codes "\" height=\"" ++ (decimal (svg_height (length ls)) ++ codes "\""))))
   pub lanes : (u : ℕ) → 1 ≤ u → u ≤ x.threads → Contains picture (svg_lane n x (row_y (length ls) + 18) u)
   pub bands : (i : ℕ) → i < x.bands.count → Contains picture (svg_band n x i)
   pub lines : (before later : List Line) (l : Line) → ls ≡ before ++ (l ∷ later)
@@ -182,10 +183,10 @@ pub record SvgDrawsInPlace : Type 0 where
   pub band : (n : Called) (x : Extent) (i : ℕ) → BandIsAtItsPlace n x i
   pub rows : RowsHaveRoom
   -- the last band ends 20 before the middle of the first lane, and each lane is within the picture
-  pub apart : (x : Extent) (u : ℕ) → 1 ≤ u → u ≤ x.threads
-      → (band_x x x.bands.count + 20 ≤ lane_x x u) × (lane_x x u < svg_width x)
+  pub apart : (x : Extent) (misfit : Option Marked) (u : ℕ) → 1 ≤ u → u ≤ x.threads
+      → (band_x x x.bands.count + 20 ≤ lane_x x u) × (lane_x x u < svg_width x misfit)
   pub all : (n : Called) (threads mutexes : ℕ) (ls : List Line) (last : ℕ) (misfit : Option Marked)
-      → IsDrawnInPlace n (svg_extent n threads mutexes ls) ls (svg_marked n threads mutexes ls last misfit)
+      → IsDrawnInPlace n (svg_extent n threads mutexes ls) ls misfit (svg_marked n threads mutexes ls last misfit)
   pub since : (x : Extent) (ls : List Line) → SinceIsTheNewest x ls
 
 -- ---- the picture in text

@@ -3,7 +3,7 @@
 --
 -- *The picture as SVG.* What lanes and bands show from line to line, and over that each line's number, its mark in the
 -- middle of its thread's lane or an arrow to it, and its words. Source: Scalable Vector Graphics 1.1.
-use Rattle.std.specs.Prelude.{ℕ, ◌+◌, ◌-◌, Bool, true, false, Option, Some, None, List, [], ◌∷◌, ◌++◌, length}
+use Rattle.std.specs.Prelude.{ℕ, ◌+◌, ◌-◌, ◌*◌, max, Bool, true, false, Option, Some, None, List, [], ◌∷◌, ◌++◌, length}
 use Rattle.std.specs.Prelude.{codes, decimal, option_map, replicate, slice_index_or, slice_set, if◌then◌else◌}
 use Rattle.std.specs.List.{concat}
 use Rattle.lockword.specs.Threads.{most_threads}
@@ -156,18 +156,33 @@ svg_tag wide high shown = concat
     (codes "<svg xmlns=\"http://www.w3.org/2000/svg\" width=\"" ∷ wide ∷ codes "\" height=\"" ∷ high
     ∷ codes "\" viewBox=\"0 0 " ∷ wide ∷ codes " " ∷ high ∷ codes "\">\n" ∷ shown ∷ [])
 
--- how wide and how high a picture is
-abbrev pub svg_width : Extent → ℕ
-svg_width x = lane_x x x.threads + margin x
+-- a line that is marked, and what is said of it, if it is to be this
+pub record Marked : Type 0 where
+  pub line : ℕ
+  pub note : Option (List ℕ)
+
+-- what is said of it: this, or which line it is
+abbrev pub note_of : ℕ → Option (List ℕ) → List ℕ
+note_of line (Some note) = note
+note_of line None = concat (codes "line " ∷ decimal line ∷ codes " doesn't fit those before it" ∷ [])
+
+-- how far to the right that reaches, which begins at 54, with 8 pixels for a letter
+abbrev pub note_end : Option Marked → ℕ
+note_end None = 0
+note_end (Some m) = 54 + 8 * length (note_of m.line m.note)
+
+-- how wide and how high a picture is: it has room for the lanes, and for what is said of a marked line
+abbrev pub svg_width : Extent → Option Marked → ℕ
+svg_width x misfit = max (lane_x x x.threads + margin x) (note_end misfit)
 
 abbrev pub svg_height : ℕ → ℕ
 svg_height lines = row_y lines + 36
 
-abbrev pub svg_open : Extent → ℕ → List ℕ
-svg_open x lines = svg_tag (decimal (svg_width x)) (decimal (svg_height lines)) style
+abbrev pub svg_open : Extent → Option Marked → ℕ → List ℕ
+svg_open x misfit lines = svg_tag (decimal (svg_width x misfit)) (decimal (svg_height lines)) style
 
-abbrev pub svg_heads : Called → Extent → ℕ → List ℕ
-svg_heads n x lines = svg_open x lines ++ (svg_bands n x ++ svg_lanes n x (row_y lines + 18))
+abbrev pub svg_heads : Called → Extent → Option Marked → ℕ → List ℕ
+svg_heads n x misfit lines = svg_open x misfit lines ++ (svg_bands n x ++ svg_lanes n x (row_y lines + 18))
 
 abbrev pub foot_text : ℕ → ℕ → List ℕ
 foot_text last lines = concat
@@ -184,16 +199,6 @@ misfit_shape top foot = concat
 -- line 1 is the trace's head
 abbrev pub misfit_row : ℕ → ℕ → List ℕ
 misfit_row line lines = misfit_shape (decimal (row_y (line - 1) - 9)) (decimal (row_y lines + 33))
-
--- what is said of it: this, or which line it is
-abbrev pub note_of : ℕ → Option (List ℕ) → List ℕ
-note_of line (Some note) = note
-note_of line None = concat (codes "line " ∷ decimal line ∷ codes " doesn't fit those before it" ∷ [])
-
--- a line that is marked, and what is said of it, if it is to be this
-pub record Marked : Type 0 where
-  pub line : ℕ
-  pub note : Option (List ℕ)
 
 abbrev pub misfit_at : Marked → ℕ → List ℕ
 misfit_at m lines = misfit_row m.line lines ++ (note_of m.line m.note ++ codes "</text>\n")
@@ -215,7 +220,7 @@ end_text misfit last lines = misfit_mark misfit lines ++ foot_text last lines
 -- ---- all of it
 
 abbrev pub svg_with : Called → Extent → List Line → ℕ → Option Marked → List ℕ
-svg_with n x ls last misfit = svg_heads n x (length ls)
+svg_with n x ls last misfit = svg_heads n x misfit (length ls)
     ++ (parts n x first_scene first_since 1 ls ++ (marks n x first_scene 1 ls ++ end_text misfit last (length ls)))
 
 -- with this line marked, if there is one

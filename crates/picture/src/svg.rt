@@ -1,12 +1,13 @@
 //! The parts of an SVG picture: what lanes and bands show from line to line, and over that the lines' marks.
 
-ghost use Rattle.std.specs.Prelude.{◌≡◌, ◌++◌, ◌≤◌, ◌<◌, decimal, map, option_map, string_bytes, IfOk};
+ghost use Rattle.std.specs.Prelude.{◌≡◌, ◌++◌, ◌≤◌, ◌<◌, decimal, length, map, None, option_map, string_bytes, IfOk};
 ghost use Rattle.lockword.specs.Threads.{named_threads};
 ghost use Rattle.facts.specs.Facts.{decision_of};
 ghost use Rattle.picture.specs.Svg.{band_part, band_rests, begins_at, end_text, ends_lane, first_since, foot_text};
 ghost use Rattle.picture.specs.Svg.{lane_line, lane_part, lane_rests, line_marks, line_parts, mark_of, marks_of};
-ghost use Rattle.picture.specs.Svg.{marked_by, marked_of, misfit_at, misfit_mark, misfit_row, note_of, rests, since_band, since_lane, svg_band, svg_bands};
-ghost use Rattle.picture.specs.Svg.{svg_heads, svg_lane, svg_lanes, svg_open};
+ghost use Rattle.picture.specs.Svg.{marked_by, marked_of, misfit_at, misfit_mark, misfit_row, note_end, note_of};
+ghost use Rattle.picture.specs.Svg.{rests, since_band, since_lane, svg_band, svg_bands};
+ghost use Rattle.picture.specs.Svg.{svg_heads, svg_lane, svg_lanes, svg_open, svg_width};
 
 use crate::bands::{Bands, Extent, IDS, Sheet};
 use crate::pieces::add;
@@ -27,7 +28,7 @@ const NAME_Y: u128 = 20;
 /// A line of a trace that is marked as one that doesn't fit, and what is said of it below the picture.
 #[derive(Clone, Copy, Debug, PartialEq, Eq)]
 pub struct Misfit<'a> {
-    /// Its place; line 1 is the trace's head.
+    /// The line's place; line 1 is the trace's head.
     pub line: usize,
     /// What is said, in which nothing is markup. If this is none, which line it is.
     pub note: Option<&'a str>,
@@ -393,14 +394,58 @@ fn add_lane_names(text: &mut String, sheet: &Sheet<'_>, bottom: u128) -> Result<
     Ok(())
 }
 
-/// The size of the picture and the style of its shapes.
-fn add_open(text: &mut String, extent: &Extent, lines: usize) -> Result<(), AllocError>
+/// How many bytes the words have that say which line is marked.
+fn line_note_length(line: usize) -> usize
+    ensures { result ≡ length (note_of line None) }
+{
+    let mut digits = Buffer::new();
+    digits.format(line).len() + 33
+}
+
+/// How many bytes what is said of a marked line has.
+fn note_length(line: usize, note: Option<&str>) -> usize
+    ensures { result ≡ length (note_of line (option_map (λ s. s.now) note.entry)) }
+{
+    match note {
+        Some(note) => note.len(),
+        None => line_note_length(line),
+    }
+}
+
+/// How far to the right what is said of a marked line reaches, of 8 pixels for a letter; 0 if no line is marked.
+fn note_end(misfit: Option<Misfit<'_>>) -> u128
+    ensures { result ≡ note_end (marked_of misfit.entry) }
+{
+    match misfit {
+        Some(misfit) => 54 + 8 * note_length(misfit.line, misfit.note) as u128,
+        None => 0,
+    }
+}
+
+/// How wide the picture is.
+fn svg_width(extent: &Extent, misfit: Option<Misfit<'_>>) -> u128
     requires { extent.now.bands.count ≤ 16 }
-    ensures { IfOk result (λ _. string_bytes text.new ≡ string_bytes text.old ++ svg_open extent.now lines) }
+    ensures { result ≡ svg_width extent.now (marked_of misfit.entry) }
+{
+    let lanes = lane_x(extent, extent.threads) + words_room(extent);
+    u128::from(lanes).max(note_end(misfit))
+}
+
+/// The size of the picture and the style of its shapes.
+fn add_open(
+    text: &mut String,
+    extent: &Extent,
+    misfit: Option<Misfit<'_>>,
+    lines: usize,
+) -> Result<(), AllocError>
+    requires { extent.now.bands.count ≤ 16 }
+    ensures { IfOk result
+        (λ _. string_bytes text.new
+        ≡ string_bytes text.old ++ svg_open extent.now (marked_of misfit.entry) lines) }
 {
     let mut widths = Buffer::new();
     let mut heights = Buffer::new();
-    let width = widths.format(lane_x(extent, extent.threads) + words_room(extent));
+    let width = widths.format(svg_width(extent, misfit));
     let height = heights.format(row_y(lines) + 36);
     add(
         text,
@@ -419,14 +464,21 @@ fn add_open(text: &mut String, extent: &Extent, lines: usize) -> Result<(), Allo
     )
 }
 
-/// What comes before all lines, of which there are that many.
-pub fn add_svg_heads(text: &mut String, sheet: &Sheet<'_>, lines: usize) -> Result<(), AllocError>
+/// What comes before all lines, of which there are that many, and of which this one is marked, if one is.
+pub fn add_svg_heads(
+    text: &mut String,
+    sheet: &Sheet<'_>,
+    misfit: Option<Misfit<'_>>,
+    lines: usize,
+) -> Result<(), AllocError>
     requires few { sheet.now.extent.threads ≤ named_threads }
     requires narrow { sheet.now.extent.bands.count ≤ 16 }
     ensures { IfOk result
-        (λ _. string_bytes text.new ≡ string_bytes text.old ++ svg_heads sheet.now.names.now sheet.now.extent lines) }
+        (λ _. string_bytes text.new
+        ≡ string_bytes text.old
+        ++ svg_heads sheet.now.names.now sheet.now.extent (marked_of misfit.entry) lines) }
 {
-    add_open(text, &sheet.extent, lines)?;
+    add_open(text, &sheet.extent, misfit, lines)?;
     add_band_names(text, sheet)?;
     add_lane_names(text, sheet, row_y(lines) + 18)
 }

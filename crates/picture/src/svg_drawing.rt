@@ -22,16 +22,17 @@ const PART: usize = 16_384;
 fn write_svg_heads<W: Write>(
     part: &mut String,
     sheet: &Sheet<'_>,
+    misfit: Option<Misfit<'_>>,
     lines: usize,
     out: &mut W,
 ) -> Result<(), Unwritten>
     requires few { sheet.now.extent.threads ≤ named_threads }
     requires narrow { sheet.now.extent.bands.count ≤ 16 }
     ensures { Leaves (W.contents out.old) (W.contents out.new) result
-        (svg_heads sheet.now.names.now sheet.now.extent lines) }
+        (svg_heads sheet.now.names.now sheet.now.extent (marked_of misfit.entry) lines) }
 {
     part.clear();
-    add_svg_heads(part, sheet, lines)?;
+    add_svg_heads(part, sheet, misfit, lines)?;
     write_text(part, out)
 }
 
@@ -148,7 +149,7 @@ fn write_end<W: Write>(
 /// Draws a trace with `threads` threads and `mutexes` mutexes as SVG, time running downwards: each of its lines once, in the order of
 /// the trace, with the number of its event, and its mark in the lane of its thread. Things are called by these names.
 /// `last` is the number of events. Line `misfit` of the trace, if one is named, is marked as one that doesn't fit, and
-/// what is said of it comes last. At an error a beginning of the picture is written.
+/// what is said of it comes last, for which the picture is wide enough. At an error a beginning of the picture is written.
 pub fn draw_svg_marked<W: Write>(
     alloc: Global,
     names: &Names,
@@ -166,7 +167,7 @@ pub fn draw_svg_marked<W: Write>(
     let extent = Extent::of(BANDS, names, threads, mutexes, lines);
     let count = lines.len();
     let sheet = Sheet { names, extent };
-    write_svg_heads(&mut part, &sheet, count, out)?;
+    write_svg_heads(&mut part, &sheet, misfit, count, out)?;
     write_parts(&mut part, &sheet, lines, out)?;
     write_marks(&mut part, &sheet, lines, out)?;
     write_end(&mut part, misfit, last, count, out)
