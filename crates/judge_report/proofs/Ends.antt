@@ -1,5 +1,5 @@
 -- What is known where something was reported, or wasn't.
-use Rattle.std.proofs.Common.{◌≡◌, ℕ, ◌<◌, Bool, List, [], ◌++◌, length, reverse, take, get_or, Option, Some, None, IfSome, Result, Ok, Err, IsErr, refl, sym, ap, subst, ◌∙◌}
+use Rattle.std.proofs.Common.{◌≡◌, inl, inr, ℕ, ◌<◌, Bool, true, false, List, [], ◌++◌, length, reverse, take, get_or, Option, Some, None, IfSome, Result, Ok, Err, IsErr, refl, sym, ap, subst, ◌∙◌}
 use Rattle.std.specs.Prelude.{count_by, Vec}
 use Rattle.std.specs.declared.alloc.Global.{Global}
 use Rattle.std.specs.Prelude.{if◌then◌else◌, ◌==◌}
@@ -19,7 +19,7 @@ use Rattle.judge.specs.declared.judging.Judgement.TheVariants.{Legal, Illegal, U
 use Rattle.judge.specs.declared.reason.Reason.{Reason}
 use Rattle.judge.specs.Judgements.{IsIllegal, IsJudged, IsLegalBefore}
 use Rattle.judge_report.specs.declared.messages.Failure.{Failure}
-use Rattle.judge_report.specs.declared.messages.Failure.TheVariants.{Usage, Overwriting, CannotRead, CannotWrite, CannotKeep, TooMany, NoPlace, OutOfMemory, Ill}
+use Rattle.judge_report.specs.declared.messages.Failure.TheVariants.{Usage, Overwriting, CannotRead, CannotWrite, CannotKeep, CannotKeepWindow, CannotRemove, TooMany, NoPlace, OutOfMemory, Ill}
 use Rattle.judge_report.specs.declared.reading.History.{History}
 use Rattle.judge_report.specs.declared.reading.ReadFault.{ReadFault}
 use Rattle.judge_report.specs.declared.reading.ReadFault.TheVariants as read
@@ -28,7 +28,7 @@ use Rattle.judge_report.specs.declared.keeping.Cut.{Cut}
 use Rattle.judge_report.specs.Asked.{Kept}
 use Rattle.judge_report.specs.Kept.{IsFilled, IsUnkept}
 use Rattle.judge_report.specs.Said.{AreNamed, IsSaid, Tells, named, status_of}
-use Rattle.judge_report.specs.Served.{Fails, IsRead, Serves, ServesFront, Unread, failed_by}
+use Rattle.judge_report.specs.Served.{Fails, IsRead, SaysOf, SaysThen, Serves, ServesFront, Unread, failed_by, is_memory}
 use Rattle.judge_report.specs.Texts.{cuts_text, illegal_text, legal_text, undecided_text, waiters_text}
 use Rattle.judge_report.proofs.Saying.{illegal_so, is_legal, is_legal_before}
 
@@ -110,27 +110,50 @@ pub is_unread : {T : Type 0} (remaining : T → Option (List ℕ)) (r : BufReade
 is_unread remaining r input e f inner empty capacity gives is =
     subst (Unread (remaining input)) (sym is) (unread_by (remaining input) e (subst (λ (o : Option (List ℕ)). IfSome o (λ bytes. Gives (history_read bytes) (Err e))) (buffered remaining r input inner empty capacity) gives))
 
-pub unread_fails : (Makes Fills : List ℕ → Option (List ℕ) → Type 0) (waiting : Bool) (kept : Kept) (had old : Option (List ℕ)) (f : Failure) → Unread had f → Fails Makes Fills waiting kept had old old f
-unread_fails Makes Fills waiting kept had old Usage h = h
-unread_fails Makes Fills waiting kept had old Overwriting h = absurd h
-unread_fails Makes Fills waiting kept had old CannotRead h = refl
-unread_fails Makes Fills waiting kept had old CannotWrite h = absurd h
-unread_fails Makes Fills waiting kept had old CannotKeep h = absurd h
-unread_fails Makes Fills waiting kept had old TooMany h = absurd h
-unread_fails Makes Fills waiting kept had old NoPlace h = absurd h
-unread_fails Makes Fills waiting kept had old OutOfMemory h = refl
-unread_fails Makes Fills waiting kept had old (Ill f) h = (refl, h)
+pub unread_fails : (Makes Fills : List ℕ → Option (List ℕ) → Type 0) (waiting : Bool) (kept : Kept) (had old : Option (List ℕ)) (LetGo : Type 0) (f : Failure) → Unread had f → Fails Makes Fills waiting kept had old old LetGo f
+unread_fails Makes Fills waiting kept had old LetGo Usage h = h
+unread_fails Makes Fills waiting kept had old LetGo Overwriting h = absurd h
+unread_fails Makes Fills waiting kept had old LetGo CannotRead h = refl
+unread_fails Makes Fills waiting kept had old LetGo CannotWrite h = absurd h
+unread_fails Makes Fills waiting kept had old LetGo CannotKeep h = absurd h
+unread_fails Makes Fills waiting kept had old LetGo (CannotKeepWindow n) h = absurd h
+unread_fails Makes Fills waiting kept had old LetGo (CannotRemove n) h = absurd h
+unread_fails Makes Fills waiting kept had old LetGo TooMany h = absurd h
+unread_fails Makes Fills waiting kept had old LetGo NoPlace h = absurd h
+unread_fails Makes Fills waiting kept had old LetGo OutOfMemory h = refl
+unread_fails Makes Fills waiting kept had old LetGo (Ill f) h = (refl, h)
 
-pub unkept_fails : (Makes Fills : List ℕ → Option (List ℕ) → Type 0) (waiting : Bool) (kept : Kept) (had old : Option (List ℕ)) (f : Failure) → IsUnkept f → Fails Makes Fills waiting kept had old old f
-unkept_fails Makes Fills waiting kept had old Usage h = absurd h
-unkept_fails Makes Fills waiting kept had old Overwriting h = absurd h
-unkept_fails Makes Fills waiting kept had old CannotRead h = absurd h
-unkept_fails Makes Fills waiting kept had old CannotWrite h = absurd h
-unkept_fails Makes Fills waiting kept had old CannotKeep h = refl
-unkept_fails Makes Fills waiting kept had old TooMany h = refl
-unkept_fails Makes Fills waiting kept had old NoPlace h = refl
-unkept_fails Makes Fills waiting kept had old OutOfMemory h = refl
-unkept_fails Makes Fills waiting kept had old (Ill f) h = absurd h
+-- ---- what was said without a certificate
+
+pub says_then : (waiting : Bool) (k : Heard) (j : Judgement) (cs : List Cut) (old new : Option (List ℕ)) (LetGo : Type 0) (f r : Failure) → cs ≡ [] → r ≡ f → (text : List ℕ) × IsSaid waiting k j cs text × Appends old new text → LetGo → SaysThen waiting k j old new LetGo f r
+says_then waiting k j cs old new LetGo f r none is t let_go = inl (is, subst (λ (ds : List Cut). (text : List ℕ) × IsSaid waiting k j ds text × Appends old new text) none t, let_go)
+
+pub says_not : (waiting : Bool) (k : Heard) (j : Judgement) (cs : List Cut) (old new : Option (List ℕ)) (LetGo : Type 0) (f r : Failure) → cs ≡ [] → r ≡ CannotWrite → (text : List ℕ) × IsSaid waiting k j cs text × AppendsFront old new text → SaysThen waiting k j old new LetGo f r
+says_not waiting k j cs old new LetGo f r none is t = inr (is, subst (λ (ds : List Cut). (text : List ℕ) × IsSaid waiting k j ds text × AppendsFront old new text) none t)
+
+module _ (Makes Fills : List ℕ → Option (List ℕ) → Type 0) (waiting : Bool) (kept : Kept) (had old new : Option (List ℕ)) (LetGo : Type 0) (k : Heard) (j : Judgement) (read : IsRead had k) where
+  abbrev Ends : Failure → Type 0
+  Ends f = Fails Makes Fills waiting kept had old new LetGo f
+
+  spoken : (f r : Failure) → SaysThen waiting k j old new LetGo f r → (SaysOf waiting had old new × LetGo → Ends f) → Ends r
+  spoken f r (inl (is, says, let_go)) whole = subst (λ (g : Failure). Ends g) (sym is) (whole (record { heard = k; read = read; judgement = j; says = says }, let_go))
+  spoken f r (inr (is, front)) whole = subst (λ (g : Failure). Ends g) (sym is) (inr (record { heard = k; read = read; judgement = j; says = front }))
+
+  unkept : (f r : Failure) → IsUnkept f → (is_memory f ≡ true → r ≡ f) → (is_memory f ≡ true → new ≡ old) → (is_memory f ≡ false → SaysThen waiting k j old new LetGo f r) → Ends r
+  unkept Usage r h same none says = absurd h
+  unkept Overwriting r h same none says = absurd h
+  unkept CannotRead r h same none says = absurd h
+  unkept CannotWrite r h same none says = absurd h
+  unkept CannotKeep r h same none says = spoken CannotKeep r (says refl) (λ s. s)
+  unkept (CannotKeepWindow n) r h same none says = spoken (CannotKeepWindow n) r (says refl) (λ s. s)
+  unkept (CannotRemove n) r h same none says = spoken (CannotRemove n) r (says refl) (λ s. s)
+  unkept TooMany r h same none says = spoken TooMany r (says refl) (λ s. s)
+  unkept NoPlace r h same none says = spoken NoPlace r (says refl) (λ s. s)
+  unkept OutOfMemory r h same none says = subst (λ (g : Failure). Ends g) (sym (same refl)) (none refl)
+  unkept (Ill f) r h same none says = absurd h
+
+pub unkept_fails : (Makes Fills : List ℕ → Option (List ℕ) → Type 0) (waiting : Bool) (kept : Kept) (had old new : Option (List ℕ)) (LetGo : Type 0) (k : Heard) (j : Judgement) → IsRead had k → (f r : Failure) → IsUnkept f → (is_memory f ≡ true → r ≡ f) → (is_memory f ≡ true → new ≡ old) → (is_memory f ≡ false → SaysThen waiting k j old new LetGo f r) → Fails Makes Fills waiting kept had old new LetGo r
+unkept_fails Makes Fills waiting kept had old new LetGo k j read f r h same none says = unkept Makes Fills waiting kept had old new LetGo k j read f r h same none says
 
 -- ---- the whole
 

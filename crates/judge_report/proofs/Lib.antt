@@ -15,3 +15,4 @@ pub mod Quoting
 pub mod Faulty
 pub mod Traced
 pub mod Notes
+pub mod Explaining

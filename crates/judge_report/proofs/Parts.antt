@@ -1,5 +1,5 @@
 -- Names of files that are alike, part by part.
-use Rattle.std.proofs.Common.{◌≡◌, ℕ, ◌+◌, ◌<◌, ◌==◌, ◌&&◌, Bool, true, false, List, [], ◌∷◌, ◌++◌, length, refl, sym, ap, ◌∙◌, arith, if◌then◌else◌}
+use Rattle.std.proofs.Common.{◌≡◌, ◌≢◌, ℕ, ◌+◌, ◌<◌, ◌==◌, ◌&&◌, Bool, true, false, List, [], ◌∷◌, ◌++◌, length, refl, sym, ap, ◌∙◌, arith, if◌then◌else◌}
 use Rattle.std.specs.Prelude.{codes, not}
 use Rattle.std.specs.Char.{is_ascii_digit}
 use Rattle.std.specs.List.{count_by, list_all, onto_first}
@@ -9,6 +9,7 @@ use Rattle.std.proofs.lemmas.List.Splits.{length-slice_split, slice_split-cons_n
 use Rattle.std.proofs.lemmas.Slice.Eq.{bytes_eq-Decides}
 use Rattle.streams.specs.Words.{is_file_word}
 use Rattle.judge_report.specs.Asked.{is_window, is_window_at}
+use Rattle.judge_report.specs.Laws.{IsDirectory, has_no_slash}
 use Rattle.judge_report.specs.Paths.{are_same, both_or_none, directory_in, directory_of, in_one_directory, is_from_root, leads, name_one_file, own_in, own_name, parts_of, with_part}
 
 abbrev is_slash : ℕ → Bool
@@ -124,7 +125,7 @@ one_file_dotted front back =
     (directory_at front (codes "./" ++ back) ∙ ap (λ (ps : List (List ℕ)). leading (parts_of front) ++ ps) (here_directory back) ∙ sym (directory_at front back))
     (own_at front (codes "./" ++ back) ∙ here_own back ∙ sym (own_at front back))
 
--- and names of files all the same
+-- and both are names of files
 pub still_file : (front more back : List ℕ) → is_file_word (front ++ (codes "/" ++ back)) ≡ true → is_file_word (front ++ (codes "/" ++ more)) ≡ true
 still_file [] more back is = refl
 still_file (x ∷ front) more back is = is
@@ -205,6 +206,67 @@ at_window out w alone =
     let parts = split_more out (46 ∷ w) alone in
     ap (λ (t : Bool). t && is_window (own_name out) (own_name (out ++ 46 ∷ w))) (directory_itself out (out ++ 46 ∷ w) (root_more out w) (sym (ap directory_in parts ∙ directory_last (parts_of out) (46 ∷ w))))
     ∙ ap (is_window (own_name out)) (ap own_in parts ∙ own_last (parts_of out) (46 ∷ w))
+
+-- ---- names of two files
+
+not_so : (t : Bool) → not t ≡ true → t ≡ false
+not_so false e = refl
+not_so true e = absurd cc
+
+slashless_alone : (w : List ℕ) → has_no_slash w ≡ true → parts_of w ≡ w ∷ []
+slashless_alone [] e = refl
+slashless_alone (b ∷ bs) e =
+    slice_split-cons_no is_slash b bs (not_so (b == 47) (first_so (not (b == 47)) (has_no_slash bs) e)) ∙ ap (onto_first b) (slashless_alone bs (second_so (not (b == 47)) (has_no_slash bs) e))
+
+other_bytes : (a b : List ℕ) → a ≢ b → bytes_eq a b ≡ false
+other_bytes a b other = go (bytes_eq a b) refl
+  where
+    go : (t : Bool) → bytes_eq a b ≡ t → t ≡ false
+    go true is = absurd (other ((bytes_eq-Decides a b).0 is))
+    go false is = refl
+
+never_both : (t : Bool) → (t && false) ≡ false
+never_both true = refl
+never_both false = refl
+
+pub other_names : (a b : List ℕ) → has_no_slash a ≡ true → has_no_slash b ≡ true → a ≢ b → name_one_file a b ≡ false
+other_names a b no_slash none other =
+    ap (λ (x : List ℕ). in_one_directory a b && bytes_eq x (own_name b)) (ap own_in (slashless_alone a no_slash))
+    ∙ ap (λ (y : List ℕ). in_one_directory a b && bytes_eq a y) (ap own_in (slashless_alone b none))
+    ∙ ap (λ (t : Bool). in_one_directory a b && t) (other_bytes a b other) ∙ never_both (in_one_directory a b)
+
+pub other_roots : (a b : List ℕ) → is_from_root a ≡ true → is_from_root b ≡ false → (name_one_file a b ≡ false) × (name_one_file b a ≡ false)
+other_roots a b root none = (
+  ap (λ (r : Bool). (both_or_none r (is_from_root b) && are_same (directory_of a) (directory_of b)) && bytes_eq (own_name a) (own_name b)) root
+      ∙ ap (λ (r : Bool). (both_or_none true r && are_same (directory_of a) (directory_of b)) && bytes_eq (own_name a) (own_name b)) none,
+  ap (λ (r : Bool). (both_or_none r (is_from_root a) && are_same (directory_of b) (directory_of a)) && bytes_eq (own_name b) (own_name a)) none
+      ∙ ap (λ (r : Bool). (both_or_none false r && are_same (directory_of b) (directory_of a)) && bytes_eq (own_name b) (own_name a)) root,
+)
+
+leads_so : (a : List ℕ) → a ≢ [] → a ≢ codes "." → leads a ≡ true
+leads_so [] some other = absurd (some refl)
+leads_so (b ∷ []) some other = go (b == 46) refl
+  where
+    go : (t : Bool) → (b == 46) ≡ t → not t ≡ true
+    go true is = absurd (other (ap (λ (x : ℕ). x ∷ []) (let same : b ≡ 46 = grind (arith, nat_tests) in same)))
+    go false is = refl
+leads_so (b ∷ c ∷ bs) some other = refl
+
+in_directory : (a x : List ℕ) → IsDirectory a → directory_of (a ++ 47 ∷ x) ≡ a ∷ directory_of x
+in_directory a x is =
+    directory_at a x ∙ ap (λ (ps : List (List ℕ)). leading ps ++ directory_of x) (slashless_alone a is.slashless)
+    ∙ ap (λ (b : Bool). (if b then a ∷ [] else []) ++ directory_of x) (leads_so a is.some is.other)
+
+pub other_directories : (a b x y : List ℕ) → IsDirectory a → IsDirectory b → a ≢ b → name_one_file (a ++ 47 ∷ x) (b ++ 47 ∷ y) ≡ false
+other_directories a b x y first second other =
+    let f = a ++ 47 ∷ x in
+    let g = b ++ 47 ∷ y in
+    let root = both_or_none (is_from_root f) (is_from_root g) in
+    let own = bytes_eq (own_name f) (own_name g) in
+    ap (λ (ps : List (List ℕ)). (root && are_same ps (directory_of g)) && own) (in_directory a x first)
+    ∙ ap (λ (ps : List (List ℕ)). (root && are_same (a ∷ directory_of x) ps) && own) (in_directory b y second)
+    ∙ ap (λ (t : Bool). (root && (t && are_same (directory_of x) (directory_of y))) && own) (other_bytes a b other)
+    ∙ ap (λ (t : Bool). t && own) (never_both root)
 
 -- ---- a step over a name
 

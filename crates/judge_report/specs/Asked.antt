@@ -1,6 +1,6 @@
 -- The forms of a command line.
 use Rattle.std.specs.Prelude.{ℕ, Bool, true, false, List, [], ◌∷◌, codes, Option, Some, None}
-use Rattle.std.specs.Prelude.{◌==◌, ◌&&◌, drop, length, nat_eq, if◌then◌else◌}
+use Rattle.std.specs.Prelude.{◌==◌, ◌&&◌, not, drop, length, nat_eq, if◌then◌else◌}
 use Rattle.std.specs.Char.{is_ascii_digit}
 use Rattle.std.specs.List.{list_all, starts_with}
 use Rattle.std.specs.Str.{bytes_eq}
@@ -38,13 +38,18 @@ place_words word out = if is_file_word out
     else (if bytes_eq word (codes "--windows") then Some (Windows out) else None))
     else None
 
--- a point and a number
+-- a number from 1 on, with no zero in front
+abbrev pub is_window_number : List ℕ → Bool
+is_window_number [] = false
+is_window_number (d ∷ ds) = not (d == 48) && list_all is_ascii_digit (d ∷ ds)
+
+-- a point and such a number
 abbrev pub is_number_part : List ℕ → Bool
 is_number_part [] = false
-is_number_part (b ∷ bs) = (b == 46) && list_all is_ascii_digit bs
+is_number_part (b ∷ bs) = (b == 46) && is_window_number bs
 
--- a window that is kept in OUT.1, OUT.2 and so on could be in the file of this own name: after OUT and a point it has
--- digits
+-- a window that is kept in OUT.1, OUT.2 and so on could be in the file of this own name: after OUT it has a point and a
+-- window's number
 abbrev pub is_window : List ℕ → List ℕ → Bool
 is_window out file = starts_with nat_eq file out && is_number_part (drop (length out) file)
 

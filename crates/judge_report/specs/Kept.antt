@@ -3,7 +3,9 @@
 -- *Windows in files.* The certificate is cut into windows (`IsWindow`), each in a file of its own: OUT.1 begins with the
 -- certificate, each next one where the one before ends, and the last one ends with it. Of each is reported which of
 -- the certificate's events it has, and how many of its own stand before them.
-use Rattle.std.specs.Prelude.{ℕ, ◌≡◌, ◌+◌, List, [], ◌∷◌, ◌++◌, length, reverse, take, codes, decimal, Option}
+use Rattle.std.specs.Prelude.{ℕ, ◌≡◌, ◌+◌, ◌⊎◌, List, [], ◌∷◌, ◌++◌, length, reverse, take, codes, decimal, Option}
+use Rattle.std.specs.declared.io.ErrorKind.{ErrorKind}
+use Rattle.std.specs.declared.io.ErrorKind.TheVariants as kind
 use Rattle.std.specs.Io.KnownBytes.{Appends}
 use Rattle.histories.specs.declared.head.Head.{Head}
 use Rattle.histories.specs.declared.entry.Entry.{Entry}
@@ -16,7 +18,7 @@ use Rattle.windows.specs.Texts.{certificate_text, steps_count}
 use Rattle.windows.specs.Windows.{IsWindow}
 use Rattle.judge_report.specs.declared.keeping.Cut.{Cut}
 use Rattle.judge_report.specs.declared.messages.Failure.{Failure}
-use Rattle.judge_report.specs.declared.messages.Failure.TheVariants.{Usage, Overwriting, CannotRead, CannotWrite, CannotKeep}
+use Rattle.judge_report.specs.declared.messages.Failure.TheVariants.{Usage, Overwriting, CannotRead, CannotWrite, CannotKeep, CannotKeepWindow, CannotRemove}
 use Rattle.judge_report.specs.declared.messages.Failure.TheVariants.{TooMany, NoPlace, OutOfMemory, Ill}
 use Rattle.judge_report.specs.Asked.{Kept, Nowhere, Whole, Windows}
 use Rattle.judge_report.specs.Heard.{Heard}
@@ -94,6 +96,15 @@ uncut_by stop.Memory = OutOfMemory
 uncut_by stop.NoPlace = NoPlace
 uncut_by stop.Refused = NoPlace
 
+-- what it is reported as that a file couldn't be written or removed: memory where memory was refused
+abbrev pub unkept_by : ErrorKind → Failure → Failure
+unkept_by kind.OutOfMemory f = OutOfMemory
+unkept_by _ f = f
+
+-- it is this failure, or that memory was refused
+abbrev pub OrMemory : Failure → Failure → Type 0
+OrMemory g f = (f ≡ g) ⊎ (f ≡ OutOfMemory)
+
 -- why a certificate wasn't kept
 abbrev pub IsUnkept : Failure → Type 0
 IsUnkept Usage = ⊥
@@ -101,6 +112,8 @@ IsUnkept Overwriting = ⊥
 IsUnkept CannotRead = ⊥
 IsUnkept CannotWrite = ⊥
 IsUnkept CannotKeep = Unit {0}
+IsUnkept (CannotKeepWindow n) = Unit {0}
+IsUnkept (CannotRemove n) = Unit {0}
 IsUnkept TooMany = Unit {0}
 IsUnkept NoPlace = Unit {0}
 IsUnkept OutOfMemory = Unit {0}

@@ -1,7 +1,8 @@
 -- What holds of whatever the program says, in the words of who reads it.
 use Rattle.std.specs.Prelude.{ℕ, ◌≡◌, ◌≢◌, ◌<◌, ◌≤◌, ◌+◌, ◌-◌, ◌^◌, ◌⊎◌, Bool, true, false, List, [], ◌∷◌, ◌++◌, length, reverse, take}
-use Rattle.std.specs.Prelude.{codes, decimal, Option, Some, None, Result, Ok, Err, Vec}
-use Rattle.std.specs.List.{AllPairs, Contains, slice_get}
+use Rattle.std.specs.Prelude.{◌==◌, not, codes, decimal, Option, Some, None, Result, Ok, Err, Vec}
+use Rattle.std.specs.Char.{is_ascii_digit}
+use Rattle.std.specs.List.{AllPairs, Contains, list_all, slice_get}
 use Rattle.std.specs.declared.alloc.Global.{Global}
 use Rattle.std.specs.declared.io.ErrorKind.{ErrorKind}
 use Rattle.std.specs.Io.KnownBytes.{Appends}
@@ -41,6 +42,7 @@ use Rattle.windows.specs.Texts.{certificate_text, steps_count}
 use Rattle.windows.specs.Windows.{IsWindow}
 use Rattle.judge_report.specs.declared.keeping.Cut.{Cut}
 use Rattle.judge_report.specs.declared.messages.Failure.{Failure}
+use Rattle.judge_report.specs.declared.messages.Failure.TheVariants.{CannotKeep, CannotKeepWindow, CannotRemove, NoPlace, TooMany}
 use Rattle.judge_report.specs.Asked.{Asked, Judging, Kept, Nothing, Nowhere, Overwrites, Whole, Windows, asked_of, is_window_at}
 use Rattle.judge_report.specs.Heard.{Heard, history_read}
 use Rattle.judge_report.specs.Kept.{IsFilled, IsKept, IsWritten, window_name}
@@ -49,6 +51,7 @@ use Rattle.judge_report.specs.Paths.{is_from_root, name_one_file}
 use Rattle.judge_report.specs.Programs.{RunEnds}
 use Rattle.judge_report.specs.Said.{IsFirstIllegal, IsLegalBefore, IsSaid, told}
 use Rattle.judge_report.specs.Served.{IsRead}
+use Rattle.judge_report.specs.Traces.{IsExplained}
 use Rattle.judge_report.specs.Texts.{death_note, evidence_notes, illegal_text, illegal_title, legal_text, quote, turn_words}
 
 -- ---- verdicts and exit statuses
@@ -91,9 +94,32 @@ pub record IsFound (Opens : List ℕ → Result (Option (List ℕ)) ErrorKind �
   pub written : Appends old new text
   pub let_go : LetGo
 
+-- it is legal, illegal or undecided, and that is said; its exit status is this
+abbrev pub IsFoundSo : ℕ → Heard → List ℕ → Type 0
+IsFoundSo status k text =
+    ((status ≡ 0) × IsFoundLegal k text) ⊎ ((status ≡ 1) × (IsFoundIllegal k text ⊎ IsFoundUndecided k text))
+
 -- a failure was reported, or a beginning of its message was
 abbrev pub IsFailed : Option (List ℕ) → Option (List ℕ) → Type 0
 IsFailed told told' = (file : List ℕ) × (f : Failure) × AppendsFront told told' (failure_text file f)
+
+-- it is that the certificate couldn't be written or cut, or a window of another run not removed
+abbrev pub is_about_keeping : Failure → Bool
+is_about_keeping CannotKeep = true
+is_about_keeping (CannotKeepWindow n) = true
+is_about_keeping (CannotRemove n) = true
+is_about_keeping TooMany = true
+is_about_keeping NoPlace = true
+is_about_keeping f = false
+
+-- a failure was reported, or a beginning of its message was; if it is about the certificate, what the history was found to
+-- be was written nevertheless
+pub record Reports (Opens : List ℕ → Result (Option (List ℕ)) ErrorKind → Type 0) (a : Asked) (old new : Option (List ℕ))
+    (LetGo : Type 0) (told told' : Option (List ℕ)) : Type 0 where
+  pub file : List ℕ
+  pub failure : Failure
+  pub reported : AppendsFront told told' (failure_text file failure)
+  pub verdict : is_about_keeping failure ≡ true → (exit : ℕ) × IsFound Opens a old new LetGo (IsFoundSo exit)
 
 -- the words of the command line ask for no judgement
 abbrev pub AsksForNothing : Asked → Type 0
@@ -105,16 +131,25 @@ pub record StatusMeans (Opens : List ℕ → Result (Option (List ℕ)) ErrorKin
     (old new : Option (List ℕ)) (LetGo : Type 0) (told told' : Option (List ℕ)) (status : ℕ) : Type 0 where
   pub zero : status ≡ 0 → IsFound Opens a old new LetGo IsFoundLegal
   pub one : status ≡ 1 → IsFound Opens a old new LetGo IsFoundIllegal
-      ⊎ (IsFound Opens a old new LetGo IsFoundUndecided ⊎ IsFailed told told')
+      ⊎ (IsFound Opens a old new LetGo IsFoundUndecided ⊎ Reports Opens a old new LetGo told told')
   pub two : status ≡ 2 → AsksForNothing a × IsFailed told told'
   pub none_else : status ≤ 2
 
--- so it does however a run ended
+-- nothing was written, and the usage is reported, with status 2; or memory for the words was refused, and that is
+abbrev pub IsRefused : Option (List ℕ) → Option (List ℕ) → Option (List ℕ) → Option (List ℕ) → ℕ → Type 0
+IsRefused old new told told' status = (new ≡ old)
+    × (((status ≡ 2)
+    × AppendsFront told told' (codes "usage: rfx-judge [--waiting] [--trace OUT | --windows OUT] FILE\n"))
+    ⊎ ((status ≡ 1) × AppendsFront told told' (codes "rfx-judge: out of memory\n")))
+
+-- so it does however a run ended; and a command line that asks for nothing is refused (`OptionsAreRead` says which do)
 pub record StatusesAreRight (Opens : List ℕ → Result (Option (List ℕ)) ErrorKind → Type 0)
     (Makes Fills : List ℕ → Option (List ℕ) → Type 0) (LetGo Quiet : Type 0) : Type 0 where
   pub means : (a : Asked) (old new told told' : Option (List ℕ)) (status : ℕ)
       → RunEnds Opens Makes Fills a old new LetGo Quiet told told' status
       → StatusMeans Opens a old new LetGo told told' status
+  pub usage : (old new told told' : Option (List ℕ)) (status : ℕ)
+      → RunEnds Opens Makes Fills Nothing old new LetGo Quiet told told' status → IsRefused old new told told' status
 
 -- ---- the number of a line
 
@@ -147,6 +182,45 @@ LinesAreNumbered = (bytes : List ℕ) (k : Heard) → history_read bytes ≡ Ok 
 
 -- ---- options
 
+-- options that ask for this, in any order
+abbrev pub AreOptions : Bool → Kept → List (List ℕ) → Type 0
+AreOptions false Nowhere os = os ≡ []
+AreOptions true Nowhere os = os ≡ codes "--waiting" ∷ []
+AreOptions false (Whole out) os = os ≡ codes "--trace" ∷ out ∷ []
+AreOptions true (Whole out) os = (os ≡ codes "--waiting" ∷ codes "--trace" ∷ out ∷ [])
+    ⊎ (os ≡ codes "--trace" ∷ out ∷ codes "--waiting" ∷ [])
+AreOptions false (Windows out) os = os ≡ codes "--windows" ∷ out ∷ []
+AreOptions true (Windows out) os = (os ≡ codes "--waiting" ∷ codes "--windows" ∷ out ∷ [])
+    ⊎ (os ≡ codes "--windows" ∷ out ∷ codes "--waiting" ∷ [])
+
+abbrev pub IsPlace : Kept → Type 0
+IsPlace Nowhere = Unit {0}
+IsPlace (Whole out) = is_file_word out ≡ true
+IsPlace (Windows out) = is_file_word out ≡ true
+
+-- the words of a command line, whose first is any, are such options and the name of a file
+pub record IsForm (waiting : Bool) (kept : Kept) (file : List ℕ) (words : List (List ℕ)) : Type 0 where
+  pub program : List ℕ
+  pub options : List (List ℕ)
+  pub all : words ≡ program ∷ (options ++ file ∷ [])
+  pub are : AreOptions waiting kept options
+  pub place : IsPlace kept
+  pub named : is_file_word file ≡ true
+
+-- no slash is in this name
+abbrev pub has_no_slash : List ℕ → Bool
+has_no_slash name = list_all (λ b. not (b == 47)) name
+
+-- this is a directory's own name, which isn't `.`
+pub record IsDirectory (name : List ℕ) : Type 0 where
+  pub slashless : has_no_slash name ≡ true
+  pub some : name ≢ []
+  pub other : name ≢ codes "."
+
+-- the whole certificate is kept in this file, and the history is in that one
+abbrev pub KeptApart : List ℕ → List ℕ → List ℕ → Type 0
+KeptApart p out file = asked_of (p ∷ codes "--trace" ∷ out ∷ file ∷ []) ≡ Judging false (Whole out) file
+
 -- the whole certificate of the history in this file would be written over it
 abbrev pub Overwritten : List ℕ → List ℕ → List ℕ → Type 0
 Overwritten p out file = asked_of (p ∷ codes "--trace" ∷ out ∷ file ∷ []) ≡ Overwrites file
@@ -177,7 +251,23 @@ pub record OptionsAreRead : Type 0 where
       → Overwritten p (front ++ (codes "//" ++ back)) (front ++ (codes "/" ++ back))
       × Overwritten p (front ++ (codes "/./" ++ back)) (front ++ (codes "/" ++ back))
   pub over_window : (p out : List ℕ) (n : ℕ) → is_file_word out ≡ true → is_file_word (window_name out n) ≡ true
-      → n < 2 ^ 64 → asked_of (p ∷ codes "--windows" ∷ out ∷ window_name out n ∷ []) ≡ Overwrites (window_name out n)
+      → 1 ≤ n → n < 2 ^ 64 → asked_of (p ∷ codes "--windows" ∷ out ∷ window_name out n ∷ []) ≡ Overwrites (window_name out n)
+  -- a window's number begins with no zero
+  pub no_window : (p out digits : List ℕ) → is_file_word out ≡ true → is_file_word (out ++ (codes ".0" ++ digits)) ≡ true
+      → list_all is_ascii_digit digits ≡ true
+      → asked_of (p ∷ codes "--windows" ∷ out ∷ (out ++ (codes ".0" ++ digits)) ∷ [])
+      ≡ Judging false (Windows out) (out ++ (codes ".0" ++ digits))
+  -- no history is written over whose file has another name, or is in another directory, or not from the root too
+  pub apart_names : (p out file : List ℕ) → is_file_word out ≡ true → is_file_word file ≡ true → has_no_slash out ≡ true
+      → has_no_slash file ≡ true → out ≢ file → KeptApart p out file
+  pub apart_roots : (p out file : List ℕ) → is_file_word file ≡ true → is_from_root file ≡ false
+      → KeptApart p (codes "/" ++ out) file × KeptApart p file (codes "/" ++ out)
+  pub apart_directories : (p a b x y : List ℕ) → is_file_word (a ++ (codes "/" ++ x)) ≡ true
+      → is_file_word (b ++ (codes "/" ++ y)) ≡ true → IsDirectory a → IsDirectory b → a ≢ b
+      → KeptApart p (a ++ (codes "/" ++ x)) (b ++ (codes "/" ++ y))
+  -- a command line of no such form asks for nothing, so that its usage is reported (`StatusesAreRight`)
+  pub others : (words : List (List ℕ))
+      → ((waiting : Bool) (kept : Kept) (file : List ℕ) → IsForm waiting kept file words → ⊥) → asked_of words ≡ Nothing
 
 -- what is kept then: with `--trace` one file, which has the whole certificate, or the trace up to the illegal line; with
 -- `--windows` a file for each window
@@ -298,3 +388,16 @@ pub record NotesAreInOrder : Type 0 where
       → slice_get ls (g.place - 1) ≡ Some gl → slice_get ls (d.place - 1) ≡ Some dl → slice_get ls (a.place - 1) ≡ Some al
       → evidence_notes ls m (record { death = Some n; got = Some g; declared = Some d; left = Some a })
       ≡ death_note m (slice_get ls (n - 1)) ++ (see_line gl (told_so g m) ++ (see_line dl (told_so d m) ++ see_line al (told_so a m)))
+
+-- ---- what is said of a history that is drawn
+
+-- what a program that draws a history is given of it, besides the trace: nothing of a legal one; of an illegal one what is
+-- printed, with its first illegal line and the same reason. Only the replies that its thread could get may be others
+pub record ExplanationsAreSaid : Type 0 where
+  pub legal : (k : Heard) (steps : List Entry) → IsExplained k steps None → LegalHistory k.head.mutexes (told k.seen)
+  pub illegal : (k : Heard) (steps : List Entry) (said : List ℕ) → IsExplained k steps (Some said) → IsFoundIllegal k said
+  pub same : (waiting : Bool) (k : Heard) (steps : List Entry) (said : List ℕ) (at : ℕ) (why : Reason)
+      (possible : Vec Reply Global) (printed : Vec Entry Global) (cuts : List Cut) (text : List ℕ)
+      → IsExplained k steps (Some said) → IsSaid waiting k (Illegal at why possible printed) cuts text
+      → (ls : List HistoryLine) × (line : HistoryLine) × (ys : List Reply)
+      × (text ≡ illegal_text ls line why possible.items) × (said ≡ illegal_text ls line why ys)

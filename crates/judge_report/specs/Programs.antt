@@ -13,7 +13,8 @@ use Rattle.std.specs.declared.io.ErrorKind.TheVariants as kind
 use Rattle.streams.specs.Leaves.{AppendsFront}
 use Rattle.judge_report.specs.declared.messages.Failure.{Failure}
 use Rattle.judge_report.specs.declared.messages.Failure.TheVariants.{Usage, Overwriting, CannotRead, OutOfMemory}
-use Rattle.judge_report.specs.Asked.{Asked, Judging, Kept, Nothing, Overwrites, asked_of}
+use Rattle.judge_report.specs.declared.messages.Failure.TheVariants.{CannotKeep, CannotKeepWindow, CannotRemove}
+use Rattle.judge_report.specs.Asked.{Asked, Judging, Kept, Nothing, Nowhere, Overwrites, Whole, Windows, asked_of}
 use Rattle.judge_report.specs.Messages.{failure_text, failure_status}
 use Rattle.judge_report.specs.Served.{Fails, Serves}
 
@@ -31,16 +32,30 @@ unopened_by _ = CannotRead
 abbrev pub IsTold : List ℕ → Failure → Option (List ℕ) → Option (List ℕ) → ℕ → Type 0
 IsTold file f told told' status = AppendsFront told told' (failure_text file f) × (status ≡ failure_status f)
 
+-- the file that a failure is about: the one that the certificate is kept in, if it couldn't be kept there; else that of
+-- the history
+abbrev pub place_of : Kept → List ℕ → List ℕ
+place_of Nowhere file = file
+place_of (Whole out) file = out
+place_of (Windows out) file = out
+
+abbrev pub subject_of : Kept → List ℕ → Failure → List ℕ
+subject_of kept file CannotKeep = place_of kept file
+subject_of kept file (CannotKeepWindow n) = place_of kept file
+subject_of kept file (CannotRemove n) = place_of kept file
+subject_of kept file f = file
+
 -- how a judgement of the history in a file ended: it was made of what opening the file gave, the writer has let go of
--- what is said, and nothing else was reported; or it wasn't, or not all was said, and that is reported; or the file
--- couldn't be opened
+-- what is said, and nothing else was reported; or it wasn't, or not all was said or kept, and that is reported; or the
+-- file couldn't be opened
 abbrev pub FileEnds : (List ℕ → Result (Option (List ℕ)) ErrorKind → Type 0) → (List ℕ → Option (List ℕ) → Type 0)
     → (List ℕ → Option (List ℕ) → Type 0) → Bool → Kept → List ℕ → Option (List ℕ) → Option (List ℕ) → Type 0 → Type 0
     → Option (List ℕ) → Option (List ℕ) → ℕ → Type 0
 FileEnds Opens Makes Fills waiting kept file old new LetGo Quiet told told' status =
     ((had : Option (List ℕ)) × Opens file (Ok had)
     × ((Serves Makes Fills waiting kept had old new status × LetGo × Quiet)
-    ⊎ ((f : Failure) × Fails Makes Fills waiting kept had old new f × IsTold file f told told' status)))
+    ⊎ ((f : Failure) × Fails Makes Fills waiting kept had old new LetGo f
+    × IsTold (subject_of kept file f) f told told' status)))
     ⊎ ((e : ErrorKind) × Opens file (Err e) × (new ≡ old) × IsTold file (unopened_by e) told told' status)
 
 -- how a command line ended that asks for this

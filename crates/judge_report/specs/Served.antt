@@ -1,10 +1,10 @@
 -- What the program did with the bytes of its reader.
-use Rattle.std.specs.Prelude.{ℕ, ◌≡◌, Bool, List, Option, Ok, Err, IfSome}
+use Rattle.std.specs.Prelude.{ℕ, ◌≡◌, ◌⊎◌, Bool, true, false, List, [], Option, Ok, Err, IfSome}
 use Rattle.std.specs.Io.KnownBytes.{Appends}
 use Rattle.streams.specs.Leaves.{AppendsFront}
 use Rattle.judge.specs.declared.judging.Judgement.{Judgement}
 use Rattle.judge_report.specs.declared.messages.Failure.{Failure}
-use Rattle.judge_report.specs.declared.messages.Failure.TheVariants.{Usage, Overwriting, CannotRead, CannotWrite, CannotKeep}
+use Rattle.judge_report.specs.declared.messages.Failure.TheVariants.{Usage, Overwriting, CannotRead, CannotWrite, CannotKeep, CannotKeepWindow, CannotRemove}
 use Rattle.judge_report.specs.declared.messages.Failure.TheVariants.{TooMany, NoPlace, OutOfMemory, Ill}
 use Rattle.judge_report.specs.declared.reading.ReadFault.{ReadFault}
 use Rattle.judge_report.specs.declared.reading.ReadFault.TheVariants as read
@@ -56,22 +56,61 @@ Unread had Overwriting = ⊥
 Unread had CannotRead = Unit {0}
 Unread had CannotWrite = ⊥
 Unread had CannotKeep = ⊥
+Unread had (CannotKeepWindow n) = ⊥
+Unread had (CannotRemove n) = ⊥
 Unread had TooMany = ⊥
 Unread had NoPlace = ⊥
 Unread had OutOfMemory = Unit {0}
 Unread had (Ill f) = IfSome had (λ bytes. history_read bytes ≡ Err f)
 
--- why nothing was reported of a history, or not all: it couldn't be read, or memory was needed, or the certificate
--- couldn't be written or cut, or the bytes have this fault, before anything was reported; or a write failed, after a
--- beginning
+-- ---- where the certificate wasn't kept
+
+-- what a history was found to be is written, with no window; or a beginning of that
+abbrev pub Says : Bool → Heard → Judgement → Option (List ℕ) → Option (List ℕ) → Type 0
+Says waiting k j old new = (text : List ℕ) × IsSaid waiting k j [] text × Appends old new text
+
+abbrev pub SaysFront : Bool → Heard → Judgement → Option (List ℕ) → Option (List ℕ) → Type 0
+SaysFront waiting k j old new = (text : List ℕ) × IsSaid waiting k j [] text × AppendsFront old new text
+
+-- that is written, the writer has let go of it, and then this failure is returned; or that it couldn't be written
+abbrev pub SaysThen : Bool → Heard → Judgement → Option (List ℕ) → Option (List ℕ) → Type 0 → Failure → Failure → Type 0
+SaysThen waiting k j old new LetGo f r =
+    ((r ≡ f) × Says waiting k j old new × LetGo) ⊎ ((r ≡ CannotWrite) × SaysFront waiting k j old new)
+
+-- if memory was refused, nothing is written
+abbrev pub is_memory : Failure → Bool
+is_memory OutOfMemory = true
+is_memory f = false
+
+-- a history was read and judged, and what it was found to be was written; or a beginning of that
+pub record SaysOf (waiting : Bool) (had old new : Option (List ℕ)) : Type 0 where
+  pub heard : Heard
+  pub read : IsRead had heard
+  pub judgement : Judgement
+  pub says : Says waiting heard judgement old new
+
+pub record SaysFrontOf (waiting : Bool) (had old new : Option (List ℕ)) : Type 0 where
+  pub heard : Heard
+  pub read : IsRead had heard
+  pub judgement : Judgement
+  pub says : SaysFront waiting heard judgement old new
+
+-- ---- failures
+
+-- why nothing was reported of a history, or not all: it couldn't be read, or memory was needed, or the bytes have this
+-- fault, before anything was reported; or a write failed, after a beginning. Where the certificate couldn't be written or
+-- cut, what the history was found to be was written, and the writer has let go of it
 abbrev pub Fails : (List ℕ → Option (List ℕ) → Type 0) → (List ℕ → Option (List ℕ) → Type 0) → Bool → Kept
-    → Option (List ℕ) → Option (List ℕ) → Option (List ℕ) → Failure → Type 0
-Fails Makes Fills waiting kept had old new Usage = ⊥
-Fails Makes Fills waiting kept had old new Overwriting = ⊥
-Fails Makes Fills waiting kept had old new CannotRead = new ≡ old
-Fails Makes Fills waiting kept had old new CannotWrite = ServesFront Makes Fills waiting kept had old new
-Fails Makes Fills waiting kept had old new CannotKeep = new ≡ old
-Fails Makes Fills waiting kept had old new TooMany = new ≡ old
-Fails Makes Fills waiting kept had old new NoPlace = new ≡ old
-Fails Makes Fills waiting kept had old new OutOfMemory = new ≡ old
-Fails Makes Fills waiting kept had old new (Ill f) = (new ≡ old) × IfSome had (λ bytes. history_read bytes ≡ Err f)
+    → Option (List ℕ) → Option (List ℕ) → Option (List ℕ) → Type 0 → Failure → Type 0
+Fails Makes Fills waiting kept had old new LetGo Usage = ⊥
+Fails Makes Fills waiting kept had old new LetGo Overwriting = ⊥
+Fails Makes Fills waiting kept had old new LetGo CannotRead = new ≡ old
+Fails Makes Fills waiting kept had old new LetGo CannotWrite =
+    ServesFront Makes Fills waiting kept had old new ⊎ SaysFrontOf waiting had old new
+Fails Makes Fills waiting kept had old new LetGo CannotKeep = SaysOf waiting had old new × LetGo
+Fails Makes Fills waiting kept had old new LetGo (CannotKeepWindow n) = SaysOf waiting had old new × LetGo
+Fails Makes Fills waiting kept had old new LetGo (CannotRemove n) = SaysOf waiting had old new × LetGo
+Fails Makes Fills waiting kept had old new LetGo TooMany = SaysOf waiting had old new × LetGo
+Fails Makes Fills waiting kept had old new LetGo NoPlace = SaysOf waiting had old new × LetGo
+Fails Makes Fills waiting kept had old new LetGo OutOfMemory = new ≡ old
+Fails Makes Fills waiting kept had old new LetGo (Ill f) = (new ≡ old) × IfSome had (λ bytes. history_read bytes ≡ Err f)

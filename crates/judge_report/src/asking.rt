@@ -3,8 +3,8 @@
 ghost use Rattle.std.specs.Prelude.{◌≡◌, map, option_map};
 ghost use Rattle.std.specs.Char.{is_ascii_digit};
 ghost use Rattle.std.specs.List.{list_all};
-ghost use Rattle.judge_report.specs.Asked.{asked_by, asked_of, is_number_part, is_waiting_word, is_window, is_window_at};
-ghost use Rattle.judge_report.specs.Asked.{judging, kept_of, place_words, placed, with_place};
+ghost use Rattle.judge_report.specs.Asked.{asked_by, asked_of, is_number_part, is_waiting_word, is_window};
+ghost use Rattle.judge_report.specs.Asked.{is_window_at, is_window_number, judging, kept_of, place_words, placed, with_place};
 ghost use Rattle.judge_report.specs.Paths.{name_one_file};
 
 use crate::paths::own_names;
@@ -60,18 +60,28 @@ fn are_digits(bytes: &[u8]) -> bool
     bytes.iter().all(|b| b.is_ascii_digit())
 }
 
-/// Whether a point is there, and a number after it.
+/// Whether these are the digits of a number from 1 on, with no zero in front.
+fn is_window_number(bytes: &[u8]) -> bool
+    ensures { result ≡ is_window_number bytes.now }
+{
+    match bytes {
+        [first, ..] => *first != b'0' && are_digits(bytes),
+        [] => false,
+    }
+}
+
+/// Whether a point is there, and a window's number after it.
 fn is_number_part(bytes: &[u8]) -> bool
     ensures { result ≡ is_number_part bytes.now }
 {
     match bytes.split_first() {
-        Some((first, digits)) => *first == b'.' && are_digits(digits),
+        Some((first, digits)) => *first == b'.' && is_window_number(digits),
         None => false,
     }
 }
 
 /// Whether a window of a certificate that is kept in OUT.1, OUT.2 and so on could have this own name: after OUT and a
-/// point it has a number.
+/// point it has a window's number.
 fn is_window(out: &[u8], file: &[u8]) -> bool
     ensures { result ≡ is_window out.now file.now }
 {

@@ -1,14 +1,15 @@
 //! Keeping a certificate: in one file, or in a file for each of its windows.
 
 ghost use Rattle.std.specs.Prelude.{◌≡◌, ◌≤◌, ◌+◌, [], length, reverse, string_bytes, IfOk, IfErr};
+ghost use Rattle.std.specs.IoError.{error_kind};
 ghost use Rattle.histories.specs.Reading.{IsHead};
 ghost use Rattle.windows.specs.Texts.{certificate_text, steps_count};
 ghost use Rattle.windows.specs.Windows.{IsWindow};
 ghost use Rattle.judge_report.specs.Asked.{kept_of};
 ghost use Rattle.judge_report.specs.Heard.{heard_of};
 ghost use Rattle.judge_report.specs.Kept.{AreKept, IsCleared, IsCutOf, IsFilled, IsIllegalKept, IsKept, IsUnkept};
-ghost use Rattle.judge_report.specs.Kept.{IsUndecidedKept, IsWindowKept, IsWritten};
-ghost use Rattle.judge_report.specs.Kept.{uncut_by, window_name};
+ghost use Rattle.judge_report.specs.Kept.{IsUndecidedKept, IsWindowKept, IsWritten, OrMemory};
+ghost use Rattle.judge_report.specs.Kept.{uncut_by, unkept_by, window_name};
 
 use crate::asking::Keeping;
 use crate::making::Maker;
@@ -18,7 +19,7 @@ use histories::{Entry, Head};
 use itoa::Buffer;
 use judge::Judgement;
 use std::alloc::{AllocError, Global};
-use std::io;
+use std::io::{self, ErrorKind};
 use streams::put_text;
 use windows::{Cutter, Stop, Window, events_of, write_certificate};
 
@@ -76,6 +77,19 @@ fn uncut_by(why: Stop) -> Failure
     }
 }
 
+/// What it is reported as that a file couldn't be written or removed, if no memory was refused: this failure.
+fn unkept_by(error: &io::Error, failure: Failure) -> Failure
+    requires { IsUnkept failure }
+    ensures value { result ≡ unkept_by (error_kind error.now) failure }
+    ensures this { OrMemory failure result }
+    ensures fails { IsUnkept result }
+{
+    match error.kind() {
+        ErrorKind::OutOfMemory => Failure::OutOfMemory,
+        _ => failure,
+    }
+}
+
 /// What the window with this number has of these steps.
 fn cut_of(steps: &[Entry], number: usize, window: &Window) -> Cut
     requires order { window.now.from ≤ window.now.to }
@@ -102,13 +116,14 @@ fn keep_window<M: Maker>(
     ensures kept { IfOk result (λ _. IsWritten (M.makes maker.now) (M.fills maker.now) (window_name out.now number)
         window.now.text.items) }
     ensures fails { IfErr result IsUnkept }
+    ensures this { IfErr result (OrMemory (Failure.CannotKeepWindow number)) }
 {
     let Ok(name) = window_name(alloc, out, number) else {
         return Err(Failure::OutOfMemory);
     };
     match fill_text(maker, &name, &window.text) {
         Ok(()) => Ok(()),
-        Err(_unwritten) => Err(Failure::CannotKeep),
+        Err(error) => Err(unkept_by(&error, Failure::CannotKeepWindow(number))),
     }
 }
 
@@ -121,13 +136,14 @@ fn remove_window<M: Maker>(
 ) -> Result<bool, Failure>
     ensures removed { IfOk result (λ _. M.lacks maker.now (window_name out.now number)) }
     ensures fails { IfErr result IsUnkept }
+    ensures this { IfErr result (OrMemory (Failure.CannotRemove number)) }
 {
     let Ok(name) = window_name(alloc, out, number) else {
         return Err(Failure::OutOfMemory);
     };
     match maker.remove(&name) {
         Ok(removed) => Ok(removed),
-        Err(_kept) => Err(Failure::CannotKeep),
+        Err(error) => Err(unkept_by(&error, Failure::CannotRemove(number))),
     }
 }
 
@@ -207,7 +223,7 @@ fn keep_steps<M: Maker>(
         Keeping::Nowhere => Ok(Vec::new(alloc)),
         Keeping::Whole(name) => match fill(maker, name, head, steps) {
             Ok(()) => Ok(Vec::new(alloc)),
-            Err(_unwritten) => Err(Failure::CannotKeep),
+            Err(error) => Err(unkept_by(&error, Failure::CannotKeep)),
         },
         Keeping::Windows(out) => keep_windows(alloc, maker, out, head, steps),
     }
@@ -239,7 +255,7 @@ fn keep_illegal<M: Maker>(
         Keeping::Nowhere => Ok(Vec::new(alloc)),
         Keeping::Whole(name) => match fill(maker, name, head, steps) {
             Ok(()) => Ok(Vec::new(alloc)),
-            Err(_unwritten) => Err(Failure::CannotKeep),
+            Err(error) => Err(unkept_by(&error, Failure::CannotKeep)),
         },
         Keeping::Windows(out) => keep_no_window(alloc, maker, out),
     }
@@ -260,7 +276,7 @@ fn keep_undecided<M: Maker>(
         Keeping::Nowhere => Ok(Vec::new(alloc)),
         Keeping::Whole(name) => match fill_text(maker, name, &[]) {
             Ok(()) => Ok(Vec::new(alloc)),
-            Err(_unwritten) => Err(Failure::CannotKeep),
+            Err(error) => Err(unkept_by(&error, Failure::CannotKeep)),
         },
         Keeping::Windows(out) => keep_no_window(alloc, maker, out),
     }

@@ -1,7 +1,8 @@
 //! What holds of all that the program says.
 
-ghost use Rattle.judge_report.specs.Laws.{FaultsAreAtLines, LinesAreNumbered, NotesAreInOrder, OptionsAreRead};
-ghost use Rattle.judge_report.specs.Laws.{OptionsWrite, QuotesAreReadBack, StatusesAreRight, TurnWordsAreSo};
+ghost use Rattle.judge_report.specs.Laws.{ExplanationsAreSaid, FaultsAreAtLines, LinesAreNumbered, NotesAreInOrder};
+ghost use Rattle.judge_report.specs.Laws.{OptionsAreRead, OptionsWrite, QuotesAreReadBack, StatusesAreRight};
+ghost use Rattle.judge_report.specs.Laws.{TurnWordsAreSo};
 ghost use Rattle.judge_report.specs.Laws.{WaitersAreNamed, WindowsAreInOrder};
 ghost use Rattle.judge_report.specs.Traces.{TracesAreWritten};
 ghost use Rattle.std.specs.Prelude.{◌≡◌};
@@ -12,7 +13,9 @@ use streams::{Opener, Output};
 
 /// The exit status is 0 only if the file's history is legal, and `legal ..` was written, whole; 1 only if it isn't legal,
 /// or not decided, and `illegal at line L ..` or `undecided at line L ..` was written, or a failure was reported; 2 only
-/// if the command line asks for no judgement. There is no other.
+/// if the command line asks for no judgement. There is no other. If the failure is that the certificate couldn't be written
+/// or cut, or that a window of another run couldn't be removed, what the history was found to be was written, whole. A
+/// command line that asks for nothing gets the usage, with status 2, unless memory is refused.
 pub fn statuses_are_right<F: Opener, M: Maker, W: Output, E: Write>(
     files: &F,
     maker: &M,
@@ -36,7 +39,10 @@ pub fn faults_are_at_lines()
 {}
 
 /// Each option asks for what its name says: `--waiting` for the calls that still wait, `--trace OUT` for a whole
-/// certificate, `--windows OUT` for one in windows.
+/// certificate, `--windows OUT` for one in windows. The history isn't written over: not by a certificate whose name is
+/// spelled alike except for repeated slashes and parts `.`, nor by a window, whose number is 1 or more and has no zero in front.
+/// Names that differ, and those of different directories, are those of two files. A command line of another form asks for
+/// nothing.
 pub fn options_are_read()
     ensures { OptionsAreRead }
 {}
@@ -81,4 +87,12 @@ pub fn notes_are_in_order()
 /// read as that.
 pub fn quotes_are_read_back()
     ensures { QuotesAreReadBack }
+{}
+
+/// What [`explain_history`](crate::explain_history) returns as said of an illegal history is what is printed of it: its first
+/// illegal line and the same reason. Only the replies that the thread could get may be others. Nothing is said only of a
+/// legal history.
+#[tactic(auto, using(crate::proofs::Explaining::explained_so))]
+pub fn explanations_are_said()
+    ensures { ExplanationsAreSaid }
 {}

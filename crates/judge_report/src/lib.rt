@@ -10,10 +10,12 @@
 //!   given. With each reply that is said to be possible there they are one.
 //! - `undecided at line L`: the lines before L are a legal history.
 //!
-//! A file that is no history is reported by its first fault (`history_read`).
+//! A file that is no history is reported by its first fault (`history_read`). A certificate that can't be kept is reported
+//! too, with the name of the file, after what is said of the history.
 //!
 //! For a program that draws histories, [`explain_history`] returns the lines of a trace that shows one, as `--trace` writes
-//! it ([`traces_are_written`]), and what is said of an illegal history. An undecided history has none.
+//! it ([`traces_are_written`]), and what is said of an illegal history ([`explanations_are_said`]). An undecided history has
+//! none.
 //!
 //! Laws say so in the words of who reads it:
 //!
@@ -62,9 +64,9 @@ mod waiting;
 mod writing;
 
 pub use laws::{
-    faults_are_at_lines, lines_are_numbered, notes_are_in_order, options_are_read, options_write,
-    quotes_are_read_back, statuses_are_right, traces_are_written, turn_words_are_so,
-    waiters_are_named, windows_are_in_order,
+    explanations_are_said, faults_are_at_lines, lines_are_numbered, notes_are_in_order,
+    options_are_read, options_write, quotes_are_read_back, statuses_are_right, traces_are_written,
+    turn_words_are_so, waiters_are_named, windows_are_in_order,
 };
 pub use making::Maker;
 pub use messages::OUT_OF_MEMORY;

@@ -3,6 +3,7 @@
 ghost use Rattle.std.specs.Prelude.{◌≡◌};
 ghost use Rattle.streams.specs.Leaves.{AppendsFront, Leaves};
 ghost use Rattle.judge_report.specs.Messages.{failure_status, failure_text, fault_text, history_fault_text};
+ghost use Rattle.judge_report.specs.Messages.{window_failure_text};
 
 use histories::HistoryFault;
 use std::io::{self, Write};
@@ -23,8 +24,12 @@ pub enum Failure {
     CannotRead,
     /// A write failed, or the writer didn't let go of what it kept back.
     CannotWrite,
-    /// A file for the certificate couldn't be made, or a write to it failed.
+    /// The file for the certificate couldn't be made, or a write to it failed.
     CannotKeep,
+    /// The same of the file of the window with this number.
+    CannotKeepWindow(usize),
+    /// The file of the window with this number, which another run left, couldn't be removed.
+    CannotRemove(usize),
     /// There are more mutexes or condition variables than a window may have.
     TooMany,
     /// No place was found where the certificate could be cut into windows.
@@ -67,7 +72,28 @@ fn write_history_fault<E: Write>(err: &mut E, at: HistoryFault) -> io::Result<()
     write_fault(err, start, at.line, at.fault.number(), at.fault.words())
 }
 
-/// The message of a failure to judge the history in this file.
+/// What couldn't be done with the file of the window with this number. `out` is how the names of windows' files begin.
+fn write_window_failure<'a, E: Write>(
+    err: &mut E,
+    start: &'a str,
+    out: &'a str,
+    number: usize,
+) -> io::Result<()>
+    ensures { Leaves (E.contents err.old) (E.contents err.new) result (window_failure_text start.now out.now number) }
+{
+    put_pieces(
+        err,
+        &[
+            Word(start),
+            Word(out),
+            Word("."),
+            Number(number as u64),
+            Word("\n"),
+        ],
+    )
+}
+
+/// The message of a failure to judge the history in this file, or to keep its certificate there.
 fn write_failure<E: Write>(err: &mut E, file: &str, failure: Failure) -> io::Result<()>
     ensures { Leaves (E.contents err.old) (E.contents err.new) result (failure_text file.now failure) }
 {
@@ -82,7 +108,13 @@ fn write_failure<E: Write>(err: &mut E, file: &str, failure: Failure) -> io::Res
         ),
         Failure::CannotRead => put(err, &["rfx-judge: cannot read ", file, "\n"]),
         Failure::CannotWrite => put(err, &["rfx-judge: cannot write\n"]),
-        Failure::CannotKeep => put(err, &["rfx-judge: cannot write the certificate\n"]),
+        Failure::CannotKeep => put(err, &["rfx-judge: cannot write ", file, "\n"]),
+        Failure::CannotKeepWindow(number) => {
+            write_window_failure(err, "rfx-judge: cannot write ", file, number)
+        }
+        Failure::CannotRemove(number) => {
+            write_window_failure(err, "rfx-judge: cannot remove ", file, number)
+        }
         Failure::TooMany => put(
             err,
             &[
@@ -107,6 +139,8 @@ fn status_after(failure: Failure) -> u8
         Failure::CannotRead
         | Failure::CannotWrite
         | Failure::CannotKeep
+        | Failure::CannotKeepWindow(_)
+        | Failure::CannotRemove(_)
         | Failure::TooMany
         | Failure::NoPlace
         | Failure::OutOfMemory
@@ -114,7 +148,7 @@ fn status_after(failure: Failure) -> u8
     }
 }
 
-/// Tells a failure to judge the history in this file, and answers the exit status after it. Of a message that can't be
+/// Tells a failure to judge the history in this file, or to keep its certificate there, and answers the exit status after it. Of a message that can't be
 /// written a beginning is left.
 pub fn fail<E: Write>(err: &mut E, file: &str, failure: Failure) -> u8
     ensures told { AppendsFront (E.contents err.old) (E.contents err.new) (failure_text file.now failure) }

@@ -3,7 +3,7 @@
 ghost use Rattle.std.specs.Prelude.{◌≡◌};
 ghost use Rattle.judge_report.specs.Asked.{kept_of};
 ghost use Rattle.std.specs.IoError.{error_kind};
-ghost use Rattle.judge_report.specs.Programs.{FileEnds, RunEnds, asked_in, unopened_by};
+ghost use Rattle.judge_report.specs.Programs.{FileEnds, RunEnds, asked_in, place_of, subject_of, unopened_by};
 
 use crate::asking::{Form, Keeping, form_of_words};
 use crate::making::Maker;
@@ -20,6 +20,29 @@ fn unopened_by(error: &io::Error) -> Failure
     match error.kind() {
         ErrorKind::OutOfMemory => Failure::OutOfMemory,
         _ => Failure::CannotRead,
+    }
+}
+
+/// The file that a certificate is kept in, or how the names of its windows' files begin.
+fn place_of<'a>(keeping: Keeping<'a>, file: &'a str) -> &'a str
+    ensures { result.now ≡ place_of (kept_of keeping.entry) file.now }
+{
+    match keeping {
+        Keeping::Nowhere => file,
+        Keeping::Whole(out) => out,
+        Keeping::Windows(out) => out,
+    }
+}
+
+/// The file that a failure is about.
+fn subject_of<'a>(keeping: Keeping<'a>, file: &'a str, failure: Failure) -> &'a str
+    ensures { result.now ≡ subject_of (kept_of keeping.entry) file.now failure }
+{
+    match failure {
+        Failure::CannotKeep => place_of(keeping, file),
+        Failure::CannotKeepWindow(_) => place_of(keeping, file),
+        Failure::CannotRemove(_) => place_of(keeping, file),
+        _ => file,
     }
 }
 
@@ -44,14 +67,14 @@ fn run_file<F: Opener, M: Maker, W: Output, E: Write>(
     };
     match serve(alloc, waiting, keeping, input, maker, out) {
         Ok(status) => status,
-        Err(failure) => fail(err, file, failure),
+        Err(failure) => fail(err, subject_of(keeping, file, failure), failure),
     }
 }
 
 /// What `rfx-judge` does with the words of its command line, the first being its name, and the exit status that it
 /// answers: 0 where the history is legal, 1 where it is illegal or not decided, and both times all that is said of it was
-/// written and let go of, and nothing told on `err`; 1 for a failure, which is reported there; 2 where the command line has
-/// no form. Words that can't be had as text are another command line, unless memory was refused for them.
+/// written and let go of, and nothing told on `err`; 1 for a failure, which is reported there, after what is said if that is
+/// only that the certificate couldn't be kept; 2 where the command line has no form. Words that can't be had as text are another command line, unless memory was refused for them.
 pub fn run<F: Opener, M: Maker, W: Output, E: Write>(
     alloc: Global,
     words: io::Result<Vec<String>>,

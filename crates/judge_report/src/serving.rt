@@ -1,12 +1,12 @@
 //! The program, except for opening its file.
 
-ghost use Rattle.std.specs.Prelude.{◌≡◌, ◌<◌, get_or, length, take, IfOk, IfErr, OnOk};
+ghost use Rattle.std.specs.Prelude.{◌≡◌, ◌<◌, get_or, length, take, true, false, IfOk, IfErr, OnOk};
 ghost use Rattle.histories.specs.Reading.{IsHead};
 ghost use Rattle.judge.specs.Judgements.{IsJudged};
 ghost use Rattle.judge_report.specs.Heard.{heard_of};
 ghost use Rattle.judge_report.specs.Asked.{kept_of};
 ghost use Rattle.judge_report.specs.Said.{AreNamed, Tells, status_of};
-ghost use Rattle.judge_report.specs.Served.{Fails, IsRead, Serves, Unread, failed_by};
+ghost use Rattle.judge_report.specs.Served.{Fails, IsRead, SaysThen, Serves, Unread, failed_by, is_memory};
 
 use crate::asking::Keeping;
 use crate::illegal::tell_illegal;
@@ -145,9 +145,62 @@ fn tell_out<W: Output>(
     }
 }
 
+/// Tells what the history was found to be, without windows, and returns this failure, which is to be reported then; or the
+/// failure to tell it.
+fn tell_alone<W: Output>(
+    out: &mut W,
+    waiting: bool,
+    history: &History,
+    judgement: &Judgement,
+    waiters: &[Waiter],
+    failure: Failure,
+) -> Failure
+    requires judged { IsJudged history.now.head history.now.lines.items judgement.now }
+    requires named { AreNamed waiting judgement.now waiters.now }
+    ensures { SaysThen waiting (heard_of history.now) judgement.now (W.contents out.old) (W.contents out.new)
+        (W.is_let_go out.new) failure result }
+{
+    match tell_out(out, waiting, history, judgement, &[], waiters) {
+        Ok(()) => failure,
+        Err(_unwritten) => Failure::CannotWrite,
+    }
+}
+
+fn is_memory(failure: Failure) -> bool
+    ensures { result ≡ is_memory failure }
+{
+    matches!(failure, Failure::OutOfMemory)
+}
+
+/// What is to be reported of a history whose certificate wasn't kept for this reason. What the history was found to be is
+/// told before, if no memory was refused.
+fn tell_unkept<W: Output>(
+    out: &mut W,
+    waiting: bool,
+    history: &History,
+    judgement: &Judgement,
+    waiters: &[Waiter],
+    failure: Failure,
+) -> Failure
+    requires judged { IsJudged history.now.head history.now.lines.items judgement.now }
+    requires named { AreNamed waiting judgement.now waiters.now }
+    ensures memory { is_memory failure ≡ true → result ≡ failure }
+    ensures nothing { is_memory failure ≡ true → W.contents out.new ≡ W.contents out.old }
+    ensures says { is_memory failure ≡ false
+        → SaysThen waiting (heard_of history.now) judgement.now (W.contents out.old) (W.contents out.new)
+        (W.is_let_go out.new) failure result }
+{
+    if is_memory(failure) {
+        failure
+    } else {
+        tell_alone(out, waiting, history, judgement, waiters, failure)
+    }
+}
+
 /// Judges the history that the reader has, keeps its certificate if it is to be kept, and writes what the history was
 /// found to be. Then come the windows that its certificate was cut into, and the calls that still wait and shouldn't, if
-/// these are asked for. Returns the exit status.
+/// these are asked for. Returns the exit status. If the certificate couldn't be kept, what the history was found to be is
+/// written nevertheless, and that failure is returned.
 pub fn serve<R: Read + Drop, M: Maker, W: Output>(
     alloc: Global,
     waiting: bool,
@@ -160,7 +213,7 @@ pub fn serve<R: Read + Drop, M: Maker, W: Output>(
         (kept_of keeping.entry) (R.remaining input) (W.contents out.old) (W.contents out.new) status) }
     ensures let_go { OnOk result (W.is_let_go out.new) }
     ensures fails { IfErr result (Fails (M.makes maker.now) (M.fills maker.now) waiting (kept_of keeping.entry)
-        (R.remaining input) (W.contents out.old) (W.contents out.new)) }
+        (R.remaining input) (W.contents out.old) (W.contents out.new) (W.is_let_go out.new)) }
 {
     let history = match read_file(alloc, input) {
         Ok(history) => history,
@@ -174,7 +227,9 @@ pub fn serve<R: Read + Drop, M: Maker, W: Output>(
     };
     let cuts = match keep(alloc, maker, keeping, &history, &judgement) {
         Ok(cuts) => cuts,
-        Err(failure) => return Err(failure),
+        Err(failure) => {
+            return Err(tell_unkept(out, waiting, &history, &judgement, &waiters, failure));
+        }
     };
     match tell_out(out, waiting, &history, &judgement, &cuts, &waiters) {
         Ok(()) => Ok(status_of(&judgement)),

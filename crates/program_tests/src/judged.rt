@@ -130,7 +130,7 @@ fn a_trace_of_an_illegal_history_is_written(rt: HostRuntime) {
     assert!(rt; answered.is(1, TEXT, "") && shelf.filled.get() == 1);
 }
 
-/// An illegal history has no window: those of another run are removed, and one that can't be is reported.
+/// An illegal history has no window: those of another run are removed, and one that can't be is reported after the verdict.
 #[test]
 fn older_windows_are_removed(rt: HostRuntime) {
     let shelf = Shelf::new(rt.alloc(), "");
@@ -139,7 +139,7 @@ fn older_windows_are_removed(rt: HostRuntime) {
     assert!(rt; answered.is(1, TEXT, "") && shelf.removed.get() == 2);
     let line = words(rt.alloc(), &["rfx-judge", "--windows", "kept", "f"]);
     let answered = answer_of(rt.alloc(), line, HISTORY, &shelf);
-    assert!(rt; answered.is(1, "", "rfx-judge: cannot write the certificate\n"));
+    assert!(rt; answered.is(1, TEXT, "rfx-judge: cannot remove kept.1\n"));
 }
 
 /// Nothing is written by another command line, nor over the history.
@@ -233,9 +233,9 @@ fn a_certificate_that_cannot_be_written_is_told(rt: HostRuntime) {
     let shelf = Shelf::new(rt.alloc(), CERTIFICATE);
     let line = words(rt.alloc(), &["rfx-judge", "--trace", "none", "f"]);
     let answered = answer_of(rt.alloc(), line, LEGAL, &shelf);
-    assert!(rt; answered.is(1, "", "rfx-judge: cannot write the certificate\n"));
+    assert!(rt; answered.is(1, "legal 2 points\n", "rfx-judge: cannot write none\n"));
     let stuck = Shelf::new(rt.alloc(), "");
     let line = words(rt.alloc(), &["rfx-judge", "--trace", "out", "f"]);
     let answered = answer_of(rt.alloc(), line, LEGAL, &stuck);
-    assert!(rt; answered.is(1, "", "rfx-judge: cannot write the certificate\n"));
+    assert!(rt; answered.is(1, "legal 2 points\n", "rfx-judge: cannot write out\n"));
 }

@@ -23,3 +23,9 @@ returns-in-NoPlace g c = rw c.in-NoPlace.is c.put-in-NoPlace.ensures
 
 pub returns-in-Overwriting : goal.returns-in-Overwriting
 returns-in-Overwriting g c = rw c.in-Overwriting.is c.put-in-Overwriting.ensures
+
+pub returns-in-CannotKeepWindow : goal.returns-in-CannotKeepWindow
+returns-in-CannotKeepWindow g c = rw c.in-CannotKeepWindow.is c.write_window_failure.ensures
+
+pub returns-in-CannotRemove : goal.returns-in-CannotRemove
+returns-in-CannotRemove g c = rw c.in-CannotRemove.is c.write_window_failure-in-CannotRemove.ensures
