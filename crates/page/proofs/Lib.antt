@@ -8,3 +8,4 @@ mod Fitting
 mod Flagging
 mod Quoting
 mod Decoding
+mod Titles

@@ -261,7 +261,7 @@ IsEnd (Illegal found) last ls v = (word (at 0 v) ≡ codes "illegal") × (number
     × (number (at 2 v) ≡ length ls) × (number (at 3 v) ≡ found.line)
     × (word (at 4 v) ≡ escaped (reason_text found.misfit)) × IsMisfitLine (slice_get ls (found.line - 2)) (at 5 v)
 
--- of a trace that shows a history: the same, but for the first word; of an illegal history what is said of it, and the line
+-- of a trace that shows a history: the same, except for the first word; of an illegal history what is said of it, and the line
 -- that is its illegal one, the last of the trace's
 abbrev pub IsHistoryEnd : Option (List ℕ) → ℕ → List Line → Json → Type 0
 IsHistoryEnd None last ls v =

@@ -11,3 +11,4 @@ pub mod States
 pub mod Stories
 pub mod Statuses
 pub mod Texts
+pub mod Titles

@@ -1,7 +1,7 @@
 -- A page of HTML to step through a trace (the HTML Standard).
 --
--- *The page.* Its title, which is its heading too; its data, which a script shows, and its picture, each once. What comes
--- before, between and after them is the same in every page.
+-- *The page.* Its title, which is its heading too, and tells of the lines that it shows; its data, which a script shows,
+-- and its picture, each once. What comes before, between and after them is the same in every page.
 use Rattle.std.specs.Prelude.{ℕ, ◌≡◌, List, [], ◌∷◌, ◌++◌, Option, Result, Ok, Err}
 use Rattle.std.specs.List.{concat}
 use Rattle.std.specs.Io.KnownBytes.{Appends}
@@ -15,7 +15,7 @@ use Rattle.picture.specs.Svg.{svg_drawn}
 use Rattle.page.specs.declared.frame.TheConstants.{BEHIND, BETWEEN, BOTTOM, STATE, STYLE, TOP}
 use Rattle.page.specs.declared.script.TheConstants.{SCRIPT}
 use Rattle.page.specs.declared.stories.Source.TheVariants.{Trace, History}
-use Rattle.page.specs.Data.{data_text, history_data}
+use Rattle.page.specs.Data.{data_text, history_data, history_shown, lines_shown}
 use Rattle.page.specs.Stories.{title_text}
 
 -- up to the picture, with this title and these data
@@ -35,11 +35,12 @@ page_with n t title states =
     page_of title states (svg_drawn n t.head.threads t.head.mutexes t.lines.items t.last)
 
 abbrev pub page_text : Called → Told → Finding → List ℕ
-page_text n t f = page_with n t (title_text n Trace t.lines.items) (data_text n t f)
+page_text n t f = page_with n t (title_text n Trace (lines_shown t f)) (data_text n t f)
 
 -- of a trace that shows a history, of which this is said, if it is illegal
 abbrev pub history_page_text : Called → Told → Option (List ℕ) → List ℕ
-history_page_text n t why = page_with n t (title_text n History t.lines.items) (history_data n t why)
+history_page_text n t why =
+    page_with n t (title_text n History (history_shown t why)) (history_data n t why)
 
 -- the page was written; or memory was refused for it, before its first byte; or a write failed after a beginning of it
 abbrev pub LeavesPage : {X : Type 0} → Option (List ℕ) → Option (List ℕ) → Result X Unwritten → List ℕ → Type 0

@@ -33,7 +33,7 @@ const WHOLE: usize = 1_000;
 const MOST: usize = 100_000;
 
 /// How many lines after the head are shown, of that many: those that fit, as far as there is room.
-fn shown_lines(finding: &Finding, count: usize) -> usize
+pub fn shown_lines(finding: &Finding, count: usize) -> usize
     ensures value { result ≡ shown_lines finding.now count }
     ensures few { result ≤ count }
     ensures most { result ≤ 100000 }
@@ -242,7 +242,7 @@ fn add_start(text: &mut String, names: &Names, head: &Head) -> Result<(), AllocE
 
 /// How many lines of a trace that shows a history are shown, of that many: of an illegal history not the last, which is
 /// the illegal one.
-fn history_lines(why: Option<&[u8]>, count: usize) -> usize
+pub fn history_lines(why: Option<&[u8]>, count: usize) -> usize
     ensures value { result ≡ history_lines (option_map (λ s. s.now) why.entry) count }
     ensures few { result ≤ count }
     ensures most { result ≤ 100000 }

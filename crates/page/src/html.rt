@@ -4,10 +4,11 @@ ghost use Rattle.std.specs.Prelude.{◌≡◌, option_map, string_bytes, IfOk};
 ghost use Rattle.streams.specs.Leaves.{Leaves};
 ghost use Rattle.verdict.specs.Told.{IsWithin};
 ghost use Rattle.picture.specs.Svg.{svg_drawn};
-ghost use Rattle.page.specs.Data.{data_text, history_data};
+ghost use Rattle.page.specs.Data.{data_text, history_data, history_shown, lines_shown};
 ghost use Rattle.page.specs.Pages.{history_page_text, page_of, page_text, page_with, LeavesPage};
+ghost use Rattle.page.specs.Stories.{title_text};
 
-use crate::data::{add_data, add_history_data};
+use crate::data::{add_data, add_history_data, history_lines, shown_lines};
 use crate::frame::{BEHIND, BETWEEN, BOTTOM, STATE, STYLE, TOP};
 use crate::script::SCRIPT;
 use crate::state::State;
@@ -49,6 +50,37 @@ fn history_data_of(
     let mut state = State::new(alloc, trace.head.threads, trace.head.mutexes)?;
     add_history_data(&mut text, &mut state, names, trace, why)?;
     Ok(text)
+}
+
+/// The title of a trace's page: it tells of the lines that the page shows.
+fn trace_title(
+    alloc: Global,
+    names: &Names,
+    trace: &Told,
+    finding: &Finding,
+) -> Result<String, AllocError>
+    ensures { IfOk result
+        (λ s. string_bytes s ≡ title_text names.now Source.Trace (lines_shown trace.now finding.now)) }
+{
+    let lines = trace.lines.as_slice();
+    let shown = shown_lines(finding, lines.len());
+    title_of(alloc, names, Source::Trace, &lines[..shown])
+}
+
+/// The title of a history's page.
+fn history_title(
+    alloc: Global,
+    names: &Names,
+    trace: &Told,
+    why: Option<&[u8]>,
+) -> Result<String, AllocError>
+    ensures { IfOk result
+        (λ s. string_bytes s
+        ≡ title_text names.now Source.History (history_shown trace.now (option_map (λ t. t.now) why.entry))) }
+{
+    let lines = trace.lines.as_slice();
+    let shown = history_lines(why, lines.len());
+    title_of(alloc, names, Source::History, &lines[..shown])
 }
 
 /// The picture of a page. What holds it fails where memory for it is refused, and at nothing else.
@@ -101,7 +133,7 @@ fn write_with<W: Write>(
 
 /// Writes a page of HTML to step through a trace, line by line: its picture as [`draw_svg`] draws it, with these names,
 /// and the state after each line as data, up to the first line that doesn't fit, and at most of 100,000 lines. Its title
-/// tells the first death of an owner, and who gets the mutex.
+/// tells the first death of an owner in these lines, and who gets the mutex.
 /// `finding` is how all of the trace was judged: a line that doesn't fit is named, with the reason, whether it is among
 /// those that are shown or not. Names are in the picture and in the title as they are. All of the page is put together
 /// first: where memory is refused nothing is written. Where a write fails a beginning of the page is written.
@@ -119,7 +151,7 @@ pub fn write_page<W: Write>(
     let Ok(states) = data_of(alloc, names, trace, finding) else {
         return Err(Unwritten::OutOfMemory);
     };
-    let Ok(title) = title_of(alloc, names, Source::Trace, &trace.lines) else {
+    let Ok(title) = trace_title(alloc, names, trace, finding) else {
         return Err(Unwritten::OutOfMemory);
     };
     write_with(alloc, names, trace, title.as_str(), states.as_str(), out)
@@ -141,7 +173,7 @@ pub fn write_history_page<W: Write>(
     let Ok(states) = history_data_of(alloc, names, trace, why) else {
         return Err(Unwritten::OutOfMemory);
     };
-    let Ok(title) = title_of(alloc, names, Source::History, &trace.lines) else {
+    let Ok(title) = history_title(alloc, names, trace, why) else {
         return Err(Unwritten::OutOfMemory);
     };
     write_with(alloc, names, trace, title.as_str(), states.as_str(), out)

@@ -6,6 +6,7 @@ ghost use Rattle.page.specs.Flags.{FlagsAreRead};
 ghost use Rattle.page.specs.Judged.{FittingLinesAreShown, MisfitsAreTold, ShownLinesFit, StatesAreTheJudges};
 ghost use Rattle.page.specs.Quoting.{NamesStandInQuotes};
 ghost use Rattle.page.specs.Shows.{PageShows};
+ghost use Rattle.page.specs.Titles.{HistoryLinesAreShown, TitlesTellTheFirstDeath};
 
 /// The data of a page says the state after each of its lines, in their order, and nothing else: a reader who starts at any
 /// of its whole states, and changes what each line changes, gets just these states.
@@ -68,4 +69,19 @@ pub fn names_are_escaped()
 /// - how many events and lines the trace has, and which line doesn't fit.
 pub fn script_reads_states()
     ensures { ScriptReadsStates }
+{}
+
+/// The title of a page names the thread and the mutex of the first death of an owner that the shown lines tell. After that
+/// it names the thread that gets the mutex first, if one does, and its reply. If the shown lines tell no death, neither does
+/// the title.
+#[tactic(auto, using(crate::proofs::Titles::titles_tell))]
+pub fn titles_tell_the_first_death()
+    ensures { TitlesTellTheFirstDeath }
+{}
+
+/// The page of a history shows the first 100,000 lines of its trace, without the illegal line, if there is one: that is the
+/// last, and is named next to the reason.
+#[tactic(auto, using(crate::proofs::Titles::history_shown_so))]
+pub fn history_lines_are_shown()
+    ensures { HistoryLinesAreShown }
 {}

@@ -1,7 +1,7 @@
 //! Pages of HTML to step through a trace.
 //!
 //! [`write_page`] writes one file: a frame, the trace's picture as `picture` draws it as SVG, and data. The title tells
-//! the first death of an owner, and who gets its mutex (`title_text`). The data have the state after each line that fits
+//! the first death of an owner in the lines that are shown, and who gets its mutex ([`titles_tell_the_first_death`]). The data have the state after each line that fits
 //! those before it, of the first 100,000: what each thread does, and what each mutex is (`state_behind`), as the judge of
 //! traces has them ([`states_are_the_judges`], [`shown_lines_fit`], [`fitting_lines_are_shown`], [`flags_are_read`]).
 //! They are whole states, and between them what each line changes; a reader gets just the states after the lines, in
@@ -11,7 +11,8 @@
 //! ([`misfits_are_told`]), and why (`reason_text`).
 //!
 //! [`write_history_page`] writes the page of a trace that shows a history. The page says that it is of a history, and of
-//! an illegal one what it is given to say (`history_page_text`). If memory is refused, neither writes anything; if a write
+//! an illegal one what it is given to say (`history_page_text`); it shows the lines before the illegal one
+//! ([`history_lines_are_shown`]). If memory is refused, neither writes anything; if a write
 //! fails, a beginning of the page is written (`LeavesPage`).
 //!
 //! Depends on
@@ -44,6 +45,7 @@ mod texts;
 
 pub use html::{write_history_page, write_page};
 pub use laws::{
-    fitting_lines_are_shown, flags_are_read, misfits_are_told, names_are_escaped,
-    names_stand_in_quotes, page_shows, script_reads_states, shown_lines_fit, states_are_the_judges,
+    fitting_lines_are_shown, flags_are_read, history_lines_are_shown, misfits_are_told,
+    names_are_escaped, names_stand_in_quotes, page_shows, script_reads_states, shown_lines_fit,
+    states_are_the_judges, titles_tell_the_first_death,
 };

@@ -1,6 +1,7 @@
-use Rattle.std.proofs.Common.{◌≡◌, List, ℕ, ap, subst, ◌∙◌}
+use Rattle.std.proofs.Common.{◌≡◌, ap, subst, ◌∙◌}
 use Rattle.page.specs.declared.stories.Source.TheVariants.{Trace}
 use Rattle.page.specs.Pages.{LeavesPage, page_text, page_with}
+use Rattle.page.specs.Data.{lines_shown}
 use Rattle.page.specs.Stories.{title_text}
 use Rattle.page.proofs.html.write_page.Goals as goal
 
@@ -9,6 +10,6 @@ returns g c =
     let n = c.args.names.now in
     let t = c.args.trace.now in
     let same : page_with n t c.as_str.result.now c.as_str-2.result.now ≡ page_text n t c.args.finding.now =
-    ap (λ l. page_with n t l c.as_str-2.result.now) (c.as_str.ensures.value ∙ c.in-Ok-title_of.ensures ∙ ap (title_text n Trace) c.deref.ensures.value)
-    ∙ ap (page_with n t (title_text n Trace t.lines.items)) (c.as_str-2.ensures.value ∙ c.in-Ok.ensures) in
+    ap (λ l. page_with n t l c.as_str-2.result.now) (c.as_str.ensures.value ∙ c.in-Ok-trace_title.ensures)
+    ∙ ap (page_with n t (title_text n Trace (lines_shown t c.args.finding.now))) (c.as_str-2.ensures.value ∙ c.in-Ok.ensures) in
     subst (LeavesPage (g.W.Write.contents c.args.out.now) (g.W.Write.contents c.write_with.new.out) c.write_with.result) same c.write_with.ensures
