@@ -1,9 +1,12 @@
 -- What holds of a history that is drawn.
-use Rattle.std.proofs.Common.{◌≡◌, ◌++◌, ℕ, ◌+◌, ◌<◌, ◌≤◌, ◌&&◌, Bool, true, false, List, [], ◌∷◌, length, Option, Some, None, if◌then◌else◌, inl, inr, refl, sym, subst, ◌∙◌, arith}
+use Rattle.std.proofs.Common.{◌≡◌, ◌≢◌, ◌++◌, ℕ, ◌+◌, ◌<◌, ◌≤◌, ◌==◌, ◌&&◌, ⊎_elim, ap, append-nil, drop, Bool, true, false, List, [], ◌∷◌, length, Option, Some, None, if◌then◌else◌, inl, inr, refl, sym, subst, ◌∙◌, arith}
 use Rattle.std.specs.Prelude.{All, codes, decimal, nat_eq, nat_le, nat_lt, option_map}
 use Rattle.std.specs.Io.KnownBytes.{Appends}
 use Rattle.judge_report.specs.Texts.{quote}
-use Rattle.std.specs.List.{concat, list_all, starts_with}
+use Rattle.std.specs.Bool.{Decides}
+use Rattle.std.specs.List.{concat, list_all, onto_first, slice_split, starts_with}
+use Rattle.std.proofs.lemmas.List.Splits.{length-slice_split, slice_split-cons_no, slice_split-cons_yes}
+use Rattle.std.proofs.lemmas.Slice.Eq.{starts_is}
 use Rattle.std.proofs.lemmas.Bool.Decides.{nat_tests}
 use Rattle.facts.specs.declared.fact.Fact.{Fact}
 use Rattle.facts.specs.declared.fact.Fact.TheVariants.{Begin, Point, Death, Sleep, Wake, Move, Return, Kill, Reap, Renew}
@@ -14,7 +17,7 @@ use Rattle.histories.specs.Written.{head_line}
 use Rattle.verdict.specs.Judges.{IsInside, IsMutex}
 use Rattle.verdict.specs.Told.{IsOf, IsWithin}
 use Rattle.histories.specs.Reading.{IsHead as IsHistoryHead}
-use Rattle.std.proofs.lemmas.List.Elements.{All-weaker}
+use Rattle.std.proofs.lemmas.List.Elements.{All-cons, All-nil, All-weaker}
 use Rattle.std.proofs.lemmas.List.Sums.{AllPass-from_list_all}
 use Rattle.verdict.specs.Limits.{max_bytes, max_conditions, max_mutexes, max_threads}
 use Rattle.windows.specs.Texts.{certificate_text}
@@ -22,13 +25,21 @@ use Rattle.judge_report.specs.declared.tracing.Explained.{Explained}
 use Rattle.judge_report.specs.Heard.{Heard}
 use Rattle.judge_report.specs.Traces.{IsExplained, IsShownOf, IsTrace}
 use Rattle.script.specs.Scope.{Scope}
+use Rattle.histories.specs.declared.head.Head.{Head}
+use Rattle.picture.specs.Names.{Called}
+use Rattle.verdict.specs.declared.told.Told.{Told}
 use Rattle.draw_report.specs.declared.asking.Kind.{Kind}
+use Rattle.draw_report.specs.declared.asking.Kind.TheVariants.{Text, Svg, Html}
+use Rattle.draw_report.specs.declared.messages.Excess.TheVariants.{Mutexes, Conditions, Uncounted}
 use Rattle.draw_report.specs.declared.messages.Failure.{Failure}
 use Rattle.draw_report.specs.declared.messages.Failure.TheVariants.{Usage, CannotRead, CannotWrite, OutOfMemory}
 use Rattle.draw_report.specs.declared.messages.Failure.TheVariants.{Script, Unlike, UnlikeHistory, Trace, History, Undecided, Unfit}
-use Rattle.draw_report.specs.Files.{DrawsAs, HistoriesAreDrawnAsTraces, HistoriesAreKnown, UndecidedIsSaid, is_history}
+use Rattle.draw_report.specs.Files.{DrawsAs, ExcessIsSaid, HistoriesAreDrawnAsTraces, HistoriesAreKnown, IsFirstLine, Shows, UndecidedIsSaid, is_history}
+use Rattle.draw_report.specs.Messages.{failure_text}
+use Rattle.draw_report.specs.Names.{called_by}
+use Rattle.draw_report.specs.Served.{OfHistory, first_in, picture, title_line}
 use Rattle.draw_report.specs.declared.history.Drawing.{Drawing}
-use Rattle.draw_report.specs.Histories.{DrawsHistory, FailsHistory, IsDrawingOf, IsUndrawable, fits, is_inside, is_mutex}
+use Rattle.draw_report.specs.Histories.{DrawsHistory, FailsHistory, IsDrawingOf, IsUndrawable, excess_of, fits, is_inside, is_mutex, judged_in}
 
 -- ---- which files are histories
 
@@ -39,8 +50,70 @@ of_history bytes begins few = go (nat_lt max_bytes (length bytes)) refl
     go false is = begins
     go true is = absurd (grind (arith, nat_tests))
 
+nat_decides : (a b : ℕ) → Decides (nat_eq a b) (a ≡ b)
+nat_decides a b = (λ e. grind (arith, nat_tests, e), λ e. grind (arith, nat_tests, e))
+
+begins_so : (bytes : List ℕ) → starts_with nat_eq bytes (codes "history ") ≡ true → (more : List ℕ) × (bytes ≡ codes "history " ++ more)
+begins_so bytes e = (drop 8 bytes, (starts_is nat_decides bytes (codes "history ") (starts_with nat_eq bytes (codes "history ")) refl).0 e)
+
+history_alone : (bytes : List ℕ) → is_history bytes ≡ true → (more : List ℕ) × (bytes ≡ codes "history " ++ more)
+history_alone bytes is = go (nat_lt max_bytes (length bytes)) is
+  where
+    go : (b : Bool) → (if b then false else starts_with nat_eq bytes (codes "history ")) ≡ true → (more : List ℕ) × (bytes ≡ codes "history " ++ more)
+    go true e = absurd cc
+    go false e = begins_so bytes e
+
 pub histories_are_known : HistoriesAreKnown
-histories_are_known h more few = of_history (head_line (codes "history") h ++ more) refl few
+histories_are_known = record {
+  known = λ h more few. of_history (head_line (codes "history") h ++ more) refl few;
+  alone = history_alone;
+}
+
+-- ---- the first line of what is said
+
+first_onto : (b : ℕ) (ps : List (List ℕ)) → 0 < length ps → first_in (onto_first b ps) ≡ b ∷ first_in ps
+first_onto b [] some = absurd (omega (arith, some))
+first_onto b (p ∷ ps) some = refl
+
+abbrev is_feed : ℕ → Bool
+is_feed b = b == 10
+
+some_line : (text : List ℕ) → 0 < length (slice_split is_feed text)
+some_line text = let many = length-slice_split is_feed text in omega (arith, many)
+
+no_feed : (b : ℕ) → is_feed b ≡ false → b ≢ 10
+no_feed b is = λ same. (let yes : is_feed b ≡ true = grind (arith, nat_tests, same) in let both : true ≡ false = sym yes ∙ is in absurd cc)
+
+is_10 : (b : ℕ) → is_feed b ≡ true → b ≡ 10
+is_10 b is = grind (arith, nat_tests)
+
+longer_line : (b : ℕ) (text line : List ℕ) → b ≢ 10 → IsFirstLine text line → IsFirstLine (b ∷ text) (b ∷ line)
+longer_line b text line other first = record {
+  rest = first.rest;
+  cut = ⊎_elim (λ (e : text ≡ line ++ 10 ∷ first.rest). inl (ap (λ (l : List ℕ). b ∷ l) e)) (λ (e : text ≡ line). inr (ap (λ (l : List ℕ). b ∷ l) e)) first.cut;
+  whole = All-cons (λ (c : ℕ). c ≢ 10) b line other first.whole;
+}
+
+first_line : (text : List ℕ) → IsFirstLine text (title_line text)
+first_line [] = record { rest = []; cut = inr refl; whole = All-nil (λ (c : ℕ). c ≢ 10) }
+first_line (b ∷ text) = go (is_feed b) refl (first_line text)
+  where
+    go : (f : Bool) → is_feed b ≡ f → IsFirstLine text (title_line text) → IsFirstLine (b ∷ text) (title_line (b ∷ text))
+    go true is rest =
+        subst (IsFirstLine (b ∷ text)) (sym (ap first_in (slice_split-cons_yes is_feed b text is)))
+        (record { rest = text; cut = inl (ap (λ (x : ℕ). x ∷ text) (is_10 b is)); whole = All-nil (λ (c : ℕ). c ≢ 10) })
+    go false is rest =
+        subst (IsFirstLine (b ∷ text)) (sym (ap first_in (slice_split-cons_no is_feed b text is) ∙ first_onto b (slice_split is_feed text) (some_line text)))
+        (longer_line b text (title_line text) (no_feed b is) rest)
+
+-- what a picture shows
+shows_so : (kind : Kind) (n : Called) (t : Told) (said : Option (List ℕ)) → Shows kind n t said (picture kind n t (OfHistory said))
+shows_so Text n t None = append-nil _
+shows_so Text n t (Some said) = refl
+shows_so Svg n t None = refl
+shows_so Svg n t (Some said) = (title_line said, first_line said, refl)
+shows_so Html n t None = refl
+shows_so Html n t (Some said) = refl
 
 -- ---- what is drawn
 
@@ -60,10 +133,16 @@ drawn_as_traces kind script bytes old new is draws =
       steps = s.steps;
       trace = trace_so k s.steps (option_map (λ v. v.items) p.history.said) s.explained;
       told = p.drawing.trace;
+      threads = p.of.threads ∙ ap (λ (h : Head). h.threads) s.head;
+      mutexes = p.of.mutexes ∙ ap (λ (h : Head). h.mutexes) s.head;
+      conditions = p.of.conditions ∙ ap (λ (h : Head). h.conditions) s.head;
       lines = p.of.lines ∙ s.lines;
+      last = p.of.last ∙ ap length s.lines;
       said = option_map (λ v. v.items) p.drawing.said;
       explained = subst (IsExplained k s.steps) (sym p.of.said) s.explained;
-      shown = subst (Appends old new) p.is d.2;
+      shown = picture kind (called_by script) p.drawing.trace (judged_in p.drawing);
+      shows = shows_so kind (called_by script) p.drawing.trace (option_map (λ v. v.items) p.drawing.said);
+      written = subst (Appends old new) p.is d.2;
     }
 
 -- ---- what can be drawn
@@ -143,7 +222,7 @@ within x d head fit of = record {
 
 pub undrawable : (kind : Kind) (script : Option Scope) (old : Option (List ℕ)) (bytes : List ℕ) (x : Explained) (f : Failure) → IsShownOf bytes x → IsUndrawable x f → FailsHistory kind script bytes old old f
 undrawable kind script old bytes x OutOfMemory shown why = inl refl
-undrawable kind script old bytes x (Unfit e) shown why = (refl, (why.0, (x, shown, why.1)))
+undrawable kind script old bytes x (Unfit e) shown why = (refl, (x, shown, why.0, why.1))
 undrawable kind script old bytes x Usage shown why = absurd why
 undrawable kind script old bytes x CannotRead shown why = absurd why
 undrawable kind script old bytes x CannotWrite shown why = absurd why
@@ -153,6 +232,41 @@ undrawable kind script old bytes x UnlikeHistory shown why = absurd why
 undrawable kind script old bytes x (Trace e) shown why = absurd why
 undrawable kind script old bytes x (History e) shown why = absurd why
 undrawable kind script old bytes x (Undecided line event) shown why = absurd why
+
+-- ---- what is said of one that doesn't fit
+
+past : (a b : ℕ) → a < b → (nat_le b a ≡ false) × (nat_lt a b ≡ true)
+past a b lt = (grind (arith, nat_tests, lt), grind (arith, nat_tests, lt))
+
+not_past : (a b : ℕ) → b ≤ a → (nat_le b a ≡ true) × (nat_lt a b ≡ false)
+not_past a b le = (grind (arith, nat_tests, le), grind (arith, nat_tests, le))
+
+abbrev counted : Explained → Bool
+counted x = list_all (is_inside x.head.threads x.head.mutexes) x.lines.items
+
+many_mutexes : (file : List ℕ) (x : Explained) → 4096 < x.head.mutexes → (fits x ≡ false) × (failure_text file (Unfit (excess_of x)) ≡ codes "rfx-draw: cannot draw the history: line 1: more than 4096 mutexes\n")
+many_mutexes file x many =
+    let p = past 4096 x.head.mutexes many in (
+      ap (λ (b : Bool). b && (nat_le x.head.conditions max_conditions && counted x)) p.0,
+      ap (λ (b : Bool). failure_text file (Unfit (if b then Mutexes else (if nat_lt max_conditions x.head.conditions then Conditions else Uncounted)))) p.1,
+    )
+
+many_conditions : (file : List ℕ) (x : Explained) → x.head.mutexes ≤ 4096 → 256 < x.head.conditions → (fits x ≡ false) × (failure_text file (Unfit (excess_of x)) ≡ codes "rfx-draw: cannot draw the history: line 1: more than 256 condition variables\n")
+many_conditions file x few many =
+    let m = not_past 4096 x.head.mutexes few in
+    let p = past 256 x.head.conditions many in (
+      ap (λ (b : Bool). b && (nat_le x.head.conditions max_conditions && counted x)) m.0 ∙ ap (λ (b : Bool). b && counted x) p.0,
+      ap (λ (b : Bool). failure_text file (Unfit (if b then Mutexes else (if nat_lt max_conditions x.head.conditions then Conditions else Uncounted)))) m.1
+          ∙ ap (λ (b : Bool). failure_text file (Unfit (if b then Conditions else Uncounted))) p.1,
+    )
+
+few_fit : (x : Explained) → x.head.mutexes ≤ 4096 → x.head.conditions ≤ 256 → fits x ≡ counted x
+few_fit x mutexes conditions =
+    ap (λ (b : Bool). b && (nat_le x.head.conditions max_conditions && counted x)) (not_past 4096 x.head.mutexes mutexes).0
+    ∙ ap (λ (b : Bool). b && counted x) (not_past 256 x.head.conditions conditions).0
+
+pub excess_is_said : ExcessIsSaid
+excess_is_said = record { mutexes = many_mutexes; conditions = many_conditions; others = few_fit }
 
 -- ---- what is said of an undecided history
 

@@ -1,5 +1,5 @@
 -- The exit status is 0 only if all went well.
-use Rattle.std.proofs.Common.{◌≡◌, ℕ, List, [], Option, Some, None, Result, inl, inr, sym, ◌∙◌, arith}
+use Rattle.std.proofs.Common.{◌≡◌, ℕ, List, [], ◌∷◌, Option, Some, None, Result, inl, inr, sym, subst, ◌∙◌, arith}
 use Rattle.std.specs.declared.io.ErrorKind.{ErrorKind}
 use Rattle.draw_report.specs.declared.asking.Kind.{Kind}
 use Rattle.draw_report.specs.declared.messages.Failure.{Failure}
@@ -7,7 +7,8 @@ use Rattle.draw_report.specs.declared.messages.Failure.TheVariants.{Usage, Canno
 use Rattle.draw_report.specs.declared.messages.Failure.TheVariants.{Script, Unlike, UnlikeHistory, Trace, History, Undecided, Unfit}
 use Rattle.draw_report.specs.Asked.{Asked, Drawing, Meaning, Nothing}
 use Rattle.draw_report.specs.Messages.{failure_status}
-use Rattle.draw_report.specs.Programs.{AskedEnds, IsTold, IsWhole, LegendEnds, NamedEnds, PictureEnds, RunEnds, ScriptIsTold, SuccessIsWhole}
+use Rattle.draw_report.specs.Programs.{AskedEnds, IsRefused, IsTold, IsWhole, LegendEnds, NamedEnds, OtherWordsAreRefused, PictureEnds, RunEnds, ScriptIsTold, SuccessIsWhole}
+use Rattle.draw_report.proofs.Parts.{alone}
 use Rattle.script.specs.Scope.{Scope}
 
 no_success : (f : Failure) → failure_status f ≡ 0 → ⊥
@@ -57,3 +58,15 @@ module _ (Opens : List ℕ → Result (Option (List ℕ)) ErrorKind → Type 0) 
 
 pub success_is_whole : (Opens : List ℕ → Result (Option (List ℕ)) ErrorKind → Type 0) (LetGo Quiet : Type 0) → SuccessIsWhole Opens LetGo Quiet
 success_is_whole Opens LetGo Quiet = record { whole = λ a old new told told' status ends zero. ended Opens old new LetGo Quiet told told' status zero a ends }
+
+-- ---- words that ask for nothing
+
+refused : (Opens : List ℕ → Result (Option (List ℕ)) ErrorKind → Type 0) (LetGo Quiet : Type 0) (old new told told' : Option (List ℕ)) (status : ℕ) → RunEnds Opens Nothing old new LetGo Quiet told told' status → IsRefused old new told told' status
+refused Opens LetGo Quiet old new told told' status (inl (same, t)) = (same, inl (t.1, t.0))
+refused Opens LetGo Quiet old new told told' status (inr (same, t)) = (same, inr (t.1, t.0))
+
+pub other_words_are_refused : (Opens : List ℕ → Result (Option (List ℕ)) ErrorKind → Type 0) (LetGo Quiet : Type 0) → OtherWordsAreRefused Opens LetGo Quiet
+other_words_are_refused Opens LetGo Quiet = record {
+  refused = λ program words old new told told' status none ends.
+      refused Opens LetGo Quiet old new told told' status (subst (λ (a : Asked). RunEnds Opens a old new LetGo Quiet told told' status) (sym (alone (program ∷ words) Nothing none)) ends);
+}

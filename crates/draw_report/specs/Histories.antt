@@ -2,7 +2,7 @@
 --
 -- *The picture of a history.* A trace shows the history, and its lines are drawn (`IsShownOf`): of an illegal history the
 -- last is the illegal line. Below them is what the judge of histories says of it.
-use Rattle.std.specs.Prelude.{ℕ, ◌≡◌, ◌+◌, ◌⊎◌, ◌&&◌, Bool, true, false, List, length, nat_le, nat_lt, Option, option_map, Err}
+use Rattle.std.specs.Prelude.{ℕ, ◌≡◌, ◌+◌, ◌⊎◌, ◌&&◌, Bool, true, false, List, length, nat_le, nat_lt, if◌then◌else◌, Option, option_map, Err}
 use Rattle.std.specs.List.{list_all}
 use Rattle.std.specs.Io.KnownBytes.{Appends}
 use Rattle.histories.specs.declared.entry.HistoryLine.{HistoryLine}
@@ -10,8 +10,6 @@ use Rattle.facts.specs.declared.fact.Fact.{Fact}
 use Rattle.facts.specs.declared.fact.Fact.TheVariants.{Death, Point}
 use Rattle.facts.specs.declared.fact.Line.{Line}
 use Rattle.facts.specs.Facts.{thread_of}
-use Rattle.verdict.specs.declared.fault.Fault.TheVariants.{OutOfRange}
-use Rattle.verdict.specs.declared.fault.TraceFault.{TraceFault}
 use Rattle.verdict.specs.Limits.{max_conditions, max_mutexes}
 use Rattle.judge_report.specs.declared.tracing.Explained.{Explained}
 use Rattle.judge_report.specs.declared.tracing.Untraced.{Untraced}
@@ -23,6 +21,8 @@ use Rattle.picture.specs.declared.drawing.Unwritten.TheVariants as unwritten
 use Rattle.script.specs.Scope.{Scope}
 use Rattle.draw_report.specs.declared.asking.Kind.{Kind}
 use Rattle.draw_report.specs.declared.history.Drawing.{Drawing}
+use Rattle.draw_report.specs.declared.messages.Excess.{Excess}
+use Rattle.draw_report.specs.declared.messages.Excess.TheVariants.{Mutexes, Conditions, Uncounted}
 use Rattle.draw_report.specs.declared.messages.Failure.{Failure}
 use Rattle.draw_report.specs.declared.messages.Failure.TheVariants.{Usage, CannotRead, CannotWrite, OutOfMemory}
 use Rattle.draw_report.specs.declared.messages.Failure.TheVariants.{Script, Unlike, UnlikeHistory, Trace, History, Undecided, Unfit}
@@ -46,8 +46,10 @@ abbrev pub fits : Explained → Bool
 fits x = nat_le x.head.mutexes max_mutexes && (nat_le x.head.conditions max_conditions
     && list_all (is_inside x.head.threads x.head.mutexes) x.lines.items)
 
-abbrev pub unfit_fault : TraceFault
-unfit_fault = record { line = 1; fault = OutOfRange }
+-- what one that doesn't fit has too much of
+abbrev pub excess_of : Explained → Excess
+excess_of x = if nat_lt max_mutexes x.head.mutexes then Mutexes
+    else (if nat_lt max_conditions x.head.conditions then Conditions else Uncounted)
 
 -- the trace that shows a history, with as many things and the same lines, and what is said of the history
 pub record IsDrawingOf (x : Explained) (d : Drawing) : Type 0 where
@@ -75,7 +77,7 @@ pub record IsHistoryPicture (kind : Kind) (script : Option Scope) (bytes p : Lis
 -- why it has no drawing: a trace may not have that much of something, or memory
 abbrev pub IsUndrawable : Explained → Failure → Type 0
 IsUndrawable x OutOfMemory = Unit {0}
-IsUndrawable x (Unfit e) = (e ≡ unfit_fault) × (fits x ≡ false)
+IsUndrawable x (Unfit e) = (e ≡ excess_of x) × (fits x ≡ false)
 IsUndrawable x f = ⊥
 
 -- ---- what was drawn
@@ -93,9 +95,9 @@ abbrev pub IsHistoryUnlike : Option Scope → List ℕ → Type 0
 IsHistoryUnlike script bytes = (x : Explained) × IsShownOf bytes x × (d : Drawing) × IsDrawingOf x d
     × (is_like script d.trace.head ≡ false)
 
--- a trace of it has more of something than a trace may have
-abbrev pub IsUnfit : List ℕ → TraceFault → Type 0
-IsUnfit bytes e = (e ≡ unfit_fault) × ((x : Explained) × IsShownOf bytes x × (fits x ≡ false))
+-- it has more of this than a trace may have
+abbrev pub IsUnfit : List ℕ → Excess → Type 0
+IsUnfit bytes e = (x : Explained) × IsShownOf bytes x × (e ≡ excess_of x) × (fits x ≡ false)
 
 -- it isn't decided at the line with this number, of this event
 abbrev pub IsUndecided : List ℕ → ℕ → ℕ → Type 0

@@ -7,6 +7,8 @@ use Rattle.script.specs.declared.fault.ScriptFault.{ScriptFault}
 use Rattle.script.specs.Faults as script_faults
 use Rattle.verdict.specs.declared.fault.TraceFault.{TraceFault}
 use Rattle.verdict.specs.Faults as trace_faults
+use Rattle.draw_report.specs.declared.messages.Excess.{Excess}
+use Rattle.draw_report.specs.declared.messages.Excess.TheVariants.{Mutexes, Conditions, Uncounted}
 use Rattle.draw_report.specs.declared.messages.Failure.{Failure}
 use Rattle.draw_report.specs.declared.messages.Failure.TheVariants.{Usage, CannotRead, CannotWrite}
 use Rattle.draw_report.specs.declared.messages.Failure.TheVariants.{OutOfMemory, Script, Unlike, UnlikeHistory, Trace, History, Undecided, Unfit}
@@ -25,14 +27,19 @@ abbrev pub trace_text : TraceFault → List ℕ
 trace_text e =
     fault_text (codes "rfx-draw: line ") e.line (trace_faults.number_of e.fault) (trace_faults.words_of e.fault)
 
--- of a history, as the judge of histories does; and of the trace that it writes of one
+-- of a history, as the judge of histories does
 abbrev pub history_text : HistoryFault → List ℕ
 history_text e =
     fault_text (codes "rfx-draw: line ") e.line (history_faults.number_of e.fault) (history_faults.words_of e.fault)
 
-abbrev pub unfit_text : TraceFault → List ℕ
-unfit_text e = fault_text (codes "rfx-draw: trace of the history: line ") e.line (trace_faults.number_of e.fault)
-    (trace_faults.words_of e.fault)
+-- what of a history's first line can't be drawn
+abbrev pub excess_words : Excess → List ℕ
+excess_words Mutexes = codes "more than 4096 mutexes"
+excess_words Conditions = codes "more than 256 condition variables"
+excess_words Uncounted = codes "fewer threads or mutexes than its calls name"
+
+abbrev pub unfit_text : Excess → List ℕ
+unfit_text e = concat (codes "rfx-draw: cannot draw the history: line 1: " ∷ excess_words e ∷ codes "\n" ∷ [])
 
 -- an undecided history has no trace
 abbrev pub undecided_text : ℕ → ℕ → List ℕ

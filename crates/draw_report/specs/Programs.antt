@@ -2,7 +2,7 @@
 --
 -- *What `rfx-draw` did.* The picture of the trace or the history in the file that the words name, or why not; with the names of the
 -- script that they name (`called_by`, `is_like`, `GivesScript`; `Names.antt`, `Scripts.antt`), as `parse` reads it.
-use Rattle.std.specs.Prelude.{ℕ, ◌≡◌, ◌≢◌, ◌⊎◌, List, [], Option, Some, None}
+use Rattle.std.specs.Prelude.{ℕ, ◌≡◌, ◌≢◌, ◌⊎◌, List, [], ◌∷◌, codes, Option, Some, None}
 use Rattle.std.specs.Prelude.{Result, Ok, Err, Vec, String, map, string_bytes}
 use Rattle.std.specs.declared.io.Error.{Error}
 use Rattle.std.specs.declared.alloc.Global.{Global}
@@ -13,7 +13,7 @@ use Rattle.streams.specs.Leaves.{AppendsFront}
 use Rattle.draw_report.specs.declared.asking.Kind.{Kind}
 use Rattle.draw_report.specs.declared.messages.Failure.{Failure}
 use Rattle.draw_report.specs.declared.messages.Failure.TheVariants.{Usage, CannotRead, CannotWrite, OutOfMemory}
-use Rattle.draw_report.specs.Asked.{Asked, Drawing, Meaning, Nothing}
+use Rattle.draw_report.specs.Asked.{AskFor, Asked, Drawing, Meaning, Nothing}
 use Rattle.draw_report.specs.Legend.{legend}
 use Rattle.draw_report.specs.Messages.{failure_text, failure_status}
 use Rattle.draw_report.specs.Reading.{asked_of}
@@ -89,7 +89,7 @@ abbrev pub RunEnds : (List ℕ → Result (Option (List ℕ)) ErrorKind → Type
 RunEnds Opens a old new LetGo Quiet told told' status =
     AskedEnds Opens a old new LetGo Quiet told told' status ⊎ ((new ≡ old) × IsTold [] OutOfMemory told told' status)
 
--- ---- the law
+-- ---- the laws
 
 -- it ended with status 0 only after all that was asked for was written, and let go of, and nothing was reported: a picture,
 -- or what the signs mean
@@ -101,3 +101,19 @@ pub record IsWhole (a : Asked) (LetGo Quiet : Type 0) : Type 0 where
 pub record SuccessIsWhole (Opens : List ℕ → Result (Option (List ℕ)) ErrorKind → Type 0) (LetGo Quiet : Type 0) : Type 0 where
   pub whole : (a : Asked) (old new told told' : Option (List ℕ)) (status : ℕ)
       → RunEnds Opens a old new LetGo Quiet told told' status → status ≡ 0 → IsWhole a LetGo Quiet
+
+-- nothing was written, and the usage is reported, with status 2; or memory for the words was refused, and that is
+abbrev pub IsRefused : Option (List ℕ) → Option (List ℕ) → Option (List ℕ) → Option (List ℕ) → ℕ → Type 0
+IsRefused old new told told' status = (new ≡ old)
+    × (((status ≡ 2)
+    × AppendsFront told told'
+    (codes "usage: rfx-draw [--svg | --html] [--script SCRIPT] [FILE] (in any order) | --legend\n"))
+    ⊎ ((status ≡ 1) × AppendsFront told told' (codes "rfx-draw: out of memory\n")))
+
+-- so is a command line whose words after the first ask for nothing: they aren't those of a picture's parts, in whatever
+-- order, nor `--legend` alone
+pub record OtherWordsAreRefused (Opens : List ℕ → Result (Option (List ℕ)) ErrorKind → Type 0) (LetGo Quiet : Type 0)
+    : Type 0 where
+  pub refused : (program : List ℕ) (words : List (List ℕ)) (old new told told' : Option (List ℕ)) (status : ℕ)
+      → ((a : Asked) → AskFor words a → ⊥) → RunEnds Opens (asked_of (program ∷ words)) old new LetGo Quiet told told' status
+      → IsRefused old new told told' status

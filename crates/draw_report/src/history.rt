@@ -4,20 +4,20 @@ ghost use Rattle.std.specs.Prelude.{◌≡◌, ◌≤◌, IfErr, IfOk, OnOk, fal
 ghost use Rattle.std.specs.List.{list_all};
 ghost use Rattle.verdict.specs.Told.{IsWithin};
 ghost use Rattle.histories.specs.Reading.{IsHead};
-ghost use Rattle.draw_report.specs.Histories.{DrawsHistory, FailsHistory, IsDrawingOf, IsUndrawable, fits, is_inside};
-ghost use Rattle.draw_report.specs.Histories.{is_mutex, judged_in, unfit_fault, untraced_by};
+ghost use Rattle.draw_report.specs.Histories.{DrawsHistory, FailsHistory, IsDrawingOf, IsUndrawable, excess_of, fits};
+ghost use Rattle.draw_report.specs.Histories.{is_inside, is_mutex, judged_in, untraced_by};
 ghost use Rattle.draw_report.specs.Served.{judged_by};
 
 use crate::asking::Kind;
 use crate::drawing::{Outcome, draw_named, undrawn_by};
-use crate::messages::Failure;
+use crate::messages::{Excess, Failure};
 use crate::names::is_like;
 use facts::{Fact, Line};
 use judge_report::{Explained, Untraced, explain_history};
 use script::Script;
 use std::alloc::Global;
 use streams::Output;
-use verdict::{Fault, Head, MAX_CONDITIONS, MAX_MUTEXES, Told, TraceFault};
+use verdict::{Head, MAX_CONDITIONS, MAX_MUTEXES, Told};
 
 /// A history's trace, and what is said of an illegal history.
 #[derive(Drop)]
@@ -40,14 +40,17 @@ fn untraced_by(why: Untraced) -> Failure
     }
 }
 
-/// What a history whose trace has too much of something is reported as.
-fn unfit() -> Failure
-    ensures { result ≡ Failure.Unfit unfit_fault }
+/// What a history that doesn't fit has too much of.
+fn excess_of(history: &Explained) -> Excess
+    ensures { result ≡ excess_of history.now }
 {
-    Failure::Unfit(TraceFault {
-        line: 1,
-        fault: Fault::OutOfRange,
-    })
+    if history.head.mutexes > MAX_MUTEXES {
+        Excess::Mutexes
+    } else if history.head.conditions > MAX_CONDITIONS {
+        Excess::Conditions
+    } else {
+        Excess::Uncounted
+    }
 }
 
 /// Whether the mutex of a point or a death is one of that many.
@@ -108,7 +111,7 @@ fn drawing_of(history: Explained) -> Result<Drawing, Failure>
     ensures fails { IfErr result (IsUndrawable history) }
 {
     if !fits(&history) {
-        return Err(unfit());
+        return Err(Failure::Unfit(excess_of(&history)));
     }
     let Explained { head, lines, said } = history;
     let Ok(last) = u32::try_from(lines.len()) else {

@@ -2,7 +2,8 @@
 
 ghost use Rattle.std.specs.Prelude.{◌≡◌};
 ghost use Rattle.streams.specs.Leaves.{AppendsFront, Leaves};
-ghost use Rattle.draw_report.specs.Messages.{failure_status, failure_text, fault_text, history_text, script_text};
+ghost use Rattle.draw_report.specs.Messages.{excess_words, failure_status, failure_text, fault_text, history_text};
+ghost use Rattle.draw_report.specs.Messages.{script_text};
 ghost use Rattle.draw_report.specs.Messages.{trace_text, undecided_text, unfit_text};
 
 use histories::HistoryFault;
@@ -23,6 +24,15 @@ const UNLIKE_HISTORY: &str =
 
 /// Memory was refused.
 pub const OUT_OF_MEMORY: &str = "rfx-draw: out of memory\n";
+
+/// What a history has more of than a trace may have, or than its first line counts.
+#[derive(Clone, Copy, Debug, PartialEq, Eq)]
+pub enum Excess {
+    Mutexes,
+    Conditions,
+    /// A line names a thread or a mutex that the first line doesn't count.
+    Uncounted,
+}
 
 /// Why no picture, or not all of it, was written.
 #[derive(Clone, Copy)]
@@ -47,8 +57,8 @@ pub enum Failure {
     History(HistoryFault),
     /// The history is undecided at this line, with this event's number, so it has no trace.
     Undecided { line: u64, event: u64 },
-    /// The history's trace has more of something than a trace may have.
-    Unfit(TraceFault),
+    /// The history has more of something than a trace may have.
+    Unfit(Excess),
 }
 
 /// A fault with its line and its number. `start` is what stands before them.
@@ -111,17 +121,28 @@ fn write_history_fault<E: Write>(err: &mut E, at: HistoryFault) -> io::Result<()
     write_fault(err, start, at.line, at.fault.number(), at.fault.words())
 }
 
-/// `rfx-draw: trace of the history: line L: fault N: TEXT`.
-fn write_unfit<E: Write>(err: &mut E, at: TraceFault) -> io::Result<()>
-    ensures { Leaves (E.contents err.old) (E.contents err.new) result (unfit_text at) }
+/// What of a history's first line can't be drawn.
+fn excess_words(excess: Excess) -> &'static str
+    ensures { result.now ≡ excess_words excess }
 {
-    let start = "rfx-draw: trace of the history: line ";
-    write_fault(
+    match excess {
+        Excess::Mutexes => "more than 4096 mutexes",
+        Excess::Conditions => "more than 256 condition variables",
+        Excess::Uncounted => "fewer threads or mutexes than its calls name",
+    }
+}
+
+/// `rfx-draw: cannot draw the history: line 1: TEXT`.
+fn write_unfit<E: Write>(err: &mut E, excess: Excess) -> io::Result<()>
+    ensures { Leaves (E.contents err.old) (E.contents err.new) result (unfit_text excess) }
+{
+    put(
         err,
-        start,
-        at.line as u64,
-        at.fault.number(),
-        at.fault.words(),
+        &[
+            "rfx-draw: cannot draw the history: line 1: ",
+            excess_words(excess),
+            "\n",
+        ],
     )
 }
 
@@ -156,7 +177,7 @@ fn write_failure<E: Write>(err: &mut E, file: &str, failure: Failure) -> io::Res
         Failure::Trace(at) => write_trace_fault(err, at),
         Failure::History(at) => write_history_fault(err, at),
         Failure::Undecided { line, event } => write_undecided(err, line, event),
-        Failure::Unfit(at) => write_unfit(err, at),
+        Failure::Unfit(excess) => write_unfit(err, excess),
     }
 }
 

@@ -1,11 +1,9 @@
-use Rattle.std.proofs.Common.{refl, sym, subst, ◌∙◌}
-use Rattle.draw_report.specs.declared.messages.Failure.{Failure}
-use Rattle.draw_report.specs.Histories.{IsUndrawable}
+use Rattle.std.proofs.Common.{sym, ◌∙◌}
 use Rattle.draw_report.proofs.Histories.{few_conditions, few_mutexes}
 use Rattle.draw_report.proofs.history.drawing_of.Goals as goal
 
 pub returns-then-not-fits-clause-fails : goal.returns-then-not-fits-clause-fails
-returns-then-not-fits-clause-fails c = subst (λ (f : Failure). IsUndrawable c.args.history f) (sym c.unfit.ensures) (refl, sym c.fits.ensures ∙ c.if-not-fits.true)
+returns-then-not-fits-clause-fails c = (c.excess_of.ensures, sym c.fits.ensures ∙ c.if-not-fits.true)
 
 pub head_of-head-requires-clause-mutexes : goal.head_of-head-requires-clause-mutexes
 head_of-head-requires-clause-mutexes c = few_mutexes c.args.history cc

@@ -1,8 +1,10 @@
-use Rattle.std.proofs.Common.{subst}
+use Rattle.std.proofs.Common.{List, ℕ, ◌∷◌, [], subst}
 use Rattle.std.specs.Prelude.{codes}
+use Rattle.std.specs.List.{concat}
 use Rattle.streams.specs.Leaves.{Leaves}
-use Rattle.draw_report.specs.Messages.{fault_text}
 use Rattle.draw_report.proofs.messages.write_unfit.Goals as goal
 
 pub returns : goal.returns
-returns g c = subst (Leaves (g.E.Write.contents c.args.err.now) (g.E.Write.contents c.write_fault.new.err) c.write_fault.result) (λ i. fault_text (codes "rfx-draw: trace of the history: line ") c.args.at.line (c.number.ensures i) (c.words.ensures i)) c.write_fault.ensures
+returns g c =
+    subst (λ (words : List ℕ). Leaves (g.E.Write.contents c.args.err.now) (g.E.Write.contents c.put.new.out) c.put.result (concat (codes "rfx-draw: cannot draw the history: line 1: " ∷ words ∷ codes "\n" ∷ [])))
+    c.excess_words.ensures c.put.ensures
