@@ -26,8 +26,8 @@ fn item(call: Call) -> Item {
     }
 }
 
-/// Of two threads the first locks the mutex and unlocks it. The second one isn't in the lists: it has no calls, and may
-/// not be killed.
+/// A plan for two threads, of which the first locks the mutex and unlocks it. The second one isn't in the lists: it has
+/// no calls, and may not be killed.
 fn plan_of(alloc: Global, layout: Layout, kills: u8) -> Result<Plan, AllocError> {
     let items = vec![in alloc; item(Call::Lock(0)), item(Call::Unlock(0))]?;
     let mut threads = Vec::new(alloc);
