@@ -1,5 +1,5 @@
--- A refused first look is a whole call of the machine, with the same reply.
-use Rattle.std.proofs.Common.{◌≡◌, ℕ, ◌<◌, ◌≤◌, ◌==◌, Bool, true, false, Some, List, [], ◌∷◌, ◌++◌, length, refl, sym, ap, ◌∙◌, subst, arith, eqb-true, eq-eqb}
+-- A first look that decides its call is a whole call of the machine, with the same point.
+use Rattle.std.proofs.Common.{◌≡◌, ℕ, ◌<◌, ◌≤◌, ◌==◌, Bool, true, false, Option, Some, None, List, [], ◌∷◌, ◌++◌, length, refl, sym, ap, ◌∙◌, subst, arith, eqb-true, eq-eqb}
 use Rattle.std.specs.Prelude.{if◌then◌else◌, nat_lt, not, ◌&&◌}
 use Rattle.std.proofs.lemmas.Bool.Decides.{nat_tests}
 use Rattle.lockword.specs.Cells.{fields_of}
@@ -8,6 +8,7 @@ use Rattle.lockword.specs.declared.reply.Reply.TheVariants.{EBUSY, EDEADLK, EINV
 use Rattle.stepprograms.specs.declared.access.Access.{Access}
 use Rattle.stepprograms.specs.declared.access.Answer.TheVariants.{Value}
 use Rattle.posixmutex.specs.Objects.{acquires}
+use Rattle.posixmutex.specs.declared.point.Decision.{Decision}
 use Rattle.posixmutex.specs.declared.point.Operation.{Operation}
 use Rattle.posixmutex.specs.declared.point.Operation.TheVariants as op
 use Rattle.memorymap.specs.Layouts.{Layout', cell_place, place_in}
@@ -32,7 +33,7 @@ use Rattle.condvar.specs.Wait.{wait_sees}
 use Rattle.condvar.specs.Whole.{cond_access, cond_led, from_words}
 use Rattle.condvar.specs.declared.op.Op.{Op}
 use Rattle.condvar.specs.declared.op.Op.TheVariants.{OnMutex, OnCondition}
-use Rattle.condvar.specs.Ops.{acts_as, may_call, mutex_of, operation_of}
+use Rattle.condvar.specs.Ops.{acts_as, condition_of, may_call, mutex_of, operation_of}
 use Rattle.protocol.specs.declared.event.Event.{Event}
 use Rattle.protocol.specs.declared.event.Event.TheVariants.{Begin, Step}
 use Rattle.protocol.specs.declared.thread.Stage.{Stage}
@@ -43,8 +44,7 @@ use Rattle.protocol.proofs.CondSteps.{cond_of}
 use Rattle.protocol.proofs.Queued.{in_none}
 use Rattle.protocol.proofs.Seeing.{cell_in, cell_again}
 use Rattle.slots.specs.Places.{cell_of}
-use Rattle.slots.specs.Rows.{Choice, How, Row, about}
-use Rattle.slots.specs.Rows.How.{Tried, Later, Waited}
+use Rattle.slots.specs.Rows.{Choice, Row}
 use Rattle.slots.specs.Rows.Giving.{OfUnlock}
 use Rattle.slots.specs.Shown.{Slots, begin, shown}
 use Rattle.slots.specs.Words.{is_free}
@@ -58,10 +58,10 @@ use Rattle.slots.specs.Accesses.{IsAtRow}
 use Rattle.slots.specs.Further.{IsOfCell}
 use Rattle.slots.specs.Each.{Assumes}
 use Rattle.slots.specs.Goes.{AssumesToo, Grants}
-use Rattle.slots.specs.Replies.{Deed, Progress, after_deed, counts_as, decided, lock_progress, locks, replied, reply, returned, tried}
+use Rattle.slots.specs.Replies.{Deed, counts_as, decided, deed, locks, tried}
 use Rattle.slots.specs.Replies.Deed.{Nothing, Decides}
 use Rattle.slots.specs.Premises.{Trusts}
-use Rattle.slots.specs.Refused.{IsWholeCall, RefusalsAreTheMachines, last_reply, may_refuse, operation_at}
+use Rattle.slots.specs.Refused.{AreSteps, IsWholeCall, RefusalsAreTheMachines, condition_at, last_reply, may_refuse}
 use Rattle.slots.proofs.FirstLeads.{marked_waits, none_mends, other_broadcasts, other_mends, other_signals, other_unlock, other_waits}
 use Rattle.slots.proofs.Following.{begins_steady, layout_then, steady_run}
 use Rattle.slots.proofs.Free.{reached_kept, reached_queued}
@@ -72,7 +72,7 @@ use Rattle.slots.proofs.Releasing as releasing
 use Rattle.slots.proofs.Returns.{call_returns, cond_returns}
 use Rattle.slots.proofs.Steady.{Steady, granted}
 
-module _ (x : Slots) (t : ℕ) (c : Choice) (at : IsAtRow x t) (y : Reply) where
+module _ (x : Slots) (t : ℕ) (c : Choice) (at : IsAtRow x t) (d : Decision) where
   abbrev z : State
   z = x.machine
 
@@ -82,42 +82,36 @@ module _ (x : Slots) (t : ℕ) (c : Choice) (at : IsAtRow x t) (y : Reply) where
   abbrev h : ℕ
   h = (z.threads t).held
 
-  abbrev late : Bool
-  late = x.overdue t
-
   inv : Kept z
   inv = reached_kept z at.reached
 
   abbrev word : ℕ → ℕ
   word m = shown x (cell_place z.layout (cell_of m))
 
-  abbrev Whole : Operation → ℕ → List Event → Type 0
-  Whole o m es = IsWholeCall z t es o m y
+  abbrev Whole : Option ℕ → List Event → Type 0
+  Whole k es = IsWholeCall z d k es
 
-  -- a look that refuses the call, or doesn't decide it
-  two : (w : Operation) (m : ℕ) (b : Bool) (p : Progress) (e f : Deed) (n o : Made) → (b ≡ true → replied late (after_deed p e) ≡ Some y → Whole w m n.events) → (b ≡ false → replied late (after_deed p f) ≡ Some y → Whole w m o.events)
-      → replied late (after_deed p (if b then e else f)) ≡ Some y → Whole w m (if b then n else o).events
-  two w m true p e f n o first second = first refl
-  two w m false p e f n o first second = second refl
+  -- a look that decides the call, or doesn't
+  two : (k : Option ℕ) (b : Bool) (e f : Deed) (n o : Made) → (b ≡ true → e ≡ Decides d → Whole k n.events) → (b ≡ false → f ≡ Decides d → Whole k o.events) → (if b then e else f) ≡ Decides d → Whole k (if b then n else o).events
+  two k true e f n o first second = first refl
+  two k false e f n o first second = second refl
+
+  abbrev point_of : Deed → Decision
+  point_of (Decides e) = e
+  point_of e = d
 
   -- a whole call, which returns that
-  whole_call : (o : Op) (m : ℕ) (es : List Event) → mutex_of z.layout o ≡ cell_of m → last_reply z (Begin t o ∷ es) ≡ Some y → Whole (acts_as o) m (Begin t o ∷ es)
-  whole_call o m es of returns = record { call = o; steps = es; begins = refl; acts = refl; mutex = of; returns = returns }
+  whole_call : (o : Op) (m : ℕ) (y : Reply) (es : List Event) → AreSteps t es → mutex_of z.layout o ≡ cell_of m → last_reply z (Begin t o ∷ es) ≡ Some y → Decides (decided t m (acts_as o) y) ≡ Decides d → Whole (condition_of o) (Begin t o ∷ es)
+  whole_call o m y es steps of returns same = subst (λ (e : Decision). IsWholeCall z e (condition_of o) (Begin t o ∷ es)) (ap point_of same)
+      (record { call = o; steps = es; begins = refl; goes = steps; acts = refl; mutex = of; condition = refl; returns = returns })
 
-  whole_wait : (m k : ℕ) (timed : Bool) → IsOfCell z.layout m k → last_reply z (wait_begins x t c k timed) ≡ Some y → Whole op.Wait m (wait_begins x t c k timed)
-  whole_wait m k true of returns = whole_call (OnCondition (wait_of k true)) m (Step t ∷ []) of.cell returns
-  whole_wait m k false of returns = whole_call (OnCondition (wait_of k false)) m (Step t ∷ []) of.cell returns
+  whole_wait : (m k : ℕ) (timed : Bool) (y : Reply) → IsOfCell z.layout m k → last_reply z (wait_begins x t c k timed) ≡ Some y → Decides (decided t m op.Wait y) ≡ Decides d → Whole (Some k) (wait_begins x t c k timed)
+  whole_wait m k true y of returns same = whole_call (OnCondition (wait_of k true)) m y (Step t ∷ []) (refl, tt) of.cell returns same
+  whole_wait m k false y of returns same = whole_call (OnCondition (wait_of k false)) m y (Step t ∷ []) (refl, tt) of.cell returns same
 
-  whole_count : (m k : ℕ) (all : Bool) → IsOfCell z.layout m k → last_reply z (refused_count x t c k all) ≡ Some y → Whole (counts_as all) m (refused_count x t c k all)
-  whole_count m k true of returns = whole_call (OnCondition (cond_call.Broadcast k)) m (Step t ∷ []) of.cell returns
-  whole_count m k false of returns = whole_call (OnCondition (cond_call.Signal k)) m (Step t ∷ []) of.cell returns
-
-  undecided : (i : How) (wrong : Bool) → replied late (lock_progress i wrong) ≡ Some y → ⊥
-  undecided Tried true e = absurd cc
-  undecided Tried false e = absurd cc
-  undecided Later true e = absurd cc
-  undecided Later false e = absurd cc
-  undecided (Waited k) wrong e = absurd cc
+  whole_count : (m k : ℕ) (all : Bool) (y : Reply) → IsOfCell z.layout m k → last_reply z (refused_count x t c k all) ≡ Some y → Decides (decided t m (counts_as all) y) ≡ Decides d → Whole (Some k) (refused_count x t c k all)
+  whole_count m k true y of returns same = whole_call (OnCondition (cond_call.Broadcast k)) m y (Step t ∷ []) (refl, tt) of.cell returns same
+  whole_count m k false y of returns same = whole_call (OnCondition (cond_call.Signal k)) m y (Step t ∷ []) (refl, tt) of.cell returns same
 
   -- ---- calls on a mutex
 
@@ -129,14 +123,6 @@ module _ (x : Slots) (t : ℕ) (c : Choice) (at : IsAtRow x t) (y : Reply) where
 
   below : (k : ℕ) → k < z.layout.mutexes → nat_lt k z.layout.mutexes ≡ true
   below k inside = grind (arith, nat_tests)
-
-  tries_same : (b : Bool) → returned (if b then ENOTRECOVERABLE else EBUSY) late ≡ (if b then ENOTRECOVERABLE else EBUSY)
-  tries_same true = refl
-  tries_same false = refl
-
-  mends_same : (b : Bool) → returned (if b then EINVAL else EPERM) late ≡ (if b then EINVAL else EPERM)
-  mends_same true = refl
-  mends_same false = refl
 
   mends : (m : ℕ) → g ≡ Idle → cell_of m < z.layout.mutexes → ((fields_of (word m)).owner == t && (fields_of (word m)).died) ≡ false
       → last_reply z (Begin t (OnMutex (call.Consistent (cell_of m))) ∷ Step t ∷ []) ≡ Some (if (fields_of (word m)).owner == t then EINVAL else EPERM)
@@ -178,32 +164,32 @@ module _ (x : Slots) (t : ℕ) (c : Choice) (at : IsAtRow x t) (y : Reply) where
   other_owns : (m : ℕ) → cell_of m < z.layout.mutexes → ((fields_of (word m)).owner == t) ≡ false → ((fields_at z (cell_of m)).owner == t) ≡ false
   other_owns m inside other = ap (λ (n : ℕ). n == t) (sym (cell_says x m inside).owner) ∙ other
 
-  refused_row : (r : Row) → StandsAs r g → Assumes x t r → AssumesToo x t r → may_refuse r ≡ true → reply x t c r ≡ Some y → Whole (operation_at r) (about r) (made x t c r).events
-  refused_row (Row.Looks k) is (inside, room) too may = two op.Lock k.mutex ((fields_of (word k.mutex)).owner == t) (lock_progress k.how k.wrong) (locks t k.mutex EDEADLK) Nothing
+  refused_row : (r : Row) → StandsAs r g → Assumes x t r → AssumesToo x t r → may_refuse r ≡ true → deed x t c r ≡ Decides d → Whole (condition_at r) (made x t c r).events
+  refused_row (Row.Looks k) is (inside, room) too may = two None ((fields_of (word k.mutex)).owner == t) (locks t k.mutex EDEADLK) Nothing
       (makes (Access.Load (cell_in z.layout t (cell_of k.mutex))) (begins t (call.TimedLock (cell_of k.mutex)) ++ Step t ∷ Step t ∷ []) Row.Rests) (makes (Access.Load (cell_in z.layout t (cell_of k.mutex))) [] (Row.Pends k (word k.mutex)))
-      (λ own e. whole_call (OnMutex (call.TimedLock (cell_of k.mutex))) k.mutex (Step t ∷ Step t ∷ Step t ∷ []) refl ((own_lock x t c at k.mutex is inside room (sym (cell_says x k.mutex inside).owner ∙ eqb-true (fields_of (word k.mutex)).owner t own)).returns ∙ e)) (λ other e. absurd (undecided k.how k.wrong e))
-  refused_row (Row.TryLooks m) is (inside, room) too may = two op.TryLock m (is_free (word m)) (Progress.Called op.TryLock) Nothing (tried t m (word m))
+      (λ own. whole_call (OnMutex (call.TimedLock (cell_of k.mutex))) k.mutex EDEADLK (Step t ∷ Step t ∷ Step t ∷ []) (refl, (refl, (refl, tt))) refl (own_lock x t c at k.mutex is inside room (sym (cell_says x k.mutex inside).owner ∙ eqb-true (fields_of (word k.mutex)).owner t own)).returns) (λ other e. absurd cc)
+  refused_row (Row.TryLooks m) is (inside, room) too may = two None (is_free (word m)) Nothing (tried t m (word m))
       (makes (Access.Load (cell_in z.layout t (cell_of m))) [] (Row.TryPends m (word m))) (makes (Access.Load (cell_in z.layout t (cell_of m))) (begins t (call.TryLock (cell_of m)) ++ Step t ∷ Step t ∷ []) Row.Rests)
       (λ free e. absurd cc)
-      (λ taken e. whole_call (OnMutex (call.TryLock (cell_of m))) m (Step t ∷ Step t ∷ Step t ∷ []) refl ((no_try x t c at m is inside room ((λ i. (sym (cell_says x m inside).owner i == 0) && not (sym (cell_says x m inside).unusable i)) ∙ taken)).returns
-      ∙ (λ i. Some (if sym (cell_says x m inside).unusable i then ENOTRECOVERABLE else EBUSY)) ∙ ap Some (sym (tries_same (fields_of (word m)).unusable)) ∙ e))
-  refused_row (Row.GiveLooks m) is inside too may = two op.Unlock m ((fields_of (word m)).owner == t) (Progress.Called op.Unlock) Nothing (Decides (decided t m op.Unlock EPERM))
+      (λ taken. whole_call (OnMutex (call.TryLock (cell_of m))) m (if (fields_of (word m)).unusable then ENOTRECOVERABLE else EBUSY) (Step t ∷ Step t ∷ Step t ∷ []) (refl, (refl, (refl, tt))) refl ((no_try x t c at m is inside room ((λ i. (sym (cell_says x m inside).owner i == 0) && not (sym (cell_says x m inside).unusable i)) ∙ taken)).returns
+      ∙ (λ i. Some (if sym (cell_says x m inside).unusable i then ENOTRECOVERABLE else EBUSY))))
+  refused_row (Row.GiveLooks m) is inside too may = two None ((fields_of (word m)).owner == t) Nothing (Decides (decided t m op.Unlock EPERM))
       (makes (Access.Load (cell_in z.layout t (cell_of m))) [] (Row.GivePends m (OfUnlock (fields_of (word m)).died))) (makes (Access.Load (cell_in z.layout t (cell_of m))) (Begin t (OnMutex (call.Unlock (cell_of m))) ∷ Step t ∷ []) Row.Rests)
       (λ own e. absurd cc)
-      (λ other e. whole_call (OnMutex (call.Unlock (cell_of m))) m (Step t ∷ []) refl (ends_first (call.Unlock (cell_of m)) (cell_of m) EPERM is inside (below (cell_of m) inside) refl refl
-      (ap (from_cell (whole.begins z.layout t (call.Unlock (cell_of m)))) (other_unlock t (fields_at z (cell_of m)) (other_owns m inside other))) ∙ e))
-  refused_row (Row.MendLooks m) is inside too may = two op.Consistent m (((fields_of (word m)).owner == t) && (fields_of (word m)).died) (Progress.Called op.Consistent) Nothing (Decides (decided t m op.Consistent (if (fields_of (word m)).owner == t then EINVAL else EPERM)))
+      (λ other. whole_call (OnMutex (call.Unlock (cell_of m))) m EPERM (Step t ∷ []) (refl, tt) refl (ends_first (call.Unlock (cell_of m)) (cell_of m) EPERM is inside (below (cell_of m) inside) refl refl
+      (ap (from_cell (whole.begins z.layout t (call.Unlock (cell_of m)))) (other_unlock t (fields_at z (cell_of m)) (other_owns m inside other)))))
+  refused_row (Row.MendLooks m) is inside too may = two None (((fields_of (word m)).owner == t) && (fields_of (word m)).died) Nothing (Decides (decided t m op.Consistent (if (fields_of (word m)).owner == t then EINVAL else EPERM)))
       (makes (Access.Load (cell_in z.layout t (cell_of m))) [] (Row.Mends m)) (makes (Access.Load (cell_in z.layout t (cell_of m))) (Begin t (OnMutex (call.Consistent (cell_of m))) ∷ Step t ∷ []) Row.Rests)
-      (λ own e. absurd cc) (λ refused e. whole_call (OnMutex (call.Consistent (cell_of m))) m (Step t ∷ []) refl (mends m is inside refused ∙ ap Some (sym (mends_same ((fields_of (word m)).owner == t))) ∙ e))
+      (λ own e. absurd cc) (λ refused. whole_call (OnMutex (call.Consistent (cell_of m))) m (if (fields_of (word m)).owner == t then EINVAL else EPERM) (Step t ∷ []) (refl, tt) refl (mends m is inside refused))
   refused_row (Row.AnewLooks m) is a too may = λ e. absurd cc
-  refused_row (Row.WaitLooks m k timed) is a (of, inside) may = two op.Wait m ((fields_of (word m)).owner == t) (Progress.Called op.Wait) Nothing (Decides (decided t m op.Wait EPERM))
+  refused_row (Row.WaitLooks m k timed) is a (of, inside) may = two (Some k) ((fields_of (word m)).owner == t) Nothing (Decides (decided t m op.Wait EPERM))
       (makes (Access.Load (cell_in z.layout t (cell_of m))) [] (Row.WaitCounts m k timed (fields_of (word m)).died)) (makes (Access.Load (cell_in z.layout t (cell_of m))) (wait_begins x t c k timed) Row.Rests)
-      (λ own e. absurd cc) (λ other e. whole_wait m k timed of (waits m k timed EPERM is of inside (other_waits t (fields_at z (cell_of m)) (other_owns m inside other)) ∙ e))
-  refused_row (Row.WaitCounts m k timed true) is a (of, owns, died) may = λ e. whole_wait m k timed of (waits m k timed XSTATE is of owns.inside (marked_waits t (fields_at z (cell_of m)) (eq-eqb (fields_at z (cell_of m)).owner t owns.owner) died) ∙ e)
+      (λ own e. absurd cc) (λ other. whole_wait m k timed EPERM of (waits m k timed EPERM is of inside (other_waits t (fields_at z (cell_of m)) (other_owns m inside other))))
+  refused_row (Row.WaitCounts m k timed true) is a (of, owns, died) may = whole_wait m k timed XSTATE of (waits m k timed XSTATE is of owns.inside (marked_waits t (fields_at z (cell_of m)) (eq-eqb (fields_at z (cell_of m)).owner t owns.owner) died))
   refused_row (Row.WaitCounts m k timed false) is a too may = λ e. absurd cc
-  refused_row (Row.CountLooks m k all) is a (of, inside) may = two (counts_as all) m ((fields_of (word m)).owner == t) (Progress.Called (counts_as all)) Nothing (Decides (decided t m (counts_as all) EPERM))
+  refused_row (Row.CountLooks m k all) is a (of, inside) may = two (Some k) ((fields_of (word m)).owner == t) Nothing (Decides (decided t m (counts_as all) EPERM))
       (makes (Access.Load (cell_in z.layout t (cell_of m))) [] (Row.CountLoads m k all)) (makes (Access.Load (cell_in z.layout t (cell_of m))) (refused_count x t c k all) Row.Rests)
-      (λ own e. absurd cc) (λ other e. whole_count m k all of (counts m k all is of inside (other_owns m inside other) ∙ e))
+      (λ own e. absurd cc) (λ other. whole_count m k all EPERM of (counts m k all is of inside (other_owns m inside other)))
   refused_row r is a too may = absurd cc
 
 -- neither bound is asked of these rows
@@ -219,10 +205,10 @@ no_few x t (Row.CountLooks m k all) may = record { few = tt; counts = tt }
 no_few x t r may = absurd cc
 
 pub refusals_are : RefusalsAreTheMachines
-refusals_are l hs t c y is pos known trusted lives awake may e =
+refusals_are l hs t c d is pos known trusted lives awake may e =
     let st : Steady (reached l hs) = steady_run (begin l) hs (begins_steady l is) trusted in
     let here : t ≤ (reached l hs).machine.layout.threads = subst (λ (k : Layout'). t ≤ k.threads) (sym (layout_then (begin l) hs (begins_steady l is) trusted)) known in
     let few = no_few (reached l hs) t ((reached l hs).rows t) may in
     let grant : Grants (reached l hs) (Goes t c) = granted (reached l hs) t pos here st c few in
-    refused_row (reached l hs) t c (record { reached = st.reached; first = pos; last = here; there = st.there t pos here lives; about = grant.0; out = in_none (reached l hs).machine t (reached_queued (reached l hs).machine st.reached) awake }) y
+    refused_row (reached l hs) t c (record { reached = st.reached; first = pos; last = here; there = st.there t pos here lives; about = grant.0; out = in_none (reached l hs).machine t (reached_queued (reached l hs).machine st.reached) awake }) d
     ((reached l hs).rows t) (st.there t pos here lives) grant.1 grant.2 may e

@@ -2,22 +2,22 @@
 use Rattle.std.specs.Prelude.{ℕ, ◌≡◌, ◌≤◌, Bool, true, false, Option, Some, None, List, [], ◌∷◌}
 use Rattle.lockword.specs.declared.reply.Reply.{Reply}
 use Rattle.memorymap.specs.Layouts.{Layout', IsLayout}
-use Rattle.posixmutex.specs.declared.point.Operation.{Operation}
-use Rattle.posixmutex.specs.declared.point.Operation.TheVariants as op
+use Rattle.posixmutex.specs.declared.point.Decision.{Decision}
 use Rattle.condvar.specs.declared.op.Op.{Op}
-use Rattle.condvar.specs.Ops.{acts_as, mutex_of}
+use Rattle.condvar.specs.Ops.{acts_as, condition_of, mutex_of}
 use Rattle.protocol.specs.declared.event.Event.{Event}
-use Rattle.protocol.specs.declared.event.Event.TheVariants.{Begin}
+use Rattle.protocol.specs.declared.event.Event.TheVariants.{Begin, Step}
 use Rattle.protocol.specs.declared.note.Note.{Note}
 use Rattle.protocol.specs.declared.note.Note.TheVariants.{Stepped}
 use Rattle.protocol.specs.Machine.{State, happens, is_alive, is_asleep}
 use Rattle.slots.specs.Places.{cell_of}
-use Rattle.slots.specs.Rows.{Choice, Row, about}
+use Rattle.slots.specs.Rows.{Choice, Row}
 use Rattle.slots.specs.Shown.{begin}
 use Rattle.slots.specs.Table.{made}
 use Rattle.slots.specs.Runs.{Happening, is_first_row, reached}
 use Rattle.slots.specs.Premises.{AllTrusted}
-use Rattle.slots.specs.Replies.{counts_as, reply}
+use Rattle.slots.specs.Replies.{deed}
+use Rattle.slots.specs.Replies.Deed.{Decides}
 
 -- what a call of the machine returns at an event that is noted so
 abbrev pub noted_reply : Note → Option Reply
@@ -35,32 +35,36 @@ abbrev pub may_refuse : Row → Bool
 may_refuse (Row.WaitCounts m k timed died) = true
 may_refuse r = is_first_row r
 
--- the operation of a call that is there
-abbrev pub operation_at : Row → Operation
-operation_at (Row.Looks k) = op.Lock
-operation_at (Row.TryLooks m) = op.TryLock
-operation_at (Row.GiveLooks m) = op.Unlock
-operation_at (Row.MendLooks m) = op.Consistent
-operation_at (Row.WaitLooks m k timed) = op.Wait
-operation_at (Row.WaitCounts m k timed died) = op.Wait
-operation_at (Row.CountLooks m k all) = counts_as all
-operation_at r = op.Reinit
+-- the condition variable of a call that is there
+abbrev pub condition_at : Row → Option ℕ
+condition_at (Row.WaitLooks m k timed) = Some k
+condition_at (Row.WaitCounts m k timed died) = Some k
+condition_at (Row.CountLooks m k all) = Some k
+condition_at r = None
 
--- These events are a whole call of the machine: it begins, acts as operation o on the cell of our mutex m, and returns y
-pub record IsWholeCall (s : State) (t : ℕ) (es : List Event) (o : Operation) (m : ℕ) (y : Reply) : Type 0 where
+-- each of these events is a step of thread t
+abbrev pub AreSteps : ℕ → List Event → Type 0
+AreSteps t [] = Unit {0}
+AreSteps t (e ∷ es) = (e ≡ Step t) × AreSteps t es
+
+-- These events are a whole call of the machine, whose point is d, a point of ours: the call begins, and makes steps. It is of
+-- the same thread, acts as the same operation on our mutex's cell, and returns the same reply; k is its condition variable
+pub record IsWholeCall (s : State) (d : Decision) (k : Option ℕ) (es : List Event) : Type 0 where
   pub call : Op
   pub steps : List Event
-  pub begins : es ≡ Begin t call ∷ steps
-  pub acts : acts_as call ≡ o
-  pub mutex : mutex_of s.layout call ≡ cell_of m
-  pub returns : last_reply s es ≡ Some y
+  pub begins : es ≡ Begin d.thread call ∷ steps
+  pub goes : AreSteps d.thread steps
+  pub acts : acts_as call ≡ d.operation
+  pub mutex : mutex_of s.layout call ≡ cell_of d.mutex
+  pub condition : condition_of call ≡ k
+  pub returns : last_reply s es ≡ Some d.reply
 
--- In any run, if a call is refused there, the events of that look are a call of the machine, of the same operation, which
--- returns the same reply. So that call has begun, as the thread was in no call before
+-- In any run, if a call is decided there, the events of that look are a call of the machine, with the same point. So that call
+-- has begun, as the thread was in no call before
 abbrev pub RefusalsAreTheMachines : Type 0
-RefusalsAreTheMachines = (l : Layout') (hs : List Happening) (t : ℕ) (c : Choice) (y : Reply) → IsLayout l → 1 ≤ t → t ≤ l.threads
+RefusalsAreTheMachines = (l : Layout') (hs : List Happening) (t : ℕ) (c : Choice) (d : Decision) → IsLayout l → 1 ≤ t → t ≤ l.threads
     → AllTrusted (begin l) hs → is_alive ((reached l hs).machine.threads t).stage ≡ true
     → is_asleep (reached l hs).machine t ≡ false → may_refuse ((reached l hs).rows t) ≡ true
-    → reply (reached l hs) t c ((reached l hs).rows t) ≡ Some y
-    → IsWholeCall (reached l hs).machine t (made (reached l hs) t c ((reached l hs).rows t)).events
-    (operation_at ((reached l hs).rows t)) (about ((reached l hs).rows t)) y
+    → deed (reached l hs) t c ((reached l hs).rows t) ≡ Decides d
+    → IsWholeCall (reached l hs).machine d (condition_at ((reached l hs).rows t))
+    (made (reached l hs) t c ((reached l hs).rows t)).events

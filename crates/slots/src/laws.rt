@@ -539,8 +539,9 @@ pub fn wrong_deadlines_are_refused()
     ensures { WrongDeadlinesAreRefused }
 {}
 
-/// In any run, a call that is refused at its first look is a whole call of the machine, of the same operation on the mutex's
-/// cell, which returns the same reply at that moment. So the machine's history has each refused call.
+/// In any run, a call that is decided at its first look is a whole call of the machine, with the same point: of the same
+/// thread and operation on the mutex's cell, with the same reply, and of the same condition variable. So the machine's
+/// history has each refused call.
 #[tactic(auto, using(crate::proofs::Refused::refusals_are))]
 pub fn refusals_are_the_machines()
     ensures { RefusalsAreTheMachines }

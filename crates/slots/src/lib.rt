@@ -25,8 +25,8 @@
 //! - *Replies* (`specs/Replies.antt`): `calls_begin_undecided`, `calls_decide_once`: each call takes effect at one access,
 //!   its point. `calls_are_one_history`: the points and the deaths that Linux marks are one legal history.
 //!   `calls_return_their_points` (`specs/Outcomes.antt`): a call returns its point's reply, and a late wait ETIMEDOUT for OK;
-//!   `counts_are_signals`: counts rise by signals and broadcasts. `refusals_are_the_machines` (`specs/Refused.antt`): a refused
-//!   first look is a whole call of the machine.
+//!   `counts_are_signals`: counts rise by signals and broadcasts. `refusals_are_the_machines` (`specs/Refused.antt`): a first
+//!   look that decides its call is a whole call of the machine.
 //! - *Deadlines* (`specs/Deadlines.antt`): `no_call_times_out_early`; `wrong_deadlines_are_refused` (`specs/Outcomes.antt`): a
 //!   lock whose deadline isn't a time never waits.
 //! - *Progress* (`specs/Alone.antt`): `lone_calls_come_to_rest`.
