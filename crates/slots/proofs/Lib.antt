@@ -96,6 +96,7 @@ pub mod DueOn
 pub mod DueDeeds
 pub mod DueRuns
 pub mod HappensTo
+pub mod Few
 pub mod Outcomes
 pub mod Signals
 pub mod Returns

@@ -1,5 +1,5 @@
--- Accesses of the C library that are several events of the machine at one moment, and what these events leave.
-use Rattle.std.specs.Prelude.{ℕ, ◌≡◌, ◌≢◌, ◌<◌, ◌≤◌, ◌+◌, true, false, [], ◌∷◌}
+-- Accesses of the C library that are several events of the machine at one moment, how many, and what these events leave.
+use Rattle.std.specs.Prelude.{ℕ, ◌≡◌, ◌≢◌, ◌<◌, ◌≤◌, ◌+◌, true, false, [], ◌∷◌, length}
 use Rattle.lockword.specs.Cells.{fields_of, word_of, taken}
 use Rattle.lockword.specs.declared.reply.Reply.{Reply}
 use Rattle.lockword.specs.declared.reply.Reply.TheVariants.{ETIMEDOUT}
@@ -22,6 +22,10 @@ use Rattle.slots.specs.Table.{made}
 use Rattle.slots.specs.Invariant.{fields_at, IsHeir}
 use Rattle.slots.specs.Laws.{IsEvents, IsReached}
 use Rattle.protocol.specs.declared.event.Event.TheVariants.{Step}
+
+-- an access is eight events at most, whatever it finds
+abbrev pub AccessesAreFew : Type 0
+AccessesAreFew = (x : Slots) (t : ℕ) (c : Choice) (r : Row) → length (made x t c r).events ≤ 8
 
 -- thread t is in the machine's lock of mutex k, at its load, and in no queue
 pub record IsAtLock (s : State) (t k : ℕ) : Type 0 where

@@ -24,7 +24,7 @@ ghost use Rattle.slots.specs.Outcomes.{CallsReturnTheirPoints, CountsAreSignals,
 ghost use Rattle.slots.specs.Late.{AccessesFindTheSame, LateMemoryTellsTheSame};
 ghost use Rattle.slots.specs.Refused.{RefusalsAreTheMachines};
 ghost use Rattle.slots.specs.Replies.{CallsAreOneHistory, CallsBeginUndecided, CallsDecideOnce};
-ghost use Rattle.slots.specs.Moments.{AnnouncingIsOneStore, GivingUpIsALook, GivingUpLeavesNothing};
+ghost use Rattle.slots.specs.Moments.{AccessesAreFew, AnnouncingIsOneStore, GivingUpIsALook, GivingUpLeavesNothing};
 ghost use Rattle.slots.specs.Moments.{HeirTakesAreEvents, HeirsGoOn, LastLooksAreEvents, TakesAreOneExchange};
 ghost use Rattle.slots.specs.Moments.{TakesAreTheExchange};
 
@@ -138,6 +138,12 @@ pub fn giving_up_leaves_nothing()
 /// A look after which a lock gives up changes nothing in memory as it is shown: it is a load.
 pub fn giving_up_is_a_look()
     ensures { GivingUpIsALook }
+{}
+
+/// An access is eight events of the machine at most, whatever it finds.
+#[tactic(auto, using(crate::proofs::Few::accesses_few))]
+pub fn accesses_are_few()
+    ensures { AccessesAreFew }
 {}
 
 /// Load and exchange of the machine's lock at one moment, if nobody owns the mutex, change the mutex's word alone, as one

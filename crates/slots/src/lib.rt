@@ -30,7 +30,7 @@
 //! - *Deadlines* (`specs/Deadlines.antt`): `no_call_times_out_early`; `wrong_deadlines_are_refused` (`specs/Outcomes.antt`): a
 //!   lock whose deadline isn't a time never waits.
 //! - *Progress* (`specs/Alone.antt`): `lone_calls_come_to_rest`.
-//! - *Several events at one moment*: `giving_up_leaves_nothing`, `giving_up_is_a_look`, `takes_are_one_exchange`,
+//! - *Several events at one moment*: `accesses_are_few`, `giving_up_leaves_nothing`, `giving_up_is_a_look`, `takes_are_one_exchange`,
 //!   `takes_are_the_exchange`, `announcing_is_one_store`.
 //! - *Newer kernels*, whose walks make one more wake: `wakes_without_waiters_wake_nobody`, `rouses_nobody`,
 //!   `any_kernel_will_do`.
@@ -53,8 +53,8 @@
 mod laws;
 
 pub use laws::{
-    accesses_are_made_so, accesses_find_the_same, accesses_of_runs_are_events, all_hold,
-    announced_releases_are_events, announcing_is_one_store, announcing_rows_are_events,
+    accesses_are_few, accesses_are_made_so, accesses_find_the_same, accesses_of_runs_are_events,
+    all_hold, announced_releases_are_events, announcing_is_one_store, announcing_rows_are_events,
     any_kernel_will_do, awake_is_cleared, awake_is_set, calls_are_one_history,
     calls_begin_undecided, calls_decide_once, calls_return_their_points, clearing_rows_are_events,
     counts_are_events, counts_are_signals, deaths_leave_all, deaths_leave_heirs,
