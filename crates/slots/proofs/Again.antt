@@ -77,7 +77,7 @@ module _ (x : Slots) (t : ℕ) (c : Choice) (at : IsAtRow x t) where
   again_row (Row.Late k) (p, is, phase) about again = again_so k.mutex (Row.Late k) (Row.LateSees k) (record { awake = λ a. refl; slept = λ a. refl; turns = λ d a. refl }) (is_pending k.mutex _ p _ is phase refl refl)
   again_row (Row.HeirPends k Again) (p, is, phase) about again = again_so k.mutex (Row.HeirPends k Again) (Row.HeirSets k) (record { awake = λ a. refl; slept = λ a. refl; turns = λ d a. refl }) (is_pending k.mutex _ p _ is phase refl refl)
   again_row (Row.HeirPendsOn k v over) (p, is, phase) about again = again_so k.mutex (Row.HeirPendsOn k v over) (made x t c (Row.HeirPendsOn k v over)).next (record { awake = λ a. refl; slept = λ a. refl; turns = λ d a. refl }) (is_pending k.mutex _ p _ is phase refl refl)
-  again_row (Row.WaitAsleep m k n timed) (o, p, is, of, acts, phase) about again = again_so m (Row.WaitAsleep m k n timed) (made x t c (Row.WaitAsleep m k n timed)).next (record { awake = λ a. refl; slept = λ a. refl; turns = λ d a. refl }) (is_pending m _ p _ is phase (subst (IsAbout x.machine.layout m) is about) refl)
+  again_row (Row.WaitAsleep m k n timed) ((o, p, is, of, acts, phase), due) about again = again_so m (Row.WaitAsleep m k n timed) (made x t c (Row.WaitAsleep m k n timed)).next (record { awake = λ a. refl; slept = λ a. refl; turns = λ d a. refl }) (is_pending m _ p _ is phase (subst (IsAbout x.machine.layout m) is about) refl)
   again_row r there about again = absurd again
 
 pub pending_again : PendingAgainIsNoEvent

@@ -121,7 +121,7 @@ module _ (g : Stage) where
   standing_lives (Row.Trims m is) there = in_call _ _ there
   standing_lives (Row.WaitSets m k n timed) there = at_words _ _ there
   standing_lives (Row.WaitSleeps m k n timed) there = at_words _ _ there
-  standing_lives (Row.WaitAsleep m k n timed) there = retaking k _ there
+  standing_lives (Row.WaitAsleep m k n timed) there = retaking k _ there.0
   standing_lives (Row.WaitLate m k n) there = retaking k _ there
   standing_lives (Row.CountWakes m k n) there = at_words _ _ there
   standing_lives (Row.AllMarks m k n) (seen, same, there) = at_words _ _ there

@@ -7,7 +7,7 @@ use Rattle.protocol.specs.declared.thread.Stage.{Stage}
 use Rattle.slots.specs.Places.{cell_of, our_mutexes}
 use Rattle.slots.specs.Rows.{How, Row}
 use Rattle.slots.specs.Rows.How.{Tried, Later, Waited}
-use Rattle.slots.specs.Runs.{is_first, is_of, is_ours, may_call}
+use Rattle.slots.specs.Runs.{is_first, is_of, is_ours, may_be_due, may_call}
 use Rattle.slots.specs.Fits.{AreOfUs, Fits}
 
 record Three (a b c : Bool) : Type 0 where
@@ -40,7 +40,7 @@ of_us l m k e = let three = all_three (is_ours l m) (nat_lt k (length l.conditio
 }
 
 pub calls_fit : (l : Layout') (t held : ℕ) (r : Row) (g : Stage) → may_call l held r ≡ true → Fits l t r g
-calls_fit l t held (Row.Looks k) g e = let three = all_three (is_first k.how) (is_ours l k.mutex) (nat_lt held 2046) e in let tried : k.how ≡ Tried = first_how k.how three.one in
+calls_fit l t held (Row.Looks k) g e = let three = all_three (is_first k.how) (is_ours l k.mutex) (nat_lt held 2046) (first_of (is_first k.how && is_ours l k.mutex && nat_lt held 2046) (may_be_due k) e) in let tried : k.how ≡ Tried = first_how k.how three.one in
     (record { ours = is_less k.mutex (our_mutexes l) three.two; wait = λ z waited. absurd (cc (sym tried ∙ waited)) }, tried)
 calls_fit l t held (Row.TryLooks m) g e = is_less m (our_mutexes l) (first_of (is_ours l m) (nat_lt held 2046) e)
 calls_fit l t held (Row.GiveLooks m) g e = is_less m (our_mutexes l) e

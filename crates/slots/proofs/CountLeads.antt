@@ -35,7 +35,7 @@ use Rattle.protocol.specs.declared.event.Event.TheVariants.{Step, Remake}
 use Rattle.protocol.specs.declared.thread.Thread.{Thread}
 use Rattle.protocol.specs.declared.thread.Stage.{Stage}
 use Rattle.protocol.specs.declared.thread.Stage.TheVariants.{Idle, Calling, AtCondition}
-use Rattle.protocol.specs.Machine.{State, put, run, stage_after}
+use Rattle.protocol.specs.Machine.{State, is_timed, put, run, stage_after}
 use Rattle.protocol.proofs.Kept.{Kept}
 use Rattle.protocol.proofs.CondSteps.{cond_of}
 use Rattle.protocol.proofs.Puts.{put-same}
@@ -45,7 +45,7 @@ use Rattle.slots.specs.Rows.{Choice, Row}
 use Rattle.slots.specs.Rows.Giving.{OfUnlock}
 use Rattle.slots.specs.Shown.{Slots, shown}
 use Rattle.slots.specs.Stands.RepliesAs.{Same}
-use Rattle.slots.specs.Stands.{IsAtWords, IsIn, IsRetaking, StandsAs, at_load}
+use Rattle.slots.specs.Stands.{IsAtWords, IsIn, StandsAs}
 use Rattle.slots.specs.Seen.{frees, wait_of}
 use Rattle.slots.specs.Table.{Made, counted, counted_row, count_begins, giving_begins, makes, woke_row}
 use Rattle.slots.specs.Invariant.{fields_at}
@@ -129,8 +129,8 @@ module _ (x : Slots) (t : ℕ) (c : Choice) (at : IsAtRow x t) where
 
   -- ---- a wait's sleep
 
-  wait_sleeps_so : (m k n : ℕ) (timed : Bool) (o : CondCall) → condition_of o ≡ k → acts_as o ≡ operation.Wait → IsAtWord z t o (CondPhase.AtWords (cond_row.Wait (wait.Sleep n))) → IsRetaking k at_load ((run z (Step t ∷ [])).threads t).stage
-  wait_sleeps_so m k n timed o of acts a = go (z.words spot % 2 ^ 32 == n) refl
+  wait_sleeps_so : (m k n : ℕ) (timed : Bool) (o : CondCall) → condition_of o ≡ k → acts_as o ≡ operation.Wait → (timed ≡ true → is_timed (OnCondition o) ≡ true) → IsAtWord z t o (CondPhase.AtWords (cond_row.Wait (wait.Sleep n))) → StandsAs (Row.WaitAsleep m k n timed) ((run z (Step t ∷ [])).threads t).stage
+  wait_sleeps_so m k n timed o of acts due a = go (z.words spot % 2 ^ 32 == n) refl
     where
       spot : ℕ
       spot = counter_place z.layout (condition_of o)
@@ -155,12 +155,12 @@ module _ (x : Slots) (t : ℕ) (c : Choice) (at : IsAtRow x t) where
       slept b e = cond_more z t [] z.words z.queues o asleep h at.first at.last l (Access.Wait (counter_in z.layout t (condition_of o)) n) spot z.words (put z.queues spot (if b then z.queues spot ++ t ∷ [] else z.queues spot)) (condition.onward (CondPhase.Locking lock)) (on (Calling (OnCondition o) lock) h)
           refl there tt (put_back z.words spot) (ap (λ (d : Bool). put z.queues spot (if d then z.queues spot ++ t ∷ [] else z.queues spot)) e) (leads (z.words spot % 2 ^ 32 == n)) refl (unmoved (acts_as o) h) (all_still z z.words)
 
-      go : (b : Bool) → (z.words spot % 2 ^ 32 == n) ≡ b → IsRetaking k at_load ((run z (Step t ∷ [])).threads t).stage
-      go b e = led (Step t ∷ []) _ _ _ (Row.WaitAsleep m k n timed) (slept b e) (o, lock, refl, of, acts, refl)
+      go : (b : Bool) → (z.words spot % 2 ^ 32 == n) ≡ b → StandsAs (Row.WaitAsleep m k n timed) ((run z (Step t ∷ [])).threads t).stage
+      go b e = led (Step t ∷ []) _ _ _ (Row.WaitAsleep m k n timed) (slept b e) ((o, lock, refl, of, acts, refl), due)
 
   pub wait_sleeps_lead : (m k n : ℕ) (timed : Bool) → IsAtWords (wait_of k timed) (cond_row.Wait (wait.Sleep n)) g → LeadsOn x t c (Row.WaitSleeps m k n timed)
-  wait_sleeps_lead m k n true (p, is, phase) = wait_sleeps_so m k n true (wait_of k true) refl refl (is_at_word z t (wait_of k true) p _ inv at.first at.last is phase)
-  wait_sleeps_lead m k n false (p, is, phase) = wait_sleeps_so m k n false (wait_of k false) refl refl (is_at_word z t (wait_of k false) p _ inv at.first at.last is phase)
+  wait_sleeps_lead m k n true (p, is, phase) = wait_sleeps_so m k n true (wait_of k true) refl refl (λ e. refl) (is_at_word z t (wait_of k true) p _ inv at.first at.last is phase)
+  wait_sleeps_lead m k n false (p, is, phase) = wait_sleeps_so m k n false (wait_of k false) refl refl (λ e. absurd cc) (is_at_word z t (wait_of k false) p _ inv at.first at.last is phase)
 
   -- ---- the announcement of a release
 

@@ -143,6 +143,8 @@ module _ (x y : Slots) (t : ℕ) (c : Choice) where
   Needs (Row.WaitCounts m k timed died) = Knows (made x t c (Row.WaitCounts m k timed died)).next
   Needs (Row.GivePends m y) = Knows (made x t c (Row.GivePends m y)).next
   Needs (Row.GiveUnlinks m y) = Knows (made x t c (Row.GiveUnlinks m y)).next
+  Needs (Row.GiveFinds m y) = Knows (made x t c (Row.GiveFinds m y)).next
+  Needs (Row.WaitSets m k n timed) = Knows (made x t c (Row.WaitSets m k n timed)).next
   Needs (Row.CountLoads m k all) = Knows (made x t c (Row.CountLoads m k all)).next
   Needs (Row.Counts m k all n) = Knows (made x t c (Row.Counts m k all n)).next
   Needs (Row.CountWakes m k n) = Knows (made x t c (Row.CountWakes m k n)).next
@@ -191,11 +193,11 @@ module _ (x y : Slots) (t : ℕ) (c : Choice) where
   count_row (Row.TryTakes m v) needs = made_either (word (cell_of m) == v) (makes (Access.Exchange (address_in l t (cell_place l (cell_of m))) v (taken_word v t)) (Step t ∷ Step t ∷ []) (Row.Links m (acquired (fields_of v)))) (if is_free (word (cell_of m)) then makes (Access.Exchange (address_in l t (cell_place l (cell_of m))) v (taken_word v t)) [] (Row.TryTakes m (word (cell_of m))) else makes (Access.Exchange (address_in l t (cell_place l (cell_of m))) v (taken_word v t)) (Step t ∷ []) (Row.Clears m (if (fields_of (word (cell_of m))).unusable then ENOTRECOVERABLE else EBUSY))) tt
       (made_either (is_free (word (cell_of m))) (makes (Access.Exchange (address_in l t (cell_place l (cell_of m))) v (taken_word v t)) [] (Row.TryTakes m (word (cell_of m)))) (makes (Access.Exchange (address_in l t (cell_place l (cell_of m))) v (taken_word v t)) (Step t ∷ []) (Row.Clears m (if (fields_of (word (cell_of m))).unusable then ENOTRECOVERABLE else EBUSY))) tt tt)
   count_row (Row.GiveLooks m) needs = made_either ((fields_of (word (cell_of m))).owner == t) (makes (Access.Load (address_in l t (cell_place l (cell_of m)))) [] (Row.GivePends m (OfUnlock (fields_of (word (cell_of m))).died))) (makes (Access.Load (address_in l t (cell_place l (cell_of m)))) (Begin t (OnMutex (Unlock (cell_of m))) ∷ Step t ∷ []) Row.Rests) tt tt
-  count_row (Row.GiveFinds m y) needs = either c.again (Row.GiveFinds m y) (Row.Gives m y) tt tt
+  count_row (Row.GiveFinds m y) needs = needs
   count_row (Row.MendLooks m) needs = made_either (((fields_of (word (cell_of m))).owner == t) && (fields_of (word (cell_of m))).died) (makes (Access.Load (address_in l t (cell_place l (cell_of m)))) [] (Row.Mends m)) (makes (Access.Load (address_in l t (cell_place l (cell_of m)))) (Begin t (OnMutex (Consistent (cell_of m))) ∷ Step t ∷ []) Row.Rests) tt tt
   count_row (Row.AnewLooks m) needs = either (fields_of (word (cell_of m))).unusable (Row.Anews m (word (cell_of m))) Row.Rests tt tt
   count_row (Row.Anews m v) needs = made_either (word (cell_of m) == v) (makes (Access.Exchange (address_in l t (cell_place l (cell_of m))) v (v - 4294967296 + 8589934592)) (Remake t (cell_of m) ∷ []) Row.Rests) (makes (Access.Exchange (address_in l t (cell_place l (cell_of m))) v (v - 4294967296 + 8589934592)) [] (if (fields_of (word (cell_of m))).unusable then Row.Anews m (word (cell_of m)) else Row.Rests)) tt (either (fields_of (word (cell_of m))).unusable (Row.Anews m (word (cell_of m))) Row.Rests tt tt)
   count_row (Row.WaitLooks m k timed) needs = made_either ((fields_of (word (cell_of m))).owner == t) (makes (Access.Load (address_in l t (cell_place l (cell_of m)))) [] (Row.WaitCounts m k timed (fields_of (word (cell_of m))).died)) (makes (Access.Load (address_in l t (cell_place l (cell_of m)))) (wait_begins x t c k timed) Row.Rests) tt tt
-  count_row (Row.WaitSets m k n timed) needs = either c.yes (Row.GiveFinds m (OfWait k n true timed)) (Row.Gives m (OfWait k n true timed)) tt tt
+  count_row (Row.WaitSets m k n timed) needs = needs
   count_row (Row.CountLooks m k all) needs = made_either ((fields_of (word (cell_of m))).owner == t) (makes (Access.Load (address_in l t (cell_place l (cell_of m)))) [] (Row.CountLoads m k all)) (makes (Access.Load (address_in l t (cell_place l (cell_of m)))) (refused_count x t c k all) Row.Rests) tt tt
   count_row r needs = tt

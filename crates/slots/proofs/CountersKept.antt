@@ -6,7 +6,7 @@ use Rattle.lockword.specs.Cells.{bit}
 use Rattle.lockword.specs.Threads.{most_threads}
 use Rattle.stepprograms.specs.declared.access.Access.{Access}
 use Rattle.stepprograms.specs.Accesses.{is_nobody}
-use Rattle.memorymap.specs.Layouts.{Layout', address_in, counter_place, head_place, place_in}
+use Rattle.memorymap.specs.Layouts.{Layout', address_in, cell_place, counter_place, head_place, place_in}
 use Rattle.mutex.proofs.Addresses.{head_further, head_word_again}
 use Rattle.condvar.specs.Standings.{CondWhole}
 use Rattle.condvar.specs.Whole.{cond_access}
@@ -26,7 +26,7 @@ use Rattle.protocol.proofs.Puts.{put-other, put-same}
 use Rattle.protocol.proofs.Runs.{sound}
 use Rattle.protocol.proofs.Seeing.{cell_again, cell_in, counter_again}
 use Rattle.storebuffers.proofs.Staying.{owner_stays}
-use Rattle.slots.specs.Places.{cell_of}
+use Rattle.slots.specs.Places.{cell_of, slot_of}
 use Rattle.slots.specs.Rows.{Choice, Row}
 use Rattle.slots.specs.Rows.Giving.{OfUnlock, OfWait}
 use Rattle.slots.specs.Shown.{Slots, memory, shown}
@@ -61,6 +61,8 @@ shown_alike x y k n layout inside words slept is =
 pub sees_like : (x y : Slots) (t : ℕ) (r : Row) (g : Stage) → y.machine.layout ≡ x.machine.layout → Fits x.machine.layout t r g → ((m k : ℕ) → AreOfUs x.machine.layout m k → Owning x.machine t r → (fields_at x.machine (cell_of m)).owner ≡ t → (count_at y k ≡ count_at x k) × (y.slept k ≡ x.slept k)) → Owning x.machine t r → SeesCount x r → SeesCount y r
 sees_like x y t (Row.GivePends m (OfWait k n slept timed)) g layout o same own s = (same m k o own own.owner).0 ∙ s
 sees_like x y t (Row.GiveUnlinks m (OfWait k n slept timed)) g layout o same own s = (same m k o own own.owner).0 ∙ s
+sees_like x y t (Row.GiveFinds m (OfWait k n slept timed)) g layout o same own s = (same m k o own own.owner).0 ∙ s
+sees_like x y t (Row.Gives m (OfWait k n slept timed)) g layout o same own s = (same m k o own own.owner).0 ∙ s
 sees_like x y t (Row.WaitSets m k n timed) g layout o same own s = (same m k o own own.owner).0 ∙ s
 sees_like x y t (Row.Counts m k all n) g layout o same own s = let both = same m k o own own in shown_alike x y k n layout o.cell.inside both.0 both.1 s
 sees_like x y t (Row.CountWakes m k n) g layout o same own s = (same m k o own own).0 ∙ s
@@ -174,7 +176,7 @@ module _ (x y : Slots) (t : ℕ) (c : Choice) (inv : Kept x.machine) (pos : 1 �
   either false r s first second = second
 
   unlinked_sees : (m k n : ℕ) (slept timed : Bool) → count_at y k ≡ n → SeesCount y (unlinked_row x t c m (OfWait k n slept timed))
-  unlinked_sees m k n true timed is = either c.yes (Row.GiveFinds m (OfWait k n true timed)) (Row.Gives m (OfWait k n true timed)) tt tt
+  unlinked_sees m k n true timed is = either c.yes (Row.GiveFinds m (OfWait k n true timed)) (Row.Gives m (OfWait k n true timed)) is is
   unlinked_sees m k n false timed is = is
 
   unlinked_none : (m : ℕ) (d : Bool) → SeesCount y (unlinked_row x t c m (OfUnlock d))
@@ -187,6 +189,10 @@ module _ (x y : Slots) (t : ℕ) (c : Choice) (inv : Kept x.machine) (pos : 1 �
 
   store_then : (k v : ℕ) → k < length l.conditions → Is (Access.Store (address_in l t (counter_place l k)) v) → shown y (counter_place l k) ≡ v
   store_then k v inside is = is (counter_place l k) ∙ changes (memory x) t (counter_place l k) (Access.Store (address_in l t (counter_place l k)) v) tt (counter_again l t inv.layout pos known k inside) (counter_is_valid l k inside) (counter_place l k) ∙ put-same (shown x) (counter_place l k) v
+
+  -- SLEPT is set
+  sets_then : (k n : ℕ) → k < length l.conditions → count_at x k ≡ n → shown y (counter_place l k) ≡ n + 4294967296 → count_at y k ≡ n
+  sets_then k n inside sees is = behind_low k inside ∙ ap (λ (w : ℕ). w % 4294967296) is ∙ (let most : count_at x k ≤ 4294967295 = most_before k inside in let e : (n + 4294967296) % 4294967296 ≡ n = omega (arith, most, sees) in e)
 
   abbrev Leads : Made → Type 0
   Leads n = Is n.access → SeesCount y n.next
@@ -201,6 +207,11 @@ module _ (x y : Slots) (t : ℕ) (c : Choice) (inv : Kept x.machine) (pos : 1 �
   needs_row (Row.GiveUnlinks m (OfUnlock d)) g o there s slept is none = either (is_on_list ((run x.machine (Step t ∷ [])).threads t).stage) (Row.GiveUnlinks m (OfUnlock d)) (unlinked_row x t c m (OfUnlock d)) tt (unlinked_none m d)
   needs_row (Row.GiveUnlinks m (OfWait k n b timed)) g o there s slept is none = let same = alike k o.cell.inside (slept k) (by_place (made x t c (Row.GiveUnlinks m (OfWait k n b timed))).access k (wait_apart x.machine t inv pos known m k n b timed there (address_in l t (head_place t)) k) is) ∙ s in
       either (is_on_list ((run x.machine (Step t ∷ [])).threads t).stage) (Row.GiveUnlinks m (OfWait k n b timed)) (unlinked_row x t c m (OfWait k n b timed)) same (unlinked_sees m k n b timed same)
+  needs_row (Row.GiveFinds m (OfUnlock d)) g o there s slept is none = either c.again (Row.GiveFinds m (OfUnlock d)) (Row.Gives m (OfUnlock d)) tt tt
+  needs_row (Row.GiveFinds m (OfWait k n b timed)) g o there s slept is none = let same = alike k o.cell.inside (slept k) (by_reading (Access.Load (address_in l t (cell_place l (slot_of m)))) k tt is) ∙ s in
+      either c.again (Row.GiveFinds m (OfWait k n b timed)) (Row.Gives m (OfWait k n b timed)) same same
+  needs_row (Row.WaitSets m k n timed) g o there s slept is none = let same = sets_then k n o.cell.inside s (store_then k (n + 4294967296) o.cell.inside is) in
+      either c.yes (Row.GiveFinds m (OfWait k n true timed)) (Row.Gives m (OfWait k n true timed)) same same
   needs_row (Row.CountLoads m k all) g o there s slept is none = ap (shown y) (place_then k) ∙ by_reading (Access.Load (address_in l t (counter_place l k))) k tt is
   needs_row (Row.Counts m k all n) g o there s slept is none = counted_sees m k all (shows_slept x t c n) (counted x t c n % 4294967296) (behind_low k o.cell.inside ∙ ap (λ (w : ℕ). w % 4294967296) (store_then k (counted x t c n) o.cell.inside is))
   needs_row (Row.CountWakes m k n) g o there s slept is none = either (is_nobody (x.machine.queues (counter_place l k))) (Row.Unsets m k n) Row.Rests (alike k o.cell.inside (slept k) (by_reading (Access.Wake (address_in l t (counter_place l k)) 1) k tt is) ∙ s) tt

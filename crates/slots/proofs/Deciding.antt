@@ -31,7 +31,7 @@ use Rattle.slots.specs.Words.{shows_heir, taken_word, waiting_word}
 use Rattle.slots.specs.Seen.{retakes, seen_events, seen_row, seen_to_sleep, sets_and_expires, sleep_row, unusable_row}
 use Rattle.slots.specs.Table.{finds_row, refused_count, released, shows_slept, to_slot, tries, unlinked_row, wait_begins, watched_row, woke_row}
 use Rattle.slots.specs.Fits.{Fits}
-use Rattle.slots.specs.Runs.{is_first, is_ours, lapse_row}
+use Rattle.slots.specs.Runs.{is_first, is_ours, lapse_row, may_be_due}
 use Rattle.slots.specs.Replies.{CallsBeginUndecided, DecidesOnce, Deed, GoesOn, IsCalled, IsItsOwn, IsOfLock, MayDo, Progress, after_deed, counts_as, decided, deed, gave, late, lock_progress, locking, locks, looked, looked_first, looked_to_sleep, progress, refused_or, tried}
 use Rattle.slots.specs.Replies.Deed.{Nothing, Decides, Refuses}
 
@@ -359,13 +359,13 @@ module _ (x : Slots) (t : ℕ) (c : Choice) where
 -- ---- a call begins
 
 pub begins_called : CallsBeginUndecided
-begins_called l held (Row.Looks k) e = go k.how k.wrong (is_ours l k.mutex) (nat_lt held 2046) e
+begins_called l held (Row.Looks k) e = go k.how k.wrong (is_ours l k.mutex) (nat_lt held 2046) (may_be_due k) e
   where
-    go : (h : How) (wrong b d : Bool) → (is_first h && b && d) ≡ true → IsCalled (lock_progress h wrong)
-    go Tried true b d f = tt
-    go Tried false b d f = tt
-    go Later wrong b d f = absurd cc
-    go (Waited z) wrong b d f = absurd cc
+    go : (h : How) (wrong b d f : Bool) → (is_first h && b && d && f) ≡ true → IsCalled (lock_progress h wrong)
+    go Tried true b d f e = tt
+    go Tried false b d f e = tt
+    go Later wrong b d f e = absurd cc
+    go (Waited z) wrong b d f e = absurd cc
 begins_called l held (Row.TryLooks m) e = tt
 begins_called l held (Row.GiveLooks m) e = tt
 begins_called l held (Row.MendLooks m) e = tt

@@ -11,9 +11,14 @@ use Rattle.slots.specs.Runs.{Happening, at_row, is_resting, lapse_events, lapse_
 use Rattle.slots.specs.Runs.Happening.{Calls, Goes, Interrupts, Lapses, Dies, Walks, Lives}
 use Rattle.slots.specs.Goes.{who}
 use Rattle.slots.specs.Laws.{IsReached}
-use Rattle.slots.specs.Outcomes.{Call, call_after, gone_on}
+use Rattle.slots.specs.Deadlines.{has_deadline}
+use Rattle.slots.specs.Outcomes.{Call, call_after, gone_on, is_in_sleep, sleeps_until}
 use Rattle.slots.proofs.Leading.{by_test}
 use Rattle.slots.proofs.Others.{others_still}
+
+-- a call whose deadline passes in its sleep, or that sleeps on
+abbrev pub lapsed_on : Call → Bool → Call
+lapsed_on s b = if b then record s { passed = true } else s
 
 module _ (x : Slots) (t : ℕ) (h : Happening) where
   abbrev row : Row
@@ -24,7 +29,7 @@ module _ (x : Slots) (t : ℕ) (h : Happening) where
     Stays : (next x h).rows t ≡ row → (next x h).overdue t ≡ x.overdue t → ((s : Call) → call_after x t s h ≡ s) → HappensTo
     Starts : (held : ℕ) (r : Row) → is_resting row ≡ true → may_call x.machine.layout held r ≡ true → (next x h).rows t ≡ r → HappensTo
     GoesOn : (c : Choice) → (next x h).rows t ≡ (made x t c row).next → (next x h).overdue t ≡ overdue_after x t row → ((s : Call) → call_after x t s h ≡ gone_on x t c s) → HappensTo
-    Lapsed : (next x h).rows t ≡ lapse_row row → (next x h).overdue t ≡ x.overdue t → ((s : Call) → call_after x t s h ≡ s) → HappensTo
+    Lapsed : is_asleep x.machine t ≡ true → (next x h).rows t ≡ lapse_row row → (next x h).overdue t ≡ x.overdue t → ((s : Call) → call_after x t s h ≡ lapsed_on s (sleeps_until x t s.began)) → HappensTo
     Ends : (next x h).rows t ≡ Row.Rests → HappensTo
 
 module _ (x : Slots) (t : ℕ) where
@@ -49,7 +54,11 @@ module _ (x : Slots) (t : ℕ) where
       go false e = refl
   leaves_call (Calls u r) apart s = refl
   leaves_call (Interrupts u) apart s = refl
-  leaves_call (Lapses u) apart s = refl
+  leaves_call (Lapses u) apart s = go (u == t) refl
+    where
+      go : (b : Bool) → (u == t) ≡ b → lapsed_on s (b && sleeps_until x t s.began) ≡ s
+      go true e = absurd (apart (eqb-true u t e))
+      go false e = refl
   leaves_call (Dies u) apart s = refl
   leaves_call (Walks u) apart s = refl
   leaves_call (Lives u) apart s = refl
@@ -94,8 +103,10 @@ module _ (x : Slots) (t : ℕ) where
   lapses = go _ refl
     where
       go : (b : Bool) → is_asleep x.machine t ≡ b → HappensTo x t (Lapses t)
-      go true e = HappensTo.Lapsed (ap (λ (b : Bool). (if b then slept else x).rows t) e ∙ put-same x.rows t (lapse_row (x.rows t))) (ap (λ (b : Bool). (if b then slept else x).overdue t) e) (λ s. refl)
-      go false e = HappensTo.Stays (ap (λ (b : Bool). (if b then slept else x).rows t) e) (ap (λ (b : Bool). (if b then slept else x).overdue t) e) (λ s. refl)
+      go true e = HappensTo.Lapsed e (ap (λ (b : Bool). (if b then slept else x).rows t) e ∙ put-same x.rows t (lapse_row (x.rows t))) (ap (λ (b : Bool). (if b then slept else x).overdue t) e)
+          (λ s. ap (λ (b : Bool). lapsed_on s (b && sleeps_until x t s.began)) (eq-eqb t t refl))
+      go false e = HappensTo.Stays (ap (λ (b : Bool). (if b then slept else x).rows t) e) (ap (λ (b : Bool). (if b then slept else x).overdue t) e)
+          (λ s. ap (λ (b : Bool). lapsed_on s (b && sleeps_until x t s.began)) (eq-eqb t t refl) ∙ ap (λ (a : Bool). lapsed_on s (a && has_deadline s.began && is_in_sleep (x.rows t))) e)
 
   dies : HappensTo x t (Dies t)
   dies = go _ refl

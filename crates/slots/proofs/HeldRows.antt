@@ -36,7 +36,7 @@ use Rattle.slots.specs.Table.{counted, counted_row, given_row, refused_count, re
 use Rattle.slots.specs.Words.{taken_word, waiting_word}
 use Rattle.slots.specs.Seen.{seen_events, seen_row, seen_to_sleep, sets_and_expires, sleep_row}
 use Rattle.slots.specs.Table.{to_slot, tries, watched_row}
-use Rattle.slots.specs.Runs.{is_first, is_ours, may_call}
+use Rattle.slots.specs.Runs.{is_first, is_ours, may_be_due, may_call}
 use Rattle.slots.specs.Fits.{Fits, IsOurs}
 use Rattle.slots.specs.Accesses.{IsAlongList}
 use Rattle.slots.specs.Further.{GoesToSlot}
@@ -109,11 +109,15 @@ last_of : (a b : Bool) → (a && b) ≡ true → b ≡ true
 last_of true b e = e
 last_of false b e = absurd cc
 
+begins_in : (a b : Bool) → (a && b) ≡ true → a ≡ true
+begins_in true b e = refl
+begins_in false b e = absurd cc
+
 is_few : (n : ℕ) → nat_lt n 2046 ≡ true → n < 2046
 is_few n e = grind (arith, nat_tests)
 
 pub first_room : (l : Layout') (n : ℕ) (r : Row) → may_call l n r ≡ true → RoomAt n r
-first_room l n (Row.Looks k) e = is_few n (last_of (is_first k.how && is_ours l k.mutex) (nat_lt n 2046) e)
+first_room l n (Row.Looks k) e = is_few n (last_of (is_first k.how && is_ours l k.mutex) (nat_lt n 2046) (begins_in (is_first k.how && is_ours l k.mutex && nat_lt n 2046) (may_be_due k) e))
 first_room l n (Row.TryLooks m) e = is_few n (last_of (is_ours l m) (nat_lt n 2046) e)
 first_room l n (Row.GiveLooks m) e = tt
 first_room l n (Row.MendLooks m) e = tt

@@ -121,7 +121,7 @@ module _ (x : Slots) (t : ℕ) (reached : Kept x.machine) where
 
   pub lapses_so : (r : Row) → StandsAs r g → SleepsLater r → has_thread z t ≡ true → is_asleep z t ≡ true → StandsAs (lapse_row r) ((run z (lapse_events x t r)).threads t).stage
   lapses_so (Row.Asleep k) stands later there asleep = asleep_so k k.timed refl later there asleep stands
-  lapses_so (Row.WaitAsleep m k n true) stands later there asleep = by_test (λ (es : List Event). IsRetaking k at_load ((run z es).threads t).stage) (stands_in t (z.queues (counter_place z.layout k))) (Expire t ∷ []) (Leave t ∷ []) (λ e. wait_late k (Expire t) stands (inl refl)) (λ e. wait_late k (Leave t) stands (inr refl))
+  lapses_so (Row.WaitAsleep m k n true) stands later there asleep = by_test (λ (es : List Event). IsRetaking k at_load ((run z es).threads t).stage) (stands_in t (z.queues (counter_place z.layout k))) (Expire t ∷ []) (Leave t ∷ []) (λ e. wait_late k (Expire t) stands.0 (inl refl)) (λ e. wait_late k (Leave t) stands.0 (inr refl))
   lapses_so (Row.WaitAsleep m k n false) stands later there asleep = stands
   lapses_so r stands later there asleep = stands
 

@@ -452,8 +452,8 @@ module _ (x : Slots) (t : ℕ) (c : Choice) (at : IsAtRow x t) where
   lead_row (Row.Mends m) is about a leading = led (made x t c (Row.Mends m)).events _ z.queues _ Row.Rests (mending.declared x t c at (cell_of m) is a) refl
   lead_row (Row.AnewLooks m) is about a leading = either (fields_of (shown x (cell_place z.layout (cell_of m)))).unusable (Row.Anews m (shown x (cell_place z.layout (cell_of m)))) Row.Rests g is is
   lead_row (Row.WaitSets m k n timed) there about a leading = either c.yes (Row.GiveFinds m (OfWait k n true timed)) (Row.Gives m (OfWait k n true timed)) g there there
-  lead_row (Row.WaitAsleep m k n timed) there about a leading = there
-  lead_row (Row.WaitLate m k n) there about a leading = there
+  lead_row (Row.WaitAsleep m k n timed) there about a leading = there.0
+  lead_row (Row.WaitLate m k n) there about a leading = (there, λ e. absurd cc)
   lead_row (Row.CountLoads m k all) there about a leading = there
   lead_row (Row.AllMarks m k n) (seen, same, (p, is, phase)) about a leading = led (Step t ∷ []) _ z.queues _ (Row.AllMoves m k n)
       (marking.sets x t c at m k n seen (is_at_word z t (cond_call.Broadcast k) p (CondPhase.AtWords (cond_row.Broadcast (broadcast.SetWaiters seen))) inv at.first at.last is phase) (subst (IsAbout z.layout m) is about))

@@ -96,6 +96,10 @@ pub mod DueOn
 pub mod DueDeeds
 pub mod DueRuns
 pub mod HappensTo
+pub mod Origins
+pub mod Overdue
+pub mod Broadcasts
+pub mod Conditions
 pub mod Few
 pub mod Outcomes
 pub mod Signals

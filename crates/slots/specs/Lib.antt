@@ -1,5 +1,6 @@
 pub mod Accesses
 pub mod Alone
+pub mod Conditions
 pub mod Deadlines
 pub mod Each
 pub mod Fits
@@ -12,6 +13,7 @@ pub mod Late
 pub mod Laws
 pub mod Moments
 pub mod Outcomes
+pub mod Overdue
 pub mod Places
 pub mod Premises
 pub mod Refused

@@ -153,6 +153,8 @@ HeirTakesOver x t r = Unit {0}
 abbrev pub SeesCount : Slots → Row → Type 0
 SeesCount x (Row.GivePends m (OfWait k n slept timed)) = x.machine.words (counter_place x.machine.layout k) ≡ n
 SeesCount x (Row.GiveUnlinks m (OfWait k n slept timed)) = x.machine.words (counter_place x.machine.layout k) ≡ n
+SeesCount x (Row.GiveFinds m (OfWait k n slept timed)) = x.machine.words (counter_place x.machine.layout k) ≡ n
+SeesCount x (Row.Gives m (OfWait k n slept timed)) = x.machine.words (counter_place x.machine.layout k) ≡ n
 SeesCount x (Row.WaitSets m k n timed) = x.machine.words (counter_place x.machine.layout k) ≡ n
 SeesCount x (Row.Counts m k all n) = shown x (counter_place x.machine.layout k) ≡ n
 SeesCount x (Row.CountWakes m k n) = x.machine.words (counter_place x.machine.layout k) ≡ n

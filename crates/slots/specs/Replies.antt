@@ -35,7 +35,8 @@ use Rattle.slots.specs.Premises.{AllTrusted}
 
 -- ---- what an access does
 
--- Nothing; a wait's unlock; the call's point; or the call is refused for its argument, whatever the mutex
+-- Nothing; a wait's unlock; the call's point; or the call, which would have to wait, is refused for its deadline, and has no
+-- point
 pub data Deed : Type 0 where
   Nothing : Deed
   Unlocks : Decision → Deed

@@ -1,12 +1,12 @@
 -- What can happen: accesses of our calls, in any order; interruptions, timeouts and deaths at any moment; the kernel's
 -- walks; and ids that are used again.
-use Rattle.std.specs.Prelude.{ℕ, ◌%◌, ◌^◌, ◌==◌, ◌&&◌, not, nat_lt, length, slice_index, Bool, true, false, List, [], ◌∷◌, ◌++◌, if◌then◌else◌}
+use Rattle.std.specs.Prelude.{ℕ, ◌%◌, ◌^◌, ◌==◌, ◌&&◌, ◌||◌, not, nat_lt, length, slice_index, Bool, true, false, List, [], ◌∷◌, ◌++◌, if◌then◌else◌}
 use Rattle.memorymap.specs.Layouts.{Layout', counter_place}
 use Rattle.protocol.specs.declared.event.Event.{Event}
 use Rattle.protocol.specs.declared.event.Event.TheVariants.{Step, Kill, Leave, Expire, Renew}
 use Rattle.protocol.specs.Machine.{put, has_thread, is_alive, is_asleep, is_dying, stands_in}
 use Rattle.slots.specs.Places.{our_mutexes, cell_of, slot_of}
-use Rattle.slots.specs.Rows.{Choice, How, Row}
+use Rattle.slots.specs.Rows.{Choice, How, Row, Taking}
 use Rattle.slots.specs.Rows.How.{Tried}
 use Rattle.slots.specs.Shown.{Slots, begin, after, shown}
 use Rattle.slots.specs.Table.{Made, made}
@@ -76,8 +76,12 @@ abbrev pub is_first : How → Bool
 is_first Tried = true
 is_first h = false
 
+-- only a lock with a deadline has one that isn't a time
+abbrev pub may_be_due : Taking → Bool
+may_be_due k = k.timed || not k.wrong
+
 abbrev pub may_call : Layout' → ℕ → Row → Bool
-may_call l held (Row.Looks k) = is_first k.how && is_ours l k.mutex && nat_lt held 2046
+may_call l held (Row.Looks k) = is_first k.how && is_ours l k.mutex && nat_lt held 2046 && may_be_due k
 may_call l held (Row.TryLooks m) = is_ours l m && nat_lt held 2046
 may_call l held (Row.GiveLooks m) = is_ours l m
 may_call l held (Row.MendLooks m) = is_ours l m

@@ -29,7 +29,7 @@ use Rattle.condvar.specs.declared.op.Op.TheVariants.{OnMutex, OnCondition}
 use Rattle.protocol.specs.declared.thread.Stage.{Stage}
 use Rattle.protocol.specs.declared.thread.Stage.TheVariants.{Idle, Calling, AtCondition}
 use Rattle.protocol.specs.Headline.{seen}
-use Rattle.protocol.specs.Machine.{stands_in}
+use Rattle.protocol.specs.Machine.{is_timed, stands_in}
 use Rattle.slots.specs.Invariant.{fields_at}
 use Rattle.slots.specs.Places.{cell_of, slot_of}
 use Rattle.slots.specs.Rows.{How, Taking, Before, Onward, Giving, Row}
@@ -54,6 +54,11 @@ IsUnlinking c d g = (u : UnlinkStanding) × IsIn c (Unlinking u d) g
 abbrev pub IsRetaking : ℕ → Phase → Stage → Type 0
 IsRetaking k f g =
     (c : CondCall) × (p : Whole) × (g ≡ Calling (OnCondition c) p) × (condition_of c ≡ k) × (acts_as c ≡ Wait) × (p.phase ≡ f)
+
+-- its call has a deadline
+abbrev pub has_limit : Stage → Bool
+has_limit (Calling o p) = is_timed o
+has_limit g = false
 
 -- in a call on a condition variable
 abbrev pub IsAtWords : CondCall → CondRow → Stage → Type 0
@@ -179,7 +184,7 @@ StandsAs (Row.WakesOne m y is) g = IsWaking m y g
 StandsAs (Row.Trims m is) g = IsIn (call.Unlock (cell_of m)) (AtCell (mutex_row.Unlock unlock.Trim)) g
 StandsAs (Row.WaitSets m k n timed) g = IsAtWords (wait_of k timed) (cond_row.Wait (wait.Release n)) g
 StandsAs (Row.WaitSleeps m k n timed) g = IsAtWords (wait_of k timed) (cond_row.Wait (wait.Sleep n)) g
-StandsAs (Row.WaitAsleep m k n timed) g = IsRetaking k at_load g
+StandsAs (Row.WaitAsleep m k n timed) g = IsRetaking k at_load g × (timed ≡ true → has_limit g ≡ true)
 StandsAs (Row.WaitLate m k n) g = IsRetaking k at_load g
 StandsAs (Row.CountWakes m k n) g = IsAtWords (cond_call.Signal k) (cond_row.Signal signal.Wake) g
 StandsAs (Row.AllMarks m k n) g =

@@ -24,6 +24,8 @@ ghost use Rattle.slots.specs.Outcomes.{CallsReturnTheirPoints, CountsAreSignals,
 ghost use Rattle.slots.specs.Late.{AccessesFindTheSame, LateMemoryTellsTheSame};
 ghost use Rattle.slots.specs.Refused.{RefusalsAreTheMachines};
 ghost use Rattle.slots.specs.Replies.{CallsAreOneHistory, CallsBeginUndecided, CallsDecideOnce};
+ghost use Rattle.slots.specs.Conditions.{BroadcastsReachAll, ConditionCallsAreOurs};
+ghost use Rattle.slots.specs.Overdue.{DeadlinesEndSleeps, LateHeirsGiveUp};
 ghost use Rattle.slots.specs.Moments.{AccessesAreFew, AnnouncingIsOneStore, GivingUpIsALook, GivingUpLeavesNothing};
 ghost use Rattle.slots.specs.Moments.{HeirTakesAreEvents, HeirsGoOn, LastLooksAreEvents, TakesAreOneExchange};
 ghost use Rattle.slots.specs.Moments.{TakesAreTheExchange};
@@ -524,8 +526,9 @@ pub fn no_call_times_out_early()
 /// In any run, a call returns the reply of its only point, except for waits, wrong deadlines and reinits of usable
 /// mutexes. The point is of the call's own operation. A wait that isn't refused has two: it unlocks its mutex, and
 /// later locks it again. It returns what that lock got, or ETIMEDOUT for OK, if its deadline passed in its sleep and
-/// the count that its row carries was still the same then. A lock whose deadline isn't a time may return EINVAL without
-/// a point. A reinit of a usable mutex has neither a point nor a reply.
+/// no signal and no broadcast had come since the unlock when it went on. A lock whose deadline passes in its sleep
+/// returns ETIMEDOUT. A lock whose deadline isn't a time may return EINVAL without a point. A reinit of a usable mutex
+/// has neither a point nor a reply.
 #[tactic(auto, using(crate::proofs::Outcomes::return_points))]
 pub fn calls_return_their_points()
     ensures { CallsReturnTheirPoints }
@@ -551,6 +554,32 @@ pub fn wrong_deadlines_are_refused()
 #[tactic(auto, using(crate::proofs::Refused::refusals_are))]
 pub fn refusals_are_the_machines()
     ensures { RefusalsAreTheMachines }
+{}
+
+/// In any run, if a thread sleeps in a call with a deadline, it doesn't sleep any more when that passes. The lock that ends
+/// a wait has no deadline.
+#[tactic(auto, using(crate::proofs::Overdue::sleeps_end))]
+pub fn deadlines_end_sleeps()
+    ensures { DeadlinesEndSleeps }
+{}
+
+/// In any run, an heir whose clock says that its deadline has passed doesn't watch on. If its last look finds that another
+/// thread owns the mutex, it times out.
+#[tactic(auto, using(crate::proofs::Overdue::heirs_give_up))]
+pub fn late_heirs_give_up()
+    ensures { LateHeirsGiveUp }
+{}
+
+/// In any run, when a broadcast returns OK, nobody sleeps on its condition variable any more.
+pub fn broadcasts_reach_all()
+    ensures { BroadcastsReachAll }
+{}
+
+/// In any run, a call of the machine on a condition variable has the operation and the condition variable of the library's
+/// call. A wait has a deadline just if the library's has one.
+#[tactic(auto, using(crate::proofs::Conditions::calls_are_ours))]
+pub fn condition_calls_are_ours()
+    ensures { ConditionCallsAreOurs }
 {}
 
 /// After any run, a lone call returns or sleeps after at most 63 accesses, and 63 more for each look again. A clock or

@@ -27,8 +27,10 @@
 //!   `calls_return_their_points` (`specs/Outcomes.antt`): a call returns its point's reply, and a late wait ETIMEDOUT for OK;
 //!   `counts_are_signals`: counts rise by signals and broadcasts. `refusals_are_the_machines` (`specs/Refused.antt`): a first
 //!   look that decides its call is a whole call of the machine.
+//! - *Condition variables* (`specs/Conditions.antt`): `broadcasts_reach_all`: nobody sleeps on after a broadcast;
+//!   `condition_calls_are_ours`: the machine's calls are of the same kind.
 //! - *Deadlines* (`specs/Deadlines.antt`): `no_call_times_out_early`; `wrong_deadlines_are_refused` (`specs/Outcomes.antt`): a
-//!   lock whose deadline isn't a time never waits.
+//!   lock whose deadline isn't a time never waits. `deadlines_end_sleeps`, `late_heirs_give_up` (`specs/Overdue.antt`).
 //! - *Progress* (`specs/Alone.antt`): `lone_calls_come_to_rest`.
 //! - *Several events at one moment*: `accesses_are_few`, `giving_up_leaves_nothing`, `giving_up_is_a_look`, `takes_are_one_exchange`,
 //!   `takes_are_the_exchange`, `announcing_is_one_store`.
@@ -55,22 +57,23 @@ mod laws;
 pub use laws::{
     accesses_are_few, accesses_are_made_so, accesses_find_the_same, accesses_of_runs_are_events,
     all_hold, announced_releases_are_events, announcing_is_one_store, announcing_rows_are_events,
-    any_kernel_will_do, awake_is_cleared, awake_is_set, calls_are_one_history,
-    calls_begin_undecided, calls_decide_once, calls_return_their_points, clearing_rows_are_events,
-    counts_are_events, counts_are_signals, deaths_leave_all, deaths_leave_heirs,
-    deciding_looks_are_events, each_access_is_events, first_looks_are_events, giving_up_is_a_look,
-    giving_up_leaves_nothing, heir_takes_are_events, heirs_go_on, heirs_let_spare, heirs_take_over,
-    last_looks_are_events, late_memory_tells_the_same, list_rows_are_events,
-    lone_calls_come_to_rest, looks_are_events, marks_are_events, mends_are_events,
-    misses_are_no_events, moves_are_events, next_rows_fit, no_call_times_out_early,
-    nobody_joins_a_free_mutex, others_answer_still, others_leave_heirs, others_leave_what_is_owned,
-    others_stand_still, pending_again_is_no_event, plain_stores_are_own, plain_stores_wait_apart,
-    premises_follow, refusals_are_the_machines, releases_are_events, releases_tell, rouses_nobody,
-    rows_lead_on, runs_keep_counts, runs_keep_heirs, runs_keep_owners, runs_keep_room,
-    runs_keep_slept, runs_keep_their_rows, runs_keep_turns, runs_may_buffer, sleeps_are_events,
-    slots_run_the_machine, slots_stay_quiet, spares_are_events, standing_heirs_answer,
-    takes_are_events, takes_are_one_exchange, takes_are_the_exchange, threads_keep_their_rows,
-    trims_are_events, trims_are_the_machines, turns_stay_known, turns_stay_known_by_all,
-    wakes_are_events, wakes_of_nobody_tell, wakes_without_waiters_wake_nobody, walks_leave_all,
-    walks_leave_heirs, words_stay_sound, wrong_deadlines_are_refused,
+    any_kernel_will_do, awake_is_cleared, awake_is_set, broadcasts_reach_all,
+    calls_are_one_history, calls_begin_undecided, calls_decide_once, calls_return_their_points,
+    clearing_rows_are_events, condition_calls_are_ours, counts_are_events, counts_are_signals,
+    deadlines_end_sleeps, deaths_leave_all, deaths_leave_heirs, deciding_looks_are_events,
+    each_access_is_events, first_looks_are_events, giving_up_is_a_look, giving_up_leaves_nothing,
+    heir_takes_are_events, heirs_go_on, heirs_let_spare, heirs_take_over, last_looks_are_events,
+    late_heirs_give_up, late_memory_tells_the_same, list_rows_are_events, lone_calls_come_to_rest,
+    looks_are_events, marks_are_events, mends_are_events, misses_are_no_events, moves_are_events,
+    next_rows_fit, no_call_times_out_early, nobody_joins_a_free_mutex, others_answer_still,
+    others_leave_heirs, others_leave_what_is_owned, others_stand_still, pending_again_is_no_event,
+    plain_stores_are_own, plain_stores_wait_apart, premises_follow, refusals_are_the_machines,
+    releases_are_events, releases_tell, rouses_nobody, rows_lead_on, runs_keep_counts,
+    runs_keep_heirs, runs_keep_owners, runs_keep_room, runs_keep_slept, runs_keep_their_rows,
+    runs_keep_turns, runs_may_buffer, sleeps_are_events, slots_run_the_machine, slots_stay_quiet,
+    spares_are_events, standing_heirs_answer, takes_are_events, takes_are_one_exchange,
+    takes_are_the_exchange, threads_keep_their_rows, trims_are_events, trims_are_the_machines,
+    turns_stay_known, turns_stay_known_by_all, wakes_are_events, wakes_of_nobody_tell,
+    wakes_without_waiters_wake_nobody, walks_leave_all, walks_leave_heirs, words_stay_sound,
+    wrong_deadlines_are_refused,
 };
