@@ -29,7 +29,7 @@ static const struct {
     {"pz_mutex_timedlock", ENOTRECOVERABLE, "the mutex is unusable: an owner that got EOWNERDEAD unlocked it without "
      "pz_mutex_consistent"},
     {"pz_mutex_timedlock", EDEADLK, "the caller owns it already"},
-    {"pz_mutex_timedlock", ETIMEDOUT, "the deadline passed, and another thread owned the mutex until then"},
+    {"pz_mutex_timedlock", ETIMEDOUT, "the deadline passed while the call waited for the mutex"},
     {"pz_mutex_timedlock", EAGAIN, "the caller owns 2,000 mutexes (PZ_MOST_OWNED)"},
     {"pz_mutex_timedlock", EINVAL, "the mutex isn't at a multiple of 64; or the call would have to wait, and tv_nsec "
      "isn't 0 to 999,999,999"},
@@ -41,7 +41,7 @@ static const struct {
     {"pz_mutex_clocklock", ENOTRECOVERABLE, "the mutex is unusable: an owner that got EOWNERDEAD unlocked it without "
      "pz_mutex_consistent"},
     {"pz_mutex_clocklock", EDEADLK, "the caller owns it already"},
-    {"pz_mutex_clocklock", ETIMEDOUT, "the deadline passed, and another thread owned the mutex until then"},
+    {"pz_mutex_clocklock", ETIMEDOUT, "the deadline passed while the call waited for the mutex"},
     {"pz_mutex_clocklock", EAGAIN, "the caller owns 2,000 mutexes (PZ_MOST_OWNED)"},
     {"pz_mutex_clocklock", EINVAL, "the mutex isn't at a multiple of 64; or the clock is neither CLOCK_REALTIME nor "
      "CLOCK_MONOTONIC; or the call would have to wait, and tv_nsec isn't 0 to 999,999,999"},
