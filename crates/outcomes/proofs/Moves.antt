@@ -1,6 +1,6 @@
 -- Events at positions that are kept.
 use Rattle.std.proofs.Common.{◌≡◌, ℕ, zero, suc, ◌<◌, ◌≤◌, Bool, true, false, ◌&&◌, List, [], ◌∷◌, length, Option, Some, refl, sym, ap, ◌∙◌, subst, arith}
-use Rattle.std.specs.Prelude.{if◌then◌else◌, slice_index}
+use Rattle.std.specs.Prelude.{not, if◌then◌else◌, slice_index}
 use Rattle.std.proofs.lemmas.Bool.Decides.{nat_tests}
 use Rattle.memorymap.specs.Layouts.{Layout', IsLayout, cell_place}
 use Rattle.posixmutex.specs.declared.point.Operation.{Operation}
@@ -35,8 +35,8 @@ use Rattle.interleave.specs.Steps.{IsOnItsWay}
 use Rattle.interleave.proofs.Reaches.{kept_step}
 use Rattle.outcomes.specs.declared.plan.Plan.{Plan}
 use Rattle.outcomes.specs.declared.kept.Kept as kept
-use Rattle.outcomes.specs.Positions.{Position}
-use Rattle.outcomes.specs.Events.{MayCome}
+use Rattle.outcomes.specs.Positions.{Position, rests}
+use Rattle.outcomes.specs.Events.{MayCome, is_out}
 use Rattle.outcomes.specs.Comparisons.{IsBefore, IsComparable, AreComparable}
 use Rattle.outcomes.specs.Kept.{position_in, IsKept}
 use Rattle.outcomes.specs.Searches.{thread_of}
@@ -125,6 +125,42 @@ of_a_thread plan p (Spare t by) h = no_thread p.state t (λ none. let does = h.1
 of_a_thread plan p (Decline t) h = absurd h.0
 of_a_thread plan p (Renew t) h = absurd h.0
 of_a_thread plan p (Remake t m) h = absurd h.0
+
+-- and one that its thread isn't where it can make does nothing
+not_true : (b : Bool) → not b ≡ true → b ≡ false
+not_true true h = absurd cc
+not_true false h = refl
+
+still_idle : (s : State) (t : ℕ) (o : Op) → is_idle (s.threads t).stage ≡ false → is_nothing (happens s (Begin t o)).note ≡ true
+still_idle s t o busy =
+    let never : may_begin s t o ≡ false = ap (λ (b : Bool). (has_thread s t && b) && may_call s.layout o) busy ∙ go (has_thread s t) in
+    ap (λ (b : Bool). is_nothing (if b then begun s t o (first_stage s.layout t (s.threads t).held o) else nothing s).note) never
+  where
+    go : (b : Bool) → ((b && false) && may_call s.layout o) ≡ false
+    go true = refl
+    go false = refl
+
+still_at_rest : (s : State) (t : ℕ) → rests (s.threads t).stage ≡ true → is_nothing (happens s (Step t)).note ≡ true
+still_at_rest s t h = go (has_thread s t) (s.threads t).stage h
+  where
+    go : (b : Bool) (g : Stage) → rests g ≡ true → is_nothing (if b then stepped s t (s.threads t).held g else nothing s).note ≡ true
+    go false g h = refl
+    go true Idle h = refl
+    go true Reaped h = refl
+    go true (Calling o p) h = absurd cc
+    go true (AtCondition c p) h = absurd cc
+    go true (Dying w) h = absurd cc
+
+pub ruled_out : (s : State) (e : Event) → is_out (s.threads (thread_of e)).stage e ≡ true → is_nothing (happens s e).note ≡ true
+ruled_out s (Begin t o) h = still_idle s t o (not_true (is_idle (s.threads t).stage) h)
+ruled_out s (Step t) h = still_at_rest s t h
+ruled_out s (Kill t) h = absurd cc
+ruled_out s (Leave t) h = absurd cc
+ruled_out s (Expire t) h = absurd cc
+ruled_out s (Decline t) h = absurd cc
+ruled_out s (Renew t) h = absurd cc
+ruled_out s (Remake t m) h = absurd cc
+ruled_out s (Spare t by) h = absurd cc
 
 -- ---- owners
 

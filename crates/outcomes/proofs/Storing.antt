@@ -25,8 +25,8 @@ held l s k h = λ i. record {
   places = h.places i;
 }
 
-lives_held : (s : Stored) (k j : kept.Kept) → Holds s k → Holds s j → length k.lives.items ≡ length j.lives.items
-lives_held s k j h g = sym (length-map k.lives.items place_in) ∙ ap (λ (ps : List Place). length ps) (sym h.places ∙ g.places) ∙ length-map j.lives.items place_in
+lives_held : (s : Stored) (k j : kept.Kept) → Holds s k → Holds s j → length k.lives.value.items ≡ length j.lives.value.items
+lives_held s k j h g = sym (length-map k.lives.value.items place_in) ∙ ap (λ (ps : List Place). length ps) (sym h.places ∙ g.places) ∙ length-map j.lives.value.items place_in
 
 -- whatever else it is kept as is a position of the plan, too
 pub kept_again : (plan : Plan) (s : Stored) (k : kept.Kept) → IsStored plan s → Holds s k → IsKept plan k
@@ -57,7 +57,7 @@ module _ (plan : Plan) (rs : List Reached) (i : ℕ) (one : Reached) (k : kept.K
   again_there = record { one = one; there = there_at rs i one lt is; is = held plan.layout one.stored k h }
 
 -- as many threads as lives
-pub as_many : (plan : Plan) (k : kept.Kept) → IsKept plan k → length k.saved.threads.items ≡ length k.lives.items
+pub as_many : (plan : Plan) (k : kept.Kept) → IsKept plan k → length k.saved.threads.items ≡ length k.lives.value.items
 as_many plan k h = h.saved.threads ∙ sym h.lives
 
 -- one of several comparable threads

@@ -4,7 +4,7 @@
 -- awake, or dying, makes its next access; a thread is killed, in a call or between its calls, where the plan lets it be;
 -- and, if the plan asks for them, time limits come, sleepers leave their queues, and wakes are spared. No other events
 -- come, and none that does nothing.
-use Rattle.std.specs.Prelude.{ℕ, ◌-◌, ◌≡◌, true, false, List, [], ◌∷◌, ◌++◌, Option, Some, None, slice_set}
+use Rattle.std.specs.Prelude.{ℕ, ◌-◌, ◌≡◌, Bool, not, true, false, List, [], ◌∷◌, ◌++◌, Option, Some, None, slice_set}
 use Rattle.lockword.specs.declared.reply.Reply.{Reply}
 use Rattle.condvar.specs.declared.op.Op.{Op}
 use Rattle.protocol.specs.declared.event.Event.{Event}
@@ -12,11 +12,12 @@ use Rattle.protocol.specs.declared.event.Event.TheVariants.{Begin, Step, Kill, L
 use Rattle.protocol.specs.declared.event.LeftTo.TheVariants as left_to
 use Rattle.protocol.specs.declared.note.Note.{Note}
 use Rattle.protocol.specs.declared.note.Note.TheVariants.{Began, Stepped}
-use Rattle.protocol.specs.Machine.{happens}
+use Rattle.protocol.specs.declared.thread.Stage.{Stage}
+use Rattle.protocol.specs.Machine.{happens, is_idle}
 use Rattle.interleave.specs.Notes.{is_nothing}
 use Rattle.outcomes.specs.declared.plan.Plan.{Plan}
 use Rattle.outcomes.specs.declared.next.Next.{Next}
-use Rattle.outcomes.specs.Positions.{Place, Position, place_of, next_call, is_turn, may_kill}
+use Rattle.outcomes.specs.Positions.{Place, Position, place_of, next_call, is_turn, may_kill, rests}
 
 -- the next call is this one, and it is its turn
 abbrev pub Begins : Plan → Position → Op → Option Next → Type 0
@@ -36,6 +37,12 @@ IsAsked plan p e = ⊥
 -- and it does
 abbrev pub MayCome : Plan → Position → Event → Type 0
 MayCome plan p e = IsAsked plan p e × (is_nothing (happens p.state e).note ≡ false)
+
+-- a thread that stands so can't make an event: begin a call in another one, or step where it rests
+abbrev pub is_out : Stage → Event → Bool
+is_out g (Begin t o) = not (is_idle g)
+is_out g (Step t) = rests g
+is_out g e = false
 
 -- ---- where it leads
 

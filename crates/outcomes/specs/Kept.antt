@@ -15,9 +15,9 @@ places_in lives = map place_in lives
 
 -- the position that is kept, of a plan with this layout
 abbrev pub position_in : Layout' → Kept → Position
-position_in l k = record { state = saved_state l k.saved; phase = k.phase; places = places_in k.lives.items }
+position_in l k = record { state = saved_state l k.saved; phase = k.phase; places = places_in k.lives.value.items }
 
 -- its machine's state was reached, and it knows how far each thread has come
 pub record IsKept (plan : Plan) (k : Kept) : Type 0 where
   pub saved : WasReached plan.layout k.saved
-  pub lives : length k.lives.items ≡ plan.layout.threads
+  pub lives : length k.lives.value.items ≡ plan.layout.threads

@@ -28,7 +28,7 @@ pub record Holds (s : Stored) (k : Kept) : Type 0 where
   pub sleepers : s.scene.value.sleepers.items ≡ k.saved.sleepers.items
   pub threads : threads_in s.standings.items ≡ k.saved.threads.items
   pub phase : s.phase ≡ k.phase
-  pub places : places_among s.standings.items ≡ places_in k.lives.items
+  pub places : places_among s.standings.items ≡ places_in k.lives.value.items
 
 -- a position of a plan is stored
 abbrev pub IsStored : Plan → Stored → Type 0

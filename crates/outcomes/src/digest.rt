@@ -1,11 +1,14 @@
 //! Digests of positions: equal positions have the same, and different ones seldom do. Nothing rests on either.
 
 use crate::kept::{Kept, Life};
+use crate::standing::Standing;
 use condvar::{CodedCondPhase, CondPhase};
 use exitwalk::{CodedRow, Row};
 use interleave::Sleeper;
 use mutex::{CodedPhase, Phase};
 use protocol::{Stage, Thread};
+use std::alloc::Global;
+use std::rc::Rc;
 
 const FACTOR: u64 = 0x9e37_79b9_7f4a_7c15;
 
@@ -86,15 +89,37 @@ pub(crate) fn digest_of_standing(thread: &Thread, life: &Life) -> u64 {
     with_life(with_stage(0, &thread.stage), life)
 }
 
-/// The digest of a position.
-pub(crate) fn digest_of(kept: &Kept) -> u64 {
-    let mut digest = with_words(u64::from(kept.phase), &kept.saved.words);
-    for thread in &kept.saved.threads {
-        digest = with_stage(digest, &thread.stage);
+/// The digests of a position and of its scene.
+#[derive(Clone, Copy, Debug, PartialEq, Eq)]
+pub(crate) struct Digests {
+    pub position: u64,
+    pub scene: u64,
+}
+
+/// The digest of a thread's standing: that of an earlier one, unless the thread is the one that has changed since.
+fn standing_digest(
+    kept: &Kept,
+    index: usize,
+    earlier: &[Rc<Standing, Global>],
+    changed: usize,
+) -> u64 {
+    if index != changed {
+        if let Some(standing) = earlier.get(index) {
+            return standing.digest;
+        }
     }
-    digest = with_sleepers(digest, &kept.saved.sleepers);
-    for life in &kept.lives {
-        digest = with_life(digest, life);
+    match (kept.saved.threads.get(index), kept.lives().get(index)) {
+        (Some(thread), Some(life)) => digest_of_standing(thread, life),
+        _ => 0,
     }
-    digest
+}
+
+/// The digests of a position, before which the threads stood so: none has changed since but the one with this index.
+pub(crate) fn digests_of(kept: &Kept, earlier: &[Rc<Standing, Global>], changed: usize) -> Digests {
+    let scene = digest_of_scene(&kept.saved.words, &kept.saved.sleepers);
+    let mut position = mixed(scene, u64::from(kept.phase));
+    for index in 0..kept.saved.threads.len() {
+        position = mixed(position, standing_digest(kept, index, earlier, changed));
+    }
+    Digests { position, scene }
 }

@@ -3,7 +3,7 @@ ghost use Rattle.std.specs.Prelude.{◌≡◌, ◌≤◌, length};
 ghost use Rattle.outcomes.specs.Positions.{may_kill};
 ghost use Rattle.outcomes.specs.Plans.{is_killable};
 ghost use Rattle.outcomes.specs.Kept.{position_in};
-ghost use Rattle.outcomes.specs.Searches.{begin_for, event_for, if_wanted};
+ghost use Rattle.outcomes.specs.Searches.{begin_for, event_for, if_wanted, thread_of};
 
 use crate::kept::Kept;
 use crate::plan::{Asked, Plan};
@@ -19,6 +19,17 @@ pub(crate) enum Kind {
     Expire,
     Leave,
     Spare,
+}
+
+/// Whose event it is.
+pub(crate) fn thread_of(event: &Event) -> Tid
+    ensures { result ≡ thread_of event.now }
+{
+    match *event {
+        Event::Begin(thread, _) | Event::Remake(thread, _) | Event::Spare(thread, _) => thread,
+        Event::Step(thread) | Event::Kill(thread) | Event::Leave(thread) => thread,
+        Event::Expire(thread) | Event::Decline(thread) | Event::Renew(thread) => thread,
+    }
 }
 
 /// Whether the plan lets a thread be killed.

@@ -6,7 +6,7 @@ ghost use Rattle.outcomes.specs.Plans.{first_state};
 ghost use Rattle.outcomes.specs.Positions.{first, first_place};
 ghost use Rattle.outcomes.specs.Kept.{places_in, position_in, IsKept};
 
-use crate::adding::add;
+use crate::adding::{add, shared};
 use crate::kept::{Kept, Life};
 use crate::plan::Plan;
 use interleave::Machine;
@@ -57,7 +57,8 @@ pub(crate) fn first_kept(alloc: Global, plan: &Plan, machine: &Machine) -> Resul
     ensures kept { IfOk result (IsKept plan.now) }
 {
     let saved = machine.save(alloc)?;
-    let lives = first_lives(alloc, plan.layout.threads())?;
+    let first = first_lives(alloc, plan.layout.threads())?;
+    let lives = shared(alloc, first)?;
     Ok(Kept {
         saved,
         phase: 0,

@@ -1,22 +1,28 @@
 //! Positions as the search keeps them.
 ghost use Rattle.std.specs.Prelude.{◌≡◌, ◌≤◌, ◌<◌, ◌&&◌, true, is_some, length, IfOk, if◌then◌else◌};
-ghost use Rattle.protocol.specs.Machine.{is_idle, is_alive};
+ghost use Rattle.memorymap.specs.Layouts.{Layout'};
+ghost use Rattle.protocol.specs.Machine.{happens, is_idle, is_alive};
+ghost use Rattle.interleave.specs.Notes.{is_nothing};
+ghost use Rattle.interleave.specs.Saved.{saved_state};
 ghost use Rattle.interleave.specs.Shown.{thread_at};
 ghost use Rattle.outcomes.specs.Positions.{rests, next_call, is_earlier, some_earlier, all_rest, is_turn};
 ghost use Rattle.outcomes.specs.Positions.{killed_among, is_under_way};
 ghost use Rattle.outcomes.specs.Kept.{places_in, position_in};
+ghost use Rattle.outcomes.specs.Events.{is_out};
 
 use crate::adding::add;
+use crate::events::thread_of;
 use crate::next::{Next, next_among};
 use crate::plan::Plan;
 use interleave::Saved;
 use lockword::{Reply, Tid};
 use memorymap::NoMem;
-use protocol::Stage;
+use protocol::{Event, Stage};
 use std::alloc::Global;
+use std::rc::Rc;
 
 /// How far a thread has come.
-#[derive(Debug, PartialEq, Eq, Drop)]
+#[derive(Drop)]
 pub(crate) struct Life {
     /// How many of its items the thread has passed.
     pub at: usize,
@@ -25,11 +31,12 @@ pub(crate) struct Life {
 }
 
 /// Where a run of a plan is.
-#[derive(Debug, PartialEq, Eq, Drop)]
+#[derive(Drop)]
 pub(crate) struct Kept {
     pub saved: Saved,
     pub phase: u16,
-    pub lives: Vec<Life>,
+    /// How far the threads have come, which may be as far as before.
+    pub lives: Rc<Vec<Life>, Global>,
 }
 
 /// A copy of how far threads have come.
@@ -80,21 +87,60 @@ fn is_alive(stage: &Stage) -> bool
     }
 }
 
+/// Whether a thread that is there can't make an event: begin a call in another one, or step where it rests.
+fn is_out(stage: &Stage, event: &Event) -> bool
+    ensures { result ≡ is_out stage.now event.now }
+{
+    match *event {
+        Event::Begin(_, _) => !is_idle(stage),
+        Event::Step(_) => rests(stage),
+        _ => false,
+    }
+}
+
 impl Kept {
+    /// How far the threads have come.
+    pub(crate) fn lives(&self) -> &[Life]
+        ensures { result.now ≡ self.now.lives.value.items }
+    {
+        self.lives.as_slice()
+    }
+
     /// The call that a thread makes next, where it is in no call.
     pub(crate) fn next_call(&self, plan: &Plan, thread: Tid) -> Option<Next>
-        ensures { result ≡ next_call plan.now (places_in self.now.lives.items) thread }
+        ensures { result ≡ next_call plan.now (places_in self.now.lives.value.items) thread }
     {
         let index = thread.as_index();
         if index >= plan.threads.len() {
             return None;
         }
         let items = &plan.threads[index];
-        if index >= self.lives.len() {
+        let lives = self.lives();
+        if index >= lives.len() {
             return next_among(items, 0, None);
         }
-        let life = &self.lives[index];
+        let life = &lives[index];
         next_among(items, life.at, life.replies.last().copied())
+    }
+
+    /// Whether a thread isn't where it can make an event.
+    fn is_out(&self, thread: Tid, event: &Event) -> bool
+        requires { thread ≤ length self.now.saved.threads.items }
+        ensures { result ≡ is_out (thread_at self.now.saved.threads.items thread).stage event.now }
+    {
+        is_out(&self.saved.threads[thread.as_index()].stage, event)
+    }
+
+    /// Whether an event does nothing, as its thread isn't where it can make it.
+    pub(crate) fn rules_out(&self, event: &Event) -> bool
+        ensures { result ≡ true
+            → (l : Layout') → is_nothing (happens (saved_state l self.now.saved) event.now).note ≡ true }
+    {
+        let thread = thread_of(event);
+        if self.saved.threads.len() < usize::from(thread.get()) {
+            return false;
+        }
+        self.is_out(thread, event)
     }
 
     /// Nobody is in a call or dying.
@@ -115,7 +161,7 @@ impl Kept {
         requires { thread ≤ length self.now.saved.threads.items }
         ensures { result
             ≡ (is_idle (thread_at self.now.saved.threads.items thread).stage
-            && is_earlier phase (next_call plan.now (places_in self.now.lives.items) thread)) }
+            && is_earlier phase (next_call plan.now (places_in self.now.lives.value.items) thread)) }
     {
         if !is_idle(&self.saved.threads[thread.as_index()].stage) {
             return false;
@@ -183,7 +229,7 @@ impl Kept {
     pub(crate) fn is_under_way(&self, plan: &Plan, thread: Tid) -> bool
         requires { thread ≤ length self.now.saved.threads.items }
         ensures { result
-            ≡ is_under_way plan.now (places_in self.now.lives.items) thread
+            ≡ is_under_way plan.now (places_in self.now.lives.value.items) thread
             (thread_at self.now.saved.threads.items thread).stage }
     {
         match self.saved.threads[thread.as_index()].stage {

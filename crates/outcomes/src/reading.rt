@@ -86,13 +86,14 @@ fn ended_threads(alloc: Global, plan: &Plan, kept: &Kept) -> Result<Vec<Ended>, 
     ensures { IfOk result (λ v. map ended_in v.items
         ≡ map (ended plan.now (position_in plan.now.layout kept.now)) (range_with_len 1 plan.now.layout.threads)) }
 {
+    let lives = kept.lives();
     let count = plan.layout.threads();
     let mut threads = Vec::with_capacity(alloc, usize::from(count))?;
     for before in 0..count {
         let Some(thread) = Tid::new(before + 1) else {
             unreachable!()
         };
-        let replies = Vec::from_slice(alloc, &kept.lives[usize::from(before)].replies)?;
+        let replies = Vec::from_slice(alloc, &lives[usize::from(before)].replies)?;
         let end = end_of(plan, kept, thread);
         add(&mut threads, Ended { replies, end })?;
     }

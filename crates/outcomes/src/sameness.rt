@@ -131,5 +131,5 @@ pub(crate) fn is_same(stored: &Stored, kept: &Kept) -> bool
     if !is_scene(&stored.scene, &kept.saved.words, &kept.saved.sleepers) {
         return false;
     }
-    are_standings(&stored.standings, &kept.saved.threads, &kept.lives)
+    are_standings(&stored.standings, &kept.saved.threads, kept.lives())
 }

@@ -9,12 +9,13 @@ ghost use Rattle.outcomes.specs.Kept.{position_in, IsKept};
 ghost use Rattle.outcomes.specs.Searches.{AreReached, AreThreads, CameBy, Grows, Has, IsAt, IsThread, IsTried, IsTriedOf};
 
 use crate::adding::add;
-use crate::digest::digest_of;
-use crate::events::{Kind, event_of};
+use crate::digest::digests_of;
+use crate::events::{Kind, event_of, thread_of};
 use crate::first::{first_kept, first_machine};
 use crate::kept::Kept;
 use crate::plan::Plan;
 use crate::sameness::is_same;
+use crate::standing::Standing;
 use crate::stock::Stock;
 use crate::stored::Stored;
 use crate::succession::successor;
@@ -24,6 +25,7 @@ use lockword::Tid;
 use memorymap::NoMem;
 use protocol::Event;
 use std::alloc::Global;
+use std::rc::Rc;
 
 /// A position that was reached.
 #[derive(Drop)]
@@ -43,6 +45,14 @@ pub(crate) enum Tried {
     Found,
     /// Where it leads wasn't reached before, and there is no room for it.
     NoRoom,
+}
+
+/// How the threads stand at the position with this number.
+fn standings_at(reached: &[Reached], number: usize) -> &[Rc<Standing, Global>] {
+    match reached.get(number) {
+        Some(one) => &one.stored.standings,
+        None => &[],
+    }
 }
 
 /// What was reached of a plan.
@@ -80,12 +90,12 @@ impl Search {
                 limit,
             });
         }
-        let digest = digest_of(&kept);
-        table.put(digest, 0);
-        let stored = stock.store(alloc, kept)?;
+        let digests = digests_of(&kept, &[], 0);
+        table.put(digests.position, 0);
+        let stored = stock.store(alloc, kept, &[], digests.scene)?;
         let first = Reached {
             stored,
-            digest,
+            digest: digests.position,
             by: None,
         };
         add(&mut reached, first)?;
@@ -107,8 +117,8 @@ impl Search {
         let mut slot = self.table.first(digest);
         for _tried in 0..=self.table.len() {
             let number = self.table.number(slot)?;
-            if number < self.reached.len()
-                && self.reached[number].digest == digest
+            if self.table.suits(slot, digest)
+                && number < self.reached.len()
                 && is_same(&self.reached[number].stored, kept)
             {
                 return Some(number);
@@ -138,7 +148,7 @@ impl Search {
     /// Keeps a position, unless it was reached before; false where there is no room for it.
     fn keep(&mut self, alloc: Global, kept: Kept, from: usize, event: Event) -> Result<bool, NoMem>
         requires comparable { AreComparable kept.saved.threads.items }
-        requires long { length kept.saved.threads.items ≡ length kept.lives.items }
+        requires long { length kept.saved.threads.items ≡ length kept.lives.value.items }
         ensures machine { self.new.machine ≡ self.old.machine }
         ensures limit { self.new.limit ≡ self.old.limit }
         ensures grows { OnOk result (Grows self.old.reached.items self.new.reached.items) }
@@ -152,22 +162,24 @@ impl Search {
             → Has plan.layout self.new.reached.items (position_in plan.layout kept)) }
         ensures full { IfOk result (λ b. b ≡ false → self.old.limit ≤ length self.new.reached.items) }
     {
-        let digest = digest_of(&kept);
-        if let Some(_number) = self.find(&kept, digest) {
+        let changed = thread_of(&event).as_index();
+        let digests = digests_of(&kept, standings_at(&self.reached, from), changed);
+        if let Some(_number) = self.find(&kept, digests.position) {
             return Ok(true);
         }
         let number = self.reached.len();
         if self.limit <= number {
             return Ok(false);
         }
-        let stored = self.stock.store(alloc, kept)?;
+        let earlier = standings_at(&self.reached, from);
+        let stored = self.stock.store(alloc, kept, earlier, digests.scene)?;
         let one = Reached {
             stored,
-            digest,
+            digest: digests.position,
             by: Some((from, event)),
         };
         add(&mut self.reached, one)?;
-        self.table.put(digest, number);
+        self.table.put(digests.position, number);
         self.spread(alloc)?;
         Ok(true)
     }

@@ -9,6 +9,8 @@ use std::marker::Model;
 pub(crate) struct Standing {
     pub thread: Thread,
     pub life: Life,
+    /// The digest of both.
+    pub digest: u64,
 }
 
 impl Model for Standing {

@@ -5,7 +5,7 @@ ghost use Rattle.outcomes.specs.Kept.{place_in, places_in};
 ghost use Rattle.outcomes.specs.Stored.{places_among, threads_in, Holds};
 
 use crate::adding::{add, shared};
-use crate::digest::{digest_of_scene, digest_of_standing};
+use crate::digest::digest_of_standing;
 use crate::kept::{Kept, Life};
 use crate::sameness::{is_scene, is_standing};
 use crate::standing::Standing;
@@ -50,7 +50,10 @@ impl Stock {
         let mut slot = self.by_scene.first(digest);
         for _tried in 0..=self.by_scene.len() {
             let number = self.by_scene.number(slot)?;
-            if number < self.scenes.len() && is_scene(&self.scenes[number], words, sleepers) {
+            if self.by_scene.suits(slot, digest)
+                && number < self.scenes.len()
+                && is_scene(&self.scenes[number], words, sleepers)
+            {
                 return Some(&self.scenes[number]);
             }
             slot = self.by_scene.after(slot);
@@ -65,28 +68,32 @@ impl Stock {
         }
         let mut table = self.by_scene.twice(alloc)?;
         for number in 0..self.scenes.len() {
-            let scene = &self.scenes[number];
-            table.put(digest_of_scene(&scene.words, &scene.sleepers), number);
+            table.put(self.scenes[number].digest, number);
         }
         self.by_scene = table;
         Ok(())
     }
 
-    /// The scene with these words and sleepers.
+    /// The scene with these words and sleepers, which has this digest.
     fn scene(
         &mut self,
         alloc: Global,
         words: Vec<u64>,
         sleepers: Vec<Sleeper>,
+        digest: u64,
     ) -> Result<Rc<Scene, Global>, NoMem>
         ensures { IfOk result
             (λ r. (r.value.words.items ≡ words.items) × (r.value.sleepers.items ≡ sleepers.items)) }
     {
-        let digest = digest_of_scene(&words, &sleepers);
         if let Some(scene) = self.find_scene(digest, &words, &sleepers) {
             return Ok(scene.clone()?);
         }
-        let scene = shared(alloc, Scene { words, sleepers })?;
+        let scene = Scene {
+            words,
+            sleepers,
+            digest,
+        };
+        let scene = shared(alloc, scene)?;
         let number = self.scenes.len();
         add(&mut self.scenes, scene.clone()?)?;
         self.by_scene.put(digest, number);
@@ -108,7 +115,10 @@ impl Stock {
         let mut slot = self.by_standing.first(digest);
         for _tried in 0..=self.by_standing.len() {
             let number = self.by_standing.number(slot)?;
-            if number < self.standings.len() && is_standing(&self.standings[number], thread, life) {
+            if self.by_standing.suits(slot, digest)
+                && number < self.standings.len()
+                && is_standing(&self.standings[number], thread, life)
+            {
                 return Some(&self.standings[number]);
             }
             slot = self.by_standing.after(slot);
@@ -123,8 +133,7 @@ impl Stock {
         }
         let mut table = self.by_standing.twice(alloc)?;
         for number in 0..self.standings.len() {
-            let standing = &self.standings[number];
-            table.put(digest_of_standing(&standing.thread, &standing.life), number);
+            table.put(self.standings[number].digest, number);
         }
         self.by_standing = table;
         Ok(())
@@ -146,7 +155,12 @@ impl Stock {
         }
         let life = same_life(alloc, life)?;
         let thread = *thread;
-        let standing = shared(alloc, Standing { thread, life })?;
+        let standing = Standing {
+            thread,
+            life,
+            digest,
+        };
+        let standing = shared(alloc, standing)?;
         let number = self.standings.len();
         add(&mut self.standings, standing.clone()?)?;
         self.by_standing.put(digest, number);
@@ -154,10 +168,33 @@ impl Stock {
         Ok(standing)
     }
 
-    /// The standings of these threads.
+    /// The standing of this thread, which may be the same as an earlier one.
+    fn standing_again(
+        &mut self,
+        alloc: Global,
+        earlier: Option<&Rc<Standing, Global>>,
+        thread: &Thread,
+        life: &Life,
+    ) -> Result<Rc<Standing, Global>, NoMem>
+        requires { IsComparable thread.now.stage }
+        ensures { IfOk result (λ r. (r.value.thread ≡ thread.now) × (r.value.place ≡ place_in life.now)) }
+    {
+        match earlier {
+            Some(standing) => {
+                if is_standing(standing, thread, life) {
+                    return Ok(standing.clone()?);
+                }
+                self.standing(alloc, thread, life)
+            }
+            None => self.standing(alloc, thread, life),
+        }
+    }
+
+    /// The standings of these threads, most of which may be the same as earlier ones.
     fn standings(
         &mut self,
         alloc: Global,
+        earlier: &[Rc<Standing, Global>],
         threads: &[Thread],
         lives: &[Life],
     ) -> Result<Vec<Rc<Standing, Global>>, NoMem>
@@ -168,18 +205,23 @@ impl Stock {
     {
         let mut standings = Vec::with_capacity(alloc, threads.len())?;
         for index in 0..threads.len() {
-            add(
-                &mut standings,
-                self.standing(alloc, &threads[index], &lives[index])?,
-            )?;
+            let (thread, life) = (&threads[index], &lives[index]);
+            let standing = self.standing_again(alloc, earlier.get(index), thread, life)?;
+            add(&mut standings, standing)?;
         }
         Ok(standings)
     }
 
-    /// A position as it is stored.
-    pub(crate) fn store(&mut self, alloc: Global, kept: Kept) -> Result<Stored, NoMem>
+    /// A position as it is stored. Its scene has this digest, and most threads may stand as they did earlier.
+    pub(crate) fn store(
+        &mut self,
+        alloc: Global,
+        kept: Kept,
+        earlier: &[Rc<Standing, Global>],
+        scene_digest: u64,
+    ) -> Result<Stored, NoMem>
         requires comparable { AreComparable kept.saved.threads.items }
-        requires long { length kept.saved.threads.items ≡ length kept.lives.items }
+        requires long { length kept.saved.threads.items ≡ length kept.lives.value.items }
         ensures { IfOk result (λ s. Holds s kept) }
     {
         let Kept {
@@ -192,8 +234,8 @@ impl Stock {
             threads,
             sleepers,
         } = saved;
-        let standings = self.standings(alloc, &threads, &lives)?;
-        let scene = self.scene(alloc, words, sleepers)?;
+        let standings = self.standings(alloc, earlier, &threads, &lives)?;
+        let scene = self.scene(alloc, words, sleepers, scene_digest)?;
         Ok(Stored {
             scene,
             standings,

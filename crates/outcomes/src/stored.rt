@@ -3,7 +3,7 @@ ghost use Rattle.std.specs.Prelude.{◌≡◌, IfOk, map};
 ghost use Rattle.outcomes.specs.Kept.{place_in, places_in};
 ghost use Rattle.outcomes.specs.Stored.{places_among, threads_in, Holds};
 
-use crate::adding::add;
+use crate::adding::{add, shared};
 use crate::kept::{Kept, Life};
 use crate::standing::Standing;
 use interleave::{Saved, Sleeper};
@@ -17,6 +17,8 @@ use std::rc::Rc;
 pub(crate) struct Scene {
     pub words: Vec<u64>,
     pub sleepers: Vec<Sleeper>,
+    /// The digest of both.
+    pub digest: u64,
 }
 
 /// A position.
@@ -73,7 +75,7 @@ impl Stored {
             threads: threads_of(alloc, &self.standings)?,
             sleepers: Vec::from_slice(alloc, &self.scene.sleepers)?,
         };
-        let lives = lives_of(alloc, &self.standings)?;
+        let lives = shared(alloc, lives_of(alloc, &self.standings)?)?;
         Ok(Kept {
             saved,
             phase: self.phase,

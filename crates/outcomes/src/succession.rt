@@ -6,7 +6,7 @@ ghost use Rattle.outcomes.specs.Positions.{next_call};
 ghost use Rattle.outcomes.specs.Events.{reply_in, replied, begun, places_begun, phase_after, after};
 ghost use Rattle.outcomes.specs.Kept.{places_in, position_in, IsKept};
 
-use crate::adding::add;
+use crate::adding::{add, shared};
 use crate::kept::{Kept, Life, same_lives};
 use crate::next::Next;
 use crate::plan::Plan;
@@ -15,6 +15,7 @@ use lockword::{Reply, Tid};
 use memorymap::NoMem;
 use protocol::{Event, Note};
 use std::alloc::Global;
+use std::rc::Rc;
 
 /// Whether an event did nothing.
 fn is_nothing(note: &Note) -> bool
@@ -73,17 +74,22 @@ fn begin(lives: &mut Vec<Life>, thread: Tid, next: Option<Next>)
 }
 
 /// How far threads have come once an event has begun what it begins.
-fn lives_begun(alloc: Global, plan: &Plan, kept: &Kept, event: &Event) -> Result<Vec<Life>, NoMem>
+fn lives_begun(
+    alloc: Global,
+    plan: &Plan,
+    kept: &Kept,
+    event: &Event,
+) -> Result<Rc<Vec<Life>, Global>, NoMem>
     ensures { IfOk result
-        (λ v. places_in v.items ≡ places_begun plan.now (places_in kept.now.lives.items) event.now) }
+        (λ r. places_in r.value.items ≡ places_begun plan.now (places_in kept.now.lives.value.items) event.now) }
 {
-    let mut lives = same_lives(alloc, &kept.lives)?;
     match *event {
         Event::Begin(thread, _) => {
+            let mut lives = same_lives(alloc, kept.lives())?;
             begin(&mut lives, thread, kept.next_call(plan, thread));
-            Ok(lives)
+            shared(alloc, lives)
         }
-        _ => Ok(lives),
+        _ => Ok(kept.lives.clone()?),
     }
 }
 
@@ -100,6 +106,24 @@ fn add_reply(lives: &mut Vec<Life>, said: Option<(Tid, Reply)>) -> Result<(), No
     }
     add(&mut lives[index].replies, pair.1)?;
     Ok(())
+}
+
+/// How far threads have come once a call has returned, if one has.
+fn lives_replied(
+    alloc: Global,
+    lives: Rc<Vec<Life>, Global>,
+    said: Option<(Tid, Reply)>,
+) -> Result<Rc<Vec<Life>, Global>, NoMem>
+    ensures { IfOk result (λ r. places_in r.value.items ≡ replied said (places_in lives.value.items)) }
+{
+    match said {
+        Some(pair) => {
+            let mut now = same_lives(alloc, &lives)?;
+            add_reply(&mut now, Some(pair))?;
+            shared(alloc, now)
+        }
+        None => Ok(lives),
+    }
 }
 
 /// The position after an event that the plan has come; None where it does nothing.
@@ -122,14 +146,17 @@ pub(crate) fn successor(
         (λ k. position_in plan.now.layout k ≡ after plan.now (position_in plan.now.layout kept.now) event.now)) }
     ensures kept { IfOk result (λ r. MatchOption r (Unit {0}) (IsKept plan.now)) }
 {
+    if kept.rules_out(event) {
+        return Ok(None);
+    }
     machine.restore(&kept.saved);
     let note = machine.step(*event);
     if is_nothing(&note) {
         return Ok(None);
     }
     let saved = machine.save(alloc)?;
-    let mut lives = lives_begun(alloc, plan, kept, event)?;
-    add_reply(&mut lives, reply_in(&note))?;
+    let begun = lives_begun(alloc, plan, kept, event)?;
+    let lives = lives_replied(alloc, begun, reply_in(&note))?;
     let phase = phase_after(plan, kept, event);
     Ok(Some(Kept {
         saved,

@@ -3,14 +3,29 @@
 use memorymap::NoMem;
 use std::alloc::{AllocError, Global};
 
-/// How many slots a table has at first.
+/// How many slots a table has at first: a power of two, as ever after.
 const FIRST_SLOTS: usize = 1024;
+
+/// What a slot has.
+#[derive(Clone, Copy, Debug, PartialEq, Eq)]
+struct Slot {
+    /// 0 where nothing is, else one more than a number.
+    number: u32,
+    /// The high half of the digest that led there.
+    high: u32,
+}
+
+const FREE: Slot = Slot { number: 0, high: 0 };
+
+/// The half of a digest that a slot keeps.
+fn high_of(digest: u64) -> u32 {
+    (digest / 0x1_0000_0000) as u32
+}
 
 /// Numbers, each in the first free slot from that on to which its digest leads.
 #[derive(Drop)]
 pub(crate) struct Table {
-    /// 0 where nothing is, else one more than a number.
-    slots: Vec<u32>,
+    slots: Vec<Slot>,
     taken: usize,
 }
 
@@ -22,7 +37,7 @@ impl Table {
 
     fn with_slots(alloc: Global, count: usize) -> Result<Table, AllocError> {
         Ok(Table {
-            slots: vec![in alloc; 0; count]?,
+            slots: vec![in alloc; FREE; count]?,
             taken: 0,
         })
     }
@@ -35,11 +50,7 @@ impl Table {
 
     /// The slot to which a digest leads.
     pub(crate) fn first(&self, digest: u64) -> usize {
-        let count = self.slots.len() as u64;
-        if count == 0 {
-            return 0;
-        }
-        (digest % count) as usize
+        digest as usize & self.slots.len().saturating_sub(1)
     }
 
     /// The slot after a slot: the first one, after the last.
@@ -50,11 +61,19 @@ impl Table {
 
     /// The number in a slot; None where nothing is.
     pub(crate) fn number(&self, slot: usize) -> Option<usize> {
-        let number = self.slots.get(slot).copied()?;
+        let number = self.slots.get(slot)?.number;
         if number == 0 {
             None
         } else {
             Some(number as usize - 1)
+        }
+    }
+
+    /// Whether the digest may have led to what is in a slot.
+    pub(crate) fn suits(&self, slot: usize, digest: u64) -> bool {
+        match self.slots.get(slot) {
+            Some(there) => there.high == high_of(digest),
+            None => false,
         }
     }
 
@@ -76,13 +95,14 @@ impl Table {
         };
         let mut slot = self.first(digest);
         for _tried in 0..=self.slots.len() {
-            if self.slots.get(slot).copied() == Some(0) {
+            if self.number(slot).is_none() {
                 break;
             }
             slot = self.after(slot);
         }
         if slot < self.slots.len() {
-            self.slots[slot] = number;
+            let high = high_of(digest);
+            self.slots[slot] = Slot { number, high };
             self.taken = self.taken.saturating_add(1);
         }
     }

@@ -16,5 +16,5 @@ returns c = λ same plan kept.
       sleepers = ap (λ (s : Scene). s.sleepers.items) (sym c.deref.ensures) ∙ scene.1 ∙ c.deref-3.ensures.value;
       threads = ap threads_in (sym c.deref-4.ensures.value) ∙ standings.0 ∙ c.deref-5.ensures.value;
       phase = c.if-stored-kept.false;
-      places = ap places_among (sym c.deref-4.ensures.value) ∙ standings.1 ∙ ap places_in c.deref-6.ensures.value;
+      places = ap places_among (sym c.deref-4.ensures.value) ∙ standings.1 ∙ ap places_in c.lives.ensures;
     }
