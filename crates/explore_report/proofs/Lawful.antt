@@ -7,14 +7,15 @@ use Rattle.outcomes.specs.Outcomes.{Ended', HasAll, IsListed, IsWitnessed, Outco
 use Rattle.outcomes.specs.Positions.{Position}
 use Rattle.outcomes.specs.declared.exploring.Found.{Found}
 use Rattle.outcomes.specs.declared.exploring.Witnessed.{Witnessed}
+use Rattle.outcomes.specs.declared.plan.Asked.{Asked}
 use Rattle.outcomes.specs.declared.plan.Plan.{Plan}
 use Rattle.script.specs.Scope.{Scope}
 use Rattle.explore_report.specs.Asked.{Choices, Kept, states_of}
 use Rattle.explore_report.specs.Kept.{IsFilled, IsWritten}
-use Rattle.explore_report.specs.Laws.{AlwaysIsTrue, IsBrokenByOne, IsCutOff, IsPartOf, IsPossible, IsPrinted, IsTrueOfAll, NeverIsTrue, NoOutcomeIsMissing, PrintedOutcomesArePossible, ScriptsPlayTheirOutcome}
+use Rattle.explore_report.specs.Laws.{AlwaysIsTrue, FoundOutcomesArePrinted, IsBrokenByOne, IsCutOff, IsPartOf, IsPossible, IsPrinted, IsTrueOfAll, NeverIsTrue, NoOutcomeIsMissing, PrintedOutcomesArePossible, PrintedOutcomesWerePlayed, Says, ScriptsPlayTheirOutcome}
 use Rattle.explore_report.specs.Meets.{Breaks, Holds, Meets}
 use Rattle.explore_report.specs.Replays.{Replays}
-use Rattle.explore_report.specs.Texts.{Demanded, are_met, count_text, demand_text, head_text, in_order, row_text, rows_text, widths_of}
+use Rattle.explore_report.specs.Texts.{Demanded, are_met, asked_text, complete_text, conditions_text, count_text, demand_text, head_text, in_order, row_text, rows_text, widths_of}
 use Rattle.explore_report.specs.Told.{HasScript, IsAsked, IsFound, IsTold, IsWanted, Question', demands_read, printed, status_of}
 use Rattle.explore_report.specs.Witnesses.{script_text}
 use Rattle.explore_report.proofs.Demanding.{all_hold, one_breaks, read_first, read_last}
@@ -35,6 +36,28 @@ row_part s widths largest i (x ∷ ws) zero j w is there =
     let place : i ≡ j = omega arith in
     ([], rows_text s widths largest (i + 1) ws, ap (λ (n : ℕ). row_text s widths largest n x.outcome ++ rows_text s widths largest (i + 1) ws) place ∙ ap (λ (v : Witnessed). row_text s widths largest j v.outcome ++ rows_text s widths largest (i + 1) ws) same)
 row_part s widths largest i (x ∷ ws) (suc k) j w is there = part_right _ _ (row_text s widths largest i x.outcome) (row_part s widths largest (i + 1) ws k j w (omega arith) there)
+
+-- a text of six parts ends with the last
+joined : (a b c d e z : List ℕ) → a ++ (b ++ (c ++ (d ++ (e ++ z)))) ≡ (a ++ (b ++ (c ++ (d ++ e)))) ++ z
+joined a b c d e z =
+    sym (append_assoc a (b ++ (c ++ (d ++ e))) z
+    ∙ ap (λ (t : List ℕ). a ++ t) (append_assoc b (c ++ (d ++ e)) z ∙ ap (λ (t : List ℕ). b ++ t) (append_assoc c (d ++ e) z ∙ ap (λ (t : List ℕ). c ++ t) (append_assoc d e z))))
+
+-- the first line but for its end
+abbrev head_front : Scope → Asked → List (List ℕ) → ℕ → List ℕ
+head_front s a names count =
+    count_text [] (length s.threads) (codes " thread") (codes " threads")
+    ++ (count_text (codes ", ") (length s.mutexes) (codes " mutex") (codes " mutexes")
+    ++ (conditions_text (length s.conditions) ++ (asked_text a names ++ count_text (codes ": ") count (codes " outcome") (codes " outcomes"))))
+
+head_ends : (s : Scope) (a : Asked) (names : List (List ℕ)) (count : ℕ) (complete : Bool) → head_text s a names count complete ≡ head_front s a names count ++ complete_text complete
+head_ends s a names count complete =
+    joined (count_text [] (length s.threads) (codes " thread") (codes " threads")) (count_text (codes ", ") (length s.mutexes) (codes " mutex") (codes " mutexes")) (conditions_text (length s.conditions)) (asked_text a names)
+    (count_text (codes ": ") count (codes " outcome") (codes " outcomes")) (complete_text complete)
+
+head_says : (s : Scope) (a : Asked) (names : List (List ℕ)) (count : ℕ) (complete : Bool) → Says (head_text s a names count complete) complete
+head_says s a names count true = (head_front s a names count, head_ends s a names count true)
+head_says s a names count false = (head_front s a names count, head_ends s a names count false)
 
 -- ---- what was found
 
@@ -64,11 +87,19 @@ module _ (bytes : List ℕ) (c : Choices) (text : List ℕ) (script : Option (Li
       let declared : plan.layout.threads ≡ length scope.threads = ap (λ l. l.threads) t.asked.plan.layout in
       omega arith
 
+  -- one that was found has its place
+  found_there : (o : Outcome') → IsPossible plan o → IsListed o t.found.outcomes.items → (i : ℕ) × (w : Witnessed) × (slice_get listed i ≡ Some w) × (outcome_in w.outcome ≡ o)
+  found_there o p found = place_of o listed (listed_in_order o (length scope.threads) t.found.outcomes.items (as_many o p) found)
+
   -- none is missing
   pub there : (o : Outcome') → t.found.complete ≡ true → IsPossible plan o → (i : ℕ) × (w : Witnessed) × (slice_get listed i ≡ Some w) × (outcome_in w.outcome ≡ o)
-  there o complete p =
-      let found : IsListed o t.found.outcomes.items = subst (λ (q : Outcome'). IsListed q t.found.outcomes.items) p.is (t.explored.complete complete p.events p.end p.run p.over) in
-      place_of o listed (listed_in_order o (length scope.threads) t.found.outcomes.items (as_many o p) found)
+  there o complete p = found_there o p (subst (λ (q : Outcome'). IsListed q t.found.outcomes.items) p.is (t.explored.complete complete p.events p.end p.run p.over))
+
+  found_possible : (o : Outcome') → IsListed o t.found.outcomes.items → IsPossible plan o
+  found_possible o found =
+      let r = place_of o t.found.outcomes.items found in
+      let one = each_at (IsWitnessed plan) t.found.outcomes.items (each_witnessed plan t.found.outcomes.items t.explored.sound) r.0 r.1 r.2 in
+      record { events = r.1.events.items; end = one.end; run = one.run; over = one.over; is = sym one.outcome ∙ r.3 }
 
   line : (i : ℕ) (w : Witnessed) → slice_get listed i ≡ Some w → IsPartOf (row_text scope (widths_of scope listed) (length listed) i w.outcome) text
   line i w at =
@@ -82,14 +113,20 @@ module _ (bytes : List ℕ) (c : Choices) (text : List ℕ) (script : Option (Li
       let r = there o complete p in
       (r.0, record { witnessed = r.1; there = r.2; is = r.3; line = line r.0 r.1 r.2 })
 
+  pub found_has_line : (o : Outcome') → IsListed o t.found.outcomes.items → (place : ℕ) × IsPrinted bytes c text script status t o place
+  found_has_line o found =
+      let r = found_there o (found_possible o found) found in
+      (r.0, record { witnessed = r.1; there = r.2; is = r.3; line = line r.0 r.1 r.2 })
+
   pub one_line : (o : Outcome') (i j : ℕ) → IsPrinted bytes c text script status t o i → IsPrinted bytes c text script status t o j → i ≡ j
   one_line o i j a b = same_place listed (different_in_order (length scope.threads) t.found.outcomes.items t.explored.once) o i j a.witnessed b.witnessed a.there b.there a.is b.is
 
-  pub first_line : (more : List ℕ) × (text ≡ head_text scope plan.asked c.named (length listed) t.found.complete ++ more)
+  pub first_line : (more : List ℕ) × (text ≡ head_text scope plan.asked c.named (length listed) t.found.complete ++ more) × Says (head_text scope plan.asked c.named (length listed) t.found.complete) t.found.complete
   first_line = (
     _,
     t.answer.text_is
         ∙ append_assoc (head_text scope plan.asked c.named (length listed) t.found.complete) _ (flat_map (demand_text t.found.complete listed) t.question.demands),
+    head_says scope plan.asked c.named (length listed) t.found.complete,
   )
 
   -- ---- exit statuses
@@ -136,6 +173,12 @@ module _ (bytes : List ℕ) (c : Choices) (text : List ℕ) (script : Option (Li
 
 pub are_possible : PrintedOutcomesArePossible
 are_possible bytes c text script status t o place is = possible bytes c text script status t o place is.witnessed is.there is.is
+
+pub found_are_printed : FoundOutcomesArePrinted
+found_are_printed = found_has_line
+
+pub were_played : PrintedOutcomesWerePlayed
+were_played bytes c text script status t o place p = (p.witnessed, p.is, t.answer.played place p.witnessed p.there)
 
 pub none_is_missing : NoOutcomeIsMissing
 none_is_missing = record { says = first_line; all = has_line; once = one_line }

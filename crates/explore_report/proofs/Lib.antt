@@ -1,6 +1,7 @@
 mod Loops
 mod Ends
 mod Reading
+mod Sleeping
 mod Played
 mod Numbering
 mod Meeting

@@ -1,11 +1,11 @@
 -- What holds of whatever the program tells, in the words of who reads it.
-use Rattle.std.specs.Prelude.{ℕ, ◌≡◌, ◌≤◌, ◌-◌, ◌⊎◌, Bool, true, false, List, [], ◌++◌, length, Option, Some, Result, Ok, slice_get}
+use Rattle.std.specs.Prelude.{ℕ, ◌≡◌, ◌≤◌, ◌-◌, ◌⊎◌, Bool, true, false, List, [], ◌++◌, codes, length, Option, Some, Result, Ok, slice_get}
 use Rattle.std.specs.declared.io.ErrorKind.{ErrorKind}
 use Rattle.std.specs.Io.KnownBytes.{Appends, Consumes, IsAtEnd}
 use Rattle.streams.specs.Leaves.{AppendsFront}
 use Rattle.lines.specs.Lines.{words_of}
 use Rattle.protocol.specs.declared.event.Event.{Event}
-use Rattle.outcomes.specs.Outcomes.{Outcome', outcome_in, outcome_of}
+use Rattle.outcomes.specs.Outcomes.{IsListed, Outcome', outcome_in, outcome_of}
 use Rattle.outcomes.specs.Positions.{Position, first}
 use Rattle.outcomes.specs.Runs.{IsOver, IsRun}
 use Rattle.outcomes.specs.declared.exploring.Found.{Found}
@@ -19,9 +19,10 @@ use Rattle.explore_report.specs.Meets.{Breaks, Holds, Meets}
 use Rattle.explore_report.specs.Messages.{failure_text}
 use Rattle.explore_report.specs.Patterns.{pattern_words}
 use Rattle.explore_report.specs.Programs.{RunEnds}
-use Rattle.explore_report.specs.Replays.{Replays}
+use Rattle.explore_report.specs.Replays.{IsTooLong, Replays}
 use Rattle.explore_report.specs.Texts.{Demanded, head_text, row_text, widths_of}
 use Rattle.explore_report.specs.Told.{IsTold, Question', printed}
+use Rattle.explore_report.specs.Witnesses.{script_text}
 
 -- ---- outcomes of runs
 
@@ -49,18 +50,32 @@ pub record IsPrinted (bytes : List ℕ) (c : Choices) (text : List ℕ) (script 
       (row_text t.question.said.scope (widths_of t.question.said.scope (printed t.question t.found))
       (length (printed t.question t.found)) place witnessed.outcome) text
 
+-- the first line says whether the list has all outcomes, by its end
+abbrev pub Says : List ℕ → Bool → Type 0
+Says line true = (front : List ℕ) × (line ≡ front ++ codes ", complete\n")
+Says line false = (front : List ℕ) × (line ≡ front ++ codes ", not complete\n")
+
 -- each outcome that has a line is that of a run
 abbrev pub PrintedOutcomesArePossible : Type 0
 PrintedOutcomesArePossible = (bytes : List ℕ) (c : Choices) (text : List ℕ) (script : Option (List ℕ)) (status : ℕ)
     (t : IsTold bytes c text script status) (o : Outcome') (place : ℕ) → IsPrinted bytes c text script status t o place
     → IsPossible t.question.plan o
 
--- where `complete` is printed, each run that is over has its outcome in a line, and in one only
+-- each outcome that was found has a line, whether or not the search was complete
+abbrev pub FoundOutcomesArePrinted : Type 0
+FoundOutcomesArePrinted = (bytes : List ℕ) (c : Choices) (text : List ℕ) (script : Option (List ℕ)) (status : ℕ)
+    (t : IsTold bytes c text script status) (o : Outcome') → IsListed o t.found.outcomes.items
+    → (place : ℕ) × IsPrinted bytes c text script status t o place
+
+-- the first line ends with `, complete` exactly if the search was complete; then each run that is over has its outcome
+-- in a line, and in one only
 pub record NoOutcomeIsMissing : Type 0 where
   pub says : (bytes : List ℕ) (c : Choices) (text : List ℕ) (script : Option (List ℕ)) (status : ℕ)
       (t : IsTold bytes c text script status) → (more : List ℕ)
       × (text ≡ head_text t.question.said.scope t.question.plan.asked c.named (length (printed t.question t.found))
       t.found.complete ++ more)
+      × Says (head_text t.question.said.scope t.question.plan.asked c.named (length (printed t.question t.found))
+      t.found.complete) t.found.complete
   pub all : (bytes : List ℕ) (c : Choices) (text : List ℕ) (script : Option (List ℕ)) (status : ℕ)
       (t : IsTold bytes c text script status) (o : Outcome') → t.found.complete ≡ true → IsPossible t.question.plan o
       → (place : ℕ) × IsPrinted bytes c text script status t o place
@@ -89,6 +104,15 @@ AlwaysIsTrue = (bytes : List ℕ) (c : Choices) (text : List ℕ) (script : Opti
     × ((o : Outcome') → IsPossible t.question.plan o → Meets o p)
 
 -- ---- scripts
+
+-- of each outcome that has a line, the script was played: it is one for `rfx run`, and its run has the outcome; or it
+-- passes a limit of scripts
+abbrev pub PrintedOutcomesWerePlayed : Type 0
+PrintedOutcomesWerePlayed = (bytes : List ℕ) (c : Choices) (text : List ℕ) (script : Option (List ℕ)) (status : ℕ)
+    (t : IsTold bytes c text script status) (o : Outcome') (place : ℕ) → IsPrinted bytes c text script status t o place
+    → (w : Witnessed) × (outcome_in w.outcome ≡ o)
+    × (Replays (script_text t.question.said.scope w.events.items) w.outcome
+    ⊎ IsTooLong (script_text t.question.said.scope w.events.items))
 
 -- what is written to the file that `--script K OUT` names is a script for `rfx run`, whose run has outcome K
 abbrev pub ScriptsPlayTheirOutcome : (List ℕ → Option (List ℕ) → Type 0) → (List ℕ → Option (List ℕ) → Type 0) → Type 0

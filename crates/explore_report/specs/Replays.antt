@@ -1,13 +1,15 @@
 -- Playing the script of an outcome.
 --
 -- *Replayed.* A text is a script for `rfx run`, it isn't too long to be played, and its run ends so: as many threads as
--- the outcome has, each with these replies, and dead or asleep or neither; and as many mutexes, each left so.
+-- the outcome has, each with these replies, and dead, or asleep on that mutex or condition variable, or neither; and as many mutexes,
+-- each left so.
 --
 -- *Too long.* A text passes a limit of scripts: in bytes, lines or events.
-use Rattle.std.specs.Prelude.{ℕ, ◌≡◌, ◌+◌, ◌==◌, ◌≢◌, ◌⊎◌, Bool, true, false, List, [], ◌∷◌, Ok, Err, Option, Some, None, length, slice_get, if◌then◌else◌}
+use Rattle.std.specs.Prelude.{ℕ, ◌≡◌, ◌+◌, ◌==◌, ◌≢◌, ◌⊎◌, ◌&&◌, not, Bool, true, false, List, [], ◌∷◌, Ok, Err, Option, Some, None, length, nat_lt, slice_get, if◌then◌else◌}
 use Rattle.std.specs.List.{flat_map}
 use Rattle.interleave.specs.Reapings.{is_reaped}
 use Rattle.lockword.specs.declared.reply.Reply.{Reply}
+use Rattle.memorymap.specs.Layouts.{cell_place, counter_place}
 use Rattle.protocol.specs.Headline.{seen}
 use Rattle.protocol.specs.Machine.{State, notes, run}
 use Rattle.protocol.specs.Machine as machine
@@ -21,9 +23,11 @@ use Rattle.script.specs.declared.command.Mode.TheVariants.{Run}
 use Rattle.script.specs.declared.fault.Fault.{Fault}
 use Rattle.script.specs.declared.fault.Fault.TheVariants as fault
 use Rattle.script.specs.declared.fault.ScriptFault.{ScriptFault}
+use Rattle.outcomes.specs.declared.outcome.End.{End}
+use Rattle.outcomes.specs.declared.outcome.End.TheVariants.{OnMutex, OnCondition}
 use Rattle.outcomes.specs.declared.outcome.Ended.{Ended}
 use Rattle.outcomes.specs.declared.outcome.Outcome.{Outcome}
-use Rattle.explore_report.specs.Patterns.{is_asleep, is_dead}
+use Rattle.explore_report.specs.Patterns.{is_dead}
 use Rattle.explore_report.specs.declared.replaying.Replay.{Replay}
 use Rattle.explore_report.specs.declared.replaying.Replay.TheVariants.{Same, TooLong, Other}
 
@@ -42,11 +46,18 @@ told_in t n = []
 abbrev pub replies_of : ℕ → List Note → List Reply
 replies_of t ns = flat_map (told_in t) ns
 
+-- thread t stands in the queue of this mutex, or of this condition variable, if there is one; or it doesn't sleep
+abbrev pub sleeps_so : State → ℕ → End → Bool
+sleeps_so s t (OnMutex m) = nat_lt m s.layout.mutexes && machine.stands_in t (s.queues (cell_place s.layout m))
+sleeps_so s t (OnCondition k) =
+    nat_lt k (length s.layout.conditions) && machine.stands_in t (s.queues (counter_place s.layout k))
+sleeps_so s t e = not (machine.is_asleep s t)
+
 -- thread t of a machine ended so, of whose run this was noted
 pub record HasEnded (s : State) (ns : List Note) (t : ℕ) (e : Ended) : Type 0 where
   pub replies : replies_of t ns ≡ e.replies.items
   pub dead : is_reaped s t ≡ is_dead e.end
-  pub asleep : machine.is_asleep s t ≡ is_asleep e.end
+  pub asleep : sleeps_so s t e.end ≡ true
 
 -- so did each of the first threads. Ids begin at 1
 abbrev pub HaveEnded : State → List Note → List Ended → Type 0

@@ -2,8 +2,9 @@
 --
 -- *Told.* The script is read, each thread that may be killed and each pattern has its names from it, and its plan is
 -- explored: each outcome that was found is that of a run, and if the search was complete, then no run has another one.
--- Each outcome's script is played before anything is said, unless it is too long for that. Then the text has all outcomes in their order, and whether
--- each demand is met. The exit status is 1 if one is broken; else 3 if the search wasn't complete; else 0.
+-- Each outcome's script is played before anything is said, unless it is too long for that. Then the text has all
+-- outcomes in their order, and whether each demand is met. The exit status is 1 if one is broken; else 3 if the search
+-- wasn't complete; else 0.
 use Rattle.std.specs.Prelude.{ℕ, ◌≡◌, ◌≤◌, ◌-◌, ◌⊎◌, Bool, true, false, List, [], ◌∷◌, ◌++◌, map, length, slice_get}
 use Rattle.std.specs.Prelude.{Option, Some, None, option_map, is_some, Result, Ok, Err, Vec, if◌then◌else◌}
 use Rattle.std.specs.declared.alloc.Global.{Global}

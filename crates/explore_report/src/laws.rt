@@ -1,7 +1,8 @@
 //! What holds of all that the program tells.
 
 ghost use Rattle.std.specs.Prelude.{◌≡◌};
-ghost use Rattle.explore_report.specs.Laws.{AlwaysIsTrue, NeverIsTrue, NoOutcomeIsMissing, PrintedOutcomesArePossible};
+ghost use Rattle.explore_report.specs.Laws.{AlwaysIsTrue, FoundOutcomesArePrinted, NeverIsTrue, NoOutcomeIsMissing};
+ghost use Rattle.explore_report.specs.Laws.{PrintedOutcomesArePossible, PrintedOutcomesWerePlayed};
 ghost use Rattle.explore_report.specs.Laws.{ScriptsPlayTheirOutcome, StatusesAreRight};
 
 use crate::making::Maker;
@@ -14,7 +15,21 @@ pub fn printed_outcomes_are_possible()
     ensures { PrintedOutcomesArePossible }
 {}
 
-/// Where `complete` is printed, each run of the script that is over has its outcome printed, and once only.
+/// Each outcome that was found is printed, whether or not the list is complete.
+#[tactic(auto, using(crate::proofs::Lawful::found_are_printed))]
+pub fn found_outcomes_are_printed()
+    ensures { FoundOutcomesArePrinted }
+{}
+
+/// Each outcome that is printed was played before, unless its script passes a limit of scripts. The script is one for
+/// `rfx run`, and its run has these replies, these deaths and these sleepers, each where it sleeps, and the mutexes left
+/// so.
+pub fn printed_outcomes_were_played()
+    ensures { PrintedOutcomesWerePlayed }
+{}
+
+/// Where the first line ends with `, complete`, each run of the script that is over has its outcome printed, and once
+/// only. It ends so exactly if the search was complete.
 pub fn no_outcome_is_missing()
     ensures { NoOutcomeIsMissing }
 {}
@@ -30,7 +45,7 @@ pub fn always_is_true()
 {}
 
 /// What `--script K OUT` writes to OUT is a script for `rfx run`, and its run has outcome K: these replies, these deaths
-/// and these sleepers, and the mutexes left so.
+/// and these sleepers, each where it sleeps, and the mutexes left so.
 pub fn scripts_play_their_outcome<M: Maker>(maker: &M)
     ensures { ScriptsPlayTheirOutcome (M.makes maker.now) (M.fills maker.now) }
 {}

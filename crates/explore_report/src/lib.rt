@@ -6,8 +6,8 @@
 //! ([`printed_outcomes_are_possible`]), and where `complete` is printed, no run has another one
 //! ([`no_outcome_is_missing`]). The exit status says whether that is so, and whether the outcomes have what the command
 //! line asks of them ([`statuses_are_right`], [`never_is_true`], [`always_is_true`]). The script of an outcome is for
-//! `rfx run`. Each is played before anything is printed, unless it is too long, and the one that is asked for is written
-//! to a file ([`scripts_play_their_outcome`]).
+//! `rfx run`. Each is played before anything is printed, unless it is too long ([`printed_outcomes_were_played`]), and the
+//! one that is asked for is written to a file ([`scripts_play_their_outcome`]).
 //!
 //! A script that is explored is read as one for `rfx run` (`Spelled`): what depends on a reply is kept beside it
 //! (`Plans`). The machine explores as many states as the command line says, 5,000,000 at most.
@@ -43,8 +43,9 @@ mod telling;
 mod witness;
 
 pub use laws::{
-    always_is_true, never_is_true, no_outcome_is_missing, printed_outcomes_are_possible,
-    scripts_play_their_outcome, statuses_are_right,
+    always_is_true, found_outcomes_are_printed, never_is_true, no_outcome_is_missing,
+    printed_outcomes_are_possible, printed_outcomes_were_played, scripts_play_their_outcome,
+    statuses_are_right,
 };
 pub use making::Maker;
 pub use messages::OUT_OF_MEMORY;

@@ -3,14 +3,15 @@
 ghost use Rattle.std.specs.Prelude.{◌≡◌, ◌<◌, true, length, option_to_list, IfOk};
 ghost use Rattle.interleave.specs.Shown.{state_of};
 ghost use Rattle.protocol.specs.Headline.{seen};
+ghost use Rattle.protocol.specs.Machine.{stands_in};
 ghost use Rattle.explore_report.specs.Replays.{replies_of, returned_to, told_in, AreLeft, Came, HasAsMany, HasEnded};
-ghost use Rattle.explore_report.specs.Replays.{HaveEnded, PlayCame, Refuses, Shows, is_settled, replay_of};
+ghost use Rattle.explore_report.specs.Replays.{HaveEnded, PlayCame, Refuses, Shows, is_settled, replay_of, sleeps_so};
 
-use crate::patterns::{is_asleep, is_dead};
+use crate::patterns::is_dead;
 use interleave::Machine;
 use lockword::{Cell, Reply, Tid};
 use memorymap::NoMem;
-use outcomes::{Ended, Outcome};
+use outcomes::{End, Ended, Outcome};
 use posixmutex::Object;
 use protocol::Note;
 use script::{Fault, Mode, Script, first_machine, parse, play};
@@ -75,6 +76,37 @@ fn same_replies(a: &[Reply], b: &[Reply]) -> bool
     *a == *b
 }
 
+/// Whether a thread sleeps on the word at a place.
+fn stands_at(machine: &Machine, thread: Tid, place: u64) -> bool
+    ensures { result ≡ stands_in thread ((state_of machine.now).queues place) }
+{
+    let sleepers = machine.sleepers(place);
+    for rank in 0..sleepers.len() {
+        if let Some(sleeper) = sleepers.get(rank) {
+            if sleeper.get() == thread.get() {
+                return true;
+            }
+        }
+    }
+    false
+}
+
+/// Whether a thread of the machine sleeps where an outcome has it sleep, or doesn't, as there.
+fn sleeps_so(machine: &Machine, thread: Tid, end: End) -> bool
+    ensures { result ≡ sleeps_so (state_of machine.now) thread end }
+{
+    let layout = machine.layout();
+    match end {
+        End::OnMutex(mutex) => {
+            mutex < layout.mutexes() && stands_at(machine, thread, layout.cell(mutex))
+        }
+        End::OnCondition(condition) => {
+            condition < layout.conditions() && stands_at(machine, thread, layout.counter(condition))
+        }
+        End::Finished | End::Waiting | End::Dead => !machine.asleep(thread),
+    }
+}
+
 /// Whether a thread of the machine ended so.
 fn has_ended(
     alloc: Global,
@@ -89,7 +121,7 @@ fn has_ended(
     let replies = replies_of(alloc, notes, thread)?;
     let is_same = same_replies(&replies, &ended.replies);
     let is_dead = machine.reaped(thread) == is_dead(ended.end);
-    let is_asleep = machine.asleep(thread) == is_asleep(ended.end);
+    let is_asleep = sleeps_so(machine, thread, ended.end);
     Ok(is_same && is_dead && is_asleep)
 }
 
